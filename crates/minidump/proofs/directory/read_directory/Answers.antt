@@ -1,0 +1,32 @@
+use Rattle.std.proofs.Common.{arith, ◌≡◌, ◌∷◌, ◌++◌, [], ◌+◌, ◌*◌, refl, rules}
+use Rattle.std.proofs.lemmas.Grind.{common_steps}
+use Rattle.minidump_bytes.specs.Source.{bytes_of}
+use Rattle.minidump_bytes.specs.Entries.{entries-more, entries-none, length-entries}
+use Rattle.minidump_format.specs.Header.{directory_entry}
+use Rattle.minidump.proofs.DirectoryLemmas.{deciding-more}
+use Rattle.minidump.proofs.directory.read_directory.Goals as goal
+
+pub loop-index-init : goal.loop-index-init
+loop-index-init c = record {
+  decides = record {
+    at = λ t. rw (entries-none 12 (directory_entry c.args.endian) (bytes_of c.args.source) c.args.header.now.stream_directory_rva) (search rules);
+    small = λ t h. search rules;
+  };
+  steps = omega arith;
+  readable = λ h. absurd (omega arith);
+}
+
+pub loop-index-preserved : goal.loop-index-preserved
+loop-index-preserved c =
+    let source = bytes_of c.args.source in
+    let start = c.args.header.now.stream_directory_rva in
+    let value = directory_entry c.args.endian in
+    record {
+      decides = record {
+        at = λ t. rw (entries-more 12 value source start c.loop-index.index, deciding-more t, length-entries 12 value source start c.loop-index.index)
+            (grind (arith, common_steps, c.loop-index.invariant.decides.at t));
+        small = λ t h. grind (arith, common_steps, c.loop-index.invariant.decides.small t h);
+      };
+      steps = omega (arith, c.record.ensures.step, c.loop-index.invariant.steps);
+      readable = grind (arith, c.record.ensures.readable.0);
+    }

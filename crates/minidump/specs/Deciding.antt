@@ -1,0 +1,23 @@
+-- A map from each type of stream to its deciding entry.
+use Rattle.std.specs.Prelude.{◌≡◌, ℕ, ◌^◌, ◌≤◌, ◌<◌, List, Option, None, Result, Ok, Err, true, false}
+use Rattle.std.specs.Ordering.{nat_cmp}
+use Rattle.std.specs.BTreeMap.{BTreeMap, get}
+use Rattle.minidump_bytes.specs.declared.endian.Endian.{Endian}
+use Rattle.minidump_format.specs.declared.error.Error.{Error}
+use Rattle.minidump_format.specs.declared.error.Error.TheVariants.{MissingDirectory, OutOfMemory}
+use Rattle.minidump_format.specs.declared.format.header.MINIDUMP_HEADER.{MINIDUMP_HEADER}
+use Rattle.minidump_format.specs.declared.format.header.MINIDUMP_DIRECTORY.{MINIDUMP_DIRECTORY}
+use Rattle.minidump.specs.declared.directory.DecidingEntry.{DecidingEntry}
+use Rattle.minidump.specs.Directory.{deciding, directory, is_readable}
+
+-- it has these, and no type of more than 32 bits
+pub record Decides (m : BTreeMap ℕ DecidingEntry) (es : List MINIDUMP_DIRECTORY) : Type 0 where
+  pub at : (stream_type : ℕ) → get nat_cmp m stream_type ≡ deciding stream_type es
+  pub small : (stream_type : ℕ) → 2 ^ 32 ≤ stream_type → get nat_cmp m stream_type ≡ None
+
+-- `Ok`: each entry is in the file, and the map has the deciding ones. Memory may run out once there is an entry
+abbrev pub ReadsDirectory : Endian → MINIDUMP_HEADER → List ℕ → Result (BTreeMap ℕ DecidingEntry) Error → Type 0
+ReadsDirectory order h bytes (Ok m) = (is_readable h bytes ≡ true) × Decides m (directory order h bytes)
+ReadsDirectory order h bytes (Err MissingDirectory) = is_readable h bytes ≡ false
+ReadsDirectory order h bytes (Err OutOfMemory) = 0 < h.stream_count
+ReadsDirectory order h bytes (Err _) = ⊥

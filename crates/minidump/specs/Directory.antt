@@ -1,0 +1,31 @@
+-- The directory of a minidump: stream_count records MINIDUMP_DIRECTORY of 12 bytes, from stream_directory_rva on.
+use Rattle.std.specs.Prelude.{ℕ, ◌+◌, ◌*◌, List, length, reverse, find, map, Option, Result, Ok, Err, Bool, nat_le, ◌==◌, ◌||◌, if◌then◌else◌}
+use Rattle.std.specs.List.{enumerate_from, filter_map, range_with_len}
+use Rattle.minidump_bytes.specs.declared.endian.Endian.{Endian}
+use Rattle.minidump_bytes.specs.Entries.{entries}
+use Rattle.minidump_format.specs.declared.error.Error.{Error}
+use Rattle.minidump_format.specs.declared.error.Error.TheVariants.{MissingDirectory}
+use Rattle.minidump_format.specs.declared.format.header.MINIDUMP_HEADER.{MINIDUMP_HEADER}
+use Rattle.minidump_format.specs.declared.format.header.MINIDUMP_DIRECTORY.{MINIDUMP_DIRECTORY}
+use Rattle.minidump_format.specs.Header.{directory_entry}
+use Rattle.minidump.specs.declared.directory.DecidingEntry.{DecidingEntry}
+
+-- its entries, in the order of the file
+abbrev pub directory : Endian → MINIDUMP_HEADER → List ℕ → List MINIDUMP_DIRECTORY
+directory order h bytes = entries 12 (directory_entry order) bytes h.stream_directory_rva h.stream_count
+
+-- each of them is in the file. The place of a directory with none isn't looked at
+abbrev pub is_readable : MINIDUMP_HEADER → List ℕ → Bool
+is_readable h bytes = h.stream_count == 0 || nat_le (h.stream_directory_rva + 12 * h.stream_count) (length bytes)
+
+-- the entries, each with its index
+abbrev pub indexed : List MINIDUMP_DIRECTORY → List DecidingEntry
+indexed es = map (λ p. record { index = p.0; entry = p.1 }) (enumerate_from 0 es)
+
+-- the entry that decides a type of stream: the last that has it
+abbrev pub deciding : ℕ → List MINIDUMP_DIRECTORY → Option DecidingEntry
+deciding stream_type es = find (λ d. d.entry.stream_type == stream_type) (reverse (indexed es))
+
+-- the deciding entries of the types below a limit, ascending by type
+unfoldable pub deciding_below : ℕ → List MINIDUMP_DIRECTORY → List DecidingEntry
+deciding_below limit es = filter_map (λ stream_type. deciding stream_type es) (range_with_len 0 limit)

@@ -1,0 +1,43 @@
+-- A minidump without where it lies in memory, which files are one, and the bytes of its streams.
+use Rattle.std.specs.Prelude.{ℕ, ◌+◌, ◌^◌, ◌<◌, List, Option, Some, None, Result, Ok, Err, IsOkAnd, if◌then◌else◌}
+use Rattle.minidump_bytes.specs.declared.endian.Endian.{Endian}
+use Rattle.minidump_bytes.specs.Span.{span}
+use Rattle.minidump_format.specs.declared.error.Error.{Error}
+use Rattle.minidump_format.specs.declared.error.Error.TheVariants.{MissingDirectory, StreamNotFound, StreamReadFailure}
+use Rattle.minidump_format.specs.declared.format.header.MINIDUMP_HEADER.{MINIDUMP_HEADER}
+use Rattle.minidump.specs.declared.directory.DecidingEntry.{DecidingEntry}
+use Rattle.minidump.specs.Header.{header_of}
+use Rattle.minidump.specs.Directory.{directory, deciding, deciding_below, is_readable}
+
+pub record Dump : Type 0 where
+  pub file : List ℕ
+  pub order : Endian
+  pub header : MINIDUMP_HEADER
+
+abbrev with_header : List ℕ → Result (Endian × MINIDUMP_HEADER) Error → Result Dump Error
+with_header file (Err e) = Err e
+with_header file (Ok h) = if is_readable h.1 file then Ok (record { file = file; order = h.0; header = h.1 }) else Err MissingDirectory
+
+-- the minidump that a file is, or the first reason why it is none
+abbrev pub dump_in : List ℕ → Result Dump Error
+dump_in file = with_header file (header_of file)
+
+-- the header is accepted, and the directory has entries, so that they take memory
+abbrev pub HasEntries : List ℕ → Type 0
+HasEntries file = IsOkAnd (header_of file) (λ h. 0 < h.1.stream_count)
+
+-- the entries that decide a type of stream, ascending by type
+abbrev pub streams_of : Dump → List DecidingEntry
+streams_of d = deciding_below (2 ^ 32) (directory d.order d.header d.file)
+
+abbrev spanned : Option (List ℕ) → Result (List ℕ) Error
+spanned None = Err StreamReadFailure
+spanned (Some bytes) = Ok bytes
+
+abbrev located : List ℕ → Option DecidingEntry → Result (List ℕ) Error
+located file None = Err StreamNotFound
+located file (Some d) = let at = d.entry.location in spanned (span at.rva (at.rva + at.data_size) file)
+
+-- the bytes of the stream of a type: the span of its deciding entry
+abbrev pub raw_stream : ℕ → Dump → Result (List ℕ) Error
+raw_stream stream_type d = located d.file (deciding stream_type (directory d.order d.header d.file))

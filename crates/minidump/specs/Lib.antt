@@ -1,0 +1,5 @@
+pub mod Header
+pub mod Directory
+pub mod Deciding
+pub mod Dump
+pub mod Seen

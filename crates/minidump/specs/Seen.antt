@@ -1,0 +1,7 @@
+-- What a clause sees of a minidump.
+use Rattle.minidump_bytes.specs.Source.{bytes_of}
+use Rattle.minidump.specs.declared.dump.Minidump.{Minidump}
+use Rattle.minidump.specs.Dump.{Dump}
+
+abbrev pub dump_of : Minidump → Dump
+dump_of d = record { file = bytes_of d.source; order = d.endian; header = d.header }

@@ -1,0 +1,42 @@
+ghost use Rattle.std.specs.Prelude.{◌≡◌, ◌+◌, ◌-◌, ◌*◌, ◌<◌, ◌≤◌, length, OnOk};
+ghost use Rattle.minidump_bytes.specs.Steps.{after};
+ghost use Rattle.minidump_bytes.specs.Source.{bytes_of};
+ghost use Rattle.minidump.specs.Deciding.{ReadsDirectory};
+
+use minidump_bytes::{Endian, Source, Steps};
+use minidump_format::Error;
+use minidump_format::format::{MINIDUMP_DIRECTORY, MINIDUMP_HEADER};
+use std::alloc::Global;
+use std::collections::BTreeMap;
+
+/// The entry that decides a type of stream, which is the last of that type.
+#[derive(Clone, Copy)]
+pub(crate) struct DecidingEntry {
+    /// Its index in the directory.
+    pub(crate) index: u32,
+    pub(crate) entry: MINIDUMP_DIRECTORY,
+}
+
+// The deciding entries by type. Memory is taken for these alone, one at a time.
+pub(crate) fn read_directory(
+    alloc: Global,
+    source: Source<'_>,
+    endian: Endian,
+    header: &MINIDUMP_HEADER,
+    steps: &mut Steps,
+) -> Result<BTreeMap<u32, DecidingEntry>, Error>
+    ensures means { ReadsDirectory endian header.now (bytes_of source.entry) result }
+    ensures within { 12 * (steps.new - steps.old) ≤ length (bytes_of source.entry) + 12 }
+    ensures grows { steps.old ≤ steps.new }
+    ensures at_least { OnOk result (after steps.old header.now.stream_count ≤ steps.new) }
+{
+    let mut entries = BTreeMap::new(alloc);
+    for index in 0..header.stream_count {
+        let place = header.stream_directory_rva as u64 + 12 * index as u64;
+        let entry: MINIDUMP_DIRECTORY = source
+            .record(place, endian, steps)
+            .ok_or(Error::MissingDirectory)?;
+        entries.insert(entry.stream_type, DecidingEntry { index, entry })?;
+    }
+    Ok(entries)
+}

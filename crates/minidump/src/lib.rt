@@ -1,0 +1,10 @@
+//! A reader of minidumps, the crash files that Windows, Breakpad and Crashpad write.
+#![tactic(auto)]
+
+mod directory;
+mod dump;
+mod header;
+
+pub use dump::Minidump;
+pub use minidump_bytes::{Endian, Record, Refused, Source, Steps, Told};
+pub use minidump_format::{Error, format, stream_vendor};

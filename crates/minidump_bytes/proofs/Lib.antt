@@ -1,0 +1,2 @@
+pub mod HexLemmas
+pub mod ToldLemmas

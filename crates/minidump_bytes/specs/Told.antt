@@ -1,0 +1,28 @@
+-- What a call of a `Told` does to its device, as far as the device tells its bytes.
+use Rattle.std.specs.Prelude.{◌≡◌, ℕ, Bool, true, false, List, ◌++◌, Option, Result, Ok, Err}
+use Rattle.std.specs.Io.KnownBytes.{Appends}
+use Rattle.minidump_bytes.specs.declared.told.Told.{Told}
+use Rattle.minidump_bytes.specs.declared.told.Refused.{Refused}
+
+abbrev pub device_of : {D : Type 0} → Told D → D
+device_of t = t.device
+
+abbrev pub has_failed : {D : Type 0} → Told D → Bool
+has_failed t = t.failed
+
+-- the device took all of the text, and has not failed
+pub record PutsAll {D : Type 0} (contents : D → Option (List ℕ)) (old new : Told D) (text : List ℕ) : Type 0 where
+  pub grown : Appends (contents old.device) (contents new.device) text
+  pub alive : new.failed ≡ false
+
+-- the device took a beginning of the text
+pub record PutsBeginning {D : Type 0} (contents : D → Option (List ℕ)) (old new : Told D) (text : List ℕ) : Type 0 where
+  pub front : List ℕ
+  pub rest : List ℕ
+  pub split : text ≡ front ++ rest
+  pub grown : Appends (contents old.device) (contents new.device) front
+
+-- `Ok`: all of the text went out. Refused: a beginning of it did, and the device has failed
+abbrev pub Puts : {D : Type 0} → (D → Option (List ℕ)) → Told D → Told D → List ℕ → Result (Unit {0}) Refused → Type 0
+Puts contents old new text (Ok _) = PutsAll contents old new text
+Puts contents old new text (Err _) = PutsBeginning contents old new text × (has_failed new ≡ true)

@@ -1,0 +1,63 @@
+ghost use Rattle.std.specs.Prelude.{◌≡◌, ◌+◌, ◌≤◌, length};
+ghost use Rattle.minidump_bytes.specs.Number.{number_at};
+
+use byteorder::{BigEndian, ByteOrder, LittleEndian};
+
+/// The order in which a file has the bytes of a number.
+#[derive(Clone, Copy, Debug, PartialEq, Eq)]
+pub enum Endian {
+    /// The lowest byte comes first.
+    Little,
+    /// The highest byte comes first.
+    Big,
+}
+
+impl Endian {
+    /// The number of 16 bits at a place.
+    #[tactic(auto, unfolding(crate::specs::Number::number))]
+    pub fn u16_at(self, bytes: &[u8], place: usize) -> u16
+        requires { place + 2 ≤ length bytes.now }
+        ensures { result ≡ number_at self 2 place bytes.now }
+    {
+        match self {
+            Endian::Little => LittleEndian::read_u16(&bytes[place..]),
+            Endian::Big => BigEndian::read_u16(&bytes[place..]),
+        }
+    }
+
+    /// The number of 32 bits at a place.
+    #[tactic(auto, unfolding(crate::specs::Number::number))]
+    pub fn u32_at(self, bytes: &[u8], place: usize) -> u32
+        requires { place + 4 ≤ length bytes.now }
+        ensures { result ≡ number_at self 4 place bytes.now }
+    {
+        match self {
+            Endian::Little => LittleEndian::read_u32(&bytes[place..]),
+            Endian::Big => BigEndian::read_u32(&bytes[place..]),
+        }
+    }
+
+    /// The number of 64 bits at a place.
+    #[tactic(auto, unfolding(crate::specs::Number::number))]
+    pub fn u64_at(self, bytes: &[u8], place: usize) -> u64
+        requires { place + 8 ≤ length bytes.now }
+        ensures { result ≡ number_at self 8 place bytes.now }
+    {
+        match self {
+            Endian::Little => LittleEndian::read_u64(&bytes[place..]),
+            Endian::Big => BigEndian::read_u64(&bytes[place..]),
+        }
+    }
+
+    /// The number of 128 bits at a place.
+    #[tactic(auto, unfolding(crate::specs::Number::number))]
+    pub fn u128_at(self, bytes: &[u8], place: usize) -> u128
+        requires { place + 16 ≤ length bytes.now }
+        ensures { result ≡ number_at self 16 place bytes.now }
+    {
+        match self {
+            Endian::Little => LittleEndian::read_u128(&bytes[place..]),
+            Endian::Big => BigEndian::read_u128(&bytes[place..]),
+        }
+    }
+}

@@ -1,0 +1,69 @@
+ghost use Rattle.std.specs.Prelude.{◌≡◌, ◌++◌, ◌<◌, ◌∷◌, [], OnOk, string_bytes, false};
+ghost use Rattle.std.specs.List.{flat_map};
+ghost use Rattle.std.specs.Fmt.{digits, digit_glyph};
+ghost use Rattle.minidump_bytes.specs.Piece.{piece_text};
+
+use itoa::Buffer;
+use std::alloc::AllocError;
+
+/// A part of a text.
+#[derive(Clone, Copy)]
+pub enum Piece<'a> {
+    /// These words.
+    Words(&'a str),
+    /// A number in decimal, as `{}` writes it.
+    Decimal(u64),
+    /// A number in hexadecimal behind `0x`, as `{:#x}` writes it.
+    Hex(u64),
+}
+
+/// Appends the texts of the pieces, one after another.
+pub fn push_pieces(out: &mut String, pieces: &[Piece<'_>]) -> Result<(), AllocError>
+    ensures { OnOk result (string_bytes out.new ≡ string_bytes out.old ++ flat_map piece_text pieces.now) }
+{
+    for piece in pieces {
+        match *piece {
+            Piece::Words(words) => out.push_str(words)?,
+            Piece::Decimal(n) => {
+                let mut buffer = Buffer::new();
+                out.push_str(buffer.format(n))?
+            }
+            Piece::Hex(n) => {
+                out.push_str("0x")?;
+                push_hex(out, n)?
+            }
+        }
+    }
+    Ok(())
+}
+
+/// Appends the digits of a number in lower-case hexadecimal, as `{:x}` does.
+#[tactic(auto, using(crate::proofs::HexLemmas::hex_last, crate::proofs::HexLemmas::hex_one))]
+pub fn push_hex(out: &mut String, n: u64) -> Result<(), AllocError>
+    ensures { OnOk result (string_bytes out.new ≡ string_bytes out.old ++ digits 16 false n) }
+{
+    if n < 16 {
+        return push_digit(out, n as u8);
+    }
+    push_hex(out, n / 16)?;
+    push_digit(out, (n % 16) as u8)
+}
+
+fn push_digit(out: &mut String, digit: u8) -> Result<(), AllocError>
+    requires { digit < 16 }
+    ensures { OnOk result (string_bytes out.new ≡ string_bytes out.old ++ (digit_glyph false digit ∷ [])) }
+{
+    out.push(char::from(shown(digit)))
+}
+
+// The character of a digit.
+fn shown(digit: u8) -> u8
+    requires { digit < 16 }
+    ensures { result ≡ digit_glyph false digit }
+{
+    if digit < 10 {
+        b'0' + digit
+    } else {
+        b'a' + (digit - 10)
+    }
+}

@@ -1,0 +1,68 @@
+ghost use Rattle.std.specs.Prelude.{◌≡◌, ◌↔◌, ◌+◌, ◌≤◌, length, slice_range, IsSome, IfSome};
+ghost use Rattle.std.specs.Option.{option_copied};
+ghost use Rattle.minidump_bytes.specs.Source.{bytes_of};
+ghost use Rattle.minidump_bytes.specs.Span.{record_at, span};
+ghost use Rattle.minidump_bytes.specs.Steps.{after};
+
+use crate::{Endian, Record, Steps};
+
+/// The bytes of a file, or of a part of it. Each read of it is one step, whether it is answered or not.
+#[derive(Clone, Copy)]
+pub struct Source<'a> {
+    bytes: &'a [u8],
+}
+
+impl<'a> Source<'a> {
+    /// These bytes. Nothing is read yet.
+    pub fn new(bytes: &'a [u8]) -> Self
+        ensures { bytes_of result ≡ bytes.now }
+    {
+        Source { bytes }
+    }
+
+    /// How many bytes there are.
+    pub fn len(self) -> usize
+        ensures { result ≡ length (bytes_of self.entry) }
+    {
+        self.bytes.len()
+    }
+
+    /// All of the bytes, as they were lent.
+    pub fn bytes(self) -> &'a [u8]
+        ensures { result.now ≡ bytes_of self.entry }
+    {
+        self.bytes
+    }
+
+    /// The record at a place, or `None` where the bytes do not hold it whole.
+    pub fn record<R: Record>(self, place: u64, endian: Endian, steps: &mut Steps) -> Option<R>
+        ensures value { result ≡ record_at R.SIZE R.value endian place (bytes_of self.entry) }
+        ensures readable { IsSome result ↔ (place + R.SIZE ≤ length (bytes_of self.entry)) }
+        ensures found { IfSome result (λ r. r ≡ R.value endian (slice_range (bytes_of self.entry) place (place + R.SIZE))) }
+        ensures step { steps.new ≡ after steps.old 1 }
+    {
+        steps.tick();
+        let bytes = self.part(place, R::SIZE as u64)?;
+        Some(R::decode(bytes, endian))
+    }
+
+    /// The `len` bytes from the place `from` on, or `None` where there are fewer.
+    pub fn span(self, from: u64, len: u64, steps: &mut Steps) -> Option<&'a [u8]>
+        ensures value { option_copied result ≡ span from (from + len) (bytes_of self.entry) }
+        ensures step { steps.new ≡ after steps.old 1 }
+    {
+        steps.tick();
+        self.part(from, len)
+    }
+
+    // The same, not counted.
+    fn part(self, from: u64, len: u64) -> Option<&'a [u8]>
+        ensures { option_copied result ≡ span from (from + len) (bytes_of self.entry) }
+    {
+        let rest = (self.bytes.len() as u64).checked_sub(from)?;
+        if len > rest {
+            return None;
+        }
+        Some(&self.bytes[from as usize..(from + len) as usize])
+    }
+}

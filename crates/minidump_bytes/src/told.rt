@@ -1,0 +1,67 @@
+ghost use Rattle.std.specs.Prelude.{◌≡◌, IsTrue, false};
+ghost use Rattle.minidump_bytes.specs.Told.{Puts, device_of, has_failed};
+
+use std::io::Write;
+
+/// A reader or a writer that keeps whether it has failed. From its first failure on it refuses every
+/// call, and its device is not called again.
+#[derive(Drop)]
+pub struct Told<D> {
+    device: D,
+    failed: bool,
+}
+
+/// The device of a [`Told`] has failed.
+#[derive(Clone, Copy, Debug, PartialEq, Eq)]
+pub struct Refused;
+
+impl<D> Told<D> {
+    /// The device, which has not failed yet.
+    pub fn new(device: D) -> Told<D>
+        ensures device { device_of result ≡ device }
+        ensures alive { has_failed result ≡ false }
+    {
+        Told {
+            device,
+            failed: false,
+        }
+    }
+
+    /// Whether a call of the device has failed.
+    pub fn failed(&self) -> bool
+        ensures { result ≡ has_failed self.now }
+    {
+        self.failed
+    }
+
+    /// Gives the device back.
+    pub fn into_device(self) -> D
+        ensures { result ≡ device_of self }
+    {
+        let Told { device, failed: _ } = self;
+        device
+    }
+}
+
+impl<W: Write> Told<W> {
+    /// Writes all of the bytes. A write that takes none of some bytes is a failure, as an error is.
+    pub fn put(&mut self, bytes: &[u8]) -> Result<(), Refused>
+        ensures puts { Puts W.contents self.old self.new bytes.now result }
+        ensures dead { IsTrue (has_failed self.old) → self.new ≡ self.old }
+    {
+        if self.failed {
+            return Err(Refused);
+        }
+        let mut at = 0;
+        while at < bytes.len() {
+            match self.device.write(&bytes[at..]) {
+                Ok(n) if n > 0 => at += n,
+                _ => {
+                    self.failed = true;
+                    return Err(Refused);
+                }
+            }
+        }
+        Ok(())
+    }
+}

@@ -1,0 +1,100 @@
+use minidump_bytes::{Endian, Record};
+
+/// A place in the file, in bytes from its beginning.
+pub type RVA = u32;
+
+/// The first four bytes of a minidump, `MDMP`, as a number.
+pub const MINIDUMP_SIGNATURE: u32 = 0x504d_444d;
+
+/// The low 16 bits of a header's version.
+pub const MINIDUMP_VERSION: u32 = 0xa793;
+
+/// The head of a minidump, its first 32 bytes: Microsoft's `MINIDUMP_HEADER`.
+#[derive(Clone, Copy, Debug, PartialEq, Eq)]
+pub struct MINIDUMP_HEADER {
+    pub signature: u32,
+    /// The low 16 bits are [`MINIDUMP_VERSION`]; the others are the writer's own.
+    pub version: u32,
+    /// How many entries the directory has.
+    pub stream_count: u32,
+    /// Where the directory begins.
+    pub stream_directory_rva: RVA,
+    pub checksum: u32,
+    /// When the dump was written, in seconds since 1970.
+    pub time_date_stamp: u32,
+    pub flags: u64,
+}
+
+impl Record for MINIDUMP_HEADER {
+    ghost use Rattle.minidump_format.specs.Header.{header};
+
+    ghost SIZE = { 32 };
+
+    const SIZE: usize = 32;
+
+    ghost value = { header };
+
+    fn decode(bytes: &[u8], endian: Endian) -> Self {
+        MINIDUMP_HEADER {
+            signature: endian.u32_at(bytes, 0),
+            version: endian.u32_at(bytes, 4),
+            stream_count: endian.u32_at(bytes, 8),
+            stream_directory_rva: endian.u32_at(bytes, 12),
+            checksum: endian.u32_at(bytes, 16),
+            time_date_stamp: endian.u32_at(bytes, 20),
+            flags: endian.u64_at(bytes, 24),
+        }
+    }
+}
+
+/// Where a part of the file lies: Microsoft's `MINIDUMP_LOCATION_DESCRIPTOR`.
+#[derive(Clone, Copy, Debug, PartialEq, Eq)]
+pub struct MINIDUMP_LOCATION_DESCRIPTOR {
+    /// How many bytes it has.
+    pub data_size: u32,
+    /// Where it begins.
+    pub rva: RVA,
+}
+
+impl Record for MINIDUMP_LOCATION_DESCRIPTOR {
+    ghost use Rattle.minidump_format.specs.Header.{location};
+
+    ghost SIZE = { 8 };
+
+    const SIZE: usize = 8;
+
+    ghost value = { location };
+
+    fn decode(bytes: &[u8], endian: Endian) -> Self {
+        MINIDUMP_LOCATION_DESCRIPTOR {
+            data_size: endian.u32_at(bytes, 0),
+            rva: endian.u32_at(bytes, 4),
+        }
+    }
+}
+
+/// An entry of the directory: Microsoft's `MINIDUMP_DIRECTORY`.
+#[derive(Clone, Copy, Debug, PartialEq, Eq)]
+pub struct MINIDUMP_DIRECTORY {
+    /// The type of the stream, as a number.
+    pub stream_type: u32,
+    /// Where its bytes are.
+    pub location: MINIDUMP_LOCATION_DESCRIPTOR,
+}
+
+impl Record for MINIDUMP_DIRECTORY {
+    ghost use Rattle.minidump_format.specs.Header.{directory_entry};
+
+    ghost SIZE = { 12 };
+
+    const SIZE: usize = 12;
+
+    ghost value = { directory_entry };
+
+    fn decode(bytes: &[u8], endian: Endian) -> Self {
+        MINIDUMP_DIRECTORY {
+            stream_type: endian.u32_at(bytes, 0),
+            location: MINIDUMP_LOCATION_DESCRIPTOR::decode(&bytes[4..12], endian),
+        }
+    }
+}

@@ -1,0 +1,232 @@
+ghost use Rattle.std.specs.Prelude.{◌≡◌};
+ghost use Rattle.minidump_format.specs.StreamType.{is_unimplemented, type_name, stream_type_of};
+
+/// The types of stream that have a name: Microsoft's `MINIDUMP_STREAM_TYPE`, with the extensions of
+/// Breakpad, Crashpad and Mozilla.
+#[allow(non_camel_case_types)]
+#[derive(Clone, Copy, Debug, PartialEq, Eq)]
+pub enum MINIDUMP_STREAM_TYPE {
+    UnusedStream = 0,
+    ReservedStream0 = 1,
+    ReservedStream1 = 2,
+    ThreadListStream = 3,
+    ModuleListStream = 4,
+    MemoryListStream = 5,
+    ExceptionStream = 6,
+    SystemInfoStream = 7,
+    ThreadExListStream = 8,
+    Memory64ListStream = 9,
+    CommentStreamA = 10,
+    CommentStreamW = 11,
+    HandleDataStream = 12,
+    FunctionTable = 13,
+    UnloadedModuleListStream = 14,
+    MiscInfoStream = 15,
+    MemoryInfoListStream = 16,
+    ThreadInfoListStream = 17,
+    HandleOperationListStream = 18,
+    TokenStream = 19,
+    JavaScriptDataStream = 20,
+    SystemMemoryInfoStream = 21,
+    ProcessVmCountersStream = 22,
+    IptTraceStream = 23,
+    ThreadNamesStream = 24,
+    ceStreamNull = 0x8000,
+    ceStreamSystemInfo = 0x8001,
+    ceStreamException = 0x8002,
+    ceStreamModuleList = 0x8003,
+    ceStreamProcessList = 0x8004,
+    ceStreamThreadList = 0x8005,
+    ceStreamThreadContextList = 0x8006,
+    ceStreamThreadCallStackList = 0x8007,
+    ceStreamMemoryVirtualList = 0x8008,
+    ceStreamMemoryPhysicalList = 0x8009,
+    ceStreamBucketParameters = 0x800a,
+    ceStreamProcessModuleMap = 0x800b,
+    ceStreamDiagnosisList = 0x800c,
+    LastReservedStream = 0xffff,
+    BreakpadInfoStream = 0x4767_0001,
+    AssertionInfoStream = 0x4767_0002,
+    LinuxCpuInfo = 0x4767_0003,
+    LinuxProcStatus = 0x4767_0004,
+    LinuxLsbRelease = 0x4767_0005,
+    LinuxCmdLine = 0x4767_0006,
+    LinuxEnviron = 0x4767_0007,
+    LinuxAuxv = 0x4767_0008,
+    LinuxMaps = 0x4767_0009,
+    LinuxDsoDebug = 0x4767_000a,
+    CrashpadInfoStream = 0x4350_0001,
+    MozMacosCrashInfoStream = 0x4d7a_0001,
+    MozMacosBootargsStream = 0x4d7a_0002,
+    MozLinuxLimits = 0x4d7a_0003,
+    MozSoftErrors = 0x4d7a_0004,
+    StabilityReportStream = 0x4b6b_0002,
+}
+
+impl MINIDUMP_STREAM_TYPE {
+    /// The type of a number, or `None` where no type has it.
+    pub fn from_u32(n: u32) -> Option<MINIDUMP_STREAM_TYPE>
+        ensures { result ≡ stream_type_of n }
+    {
+        Some(match n {
+            0 => MINIDUMP_STREAM_TYPE::UnusedStream,
+            1 => MINIDUMP_STREAM_TYPE::ReservedStream0,
+            2 => MINIDUMP_STREAM_TYPE::ReservedStream1,
+            3 => MINIDUMP_STREAM_TYPE::ThreadListStream,
+            4 => MINIDUMP_STREAM_TYPE::ModuleListStream,
+            5 => MINIDUMP_STREAM_TYPE::MemoryListStream,
+            6 => MINIDUMP_STREAM_TYPE::ExceptionStream,
+            7 => MINIDUMP_STREAM_TYPE::SystemInfoStream,
+            8 => MINIDUMP_STREAM_TYPE::ThreadExListStream,
+            9 => MINIDUMP_STREAM_TYPE::Memory64ListStream,
+            10 => MINIDUMP_STREAM_TYPE::CommentStreamA,
+            11 => MINIDUMP_STREAM_TYPE::CommentStreamW,
+            12 => MINIDUMP_STREAM_TYPE::HandleDataStream,
+            13 => MINIDUMP_STREAM_TYPE::FunctionTable,
+            14 => MINIDUMP_STREAM_TYPE::UnloadedModuleListStream,
+            15 => MINIDUMP_STREAM_TYPE::MiscInfoStream,
+            16 => MINIDUMP_STREAM_TYPE::MemoryInfoListStream,
+            17 => MINIDUMP_STREAM_TYPE::ThreadInfoListStream,
+            18 => MINIDUMP_STREAM_TYPE::HandleOperationListStream,
+            19 => MINIDUMP_STREAM_TYPE::TokenStream,
+            20 => MINIDUMP_STREAM_TYPE::JavaScriptDataStream,
+            21 => MINIDUMP_STREAM_TYPE::SystemMemoryInfoStream,
+            22 => MINIDUMP_STREAM_TYPE::ProcessVmCountersStream,
+            23 => MINIDUMP_STREAM_TYPE::IptTraceStream,
+            24 => MINIDUMP_STREAM_TYPE::ThreadNamesStream,
+            0x8000 => MINIDUMP_STREAM_TYPE::ceStreamNull,
+            0x8001 => MINIDUMP_STREAM_TYPE::ceStreamSystemInfo,
+            0x8002 => MINIDUMP_STREAM_TYPE::ceStreamException,
+            0x8003 => MINIDUMP_STREAM_TYPE::ceStreamModuleList,
+            0x8004 => MINIDUMP_STREAM_TYPE::ceStreamProcessList,
+            0x8005 => MINIDUMP_STREAM_TYPE::ceStreamThreadList,
+            0x8006 => MINIDUMP_STREAM_TYPE::ceStreamThreadContextList,
+            0x8007 => MINIDUMP_STREAM_TYPE::ceStreamThreadCallStackList,
+            0x8008 => MINIDUMP_STREAM_TYPE::ceStreamMemoryVirtualList,
+            0x8009 => MINIDUMP_STREAM_TYPE::ceStreamMemoryPhysicalList,
+            0x800a => MINIDUMP_STREAM_TYPE::ceStreamBucketParameters,
+            0x800b => MINIDUMP_STREAM_TYPE::ceStreamProcessModuleMap,
+            0x800c => MINIDUMP_STREAM_TYPE::ceStreamDiagnosisList,
+            0xffff => MINIDUMP_STREAM_TYPE::LastReservedStream,
+            0x4767_0001 => MINIDUMP_STREAM_TYPE::BreakpadInfoStream,
+            0x4767_0002 => MINIDUMP_STREAM_TYPE::AssertionInfoStream,
+            0x4767_0003 => MINIDUMP_STREAM_TYPE::LinuxCpuInfo,
+            0x4767_0004 => MINIDUMP_STREAM_TYPE::LinuxProcStatus,
+            0x4767_0005 => MINIDUMP_STREAM_TYPE::LinuxLsbRelease,
+            0x4767_0006 => MINIDUMP_STREAM_TYPE::LinuxCmdLine,
+            0x4767_0007 => MINIDUMP_STREAM_TYPE::LinuxEnviron,
+            0x4767_0008 => MINIDUMP_STREAM_TYPE::LinuxAuxv,
+            0x4767_0009 => MINIDUMP_STREAM_TYPE::LinuxMaps,
+            0x4767_000a => MINIDUMP_STREAM_TYPE::LinuxDsoDebug,
+            0x4350_0001 => MINIDUMP_STREAM_TYPE::CrashpadInfoStream,
+            0x4d7a_0001 => MINIDUMP_STREAM_TYPE::MozMacosCrashInfoStream,
+            0x4d7a_0002 => MINIDUMP_STREAM_TYPE::MozMacosBootargsStream,
+            0x4d7a_0003 => MINIDUMP_STREAM_TYPE::MozLinuxLimits,
+            0x4d7a_0004 => MINIDUMP_STREAM_TYPE::MozSoftErrors,
+            0x4b6b_0002 => MINIDUMP_STREAM_TYPE::StabilityReportStream,
+            _ => return None,
+        })
+    }
+
+    /// The name of the type, as it stands in this enum.
+    pub fn name(self) -> &'static str
+        ensures { result.now ≡ type_name self }
+    {
+        match self {
+            MINIDUMP_STREAM_TYPE::UnusedStream => "UnusedStream",
+            MINIDUMP_STREAM_TYPE::ReservedStream0 => "ReservedStream0",
+            MINIDUMP_STREAM_TYPE::ReservedStream1 => "ReservedStream1",
+            MINIDUMP_STREAM_TYPE::ThreadListStream => "ThreadListStream",
+            MINIDUMP_STREAM_TYPE::ModuleListStream => "ModuleListStream",
+            MINIDUMP_STREAM_TYPE::MemoryListStream => "MemoryListStream",
+            MINIDUMP_STREAM_TYPE::ExceptionStream => "ExceptionStream",
+            MINIDUMP_STREAM_TYPE::SystemInfoStream => "SystemInfoStream",
+            MINIDUMP_STREAM_TYPE::ThreadExListStream => "ThreadExListStream",
+            MINIDUMP_STREAM_TYPE::Memory64ListStream => "Memory64ListStream",
+            MINIDUMP_STREAM_TYPE::CommentStreamA => "CommentStreamA",
+            MINIDUMP_STREAM_TYPE::CommentStreamW => "CommentStreamW",
+            MINIDUMP_STREAM_TYPE::HandleDataStream => "HandleDataStream",
+            MINIDUMP_STREAM_TYPE::FunctionTable => "FunctionTable",
+            MINIDUMP_STREAM_TYPE::UnloadedModuleListStream => "UnloadedModuleListStream",
+            MINIDUMP_STREAM_TYPE::MiscInfoStream => "MiscInfoStream",
+            MINIDUMP_STREAM_TYPE::MemoryInfoListStream => "MemoryInfoListStream",
+            MINIDUMP_STREAM_TYPE::ThreadInfoListStream => "ThreadInfoListStream",
+            MINIDUMP_STREAM_TYPE::HandleOperationListStream => "HandleOperationListStream",
+            MINIDUMP_STREAM_TYPE::TokenStream => "TokenStream",
+            MINIDUMP_STREAM_TYPE::JavaScriptDataStream => "JavaScriptDataStream",
+            MINIDUMP_STREAM_TYPE::SystemMemoryInfoStream => "SystemMemoryInfoStream",
+            MINIDUMP_STREAM_TYPE::ProcessVmCountersStream => "ProcessVmCountersStream",
+            MINIDUMP_STREAM_TYPE::IptTraceStream => "IptTraceStream",
+            MINIDUMP_STREAM_TYPE::ThreadNamesStream => "ThreadNamesStream",
+            MINIDUMP_STREAM_TYPE::ceStreamNull => "ceStreamNull",
+            MINIDUMP_STREAM_TYPE::ceStreamSystemInfo => "ceStreamSystemInfo",
+            MINIDUMP_STREAM_TYPE::ceStreamException => "ceStreamException",
+            MINIDUMP_STREAM_TYPE::ceStreamModuleList => "ceStreamModuleList",
+            MINIDUMP_STREAM_TYPE::ceStreamProcessList => "ceStreamProcessList",
+            MINIDUMP_STREAM_TYPE::ceStreamThreadList => "ceStreamThreadList",
+            MINIDUMP_STREAM_TYPE::ceStreamThreadContextList => "ceStreamThreadContextList",
+            MINIDUMP_STREAM_TYPE::ceStreamThreadCallStackList => "ceStreamThreadCallStackList",
+            MINIDUMP_STREAM_TYPE::ceStreamMemoryVirtualList => "ceStreamMemoryVirtualList",
+            MINIDUMP_STREAM_TYPE::ceStreamMemoryPhysicalList => "ceStreamMemoryPhysicalList",
+            MINIDUMP_STREAM_TYPE::ceStreamBucketParameters => "ceStreamBucketParameters",
+            MINIDUMP_STREAM_TYPE::ceStreamProcessModuleMap => "ceStreamProcessModuleMap",
+            MINIDUMP_STREAM_TYPE::ceStreamDiagnosisList => "ceStreamDiagnosisList",
+            MINIDUMP_STREAM_TYPE::LastReservedStream => "LastReservedStream",
+            MINIDUMP_STREAM_TYPE::BreakpadInfoStream => "BreakpadInfoStream",
+            MINIDUMP_STREAM_TYPE::AssertionInfoStream => "AssertionInfoStream",
+            MINIDUMP_STREAM_TYPE::LinuxCpuInfo => "LinuxCpuInfo",
+            MINIDUMP_STREAM_TYPE::LinuxProcStatus => "LinuxProcStatus",
+            MINIDUMP_STREAM_TYPE::LinuxLsbRelease => "LinuxLsbRelease",
+            MINIDUMP_STREAM_TYPE::LinuxCmdLine => "LinuxCmdLine",
+            MINIDUMP_STREAM_TYPE::LinuxEnviron => "LinuxEnviron",
+            MINIDUMP_STREAM_TYPE::LinuxAuxv => "LinuxAuxv",
+            MINIDUMP_STREAM_TYPE::LinuxMaps => "LinuxMaps",
+            MINIDUMP_STREAM_TYPE::LinuxDsoDebug => "LinuxDsoDebug",
+            MINIDUMP_STREAM_TYPE::CrashpadInfoStream => "CrashpadInfoStream",
+            MINIDUMP_STREAM_TYPE::MozMacosCrashInfoStream => "MozMacosCrashInfoStream",
+            MINIDUMP_STREAM_TYPE::MozMacosBootargsStream => "MozMacosBootargsStream",
+            MINIDUMP_STREAM_TYPE::MozLinuxLimits => "MozLinuxLimits",
+            MINIDUMP_STREAM_TYPE::MozSoftErrors => "MozSoftErrors",
+            MINIDUMP_STREAM_TYPE::StabilityReportStream => "StabilityReportStream",
+        }
+    }
+
+    /// Whether streams of the type are listed, but never read.
+    pub fn is_unimplemented(self) -> bool
+        ensures { result ≡ is_unimplemented self }
+    {
+        match self {
+            MINIDUMP_STREAM_TYPE::UnusedStream
+            | MINIDUMP_STREAM_TYPE::ReservedStream0
+            | MINIDUMP_STREAM_TYPE::ReservedStream1
+            | MINIDUMP_STREAM_TYPE::ThreadExListStream
+            | MINIDUMP_STREAM_TYPE::CommentStreamA
+            | MINIDUMP_STREAM_TYPE::CommentStreamW
+            | MINIDUMP_STREAM_TYPE::FunctionTable
+            | MINIDUMP_STREAM_TYPE::HandleOperationListStream
+            | MINIDUMP_STREAM_TYPE::TokenStream
+            | MINIDUMP_STREAM_TYPE::JavaScriptDataStream
+            | MINIDUMP_STREAM_TYPE::SystemMemoryInfoStream
+            | MINIDUMP_STREAM_TYPE::ProcessVmCountersStream
+            | MINIDUMP_STREAM_TYPE::IptTraceStream
+            | MINIDUMP_STREAM_TYPE::ceStreamNull
+            | MINIDUMP_STREAM_TYPE::ceStreamSystemInfo
+            | MINIDUMP_STREAM_TYPE::ceStreamException
+            | MINIDUMP_STREAM_TYPE::ceStreamModuleList
+            | MINIDUMP_STREAM_TYPE::ceStreamProcessList
+            | MINIDUMP_STREAM_TYPE::ceStreamThreadList
+            | MINIDUMP_STREAM_TYPE::ceStreamThreadContextList
+            | MINIDUMP_STREAM_TYPE::ceStreamThreadCallStackList
+            | MINIDUMP_STREAM_TYPE::ceStreamMemoryVirtualList
+            | MINIDUMP_STREAM_TYPE::ceStreamMemoryPhysicalList
+            | MINIDUMP_STREAM_TYPE::ceStreamBucketParameters
+            | MINIDUMP_STREAM_TYPE::ceStreamProcessModuleMap
+            | MINIDUMP_STREAM_TYPE::ceStreamDiagnosisList
+            | MINIDUMP_STREAM_TYPE::LastReservedStream
+            | MINIDUMP_STREAM_TYPE::LinuxCmdLine
+            | MINIDUMP_STREAM_TYPE::LinuxAuxv
+            | MINIDUMP_STREAM_TYPE::LinuxDsoDebug => true,
+            _ => false,
+        }
+    }
+}

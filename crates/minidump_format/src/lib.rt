@@ -1,0 +1,12 @@
+//! The records of a minidump, the types of its streams, why reading one is refused, and what a call
+//! that prints answers.
+#![tactic(auto)]
+
+mod error;
+pub mod format;
+mod print;
+mod vendor;
+
+pub use error::Error;
+pub use print::{put_made, put_text};
+pub use vendor::stream_vendor;
