@@ -1,1 +1,2 @@
 pub mod DirectoryLemmas
+pub mod StreamsLemmas

@@ -3,3 +3,5 @@ pub mod Directory
 pub mod Deciding
 pub mod Dump
 pub mod Seen
+pub mod Streams
+pub mod Text

@@ -4,11 +4,13 @@ ghost use Rattle.minidump.specs.Deciding.{Decides};
 
 use crate::directory::{DecidingEntry, read_directory};
 use crate::header::read_header;
+use crate::streams::{Streams, UnimplementedStreams, UnknownStreams};
 use minidump_bytes::{Endian, Source, Steps};
 use minidump_format::Error;
 use minidump_format::format::MINIDUMP_HEADER;
 use std::alloc::Global;
 use std::collections::BTreeMap;
+use std::collections::btree_map::Values;
 
 /// A minidump: its header and its directory. Its streams are read when they are asked for.
 #[derive(Drop)]
@@ -26,8 +28,10 @@ impl<'a> Minidump<'a> {
     ghost use Rattle.std.specs.Prelude.{◌≡◌, ◌+◌, ◌≤◌, length, IfOk};
     ghost use Rattle.minidump_bytes.specs.Steps.{after};
     ghost use Rattle.minidump_format.specs.Answer.{Gives};
-    ghost use Rattle.minidump.specs.Dump.{HasEntries, dump_in, raw_stream};
+    ghost use Rattle.minidump.specs.Dump.{HasEntries, dump_in, raw_stream, streams_of};
     ghost use Rattle.minidump.specs.Seen.{dump_of};
+    ghost use Rattle.minidump.specs.Streams.{as_unknown, as_unimplemented, entries_of, streams_left, unknown_left, unimplemented_left};
+    ghost use Rattle.std.specs.List.{filter_map};
 
     /// Accepts the header and the directory of a file, or refuses it by `MissingHeader`,
     /// `HeaderMismatch`, `VersionMismatch` or `MissingDirectory`. Nothing else of the file is read.
@@ -58,6 +62,41 @@ impl<'a> Minidump<'a> {
             source,
             entries,
         })
+    }
+
+    /// The entries that decide a type of stream, ascending by type. They take no memory.
+    pub fn all_streams(&self) -> Streams<'_>
+        ensures { streams_left result ≡ entries_of (streams_of (dump_of self.now)) }
+    {
+        Streams {
+            entries: self.deciding_entries(),
+        }
+    }
+
+    // The same, each with its index.
+    pub(crate) fn deciding_entries(&self) -> Values<'_, u32, DecidingEntry>
+        ensures { result ≡ streams_of (dump_of self.now) }
+    {
+        self.entries.values()
+    }
+
+    /// Those of [`Minidump::all_streams`] whose type has no name.
+    pub fn unknown_streams(&self) -> UnknownStreams<'_>
+        ensures { unknown_left result ≡ filter_map as_unknown (entries_of (streams_of (dump_of self.now))) }
+    {
+        UnknownStreams {
+            streams: self.all_streams(),
+        }
+    }
+
+    /// Those of [`Minidump::all_streams`] whose type has a name, but is not read.
+    pub fn unimplemented_streams(&self) -> UnimplementedStreams<'_>
+        ensures { unimplemented_left result
+            ≡ filter_map as_unimplemented (entries_of (streams_of (dump_of self.now))) }
+    {
+        UnimplementedStreams {
+            streams: self.all_streams(),
+        }
     }
 
     /// The bytes of the stream of a type, as they lie in the file, by the deciding entry of the type.

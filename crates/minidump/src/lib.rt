@@ -3,8 +3,15 @@
 
 mod directory;
 mod dump;
+mod file;
 mod header;
+mod print;
+mod streams;
 
 pub use dump::Minidump;
 pub use minidump_bytes::{Endian, Record, Refused, Source, Steps, Told};
 pub use minidump_format::{Error, format, stream_vendor};
+pub use streams::{
+    MinidumpImplementedStream, MinidumpUnimplementedStream, MinidumpUnknownStream, Streams,
+    UnimplementedStreams, UnknownStreams,
+};

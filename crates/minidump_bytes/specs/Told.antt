@@ -1,6 +1,6 @@
 -- What a call of a `Told` does to its device, as far as the device tells its bytes.
-use Rattle.std.specs.Prelude.{◌≡◌, ℕ, Bool, true, false, List, ◌++◌, Option, Result, Ok, Err}
-use Rattle.std.specs.Io.KnownBytes.{Appends}
+use Rattle.std.specs.Prelude.{◌≡◌, ℕ, ◌≤◌, ◌<◌, Bool, true, false, List, ◌++◌, length, take, Option, Result, Ok, Err}
+use Rattle.std.specs.Io.KnownBytes.{Appends, Consumes, IsAtEnd}
 use Rattle.minidump_bytes.specs.declared.told.Told.{Told}
 use Rattle.minidump_bytes.specs.declared.told.Refused.{Refused}
 
@@ -26,3 +26,10 @@ pub record PutsBeginning {D : Type 0} (contents : D → Option (List ℕ)) (old 
 abbrev pub Puts : {D : Type 0} → (D → Option (List ℕ)) → Told D → Told D → List ℕ → Result (Unit {0}) Refused → Type 0
 Puts contents old new text (Ok _) = PutsAll contents old new text
 Puts contents old new text (Err _) = PutsBeginning contents old new text × (has_failed new ≡ true)
+
+-- `Ok(n)`: the next n bytes of the device are at the front of the buffer, none only at its end. Refused: the device has failed
+abbrev pub Takes : {D : Type 0} → (D → Option (List ℕ)) → Told D → Told D → List ℕ → Result ℕ Refused → Type 0
+Takes remaining old new buf (Ok n) =
+    (n ≤ length buf) × Consumes (remaining old.device) (remaining new.device) (take n buf)
+    × (n ≡ 0 → 0 < length buf → IsAtEnd (remaining new.device)) × (has_failed new ≡ false)
+Takes remaining old new buf (Err _) = has_failed new ≡ true

@@ -10,7 +10,7 @@ mod steps;
 mod told;
 
 pub use endian::Endian;
-pub use piece::{Piece, push_hex, push_pieces};
+pub use piece::{Piece, made, push_hex, push_pieces};
 pub use record::Record;
 pub use source::Source;
 pub use steps::Steps;

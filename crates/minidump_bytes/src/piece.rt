@@ -1,10 +1,10 @@
-ghost use Rattle.std.specs.Prelude.{◌≡◌, ◌++◌, ◌<◌, ◌∷◌, [], OnOk, string_bytes, false};
+ghost use Rattle.std.specs.Prelude.{◌≡◌, ◌++◌, ◌<◌, ◌∷◌, [], IfOk, OnOk, string_bytes, false};
 ghost use Rattle.std.specs.List.{flat_map};
 ghost use Rattle.std.specs.Fmt.{digits, digit_glyph};
 ghost use Rattle.minidump_bytes.specs.Piece.{piece_text};
 
 use itoa::Buffer;
-use std::alloc::AllocError;
+use std::alloc::{AllocError, Global};
 
 /// A part of a text.
 #[derive(Clone, Copy)]
@@ -15,6 +15,15 @@ pub enum Piece<'a> {
     Decimal(u64),
     /// A number in hexadecimal behind `0x`, as `{:#x}` writes it.
     Hex(u64),
+}
+
+/// The texts of the pieces, one after another.
+pub fn made(alloc: Global, pieces: &[Piece<'_>]) -> Result<String, AllocError>
+    ensures { IfOk result (λ text. string_bytes text ≡ flat_map piece_text pieces.now) }
+{
+    let mut text = String::new(alloc);
+    push_pieces(&mut text, pieces)?;
+    Ok(text)
 }
 
 /// Appends the texts of the pieces, one after another.

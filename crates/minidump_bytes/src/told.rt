@@ -1,7 +1,7 @@
 ghost use Rattle.std.specs.Prelude.{◌≡◌, IsTrue, false};
-ghost use Rattle.minidump_bytes.specs.Told.{Puts, device_of, has_failed};
+ghost use Rattle.minidump_bytes.specs.Told.{Puts, Takes, device_of, has_failed};
 
-use std::io::Write;
+use std::io::{Read, Write};
 
 /// A reader or a writer that keeps whether it has failed. From its first failure on it refuses every
 /// call, and its device is not called again.
@@ -63,5 +63,25 @@ impl<W: Write> Told<W> {
             }
         }
         Ok(())
+    }
+}
+
+impl<R: Read> Told<R> {
+    /// Reads some bytes to the front of the buffer, and answers how many. There are none only at the
+    /// end of the reader or for an empty buffer.
+    pub fn take(&mut self, buf: &mut [u8]) -> Result<usize, Refused>
+        ensures takes { Takes R.remaining self.old self.new buf.new result }
+        ensures dead { IsTrue (has_failed self.old) → self.new ≡ self.old }
+    {
+        if self.failed {
+            return Err(Refused);
+        }
+        match self.device.read(buf) {
+            Ok(n) => Ok(n),
+            Err(_) => {
+                self.failed = true;
+                Err(Refused)
+            }
+        }
     }
 }

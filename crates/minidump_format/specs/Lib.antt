@@ -4,3 +4,4 @@ pub mod Print
 pub mod Header
 pub mod StreamType
 pub mod Vendor
+pub mod Printing

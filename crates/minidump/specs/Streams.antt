@@ -1,0 +1,57 @@
+-- The streams of a directory by whether their type has a name, and what their iterators have left.
+use Rattle.std.specs.Prelude.{ℕ, List, map, Option, Some, None, if◌then◌else◌}
+use Rattle.std.specs.List.{filter_map}
+use Rattle.minidump_format.specs.declared.format.header.MINIDUMP_DIRECTORY.{MINIDUMP_DIRECTORY}
+use Rattle.minidump_format.specs.declared.format.header.MINIDUMP_LOCATION_DESCRIPTOR.{MINIDUMP_LOCATION_DESCRIPTOR}
+use Rattle.minidump_format.specs.declared.format.stream_type.MINIDUMP_STREAM_TYPE.{MINIDUMP_STREAM_TYPE}
+use Rattle.minidump_format.specs.StreamType.{stream_type_of, is_unimplemented}
+use Rattle.minidump_format.specs.Vendor.{vendor_of}
+use Rattle.minidump.specs.declared.directory.DecidingEntry.{DecidingEntry}
+use Rattle.minidump.specs.declared.streams.MinidumpUnknownStream.{MinidumpUnknownStream}
+use Rattle.minidump.specs.declared.streams.MinidumpUnimplementedStream.{MinidumpUnimplementedStream}
+use Rattle.minidump.specs.declared.streams.Streams.{Streams}
+use Rattle.minidump.specs.declared.streams.UnknownStreams.{UnknownStreams}
+use Rattle.minidump.specs.declared.streams.UnimplementedStreams.{UnimplementedStreams}
+
+-- a stream by its type, a number or a name, where its bytes are, and whose its type is
+pub record Described (T : Type 0) : Type 0 where
+  pub stream_type : T
+  pub location : MINIDUMP_LOCATION_DESCRIPTOR
+  pub vendor : List ℕ
+
+abbrev pub unknown_view : MinidumpUnknownStream → Described ℕ
+unknown_view s = record { stream_type = s.stream_type; location = s.location; vendor = s.vendor.now }
+
+abbrev pub unimplemented_view : MinidumpUnimplementedStream → Described MINIDUMP_STREAM_TYPE
+unimplemented_view s = record { stream_type = s.stream_type; location = s.location; vendor = s.vendor.now }
+
+abbrev where_unnamed : MINIDUMP_DIRECTORY → Option MINIDUMP_STREAM_TYPE → Option (Described ℕ)
+where_unnamed e None = Some (record { stream_type = e.stream_type; location = e.location; vendor = vendor_of e.stream_type })
+where_unnamed e (Some t) = None
+
+-- the stream of an entry, where its type has no name
+abbrev pub as_unknown : MINIDUMP_DIRECTORY → Option (Described ℕ)
+as_unknown e = where_unnamed e (stream_type_of e.stream_type)
+
+abbrev where_unimplemented : MINIDUMP_DIRECTORY → Option MINIDUMP_STREAM_TYPE → Option (Described MINIDUMP_STREAM_TYPE)
+where_unimplemented e None = None
+where_unimplemented e (Some t) =
+    if is_unimplemented t then Some (record { stream_type = t; location = e.location; vendor = vendor_of e.stream_type }) else None
+
+-- the stream of an entry, where its type has a name and is not read
+abbrev pub as_unimplemented : MINIDUMP_DIRECTORY → Option (Described MINIDUMP_STREAM_TYPE)
+as_unimplemented e = where_unimplemented e (stream_type_of e.stream_type)
+
+-- the entries of deciding ones
+abbrev pub entries_of : List DecidingEntry → List MINIDUMP_DIRECTORY
+entries_of ds = map (λ d. d.entry) ds
+
+-- what an iterator has left
+abbrev pub streams_left : Streams → List MINIDUMP_DIRECTORY
+streams_left s = entries_of s.entries
+
+abbrev pub unknown_left : UnknownStreams → List (Described ℕ)
+unknown_left s = filter_map as_unknown (streams_left s.streams)
+
+abbrev pub unimplemented_left : UnimplementedStreams → List (Described MINIDUMP_STREAM_TYPE)
+unimplemented_left s = filter_map as_unimplemented (streams_left s.streams)

@@ -1,0 +1,60 @@
+ghost use Rattle.std.specs.Prelude.{◌≡◌, ◌≢◌, ◌↔◌, true, false, [], IfOk, IfErr, IfSome, OnOk, OnErr};
+ghost use Rattle.minidump_bytes.specs.Told.{device_of, has_failed};
+
+use crate::Minidump;
+use minidump_bytes::Told;
+use minidump_format::Error;
+use std::alloc::Global;
+use std::fs;
+use std::io::Read;
+use std::rt::Files;
+
+// Empties the vector, and reads into it until the reader answers no bytes. After a refusal it is empty.
+fn read_all<R: Read>(reader: &mut Told<R>, into: &mut Vec<u8>) -> Result<(), Error>
+    ensures all { OnOk result (IfSome (R.remaining (device_of reader.old)) (λ bytes. into.new.items ≡ bytes)) }
+    ensures alive { OnOk result (has_failed reader.new ≡ false) }
+    ensures failed { IfErr result (λ e. (e ≡ Error.IoError) ↔ (has_failed reader.new ≡ true)) }
+    ensures refused { IfErr result (λ e. e ≢ Error.IoError → e ≡ Error.OutOfMemory) }
+    ensures empty { OnErr result (into.new.items ≡ []) }
+{
+    into.clear();
+    let mut buffer = [0; 16384];
+    loop {
+        match reader.take(&mut buffer) {
+            Ok(0) => return Ok(()),
+            Ok(n) => {
+                if into.extend_from_slice(&buffer[..n]).is_err() {
+                    into.clear();
+                    return Err(Error::OutOfMemory);
+                }
+            }
+            Err(_) => {
+                into.clear();
+                return Err(Error::IoError);
+            }
+        }
+    }
+}
+
+impl<'a> Minidump<'a> {
+    ghost use Rattle.minidump.specs.Dump.{dump_in};
+    ghost use Rattle.minidump.specs.Seen.{dump_of};
+
+    /// Reads a file into the vector, whose bytes it replaces, and accepts it as [`Minidump::read`] does.
+    ///
+    /// `FileNotFound` where the file can't be opened: the vector stays as it was. `IoError` where a read
+    /// of it fails: the vector is empty, as it is where it can't grow enough. After every other refusal
+    /// it holds the bytes of the file.
+    pub fn read_path<R: Files>(
+        rt: &R,
+        alloc: Global,
+        path: &str,
+        into: &'a mut Vec<u8>,
+    ) -> Result<Minidump<'a>, Error>
+        ensures { IfOk result (λ d. dump_in (dump_of d).file ≡ Ok (dump_of d)) }
+    {
+        let file = fs::open(rt, path).map_err(|_| Error::FileNotFound)?;
+        read_all(&mut Told::new(file), into)?;
+        Minidump::read(alloc, into.as_slice())
+    }
+}

@@ -1,0 +1,127 @@
+ghost use Rattle.std.specs.Prelude.{◌≡◌, ◌++◌, codes, IfOk, string_bytes};
+ghost use Rattle.std.specs.List.{flat_map};
+ghost use Rattle.minidump_format.specs.Print.{Prints};
+ghost use Rattle.minidump.specs.Text.{dump_text, entry_text, header_text, shown_type, stream_text};
+ghost use Rattle.minidump.specs.Dump.{streams_of};
+ghost use Rattle.minidump.specs.Seen.{dump_of};
+
+use crate::Minidump;
+use crate::directory::DecidingEntry;
+use minidump_bytes::{Piece, Told, made};
+use minidump_format::format::{MINIDUMP_HEADER, MINIDUMP_STREAM_TYPE};
+use minidump_format::{Error, put_made, put_text};
+use std::alloc::{AllocError, Global};
+use std::io::Write;
+
+impl<'a> Minidump<'a> {
+    /// Prints the header and the directory: the deciding entries of [`Minidump::all_streams`], each with
+    /// its index in the directory, and a line for each of their streams.
+    #[tactic(auto, using(minidump_format::specs::Printing::prints_then, minidump_format::specs::Printing::prints_exit))]
+    pub fn print<W: Write>(&self, alloc: Global, f: &mut Told<W>) -> Result<(), Error>
+        ensures { Prints W.contents f.old f.new (dump_text (dump_of self.now)) result }
+    {
+        self.print_entries(alloc, f)?;
+        self.print_streams(alloc, f)
+    }
+
+    fn print_entries<W: Write>(&self, alloc: Global, f: &mut Told<W>) -> Result<(), Error>
+        ensures { Prints W.contents f.old f.new
+            (header_text self.now.header ++ flat_map entry_text (streams_of (dump_of self.now))) result }
+    {
+        put_made(f, made_header(alloc, &self.header))?;
+        for deciding in self.deciding_entries() {
+            put_made(f, made_entry(alloc, deciding))?;
+        }
+        Ok(())
+    }
+
+    fn print_streams<W: Write>(&self, alloc: Global, f: &mut Told<W>) -> Result<(), Error>
+        ensures { Prints W.contents f.old f.new
+            (codes "Streams:\n" ++ (flat_map stream_text (streams_of (dump_of self.now)) ++ codes "\n")) result }
+    {
+        put_text(f, "Streams:\n")?;
+        for deciding in self.deciding_entries() {
+            put_made(f, made_stream(alloc, deciding))?;
+        }
+        put_text(f, "\n")
+    }
+}
+
+#[tactic(auto, unfolding(crate::specs::Text::header_text))]
+fn made_header(alloc: Global, h: &MINIDUMP_HEADER) -> Result<String, AllocError>
+    ensures { IfOk result (λ t. string_bytes t ≡ header_text h.now) }
+{
+    made(
+        alloc,
+        &[
+            Piece::Words("MDRawHeader\n  signature            = "),
+            Piece::Hex(h.signature as u64),
+            Piece::Words("\n  version              = "),
+            Piece::Hex(h.version as u64),
+            Piece::Words("\n  stream_count         = "),
+            Piece::Decimal(h.stream_count as u64),
+            Piece::Words("\n  stream_directory_rva = "),
+            Piece::Hex(h.stream_directory_rva as u64),
+            Piece::Words("\n  checksum             = "),
+            Piece::Hex(h.checksum as u64),
+            Piece::Words("\n  time_date_stamp      = "),
+            Piece::Hex(h.time_date_stamp as u64),
+            Piece::Words("\n  flags                = "),
+            Piece::Hex(h.flags),
+            Piece::Words("\n\n"),
+        ],
+    )
+}
+
+#[tactic(auto, unfolding(crate::specs::Text::entry_text))]
+fn made_entry(alloc: Global, deciding: &DecidingEntry) -> Result<String, AllocError>
+    ensures { IfOk result (λ t. string_bytes t ≡ entry_text deciding.now) }
+{
+    let entry = &deciding.entry;
+    made(
+        alloc,
+        &[
+            Piece::Words("mDirectory["),
+            Piece::Decimal(deciding.index as u64),
+            Piece::Words("]\nMDRawDirectory\n  stream_type        = "),
+            Piece::Hex(entry.stream_type as u64),
+            Piece::Words(" ("),
+            Piece::Words(type_name(entry.stream_type)),
+            Piece::Words(")\n  location.data_size = "),
+            Piece::Decimal(entry.location.data_size as u64),
+            Piece::Words("\n  location.rva       = "),
+            Piece::Hex(entry.location.rva as u64),
+            Piece::Words("\n\n"),
+        ],
+    )
+}
+
+#[tactic(auto, unfolding(crate::specs::Text::stream_text))]
+fn made_stream(alloc: Global, deciding: &DecidingEntry) -> Result<String, AllocError>
+    ensures { IfOk result (λ t. string_bytes t ≡ stream_text deciding.now) }
+{
+    let entry = &deciding.entry;
+    made(
+        alloc,
+        &[
+            Piece::Words("  stream type "),
+            Piece::Hex(entry.stream_type as u64),
+            Piece::Words(" ("),
+            Piece::Words(type_name(entry.stream_type)),
+            Piece::Words(") at index "),
+            Piece::Decimal(deciding.index as u64),
+            Piece::Words("\n"),
+        ],
+    )
+}
+
+// The name of a type of stream.
+#[tactic(auto, unfolding(crate::specs::Text::shown_type))]
+fn type_name(stream_type: u32) -> &'static str
+    ensures { result.now ≡ shown_type stream_type }
+{
+    match MINIDUMP_STREAM_TYPE::from_u32(stream_type) {
+        Some(named) => named.name(),
+        None => "unknown",
+    }
+}

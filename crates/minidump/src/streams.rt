@@ -1,0 +1,135 @@
+ghost use Rattle.std.specs.Prelude.{◌≡◌};
+ghost use Rattle.std.specs.Option.{option_map};
+ghost use Rattle.std.specs.Iterator.{YieldsFirstRef, YieldsFirstBy, item_count};
+ghost use Rattle.minidump.specs.Streams.{streams_left, unknown_left, unimplemented_left, unknown_view, unimplemented_view, as_unknown, as_unimplemented};
+
+use crate::directory::DecidingEntry;
+use minidump_format::format::{
+    MINIDUMP_DIRECTORY, MINIDUMP_LOCATION_DESCRIPTOR, MINIDUMP_STREAM_TYPE,
+};
+use minidump_format::stream_vendor;
+use std::collections::btree_map::Values;
+
+/// A stream of a type that this crate reads.
+#[derive(Drop)]
+pub struct MinidumpImplementedStream {
+    pub stream_type: MINIDUMP_STREAM_TYPE,
+    /// Where its bytes are.
+    pub location: MINIDUMP_LOCATION_DESCRIPTOR,
+    /// Whose the type is.
+    pub vendor: &'static str,
+}
+
+/// A stream of a type that has no name.
+#[derive(Clone, Debug, Drop)]
+pub struct MinidumpUnknownStream {
+    /// The type, as a number.
+    pub stream_type: u32,
+    /// Where its bytes are.
+    pub location: MINIDUMP_LOCATION_DESCRIPTOR,
+    /// Whose the type is.
+    pub vendor: &'static str,
+}
+
+/// A stream of a type that has a name, but is not read by this crate.
+#[derive(Clone, Debug, Drop)]
+pub struct MinidumpUnimplementedStream {
+    pub stream_type: MINIDUMP_STREAM_TYPE,
+    /// Where its bytes are.
+    pub location: MINIDUMP_LOCATION_DESCRIPTOR,
+    /// Whose the type is.
+    pub vendor: &'static str,
+}
+
+/// The entries of a directory that decide a type of stream, ascending by type.
+#[derive(Drop)]
+pub struct Streams<'a> {
+    pub(crate) entries: Values<'a, u32, DecidingEntry>,
+}
+
+impl<'a> Iterator for Streams<'a> {
+    type Item = &'a MINIDUMP_DIRECTORY;
+
+    ghost next_gives = { YieldsFirstRef streams_left };
+
+    ghost remaining = { item_count streams_left };
+
+    fn next(&mut self) -> Option<&'a MINIDUMP_DIRECTORY> {
+        let deciding = self.entries.next()?;
+        Some(&deciding.entry)
+    }
+}
+
+/// The streams of types that have no name, ascending by type.
+#[derive(Drop)]
+pub struct UnknownStreams<'a> {
+    pub(crate) streams: Streams<'a>,
+}
+
+impl<'a> Iterator for UnknownStreams<'a> {
+    type Item = MinidumpUnknownStream;
+
+    ghost next_gives = { YieldsFirstBy unknown_view unknown_left };
+
+    ghost remaining = { item_count unknown_left };
+
+    fn next(&mut self) -> Option<MinidumpUnknownStream> {
+        while let Some(entry) = self.streams.next() {
+            if let Some(stream) = unknown_stream(entry) {
+                return Some(stream);
+            }
+        }
+        None
+    }
+}
+
+// The stream of an entry, where its type has no name.
+fn unknown_stream(entry: &MINIDUMP_DIRECTORY) -> Option<MinidumpUnknownStream>
+    ensures { option_map unknown_view result ≡ as_unknown entry.now }
+{
+    match MINIDUMP_STREAM_TYPE::from_u32(entry.stream_type) {
+        Some(_) => None,
+        None => Some(MinidumpUnknownStream {
+            stream_type: entry.stream_type,
+            location: entry.location,
+            vendor: stream_vendor(entry.stream_type),
+        }),
+    }
+}
+
+/// The streams of types that have a name, but are not read, ascending by type.
+#[derive(Drop)]
+pub struct UnimplementedStreams<'a> {
+    pub(crate) streams: Streams<'a>,
+}
+
+impl<'a> Iterator for UnimplementedStreams<'a> {
+    type Item = MinidumpUnimplementedStream;
+
+    ghost next_gives = { YieldsFirstBy unimplemented_view unimplemented_left };
+
+    ghost remaining = { item_count unimplemented_left };
+
+    fn next(&mut self) -> Option<MinidumpUnimplementedStream> {
+        while let Some(entry) = self.streams.next() {
+            if let Some(stream) = unimplemented_stream(entry) {
+                return Some(stream);
+            }
+        }
+        None
+    }
+}
+
+// The stream of an entry, where its type has a name and is not read.
+fn unimplemented_stream(entry: &MINIDUMP_DIRECTORY) -> Option<MinidumpUnimplementedStream>
+    ensures { option_map unimplemented_view result ≡ as_unimplemented entry.now }
+{
+    match MINIDUMP_STREAM_TYPE::from_u32(entry.stream_type) {
+        Some(stream_type) if stream_type.is_unimplemented() => Some(MinidumpUnimplementedStream {
+            stream_type,
+            location: entry.location,
+            vendor: stream_vendor(entry.stream_type),
+        }),
+        _ => None,
+    }
+}

@@ -1,0 +1,106 @@
+-- Calls that print, one after another.
+use Rattle.std.specs.Prelude.{◌≡◌, ℕ, List, [], ◌++◌, Option, Result, Ok, Err, IsErrAnd}
+use Rattle.std.proofs.Common.{refl, subst, append-nil, ap, sym, ◌∙◌, append_assoc}
+use Rattle.std.proofs.KnownBytes.{Appends-trans}
+use Rattle.std.proofs.lemmas.Result.{err_from_is_err_and}
+use Rattle.minidump_bytes.specs.declared.told.Told.{Told}
+use Rattle.minidump_bytes.specs.Told.{PutsAll, PutsBeginning}
+use Rattle.minidump_format.specs.declared.error.Error.{Error}
+use Rattle.minidump_format.specs.declared.error.Error.TheVariants.{FileNotFound, IoError, MissingHeader, HeaderMismatch, VersionMismatch, MissingDirectory, StreamReadFailure, StreamSizeMismatch, StreamNotFound, ModuleReadFailure, MemoryReadFailure, DataError, CodeViewReadFailure, UknownElementType, OutOfMemory}
+use Rattle.minidump_format.specs.Print.{Prints}
+
+module _ {D : Type 0} (contents : D → Option (List ℕ)) where
+  -- a beginning of one text, behind another that went out whole
+  beginning_after : (a b c : Told D) (xs ys : List ℕ) → PutsAll contents a b xs → PutsBeginning contents b c ys → PutsBeginning contents a c (xs ++ ys)
+  beginning_after a b c xs ys all some = record {
+    front = xs ++ some.front;
+    rest = some.rest;
+    split = ap (λ l. xs ++ l) some.split ∙ sym (append_assoc xs some.front some.rest);
+    grown = Appends-trans _ _ _ _ _ all.grown some.grown;
+  }
+
+  -- a beginning of a text is one of each longer text
+  beginning_longer : (a b : Told D) (xs ys : List ℕ) → PutsBeginning contents a b xs → PutsBeginning contents a b (xs ++ ys)
+  beginning_longer a b xs ys some = record {
+    front = some.front;
+    rest = some.rest ++ ys;
+    split = ap (λ l. l ++ ys) some.split ∙ append_assoc some.front some.rest ys;
+    grown = some.grown;
+  }
+
+  -- one text went out, and then another was printed
+  pub prints_then : (a b c : Told D) (xs ys : List ℕ) (r : Result (Unit {0}) Error) → PutsAll contents a b xs → Prints contents b c ys r → Prints contents a c (xs ++ ys) r
+  prints_then a b c xs ys (Ok _) all then = record { grown = Appends-trans _ _ _ _ _ all.grown then.grown; alive = then.alive }
+  prints_then a b c xs ys (Err FileNotFound) all then = then
+  prints_then a b c xs ys (Err IoError) all then = (beginning_after a b c xs ys all then.0, then.1)
+  prints_then a b c xs ys (Err MissingHeader) all then = then
+  prints_then a b c xs ys (Err HeaderMismatch) all then = then
+  prints_then a b c xs ys (Err VersionMismatch) all then = then
+  prints_then a b c xs ys (Err MissingDirectory) all then = then
+  prints_then a b c xs ys (Err StreamReadFailure) all then = then
+  prints_then a b c xs ys (Err (StreamSizeMismatch m n)) all then = then
+  prints_then a b c xs ys (Err StreamNotFound) all then = then
+  prints_then a b c xs ys (Err ModuleReadFailure) all then = then
+  prints_then a b c xs ys (Err MemoryReadFailure) all then = then
+  prints_then a b c xs ys (Err DataError) all then = then
+  prints_then a b c xs ys (Err CodeViewReadFailure) all then = then
+  prints_then a b c xs ys (Err UknownElementType) all then = then
+  prints_then a b c xs ys (Err OutOfMemory) all then = (beginning_after a b c xs ys all then.0, then.1)
+
+  -- a refused text refuses each longer one
+  pub prints_longer : (a b : Told D) (xs ys : List ℕ) (e : Error) → Prints contents a b xs (Err e) → Prints contents a b (xs ++ ys) (Err e)
+  prints_longer a b xs ys FileNotFound refused = refused
+  prints_longer a b xs ys IoError refused = (beginning_longer a b xs ys refused.0, refused.1)
+  prints_longer a b xs ys MissingHeader refused = refused
+  prints_longer a b xs ys HeaderMismatch refused = refused
+  prints_longer a b xs ys VersionMismatch refused = refused
+  prints_longer a b xs ys MissingDirectory refused = refused
+  prints_longer a b xs ys StreamReadFailure refused = refused
+  prints_longer a b xs ys (StreamSizeMismatch m n) refused = refused
+  prints_longer a b xs ys StreamNotFound refused = refused
+  prints_longer a b xs ys ModuleReadFailure refused = refused
+  prints_longer a b xs ys MemoryReadFailure refused = refused
+  prints_longer a b xs ys DataError refused = refused
+  prints_longer a b xs ys CodeViewReadFailure refused = refused
+  prints_longer a b xs ys UknownElementType refused = refused
+  prints_longer a b xs ys OutOfMemory refused = (beginning_longer a b xs ys refused.0, refused.1)
+
+  -- the exit of a `?`
+  pub prints_exit : (a b : Told D) (xs ys : List ℕ) (r : Result (Unit {0}) Error) (e : Error) → IsErrAnd r (λ y. y ≡ e)
+      → Prints contents a b xs (Err e) → Prints contents a b (xs ++ ys) r
+  prints_exit a b xs ys r e exit refused = let p = err_from_is_err_and r exit in rw (p.1, p.2) (prints_longer a b xs ys e refused)
+
+-- all of the text went out, but for the rest
+pub record PutsAllBut {D : Type 0} (contents : D → Option (List ℕ)) (old new : Told D) (text rest : List ℕ) : Type 0 where
+  pub front : List ℕ
+  pub split : text ≡ front ++ rest
+  pub put : PutsAll contents old new front
+
+module _ {D : Type 0} (contents : D → Option (List ℕ)) where
+  -- a first part went out
+  pub but_first : (a b : Told D) (xs ys : List ℕ) → PutsAll contents a b xs → PutsAllBut contents a b (xs ++ ys) ys
+  but_first a b xs ys put = record { front = xs; split = refl; put = put }
+
+  -- and then the next part
+  pub but_next : (a b c : Told D) (text xs ys : List ℕ) → PutsAllBut contents a b text (xs ++ ys) → PutsAll contents b c xs → PutsAllBut contents a c text ys
+  but_next a b c text xs ys before put = record {
+    front = before.front ++ xs;
+    split = before.split ∙ sym (append_assoc before.front xs ys);
+    put = prints_then contents a b c before.front xs (Ok tt) before.put put;
+  }
+
+  -- or the next part was refused
+  pub but_exit : (a b c : Told D) (text xs ys : List ℕ) (r : Result (Unit {0}) Error) (e : Error) → PutsAllBut contents a b text (xs ++ ys)
+      → IsErrAnd r (λ y. y ≡ e) → Prints contents b c xs (Err e) → Prints contents a c text r
+  but_exit a b c text xs ys r e before exit refused =
+      subst (λ t. Prints contents a c t r) (sym before.split)
+      (prints_then contents a b c before.front (xs ++ ys) r before.put (prints_exit contents b c xs ys r e exit refused))
+
+  -- or the rest was printed
+  pub but_last : (a b c : Told D) (text rest : List ℕ) (r : Result (Unit {0}) Error) → PutsAllBut contents a b text rest → Prints contents b c rest r → Prints contents a c text r
+  but_last a b c text rest r before last =
+      subst (λ t. Prints contents a c t r) (sym before.split) (prints_then contents a b c before.front rest r before.put last)
+
+  -- or there was no rest
+  pub but_none : (a b : Told D) (text : List ℕ) → PutsAllBut contents a b text [] → PutsAll contents a b text
+  but_none a b text before = subst (PutsAll contents a b) (sym (before.split ∙ append-nil before.front)) before.put
