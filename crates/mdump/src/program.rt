@@ -1,0 +1,58 @@
+use crate::command::Command;
+use minidump::{Error, Minidump, Told};
+use std::io::Write;
+use std::rt::Files;
+
+const USAGE: &str = "usage: mdump dir FILE | at FILE HEXADDRESS | report FILE\n";
+
+/// Runs the program with its words, those after its own name, and answers its status.
+///
+/// - No words: the usage goes to `out`, and the status is 0.
+/// - `dir FILE`: the header and the directory of the file go to `out`, and the status is 0.
+/// - A refusal: its name goes to `err`, and the status is 1. A failure of `out` is one, `IoError`.
+/// - Other words: the usage goes to `err`, and the status is 2. No file is opened.
+///
+/// A failure of `err` changes no status.
+pub fn run<R: Files + AllocGlobal, O: Write, E: Write>(
+    rt: &R,
+    words: &[String],
+    out: &mut Told<O>,
+    err: &mut Told<E>,
+) -> u8 {
+    let answer = if words.is_empty() {
+        out.put(USAGE.as_bytes()).map_err(|_| Error::IoError)
+    } else {
+        match Command::parse(words) {
+            Some(Command::Dir(path)) => dir(rt, path, out),
+            None => return bad_arguments(err),
+        }
+    };
+    match answer {
+        Ok(()) => 0,
+        Err(error) => refused(error, err),
+    }
+}
+
+fn dir<R: Files + AllocGlobal, O: Write>(
+    rt: &R,
+    path: &str,
+    out: &mut Told<O>,
+) -> Result<(), Error> {
+    let alloc = rt.alloc();
+    let mut bytes = Vec::new(alloc);
+    let dump = Minidump::read_path(rt, alloc, path, &mut bytes)?;
+    dump.print(alloc, out)
+}
+
+// The status of a refusal.
+fn refused<E: Write>(error: Error, err: &mut Told<E>) -> u8 {
+    let _ = err.put(error.name().as_bytes());
+    let _ = err.put(b"\n");
+    1
+}
+
+/// The status of words that are no command.
+pub(crate) fn bad_arguments<E: Write>(err: &mut Told<E>) -> u8 {
+    let _ = err.put(USAGE.as_bytes());
+    2
+}
