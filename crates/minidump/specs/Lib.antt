@@ -5,3 +5,4 @@ pub mod Dump
 pub mod Seen
 pub mod Streams
 pub mod Text
+pub mod File

@@ -1,5 +1,6 @@
 ghost use Rattle.std.specs.Prelude.{◌≡◌, ◌≢◌, ◌↔◌, true, false, [], IfOk, IfErr, IfSome, OnOk, OnErr};
 ghost use Rattle.minidump_bytes.specs.Told.{device_of, has_failed};
+ghost use Rattle.minidump.specs.File.{ReadsFile};
 
 use crate::Minidump;
 use minidump_bytes::Told;
@@ -36,14 +37,21 @@ fn read_all<R: Read>(reader: &mut Told<R>, into: &mut Vec<u8>) -> Result<(), Err
     }
 }
 
+// Reads a file into the vector, whose bytes it replaces.
+fn read_file<R: Files>(rt: &R, path: &str, into: &mut Vec<u8>) -> Result<(), Error>
+    ensures { ReadsFile into.old.items into.new.items result }
+{
+    let file = fs::open(rt, path).map_err(|_| Error::FileNotFound)?;
+    read_all(&mut Told::new(file), into)
+}
+
 impl<'a> Minidump<'a> {
-    ghost use Rattle.minidump.specs.Dump.{dump_in};
-    ghost use Rattle.minidump.specs.Seen.{dump_of};
+    ghost use Rattle.minidump.specs.File.{ReadsPath};
 
     /// Reads a file into the vector, whose bytes it replaces, and accepts it as [`Minidump::read`] does.
     ///
     /// `FileNotFound` where the file can't be opened: the vector stays as it was. `IoError` where a read
-    /// of it fails: the vector is empty, as it is where it can't grow enough. After every other refusal
+    /// of it fails: the vector is empty, as it is where it can't grow enough. After every other answer
     /// it holds the bytes of the file.
     pub fn read_path<R: Files>(
         rt: &R,
@@ -51,10 +59,9 @@ impl<'a> Minidump<'a> {
         path: &str,
         into: &'a mut Vec<u8>,
     ) -> Result<Minidump<'a>, Error>
-        ensures { IfOk result (λ d. dump_in (dump_of d).file ≡ Ok (dump_of d)) }
+        ensures { ReadsPath result }
     {
-        let file = fs::open(rt, path).map_err(|_| Error::FileNotFound)?;
-        read_all(&mut Told::new(file), into)?;
+        read_file(rt, path, into)?;
         Minidump::read(alloc, into.as_slice())
     }
 }

@@ -1,2 +1,3 @@
 pub mod HexLemmas
+pub mod NumberLemmas
 pub mod ToldLemmas

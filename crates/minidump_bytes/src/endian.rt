@@ -14,7 +14,6 @@ pub enum Endian {
 
 impl Endian {
     /// The number of 16 bits at a place.
-    #[tactic(auto, unfolding(crate::specs::Number::number))]
     pub fn u16_at(self, bytes: &[u8], place: usize) -> u16
         requires { place + 2 ≤ length bytes.now }
         ensures { result ≡ number_at self 2 place bytes.now }
@@ -26,7 +25,6 @@ impl Endian {
     }
 
     /// The number of 32 bits at a place.
-    #[tactic(auto, unfolding(crate::specs::Number::number))]
     pub fn u32_at(self, bytes: &[u8], place: usize) -> u32
         requires { place + 4 ≤ length bytes.now }
         ensures { result ≡ number_at self 4 place bytes.now }
@@ -38,7 +36,6 @@ impl Endian {
     }
 
     /// The number of 64 bits at a place.
-    #[tactic(auto, unfolding(crate::specs::Number::number))]
     pub fn u64_at(self, bytes: &[u8], place: usize) -> u64
         requires { place + 8 ≤ length bytes.now }
         ensures { result ≡ number_at self 8 place bytes.now }
@@ -50,7 +47,6 @@ impl Endian {
     }
 
     /// The number of 128 bits at a place.
-    #[tactic(auto, unfolding(crate::specs::Number::number))]
     pub fn u128_at(self, bytes: &[u8], place: usize) -> u128
         requires { place + 16 ≤ length bytes.now }
         ensures { result ≡ number_at self 16 place bytes.now }
