@@ -1,2 +1,3 @@
 pub mod DirectoryLemmas
+pub mod LawsLemmas
 pub mod StreamsLemmas

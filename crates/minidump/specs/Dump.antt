@@ -30,7 +30,8 @@ HasEntries file = IsOkAnd (header_of file) (λ h. 0 < h.1.stream_count)
 abbrev pub streams_of : Dump → List DecidingEntry
 streams_of d = deciding_below (2 ^ 32) (directory d.order d.header d.file)
 
-abbrev spanned : Option (List ℕ) → Result (List ℕ) Error
+-- the bytes of a span, where it is in the file
+abbrev pub spanned : Option (List ℕ) → Result (List ℕ) Error
 spanned None = Err StreamReadFailure
 spanned (Some bytes) = Ok bytes
 

@@ -5,6 +5,7 @@ mod directory;
 mod dump;
 mod file;
 mod header;
+pub mod laws;
 mod print;
 mod streams;
 

@@ -1,0 +1,5 @@
+use Rattle.minidump.proofs.LawsLemmas.{deciding-last}
+use Rattle.minidump.proofs.laws.last_entry_decides.Goals as goal
+
+pub returns : goal.returns
+returns c = deciding-last

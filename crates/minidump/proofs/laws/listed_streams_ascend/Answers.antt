@@ -1,0 +1,7 @@
+use Rattle.std.proofs.Common.{◌^◌}
+use Rattle.minidump.specs.Directory.{directory}
+use Rattle.minidump.proofs.LawsLemmas.{streams_ascend}
+use Rattle.minidump.proofs.laws.listed_streams_ascend.Goals as goal
+
+pub returns : goal.returns
+returns c d = streams_ascend (directory d.order d.header d.file) (2 ^ 32)
