@@ -1,3 +1,6 @@
+ghost use Rattle.std.specs.Prelude.{◌≡◌, ◌↔◌, ◌∷◌, [], codes, map, string_bytes, IsSome};
+ghost use Rattle.mdump.specs.Command.{IsCommand};
+
 /// What the program is asked to do.
 #[derive(Clone, Copy)]
 pub(crate) enum Command<'w> {
@@ -7,7 +10,9 @@ pub(crate) enum Command<'w> {
 
 impl<'w> Command<'w> {
     // The command of the words, or `None` where they are no command.
-    pub(crate) fn parse(words: &'w [String]) -> Option<Command<'w>> {
+    pub(crate) fn parse(words: &'w [String]) -> Option<Command<'w>>
+        ensures { IsSome result ↔ IsCommand (map string_bytes words.now) }
+    {
         match words {
             [word, path] if word.as_str() == "dir" => Some(Command::Dir(path.as_str())),
             _ => None,

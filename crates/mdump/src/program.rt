@@ -1,3 +1,7 @@
+ghost use Rattle.std.specs.Prelude.{◌≡◌, ◌<◌, ◌≤◌, OnOk, false, length, map, string_bytes};
+ghost use Rattle.mdump.specs.Command.{IsCommand};
+ghost use Rattle.minidump_bytes.specs.Told.{has_failed};
+
 use crate::command::Command;
 use minidump::{Error, Minidump, Told};
 use std::io::Write;
@@ -18,7 +22,12 @@ pub fn run<R: Files + AllocGlobal, O: Write, E: Write>(
     words: &[String],
     out: &mut Told<O>,
     err: &mut Told<E>,
-) -> u8 {
+) -> u8
+    ensures status { result ≤ 2 }
+    ensures written { result ≡ 0 → has_failed out.new ≡ false }
+    ensures bad { 0 < length words.now → ¬ (IsCommand (map string_bytes words.now))
+        → (result ≡ 2) × (out.new ≡ out.old) }
+{
     let answer = if words.is_empty() {
         out.put(USAGE.as_bytes()).map_err(|_| Error::IoError)
     } else {
@@ -33,11 +42,9 @@ pub fn run<R: Files + AllocGlobal, O: Write, E: Write>(
     }
 }
 
-fn dir<R: Files + AllocGlobal, O: Write>(
-    rt: &R,
-    path: &str,
-    out: &mut Told<O>,
-) -> Result<(), Error> {
+fn dir<R: Files + AllocGlobal, O: Write>(rt: &R, path: &str, out: &mut Told<O>) -> Result<(), Error>
+    ensures { OnOk result (has_failed out.new ≡ false) }
+{
     let alloc = rt.alloc();
     let mut bytes = Vec::new(alloc);
     let dump = Minidump::read_path(rt, alloc, path, &mut bytes)?;
@@ -45,14 +52,18 @@ fn dir<R: Files + AllocGlobal, O: Write>(
 }
 
 // The status of a refusal.
-fn refused<E: Write>(error: Error, err: &mut Told<E>) -> u8 {
+fn refused<E: Write>(error: Error, err: &mut Told<E>) -> u8
+    ensures { result ≡ 1 }
+{
     let _ = err.put(error.name().as_bytes());
     let _ = err.put(b"\n");
     1
 }
 
 /// The status of words that are no command.
-pub(crate) fn bad_arguments<E: Write>(err: &mut Told<E>) -> u8 {
+pub(crate) fn bad_arguments<E: Write>(err: &mut Told<E>) -> u8
+    ensures { result ≡ 2 }
+{
     let _ = err.put(USAGE.as_bytes());
     2
 }
