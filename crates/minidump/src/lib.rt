@@ -16,3 +16,6 @@ pub use streams::{
     MinidumpImplementedStream, MinidumpUnimplementedStream, MinidumpUnknownStream, Streams,
     UnimplementedStreams, UnknownStreams,
 };
+
+#[cfg(test)]
+mod tests;

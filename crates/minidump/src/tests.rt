@@ -1,0 +1,354 @@
+use crate::format::{MINIDUMP_LOCATION_DESCRIPTOR, MINIDUMP_STREAM_TYPE};
+use crate::{Endian, Error, Minidump, Steps, Told, stream_vendor};
+use std::alloc::Global;
+use std::io;
+use std::io::{ErrorKind, Write};
+use std::process::Abort;
+use std::test::Fail;
+
+// A header with no streams, whose directory would be at the end of all places.
+const EMPTY: [u8; 32] = [
+    0x4d, 0x44, 0x4d, 0x50, 0x93, 0xa7, 0, 0, 0, 0, 0, 0, 0xff, 0xff, 0xff, 0xff, 0, 0, 0, 0, 0, 0,
+    0, 0, 0, 0, 0, 0, 0, 0, 0, 0,
+];
+
+// One stream of an unknown type, of four bytes.
+const ONE: [u8; 48] = [
+    0x4d, 0x44, 0x4d, 0x50, 0x93, 0xa7, 0, 0, 1, 0, 0, 0, 0x20, 0, 0, 0, 0, 0, 0, 0, 0, 0, 0, 0, 0,
+    0, 0, 0, 0, 0, 0, 0, 0x44, 0x33, 0x22, 0x11, 4, 0, 0, 0, 0x2c, 0, 0, 0, 0x88, 0x77, 0x66, 0x55,
+];
+
+// The same in the other byte order, but for the bytes of the stream.
+const ONE_BIG: [u8; 48] = [
+    0x50, 0x4d, 0x44, 0x4d, 0, 0, 0xa7, 0x93, 0, 0, 0, 1, 0, 0, 0, 0x20, 0, 0, 0, 0, 0, 0, 0, 0, 0,
+    0, 0, 0, 0, 0, 0, 0, 0x11, 0x22, 0x33, 0x44, 0, 0, 0, 4, 0, 0, 0, 0x2c, 0x55, 0x66, 0x77, 0x88,
+];
+
+// Five entries: two of type 0x11223344 (0 and 3), one of a type that is not read (1), one that is (2),
+// and one that ends a byte after the file (4).
+const FIVE: [u8; 96] = [
+    0x4d, 0x44, 0x4d, 0x50, 0x93, 0xa7, 0, 0, 5, 0, 0, 0, 0x20, 0, 0, 0, 0, 0, 0, 0, 0, 0, 0, 0, 0,
+    0, 0, 0, 0, 0, 0, 0, //
+    0x44, 0x33, 0x22, 0x11, 1, 0, 0, 0, 0x5c, 0, 0, 0, //
+    0x06, 0x00, 0x67, 0x47, 2, 0, 0, 0, 0x5c, 0, 0, 0, //
+    0x07, 0x00, 0x00, 0x00, 0, 0, 0, 0, 0x60, 0, 0, 0, //
+    0x44, 0x33, 0x22, 0x11, 2, 0, 0, 0, 0x5e, 0, 0, 0, //
+    0x45, 0x33, 0x22, 0x11, 4, 0, 0, 0, 0x5d, 0, 0, 0, //
+    0xa0, 0xa1, 0xa2, 0xa3,
+];
+
+const EMPTY_TEXT: &str = "MDRawHeader
+  signature            = 0x504d444d
+  version              = 0xa793
+  stream_count         = 0
+  stream_directory_rva = 0xffffffff
+  checksum             = 0x0
+  time_date_stamp      = 0x0
+  flags                = 0x0
+
+Streams:
+
+";
+
+const ONE_TEXT: &str = "MDRawHeader
+  signature            = 0x504d444d
+  version              = 0xa793
+  stream_count         = 1
+  stream_directory_rva = 0x20
+  checksum             = 0x0
+  time_date_stamp      = 0x0
+  flags                = 0x0
+
+mDirectory[0]
+MDRawDirectory
+  stream_type        = 0x11223344 (unknown)
+  location.data_size = 4
+  location.rva       = 0x2c
+
+Streams:
+  stream type 0x11223344 (unknown) at index 0
+
+";
+
+fn refusal(alloc: Global, bytes: &[u8]) -> Option<Error> {
+    Minidump::read(alloc, bytes).err()
+}
+
+#[test]
+fn refuses_short_files(rt: HostRuntime) -> Result<(), Fail> {
+    let alloc = rt.alloc();
+    let mut steps = Steps::new();
+    let answer = Minidump::read_counted(alloc, &[], &mut steps);
+    assert_eq!(rt; answer.err(), Some(Error::MissingHeader));
+    assert!(rt; steps.count() <= 8);
+    assert_eq!(rt; refusal(alloc, &EMPTY[..31]), Some(Error::MissingHeader));
+    Ok(())
+}
+
+#[test]
+fn accepts_an_empty_directory(rt: HostRuntime) -> Result<(), Fail> {
+    let alloc = rt.alloc();
+    let dump = Minidump::read(alloc, &EMPTY)?;
+    assert_eq!(rt; dump.endian, Endian::Little);
+    assert_eq!(rt; dump.header.version, 0xa793);
+    assert_eq!(rt; dump.all_streams().count(), 0);
+    Ok(())
+}
+
+#[test]
+fn finds_a_raw_stream(rt: HostRuntime) -> Result<(), Fail> {
+    let alloc = rt.alloc();
+    let mut steps = Steps::new();
+    let dump = Minidump::read_counted(alloc, &ONE, &mut steps)?;
+    assert!(rt; steps.count() >= 2 && steps.count() <= 56);
+    let want: &[u8] = &[0x88, 0x77, 0x66, 0x55];
+    assert_eq!(rt; dump.get_raw_stream(0x1122_3344)?, want);
+    assert_eq!(rt;
+        dump.get_raw_stream(0xaabb_ccdd),
+        Err(Error::StreamNotFound)
+    );
+
+    let dump = Minidump::read(alloc, &ONE_BIG)?;
+    assert_eq!(rt; dump.endian, Endian::Big);
+    let want: &[u8] = &[0x55, 0x66, 0x77, 0x88];
+    assert_eq!(rt; dump.get_raw_stream(0x1122_3344)?, want);
+    Ok(())
+}
+
+// The bytes of a stream outlive the dump that found them: they are the file's own.
+#[test]
+fn lends_the_bytes_of_the_file(rt: HostRuntime) -> Result<(), Fail> {
+    let stream = {
+        let dump = Minidump::read(rt.alloc(), &ONE)?;
+        dump.get_raw_stream(0x1122_3344)?
+    };
+    let want: &[u8] = &[0x88, 0x77, 0x66, 0x55];
+    assert_eq!(rt; stream, want);
+    Ok(())
+}
+
+#[test]
+fn compares_half_of_the_version(rt: HostRuntime) -> Result<(), Fail> {
+    let alloc = rt.alloc();
+    let mut bytes = EMPTY;
+    bytes[6] = 1;
+    assert_eq!(rt; refusal(alloc, &bytes), None);
+    bytes[4] = 0x94;
+    bytes[6] = 0;
+    assert_eq!(rt; refusal(alloc, &bytes), Some(Error::VersionMismatch));
+    bytes[0] = 0;
+    bytes[1] = 0;
+    bytes[2] = 0;
+    bytes[3] = 0;
+    assert_eq!(rt; refusal(alloc, &bytes), Some(Error::HeaderMismatch));
+    Ok(())
+}
+
+#[test]
+fn reads_entries_where_they_are(rt: HostRuntime) -> Result<(), Fail> {
+    let alloc = rt.alloc();
+    let mut bytes = EMPTY;
+    bytes[8] = 1;
+    bytes[13] = 0;
+    bytes[14] = 0;
+    bytes[15] = 0;
+    // The entry ends with the header.
+    bytes[12] = 0x14;
+    assert_eq!(rt; refusal(alloc, &bytes), None);
+    // It ends one byte after it.
+    bytes[12] = 0x15;
+    assert_eq!(rt; refusal(alloc, &bytes), Some(Error::MissingDirectory));
+    // The first of more entries than any file has can't be read.
+    bytes[12] = 0xff;
+    for place in [8, 9, 10, 11, 13, 14, 15] {
+        bytes[place] = 0xff;
+    }
+    let mut steps = Steps::new();
+    let answer = Minidump::read_counted(alloc, &bytes, &mut steps);
+    assert_eq!(rt; answer.err(), Some(Error::MissingDirectory));
+    assert!(rt; steps.count() <= 40);
+    Ok(())
+}
+
+#[test]
+fn lists_the_deciding_entries(rt: HostRuntime) -> Result<(), Fail> {
+    let alloc = rt.alloc();
+    let dump = Minidump::read(alloc, &FIVE)?;
+    let want: &[u8] = &[0xa2, 0xa3];
+    assert_eq!(rt; dump.get_raw_stream(0x1122_3344)?, want);
+    // A span of no bytes at the end of the file.
+    assert_eq!(rt; dump.get_raw_stream(7)?.len(), 0);
+    assert_eq!(rt;
+        dump.get_raw_stream(0x1122_3345),
+        Err(Error::StreamReadFailure)
+    );
+
+    let mut all = dump.all_streams();
+    for (stream_type, rva) in [
+        (7, 0x60),
+        (0x1122_3344, 0x5e),
+        (0x1122_3345, 0x5d),
+        (0x4767_0006, 0x5c),
+    ] {
+        let entry = all.next().ok_or("an entry")?;
+        assert_eq!(rt; entry.stream_type, stream_type);
+        assert_eq!(rt; entry.location.rva, rva, "of {stream_type}");
+    }
+    assert!(rt; all.next().is_none());
+
+    let mut unknown = dump.unknown_streams();
+    for (stream_type, data_size, rva) in [(0x1122_3344, 2, 0x5e), (0x1122_3345, 4, 0x5d)] {
+        let stream = unknown.next().ok_or("an unknown stream")?.clone()?;
+        assert_eq!(rt; stream.stream_type, stream_type);
+        assert_eq!(rt;
+            stream.location,
+            MINIDUMP_LOCATION_DESCRIPTOR { data_size, rva }
+        );
+        assert_eq!(rt; stream.vendor, "Unknown Extension");
+    }
+    assert!(rt; unknown.next().is_none());
+
+    let mut unimplemented = dump.unimplemented_streams();
+    let stream = unimplemented.next().ok_or("a stream")?.clone()?;
+    assert_eq!(rt; stream.stream_type, MINIDUMP_STREAM_TYPE::LinuxCmdLine);
+    assert_eq!(rt;
+        stream.location,
+        MINIDUMP_LOCATION_DESCRIPTOR {
+            data_size: 2,
+            rva: 0x5c
+        }
+    );
+    assert_eq!(rt; stream.vendor, "Google Extension");
+    assert!(rt; unimplemented.next().is_none());
+    Ok(())
+}
+
+#[test]
+fn names_vendors(rt: HostRuntime) -> Result<(), Fail> {
+    for (stream_type, vendor) in [
+        (0, "Official"),
+        (0xffff, "Official"),
+        (0x1_0000, "Unknown Extension"),
+        (0x4767_000b, "Google Extension"),
+        (0x4350_ffff, "Crashpad Extension"),
+        (0x4d7a_0000, "Mozilla Extension"),
+        (0x4b6b_0002, "Unknown Extension"),
+    ] {
+        assert_eq!(rt; stream_vendor(stream_type), vendor, "of {stream_type}");
+    }
+    Ok(())
+}
+
+fn printed<W: Write + Drop>(
+    rt: &impl Abort,
+    alloc: Global,
+    bytes: &[u8],
+    f: &mut Told<W>,
+) -> Result<(), Error> {
+    let dump = Minidump::read(alloc, bytes)?;
+    let answer = dump.print(alloc, f);
+    assert_eq!(rt; answer.is_err(), f.failed());
+    answer
+}
+
+#[test]
+fn prints(rt: HostRuntime) -> Result<(), Fail> {
+    let alloc = rt.alloc();
+    for (bytes, text) in [(&EMPTY[..], EMPTY_TEXT), (&ONE[..], ONE_TEXT)] {
+        let mut f = Told::new(Vec::new(alloc));
+        printed(&rt, alloc, bytes, &mut f)?;
+        assert_eq!(rt; f.into_device().as_slice(), text.as_bytes());
+    }
+    let mut f = Told::new(Vec::new(alloc));
+    printed(&rt, alloc, &FIVE, &mut f)?;
+    let text = String::from_utf8(f.into_device()).map_err(|_| "no text")?;
+    let want = "mDirectory[2]
+MDRawDirectory
+  stream_type        = 0x7 (SystemInfoStream)
+  location.data_size = 0
+  location.rva       = 0x60
+
+mDirectory[3]
+MDRawDirectory
+  stream_type        = 0x11223344 (unknown)
+  location.data_size = 2
+  location.rva       = 0x5e
+
+mDirectory[4]
+MDRawDirectory
+  stream_type        = 0x11223345 (unknown)
+  location.data_size = 4
+  location.rva       = 0x5d
+
+mDirectory[1]
+MDRawDirectory
+  stream_type        = 0x47670006 (LinuxCmdLine)
+  location.data_size = 2
+  location.rva       = 0x5c
+
+Streams:
+  stream type 0x7 (SystemInfoStream) at index 2
+  stream type 0x11223344 (unknown) at index 3
+  stream type 0x11223345 (unknown) at index 4
+  stream type 0x47670006 (LinuxCmdLine) at index 1
+
+";
+    assert!(rt; text.as_str().ends_with(want));
+    assert!(rt; text.as_str().contains("  stream_count         = 5\n"));
+    Ok(())
+}
+
+// A writer that takes at most `most` bytes a call, and fails once `calls` were made.
+#[derive(Drop)]
+struct Slow {
+    taken: Vec<u8>,
+    most: usize,
+    calls: usize,
+}
+
+impl Write for Slow {
+    fn write(&mut self, buf: &[u8]) -> io::Result<usize> {
+        if self.calls == 0 {
+            return Err(io::Error::from(ErrorKind::Other));
+        }
+        self.calls -= 1;
+        let n = buf.len().min(self.most);
+        self.taken.extend_from_slice(&buf[..n])?;
+        Ok(n)
+    }
+
+    fn flush(&mut self) -> io::Result<()> {
+        Ok(())
+    }
+}
+
+fn make_slow(alloc: Global, most: usize, calls: usize) -> Told<Slow> {
+    Told::new(Slow {
+        taken: Vec::new(alloc),
+        most,
+        calls,
+    })
+}
+
+#[test]
+fn prints_to_slow_and_failing_writers(rt: HostRuntime) -> Result<(), Fail> {
+    let alloc = rt.alloc();
+    let text = ONE_TEXT.as_bytes();
+    // One byte a call.
+    let mut f = make_slow(alloc, 1, text.len());
+    printed(&rt, alloc, &ONE, &mut f)?;
+    assert_eq!(rt; f.into_device().taken.as_slice(), text);
+    // Each call fails in turn: what went out is the beginning of the text.
+    for calls in 0..text.len() {
+        let mut f = make_slow(alloc, 1, calls);
+        assert_eq!(rt; printed(&rt, alloc, &ONE, &mut f), Err(Error::IoError));
+        assert_eq!(rt; f.into_device().taken.as_slice(), &text[..calls]);
+    }
+    // None of the bytes is taken.
+    let mut f = make_slow(alloc, 0, 10);
+    assert_eq!(rt; printed(&rt, alloc, &ONE, &mut f), Err(Error::IoError));
+    let device = f.into_device();
+    assert_eq!(rt; device.calls, 9);
+    assert_eq!(rt; device.taken.len(), 0);
+    Ok(())
+}
