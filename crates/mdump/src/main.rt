@@ -26,3 +26,6 @@ fn words(rt: &HostRuntime) -> io::Result<Vec<String>> {
     let _name = all.next();
     Ok(all.collect(rt.alloc())?)
 }
+
+#[cfg(test)]
+mod tests;

@@ -10,3 +10,6 @@ mod vendor;
 pub use error::Error;
 pub use print::{put_made, put_text};
 pub use vendor::stream_vendor;
+
+#[cfg(test)]
+mod tests;

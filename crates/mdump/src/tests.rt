@@ -1,0 +1,162 @@
+use crate::run;
+use minidump::Told;
+use std::io::{ErrorKind, Write};
+use std::test::Fail;
+use std::{fs, io};
+
+const USAGE: &str = "usage: mdump dir FILE | at FILE HEXADDRESS | report FILE\n";
+
+// One stream of an unknown type, of four bytes.
+const ONE: [u8; 48] = [
+    0x4d, 0x44, 0x4d, 0x50, 0x93, 0xa7, 0, 0, 1, 0, 0, 0, 0x20, 0, 0, 0, 0, 0, 0, 0, 0, 0, 0, 0, 0,
+    0, 0, 0, 0, 0, 0, 0, 0x44, 0x33, 0x22, 0x11, 4, 0, 0, 0, 0x2c, 0, 0, 0, 0x88, 0x77, 0x66, 0x55,
+];
+
+const ONE_TEXT: &str = "MDRawHeader
+  signature            = 0x504d444d
+  version              = 0xa793
+  stream_count         = 1
+  stream_directory_rva = 0x20
+  checksum             = 0x0
+  time_date_stamp      = 0x0
+  flags                = 0x0
+
+mDirectory[0]
+MDRawDirectory
+  stream_type        = 0x11223344 (unknown)
+  location.data_size = 4
+  location.rva       = 0x2c
+
+Streams:
+  stream type 0x11223344 (unknown) at index 0
+
+";
+
+// What a run of the program answers: its status, its output and its errors.
+#[derive(Drop)]
+struct Outcome {
+    status: u8,
+    out: Vec<u8>,
+    err: Vec<u8>,
+}
+
+fn ran(rt: &HostRuntime, words: &[&str]) -> Result<Outcome, Fail> {
+    let alloc = rt.alloc();
+    let mut owned = Vec::new(alloc);
+    for word in words {
+        owned.push(String::from_str(alloc, *word)?)?;
+    }
+    let mut out = Told::new(Vec::new(alloc));
+    let mut err = Told::new(Vec::new(alloc));
+    let status = run(rt, owned.as_slice(), &mut out, &mut err);
+    Ok(Outcome {
+        status,
+        out: out.into_device(),
+        err: err.into_device(),
+    })
+}
+
+// Writes a file of this test's own, runs `dir` with it, and removes it.
+fn ran_on(rt: &HostRuntime, path: &str, bytes: &[u8]) -> Result<Outcome, Fail> {
+    fs::write(rt, path, bytes)?;
+    let answer = ran(rt, &["dir", path])?;
+    fs::remove_file(rt, path)?;
+    Ok(answer)
+}
+
+#[test]
+fn writes_the_directory(rt: HostRuntime) -> Result<(), Fail> {
+    let answer = ran_on(&rt, "writes_the_directory.dmp", &ONE)?;
+    assert_eq!(rt; answer.status, 0);
+    assert_eq!(rt; answer.out.as_slice(), ONE_TEXT.as_bytes());
+    assert_eq!(rt; answer.err.len(), 0);
+    Ok(())
+}
+
+#[test]
+fn names_refusals(rt: HostRuntime) -> Result<(), Fail> {
+    let mut wrong_version = ONE;
+    wrong_version[4] = 0x94;
+    let mut no_directory = ONE;
+    no_directory[12] = 0x25;
+    let path = "names_refusals.dmp";
+    for (bytes, name) in [
+        (&ONE[..31], "MissingHeader\n"),
+        (&ONE[1..], "HeaderMismatch\n"),
+        (&wrong_version[..], "VersionMismatch\n"),
+        (&no_directory[..], "MissingDirectory\n"),
+    ] {
+        let answer = ran_on(&rt, path, bytes)?;
+        assert_eq!(rt; answer.status, 1);
+        assert_eq!(rt; answer.out.len(), 0);
+        assert_eq!(rt; answer.err.as_slice(), name.as_bytes());
+    }
+    // A file that isn't there, and a folder, which can be opened and not read.
+    for (path, name) in [("no/such.dmp", "FileNotFound\n"), (".", "IoError\n")] {
+        let answer = ran(&rt, &["dir", path])?;
+        assert_eq!(rt; answer.status, 1);
+        assert_eq!(rt; answer.out.len(), 0);
+        assert_eq!(rt; answer.err.as_slice(), name.as_bytes());
+    }
+    Ok(())
+}
+
+#[test]
+fn shows_its_usage(rt: HostRuntime) -> Result<(), Fail> {
+    let answer = ran(&rt, &[])?;
+    assert_eq!(rt; answer.status, 0);
+    assert_eq!(rt; answer.out.as_slice(), USAGE.as_bytes());
+    assert_eq!(rt; answer.err.len(), 0);
+    let wrong: [&[&str]; 7] = [
+        &["dir"],
+        &["dir", "no/such.dmp", "more"],
+        &["Dir", "no/such.dmp"],
+        &["", "no/such.dmp"],
+        &["--help"],
+        &["at", "no/such.dmp", "10"],
+        &["report", "no/such.dmp"],
+    ];
+    for words in wrong {
+        let answer = ran(&rt, words)?;
+        assert_eq!(rt; answer.status, 2);
+        assert_eq!(rt; answer.out.len(), 0);
+        assert_eq!(rt; answer.err.as_slice(), USAGE.as_bytes());
+    }
+    Ok(())
+}
+
+// A writer that takes nothing.
+#[derive(Drop)]
+struct Full;
+
+impl Write for Full {
+    fn write(&mut self, _buf: &[u8]) -> io::Result<usize> {
+        Err(io::Error::from(ErrorKind::Other))
+    }
+
+    fn flush(&mut self) -> io::Result<()> {
+        Ok(())
+    }
+}
+
+#[test]
+fn reports_a_full_output(rt: HostRuntime) -> Result<(), Fail> {
+    let alloc = rt.alloc();
+    let path = "reports_a_full_output.dmp";
+    fs::write(&rt, path, &ONE)?;
+    let words = [
+        String::from_str(alloc, "dir")?,
+        String::from_str(alloc, path)?,
+    ];
+    for count in [0, 2] {
+        let mut err = Told::new(Vec::new(alloc));
+        let status = run(&rt, &words[..count], &mut Told::new(Full), &mut err);
+        assert_eq!(rt; status, 1);
+        assert_eq!(rt; err.into_device().as_slice(), b"IoError\n".as_slice());
+    }
+    // A failure of the errors changes no status.
+    let mut out = Told::new(Vec::new(alloc));
+    assert_eq!(rt; run(&rt, &words[..1], &mut out, &mut Told::new(Full)), 2);
+    fs::remove_file(&rt, path)?;
+    Ok(())
+}
