@@ -1,11 +1,16 @@
 -- The deciding entries of a directory.
-use Rattle.std.proofs.Common.{◌≡◌, ℕ, ◌+◌, cond, List, [], ◌∷◌, ◌++◌, length, reverse, map, Option, Some, None, refl, ap, sym, ◌∙◌, arith}
+use Rattle.std.proofs.Common.{◌≡◌, ℕ, ◌+◌, ◌^◌, ◌<◌, ◌≤◌, cond, true, false, List, [], ◌∷◌, ◌++◌, length, reverse, map, Option, Some, None, refl, ap, sym, ◌∙◌, arith}
 use Rattle.std.specs.Prelude.{find, ◌==◌}
 use Rattle.std.specs.List.{enumerate_from}
 use Rattle.std.proofs.lemmas.List.{reverse-append, map-append}
 use Rattle.minidump_format.specs.declared.format.header.MINIDUMP_DIRECTORY.{MINIDUMP_DIRECTORY}
 use Rattle.minidump.specs.declared.directory.DecidingEntry.{DecidingEntry}
 use Rattle.minidump.specs.Directory.{indexed, deciding}
+use Rattle.minidump.specs.Deciding.{Decides}
+use Rattle.std.specs.Ordering.{nat_cmp}
+use Rattle.std.specs.BTreeMap.{BTreeMap, Updates, get, is_at}
+use Rattle.std.proofs.lemmas.Bool.{ne_eqb}
+use Rattle.minidump.proofs.KeyLemmas.{at_is_equal}
 
 enumerate_from-append : {X : Type 0} (n : ℕ) (xs ys : List X) → enumerate_from n (xs ++ ys) ≡ enumerate_from n xs ++ enumerate_from (n + length xs) ys
 enumerate_from-append n [] ys = ap (λ k. enumerate_from k ys) (omega arith)
@@ -25,3 +30,13 @@ indexed-more es e =
 pub deciding-more : (stream_type : ℕ) (es : List MINIDUMP_DIRECTORY) (e : MINIDUMP_DIRECTORY)
     → deciding stream_type (es ++ e ∷ []) ≡ cond (e.stream_type == stream_type) (Some (record { index = length es; entry = e })) (deciding stream_type es)
 deciding-more stream_type es e = rw (indexed-more es e, reverse-append (indexed es) (record { index = length es; entry = e } ∷ [])) refl
+
+-- a map that has the deciding entries has them after one entry more, if that one is put in at its type
+pub decides-more : (m n : BTreeMap ℕ DecidingEntry) (es : List MINIDUMP_DIRECTORY) (e : MINIDUMP_DIRECTORY) → Decides m es → e.stream_type < 2 ^ 32
+    → Updates nat_cmp m n e.stream_type (Some (record { index = length es; entry = e })) → Decides n (es ++ e ∷ [])
+decides-more m n es e before small update = record {
+  at = λ t. update.0 t ∙ rw (at_is_equal e.stream_type t, before.at t, deciding-more t es e) refl;
+  small = λ t large.
+      let other : is_at (nat_cmp e.stream_type) t ≡ false = at_is_equal e.stream_type t ∙ ne_eqb e.stream_type t (λ same. omega arith) in
+      update.0 t ∙ rw (other, before.small t large) refl;
+}

@@ -1,3 +1,4 @@
 pub mod DirectoryLemmas
+pub mod KeyLemmas
 pub mod LawsLemmas
 pub mod StreamsLemmas

@@ -6,23 +6,14 @@ use Rattle.std.specs.Map.{keys_of, values_of, lookup}
 use Rattle.std.specs.Ordering.{nat_cmp, is_eq}
 use Rattle.std.specs.declared.cmp.Ordering.TheVariants.{Less, Equal, Greater}
 use Rattle.std.specs.BTreeMap.{BTreeMap, IsOrdered, get, is_at, values}
-use Rattle.std.specs.Cmp.{nat_cmp_is}
 use Rattle.std.proofs.lemmas.Cmp.{ranked}
 use Rattle.std.proofs.lemmas.Map.Keys.{sorted_head, sorted_tail}
 use Rattle.std.proofs.lemmas.Map.Entries.{lookup_head, lookup_tail}
 use Rattle.std.proofs.lemmas.Bool.{cases_lt}
+use Rattle.minidump.proofs.KeyLemmas.{at_itself, not_at_above, not_at_below}
 use Rattle.minidump_format.specs.declared.format.header.MINIDUMP_DIRECTORY.{MINIDUMP_DIRECTORY}
 use Rattle.minidump.specs.declared.directory.DecidingEntry.{DecidingEntry}
 use Rattle.minidump.specs.Directory.{deciding, deciding_below}
-
-at_itself : (k : ℕ) → is_at (nat_cmp k) k ≡ true
-at_itself k = ap is_eq (sym (nat_cmp_is k k Equal refl))
-
-not_at_above : (t k : ℕ) → t < k → is_at (nat_cmp t) k ≡ false
-not_at_above t k lt = ap is_eq (sym (nat_cmp_is t k Less lt))
-
-not_at_below : (t k : ℕ) → k < t → is_at (nat_cmp t) k ≡ false
-not_at_below t k lt = ap is_eq (sym (nat_cmp_is t k Greater lt))
 
 module _ {X : Type 0} where
   -- no entry behind a key has it, or a smaller one

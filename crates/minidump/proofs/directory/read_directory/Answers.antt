@@ -1,9 +1,9 @@
-use Rattle.std.proofs.Common.{arith, ◌≡◌, ◌∷◌, ◌++◌, [], ◌+◌, ◌*◌, refl, rules}
+use Rattle.std.proofs.Common.{arith, ◌≡◌, ◌∷◌, ◌++◌, [], ◌+◌, ◌*◌, ◌^◌, ◌<◌, refl, rules}
 use Rattle.std.proofs.lemmas.Grind.{common_steps}
 use Rattle.minidump_bytes.specs.Source.{bytes_of}
-use Rattle.minidump_bytes.specs.Entries.{entries-more, entries-none, length-entries}
+use Rattle.minidump_bytes.specs.Entries.{entry, entries, entries-more, entries-none, length-entries}
 use Rattle.minidump_format.specs.Header.{directory_entry}
-use Rattle.minidump.proofs.DirectoryLemmas.{deciding-more}
+use Rattle.minidump.proofs.DirectoryLemmas.{decides-more}
 use Rattle.minidump.proofs.directory.read_directory.Goals as goal
 
 pub loop-index-init : goal.loop-index-init
@@ -21,12 +21,12 @@ loop-index-preserved c =
     let source = bytes_of c.args.source in
     let start = c.args.header.now.stream_directory_rva in
     let value = directory_entry c.args.endian in
+    let read : c.in_ok-entry.entry ≡ entry 12 value source start c.loop-index.index = grind (arith, common_steps, c.record.ensures.found) in
+    let small : c.in_ok-entry.entry.stream_type < 2 ^ 32 = grind (arith, common_steps) in
     record {
-      decides = record {
-        at = λ t. rw (entries-more 12 value source start c.loop-index.index, deciding-more t, length-entries 12 value source start c.loop-index.index)
-            (grind (arith, common_steps, c.loop-index.invariant.decides.at t));
-        small = λ t h. grind (arith, common_steps, c.loop-index.invariant.decides.small t h);
-      };
+      decides = rw (entries-more, ← read)
+          (decides-more _ _ (entries 12 value source start c.loop-index.index) c.in_ok-entry.entry c.loop-index.invariant.decides small
+          (rw length-entries c.in_ok-insert.ensures.updates));
       steps = omega (arith, c.record.ensures.step, c.loop-index.invariant.steps);
       readable = grind (arith, c.record.ensures.readable.0);
     }
