@@ -1,6 +1,6 @@
 -- The deciding entries of a directory.
-use Rattle.std.proofs.Common.{◌≡◌, ℕ, ◌+◌, ◌^◌, ◌<◌, ◌≤◌, cond, true, false, List, [], ◌∷◌, ◌++◌, length, reverse, map, Option, Some, None, refl, ap, sym, ◌∙◌, arith}
-use Rattle.std.specs.Prelude.{find, ◌==◌}
+use Rattle.std.proofs.Common.{◌≡◌, ℕ, ◌+◌, ◌^◌, ◌<◌, cond, false, List, [], ◌∷◌, ◌++◌, length, map, Some, refl, ap, ◌∙◌, arith}
+use Rattle.std.specs.Prelude.{◌==◌}
 use Rattle.std.specs.List.{enumerate_from}
 use Rattle.std.proofs.lemmas.List.{reverse-append, map-append}
 use Rattle.minidump_format.specs.declared.format.header.MINIDUMP_DIRECTORY.{MINIDUMP_DIRECTORY}
@@ -8,7 +8,7 @@ use Rattle.minidump.specs.declared.directory.DecidingEntry.{DecidingEntry}
 use Rattle.minidump.specs.Directory.{indexed, deciding}
 use Rattle.minidump.specs.Deciding.{Decides}
 use Rattle.std.specs.Ordering.{nat_cmp}
-use Rattle.std.specs.BTreeMap.{BTreeMap, Updates, get, is_at}
+use Rattle.std.specs.BTreeMap.{BTreeMap, Updates, is_at}
 use Rattle.std.proofs.lemmas.Bool.{ne_eqb}
 use Rattle.minidump.proofs.KeyLemmas.{at_is_equal}
 
@@ -40,3 +40,8 @@ decides-more m n es e before small update = record {
       let other : is_at (nat_cmp e.stream_type) t ≡ false = at_is_equal e.stream_type t ∙ ne_eqb e.stream_type t (λ same. omega arith) in
       update.0 t ∙ rw (other, before.small t large) refl;
 }
+
+-- only among some entries one decides
+pub deciding-among_some : (stream_type : ℕ) (es : List MINIDUMP_DIRECTORY) (d : DecidingEntry) → deciding stream_type es ≡ Some d → 0 < length es
+deciding-among_some stream_type [] d found = cc
+deciding-among_some stream_type (e ∷ es) d found = omega arith

@@ -1,5 +1,5 @@
 -- A map from each type of stream to its deciding entry.
-use Rattle.std.specs.Prelude.{◌≡◌, ℕ, ◌^◌, ◌≤◌, ◌<◌, List, Option, None, Result, Ok, Err, true, false}
+use Rattle.std.specs.Prelude.{◌≡◌, ℕ, ◌^◌, ◌≤◌, ◌<◌, List, None, Result, Ok, Err, true, false}
 use Rattle.std.specs.Ordering.{nat_cmp}
 use Rattle.std.specs.BTreeMap.{BTreeMap, get}
 use Rattle.minidump_bytes.specs.declared.endian.Endian.{Endian}

@@ -1,10 +1,8 @@
 -- The directory of a minidump: stream_count records MINIDUMP_DIRECTORY of 12 bytes, from stream_directory_rva on.
-use Rattle.std.specs.Prelude.{ℕ, ◌+◌, ◌*◌, List, length, reverse, find, map, Option, Result, Ok, Err, Bool, nat_le, ◌==◌, ◌||◌, if◌then◌else◌}
+use Rattle.std.specs.Prelude.{ℕ, ◌+◌, ◌*◌, List, length, reverse, find, map, Option, Bool, nat_le, ◌==◌, ◌||◌}
 use Rattle.std.specs.List.{enumerate_from, filter_map, range_with_len}
 use Rattle.minidump_bytes.specs.declared.endian.Endian.{Endian}
 use Rattle.minidump_bytes.specs.Entries.{entries}
-use Rattle.minidump_format.specs.declared.error.Error.{Error}
-use Rattle.minidump_format.specs.declared.error.Error.TheVariants.{MissingDirectory}
 use Rattle.minidump_format.specs.declared.format.header.MINIDUMP_HEADER.{MINIDUMP_HEADER}
 use Rattle.minidump_format.specs.declared.format.header.MINIDUMP_DIRECTORY.{MINIDUMP_DIRECTORY}
 use Rattle.minidump_format.specs.Header.{directory_entry}

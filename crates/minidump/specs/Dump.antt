@@ -1,10 +1,12 @@
--- A minidump without where it lies in memory, which files are one, and the bytes of its streams.
+-- A minidump without where it lies in memory, which files are one, and what their streams are.
 use Rattle.std.specs.Prelude.{ℕ, ◌+◌, ◌^◌, ◌<◌, List, Option, Some, None, Result, Ok, Err, IsOkAnd, if◌then◌else◌}
+use Rattle.std.specs.Result.{result_ok}
 use Rattle.minidump_bytes.specs.declared.endian.Endian.{Endian}
 use Rattle.minidump_bytes.specs.Span.{span}
 use Rattle.minidump_format.specs.declared.error.Error.{Error}
 use Rattle.minidump_format.specs.declared.error.Error.TheVariants.{MissingDirectory, StreamNotFound, StreamReadFailure}
 use Rattle.minidump_format.specs.declared.format.header.MINIDUMP_HEADER.{MINIDUMP_HEADER}
+use Rattle.minidump_system.specs.SystemInfo.{System, system_in}
 use Rattle.minidump.specs.declared.directory.DecidingEntry.{DecidingEntry}
 use Rattle.minidump.specs.Header.{header_of}
 use Rattle.minidump.specs.Directory.{directory, deciding, deciding_below, is_readable}
@@ -42,3 +44,24 @@ located file (Some d) = let at = d.entry.location in spanned (span at.rva (at.rv
 -- the bytes of the stream of a type: the span of its deciding entry
 abbrev pub raw_stream : ℕ → Dump → Result (List ℕ) Error
 raw_stream stream_type d = located d.file (deciding stream_type (directory d.order d.header d.file))
+
+-- what a type of stream means: the value or the refusal that the format assigns to a stream's bytes, the bytes of its file,
+-- their byte order and the system information, where there is one
+abbrev pub Meaning : Type 0 → Type 0
+Meaning V = List ℕ → List ℕ → Endian → Option System → Result V Error
+
+abbrev meant : {V : Type 0} → Meaning V → Dump → Option System → Result (List ℕ) Error → Result V Error
+meant meaning d system (Ok bytes) = meaning bytes d.file d.order system
+meant meaning d system (Err e) = Err e
+
+-- the stream of a type, with a system information handed in
+abbrev pub stream_with : {V : Type 0} → Option System → ℕ → Meaning V → Dump → Result V Error
+stream_with system stream_type meaning d = meant meaning d system (raw_stream stream_type d)
+
+-- the system information, where its stream is one with none handed in
+abbrev pub system_info_of : Dump → Option System
+system_info_of d = result_ok (stream_with None 7 system_in d)
+
+-- the stream of a type, with the dump's system information
+abbrev pub stream : {V : Type 0} → ℕ → Meaning V → Dump → Result V Error
+stream stream_type meaning d = stream_with (system_info_of d) stream_type meaning d

@@ -3,7 +3,7 @@ use Rattle.std.specs.Prelude.{◌≡◌, ℕ, List, [], Result, Ok, Err, ⊤}
 use Rattle.minidump_format.specs.declared.error.Error.{Error}
 use Rattle.minidump_format.specs.declared.error.Error.TheVariants.{FileNotFound, IoError, MissingHeader, HeaderMismatch, VersionMismatch, MissingDirectory, OutOfMemory}
 use Rattle.minidump.specs.declared.dump.Minidump.{Minidump}
-use Rattle.minidump.specs.Dump.{Dump, dump_in}
+use Rattle.minidump.specs.Dump.{dump_in}
 use Rattle.minidump.specs.Seen.{dump_of}
 
 -- of a file that can't be opened nothing is read: the vector stays. After a read that failed, or found no memory, it is empty

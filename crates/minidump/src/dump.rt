@@ -1,13 +1,19 @@
 ghost use Rattle.minidump_bytes.specs.Source.{bytes_of};
 ghost use Rattle.minidump.specs.Directory.{directory};
 ghost use Rattle.minidump.specs.Deciding.{Decides};
+ghost use Rattle.minidump.specs.Dump.{system_info_of};
+ghost use Rattle.minidump_system.specs.SystemInfo.{system_of};
+ghost use Rattle.std.specs.Option.{option_map};
+ghost use Rattle.std.specs.Prelude.{◌≡◌};
 
 use crate::directory::{DecidingEntry, read_directory};
 use crate::header::read_header;
 use crate::streams::{Streams, UnimplementedStreams, UnknownStreams};
+use crate::system::read_system_info;
 use minidump_bytes::{Endian, Source, Steps};
 use minidump_format::Error;
 use minidump_format::format::MINIDUMP_HEADER;
+use minidump_system::MinidumpSystemInfo;
 use std::alloc::Global;
 use std::collections::BTreeMap;
 use std::collections::btree_map::Values;
@@ -21,11 +27,15 @@ pub struct Minidump<'a> {
     pub endian: Endian,
     pub(crate) source: Source<'a>,
     pub(crate) entries: BTreeMap<u32, DecidingEntry>,
+    // as its stream says, where that is one
+    pub(crate) system_info: Option<MinidumpSystemInfo>,
     ghost decides: { Decides entries (directory endian header (bytes_of source)) },
+    ghost knows: { option_map system_of system_info
+        ≡ system_info_of (record { file = bytes_of source; order = endian; header = header }) },
 }
 
 impl<'a> Minidump<'a> {
-    ghost use Rattle.std.specs.Prelude.{◌≡◌, ◌+◌, ◌≤◌, length, IfOk};
+    ghost use Rattle.std.specs.Prelude.{◌+◌, ◌≤◌, length, IfOk};
     ghost use Rattle.minidump_bytes.specs.Steps.{after};
     ghost use Rattle.minidump_format.specs.Answer.{Gives};
     ghost use Rattle.minidump.specs.Dump.{HasEntries, dump_in, raw_stream, streams_of};
@@ -56,11 +66,13 @@ impl<'a> Minidump<'a> {
         let source = Source::new(bytes);
         let (endian, header) = read_header(source, steps)?;
         let entries = read_directory(alloc, source, endian, &header, steps)?;
+        let system_info = read_system_info(alloc, source, endian, &header, &entries, steps)?;
         Ok(Minidump {
             header,
             endian,
             source,
             entries,
+            system_info,
         })
     }
 
@@ -97,27 +109,5 @@ impl<'a> Minidump<'a> {
         UnimplementedStreams {
             streams: self.all_streams(),
         }
-    }
-
-    /// The bytes of the stream of a type, as they lie in the file, by the deciding entry of the type.
-    /// `StreamNotFound` where the directory has none, `StreamReadFailure` where its span is not in the
-    /// file.
-    pub fn get_raw_stream(&self, stream_type: u32) -> Result<&'a [u8], Error>
-        ensures { Gives (λ b. b.now) ⊥ result (raw_stream stream_type (dump_of self.now)) }
-    {
-        self.raw_stream(stream_type, &mut Steps::new())
-    }
-
-    // The same, counted.
-    fn raw_stream(&self, stream_type: u32, steps: &mut Steps) -> Result<&'a [u8], Error>
-        ensures means { Gives (λ b. b.now) ⊥ result (raw_stream stream_type (dump_of self.now)) }
-        ensures within { steps.new ≤ steps.old + 1 }
-        ensures grows { steps.old ≤ steps.new }
-    {
-        let deciding = self.entries.get(&stream_type).ok_or(Error::StreamNotFound)?;
-        let location = deciding.entry.location;
-        self.source
-            .span(location.rva as u64, location.data_size as u64, steps)
-            .ok_or(Error::StreamReadFailure)
     }
 }

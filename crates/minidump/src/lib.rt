@@ -7,15 +7,25 @@ mod file;
 mod header;
 pub mod laws;
 mod print;
+mod stream;
 mod streams;
+mod system;
 
 pub use dump::Minidump;
 pub use minidump_bytes::{Endian, Record, Refused, Source, Steps, Told};
 pub use minidump_format::{Error, format, stream_vendor};
+pub use minidump_system::{
+    MinidumpMiscInfo, MinidumpStream, MinidumpSystemInfo, RawMiscInfo, date_text,
+};
 pub use streams::{
     MinidumpImplementedStream, MinidumpUnimplementedStream, MinidumpUnknownStream, Streams,
     UnimplementedStreams, UnknownStreams,
 };
+
+/// What names an operating system and a processor.
+pub mod system_info {
+    pub use minidump_system::{Cpu, Os, PointerWidth};
+}
 
 #[cfg(test)]
 mod tests;

@@ -1,8 +1,10 @@
+mod streams;
+
 use crate::format::{MINIDUMP_LOCATION_DESCRIPTOR, MINIDUMP_STREAM_TYPE};
 use crate::{Endian, Error, Minidump, Steps, Told, stream_vendor};
-use std::alloc::Global;
-use std::io;
-use std::io::{ErrorKind, Write};
+use minidump_synth::{FailsAt, OneByte, SynthMinidump, TakesNone};
+use std::alloc::{AllocError, Global};
+use std::io::Write;
 use std::process::Abort;
 use std::test::Fail;
 
@@ -25,17 +27,21 @@ const ONE_BIG: [u8; 48] = [
 ];
 
 // Five entries: two of type 0x11223344 (0 and 3), one of a type that is not read (1), one that is (2),
-// and one that ends a byte after the file (4).
-const FIVE: [u8; 96] = [
-    0x4d, 0x44, 0x4d, 0x50, 0x93, 0xa7, 0, 0, 5, 0, 0, 0, 0x20, 0, 0, 0, 0, 0, 0, 0, 0, 0, 0, 0, 0,
-    0, 0, 0, 0, 0, 0, 0, //
-    0x44, 0x33, 0x22, 0x11, 1, 0, 0, 0, 0x5c, 0, 0, 0, //
-    0x06, 0x00, 0x67, 0x47, 2, 0, 0, 0, 0x5c, 0, 0, 0, //
-    0x07, 0x00, 0x00, 0x00, 0, 0, 0, 0, 0x60, 0, 0, 0, //
-    0x44, 0x33, 0x22, 0x11, 2, 0, 0, 0, 0x5e, 0, 0, 0, //
-    0x45, 0x33, 0x22, 0x11, 4, 0, 0, 0, 0x5d, 0, 0, 0, //
-    0xa0, 0xa1, 0xa2, 0xa3,
-];
+// and one that ends a byte after the file (4). Four bytes are at 0x20, the directory is behind them.
+fn five(alloc: Global) -> Result<Vec<u8>, AllocError> {
+    let mut dump = SynthMinidump::new(alloc, Endian::Little);
+    dump.add(&[0xa0, 0xa1, 0xa2, 0xa3]);
+    for (stream_type, data_size, rva) in [
+        (0x1122_3344, 1, 0x20),
+        (0x4767_0006, 2, 0x20),
+        (7, 0, 0x60),
+        (0x1122_3344, 2, 0x22),
+        (0x1122_3345, 4, 0x5d),
+    ] {
+        dump.add_entry(stream_type, MINIDUMP_LOCATION_DESCRIPTOR { data_size, rva });
+    }
+    dump.finish()
+}
 
 const EMPTY_TEXT: &str = "MDRawHeader
   signature            = 0x504d444d
@@ -173,7 +179,8 @@ fn reads_entries_where_they_are(rt: HostRuntime) -> Result<(), Fail> {
 #[test]
 fn lists_the_deciding_entries(rt: HostRuntime) -> Result<(), Fail> {
     let alloc = rt.alloc();
-    let dump = Minidump::read(alloc, &FIVE)?;
+    let bytes = five(alloc)?;
+    let dump = Minidump::read(alloc, &bytes)?;
     let want: &[u8] = &[0xa2, 0xa3];
     assert_eq!(rt; dump.get_raw_stream(0x1122_3344)?, want);
     // A span of no bytes at the end of the file.
@@ -186,9 +193,9 @@ fn lists_the_deciding_entries(rt: HostRuntime) -> Result<(), Fail> {
     let mut all = dump.all_streams();
     for (stream_type, rva) in [
         (7, 0x60),
-        (0x1122_3344, 0x5e),
+        (0x1122_3344, 0x22),
         (0x1122_3345, 0x5d),
-        (0x4767_0006, 0x5c),
+        (0x4767_0006, 0x20),
     ] {
         let entry = all.next().ok_or("an entry")?;
         assert_eq!(rt; entry.stream_type, stream_type);
@@ -197,7 +204,7 @@ fn lists_the_deciding_entries(rt: HostRuntime) -> Result<(), Fail> {
     assert!(rt; all.next().is_none());
 
     let mut unknown = dump.unknown_streams();
-    for (stream_type, data_size, rva) in [(0x1122_3344, 2, 0x5e), (0x1122_3345, 4, 0x5d)] {
+    for (stream_type, data_size, rva) in [(0x1122_3344, 2, 0x22), (0x1122_3345, 4, 0x5d)] {
         let stream = unknown.next().ok_or("an unknown stream")?.clone()?;
         assert_eq!(rt; stream.stream_type, stream_type);
         assert_eq!(rt;
@@ -215,7 +222,7 @@ fn lists_the_deciding_entries(rt: HostRuntime) -> Result<(), Fail> {
         stream.location,
         MINIDUMP_LOCATION_DESCRIPTOR {
             data_size: 2,
-            rva: 0x5c
+            rva: 0x20
         }
     );
     assert_eq!(rt; stream.vendor, "Google Extension");
@@ -260,7 +267,7 @@ fn prints(rt: HostRuntime) -> Result<(), Fail> {
         assert_eq!(rt; f.into_device().as_slice(), text.as_bytes());
     }
     let mut f = Told::new(Vec::new(alloc));
-    printed(&rt, alloc, &FIVE, &mut f)?;
+    printed(&rt, alloc, &five(alloc)?, &mut f)?;
     let text = String::from_utf8(f.into_device()).map_err(|_| "no text")?;
     let want = "mDirectory[2]
 MDRawDirectory
@@ -272,7 +279,7 @@ mDirectory[3]
 MDRawDirectory
   stream_type        = 0x11223344 (unknown)
   location.data_size = 2
-  location.rva       = 0x5e
+  location.rva       = 0x22
 
 mDirectory[4]
 MDRawDirectory
@@ -284,7 +291,7 @@ mDirectory[1]
 MDRawDirectory
   stream_type        = 0x47670006 (LinuxCmdLine)
   location.data_size = 2
-  location.rva       = 0x5c
+  location.rva       = 0x20
 
 Streams:
   stream type 0x7 (SystemInfoStream) at index 2
@@ -298,57 +305,25 @@ Streams:
     Ok(())
 }
 
-// A writer that takes at most `most` bytes a call, and fails once `calls` were made.
-#[derive(Drop)]
-struct Slow {
-    taken: Vec<u8>,
-    most: usize,
-    calls: usize,
-}
-
-impl Write for Slow {
-    fn write(&mut self, buf: &[u8]) -> io::Result<usize> {
-        if self.calls == 0 {
-            return Err(io::Error::from(ErrorKind::Other));
-        }
-        self.calls -= 1;
-        let n = buf.len().min(self.most);
-        self.taken.extend_from_slice(&buf[..n])?;
-        Ok(n)
-    }
-
-    fn flush(&mut self) -> io::Result<()> {
-        Ok(())
-    }
-}
-
-fn make_slow(alloc: Global, most: usize, calls: usize) -> Told<Slow> {
-    Told::new(Slow {
-        taken: Vec::new(alloc),
-        most,
-        calls,
-    })
-}
-
 #[test]
 fn prints_to_slow_and_failing_writers(rt: HostRuntime) -> Result<(), Fail> {
     let alloc = rt.alloc();
     let text = ONE_TEXT.as_bytes();
-    // One byte a call.
-    let mut f = make_slow(alloc, 1, text.len());
+    // As many calls as bytes.
+    let mut f = Told::new(FailsAt::new(OneByte::new(Vec::new(alloc)), text.len()));
     printed(&rt, alloc, &ONE, &mut f)?;
-    assert_eq!(rt; f.into_device().taken.as_slice(), text);
+    assert_eq!(rt; f.into_device().inner.inner.as_slice(), text);
     // Each call fails in turn: what went out is the beginning of the text.
-    for calls in 0..text.len() {
-        let mut f = make_slow(alloc, 1, calls);
+    for at in 0..text.len() {
+        let mut f = Told::new(FailsAt::new(OneByte::new(Vec::new(alloc)), at));
         assert_eq!(rt; printed(&rt, alloc, &ONE, &mut f), Err(Error::IoError));
-        assert_eq!(rt; f.into_device().taken.as_slice(), &text[..calls]);
+        assert_eq!(rt; f.into_device().inner.inner.as_slice(), &text[..at]);
     }
     // None of the bytes is taken.
-    let mut f = make_slow(alloc, 0, 10);
+    let mut f = Told::new(TakesNone::new(Vec::new(alloc), 0));
     assert_eq!(rt; printed(&rt, alloc, &ONE, &mut f), Err(Error::IoError));
     let device = f.into_device();
-    assert_eq!(rt; device.calls, 9);
-    assert_eq!(rt; device.taken.len(), 0);
+    assert_eq!(rt; device.calls, 1);
+    assert_eq!(rt; device.inner.len(), 0);
     Ok(())
 }

@@ -1,3 +1,4 @@
 pub mod HexLemmas
 pub mod NumberLemmas
 pub mod ToldLemmas
+pub mod Utf16Lemmas

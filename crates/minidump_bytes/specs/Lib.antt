@@ -5,3 +5,4 @@ pub mod Source
 pub mod Steps
 pub mod Told
 pub mod Piece
+pub mod Text16

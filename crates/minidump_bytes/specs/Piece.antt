@@ -1,14 +1,36 @@
 -- The text of a piece.
-use Rattle.std.specs.Prelude.{ℕ, List, ◌++◌, codes, false}
-use Rattle.std.specs.Fmt.{decimal, digits}
+use Rattle.std.specs.Prelude.{ℕ, List, ◌++◌, ◌-◌, length, replicate, codes, false, Option, Some, None}
+use Rattle.std.specs.Fmt.{decimal, digits, signed_decimal}
 use Rattle.minidump_bytes.specs.declared.piece.Piece.{Piece}
-use Rattle.minidump_bytes.specs.declared.piece.Piece.TheVariants.{Words, Decimal, Hex}
+use Rattle.minidump_bytes.specs.declared.piece.Piece.TheVariants.{Words, Decimal, Hex, Digits, Signed, Right, Left, Optional, OptionalDigits}
 
 -- what `{:#x}` writes: `0x`, then the digits, in lower case and with no zeros before them
 abbrev pub hex : ℕ → List ℕ
 hex n = codes "0x" ++ digits 16 false n
 
+-- what `{:x}` writes
+abbrev pub plain_hex : ℕ → List ℕ
+plain_hex n = digits 16 false n
+
+-- a text at the right or at the left end of a width, with blanks beside it
+abbrev pub right : ℕ → List ℕ → List ℕ
+right width text = replicate (width - length text) 32 ++ text
+
+abbrev pub left : ℕ → List ℕ → List ℕ
+left width text = text ++ replicate (width - length text) 32
+
+-- the text of a value, or `(invalid)` where it is absent
+abbrev pub or_invalid : {X : Type 0} → (X → List ℕ) → Option X → List ℕ
+or_invalid text (Some x) = text x
+or_invalid text None = codes "(invalid)"
+
 abbrev pub piece_text : Piece → List ℕ
 piece_text (Words s) = s.now
 piece_text (Decimal n) = decimal n
 piece_text (Hex n) = hex n
+piece_text (Digits n) = plain_hex n
+piece_text (Signed n) = signed_decimal n
+piece_text (Right n width) = right width (decimal n)
+piece_text (Left words width) = left width words.now
+piece_text (Optional o) = or_invalid decimal o
+piece_text (OptionalDigits o) = or_invalid plain_hex o

@@ -1,5 +1,5 @@
 ghost use Rattle.std.specs.Prelude.{◌≡◌, ◌+◌, ◌≤◌, length};
-ghost use Rattle.minidump_bytes.specs.Number.{number_at};
+ghost use Rattle.minidump_bytes.specs.Number.{number_at, signed_at};
 
 use byteorder::{BigEndian, ByteOrder, LittleEndian};
 
@@ -55,5 +55,14 @@ impl Endian {
             Endian::Little => LittleEndian::read_u128(&bytes[place..]),
             Endian::Big => BigEndian::read_u128(&bytes[place..]),
         }
+    }
+
+    /// The signed number of 32 bits at a place.
+    #[tactic(auto, unfolding(crate::specs::Number::signed_at))]
+    pub fn i32_at(self, bytes: &[u8], place: usize) -> i32
+        requires { place + 4 ≤ length bytes.now }
+        ensures { result ≡ signed_at self 4 place bytes.now }
+    {
+        self.u32_at(bytes, place).cast_signed()
     }
 }

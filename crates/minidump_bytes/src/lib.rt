@@ -1,17 +1,25 @@
-//! Reads at an offset of a file's bytes, each one counted; devices that keep whether they have failed;
-//! and texts that are built out of pieces.
+//! Reads at an offset of a file's bytes, each one counted; texts in UTF-16; devices that keep whether
+//! they have failed; and texts that are built out of pieces.
 #![tactic(auto)]
 
+mod array;
 mod endian;
+pub mod laws;
 mod piece;
 mod record;
 mod source;
 mod steps;
+mod text16;
 mod told;
 
+pub use array::array_at;
 pub use endian::Endian;
 pub use piece::{Piece, made, push_hex, push_pieces};
 pub use record::Record;
 pub use source::Source;
 pub use steps::Steps;
+pub use text16::text_before_nul;
 pub use told::{Refused, Told};
+
+#[cfg(test)]
+mod tests;

@@ -1,7 +1,7 @@
-ghost use Rattle.std.specs.Prelude.{◌≡◌, ◌++◌, ◌<◌, ◌∷◌, [], IfOk, OnOk, string_bytes, false};
+ghost use Rattle.std.specs.Prelude.{◌≡◌, ◌++◌, ◌<◌, ◌∷◌, [], IfOk, OnOk, replicate, string_bytes, false};
 ghost use Rattle.std.specs.List.{flat_map};
-ghost use Rattle.std.specs.Fmt.{digits, digit_glyph};
-ghost use Rattle.minidump_bytes.specs.Piece.{piece_text};
+ghost use Rattle.std.specs.Fmt.{decimal, digits, digit_glyph};
+ghost use Rattle.minidump_bytes.specs.Piece.{piece_text, right};
 
 use itoa::Buffer;
 use std::alloc::{AllocError, Global};
@@ -15,6 +15,18 @@ pub enum Piece<'a> {
     Decimal(u64),
     /// A number in hexadecimal behind `0x`, as `{:#x}` writes it.
     Hex(u64),
+    /// A number in hexadecimal, as `{:x}` writes it.
+    Digits(u64),
+    /// A signed number in decimal, as `{}` writes it.
+    Signed(i32),
+    /// A number in decimal behind blanks, which fill it up to a width.
+    Right(u64, usize),
+    /// Words of ASCII with blanks behind them, which fill them up to a width.
+    Left(&'a str, usize),
+    /// A number in decimal that may be absent, which is `(invalid)` then.
+    Optional(Option<u32>),
+    /// A number in hexadecimal, as `{:x}` writes it, that may be absent.
+    OptionalDigits(Option<u32>),
 }
 
 /// The texts of the pieces, one after another.
@@ -33,17 +45,54 @@ pub fn push_pieces(out: &mut String, pieces: &[Piece<'_>]) -> Result<(), AllocEr
     for piece in pieces {
         match *piece {
             Piece::Words(words) => out.push_str(words)?,
-            Piece::Decimal(n) => {
-                let mut buffer = Buffer::new();
-                out.push_str(buffer.format(n))?
-            }
+            Piece::Decimal(n) => push_decimal(out, n)?,
             Piece::Hex(n) => {
                 out.push_str("0x")?;
                 push_hex(out, n)?
             }
+            Piece::Digits(n) => push_hex(out, n)?,
+            Piece::Signed(n) => {
+                let mut buffer = Buffer::new();
+                out.push_str(buffer.format(n))?
+            }
+            Piece::Right(n, width) => push_right(out, n, width)?,
+            Piece::Left(words, width) => {
+                out.push_str(words)?;
+                push_blanks(out, width.saturating_sub(words.len()))?
+            }
+            Piece::Optional(Some(n)) => push_decimal(out, n as u64)?,
+            Piece::OptionalDigits(Some(n)) => push_hex(out, n as u64)?,
+            Piece::Optional(None) | Piece::OptionalDigits(None) => out.push_str("(invalid)")?,
         }
     }
     Ok(())
+}
+
+// Appends a number in decimal behind the blanks that fill it up to a width.
+fn push_right(out: &mut String, n: u64, width: usize) -> Result<(), AllocError>
+    ensures { OnOk result (string_bytes out.new ≡ string_bytes out.old ++ right width (decimal n)) }
+{
+    let mut buffer = Buffer::new();
+    let digits = buffer.format(n);
+    push_blanks(out, width.saturating_sub(digits.len()))?;
+    out.push_str(digits)
+}
+
+fn push_blanks(out: &mut String, count: usize) -> Result<(), AllocError>
+    ensures { OnOk result (string_bytes out.new ≡ string_bytes out.old ++ replicate count 32) }
+{
+    for _ in 0..count {
+        out.push(' ')?;
+    }
+    Ok(())
+}
+
+// Appends the digits of a number in decimal.
+fn push_decimal(out: &mut String, n: u64) -> Result<(), AllocError>
+    ensures { OnOk result (string_bytes out.new ≡ string_bytes out.old ++ decimal n) }
+{
+    let mut buffer = Buffer::new();
+    out.push_str(buffer.format(n))
 }
 
 /// Appends the digits of a number in lower-case hexadecimal, as `{:x}` does.

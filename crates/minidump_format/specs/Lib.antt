@@ -5,3 +5,7 @@ pub mod Header
 pub mod StreamType
 pub mod Vendor
 pub mod Printing
+pub mod System
+pub mod Misc
+pub mod Flags
+pub mod Xstate

@@ -1,4 +1,4 @@
-use Rattle.std.proofs.Common.{arith, ◌≡◌, ◌∷◌, ◌++◌, [], ◌+◌, ◌*◌, ◌^◌, ◌<◌, refl, rules}
+use Rattle.std.proofs.Common.{arith, ◌≡◌, ◌^◌, ◌<◌, rules}
 use Rattle.std.proofs.lemmas.Grind.{common_steps}
 use Rattle.minidump_bytes.specs.Source.{bytes_of}
 use Rattle.minidump_bytes.specs.Entries.{entry, entries, entries-more, entries-none, length-entries}

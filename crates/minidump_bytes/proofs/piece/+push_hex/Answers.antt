@@ -1,5 +1,4 @@
-use Rattle.std.proofs.Common.{rules, ◌≡◌, ◌++◌, ◌<◌, ◌∷◌, [], OnOk, string_bytes, false, ℕ, ◌+◌, ◌-◌, ◌*◌, ◌≤◌, length, ◌/◌, ◌%◌, Bool, true, List, arith, append_assoc, sym}
-use Rattle.std.specs.Fmt.{digits, digit_glyph}
+use Rattle.std.proofs.Common.{arith, append_assoc}
 use Rattle.minidump_bytes.proofs.HexLemmas.{hex_step}
 use Rattle.minidump_bytes.proofs.piece.+push_hex.Goals as goal
 

@@ -1,5 +1,3 @@
-use Rattle.std.proofs.Common.{◌≡◌, ◌++◌, ◌<◌, ◌∷◌, [], OnOk, string_bytes, false, ℕ, ◌+◌, ◌-◌, ◌*◌, ◌≤◌, length}
-use Rattle.std.specs.Fmt.{digits, digit_glyph}
 use Rattle.minidump_bytes.proofs.piece.+push_hex.Given as goal
 
 abbrev pub decreases-push_hex : goal.decreases-push_hex

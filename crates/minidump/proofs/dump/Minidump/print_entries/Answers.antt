@@ -1,8 +1,5 @@
-use Rattle.std.specs.List.{flat_map}
 use Rattle.minidump_format.specs.Printing.{prints_exit, but_first, but_next, but_exit, but_none}
 use Rattle.minidump.specs.Text.{entry_text, header_text}
-use Rattle.minidump.specs.Dump.{streams_of}
-use Rattle.minidump.specs.Seen.{dump_of}
 use Rattle.minidump.proofs.dump.Minidump.print_entries.Goals as goal
 
 pub returns-in_err-put_made : goal.returns-in_err-put_made

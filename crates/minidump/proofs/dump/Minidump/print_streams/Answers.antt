@@ -1,4 +1,3 @@
-use Rattle.std.specs.List.{flat_map}
 use Rattle.std.proofs.Common.{append_assoc}
 use Rattle.minidump_format.specs.Printing.{prints_exit, but_first, but_next, but_exit, but_last}
 use Rattle.minidump.specs.Text.{stream_text}

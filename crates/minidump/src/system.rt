@@ -1,0 +1,47 @@
+ghost use Rattle.std.specs.Prelude.{◌≡◌, ◌+◌, ◌≤◌, ◌<◌, IfOk, IfErr};
+ghost use Rattle.std.specs.Option.{option_map};
+ghost use Rattle.minidump_bytes.specs.Source.{bytes_of};
+ghost use Rattle.minidump_system.specs.SystemInfo.{system_of};
+ghost use Rattle.minidump.specs.Deciding.{Decides};
+ghost use Rattle.minidump.specs.Directory.{directory};
+ghost use Rattle.minidump.specs.Dump.{system_info_of};
+
+use crate::directory::DecidingEntry;
+use minidump_bytes::{Endian, Source, Steps};
+use minidump_format::Error;
+use minidump_format::format::MINIDUMP_HEADER;
+use minidump_system::{MinidumpStream, MinidumpSystemInfo};
+use std::alloc::Global;
+use std::collections::BTreeMap;
+
+// The system information, where its stream is one. A refusal other than want of memory leaves it absent.
+pub(crate) fn read_system_info(
+    alloc: Global,
+    source: Source<'_>,
+    endian: Endian,
+    header: &MINIDUMP_HEADER,
+    entries: &BTreeMap<u32, DecidingEntry>,
+    steps: &mut Steps,
+) -> Result<Option<MinidumpSystemInfo>, Error>
+    requires { Decides entries.now (directory endian header.now (bytes_of source)) }
+    ensures value { IfOk result (λ s. option_map system_of s
+        ≡ system_info_of (record { file = bytes_of source.entry; order = endian; header = header.now })) }
+    ensures memory { IfErr result (λ e. (e ≡ Error.OutOfMemory) × (0 < header.now.stream_count)) }
+    ensures within { steps.new ≤ steps.old + 8 }
+    ensures grows { steps.old ≤ steps.new }
+{
+    let Some(deciding) = entries.get(&MinidumpSystemInfo::STREAM_TYPE) else {
+        return Ok(None);
+    };
+    let location = deciding.entry.location;
+    let Some(bytes) = source.span(location.rva as u64, location.data_size as u64, steps) else {
+        return Ok(None);
+    };
+    match MinidumpSystemInfo::read(alloc, Source::new(bytes), source, endian, None, steps) {
+        Ok(system) => Ok(Some(system)),
+        Err(error) => match error {
+            Error::OutOfMemory => Err(Error::OutOfMemory),
+            _ => Ok(None),
+        },
+    }
+}

@@ -1,0 +1,303 @@
+use crate::format::MINIDUMP_SYSTEM_INFO;
+use crate::system_info::{Cpu, Os};
+use crate::{Endian, Error, Minidump, MinidumpMiscInfo, MinidumpSystemInfo, Steps, Told};
+use minidump_synth::{Section, SynthMinidump, zeroed};
+use std::alloc::Global;
+use std::test::Fail;
+
+const SYSTEM_INFO: u32 = 7;
+
+const MISC_INFO: u32 = 15;
+
+const SYSTEM_TEXT: &str = "MINIDUMP_SYSTEM_INFO
+  processor_architecture                     = 0x9
+  processor_level                            = 6
+  processor_revision                         = 0xd08
+  number_of_processors                       = 4
+  product_type                               = 1
+  major_version                              = 10
+  minor_version                              = 0
+  build_number                               = 19041
+  platform_id                                = 0x2
+  csd_version_rva                            = 0x20
+  suite_mask                                 = 0x100
+  (version)                                  = 10.0.19041 Service Pack 1
+  (cpu_info)                                 = family 6 model 13 stepping 8
+
+";
+
+const MISC_TEXT: &str = "MINIDUMP_MISC_INFO
+  size_of_info                 = 1364
+  flags1                       = 3f7
+  process_id                   = 1234
+  process_create_time          = 0xb1054d2a 2064-02-11T00:17:46Z
+  process_user_time            = 10
+  process_kernel_time          = 20
+  processor_max_mhz            = 3000
+  processor_current_mhz        = 2000
+  processor_mhz_limit          = 2900
+  processor_max_idle_state     = 3
+  processor_current_idle_state = 1
+  process_integrity_level      = 8192
+  process_execute_flags        = 4d
+  protected_process            = 0
+  time_zone_id                 = 2
+  time_zone                    =\u{20}
+    bias          = -60
+    standard_name = Central
+    standard_date = 0000-11-01T02:33:51.123Z
+    standard_bias = 0
+    daylight_name = (invalid)
+    daylight_date = <invalid date>
+    daylight_bias = -61
+  build_string                 = 10.0
+  dbg_bld_str                  =\u{20}
+  xstate_data                  =\u{20}
+    feature  0 - LEGACY_FLOATING_POINT :  offset    0, size  160
+    feature 39 - (unknown)           :  offset  320, size 1100
+  process_cookie               = 4660
+
+";
+
+const SHORT_MISC_TEXT: &str = "MINIDUMP_MISC_INFO
+  size_of_info                 = 0
+  flags1                       = 1
+  process_id                   = 77
+  process_create_time          = (invalid)
+  process_user_time            = (invalid)
+  process_kernel_time          = (invalid)
+  processor_max_mhz            = (invalid)
+  processor_current_mhz        = (invalid)
+  processor_mhz_limit          = (invalid)
+  processor_max_idle_state     = (invalid)
+  processor_current_idle_state = (invalid)
+  process_integrity_level      = (invalid)
+  process_execute_flags        = (invalid)
+  protected_process            = (invalid)
+  time_zone_id                 = (invalid)
+  time_zone                    = (invalid)
+  build_string                 = (invalid)
+  dbg_bld_str                  = (invalid)
+  xstate_data                  = (invalid)
+  process_cookie               = (invalid)
+
+";
+
+const BOTH: [Endian; 2] = [Endian::Little, Endian::Big];
+
+fn windows() -> MINIDUMP_SYSTEM_INFO {
+    MINIDUMP_SYSTEM_INFO {
+        processor_architecture: 9,
+        processor_level: 6,
+        processor_revision: 0x0d08,
+        number_of_processors: 4,
+        product_type: 1,
+        major_version: 10,
+        minor_version: 0,
+        build_number: 19041,
+        platform_id: 2,
+        suite_mask: 0x100,
+        ..zeroed()
+    }
+}
+
+// A dump with a system information and its service pack.
+fn system_dump(alloc: Global, endian: Endian, csd: &str) -> Result<Vec<u8>, Fail> {
+    let mut dump = SynthMinidump::new(alloc, endian);
+    let csd_version_rva = dump.add_text16(csd);
+    let raw = MINIDUMP_SYSTEM_INFO {
+        csd_version_rva,
+        ..windows()
+    };
+    dump.add_stream(SYSTEM_INFO, &raw);
+    Ok(dump.finish()?)
+}
+
+#[test]
+fn reads_the_system_information(rt: HostRuntime) -> Result<(), Fail> {
+    let alloc = rt.alloc();
+    for endian in BOTH {
+        let bytes = system_dump(alloc, endian, "Service Pack 1")?;
+        let dump = Minidump::read(alloc, bytes.as_slice())?;
+        let mut steps = Steps::new();
+        let system: MinidumpSystemInfo = dump.get_stream_counted(alloc, &mut steps)?;
+        assert!(rt; steps.count() <= 8);
+        assert_eq!(rt; system.os, Os::Windows);
+        assert_eq!(rt; system.cpu, Cpu::X86_64);
+        assert_eq!(rt; system.raw.build_number, 19041);
+        assert_eq!(rt; system.csd_version(), Some("Service Pack 1"));
+        assert_eq!(rt; system.cpu_info(), Some("family 6 model 13 stepping 8"));
+        let copy = system.try_clone(alloc)?;
+        assert_eq!(rt; copy.raw, system.raw);
+        assert_eq!(rt; copy.csd_version(), Some("Service Pack 1"));
+        let (version, build) = copy.os_parts(alloc)?;
+        assert_eq!(rt; version.as_str(), "10.0.19041");
+        assert_eq!(rt; build.as_ref().map(|t| t.as_str()), Some("Service Pack 1"));
+        let mut f = Told::new(Vec::new(alloc));
+        system.print(alloc, &mut f)?;
+        assert_eq!(rt; f.into_device().as_slice(), SYSTEM_TEXT.as_bytes());
+    }
+    Ok(())
+}
+
+// The length read at the beginning of the file is the signature, which is odd.
+#[test]
+fn has_no_service_pack_at_the_beginning(rt: HostRuntime) -> Result<(), Fail> {
+    let alloc = rt.alloc();
+    let mut dump = SynthMinidump::new(alloc, Endian::Little);
+    dump.add_stream(SYSTEM_INFO, &windows());
+    let bytes = dump.finish()?;
+    let dump = Minidump::read(alloc, bytes.as_slice())?;
+    let system: MinidumpSystemInfo = dump.get_stream(alloc)?;
+    assert_eq!(rt; system.csd_version(), None);
+    assert_eq!(rt; system.os_parts(alloc)?.1.is_none(), true);
+    Ok(())
+}
+
+#[test]
+fn keeps_a_dump_whose_system_is_refused(rt: HostRuntime) -> Result<(), Fail> {
+    let alloc = rt.alloc();
+    let mut dump = SynthMinidump::new(alloc, Endian::Little);
+    dump.add_stream(SYSTEM_INFO, &[0u8; 55]);
+    let bytes = dump.finish()?;
+    let dump = Minidump::read(alloc, bytes.as_slice())?;
+    let system: Result<MinidumpSystemInfo, Error> = dump.get_stream(alloc);
+    assert_eq!(rt; system.err(), Some(Error::StreamReadFailure));
+    let misc: Result<MinidumpMiscInfo, Error> = dump.get_stream(alloc);
+    assert_eq!(rt; misc.err(), Some(Error::StreamNotFound));
+    Ok(())
+}
+
+// All layouts begin alike: zeros behind the flags and the process.
+fn misc_dump(alloc: Global, length: usize, flags1: u32) -> Result<Vec<u8>, Fail> {
+    let mut dump = SynthMinidump::new(alloc, Endian::Little);
+    let mut misc = dump.section();
+    misc.u32(0).u32(flags1).u32(77).zeros(length);
+    let whole = misc.finish()?;
+    add_misc(&mut dump, whole.as_slice(), length);
+    Ok(dump.finish()?)
+}
+
+fn add_misc(dump: &mut SynthMinidump, whole: &[u8], length: usize) {
+    if length <= whole.len() {
+        dump.add_stream(MISC_INFO, &&whole[..length]);
+    }
+}
+
+#[test]
+fn chooses_the_layout_by_the_length(rt: HostRuntime) -> Result<(), Fail> {
+    let alloc = rt.alloc();
+    for (length, mhz, integrity, build, cookie) in [
+        (24, false, false, false, false),
+        (43, false, false, false, false),
+        (44, true, false, false, false),
+        (231, true, false, false, false),
+        (232, true, true, false, false),
+        (831, true, true, false, false),
+        (832, true, true, true, false),
+        (1363, true, true, true, false),
+        (1364, true, true, true, true),
+        (2000, true, true, true, true),
+    ] {
+        let bytes = misc_dump(alloc, length, 0xffff_ffff)?;
+        let dump = Minidump::read(alloc, bytes.as_slice())?;
+        let mut steps = Steps::new();
+        let misc: MinidumpMiscInfo = dump.get_stream_counted(alloc, &mut steps)?;
+        assert!(rt; steps.count() <= bytes.len() as u128 + 8);
+        let raw = &misc.raw;
+        assert_eq!(rt; raw.process_id().copied(), Some(77));
+        assert_eq!(rt; raw.processor_max_mhz().is_some(), mhz, "at {length}");
+        assert_eq!(rt;
+            raw.process_integrity_level().is_some(),
+            integrity,
+            "at {length}"
+        );
+        assert_eq!(rt; raw.build_string().is_some(), build, "at {length}");
+        assert_eq!(rt; raw.process_cookie().is_some(), cookie, "at {length}");
+    }
+    let bytes = misc_dump(alloc, 23, 1)?;
+    let dump = Minidump::read(alloc, bytes.as_slice())?;
+    let misc: Result<MinidumpMiscInfo, Error> = dump.get_stream(alloc);
+    assert_eq!(rt; misc.err(), Some(Error::StreamReadFailure));
+    Ok(())
+}
+
+#[test]
+fn shows_absent_fields(rt: HostRuntime) -> Result<(), Fail> {
+    let alloc = rt.alloc();
+    let bytes = misc_dump(alloc, 24, 1)?;
+    let dump = Minidump::read(alloc, bytes.as_slice())?;
+    let misc: MinidumpMiscInfo = dump.get_stream(alloc)?;
+    assert_eq!(rt; misc.raw.process_id().copied(), Some(77));
+    assert_eq!(rt; misc.process_create_time(), None);
+    assert!(rt; misc.raw.processor_max_mhz().is_none());
+    let mut f = Told::new(Vec::new(alloc));
+    misc.print(alloc, &mut f)?;
+    assert_eq!(rt; f.into_device().as_slice(), SHORT_MISC_TEXT.as_bytes());
+    Ok(())
+}
+
+fn add_time_zone(misc: &mut Section) {
+    misc.i32(-60).units16("Central", 32);
+    for part in [0, 11, 0, 1, 2, 33, 51, 123] {
+        misc.u16(part);
+    }
+    misc.i32(0).u16(0xd800).zeros(62);
+    for part in [2024, 257, 0, 1, 0, 0, 0, 0] {
+        misc.u16(part);
+    }
+    misc.i32(-61);
+}
+
+fn add_xstate(misc: &mut Section) {
+    misc.u32(528).u32(0).u64(1 | 1 << 39);
+    for index in 0..64 {
+        match index {
+            0 => misc.u32(0).u32(160),
+            39 => misc.u32(320).u32(1100),
+            _ => misc.u32(1).u32(1),
+        };
+    }
+}
+
+#[test]
+fn prints_the_misc_information(rt: HostRuntime) -> Result<(), Fail> {
+    let alloc = rt.alloc();
+    for endian in BOTH {
+        let mut dump = SynthMinidump::new(alloc, endian);
+        let mut misc = dump.section();
+        for field in [
+            1364,
+            0x3f7,
+            1234,
+            0xb105_4d2a,
+            10,
+            20,
+            3000,
+            2000,
+            2900,
+            3,
+            1,
+            8192,
+            0x4d,
+            0,
+            2,
+        ] {
+            misc.u32(field);
+        }
+        add_time_zone(&mut misc);
+        misc.units16("10.0", 260).units16("", 40);
+        add_xstate(&mut misc);
+        misc.u32(4660);
+        dump.add_stream(MISC_INFO, &misc);
+        let bytes = dump.finish()?;
+        let dump = Minidump::read(alloc, bytes.as_slice())?;
+        let misc: MinidumpMiscInfo = dump.get_stream(alloc)?;
+        assert_eq!(rt; misc.process_create_time(), Some(0xb105_4d2a));
+        let mut f = Told::new(Vec::new(alloc));
+        misc.print(alloc, &mut f)?;
+        let text = String::from_utf8(f.into_device()).map_err(|_| "no text")?;
+        assert_eq!(rt; text.as_str(), MISC_TEXT);
+    }
+    Ok(())
+}

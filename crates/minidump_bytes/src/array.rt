@@ -1,0 +1,37 @@
+ghost use Rattle.std.specs.Prelude.{◌≡◌, ◌+◌, ◌*◌, ◌≤◌, ◌<◌, length};
+ghost use Rattle.minidump_bytes.specs.Entries.{entry, entries};
+
+use crate::{Endian, Record};
+
+/// Records that stand one after another from a place on.
+pub fn array_at<R: Record + Copy, const N: usize>(
+    bytes: &[u8],
+    place: usize,
+    endian: Endian,
+) -> [R; N]
+    requires some { 0 < N }
+    requires whole { place + R.SIZE * N ≤ length bytes.now }
+    ensures { result ≡ entries R.SIZE (R.value endian) bytes.now place N }
+{
+    let mut all = [record_in(bytes, place, endian, N, 0); N];
+    for i in 1..N {
+        all[i] = record_in(bytes, place, endian, N, i);
+    }
+    all
+}
+
+// The record of an index, of so many that stand one after another from a start on.
+pub(crate) fn record_in<R: Record>(
+    bytes: &[u8],
+    start: usize,
+    endian: Endian,
+    count: usize,
+    i: usize,
+) -> R
+    requires index { i < count }
+    requires whole { start + R.SIZE * count ≤ length bytes.now }
+    ensures { result ≡ entry R.SIZE (R.value endian) bytes.now start i }
+{
+    let place = start + R::SIZE * i;
+    R::decode(&bytes[place..place + R::SIZE], endian)
+}

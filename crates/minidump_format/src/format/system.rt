@@ -1,0 +1,179 @@
+ghost use Rattle.std.specs.Prelude.{◌≡◌};
+ghost use Rattle.minidump_format.specs.System.{architecture_of, platform_of};
+
+use super::RVA;
+use minidump_bytes::{Endian, Record, array_at};
+
+/// The system that a dump was written on: Microsoft's `MINIDUMP_SYSTEM_INFO`.
+#[derive(Clone, Copy, Debug, PartialEq, Eq)]
+pub struct MINIDUMP_SYSTEM_INFO {
+    /// A [`ProcessorArchitecture`], as a number.
+    pub processor_architecture: u16,
+    pub processor_level: u16,
+    pub processor_revision: u16,
+    pub number_of_processors: u8,
+    pub product_type: u8,
+    pub major_version: u32,
+    pub minor_version: u32,
+    pub build_number: u32,
+    /// A [`PlatformId`], as a number.
+    pub platform_id: u32,
+    /// Where the text of the service pack begins.
+    pub csd_version_rva: RVA,
+    pub suite_mask: u16,
+    pub reserved: u16,
+    /// What the processor says of itself: [`X86CpuInfo`] or [`ARMCpuInfo`], by the architecture.
+    pub cpu: [u8; 24],
+}
+
+impl Record for MINIDUMP_SYSTEM_INFO {
+    ghost use Rattle.minidump_format.specs.System.{system_info};
+
+    ghost SIZE = { 56 };
+
+    const SIZE: usize = 56;
+
+    ghost value = { system_info };
+
+    fn decode(bytes: &[u8], endian: Endian) -> Self {
+        MINIDUMP_SYSTEM_INFO {
+            processor_architecture: endian.u16_at(bytes, 0),
+            processor_level: endian.u16_at(bytes, 2),
+            processor_revision: endian.u16_at(bytes, 4),
+            number_of_processors: bytes[6],
+            product_type: bytes[7],
+            major_version: endian.u32_at(bytes, 8),
+            minor_version: endian.u32_at(bytes, 12),
+            build_number: endian.u32_at(bytes, 16),
+            platform_id: endian.u32_at(bytes, 20),
+            csd_version_rva: endian.u32_at(bytes, 24),
+            suite_mask: endian.u16_at(bytes, 28),
+            reserved: endian.u16_at(bytes, 30),
+            cpu: array_at(bytes, 32, endian),
+        }
+    }
+}
+
+/// What an x86 processor says of itself, at the beginning of the CPU bytes.
+#[derive(Clone, Copy, Debug, PartialEq, Eq)]
+pub struct X86CpuInfo {
+    /// The twelve characters of the vendor, the lowest byte of each number first.
+    pub vendor_id: [u32; 3],
+    pub unused1: [u32; 3],
+}
+
+impl Record for X86CpuInfo {
+    ghost use Rattle.minidump_format.specs.System.{x86_cpu_info};
+
+    ghost SIZE = { 24 };
+
+    const SIZE: usize = 24;
+
+    ghost value = { x86_cpu_info };
+
+    fn decode(bytes: &[u8], endian: Endian) -> Self {
+        X86CpuInfo {
+            vendor_id: array_at(bytes, 0, endian),
+            unused1: array_at(bytes, 12, endian),
+        }
+    }
+}
+
+/// What an ARM processor says of itself, at the beginning of the CPU bytes.
+#[derive(Clone, Copy, Debug, PartialEq, Eq)]
+pub struct ARMCpuInfo {
+    pub cpuid: u32,
+    /// The features that the kernel reported.
+    pub elf_hwcaps: u32,
+}
+
+impl Record for ARMCpuInfo {
+    ghost use Rattle.minidump_format.specs.System.{arm_cpu_info};
+
+    ghost SIZE = { 8 };
+
+    const SIZE: usize = 8;
+
+    ghost value = { arm_cpu_info };
+
+    fn decode(bytes: &[u8], endian: Endian) -> Self {
+        ARMCpuInfo {
+            cpuid: endian.u32_at(bytes, 0),
+            elf_hwcaps: endian.u32_at(bytes, 4),
+        }
+    }
+}
+
+/// The architectures of processors that have a name: Microsoft's, with Breakpad's extensions.
+#[allow(non_camel_case_types)]
+#[derive(Clone, Copy, Debug, PartialEq, Eq)]
+pub enum ProcessorArchitecture {
+    PROCESSOR_ARCHITECTURE_INTEL = 0,
+    PROCESSOR_ARCHITECTURE_MIPS = 1,
+    PROCESSOR_ARCHITECTURE_PPC = 3,
+    PROCESSOR_ARCHITECTURE_ARM = 5,
+    PROCESSOR_ARCHITECTURE_AMD64 = 9,
+    PROCESSOR_ARCHITECTURE_IA32_ON_WIN64 = 10,
+    PROCESSOR_ARCHITECTURE_ARM64 = 12,
+    PROCESSOR_ARCHITECTURE_SPARC = 0x8001,
+    PROCESSOR_ARCHITECTURE_PPC64 = 0x8002,
+    PROCESSOR_ARCHITECTURE_ARM64_OLD = 0x8003,
+    PROCESSOR_ARCHITECTURE_MIPS64 = 0x8004,
+}
+
+impl ProcessorArchitecture {
+    /// The architecture of a number, or `None` where none has it.
+    pub fn from_u16(n: u16) -> Option<ProcessorArchitecture>
+        ensures { result ≡ architecture_of n }
+    {
+        Some(match n {
+            0 => ProcessorArchitecture::PROCESSOR_ARCHITECTURE_INTEL,
+            1 => ProcessorArchitecture::PROCESSOR_ARCHITECTURE_MIPS,
+            3 => ProcessorArchitecture::PROCESSOR_ARCHITECTURE_PPC,
+            5 => ProcessorArchitecture::PROCESSOR_ARCHITECTURE_ARM,
+            9 => ProcessorArchitecture::PROCESSOR_ARCHITECTURE_AMD64,
+            10 => ProcessorArchitecture::PROCESSOR_ARCHITECTURE_IA32_ON_WIN64,
+            12 => ProcessorArchitecture::PROCESSOR_ARCHITECTURE_ARM64,
+            0x8001 => ProcessorArchitecture::PROCESSOR_ARCHITECTURE_SPARC,
+            0x8002 => ProcessorArchitecture::PROCESSOR_ARCHITECTURE_PPC64,
+            0x8003 => ProcessorArchitecture::PROCESSOR_ARCHITECTURE_ARM64_OLD,
+            0x8004 => ProcessorArchitecture::PROCESSOR_ARCHITECTURE_MIPS64,
+            _ => return None,
+        })
+    }
+}
+
+/// The operating systems that have a name: Microsoft's, with Breakpad's extensions.
+#[allow(non_camel_case_types)]
+#[derive(Clone, Copy, Debug, PartialEq, Eq)]
+pub enum PlatformId {
+    VER_PLATFORM_WIN32_WINDOWS = 1,
+    VER_PLATFORM_WIN32_NT = 2,
+    MacOs = 0x8101,
+    Ios = 0x8102,
+    Linux = 0x8201,
+    Solaris = 0x8202,
+    Android = 0x8203,
+    Ps3 = 0x8204,
+    NaCl = 0x8205,
+}
+
+impl PlatformId {
+    /// The system of a number, or `None` where none has it.
+    pub fn from_u32(n: u32) -> Option<PlatformId>
+        ensures { result ≡ platform_of n }
+    {
+        Some(match n {
+            1 => PlatformId::VER_PLATFORM_WIN32_WINDOWS,
+            2 => PlatformId::VER_PLATFORM_WIN32_NT,
+            0x8101 => PlatformId::MacOs,
+            0x8102 => PlatformId::Ios,
+            0x8201 => PlatformId::Linux,
+            0x8202 => PlatformId::Solaris,
+            0x8203 => PlatformId::Android,
+            0x8204 => PlatformId::Ps3,
+            0x8205 => PlatformId::NaCl,
+            _ => return None,
+        })
+    }
+}

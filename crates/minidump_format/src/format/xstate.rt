@@ -1,0 +1,100 @@
+ghost use Rattle.std.specs.Prelude.{◌≡◌};
+ghost use Rattle.std.specs.Iterator.{YieldsFirst, item_count};
+ghost use Rattle.minidump_format.specs.Xstate.{xstate_features, features_left, feature_of, index_name};
+
+use super::{XSTATE_CONFIG_FEATURE_MSC_INFO, XSTATE_FEATURE};
+
+impl XSTATE_CONFIG_FEATURE_MSC_INFO {
+    /// The enabled features, each with its index, ascending.
+    pub fn iter(&self) -> XstateFeatures<'_>
+        ensures { features_left result ≡ xstate_features self.now }
+    {
+        XstateFeatures {
+            config: self,
+            index: 0,
+        }
+    }
+}
+
+/// The enabled features of an [`XSTATE_CONFIG_FEATURE_MSC_INFO`], each with its index, ascending.
+#[derive(Drop)]
+pub struct XstateFeatures<'a> {
+    config: &'a XSTATE_CONFIG_FEATURE_MSC_INFO,
+    /// The first index that has not been looked at.
+    index: usize,
+}
+
+impl<'a> Iterator for XstateFeatures<'a> {
+    type Item = (usize, XSTATE_FEATURE);
+
+    ghost next_gives = { YieldsFirst features_left };
+
+    ghost remaining = { item_count features_left };
+
+    fn next(&mut self) -> Option<(usize, XSTATE_FEATURE)> {
+        let features: &[XSTATE_FEATURE] = &self.config.features;
+        while self.index < features.len() {
+            let index = self.index;
+            self.index += 1;
+            if (self.config.enabled_features >> index) & 1 == 1 {
+                return Some((index, features[index]));
+            }
+        }
+        None
+    }
+}
+
+/// The features of a processor's extended state that have a name: Microsoft's `XSTATE_` numbers.
+#[allow(non_camel_case_types)]
+#[derive(Clone, Copy, Debug, PartialEq, Eq)]
+pub enum XstateFeatureIndex {
+    LEGACY_FLOATING_POINT = 0,
+    LEGACY_SSE = 1,
+    GSSE = 2,
+    MPX_BNDREGS = 3,
+    MPX_BNDCSR = 4,
+    AVX512_KMASK = 5,
+    AVX512_ZMM_H = 6,
+    AVX512_ZMM = 7,
+    XSTATE_IPT = 8,
+    LWP = 62,
+}
+
+impl XstateFeatureIndex {
+    /// The feature of an index, or `None` where none has it.
+    pub fn from_index(index: usize) -> Option<XstateFeatureIndex>
+        ensures { result ≡ feature_of index }
+    {
+        Some(match index {
+            0 => XstateFeatureIndex::LEGACY_FLOATING_POINT,
+            1 => XstateFeatureIndex::LEGACY_SSE,
+            2 => XstateFeatureIndex::GSSE,
+            3 => XstateFeatureIndex::MPX_BNDREGS,
+            4 => XstateFeatureIndex::MPX_BNDCSR,
+            5 => XstateFeatureIndex::AVX512_KMASK,
+            6 => XstateFeatureIndex::AVX512_ZMM_H,
+            7 => XstateFeatureIndex::AVX512_ZMM,
+            8 => XstateFeatureIndex::XSTATE_IPT,
+            62 => XstateFeatureIndex::LWP,
+            _ => return None,
+        })
+    }
+
+    /// Its name.
+    pub fn name(self) -> &'static str
+        ensures { result.now ≡ index_name self }
+    {
+        match self {
+            XstateFeatureIndex::LEGACY_FLOATING_POINT => "LEGACY_FLOATING_POINT",
+            XstateFeatureIndex::LEGACY_SSE => "LEGACY_SSE",
+            XstateFeatureIndex::GSSE => "GSSE",
+            XstateFeatureIndex::MPX_BNDREGS => "MPX_BNDREGS",
+            XstateFeatureIndex::MPX_BNDCSR => "MPX_BNDCSR",
+            XstateFeatureIndex::AVX512_KMASK => "AVX512_KMASK",
+            XstateFeatureIndex::AVX512_ZMM_H => "AVX512_ZMM_H",
+            XstateFeatureIndex::AVX512_ZMM => "AVX512_ZMM",
+            XstateFeatureIndex::XSTATE_IPT => "XSTATE_IPT",
+            XstateFeatureIndex::LWP => "LWP",
+        }
+    }
+}

@@ -1,0 +1,162 @@
+ghost use Rattle.std.specs.Prelude.{Some, []};
+
+use std::io;
+use std::io::{ErrorKind, Read, Write};
+
+/// A device that moves one byte a call.
+#[derive(Drop)]
+pub struct OneByte<D> {
+    pub inner: D,
+}
+
+impl<D> OneByte<D> {
+    pub fn new(inner: D) -> OneByte<D> {
+        OneByte { inner }
+    }
+}
+
+impl<W: Write> Write for OneByte<W> {
+    ghost contents = { λ d. W.contents d.inner };
+
+    fn write(&mut self, buf: &[u8]) -> io::Result<usize> {
+        if buf.is_empty() {
+            return Ok(0);
+        }
+        self.inner.write(&buf[..1])
+    }
+
+    fn flush(&mut self) -> io::Result<()> {
+        self.inner.flush()
+    }
+}
+
+impl<R: Read> Read for OneByte<R> {
+    ghost remaining = { λ d. R.remaining d.inner };
+
+    fn read(&mut self, buf: &mut [u8]) -> io::Result<usize> {
+        if buf.is_empty() {
+            return Ok(0);
+        }
+        self.inner.read(&mut buf[..1])
+    }
+}
+
+/// A device whose calls fail from one on: call number `at`, counted from 0, and every later one.
+#[derive(Drop)]
+pub struct FailsAt<D> {
+    pub inner: D,
+    pub at: usize,
+    /// How many calls were made, the failed ones too.
+    pub calls: usize,
+}
+
+impl<D> FailsAt<D> {
+    /// So many calls are answered, and then none.
+    pub fn new(inner: D, at: usize) -> FailsAt<D> {
+        FailsAt {
+            inner,
+            at,
+            calls: 0,
+        }
+    }
+}
+
+impl<W: Write> Write for FailsAt<W> {
+    ghost contents = { λ d. W.contents d.inner };
+
+    fn write(&mut self, buf: &[u8]) -> io::Result<usize> {
+        if counted(&mut self.calls) >= self.at {
+            return Err(refusal());
+        }
+        self.inner.write(buf)
+    }
+
+    fn flush(&mut self) -> io::Result<()> {
+        self.inner.flush()
+    }
+}
+
+impl<R: Read> Read for FailsAt<R> {
+    ghost remaining = { λ d. R.remaining d.inner };
+
+    fn read(&mut self, buf: &mut [u8]) -> io::Result<usize> {
+        if counted(&mut self.calls) >= self.at {
+            return Err(refusal());
+        }
+        self.inner.read(buf)
+    }
+}
+
+/// A writer that takes nothing from a call on: to call number `at`, counted from 0, and every later
+/// one it answers that it took no bytes.
+#[derive(Drop)]
+pub struct TakesNone<D> {
+    pub inner: D,
+    pub at: usize,
+    /// How many calls were made, those that took nothing too.
+    pub calls: usize,
+}
+
+impl<D> TakesNone<D> {
+    /// So many calls are answered by the device, and then none.
+    pub fn new(inner: D, at: usize) -> TakesNone<D> {
+        TakesNone {
+            inner,
+            at,
+            calls: 0,
+        }
+    }
+}
+
+impl<W: Write> Write for TakesNone<W> {
+    ghost contents = { λ d. W.contents d.inner };
+
+    fn write(&mut self, buf: &[u8]) -> io::Result<usize> {
+        if counted(&mut self.calls) < self.at {
+            self.inner.write(buf)
+        } else {
+            Ok(0)
+        }
+    }
+
+    fn flush(&mut self) -> io::Result<()> {
+        self.inner.flush()
+    }
+}
+
+/// A writer all of whose calls fail.
+#[derive(Drop)]
+pub struct Full {
+    /// How many calls were made.
+    pub calls: usize,
+}
+
+impl Full {
+    pub fn new() -> Full {
+        Full { calls: 0 }
+    }
+}
+
+impl Write for Full {
+    ghost contents = { λ _. Some [] };
+
+    fn write(&mut self, _buf: &[u8]) -> io::Result<usize> {
+        counted(&mut self.calls);
+        Err(refusal())
+    }
+
+    fn flush(&mut self) -> io::Result<()> {
+        Err(refusal())
+    }
+}
+
+// The number of a call, which is counted.
+fn counted(calls: &mut usize) -> usize {
+    let call = *calls;
+    *calls = call.saturating_add(1);
+    call
+}
+
+fn refusal() -> io::Error {
+    io::Error::from(ErrorKind::Other)
+}

@@ -1,0 +1,152 @@
+use crate::Encode;
+use minidump_bytes::Endian;
+use std::alloc::{AllocError, Global};
+
+/// Bytes that grow at their end, with the byte order of their numbers. What appends answers the section,
+/// so that calls chain. Where a growth finds no memory, only [`Section::finish`] answers so.
+#[derive(Drop)]
+pub struct Section {
+    endian: Endian,
+    bytes: Vec<u8>,
+    failed: bool,
+}
+
+impl Section {
+    /// No bytes yet.
+    pub fn new(alloc: Global, endian: Endian) -> Section {
+        Section {
+            endian,
+            bytes: Vec::new(alloc),
+            failed: false,
+        }
+    }
+
+    /// How many bytes there are.
+    pub fn len(&self) -> usize {
+        self.bytes.len()
+    }
+
+    /// The bytes, or that some growth found no memory.
+    pub fn finish(&self) -> Result<Vec<u8>, AllocError> {
+        if self.failed {
+            return Err(AllocError);
+        }
+        self.bytes.clone()
+    }
+
+    /// Appends bytes as they are.
+    pub fn bytes(&mut self, bytes: &[u8]) -> &mut Section {
+        if self.bytes.extend_from_slice(bytes).is_err() {
+            self.failed = true;
+        }
+        self
+    }
+
+    /// Appends so many zeros.
+    pub fn zeros(&mut self, count: usize) -> &mut Section {
+        for _ in 0..count {
+            self.u8(0);
+        }
+        self
+    }
+
+    /// Appends the bytes of another section, in that one's order.
+    pub fn append(&mut self, other: &Section) -> &mut Section {
+        if other.failed {
+            self.failed = true;
+        }
+        self.bytes(&other.bytes)
+    }
+
+    /// Appends a number of 8 bits.
+    pub fn u8(&mut self, n: u8) -> &mut Section {
+        self.bytes(&[n])
+    }
+
+    /// Appends a number of 16 bits.
+    pub fn u16(&mut self, n: u16) -> &mut Section {
+        match self.endian {
+            Endian::Little => self.bytes(&n.to_le_bytes()),
+            Endian::Big => self.bytes(&n.to_be_bytes()),
+        }
+    }
+
+    /// Appends a number of 32 bits.
+    pub fn u32(&mut self, n: u32) -> &mut Section {
+        match self.endian {
+            Endian::Little => self.bytes(&n.to_le_bytes()),
+            Endian::Big => self.bytes(&n.to_be_bytes()),
+        }
+    }
+
+    /// Appends a number of 64 bits.
+    pub fn u64(&mut self, n: u64) -> &mut Section {
+        match self.endian {
+            Endian::Little => self.bytes(&n.to_le_bytes()),
+            Endian::Big => self.bytes(&n.to_be_bytes()),
+        }
+    }
+
+    /// Appends a number of 128 bits.
+    pub fn u128(&mut self, n: u128) -> &mut Section {
+        match self.endian {
+            Endian::Little => self.bytes(&n.to_le_bytes()),
+            Endian::Big => self.bytes(&n.to_be_bytes()),
+        }
+    }
+
+    /// Appends a signed number of 32 bits, in two's complement.
+    pub fn i32(&mut self, n: i32) -> &mut Section {
+        self.u32(n.cast_unsigned())
+    }
+
+    /// Appends a UTF-16 text: its length in bytes as a `u32`, then its code units, with no NUL.
+    pub fn text16(&mut self, text: &str) -> &mut Section {
+        let count = text.encode_utf16().count();
+        self.u32(saturated(count.saturating_mul(2)))
+            .units16(text, count)
+    }
+
+    /// Appends an array of so many UTF-16 code units: those of the text, cut to as many, then zeros.
+    pub fn units16(&mut self, text: &str, count: usize) -> &mut Section {
+        let mut units = text.encode_utf16();
+        for _ in 0..count {
+            self.u16(units.next().unwrap_or(0));
+        }
+        self
+    }
+
+    /// Appends a UTF-8 text: its length in bytes as a `u32`, then its bytes, with no NUL.
+    pub fn text8(&mut self, text: &str) -> &mut Section {
+        self.u32(saturated(text.len())).bytes(text.as_bytes())
+    }
+
+    /// Appends the bytes of a text and a NUL.
+    pub fn cstring(&mut self, text: &str) -> &mut Section {
+        self.bytes(text.as_bytes()).u8(0)
+    }
+
+    /// Appends a record, in the order of the section.
+    pub fn record<R: Encode>(&mut self, record: &R) -> &mut Section {
+        record.encode(self);
+        self
+    }
+
+    /// Appends records, one after another.
+    pub fn records<R: Encode>(&mut self, records: &[R]) -> &mut Section {
+        for record in records {
+            record.encode(self);
+        }
+        self
+    }
+
+    /// Appends the count of the records as a `u32`, then the records.
+    pub fn list<R: Encode>(&mut self, records: &[R]) -> &mut Section {
+        self.u32(saturated(records.len())).records(records)
+    }
+}
+
+/// The number, or the greatest of 32 bits where it is greater.
+pub(crate) fn saturated(n: usize) -> u32 {
+    n.min(u32::MAX as usize) as u32
+}

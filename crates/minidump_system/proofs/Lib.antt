@@ -1,0 +1,7 @@
+pub mod DateFacts
+pub mod DateText
+pub mod MomentFacts
+pub mod MomentText
+pub mod HexLemmas
+pub mod FeatureLemmas
+pub mod OsPartsLemmas

@@ -1,0 +1,8 @@
+pub mod Dates
+pub mod Os
+pub mod Cpu
+pub mod CpuInfo
+pub mod OsParts
+pub mod SystemInfo
+pub mod MiscInfo
+pub mod MiscInfoText

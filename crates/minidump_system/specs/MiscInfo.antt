@@ -1,0 +1,210 @@
+-- The misc information: Microsoft's MINIDUMP_MISC_INFO to MINIDUMP_MISC_INFO_5. A layout has the fields of the one before
+-- it and more.
+use Rattle.std.specs.Prelude.{ℕ, List, Option, Some, None, Result, Ok, Err, if◌then◌else◌}
+use Rattle.std.specs.Option.{option_map, option_or}
+use Rattle.minidump_bytes.specs.Span.{record_at}
+use Rattle.minidump_bytes.specs.declared.endian.Endian.{Endian}
+use Rattle.minidump_format.specs.declared.error.Error.{Error}
+use Rattle.minidump_format.specs.declared.error.Error.TheVariants.{StreamReadFailure}
+use Rattle.minidump_format.specs.declared.format.misc.TIME_ZONE_INFORMATION.{TIME_ZONE_INFORMATION}
+use Rattle.minidump_format.specs.declared.format.misc.XSTATE_CONFIG_FEATURE_MSC_INFO.{XSTATE_CONFIG_FEATURE_MSC_INFO}
+use Rattle.minidump_format.specs.Flags.{has_flag}
+use Rattle.minidump_format.specs.Misc.{misc_info, misc_info_2, misc_info_3, misc_info_4, misc_info_5}
+use Rattle.minidump_system.specs.declared.misc_info.RawMiscInfo.{RawMiscInfo}
+use Rattle.minidump_system.specs.declared.misc_info.RawMiscInfo.TheVariants.{MiscInfo, MiscInfo2, MiscInfo3, MiscInfo4, MiscInfo5}
+use Rattle.minidump_system.specs.declared.misc_info.MinidumpMiscInfo.{MinidumpMiscInfo}
+
+-- each layout, where the bytes hold it whole
+unfoldable pub layout_1 : Endian → List ℕ → Option RawMiscInfo
+layout_1 order bytes = option_map MiscInfo (record_at 24 misc_info order 0 bytes)
+
+unfoldable pub layout_2 : Endian → List ℕ → Option RawMiscInfo
+layout_2 order bytes = option_map MiscInfo2 (record_at 44 misc_info_2 order 0 bytes)
+
+unfoldable pub layout_3 : Endian → List ℕ → Option RawMiscInfo
+layout_3 order bytes = option_map MiscInfo3 (record_at 232 misc_info_3 order 0 bytes)
+
+unfoldable pub layout_4 : Endian → List ℕ → Option RawMiscInfo
+layout_4 order bytes = option_map MiscInfo4 (record_at 832 misc_info_4 order 0 bytes)
+
+unfoldable pub layout_5 : Endian → List ℕ → Option RawMiscInfo
+layout_5 order bytes = option_map MiscInfo5 (record_at 1364 misc_info_5 order 0 bytes)
+
+-- the largest of them that the bytes hold, whatever size_of_info says
+abbrev pub largest_layout : Endian → List ℕ → Option RawMiscInfo
+largest_layout order bytes =
+    option_or (layout_5 order bytes) (option_or (layout_4 order bytes) (option_or (layout_3 order bytes) (option_or (layout_2 order bytes) (layout_1 order bytes))))
+
+abbrev or_refused : Option RawMiscInfo → Result RawMiscInfo Error
+or_refused (Some raw) = Ok raw
+or_refused None = Err StreamReadFailure
+
+abbrev pub misc_info_in : List ℕ → Endian → Result RawMiscInfo Error
+misc_info_in bytes order = or_refused (largest_layout order bytes)
+
+abbrev pub raw_of : MinidumpMiscInfo → RawMiscInfo
+raw_of m = m.raw
+
+-- a field, where its flag is set
+abbrev pub where_set : {X : Type 0} → ℕ → ℕ → X → Option X
+where_set flags1 flag x = if has_flag flags1 flag then Some x else None
+
+-- in every layout
+unfoldable pub size_of_info : RawMiscInfo → Option ℕ
+size_of_info (MiscInfo raw) = Some raw.size_of_info
+size_of_info (MiscInfo2 raw) = Some raw.size_of_info
+size_of_info (MiscInfo3 raw) = Some raw.size_of_info
+size_of_info (MiscInfo4 raw) = Some raw.size_of_info
+size_of_info (MiscInfo5 raw) = Some raw.size_of_info
+
+-- in every layout
+unfoldable pub flags1 : RawMiscInfo → Option ℕ
+flags1 (MiscInfo raw) = Some raw.flags1
+flags1 (MiscInfo2 raw) = Some raw.flags1
+flags1 (MiscInfo3 raw) = Some raw.flags1
+flags1 (MiscInfo4 raw) = Some raw.flags1
+flags1 (MiscInfo5 raw) = Some raw.flags1
+
+-- in every layout, with flag 0x1
+unfoldable pub process_id : RawMiscInfo → Option ℕ
+process_id (MiscInfo raw) = where_set raw.flags1 0x1 raw.process_id
+process_id (MiscInfo2 raw) = where_set raw.flags1 0x1 raw.process_id
+process_id (MiscInfo3 raw) = where_set raw.flags1 0x1 raw.process_id
+process_id (MiscInfo4 raw) = where_set raw.flags1 0x1 raw.process_id
+process_id (MiscInfo5 raw) = where_set raw.flags1 0x1 raw.process_id
+
+-- in every layout, with flag 0x2
+unfoldable pub process_create_time : RawMiscInfo → Option ℕ
+process_create_time (MiscInfo raw) = where_set raw.flags1 0x2 raw.process_create_time
+process_create_time (MiscInfo2 raw) = where_set raw.flags1 0x2 raw.process_create_time
+process_create_time (MiscInfo3 raw) = where_set raw.flags1 0x2 raw.process_create_time
+process_create_time (MiscInfo4 raw) = where_set raw.flags1 0x2 raw.process_create_time
+process_create_time (MiscInfo5 raw) = where_set raw.flags1 0x2 raw.process_create_time
+
+-- in every layout, with flag 0x2
+unfoldable pub process_user_time : RawMiscInfo → Option ℕ
+process_user_time (MiscInfo raw) = where_set raw.flags1 0x2 raw.process_user_time
+process_user_time (MiscInfo2 raw) = where_set raw.flags1 0x2 raw.process_user_time
+process_user_time (MiscInfo3 raw) = where_set raw.flags1 0x2 raw.process_user_time
+process_user_time (MiscInfo4 raw) = where_set raw.flags1 0x2 raw.process_user_time
+process_user_time (MiscInfo5 raw) = where_set raw.flags1 0x2 raw.process_user_time
+
+-- in every layout, with flag 0x2
+unfoldable pub process_kernel_time : RawMiscInfo → Option ℕ
+process_kernel_time (MiscInfo raw) = where_set raw.flags1 0x2 raw.process_kernel_time
+process_kernel_time (MiscInfo2 raw) = where_set raw.flags1 0x2 raw.process_kernel_time
+process_kernel_time (MiscInfo3 raw) = where_set raw.flags1 0x2 raw.process_kernel_time
+process_kernel_time (MiscInfo4 raw) = where_set raw.flags1 0x2 raw.process_kernel_time
+process_kernel_time (MiscInfo5 raw) = where_set raw.flags1 0x2 raw.process_kernel_time
+
+-- from layout 2 on, with flag 0x4
+unfoldable pub processor_max_mhz : RawMiscInfo → Option ℕ
+processor_max_mhz (MiscInfo raw) = None
+processor_max_mhz (MiscInfo2 raw) = where_set raw.flags1 0x4 raw.processor_max_mhz
+processor_max_mhz (MiscInfo3 raw) = where_set raw.flags1 0x4 raw.processor_max_mhz
+processor_max_mhz (MiscInfo4 raw) = where_set raw.flags1 0x4 raw.processor_max_mhz
+processor_max_mhz (MiscInfo5 raw) = where_set raw.flags1 0x4 raw.processor_max_mhz
+
+-- from layout 2 on, with flag 0x4
+unfoldable pub processor_current_mhz : RawMiscInfo → Option ℕ
+processor_current_mhz (MiscInfo raw) = None
+processor_current_mhz (MiscInfo2 raw) = where_set raw.flags1 0x4 raw.processor_current_mhz
+processor_current_mhz (MiscInfo3 raw) = where_set raw.flags1 0x4 raw.processor_current_mhz
+processor_current_mhz (MiscInfo4 raw) = where_set raw.flags1 0x4 raw.processor_current_mhz
+processor_current_mhz (MiscInfo5 raw) = where_set raw.flags1 0x4 raw.processor_current_mhz
+
+-- from layout 2 on, with flag 0x4
+unfoldable pub processor_mhz_limit : RawMiscInfo → Option ℕ
+processor_mhz_limit (MiscInfo raw) = None
+processor_mhz_limit (MiscInfo2 raw) = where_set raw.flags1 0x4 raw.processor_mhz_limit
+processor_mhz_limit (MiscInfo3 raw) = where_set raw.flags1 0x4 raw.processor_mhz_limit
+processor_mhz_limit (MiscInfo4 raw) = where_set raw.flags1 0x4 raw.processor_mhz_limit
+processor_mhz_limit (MiscInfo5 raw) = where_set raw.flags1 0x4 raw.processor_mhz_limit
+
+-- from layout 2 on, with flag 0x4
+unfoldable pub processor_max_idle_state : RawMiscInfo → Option ℕ
+processor_max_idle_state (MiscInfo raw) = None
+processor_max_idle_state (MiscInfo2 raw) = where_set raw.flags1 0x4 raw.processor_max_idle_state
+processor_max_idle_state (MiscInfo3 raw) = where_set raw.flags1 0x4 raw.processor_max_idle_state
+processor_max_idle_state (MiscInfo4 raw) = where_set raw.flags1 0x4 raw.processor_max_idle_state
+processor_max_idle_state (MiscInfo5 raw) = where_set raw.flags1 0x4 raw.processor_max_idle_state
+
+-- from layout 2 on, with flag 0x4
+unfoldable pub processor_current_idle_state : RawMiscInfo → Option ℕ
+processor_current_idle_state (MiscInfo raw) = None
+processor_current_idle_state (MiscInfo2 raw) = where_set raw.flags1 0x4 raw.processor_current_idle_state
+processor_current_idle_state (MiscInfo3 raw) = where_set raw.flags1 0x4 raw.processor_current_idle_state
+processor_current_idle_state (MiscInfo4 raw) = where_set raw.flags1 0x4 raw.processor_current_idle_state
+processor_current_idle_state (MiscInfo5 raw) = where_set raw.flags1 0x4 raw.processor_current_idle_state
+
+-- from layout 3 on, with flag 0x10
+unfoldable pub process_integrity_level : RawMiscInfo → Option ℕ
+process_integrity_level (MiscInfo raw) = None
+process_integrity_level (MiscInfo2 raw) = None
+process_integrity_level (MiscInfo3 raw) = where_set raw.flags1 0x10 raw.process_integrity_level
+process_integrity_level (MiscInfo4 raw) = where_set raw.flags1 0x10 raw.process_integrity_level
+process_integrity_level (MiscInfo5 raw) = where_set raw.flags1 0x10 raw.process_integrity_level
+
+-- from layout 3 on, with flag 0x20
+unfoldable pub process_execute_flags : RawMiscInfo → Option ℕ
+process_execute_flags (MiscInfo raw) = None
+process_execute_flags (MiscInfo2 raw) = None
+process_execute_flags (MiscInfo3 raw) = where_set raw.flags1 0x20 raw.process_execute_flags
+process_execute_flags (MiscInfo4 raw) = where_set raw.flags1 0x20 raw.process_execute_flags
+process_execute_flags (MiscInfo5 raw) = where_set raw.flags1 0x20 raw.process_execute_flags
+
+-- from layout 3 on, with flag 0x80
+unfoldable pub protected_process : RawMiscInfo → Option ℕ
+protected_process (MiscInfo raw) = None
+protected_process (MiscInfo2 raw) = None
+protected_process (MiscInfo3 raw) = where_set raw.flags1 0x80 raw.protected_process
+protected_process (MiscInfo4 raw) = where_set raw.flags1 0x80 raw.protected_process
+protected_process (MiscInfo5 raw) = where_set raw.flags1 0x80 raw.protected_process
+
+-- from layout 3 on, with flag 0x40
+unfoldable pub time_zone_id : RawMiscInfo → Option ℕ
+time_zone_id (MiscInfo raw) = None
+time_zone_id (MiscInfo2 raw) = None
+time_zone_id (MiscInfo3 raw) = where_set raw.flags1 0x40 raw.time_zone_id
+time_zone_id (MiscInfo4 raw) = where_set raw.flags1 0x40 raw.time_zone_id
+time_zone_id (MiscInfo5 raw) = where_set raw.flags1 0x40 raw.time_zone_id
+
+-- from layout 3 on, with flag 0x40
+unfoldable pub time_zone : RawMiscInfo → Option TIME_ZONE_INFORMATION
+time_zone (MiscInfo raw) = None
+time_zone (MiscInfo2 raw) = None
+time_zone (MiscInfo3 raw) = where_set raw.flags1 0x40 raw.time_zone
+time_zone (MiscInfo4 raw) = where_set raw.flags1 0x40 raw.time_zone
+time_zone (MiscInfo5 raw) = where_set raw.flags1 0x40 raw.time_zone
+
+-- from layout 4 on, with flag 0x100
+unfoldable pub build_string : RawMiscInfo → Option (List ℕ)
+build_string (MiscInfo raw) = None
+build_string (MiscInfo2 raw) = None
+build_string (MiscInfo3 raw) = None
+build_string (MiscInfo4 raw) = where_set raw.flags1 0x100 raw.build_string
+build_string (MiscInfo5 raw) = where_set raw.flags1 0x100 raw.build_string
+
+-- from layout 4 on, with flag 0x100
+unfoldable pub dbg_bld_str : RawMiscInfo → Option (List ℕ)
+dbg_bld_str (MiscInfo raw) = None
+dbg_bld_str (MiscInfo2 raw) = None
+dbg_bld_str (MiscInfo3 raw) = None
+dbg_bld_str (MiscInfo4 raw) = where_set raw.flags1 0x100 raw.dbg_bld_str
+dbg_bld_str (MiscInfo5 raw) = where_set raw.flags1 0x100 raw.dbg_bld_str
+
+-- from layout 5 on
+unfoldable pub xstate_data : RawMiscInfo → Option XSTATE_CONFIG_FEATURE_MSC_INFO
+xstate_data (MiscInfo raw) = None
+xstate_data (MiscInfo2 raw) = None
+xstate_data (MiscInfo3 raw) = None
+xstate_data (MiscInfo4 raw) = None
+xstate_data (MiscInfo5 raw) = Some raw.xstate_data
+
+-- from layout 5 on, with flag 0x200
+unfoldable pub process_cookie : RawMiscInfo → Option ℕ
+process_cookie (MiscInfo raw) = None
+process_cookie (MiscInfo2 raw) = None
+process_cookie (MiscInfo3 raw) = None
+process_cookie (MiscInfo4 raw) = None
+process_cookie (MiscInfo5 raw) = where_set raw.flags1 0x200 raw.process_cookie

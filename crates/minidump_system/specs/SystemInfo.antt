@@ -1,0 +1,81 @@
+-- The system information: Microsoft's MINIDUMP_SYSTEM_INFO.
+use Rattle.std.specs.Prelude.{ℕ, List, [], ◌∷◌, ◌++◌, codes, Option, Some, None, Result, Ok, Err, string_bytes, unwrap_or}
+use Rattle.std.specs.Fmt.{decimal}
+use Rattle.std.specs.List.{concat}
+use Rattle.std.specs.Option.{option_map}
+use Rattle.minidump_bytes.specs.declared.endian.Endian.{Endian}
+use Rattle.minidump_bytes.specs.Piece.{hex}
+use Rattle.minidump_bytes.specs.Span.{record_at}
+use Rattle.minidump_bytes.specs.Text16.{text16}
+use Rattle.minidump_format.specs.declared.error.Error.{Error}
+use Rattle.minidump_format.specs.declared.error.Error.TheVariants.{StreamReadFailure}
+use Rattle.minidump_format.specs.declared.format.system.MINIDUMP_SYSTEM_INFO.{MINIDUMP_SYSTEM_INFO}
+use Rattle.minidump_format.specs.System.{system_info}
+use Rattle.minidump_system.specs.declared.os.Os.{Os}
+use Rattle.minidump_system.specs.declared.cpu.Cpu.{Cpu}
+use Rattle.minidump_system.specs.declared.system_info.MinidumpSystemInfo.{MinidumpSystemInfo}
+use Rattle.minidump_system.specs.Os.{os_of}
+use Rattle.minidump_system.specs.Cpu.{cpu_of}
+use Rattle.minidump_system.specs.CpuInfo.{cpu_info_text}
+
+-- a system information without where it lies in memory: the record, what its numbers name, and its texts
+pub record System : Type 0 where
+  pub raw : MINIDUMP_SYSTEM_INFO
+  pub os : Os
+  pub cpu : Cpu
+  pub csd_version : Option (List ℕ)
+  pub cpu_info : Option (List ℕ)
+
+abbrev pub system_of : MinidumpSystemInfo → System
+system_of s = record {
+  raw = s.raw;
+  os = s.os;
+  cpu = s.cpu;
+  csd_version = option_map string_bytes s.csd_version;
+  cpu_info = option_map string_bytes s.cpu_info;
+}
+
+-- the system of a record. A service pack that is no text is none
+abbrev with_record : List ℕ → Endian → Option MINIDUMP_SYSTEM_INFO → Result System Error
+with_record all order None = Err StreamReadFailure
+with_record all order (Some raw) = Ok (record {
+  raw = raw;
+  os = os_of raw.platform_id;
+  cpu = cpu_of raw.processor_architecture;
+  csd_version = text16 order raw.csd_version_rva all;
+  cpu_info = cpu_info_text (cpu_of raw.processor_architecture) raw.processor_level raw.processor_revision raw.cpu order;
+})
+
+-- a system information that is handed in is answered again; else the record that the stream begins with
+abbrev pub system_in : List ℕ → List ℕ → Endian → Option System → Result System Error
+system_in bytes all order (Some system) = Ok system
+system_in bytes all order None = with_record all order (record_at 56 system_info order 0 bytes)
+
+-- the printed text, line by line: the numbers of the record
+unfoldable pub numbers_text : MINIDUMP_SYSTEM_INFO → List ℕ
+numbers_text raw = concat (
+    codes "MINIDUMP_SYSTEM_INFO\n"
+    ∷ codes "  processor_architecture                     = " ∷ hex raw.processor_architecture ∷ codes "\n"
+    ∷ codes "  processor_level                            = " ∷ decimal raw.processor_level ∷ codes "\n"
+    ∷ codes "  processor_revision                         = " ∷ hex raw.processor_revision ∷ codes "\n"
+    ∷ codes "  number_of_processors                       = " ∷ decimal raw.number_of_processors ∷ codes "\n"
+    ∷ codes "  product_type                               = " ∷ decimal raw.product_type ∷ codes "\n"
+    ∷ codes "  major_version                              = " ∷ decimal raw.major_version ∷ codes "\n"
+    ∷ codes "  minor_version                              = " ∷ decimal raw.minor_version ∷ codes "\n"
+    ∷ codes "  build_number                               = " ∷ decimal raw.build_number ∷ codes "\n"
+    ∷ codes "  platform_id                                = " ∷ hex raw.platform_id ∷ codes "\n"
+    ∷ codes "  csd_version_rva                            = " ∷ hex raw.csd_version_rva ∷ codes "\n"
+    ∷ codes "  suite_mask                                 = " ∷ hex raw.suite_mask ∷ codes "\n"
+    ∷ [])
+
+-- the version with the service pack, and the processor; a text that is absent is empty
+unfoldable pub names_text : MINIDUMP_SYSTEM_INFO → List ℕ → List ℕ → List ℕ
+names_text raw csd_version cpu_info = concat (
+    codes "  (version)                                  = "
+    ∷ decimal raw.major_version ∷ codes "." ∷ decimal raw.minor_version ∷ codes "." ∷ decimal raw.build_number ∷ codes " " ∷ csd_version ∷ codes "\n"
+    ∷ codes "  (cpu_info)                                 = " ∷ cpu_info ∷ codes "\n"
+    ∷ codes "\n"
+    ∷ [])
+
+abbrev pub system_info_text : System → List ℕ
+system_info_text s = numbers_text s.raw ++ names_text s.raw (unwrap_or s.csd_version []) (unwrap_or s.cpu_info [])

@@ -1,0 +1,226 @@
+ghost use Rattle.std.specs.Prelude.{◌≡◌, ◌++◌, IfErr, IfOk, OnOk, string_bytes};
+ghost use Rattle.std.specs.Option.{option_copied, option_map};
+ghost use Rattle.minidump_format.specs.Print.{Prints};
+ghost use Rattle.minidump_system.specs.OsParts.{os_parts_of};
+ghost use Rattle.minidump_system.specs.SystemInfo.{names_text, numbers_text, system_info_text, system_of};
+
+use crate::cpu_info::made_cpu_info;
+use crate::os_parts::os_parts;
+use crate::{Cpu, MinidumpStream, Os};
+use minidump_bytes::{Endian, Piece, Source, Steps, Told, push_pieces};
+use minidump_format::format::MINIDUMP_SYSTEM_INFO;
+use minidump_format::{Error, put_made};
+use std::alloc::{AllocError, Global};
+use std::io::Write;
+
+/// The system that a dump was written on.
+#[derive(Drop)]
+pub struct MinidumpSystemInfo {
+    /// The record, as it stands in the stream.
+    pub raw: MINIDUMP_SYSTEM_INFO,
+    /// The operating system.
+    pub os: Os,
+    /// The processor.
+    pub cpu: Cpu,
+    csd_version: Option<String>,
+    cpu_info: Option<String>,
+}
+
+impl MinidumpSystemInfo {
+    /// The text of the service pack, or of the kernel, where the dump has one.
+    pub fn csd_version(&self) -> Option<&str>
+        ensures { option_copied result ≡ (system_of self.now).csd_version }
+    {
+        self.csd_version.as_ref().map(|text| text.as_str())
+    }
+
+    /// What the processor says of itself, where it is known how to read that.
+    pub fn cpu_info(&self) -> Option<&str>
+        ensures { option_copied result ≡ (system_of self.now).cpu_info }
+    {
+        self.cpu_info.as_ref().map(|text| text.as_str())
+    }
+
+    /// The version and the build of the operating system. The version is the three numbers, joined by
+    /// dots, and the build the trimmed text of the service pack; but a Linux system that left the numbers
+    /// at 0 wrote both into the text, as `uname -srvmo` does.
+    pub fn os_parts(&self, alloc: Global) -> Result<(String, Option<String>), Error>
+        ensures means { IfOk result (λ r. (string_bytes r.0, option_map string_bytes r.1)
+            ≡ os_parts_of self.now.raw.major_version self.now.raw.minor_version self.now.raw.build_number
+            self.now.raw.platform_id (system_of self.now).csd_version) }
+        ensures memory { IfErr result (λ e. e ≡ Error.OutOfMemory) }
+    {
+        let raw = &self.raw;
+        os_parts(
+            alloc,
+            raw.major_version,
+            raw.minor_version,
+            raw.build_number,
+            raw.platform_id,
+            self.csd_version(),
+        )
+    }
+
+    /// Prints the record, the version and what the processor says of itself.
+    pub fn print<W: Write>(&self, alloc: Global, f: &mut Told<W>) -> Result<(), Error>
+        ensures { Prints W.contents f.old f.new (system_info_text (system_of self.now)) result }
+    {
+        put_made(f, made_text(alloc, self))
+    }
+
+    /// The same value.
+    pub fn try_clone(&self, alloc: Global) -> Result<MinidumpSystemInfo, Error>
+        ensures same { IfOk result (λ s. system_of s ≡ system_of self.now) }
+        ensures memory { IfErr result (λ e. e ≡ Error.OutOfMemory) }
+    {
+        Ok(MinidumpSystemInfo {
+            raw: self.raw,
+            os: self.os,
+            cpu: self.cpu,
+            csd_version: copied(alloc, &self.csd_version)?,
+            cpu_info: copied(alloc, &self.cpu_info)?,
+        })
+    }
+}
+
+fn copied(alloc: Global, text: &Option<String>) -> Result<Option<String>, AllocError>
+    ensures { IfOk result (λ t. option_map string_bytes t ≡ option_map string_bytes text.now) }
+{
+    match text {
+        None => Ok(None),
+        Some(text) => Ok(Some(String::from_str(alloc, text.as_str())?)),
+    }
+}
+
+impl<'a> MinidumpStream<'a> for MinidumpSystemInfo {
+    ghost use Rattle.std.specs.Prelude.{⊤};
+    ghost use Rattle.minidump_system.specs.SystemInfo.{System, system_in};
+
+    ghost type_number = { 7 };
+
+    const STREAM_TYPE: u32 = 7;
+
+    ghost Value = { System };
+
+    ghost view = { system_of };
+
+    ghost meaning = { system_in };
+
+    ghost limit = { λ n. 7 };
+
+    ghost least = { λ bytes order system. 0 };
+
+    ghost takes_memory = { ⊤ };
+
+    fn number_of_type() -> u32
+        ensures { result ≡ 7 }
+    {
+        Self::STREAM_TYPE
+    }
+
+    fn read(
+        alloc: Global,
+        bytes: Source<'a>,
+        all: Source<'a>,
+        endian: Endian,
+        system_info: Option<&MinidumpSystemInfo>,
+        steps: &mut Steps,
+    ) -> Result<Self, Error> {
+        if let Some(system) = system_info {
+            return system.try_clone(alloc);
+        }
+        let raw: MINIDUMP_SYSTEM_INFO = bytes
+            .record(0, endian, steps)
+            .ok_or(Error::StreamReadFailure)?;
+        let cpu = Cpu::from_processor_architecture(raw.processor_architecture);
+        let csd_version = all.text16(alloc, raw.csd_version_rva as u64, endian, steps)?;
+        let cpu_info = made_cpu_info(
+            alloc,
+            cpu,
+            raw.processor_level,
+            raw.processor_revision,
+            &raw.cpu,
+            endian,
+        )?;
+        Ok(MinidumpSystemInfo {
+            raw,
+            os: Os::from_platform_id(raw.platform_id),
+            cpu,
+            csd_version,
+            cpu_info,
+        })
+    }
+}
+
+fn made_text(alloc: Global, system: &MinidumpSystemInfo) -> Result<String, AllocError>
+    ensures { IfOk result (λ t. string_bytes t ≡ system_info_text (system_of system.now)) }
+{
+    let mut text = String::new(alloc);
+    push_numbers(&mut text, &system.raw)?;
+    let csd_version = system.csd_version().unwrap_or("");
+    let cpu_info = system.cpu_info().unwrap_or("");
+    push_names(&mut text, &system.raw, csd_version, cpu_info)?;
+    Ok(text)
+}
+
+#[tactic(auto, unfolding(crate::specs::SystemInfo::numbers_text))]
+fn push_numbers(out: &mut String, raw: &MINIDUMP_SYSTEM_INFO) -> Result<(), AllocError>
+    ensures { OnOk result (string_bytes out.new ≡ string_bytes out.old ++ numbers_text raw.now) }
+{
+    push_pieces(
+        out,
+        &[
+            Piece::Words("MINIDUMP_SYSTEM_INFO\n  processor_architecture                     = "),
+            Piece::Hex(raw.processor_architecture as u64),
+            Piece::Words("\n  processor_level                            = "),
+            Piece::Decimal(raw.processor_level as u64),
+            Piece::Words("\n  processor_revision                         = "),
+            Piece::Hex(raw.processor_revision as u64),
+            Piece::Words("\n  number_of_processors                       = "),
+            Piece::Decimal(raw.number_of_processors as u64),
+            Piece::Words("\n  product_type                               = "),
+            Piece::Decimal(raw.product_type as u64),
+            Piece::Words("\n  major_version                              = "),
+            Piece::Decimal(raw.major_version as u64),
+            Piece::Words("\n  minor_version                              = "),
+            Piece::Decimal(raw.minor_version as u64),
+            Piece::Words("\n  build_number                               = "),
+            Piece::Decimal(raw.build_number as u64),
+            Piece::Words("\n  platform_id                                = "),
+            Piece::Hex(raw.platform_id as u64),
+            Piece::Words("\n  csd_version_rva                            = "),
+            Piece::Hex(raw.csd_version_rva as u64),
+            Piece::Words("\n  suite_mask                                 = "),
+            Piece::Hex(raw.suite_mask as u64),
+            Piece::Words("\n"),
+        ],
+    )
+}
+
+#[tactic(auto, unfolding(crate::specs::SystemInfo::names_text))]
+fn push_names<'t>(
+    out: &mut String,
+    raw: &MINIDUMP_SYSTEM_INFO,
+    csd_version: &'t str,
+    cpu_info: &'t str,
+) -> Result<(), AllocError>
+    ensures { OnOk result (string_bytes out.new
+        ≡ string_bytes out.old ++ names_text raw.now csd_version.now cpu_info.now) }
+{
+    push_pieces(
+        out,
+        &[
+            Piece::Words("  (version)                                  = "),
+            Piece::Decimal(raw.major_version as u64),
+            Piece::Words("."),
+            Piece::Decimal(raw.minor_version as u64),
+            Piece::Words("."),
+            Piece::Decimal(raw.build_number as u64),
+            Piece::Words(" "),
+            Piece::Words(csd_version),
+            Piece::Words("\n  (cpu_info)                                 = "),
+            Piece::Words(cpu_info),
+            Piece::Words("\n\n"),
+        ],
+    )
+}

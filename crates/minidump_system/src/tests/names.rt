@@ -1,0 +1,202 @@
+use crate::cpu_info::made_cpu_info;
+use crate::dates::made_system_time;
+use crate::{Cpu, Os, PointerWidth, date_text};
+use minidump_bytes::Endian;
+use minidump_format::format::SYSTEMTIME;
+use std::test::Fail;
+
+#[test]
+fn shows_dates(rt: HostRuntime) -> Result<(), Fail> {
+    let alloc = rt.alloc();
+    for (seconds, text) in [
+        (0xb105_4d2a, "2064-02-11T00:17:46Z"),
+        (0, "1970-01-01T00:00:00Z"),
+        (0xffff_ffff, "2106-02-07T06:28:15Z"),
+    ] {
+        assert_eq!(rt; date_text(alloc, seconds)?.as_str(), text);
+    }
+    Ok(())
+}
+
+// A moment with no hour, minute or second.
+fn midnight(year: u16, month: u16, day: u16, milliseconds: u16) -> SYSTEMTIME {
+    SYSTEMTIME {
+        day_of_week: 0,
+        year,
+        month,
+        day,
+        hour: 0,
+        minute: 0,
+        second: 0,
+        milliseconds,
+    }
+}
+
+#[test]
+fn shows_system_times(rt: HostRuntime) -> Result<(), Fail> {
+    let alloc = rt.alloc();
+    let night = SYSTEMTIME {
+        hour: 2,
+        minute: 33,
+        second: 51,
+        ..midnight(0, 11, 1, 123)
+    };
+    let late = SYSTEMTIME {
+        hour: 23,
+        minute: 59,
+        second: 59,
+        ..midnight(9999, 12, 31, 999)
+    };
+    for (time, text) in [
+        (night, "0000-11-01T02:33:51.123Z"),
+        (late, "9999-12-31T23:59:59.999Z"),
+        (midnight(2024, 2, 29, 120), "2024-02-29T00:00:00.12Z"),
+        (midnight(2024, 2, 29, 300), "2024-02-29T00:00:00.3Z"),
+        (midnight(2024, 2, 29, 7), "2024-02-29T00:00:00.007Z"),
+        (midnight(0, 2, 29, 0), "0000-02-29T00:00:00Z"),
+        (midnight(1900, 2, 29, 0), "<invalid date>"),
+        (midnight(2024, 257, 1, 0), "<invalid date>"),
+        (midnight(2024, 1, 257, 0), "<invalid date>"),
+        (midnight(2024, 0, 1, 0), "<invalid date>"),
+        (midnight(2024, 1, 0, 0), "<invalid date>"),
+        (midnight(10_000, 1, 1, 0), "<invalid date>"),
+        (midnight(2024, 1, 1, 1000), "<invalid date>"),
+        (SYSTEMTIME { hour: 24, ..night }, "<invalid date>"),
+        (
+            SYSTEMTIME {
+                minute: 60,
+                ..night
+            },
+            "<invalid date>",
+        ),
+        (
+            SYSTEMTIME {
+                second: 60,
+                ..night
+            },
+            "<invalid date>",
+        ),
+    ] {
+        assert_eq!(rt; made_system_time(alloc, &time)?.as_str(), text);
+    }
+    Ok(())
+}
+
+#[test]
+fn names_systems(rt: HostRuntime) -> Result<(), Fail> {
+    let alloc = rt.alloc();
+    for (id, os, name, long_name) in [
+        (1, Os::Windows, "windows", "Windows NT"),
+        (2, Os::Windows, "windows", "Windows NT"),
+        (0x8101, Os::MacOs, "mac", "Mac OS X"),
+        (0x8102, Os::Ios, "ios", "iOS"),
+        (0x8201, Os::Linux, "linux", "Linux"),
+        (0x8202, Os::Solaris, "solaris", "Solaris"),
+        (0x8203, Os::Android, "android", "Android"),
+        (0x8204, Os::Ps3, "ps3", "PS3"),
+        (0x8205, Os::NaCl, "nacl", "NaCl"),
+        (7, Os::Unknown(7), "unknown", "0x000007"),
+        (
+            0x12ab_34cd,
+            Os::Unknown(0x12ab_34cd),
+            "unknown",
+            "0x12ab34cd",
+        ),
+    ] {
+        assert_eq!(rt; Os::from_platform_id(id), os);
+        assert_eq!(rt; os.long_name(alloc)?.as_str(), long_name);
+        assert_eq!(rt; format!(in alloc; "{os}")?.as_str(), name);
+    }
+    Ok(())
+}
+
+#[test]
+fn names_processors(rt: HostRuntime) -> Result<(), Fail> {
+    let alloc = rt.alloc();
+    for (number, cpu, name, size) in [
+        (0, Cpu::X86, "x86", Some(4)),
+        (10, Cpu::X86, "x86", Some(4)),
+        (9, Cpu::X86_64, "amd64", Some(8)),
+        (3, Cpu::Ppc, "ppc", Some(4)),
+        (0x8002, Cpu::Ppc64, "ppc64", Some(8)),
+        (0x8001, Cpu::Sparc, "sparc", Some(4)),
+        (5, Cpu::Arm, "arm", Some(4)),
+        (12, Cpu::Arm64, "arm64", Some(8)),
+        (0x8003, Cpu::Arm64, "arm64", Some(8)),
+        (1, Cpu::Mips, "mips", Some(4)),
+        (0x8004, Cpu::Mips64, "mips64", Some(8)),
+        (77, Cpu::Unknown(77), "unknown", None),
+    ] {
+        assert_eq!(rt; Cpu::from_processor_architecture(number), cpu);
+        assert_eq!(rt; cpu.pointer_width().size_in_bytes(), size);
+        assert_eq!(rt; format!(in alloc; "{cpu}")?.as_str(), name);
+    }
+    assert_eq!(rt; Cpu::Unknown(77).pointer_width(), PointerWidth::Unknown);
+    Ok(())
+}
+
+#[test]
+fn describes_x86(rt: HostRuntime) -> Result<(), Fail> {
+    let alloc = rt.alloc();
+    let little = *b"GenuineIntel............";
+    let big = *b"uneGIeniletn............";
+    for (bytes, endian) in [(little, Endian::Little), (big, Endian::Big)] {
+        let info = made_cpu_info(alloc, Cpu::X86, 6, 0x0d08, &bytes, endian)?;
+        assert_eq!(rt;
+            info.as_deref(),
+            Some("GenuineIntel family 6 model 13 stepping 8")
+        );
+    }
+    let mut accents = little;
+    accents[0] = 0xe9;
+    let info = made_cpu_info(alloc, Cpu::X86, 6, 0x0d08, &accents, Endian::Little)?;
+    assert_eq!(rt;
+        info.as_deref(),
+        Some("éenuineIntel family 6 model 13 stepping 8")
+    );
+    let info = made_cpu_info(alloc, Cpu::X86_64, 6, 0x9e0a, &little, Endian::Little)?;
+    assert_eq!(rt; info.as_deref(), Some("family 6 model 158 stepping 10"));
+    assert!(rt; made_cpu_info(alloc, Cpu::Arm64, 8, 0, &little, Endian::Little)?.is_none());
+    assert!(rt; made_cpu_info(alloc, Cpu::Unknown(77), 8, 0, &little, Endian::Little)?.is_none());
+    Ok(())
+}
+
+// The 24 bytes of an ARM processor, in little-endian order.
+fn arm(cpuid: u32, elf_hwcaps: u32) -> [u8; 24] {
+    let [a, b, c, d] = cpuid.to_le_bytes();
+    let [e, f, g, h] = elf_hwcaps.to_le_bytes();
+    [
+        a, b, c, d, e, f, g, h, 0, 0, 0, 0, 0, 0, 0, 0, 0, 0, 0, 0, 0, 0, 0, 0,
+    ]
+}
+
+#[test]
+fn describes_arm(rt: HostRuntime) -> Result<(), Fail> {
+    let alloc = rt.alloc();
+    for (level, cpuid, elf_hwcaps, text) in [
+        (7, 0x410f_c08a, 3, "ARMv7 ARM Cortex-A8 features: swp,half"),
+        (5, 0, 0, "ARMv5"),
+        (5, 0, 0x8000_0000, "ARMv5"),
+        (6, 0, 0x0004_0000, "ARMv6 features: idivt"),
+        (7, 0x510f_06f3, 0, "ARMv7 Qualcomm Krait"),
+        (7, 0x562f_5841, 0, "ARMv7 Marvell part(0x56005840)"),
+        (7, 0x4101_b767, 0, "ARMv7 ARM ARM1176"),
+        (
+            7,
+            0x0200_00f1,
+            0x1000,
+            "ARMv7 vendor(0x2) part(0x20000f0) features: neon",
+        ),
+    ] {
+        let info = made_cpu_info(
+            alloc,
+            Cpu::Arm,
+            level,
+            0,
+            &arm(cpuid, elf_hwcaps),
+            Endian::Little,
+        )?;
+        assert_eq!(rt; info.as_deref(), Some(text));
+    }
+    Ok(())
+}
