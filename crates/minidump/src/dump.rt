@@ -44,8 +44,8 @@ impl<'a> Minidump<'a> {
     ghost use Rattle.std.specs.List.{filter_map};
 
     /// Accepts the header and the directory of a file, or refuses it by `MissingHeader`,
-    /// `HeaderMismatch`, `VersionMismatch` or `MissingDirectory`. Nothing else of the file is read.
-    /// Memory is taken for the deciding entry of each type alone.
+    /// `HeaderMismatch`, `VersionMismatch` or `MissingDirectory`. Of the rest of the file the system
+    /// information alone is read. Memory is taken for it and for the deciding entry of each type.
     pub fn read(alloc: Global, bytes: &'a [u8]) -> Result<Minidump<'a>, Error>
         ensures { Gives dump_of (HasEntries bytes.now) result (dump_in bytes.now) }
     {
