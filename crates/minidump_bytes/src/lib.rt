@@ -1,8 +1,9 @@
-//! Reads at an offset of a file's bytes, each one counted; texts in UTF-16; devices that keep whether
+//! Reads at an offset of a file's bytes and comparisons of addresses, each one counted; texts in UTF-16; devices that keep whether
 //! they have failed; and texts that are built out of pieces.
 #![tactic(auto)]
 
 mod array;
+mod compare;
 mod endian;
 pub mod laws;
 mod piece;
@@ -13,6 +14,7 @@ mod text16;
 mod told;
 
 pub use array::array_at;
+pub use compare::probe;
 pub use endian::Endian;
 pub use piece::{Piece, made, push_hex, push_pieces};
 pub use record::Record;

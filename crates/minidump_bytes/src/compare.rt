@@ -1,0 +1,23 @@
+ghost use Rattle.std.specs.Prelude.{◌≡◌, ◌<◌, ◌≤◌};
+ghost use Rattle.std.specs.Ordering.{MatchOrdering};
+ghost use Rattle.minidump_bytes.specs.Steps.{after};
+
+use crate::Steps;
+use std::cmp::Ordering;
+
+/// Where an address lies: before, in or behind the addresses from `first` to `last`, both of them inside.
+/// It is one step. Lookups compare addresses by it alone.
+pub fn probe(first: u64, last: u64, address: u64, steps: &mut Steps) -> Ordering
+    ensures answer { MatchOrdering result (address < first) ((first ≤ address) × (address ≤ last))
+        ((first ≤ address) × (last < address)) }
+    ensures step { steps.new ≡ after steps.old 1 }
+{
+    steps.tick();
+    if address < first {
+        Ordering::Less
+    } else if address > last {
+        Ordering::Greater
+    } else {
+        Ordering::Equal
+    }
+}

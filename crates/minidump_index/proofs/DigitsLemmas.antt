@@ -1,0 +1,42 @@
+use Rattle.std.proofs.Common.{◌≡◌, ℕ, zero, suc, ◌<◌, ◌≤◌, ◌+◌, ◌/◌, arith, refl, ap, sym, ◌∙◌}
+use Rattle.std.proofs.lemmas.Bool.Decides.{nat_tests}
+use Rattle.minidump_index.specs.Digits.{digits, digits_among}
+
+at_zero : (n : ℕ) → digits_among n 0 ≡ 0
+unfolding digits_among
+at_zero zero = refl
+at_zero (suc n) = refl
+
+at_more : (n k : ℕ) → 0 < k → digits_among (suc n) k ≡ 1 + digits_among n (k / 2)
+unfolding digits_among
+at_more n k h = grind (arith, nat_tests)
+
+enough : (n m k : ℕ) → k ≤ n → k ≤ m → digits_among n k ≡ digits_among m k
+enough zero m k h i = let z : k ≡ 0 = omega arith in rw z (at_zero zero ∙ sym (at_zero m))
+enough (suc n) zero k h i = let z : k ≡ 0 = omega arith in rw z (at_zero (suc n) ∙ sym (at_zero zero))
+enough (suc n) (suc m) zero h i = at_zero (suc n) ∙ sym (at_zero (suc m))
+enough (suc n) (suc m) (suc k) h i =
+    at_more n (suc k) (omega arith) ∙ ap (λ d. 1 + d) (enough n m (suc k / 2) (omega arith) (omega arith)) ∙ sym (at_more m (suc k) (omega arith))
+
+rises : (n m k : ℕ) → m ≤ k → k ≤ n → digits_among n m ≤ digits_among n k
+rises zero m k h i = let z : m ≡ 0 = omega arith in rw (z, at_zero) (omega arith)
+rises (suc n) zero k h i = rw at_zero (omega arith)
+rises (suc n) (suc m) k h i =
+    omega (arith, at_more n (suc m) (omega arith), at_more n k (omega arith), rises n (suc m / 2) (k / 2) (omega arith) (omega arith))
+
+pub digits-zero : digits 0 ≡ 0
+unfolding digits
+digits-zero = at_zero 0
+
+pub digits-half : (k : ℕ) → 0 < k → digits k ≡ 1 + digits (k / 2)
+unfolding digits
+digits-half zero h = absurd (omega arith)
+digits-half (suc k) h = at_more k (suc k) h ∙ ap (λ n. 1 + n) (enough k (suc k / 2) (suc k / 2) (omega arith) (omega arith))
+
+pub digits-rises : (m n : ℕ) → m ≤ n → digits m ≤ digits n
+unfolding digits
+digits-rises m n h = omega (arith, enough m n m (omega arith) h, rises n m n h (omega arith))
+
+-- one probe halves what is left
+pub one_probe : (n m : ℕ) → 0 < n → m ≤ n / 2 → 1 + digits m ≤ digits n
+one_probe n m h k = omega (arith, digits-half n h, digits-rises m (n / 2) k)

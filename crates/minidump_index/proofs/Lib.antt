@@ -1,0 +1,5 @@
+pub mod Apart
+pub mod DigitsLemmas
+pub mod Find
+pub mod One
+pub mod Ranged

@@ -1,0 +1,10 @@
+//! Laws of the kept ranges, over the definitions that contracts cite.
+ghost use Rattle.std.specs.Prelude.{◌≡◌, ℕ, List, Option, Bool};
+ghost use Rattle.minidump_index.specs.declared.range.Range.{Range};
+ghost use Rattle.minidump_index.specs.Overlap.{IsKeptSet};
+
+/// Two kept sets of one list are the same set.
+pub fn one_kept_set()
+    ensures { (ranges : List (Option Range)) (kept other : ℕ → Bool) → IsKeptSet ranges kept
+        → IsKeptSet ranges other → (place : ℕ) → kept place ≡ other place }
+{}
