@@ -62,10 +62,10 @@ free_by_last kept last address h up =
 before_starts : (e f : Entry) → Precedes e f → e.range.start ≤ f.range.start
 before_starts e f h = elim h [ inl lt ↦ omega arith | inr eq ↦ omega (arith, eq.0) ]
 
-blocks : (e f : Entry) → Precedes f e → e.range.start ≤ f.range.end → ShareAddress f.range e.range
+pub blocks : (e f : Entry) → Precedes f e → e.range.start ≤ f.range.end → ShareAddress f.range e.range
 blocks e f h k = (e.range.start, (before_starts f e h, k), (omega arith, e.range.ordered))
 
-push_apart : (entries kept : List Entry) (e : Entry) → All (λ f. f.range.end < e.range.start) kept → KeepsApart entries kept → KeepsApart (entries ++ e ∷ []) (kept ++ e ∷ [])
+pub push_apart : (entries kept : List Entry) (e : Entry) → All (λ f. f.range.end < e.range.start) kept → KeepsApart entries kept → KeepsApart (entries ++ e ∷ []) (kept ++ e ∷ [])
 push_apart entries kept e free b = record {
   among = λ x h. elim (Contains-push_cases kept e x h) [
     | inl old ↦ Contains-append_left entries (e ∷ []) x (b.among x old)
@@ -81,7 +81,7 @@ push_apart entries kept e free b = record {
   ];
 }
 
-skip_apart : (entries kept : List Entry) (e : Entry) → Contains kept e ⊎ ((f : Entry) × Contains kept f × Precedes f e × ShareAddress f.range e.range) → KeepsApart entries kept → KeepsApart (entries ++ e ∷ []) kept
+pub skip_apart : (entries kept : List Entry) (e : Entry) → Contains kept e ⊎ ((f : Entry) × Contains kept f × Precedes f e × ShareAddress f.range e.range) → KeepsApart entries kept → KeepsApart (entries ++ e ∷ []) kept
 skip_apart entries kept e settled b = record {
   among = λ x h. Contains-append_left entries (e ∷ []) x (b.among x h);
   ascending = b.ascending;
@@ -234,7 +234,7 @@ same_ends a b c d h k p q =
     let Q : ℕ → Type 0 = λ y. (l : a ≤ y) → of_ends a b h ≡ of_ends a y l in
     subst P p (subst Q q (λ l. ap (of_ends a b) (le_prop h l))) k
 
-same_range : (r s : Range) → r.start ≡ s.start → r.end ≡ s.end → r ≡ s
+pub same_range : (r s : Range) → r.start ≡ s.start → r.end ≡ s.end → r ≡ s
 same_range r s p q = same_ends r.start r.end s.start s.end r.ordered s.ordered p q
 
 by_place : (e f : Entry) → e.range ≡ f.range → e.range.start ≡ f.range.start → e.range.end ≡ f.range.end → is_lt (nat_cmp f.place e.place) ≡ false → Precedes e f ⊎ (e ≡ f)

@@ -1,5 +1,6 @@
 pub mod Apart
 pub mod DigitsLemmas
+pub mod Exists
 pub mod Find
 pub mod One
 pub mod Ranged

@@ -8,3 +8,8 @@ pub fn one_kept_set()
     ensures { (ranges : List (Option Range)) (kept other : ℕ → Bool) → IsKeptSet ranges kept
         → IsKeptSet ranges other → (place : ℕ) → kept place ≡ other place }
 {}
+
+/// Every list has a kept set.
+pub fn a_kept_set()
+    ensures { (ranges : List (Option Range)) → (kept : ℕ → Bool) × IsKeptSet ranges kept }
+{}
