@@ -17,7 +17,7 @@ pub use array::array_at;
 pub use compare::probe;
 pub use endian::Endian;
 pub use piece::{Piece, made, push_hex, push_pieces};
-pub use record::Record;
+pub use record::{FixedRead, Record};
 pub use source::Source;
 pub use steps::Steps;
 pub use text16::text_before_nul;

@@ -79,3 +79,16 @@ impl Record for u128 {
         endian.u128_at(bytes, 0)
     }
 }
+
+/// A number of fixed width, which can be read out of a region of memory.
+pub trait FixedRead: Record + Copy {}
+
+impl FixedRead for u8 {}
+
+impl FixedRead for u16 {}
+
+impl FixedRead for u32 {}
+
+impl FixedRead for u64 {}
+
+impl FixedRead for u128 {}

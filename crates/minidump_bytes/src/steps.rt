@@ -38,4 +38,11 @@ impl Steps {
     {
         self.taken = self.taken.saturating_add(1);
     }
+
+    // So many reads more.
+    pub(crate) fn add(&mut self, more: u64)
+        ensures { self.new ≡ after self.old more }
+    {
+        self.taken = self.taken.saturating_add(more as u128);
+    }
 }
