@@ -9,3 +9,4 @@ pub mod System
 pub mod Misc
 pub mod Flags
 pub mod Xstate
+pub mod Memory

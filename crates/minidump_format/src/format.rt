@@ -2,6 +2,7 @@
 //! packed, and in the byte order of the file.
 mod flags;
 mod header;
+mod memory;
 mod misc;
 mod stream_type;
 mod system;
@@ -12,6 +13,7 @@ pub use header::{
     MINIDUMP_DIRECTORY, MINIDUMP_HEADER, MINIDUMP_LOCATION_DESCRIPTOR, MINIDUMP_SIGNATURE,
     MINIDUMP_VERSION, RVA,
 };
+pub use memory::{MINIDUMP_MEMORY_DESCRIPTOR, MINIDUMP_MEMORY_DESCRIPTOR64};
 pub use misc::{
     MINIDUMP_MISC_INFO, MINIDUMP_MISC_INFO_2, MINIDUMP_MISC_INFO_3, MINIDUMP_MISC_INFO_4,
     MINIDUMP_MISC_INFO_5, SYSTEMTIME, TIME_ZONE_INFORMATION, XSTATE_CONFIG_FEATURE_MSC_INFO,

@@ -1,0 +1,55 @@
+use super::MINIDUMP_LOCATION_DESCRIPTOR;
+use minidump_bytes::{Endian, Record};
+
+/// A region of memory, with its bytes anywhere in the file: Microsoft's `MINIDUMP_MEMORY_DESCRIPTOR`.
+#[derive(Clone, Copy, Debug, PartialEq, Eq)]
+pub struct MINIDUMP_MEMORY_DESCRIPTOR {
+    /// Its first address.
+    pub start_of_memory_range: u64,
+    /// Where its bytes are.
+    pub memory: MINIDUMP_LOCATION_DESCRIPTOR,
+}
+
+impl Record for MINIDUMP_MEMORY_DESCRIPTOR {
+    ghost use Rattle.minidump_format.specs.Memory.{memory_descriptor};
+
+    ghost SIZE = { 16 };
+
+    const SIZE: usize = 16;
+
+    ghost value = { memory_descriptor };
+
+    fn decode(bytes: &[u8], endian: Endian) -> Self {
+        MINIDUMP_MEMORY_DESCRIPTOR {
+            start_of_memory_range: endian.u64_at(bytes, 0),
+            memory: MINIDUMP_LOCATION_DESCRIPTOR::decode(&bytes[8..16], endian),
+        }
+    }
+}
+
+/// A region of memory of a list whose bytes lie behind one another in the file: Microsoft's
+/// `MINIDUMP_MEMORY_DESCRIPTOR64`.
+#[derive(Clone, Copy, Debug, PartialEq, Eq)]
+pub struct MINIDUMP_MEMORY_DESCRIPTOR64 {
+    /// Its first address.
+    pub start_of_memory_range: u64,
+    /// How many bytes it has.
+    pub data_size: u64,
+}
+
+impl Record for MINIDUMP_MEMORY_DESCRIPTOR64 {
+    ghost use Rattle.minidump_format.specs.Memory.{memory_descriptor_64};
+
+    ghost SIZE = { 16 };
+
+    const SIZE: usize = 16;
+
+    ghost value = { memory_descriptor_64 };
+
+    fn decode(bytes: &[u8], endian: Endian) -> Self {
+        MINIDUMP_MEMORY_DESCRIPTOR64 {
+            start_of_memory_range: endian.u64_at(bytes, 0),
+            data_size: endian.u64_at(bytes, 8),
+        }
+    }
+}
