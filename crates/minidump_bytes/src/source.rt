@@ -61,6 +61,7 @@ impl<'a> Source<'a> {
     ) -> Result<Vec<R>, AllocError>
         requires { place + R.SIZE * count ≤ length (bytes_of self) }
         ensures items { IfOk result (λ v. v.items ≡ entries R.SIZE (R.value endian) (bytes_of self.entry) place count) }
+        ensures len { IfOk result (λ v. length v.items ≡ count) }
         ensures steps { steps.new ≡ after steps.old count }
     {
         steps.add(count);

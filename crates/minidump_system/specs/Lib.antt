@@ -6,3 +6,4 @@ pub mod OsParts
 pub mod SystemInfo
 pub mod MiscInfo
 pub mod MiscInfoText
+pub mod Framing

@@ -5,6 +5,7 @@
 mod cpu;
 mod cpu_info;
 mod dates;
+pub mod framing;
 pub mod laws;
 mod misc_info;
 mod os;
