@@ -5,3 +5,4 @@ pub mod MomentText
 pub mod HexLemmas
 pub mod FeatureLemmas
 pub mod OsPartsLemmas
+pub mod ListLemmas

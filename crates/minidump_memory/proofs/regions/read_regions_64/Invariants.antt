@@ -1,0 +1,19 @@
+use Rattle.std.proofs.Common.{◌≡◌, ◌+◌, ◌≤◌, ◌<◌, length, map, take}
+use Rattle.std.specs.List.{enumerate_from}
+use Rattle.minidump_bytes.specs.Source.{bytes_of}
+use Rattle.minidump_format.specs.declared.format.memory.MINIDUMP_MEMORY_DESCRIPTOR64.{MINIDUMP_MEMORY_DESCRIPTOR64}
+use Rattle.minidump_system.specs.Framing.{List64}
+use Rattle.minidump_memory.specs.Memory.{memory_of}
+use Rattle.minidump_memory.specs.MemoryList.{place_64, placed}
+use Rattle.minidump_memory.proofs.regions.read_regions_64.Given as goal
+
+abbrev pub invariant-loop-desc : goal.invariant-loop-desc
+invariant-loop-desc l =
+    let list : List64 MINIDUMP_MEMORY_DESCRIPTOR64 = record { rva = l.rva; items = l.descriptors } in
+    record {
+      items : map memory_of l.regions.items ≡ map (λ p. placed (bytes_of l.all) l.endian (place_64 list p.0) p.1) (enumerate_from 0 (take l.desc-index l.descriptors));
+      place : l.place ≡ place_64 list l.desc-index;
+      inside : 0 < l.desc-index → l.place ≤ length (bytes_of l.all);
+      within : l.steps ≤ l.fn.steps + l.desc-index;
+      grows : l.fn.steps ≤ l.steps;
+    }

@@ -1,0 +1,35 @@
+-- Regions of memory, without where they lie in memory.
+use Rattle.std.specs.Prelude.{ℕ, ◌+◌, ◌-◌, List, Option, Some, None, Result, Ok, Err, nat_le, ◌==◌, ◌||◌, if◌then◌else◌}
+use Rattle.minidump_bytes.specs.declared.endian.Endian.{Endian}
+use Rattle.minidump_bytes.specs.Span.{record_at, span}
+use Rattle.minidump_format.specs.declared.error.Error.{Error}
+use Rattle.minidump_format.specs.declared.error.Error.TheVariants.{MemoryReadFailure, StreamReadFailure}
+use Rattle.minidump_format.specs.declared.format.memory.MINIDUMP_MEMORY_DESCRIPTOR.{MINIDUMP_MEMORY_DESCRIPTOR}
+use Rattle.minidump_memory.specs.declared.memory.MinidumpMemoryBase.{MinidumpMemoryBase}
+
+pub record Memory (D : Type 0) : Type 0 where
+  pub desc : D
+  pub base_address : ℕ
+  pub size : ℕ
+  pub bytes : List ℕ
+  pub endian : Endian
+
+abbrev pub memory_of : {D : Type 0} → MinidumpMemoryBase D → Memory D
+memory_of m = record { desc = m.desc; base_address = m.base_address; size = m.size; bytes = m.bytes.now; endian = m.endian }
+
+-- the record of a size at an address, where all of it is in the region's bytes
+abbrev pub number_in : {D T : Type 0} → ℕ → (Endian → List ℕ → T) → Memory D → ℕ → Option T
+number_in size value m address =
+    if nat_le m.base_address address then record_at size value m.endian (address - m.base_address) m.bytes else None
+
+abbrev with_bytes : MINIDUMP_MEMORY_DESCRIPTOR → Endian → Option (List ℕ) → Result (Memory MINIDUMP_MEMORY_DESCRIPTOR) Error
+with_bytes d order None = Err StreamReadFailure
+with_bytes d order (Some bytes) =
+    Ok (record { desc = d; base_address = d.start_of_memory_range; size = d.memory.data_size; bytes = bytes; endian = order })
+
+-- Microsoft's MINIDUMP_MEMORY_DESCRIPTOR: the region of a descriptor, whose bytes are the span of its location. A location with no
+-- place or no size has none.
+abbrev pub described : List ℕ → Endian → MINIDUMP_MEMORY_DESCRIPTOR → Result (Memory MINIDUMP_MEMORY_DESCRIPTOR) Error
+described file order d =
+    if d.memory.rva == 0 || d.memory.data_size == 0 then Err MemoryReadFailure else
+    with_bytes d order (span d.memory.rva (d.memory.rva + d.memory.data_size) file)

@@ -1,0 +1,80 @@
+ghost use Rattle.std.specs.Prelude.{◌≡◌, ◌+◌, ◌≤◌};
+ghost use Rattle.minidump_bytes.specs.Source.{bytes_of};
+ghost use Rattle.minidump_format.specs.Answer.{Gives};
+ghost use Rattle.minidump_memory.specs.Memory.{described, memory_of, number_in};
+
+use minidump_bytes::{Endian, FixedRead, Source, Steps};
+use minidump_format::Error;
+use minidump_format::format::{MINIDUMP_MEMORY_DESCRIPTOR, MINIDUMP_MEMORY_DESCRIPTOR64};
+
+/// A region of memory, and its bytes as they lie in the file.
+#[derive(Clone, Drop)]
+pub struct MinidumpMemoryBase<'a, D> {
+    /// The descriptor, as it stands in the stream.
+    pub desc: D,
+    /// The first address.
+    pub base_address: u64,
+    /// How many bytes it has.
+    pub size: u64,
+    /// Its bytes.
+    pub bytes: &'a [u8],
+    /// Their order.
+    pub endian: Endian,
+}
+
+/// A region of memory of a [`MINIDUMP_MEMORY_DESCRIPTOR`].
+pub type MinidumpMemory<'a> = MinidumpMemoryBase<'a, MINIDUMP_MEMORY_DESCRIPTOR>;
+
+/// A region of memory of a [`MINIDUMP_MEMORY_DESCRIPTOR64`].
+pub type MinidumpMemory64<'a> = MinidumpMemoryBase<'a, MINIDUMP_MEMORY_DESCRIPTOR64>;
+
+impl<'a, D> MinidumpMemoryBase<'a, D> {
+    /// The number at an address, in the byte order of the dump, where the region has all of its bytes.
+    pub fn get_memory_at_address<T: FixedRead>(&self, addr: u64) -> Option<T>
+        ensures { result ≡ number_in T.SIZE T.value (memory_of self.now) addr }
+    {
+        let offset = addr.checked_sub(self.base_address)?;
+        Source::new(self.bytes).record(offset, self.endian, &mut Steps::new())
+    }
+}
+
+impl<'a> MinidumpMemory<'a> {
+    /// The region of a descriptor, with its bytes out of those of the file. `MemoryReadFailure` where it
+    /// has no place or no size, `StreamReadFailure` where its bytes are not in the file.
+    pub fn read(
+        desc: &MINIDUMP_MEMORY_DESCRIPTOR,
+        all: &'a [u8],
+        endian: Endian,
+    ) -> Result<MinidumpMemory<'a>, Error>
+        ensures { Gives memory_of ⊥ result (described all.now endian desc.now) }
+    {
+        MinidumpMemory::read_counted(desc, Source::new(all), endian, &mut Steps::new())
+    }
+
+    /// The same, and counts its reads: one at most.
+    pub fn read_counted(
+        desc: &MINIDUMP_MEMORY_DESCRIPTOR,
+        all: Source<'a>,
+        endian: Endian,
+        steps: &mut Steps,
+    ) -> Result<MinidumpMemory<'a>, Error>
+        ensures means { Gives memory_of ⊥ result (described (bytes_of all.entry) endian desc.now) }
+        ensures within { steps.new ≤ steps.old + 1 }
+        ensures grows { steps.old ≤ steps.new }
+    {
+        let memory = desc.memory;
+        if memory.rva == 0 || memory.data_size == 0 {
+            return Err(Error::MemoryReadFailure);
+        }
+        let bytes = all
+            .span(memory.rva as u64, memory.data_size as u64, steps)
+            .ok_or(Error::StreamReadFailure)?;
+        Ok(MinidumpMemoryBase {
+            desc: *desc,
+            base_address: desc.start_of_memory_range,
+            size: memory.data_size as u64,
+            bytes,
+            endian,
+        })
+    }
+}
