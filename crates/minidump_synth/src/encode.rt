@@ -1,5 +1,6 @@
 //! The bytes of records.
 mod header;
+mod memory;
 mod plain;
 mod system;
 

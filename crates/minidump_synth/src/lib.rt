@@ -14,6 +14,7 @@
 mod device;
 mod dump;
 mod encode;
+mod memory;
 mod section;
 
 pub use device::{FailsAt, Full, OneByte, TakesNone};

@@ -2,7 +2,7 @@ use crate::{Encode, FailsAt, Full, OneByte, Section, SynthMinidump, TakesNone, z
 use minidump_bytes::{Endian, Record, Refused, Told};
 use minidump_format::format::{
     ARMCpuInfo, MINIDUMP_DIRECTORY, MINIDUMP_HEADER, MINIDUMP_LOCATION_DESCRIPTOR,
-    MINIDUMP_SYSTEM_INFO, X86CpuInfo,
+    MINIDUMP_MEMORY_DESCRIPTOR, MINIDUMP_MEMORY_DESCRIPTOR64, MINIDUMP_SYSTEM_INFO, X86CpuInfo,
 };
 use std::alloc::{AllocError, Global};
 use std::fmt::Debug;
@@ -242,6 +242,97 @@ fn writes_records(rt: HostRuntime) -> Result<(), Fail> {
     want[0] = 1;
     want[1] = 2;
     assert_eq!(rt; bytes.as_slice(), want.as_slice());
+    Ok(())
+}
+
+#[test]
+fn writes_descriptors_of_memory(rt: HostRuntime) -> Result<(), Fail> {
+    let alloc = rt.alloc();
+    reads_back(
+        &rt,
+        alloc,
+        MINIDUMP_MEMORY_DESCRIPTOR {
+            start_of_memory_range: 0x0102_0304_0506_0708,
+            memory: MINIDUMP_LOCATION_DESCRIPTOR {
+                data_size: 0x090a_0b0c,
+                rva: 0x0d0e_0f10,
+            },
+        },
+    )?;
+    reads_back(
+        &rt,
+        alloc,
+        MINIDUMP_MEMORY_DESCRIPTOR64 {
+            start_of_memory_range: 0x0102_0304_0506_0708,
+            data_size: 0x090a_0b0c_0d0e_0f10,
+        },
+    )?;
+    Ok(())
+}
+
+// Two regions of two and three bytes, their list, and its entry in the directory.
+const LIST: [u8; 53] = [
+    0xaa, 0xab, //
+    0xba, 0xbb, 0xbc, //
+    2, 0, 0, 0, //
+    0x08, 7, 6, 5, 4, 3, 2, 1, 2, 0, 0, 0, 0x20, 0, 0, 0, //
+    0x00, 0x20, 0, 0, 0, 0, 0, 0, 3, 0, 0, 0, 0x22, 0, 0, 0, //
+    5, 0, 0, 0, 0x24, 0, 0, 0, 0x25, 0, 0, 0,
+];
+
+// The same in the other byte order.
+const LIST_BIG: [u8; 53] = [
+    0xaa, 0xab, //
+    0xba, 0xbb, 0xbc, //
+    0, 0, 0, 2, //
+    1, 2, 3, 4, 5, 6, 7, 0x08, 0, 0, 0, 2, 0, 0, 0, 0x20, //
+    0, 0, 0, 0, 0, 0, 0x20, 0x00, 0, 0, 0, 3, 0, 0, 0, 0x22, //
+    0, 0, 0, 5, 0, 0, 0, 0x24, 0, 0, 0, 0x25,
+];
+
+#[test]
+fn writes_a_list_of_memory(rt: HostRuntime) -> Result<(), Fail> {
+    for (endian, want) in [(Endian::Little, &LIST), (Endian::Big, &LIST_BIG)] {
+        let mut dump = SynthMinidump::new(rt.alloc(), endian);
+        let regions = [
+            dump.add_memory(0x0102_0304_0506_0708, &[0xaa, 0xab]),
+            dump.add_memory(0x2000, &[0xba, 0xbb, 0xbc]),
+        ];
+        dump.add_stream(5, dump.section().list(&regions));
+        assert_eq!(rt; dump.finish()?.get(32..), Some(want.as_slice()));
+    }
+    Ok(())
+}
+
+// The same regions behind one another with a list of 64 bits, and its entry in the directory.
+const LIST64: [u8; 65] = [
+    0xaa, 0xab, 0xba, 0xbb, 0xbc, //
+    2, 0, 0, 0, 0, 0, 0, 0, 0x20, 0, 0, 0, 0, 0, 0, 0, //
+    0x08, 7, 6, 5, 4, 3, 2, 1, 2, 0, 0, 0, 0, 0, 0, 0, //
+    0x00, 0x20, 0, 0, 0, 0, 0, 0, 3, 0, 0, 0, 0, 0, 0, 0, //
+    9, 0, 0, 0, 0x30, 0, 0, 0, 0x25, 0, 0, 0,
+];
+
+// The same in the other byte order.
+const LIST64_BIG: [u8; 65] = [
+    0xaa, 0xab, 0xba, 0xbb, 0xbc, //
+    0, 0, 0, 0, 0, 0, 0, 2, 0, 0, 0, 0, 0, 0, 0, 0x20, //
+    1, 2, 3, 4, 5, 6, 7, 0x08, 0, 0, 0, 0, 0, 0, 0, 2, //
+    0, 0, 0, 0, 0, 0, 0x20, 0x00, 0, 0, 0, 0, 0, 0, 0, 3, //
+    0, 0, 0, 9, 0, 0, 0, 0x30, 0, 0, 0, 0x25,
+];
+
+#[test]
+fn writes_a_64_bit_list_of_memory(rt: HostRuntime) -> Result<(), Fail> {
+    let regions: [(u64, &[u8]); 2] = [
+        (0x0102_0304_0506_0708, &[0xaa, 0xab]),
+        (0x2000, &[0xba, 0xbb, 0xbc]),
+    ];
+    for (endian, want) in [(Endian::Little, &LIST64), (Endian::Big, &LIST64_BIG)] {
+        let mut dump = SynthMinidump::new(rt.alloc(), endian);
+        dump.add_memory64_list(&regions);
+        assert_eq!(rt; dump.finish()?.get(32..), Some(want.as_slice()));
+    }
     Ok(())
 }
 

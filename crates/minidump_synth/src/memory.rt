@@ -1,0 +1,29 @@
+use crate::SynthMinidump;
+use minidump_format::format::{
+    MINIDUMP_MEMORY_DESCRIPTOR, MINIDUMP_MEMORY_DESCRIPTOR64, MINIDUMP_STREAM_TYPE,
+};
+
+impl SynthMinidump {
+    /// Places the bytes of a region of memory, and answers its descriptor for a list of regions.
+    pub fn add_memory(&mut self, base: u64, bytes: &[u8]) -> MINIDUMP_MEMORY_DESCRIPTOR {
+        MINIDUMP_MEMORY_DESCRIPTOR {
+            start_of_memory_range: base,
+            memory: self.add_located(&bytes),
+        }
+    }
+
+    /// Places the bytes of regions of memory, one after another, and adds the stream of their 64-bit list.
+    pub fn add_memory64_list(&mut self, regions: &[(u64, &[u8])]) {
+        let rva = self.rva();
+        let mut list = self.section();
+        list.u64(regions.len() as u64).u64(u64::from(rva));
+        for (base, bytes) in regions {
+            self.add(bytes);
+            list.record(&MINIDUMP_MEMORY_DESCRIPTOR64 {
+                start_of_memory_range: *base,
+                data_size: bytes.len() as u64,
+            });
+        }
+        self.add_stream(MINIDUMP_STREAM_TYPE::Memory64ListStream as u32, &list);
+    }
+}
