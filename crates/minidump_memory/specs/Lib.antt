@@ -1,2 +1,4 @@
 pub mod Memory
 pub mod MemoryList
+pub mod Seen
+pub mod Unified

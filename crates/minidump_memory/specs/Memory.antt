@@ -5,6 +5,8 @@ use Rattle.minidump_bytes.specs.Span.{record_at, span}
 use Rattle.minidump_format.specs.declared.error.Error.{Error}
 use Rattle.minidump_format.specs.declared.error.Error.TheVariants.{MemoryReadFailure, StreamReadFailure}
 use Rattle.minidump_format.specs.declared.format.memory.MINIDUMP_MEMORY_DESCRIPTOR.{MINIDUMP_MEMORY_DESCRIPTOR}
+use Rattle.minidump_index.specs.declared.range.Range.{Range}
+use Rattle.minidump_index.specs.Overlap.{range_of}
 use Rattle.minidump_memory.specs.declared.memory.MinidumpMemoryBase.{MinidumpMemoryBase}
 
 pub record Memory (D : Type 0) : Type 0 where
@@ -16,6 +18,10 @@ pub record Memory (D : Type 0) : Type 0 where
 
 abbrev pub memory_of : {D : Type 0} → MinidumpMemoryBase D → Memory D
 memory_of m = record { desc = m.desc; base_address = m.base_address; size = m.size; bytes = m.bytes.now; endian = m.endian }
+
+-- its addresses
+abbrev pub memory_range : {D : Type 0} → MinidumpMemoryBase D → Option Range
+memory_range m = range_of m.base_address m.size
 
 -- the record of a size at an address, where all of it is in the region's bytes
 abbrev pub number_in : {D T : Type 0} → ℕ → (Endian → List ℕ → T) → Memory D → ℕ → Option T

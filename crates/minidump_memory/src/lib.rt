@@ -2,6 +2,11 @@
 #![tactic(auto)]
 
 mod memory;
+mod memory_list;
 mod regions;
+mod streams;
+mod unified;
 
 pub use memory::{MinidumpMemory, MinidumpMemory64, MinidumpMemoryBase};
+pub use memory_list::{MinidumpMemory64List, MinidumpMemoryList, MinidumpMemoryListBase};
+pub use unified::{UnifiedMemory, UnifiedMemoryList};

@@ -1,11 +1,12 @@
 ghost use Rattle.std.specs.Prelude.{◌≡◌, ◌+◌, ◌≤◌};
 ghost use Rattle.minidump_bytes.specs.Source.{bytes_of};
 ghost use Rattle.minidump_format.specs.Answer.{Gives};
-ghost use Rattle.minidump_memory.specs.Memory.{described, memory_of, number_in};
+ghost use Rattle.minidump_memory.specs.Memory.{described, memory_of, memory_range, number_in};
 
 use minidump_bytes::{Endian, FixedRead, Source, Steps};
 use minidump_format::Error;
 use minidump_format::format::{MINIDUMP_MEMORY_DESCRIPTOR, MINIDUMP_MEMORY_DESCRIPTOR64};
+use minidump_index::{Range, Region};
 
 /// A region of memory, and its bytes as they lie in the file.
 #[derive(Clone, Drop)]
@@ -35,6 +36,21 @@ impl<'a, D> MinidumpMemoryBase<'a, D> {
     {
         let offset = addr.checked_sub(self.base_address)?;
         Source::new(self.bytes).record(offset, self.endian, &mut Steps::new())
+    }
+
+    /// Its addresses, or `None` where it has none.
+    pub fn memory_range(&self) -> Option<Range>
+        ensures { result ≡ memory_range self.now }
+    {
+        Range::from_size(self.base_address, self.size)
+    }
+}
+
+impl<'a, D> Region for MinidumpMemoryBase<'a, D> {
+    ghost range = { memory_range };
+
+    fn memory_range(&self) -> Option<Range> {
+        Range::from_size(self.base_address, self.size)
     }
 }
 

@@ -29,7 +29,7 @@ fn region_of<'a>(
 }
 
 // The regions of descriptors. One that is refused is skipped.
-fn read_regions<'a>(
+pub(crate) fn read_regions<'a>(
     alloc: Global,
     descriptors: &[MINIDUMP_MEMORY_DESCRIPTOR],
     all: Source<'a>,
@@ -75,7 +75,7 @@ fn region_at<'a>(
 
 // The regions of descriptors, whose bytes lie one behind another from a place on. All of them have to be
 // in the file.
-fn read_regions_64<'a>(
+pub(crate) fn read_regions_64<'a>(
     alloc: Global,
     rva: u64,
     descriptors: &[MINIDUMP_MEMORY_DESCRIPTOR64],

@@ -1,0 +1,3 @@
+//! The two streams of memory.
+pub(crate) mod memory;
+pub(crate) mod memory64;
