@@ -165,7 +165,7 @@ same_place : (kept : List Entry) (e f : Entry) (i j : ℕ) → i ≡ j → i < l
 same_place kept e f i j same within at_e at_f = sym at_e ∙ get_or_default kept i e f within ∙ ap (λ (k : ℕ). get_or kept k f) same ∙ at_f
 
 -- of two kept entries the earlier ends before the later starts
-apart_two : (kept : List Entry) (e f : Entry) → IsAscending kept → Contains kept e → Contains kept f → (e ≡ f) ⊎ ((e.range.end < f.range.start) ⊎ (f.range.end < e.range.start))
+pub apart_two : (kept : List Entry) (e f : Entry) → IsAscending kept → Contains kept e → Contains kept f → (e ≡ f) ⊎ ((e.range.end < f.range.start) ⊎ (f.range.end < e.range.start))
 apart_two kept e f up (i, within_i, at_i) (j, within_j, at_j) =
     elim (cases_lt i j) [
       | inl lt ↦ inr (inl (ends_before kept e f i j up lt within_j at_i at_j))

@@ -2,5 +2,11 @@ pub mod Apart
 pub mod DigitsLemmas
 pub mod Exists
 pub mod Find
+pub mod Looked
+pub mod Members
 pub mod One
+pub mod Order
 pub mod Ranged
+pub mod RegionsLemmas
+pub mod Sizes
+pub mod Views

@@ -1,3 +1,4 @@
 pub mod Digits
 pub mod Kept
+pub mod Lookup
 pub mod Overlap

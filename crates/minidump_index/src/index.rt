@@ -1,4 +1,4 @@
-ghost use Rattle.std.specs.Prelude.{◌≡◌, ◌+◌, ◌<◌, ◌≤◌, IfOk, IfErr, MatchBool, All, Any, length};
+ghost use Rattle.std.specs.Prelude.{◌≡◌, ◌+◌, ◌<◌, ◌≤◌, IfOk, IfErr, MatchBool, All, Any, [], length};
 ghost use Rattle.std.specs.Iterator.{YieldsFirst, YieldsLast, item_count};
 ghost use Rattle.minidump_index.specs.Digits.{digits};
 ghost use Rattle.minidump_index.specs.Kept.{places, IsIndexOf, HoldsRanged, IsFound, IsAscending, IsInOrder, KeepsApart};
@@ -76,6 +76,15 @@ fn apart(alloc: Global, entries: &[Entry]) -> Result<Vec<Entry>, AllocError>
 }
 
 impl AddressIndex {
+    // The index of no ranges.
+    pub(crate) fn empty(alloc: Global) -> AddressIndex
+        ensures { result ≡ [] }
+    {
+        AddressIndex {
+            kept: Vec::new(alloc),
+        }
+    }
+
     /// The kept ranges of a list. The only refusal is [`Error::OutOfMemory`].
     pub fn build(alloc: Global, ranges: &[Option<Range>]) -> Result<AddressIndex, Error>
         ensures kept { IfOk result (λ index. IsIndexOf ranges.now index) }
