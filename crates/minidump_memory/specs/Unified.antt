@@ -13,9 +13,9 @@ use Rattle.minidump_memory.specs.Memory.{memory_of, memory_range, number_in}
 use Rattle.minidump_memory.specs.Seen.{regions_of}
 
 -- a region of either kind of list
-data pub Either : Type 0 where
-  Plain : MinidumpMemoryBase MINIDUMP_MEMORY_DESCRIPTOR → Either
-  Long : MinidumpMemoryBase MINIDUMP_MEMORY_DESCRIPTOR64 → Either
+pub data Either : Type 0 where
+  Plain : (m : MinidumpMemoryBase MINIDUMP_MEMORY_DESCRIPTOR) → Either
+  Long : (m : MinidumpMemoryBase MINIDUMP_MEMORY_DESCRIPTOR64) → Either
 
 -- the region that is referred to
 abbrev pub either_of : UnifiedMemory → Either

@@ -9,4 +9,4 @@ mod unified;
 
 pub use memory::{MinidumpMemory, MinidumpMemory64, MinidumpMemoryBase};
 pub use memory_list::{MinidumpMemory64List, MinidumpMemoryList, MinidumpMemoryListBase};
-pub use unified::{UnifiedMemory, UnifiedMemoryList};
+pub use unified::{UnifiedMemory, UnifiedMemoryByAddress, UnifiedMemoryIter, UnifiedMemoryList};

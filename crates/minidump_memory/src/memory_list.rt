@@ -1,5 +1,5 @@
 ghost use Rattle.std.specs.Prelude.{◌≡◌, ◌≤◌, [], IfOk, IfErr};
-ghost use Rattle.std.specs.Slice.{iter_rest};
+ghost use Rattle.std.specs.Slice.Iter.{iter_rest};
 ghost use Rattle.std.specs.Option.{option_copied};
 ghost use Rattle.minidump_index.specs.Lookup.{IsByAddress, IsLookedUp, WithinDigits};
 ghost use Rattle.minidump_memory.specs.Memory.{memory_range};
@@ -44,7 +44,7 @@ impl<'a, D: Drop> MinidumpMemoryListBase<'a, D> {
         alloc: Global,
         regions: Vec<MinidumpMemoryBase<'a, D>>,
     ) -> Result<MinidumpMemoryListBase<'a, D>, Error>
-        ensures list { IfOk result (λ list. regions_of list ≡ regions.items) }
+        ensures list { IfOk result (λ list. regions_of list ≡ regions.entry.items) }
         ensures memory { IfErr result (λ e. e ≡ Error.OutOfMemory) }
     {
         Ok(MinidumpMemoryListBase {

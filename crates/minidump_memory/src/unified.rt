@@ -1,13 +1,15 @@
 ghost use Rattle.std.specs.Prelude.{◌≡◌, ◌≤◌, [], map};
-ghost use Rattle.std.specs.Option.{option_map};
+ghost use Rattle.std.specs.Option.{option_copied, option_map};
 ghost use Rattle.std.specs.Iterator.{YieldsFirstBy, YieldsLastBy, item_count};
 ghost use Rattle.minidump_index.specs.Lookup.{IsByAddress, IsLookedUp, WithinDigits};
-ghost use Rattle.minidump_memory.specs.Unified.{either_base, either_bytes, either_number, either_of, either_range, either_size, eithers_of};
+ghost use Rattle.minidump_memory.specs.Unified.{Plain, Long, either_base, either_bytes, either_number, either_of, either_range, either_size, eithers_of};
+ghost use Rattle.minidump_memory.specs.UnifiedIter.{eithers_left, eithers_by_address};
 
 use crate::{MinidumpMemory, MinidumpMemory64, MinidumpMemory64List, MinidumpMemoryList};
 use minidump_bytes::{FixedRead, Steps};
 use minidump_index::{Range, RegionsByAddress};
 use std::alloc::Global;
+use std::slice;
 
 /// A region of memory of either kind of list.
 #[derive(Clone, Copy)]
@@ -104,12 +106,127 @@ impl<'a> UnifiedMemoryList<'a> {
         ensures grows { steps.old ≤ steps.new }
     {
         match self {
-            UnifiedMemoryList::Memory(list) => list
-                .memory_at_address_counted(address, steps)
-                .map(UnifiedMemory::Memory),
-            UnifiedMemoryList::Memory64(list) => list
-                .memory_at_address_counted(address, steps)
-                .map(UnifiedMemory::Memory64),
+            UnifiedMemoryList::Memory(list) => {
+                plain(list.memory_at_address_counted(address, steps))
+            }
+            UnifiedMemoryList::Memory64(list) => {
+                long(list.memory_at_address_counted(address, steps))
+            }
+        }
+    }
+
+    /// All regions of the list that is held, in its order.
+    pub fn iter(&self) -> UnifiedMemoryIter<'_, 'a>
+        ensures { eithers_left result ≡ eithers_of self.now }
+    {
+        UnifiedMemoryIter {
+            left: match self {
+                UnifiedMemoryList::Memory(list) => Left::Memory(list.iter()),
+                UnifiedMemoryList::Memory64(list) => Left::Memory64(list.iter()),
+            },
+        }
+    }
+
+    /// The kept regions of the list that is held, ascending by address, from both ends.
+    pub fn by_addr(&self) -> UnifiedMemoryByAddress<'_, 'a>
+        ensures { IsByAddress either_range (eithers_of self.now) (eithers_by_address result) }
+    {
+        UnifiedMemoryByAddress {
+            left: match self {
+                UnifiedMemoryList::Memory(list) => Kept::Memory(list.by_addr()),
+                UnifiedMemoryList::Memory64(list) => Kept::Memory64(list.by_addr()),
+            },
+        }
+    }
+}
+
+fn plain<'s, 'a>(region: Option<&'s MinidumpMemory<'a>>) -> Option<UnifiedMemory<'s, 'a>>
+    ensures { option_map either_of result ≡ option_map Plain (option_copied region.entry) }
+{
+    region.map(UnifiedMemory::Memory)
+}
+
+fn long<'s, 'a>(region: Option<&'s MinidumpMemory64<'a>>) -> Option<UnifiedMemory<'s, 'a>>
+    ensures { option_map either_of result ≡ option_map Long (option_copied region.entry) }
+{
+    region.map(UnifiedMemory::Memory64)
+}
+
+#[derive(Drop)]
+enum Left<'a, 'mdmp> {
+    Memory(slice::Iter<'a, MinidumpMemory<'mdmp>>),
+    Memory64(slice::Iter<'a, MinidumpMemory64<'mdmp>>),
+}
+
+/// All regions of a list of memory, in its order.
+#[derive(Drop)]
+pub struct UnifiedMemoryIter<'a, 'mdmp> {
+    left: Left<'a, 'mdmp>,
+}
+
+impl<'a, 'mdmp> Iterator for UnifiedMemoryIter<'a, 'mdmp> {
+    type Item = UnifiedMemory<'a, 'mdmp>;
+
+    ghost next_gives = { YieldsFirstBy either_of eithers_left };
+
+    ghost remaining = { item_count eithers_left };
+
+    fn next(&mut self) -> Option<UnifiedMemory<'a, 'mdmp>> {
+        match &mut self.left {
+            Left::Memory(regions) => plain(regions.next()),
+            Left::Memory64(regions) => long(regions.next()),
+        }
+    }
+
+    fn size_hint(&self) -> (usize, Option<usize>) {
+        match &self.left {
+            Left::Memory(regions) => regions.size_hint(),
+            Left::Memory64(regions) => regions.size_hint(),
+        }
+    }
+}
+
+#[derive(Drop)]
+enum Kept<'a, 'mdmp> {
+    Memory(RegionsByAddress<'a, MinidumpMemory<'mdmp>>),
+    Memory64(RegionsByAddress<'a, MinidumpMemory64<'mdmp>>),
+}
+
+/// The kept regions of a list of memory, ascending by address, from both ends.
+#[derive(Drop)]
+pub struct UnifiedMemoryByAddress<'a, 'mdmp> {
+    left: Kept<'a, 'mdmp>,
+}
+
+impl<'a, 'mdmp> Iterator for UnifiedMemoryByAddress<'a, 'mdmp> {
+    type Item = UnifiedMemory<'a, 'mdmp>;
+
+    ghost next_gives = { YieldsFirstBy either_of eithers_by_address };
+
+    ghost remaining = { item_count eithers_by_address };
+
+    fn next(&mut self) -> Option<UnifiedMemory<'a, 'mdmp>> {
+        match &mut self.left {
+            Kept::Memory(regions) => plain(regions.next()),
+            Kept::Memory64(regions) => long(regions.next()),
+        }
+    }
+
+    fn size_hint(&self) -> (usize, Option<usize>) {
+        match &self.left {
+            Kept::Memory(regions) => regions.size_hint(),
+            Kept::Memory64(regions) => regions.size_hint(),
+        }
+    }
+}
+
+impl<'a, 'mdmp> DoubleEndedIterator for UnifiedMemoryByAddress<'a, 'mdmp> {
+    ghost next_back_gives = { YieldsLastBy either_of eithers_by_address };
+
+    fn next_back(&mut self) -> Option<UnifiedMemory<'a, 'mdmp>> {
+        match &mut self.left {
+            Kept::Memory(regions) => plain(regions.next_back()),
+            Kept::Memory64(regions) => long(regions.next_back()),
         }
     }
 }

@@ -1,7 +1,7 @@
 ghost use Rattle.std.specs.Prelude.{◌≡◌};
 
-use crate::regions::read_regions;
 use crate::MinidumpMemoryListBase;
+use crate::regions::read_regions;
 use minidump_bytes::{Endian, Source, Steps};
 use minidump_format::Error;
 use minidump_format::format::MINIDUMP_MEMORY_DESCRIPTOR;

@@ -1,11 +1,11 @@
-use Rattle.std.proofs.Common.{arith, ◌≡◌, ℕ, refl, sym, ◌∙◌}
+use Rattle.std.proofs.Common.{arith, ℕ, sym}
 use Rattle.minidump_bytes.specs.Source.{bytes_of}
 use Rattle.minidump_format.specs.declared.format.memory.MINIDUMP_MEMORY_DESCRIPTOR64.{MINIDUMP_MEMORY_DESCRIPTOR64}
 use Rattle.minidump_system.specs.Framing.{List64}
 use Rattle.minidump_system.proofs.ListLemmas.{numbered_more}
 use Rattle.minidump_memory.specs.Memory.{memory_of}
 use Rattle.minidump_memory.specs.MemoryList.{place_64, placed}
-use Rattle.minidump_memory.proofs.PlacedLemmas.{inside_all, outside_one, place_more}
+use Rattle.minidump_memory.proofs.PlacedLemmas.{place_more}
 use Rattle.minidump_memory.proofs.regions.read_regions_64.Goals as goal
 
 pub loop-desc-preserved : goal.loop-desc-preserved
