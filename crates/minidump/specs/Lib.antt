@@ -6,3 +6,4 @@ pub mod Seen
 pub mod Streams
 pub mod Text
 pub mod File
+pub mod Memory

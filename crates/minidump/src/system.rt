@@ -7,6 +7,7 @@ ghost use Rattle.minidump.specs.Directory.{directory};
 ghost use Rattle.minidump.specs.Dump.{system_info_of};
 
 use crate::directory::DecidingEntry;
+use crate::memory::accepted;
 use minidump_bytes::{Endian, Source, Steps};
 use minidump_format::Error;
 use minidump_format::format::MINIDUMP_HEADER;
@@ -37,11 +38,5 @@ pub(crate) fn read_system_info(
     let Some(bytes) = source.span(location.rva as u64, location.data_size as u64, steps) else {
         return Ok(None);
     };
-    match MinidumpSystemInfo::read(alloc, Source::new(bytes), source, endian, None, steps) {
-        Ok(system) => Ok(Some(system)),
-        Err(error) => match error {
-            Error::OutOfMemory => Err(Error::OutOfMemory),
-            _ => Ok(None),
-        },
-    }
+    accepted(MinidumpSystemInfo::read(alloc, Source::new(bytes), source, endian, None, steps))
 }
