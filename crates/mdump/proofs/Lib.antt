@@ -1,1 +1,3 @@
+pub mod AddressLemmas
+pub mod CommandLemmas
 pub mod ListLemmas

@@ -1,1 +1,3 @@
+pub mod Address
 pub mod Command
+pub mod Lines

@@ -1,7 +1,9 @@
 //! `mdump`, which writes what a minidump holds as text.
 #![tactic(auto)]
 
+mod address;
 mod command;
+mod memory;
 mod program;
 
 use minidump::Told;

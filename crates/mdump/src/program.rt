@@ -1,8 +1,10 @@
 ghost use Rattle.std.specs.Prelude.{◌≡◌, ◌<◌, ◌≤◌, OnOk, false, length, map, string_bytes};
 ghost use Rattle.mdump.specs.Command.{IsCommand};
+ghost use Rattle.mdump.specs.Lines.{PutsMemoryLine};
 ghost use Rattle.minidump_bytes.specs.Told.{has_failed};
 
 use crate::command::Command;
+use crate::memory::memory_line;
 use minidump::{Error, Minidump, Told};
 use std::io::Write;
 use std::rt::Files;
@@ -13,6 +15,8 @@ const USAGE: &str = "usage: mdump dir FILE | at FILE HEXADDRESS | report FILE\n"
 ///
 /// - No words: the usage goes to `out`, and the status is 0.
 /// - `dir FILE`: the header and the directory of the file go to `out`, and the status is 0.
+/// - `at FILE HEXADDRESS`: the region of memory in which the address lies goes to `out` as a line, and
+///   the status is 0. The address is 1 to 16 hexadecimal digits, alone or behind `0x`.
 /// - A refusal: its name goes to `err`, and the status is 1. A failure of `out` is one, `IoError`.
 /// - Other words: the usage goes to `err`, and the status is 2. No file is opened.
 ///
@@ -33,6 +37,7 @@ pub fn run<R: Files + AllocGlobal, O: Write, E: Write>(
     } else {
         match Command::parse(words) {
             Some(Command::Dir(path)) => dir(rt, path, out),
+            Some(Command::At(path, address)) => at(rt, path, address, out),
             None => return bad_arguments(err),
         }
     };
@@ -49,6 +54,20 @@ fn dir<R: Files + AllocGlobal, O: Write>(rt: &R, path: &str, out: &mut Told<O>) 
     let mut bytes = Vec::new(alloc);
     let dump = Minidump::read_path(rt, alloc, path, &mut bytes)?;
     dump.print(alloc, out)
+}
+
+fn at<R: Files + AllocGlobal, O: Write>(
+    rt: &R,
+    path: &str,
+    address: u64,
+    out: &mut Told<O>,
+) -> Result<(), Error>
+    ensures { OnOk result (PutsMemoryLine O.contents out.old out.new) }
+{
+    let alloc = rt.alloc();
+    let mut bytes = Vec::new(alloc);
+    let dump = Minidump::read_path(rt, alloc, path, &mut bytes)?;
+    memory_line(&dump, alloc, address, out)
 }
 
 // The status of a refusal.

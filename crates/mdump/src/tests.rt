@@ -1,3 +1,5 @@
+use crate::address::hex_address;
+use crate::memory::made_memory_line;
 use crate::run;
 use minidump::Told;
 use std::io::{ErrorKind, Write};
@@ -107,13 +109,15 @@ fn shows_its_usage(rt: HostRuntime) -> Result<(), Fail> {
     assert_eq!(rt; answer.status, 0);
     assert_eq!(rt; answer.out.as_slice(), USAGE.as_bytes());
     assert_eq!(rt; answer.err.len(), 0);
-    let wrong: [&[&str]; 7] = [
+    let wrong: [&[&str]; 9] = [
         &["dir"],
         &["dir", "no/such.dmp", "more"],
         &["Dir", "no/such.dmp"],
         &["", "no/such.dmp"],
         &["--help"],
-        &["at", "no/such.dmp", "10"],
+        &["at", "no/such.dmp"],
+        &["at", "no/such.dmp", "10", "more"],
+        &["At", "no/such.dmp", "10"],
         &["report", "no/such.dmp"],
     ];
     for words in wrong {
@@ -121,6 +125,84 @@ fn shows_its_usage(rt: HostRuntime) -> Result<(), Fail> {
         assert_eq!(rt; answer.status, 2);
         assert_eq!(rt; answer.out.len(), 0);
         assert_eq!(rt; answer.err.as_slice(), USAGE.as_bytes());
+    }
+    Ok(())
+}
+
+#[test]
+fn refuses_bad_addresses(rt: HostRuntime) -> Result<(), Fail> {
+    for address in [
+        "",
+        "0x",
+        "00000000000000001",
+        "0x00000000000000001",
+        "+1",
+        "-1",
+        "0x+1",
+        " 1",
+        "1 ",
+        "1_0",
+        "0X1",
+        "0x0x1",
+        "1\n",
+        "g",
+        "\u{ff11}",
+    ] {
+        let answer = ran(&rt, &["at", "no/such.dmp", address])?;
+        assert_eq!(rt; answer.status, 2);
+        assert_eq!(rt; answer.out.len(), 0);
+        assert_eq!(rt; answer.err.as_slice(), USAGE.as_bytes());
+    }
+    Ok(())
+}
+
+#[test]
+fn reads_addresses(rt: HostRuntime) -> Result<(), Fail> {
+    for (word, want) in [
+        ("0", Some(0)),
+        ("1a00", Some(0x1a00)),
+        ("0x1A00", Some(0x1a00)),
+        ("0000000000000001", Some(1)),
+        ("ffffffffffffffff", Some(u64::MAX)),
+        ("0x123456789abcDEF0", Some(0x1234_5678_9abc_def0)),
+        ("0x", None),
+    ] {
+        assert_eq!(rt; hex_address(word), want);
+    }
+    Ok(())
+}
+
+#[test]
+fn writes_the_memory_at_an_address(rt: HostRuntime) -> Result<(), Fail> {
+    let path = "writes_the_memory_at_an_address.dmp";
+    fs::write(&rt, path, &ONE)?;
+    for address in ["0", "1a00", "0x1A00", "ffffffffffffffff"] {
+        let answer = ran(&rt, &["at", path, address])?;
+        assert_eq!(rt; answer.status, 0);
+        assert_eq!(rt; answer.out.as_slice(), b"memory none\n".as_slice());
+        assert_eq!(rt; answer.err.len(), 0);
+    }
+    fs::remove_file(&rt, path)?;
+    let answer = ran(&rt, &["at", "no/such.dmp", "0"])?;
+    assert_eq!(rt; answer.status, 1);
+    assert_eq!(rt; answer.out.len(), 0);
+    assert_eq!(rt; answer.err.as_slice(), b"FileNotFound\n".as_slice());
+    Ok(())
+}
+
+#[test]
+fn shows_a_region_of_memory(rt: HostRuntime) -> Result<(), Fail> {
+    let alloc = rt.alloc();
+    for (found, want) in [
+        (
+            Some((0x7fff_0001_a000, 0x1000)),
+            "memory 0x7fff0001a000 0x1000\n",
+        ),
+        (Some((0, 0)), "memory 0x0 0x0\n"),
+        (Some((u64::MAX, 0xab)), "memory 0xffffffffffffffff 0xab\n"),
+        (None, "memory none\n"),
+    ] {
+        assert_eq!(rt; made_memory_line(alloc, found)?.as_str(), want);
     }
     Ok(())
 }

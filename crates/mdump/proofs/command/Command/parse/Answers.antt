@@ -1,10 +1,23 @@
-use Rattle.std.proofs.Common.{refl, ap, sym, ◌∙◌, ◌≡◌, map, string_bytes, codes, ◌∷◌, []}
+use Rattle.std.proofs.Common.{codes, map, string_bytes, ap, sym}
 use Rattle.std.proofs.lemmas.Slice.Eq.{bytes_eq-Decides}
-use Rattle.mdump.proofs.ListLemmas.{two_items}
+use Rattle.mdump.proofs.CommandLemmas.{no_address}
+use Rattle.mdump.proofs.ListLemmas.{two_items, three_items}
 use Rattle.mdump.proofs.command.Command.parse.Goals as goal
 
-pub returns-in-len2 : goal.returns-in-len2
-returns-in-len2 c =
-    let words_are = two_items c.args.words.now c.word-item.result c.path-item.result c.in-len2.len_at_least c.in-len2.len_below c.word-item.is c.path-item.is in
-    let word_is : string_bytes c.word-item.result ≡ codes "dir" = sym c.as_str.ensures.value ∙ (bytes_eq-Decides c.as_str.result.now (codes "dir")).0 (sym c.if-eq.ensures) in
-    (λ _. (string_bytes c.path-item.result, ap (map string_bytes) words_are ∙ ap (λ w. w ∷ string_bytes c.path-item.result ∷ []) word_is), λ _. refl)
+pub returns-in-len2-clause-some : goal.returns-in-len2-clause-some
+returns-in-len2-clause-some c =
+    let are = ap (map string_bytes) (two_items c.args.words.now c.word-item.result c.path-item.result c.in-len2.len_at_least c.in-len2.len_below c.word-item.is c.path-item.is) in
+    let first = (bytes_eq-Decides c.as_str.result.now (codes "dir")).0 (sym c.if-eq.ensures) in
+    cc
+
+pub returns-in_ok-hex_address-in-len3-clause-some : goal.returns-in_ok-hex_address-in-len3-clause-some
+returns-in_ok-hex_address-in-len3-clause-some c =
+    let are = ap (map string_bytes) (three_items c.args.words.now c.word-item-then-words-lt4.result c.path-item-then-words-lt4.result c.address-item.result c.in-len3.len_at_least c.in-len3.len_below c.word-item-then-words-lt4.is c.path-item-then-words-lt4.is c.address-item.is) in
+    let first = (bytes_eq-Decides c.as_str-then-words-lt4.result.now (codes "at")).0 (sym c.if-eq-2.ensures) in
+    (c.as_str-in-len3-2.result.now, cc, (c.hex_address.ensures c.in_ok-hex_address-in-len3.field-0).0 c.in_ok-hex_address-in-len3.was)
+
+pub returns-in_err-hex_address-in-len3-clause-none : goal.returns-in_err-hex_address-in-len3-clause-none
+returns-in_err-hex_address-in-len3-clause-none c =
+    let are = ap (map string_bytes) (three_items c.args.words.now c.word-item-then-words-lt4.result c.path-item-then-words-lt4.result c.address-item.result c.in-len3.len_at_least c.in-len3.len_below c.word-item-then-words-lt4.is c.path-item-then-words-lt4.is c.address-item.is) in
+    let first = (bytes_eq-Decides c.as_str-then-words-lt4.result.now (codes "at")).0 (sym c.if-eq-2.ensures) in
+    rw c.from_residual.ensures (λ is. no_address (map string_bytes c.args.words.now) c.as_str-in-len3.result.now c.as_str-in-len3-2.result.now c.hex_address.result (cc) c.in_err-hex_address-in-len3.was c.hex_address.ensures is.0 is.1)

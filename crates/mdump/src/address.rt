@@ -1,0 +1,22 @@
+ghost use Rattle.std.specs.Prelude.{◌≡◌, ◌↔◌, ℕ};
+ghost use Rattle.mdump.specs.Address.{SpellsAddress, WritesHex};
+
+// The address that the word spells.
+pub(crate) fn hex_address(word: &str) -> Option<u64>
+    ensures { (n : ℕ) → (result ≡ Some n) ↔ SpellsAddress word.now n }
+{
+    match word.strip_prefix("0x") {
+        Some(digits) => hex_digits(digits),
+        None => hex_digits(word),
+    }
+}
+
+// The number that 1 to 16 hexadecimal digits write.
+fn hex_digits(digits: &str) -> Option<u64>
+    ensures { (n : ℕ) → (result ≡ Some n) ↔ WritesHex digits.now n }
+{
+    if digits.len() > 16 || digits.starts_with('+') {
+        return None;
+    }
+    u64::from_str_radix(digits, 16).ok()
+}
