@@ -84,10 +84,9 @@ impl<R: Region> RegionList<R> {
     pub fn by_addr(&self) -> RegionsByAddress<'_, R>
         ensures { IsByAddress R.range self.now result }
     {
-        RegionsByAddress {
-            places: self.index.by_addr(),
-            regions: self.regions.as_slice(),
-        }
+        let places = self.index.by_addr();
+        let regions = self.regions.as_slice();
+        RegionsByAddress { places, regions }
     }
 }
 
