@@ -1,3 +1,5 @@
 pub mod AddressLemmas
 pub mod CommandLemmas
 pub mod ListLemmas
+pub mod SpotLemmas
+pub mod PrintLemmas

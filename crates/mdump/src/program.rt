@@ -1,6 +1,6 @@
 ghost use Rattle.std.specs.Prelude.{◌≡◌, ◌<◌, ◌≤◌, OnOk, false, length, map, string_bytes};
 ghost use Rattle.mdump.specs.Command.{IsCommand};
-ghost use Rattle.mdump.specs.Lines.{PutsMemoryLine};
+ghost use Rattle.mdump.specs.Lines.{PutsFileLine};
 ghost use Rattle.minidump_bytes.specs.Told.{has_failed};
 
 use crate::command::Command;
@@ -62,7 +62,7 @@ fn at<R: Files + AllocGlobal, O: Write>(
     address: u64,
     out: &mut Told<O>,
 ) -> Result<(), Error>
-    ensures { OnOk result (PutsMemoryLine O.contents out.old out.new) }
+    ensures { OnOk result (PutsFileLine O.contents address out.old out.new) }
 {
     let alloc = rt.alloc();
     let mut bytes = Vec::new(alloc);
