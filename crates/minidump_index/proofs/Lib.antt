@@ -7,6 +7,7 @@ pub mod Members
 pub mod One
 pub mod Order
 pub mod Ranged
+pub mod RegionLaws
 pub mod RegionsLemmas
 pub mod Sizes
 pub mod Views
