@@ -1,1 +1,2 @@
 pub mod PlacedLemmas
+pub mod UnifiedLemmas

@@ -1,6 +1,7 @@
 //! The regions of memory that a minidump holds, and lookups in them by address.
 #![tactic(auto)]
 
+pub mod laws;
 mod memory;
 mod memory_list;
 mod regions;
