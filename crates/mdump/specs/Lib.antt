@@ -1,3 +1,4 @@
 pub mod Address
 pub mod Command
 pub mod Lines
+pub mod Done

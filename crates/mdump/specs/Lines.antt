@@ -8,6 +8,7 @@ use Rattle.minidump_index.specs.declared.range.Range.{Range}
 use Rattle.minidump_index.specs.Overlap.{range_of}
 use Rattle.minidump_index.specs.Lookup.{IsLookedUp}
 use Rattle.minidump.specs.Dump.{Dump, dump_in}
+use Rattle.minidump.specs.Text.{dump_text}
 use Rattle.minidump.specs.Memory.{Memories, Plain, Long, memories_of_dump}
 
 -- the region of memory that was found, by its first address and its size, or that there is none
@@ -32,6 +33,10 @@ IsMemoryAt (Some memory) address found = IsLookedUp spot_range (spots memory) ad
 abbrev pub PutsMemoryLine : {D : Type 0} → (D → Option (List ℕ)) → Dump → ℕ → Told D → Told D → Type 0
 PutsMemoryLine contents dump address old new =
     (found : Option (ℕ × ℕ)) × IsMemoryAt (memories_of_dump dump) address found × PutsAll contents old new (memory_line found)
+
+-- the device took the text of some minidump's header and directory
+abbrev pub PutsDirectory : {D : Type 0} → (D → Option (List ℕ)) → Told D → Told D → Type 0
+PutsDirectory contents old new = (dump : Dump) × (dump_in dump.file ≡ Ok dump) × PutsAll contents old new (dump_text dump)
 
 -- the device took the line of some minidump
 abbrev pub PutsFileLine : {D : Type 0} → (D → Option (List ℕ)) → ℕ → Told D → Told D → Type 0

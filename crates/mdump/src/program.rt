@@ -1,11 +1,12 @@
-ghost use Rattle.std.specs.Prelude.{◌≡◌, ◌<◌, ◌≤◌, OnOk, false, length, map, string_bytes};
+ghost use Rattle.std.specs.Prelude.{◌≡◌, ◌<◌, ◌≤◌, OnOk, length, map, string_bytes};
 ghost use Rattle.mdump.specs.Command.{IsCommand};
-ghost use Rattle.mdump.specs.Lines.{PutsFileLine};
-ghost use Rattle.minidump_bytes.specs.Told.{has_failed};
+ghost use Rattle.mdump.specs.Done.{IsDone, IsObeyed};
+ghost use Rattle.mdump.specs.Lines.{PutsDirectory, PutsFileLine};
 
 use crate::command::Command;
 use crate::memory::memory_line;
 use minidump::{Error, Minidump, Told};
+use minidump_format::put_text;
 use std::io::Write;
 use std::rt::Files;
 
@@ -28,16 +29,15 @@ pub fn run<R: Files + AllocGlobal, O: Write, E: Write>(
     err: &mut Told<E>,
 ) -> u8
     ensures status { result ≤ 2 }
-    ensures written { result ≡ 0 → has_failed out.new ≡ false }
+    ensures done { result ≡ 0 → IsDone O.contents (map string_bytes words.now) out.old out.new }
     ensures bad { 0 < length words.now → ¬ (IsCommand (map string_bytes words.now))
         → (result ≡ 2) × (out.new ≡ out.old) }
 {
     let answer = if words.is_empty() {
-        out.put(USAGE.as_bytes()).map_err(|_| Error::IoError)
+        put_text(out, USAGE)
     } else {
         match Command::parse(words) {
-            Some(Command::Dir(path)) => dir(rt, path, out),
-            Some(Command::At(path, address)) => at(rt, path, address, out),
+            Some(command) => obey(rt, command, out),
             None => return bad_arguments(err),
         }
     };
@@ -47,8 +47,21 @@ pub fn run<R: Files + AllocGlobal, O: Write, E: Write>(
     }
 }
 
+fn obey<R: Files + AllocGlobal, O: Write>(
+    rt: &R,
+    command: Command<'_>,
+    out: &mut Told<O>,
+) -> Result<(), Error>
+    ensures { OnOk result (IsObeyed O.contents command.entry out.old out.new) }
+{
+    match command {
+        Command::Dir(path) => dir(rt, path, out),
+        Command::At(path, address) => at(rt, path, address, out),
+    }
+}
+
 fn dir<R: Files + AllocGlobal, O: Write>(rt: &R, path: &str, out: &mut Told<O>) -> Result<(), Error>
-    ensures { OnOk result (has_failed out.new ≡ false) }
+    ensures { OnOk result (PutsDirectory O.contents out.old out.new) }
 {
     let alloc = rt.alloc();
     let mut bytes = Vec::new(alloc);
