@@ -11,3 +11,6 @@ mod unified;
 pub use memory::{MinidumpMemory, MinidumpMemory64, MinidumpMemoryBase};
 pub use memory_list::{MinidumpMemory64List, MinidumpMemoryList, MinidumpMemoryListBase};
 pub use unified::{UnifiedMemory, UnifiedMemoryByAddress, UnifiedMemoryIter, UnifiedMemoryList};
+
+#[cfg(test)]
+mod tests;

@@ -1,2 +1,3 @@
+mod framing;
 mod names;
 mod os_parts;
