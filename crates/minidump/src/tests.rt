@@ -1,3 +1,4 @@
+mod memory;
 mod streams;
 
 use crate::format::{MINIDUMP_LOCATION_DESCRIPTOR, MINIDUMP_STREAM_TYPE};
