@@ -1,10 +1,16 @@
 use crate::address::hex_address;
 use crate::memory::made_memory_line;
 use crate::run;
-use minidump::Told;
+use minidump::{Endian, Told};
+use minidump_synth::SynthMinidump;
 use std::io::{ErrorKind, Write};
+use std::process::Abort;
+use std::rt::Files;
 use std::test::Fail;
 use std::{fs, io};
+
+// The type of the stream that lists memory.
+const MEMORY_LIST: u32 = 5;
 
 const USAGE: &str = "usage: mdump dir FILE | at FILE HEXADDRESS | report FILE\n";
 
@@ -42,7 +48,7 @@ struct Outcome {
     err: Vec<u8>,
 }
 
-fn ran(rt: &HostRuntime, words: &[&str]) -> Result<Outcome, Fail> {
+fn ran<R: Files + AllocGlobal>(rt: &R, words: &[&str]) -> Result<Outcome, Fail> {
     let alloc = rt.alloc();
     let mut owned = Vec::new(alloc);
     for word in words {
@@ -172,22 +178,86 @@ fn reads_addresses(rt: HostRuntime) -> Result<(), Fail> {
     Ok(())
 }
 
-#[test]
-fn writes_the_memory_at_an_address(rt: HostRuntime) -> Result<(), Fail> {
-    let path = "writes_the_memory_at_an_address.dmp";
-    fs::write(&rt, path, &ONE)?;
-    for address in ["0", "1a00", "0x1A00", "ffffffffffffffff"] {
-        let answer = ran(&rt, &["at", path, address])?;
-        assert_eq!(rt; answer.status, 0);
-        assert_eq!(rt; answer.out.as_slice(), b"memory none\n".as_slice());
+// Writes a file of this test's own, asks what lies at each address, and removes it.
+fn answers_at<R: Files + AllocGlobal + Abort>(
+    rt: &R,
+    path: &str,
+    bytes: &[u8],
+    lines: &[(&str, &str)],
+) -> Result<(), Fail> {
+    fs::write(rt, path, bytes)?;
+    for (address, line) in lines {
+        let answer = ran(rt, &["at", path, *address])?;
+        assert_eq!(rt; answer.status, 0, "at {address}");
+        assert_eq!(rt; answer.out.as_slice(), line.as_bytes(), "at {address}");
         assert_eq!(rt; answer.err.len(), 0);
     }
-    fs::remove_file(&rt, path)?;
+    fs::remove_file(rt, path)?;
+    Ok(())
+}
+
+#[test]
+fn writes_that_a_dump_without_memory_has_none(rt: HostRuntime) -> Result<(), Fail> {
+    let none = "memory none\n";
+    answers_at(
+        &rt,
+        "writes_that_a_dump_without_memory_has_none.dmp",
+        &ONE,
+        &[
+            ("0", none),
+            ("1a00", none),
+            ("0x1A00", none),
+            ("ffffffffffffffff", none),
+        ],
+    )?;
     let answer = ran(&rt, &["at", "no/such.dmp", "0"])?;
     assert_eq!(rt; answer.status, 1);
     assert_eq!(rt; answer.out.len(), 0);
     assert_eq!(rt; answer.err.as_slice(), b"FileNotFound\n".as_slice());
     Ok(())
+}
+
+// The second has the addresses of the first, the third and the fourth share some with it, and the last
+// begins where the first ends.
+#[test]
+fn writes_the_first_of_overlapping_regions(rt: HostRuntime) -> Result<(), Fail> {
+    let mut dump = SynthMinidump::new(rt.alloc(), Endian::Little);
+    let regions = [
+        dump.add_memory(0x1000, &[0; 0x1000]),
+        dump.add_memory(0x1000, &[1; 0x1000]),
+        dump.add_memory(0x1001, &[2; 0x1000]),
+        dump.add_memory(0x1001, &[3; 0x100]),
+        dump.add_memory(0x2000, &[4; 0x1000]),
+    ];
+    dump.add_stream(MEMORY_LIST, dump.section().list(&regions));
+    answers_at(
+        &rt,
+        "writes_the_first_of_overlapping_regions.dmp",
+        &dump.finish()?,
+        &[
+            ("0x1a00", "memory 0x1000 0x1000\n"),
+            ("1A00", "memory 0x1000 0x1000\n"),
+            ("2a00", "memory 0x2000 0x1000\n"),
+            ("0x9000", "memory none\n"),
+        ],
+    )
+}
+
+#[test]
+fn writes_the_region_of_a_64_list(rt: HostRuntime) -> Result<(), Fail> {
+    let mut dump = SynthMinidump::new(rt.alloc(), Endian::Little);
+    dump.add_memory64_list(&[(0x1234, b"another_block".as_slice())]);
+    answers_at(
+        &rt,
+        "writes_the_region_of_a_64_list.dmp",
+        &dump.finish()?,
+        &[
+            ("1233", "memory none\n"),
+            ("1234", "memory 0x1234 0xd\n"),
+            ("1240", "memory 0x1234 0xd\n"),
+            ("1241", "memory none\n"),
+        ],
+    )
 }
 
 #[test]
