@@ -1,5 +1,8 @@
-use Rattle.std.proofs.Common.{◌≡◌, ℕ, ◌<◌, ◌≤◌, ◌+◌, List, length, get_or, arith, subst, sym, refl, inl, inr, ◌∙◌}
-use Rattle.std.specs.Prelude.{Some, None}
+use Rattle.std.proofs.Common.{◌≡◌, ℕ, ◌<◌, ◌≤◌, ◌+◌, List, length, get_or, arith, subst, sym, refl, inl, inr, ◌∙◌, true, false, not}
+use Rattle.std.specs.Prelude.{Some, None, ◌==◌}
+use Rattle.std.specs.Ordering.{MatchOrdering, ordering_index}
+use Rattle.std.specs.declared.cmp.Ordering.{Ordering}
+use Rattle.std.specs.declared.cmp.Ordering.TheVariants.{Less, Equal, Greater}
 use Rattle.std.proofs.lemmas.List.{get_or_default}
 use Rattle.std.proofs.lemmas.Bool.{cases_lt}
 use Rattle.minidump_index.specs.declared.index.Entry.{Entry}
@@ -54,3 +57,31 @@ all_open entries address low high h k = record { below = λ i d lt. absurd (omeg
 
 pub found_at : (entries : List Entry) (address middle : ℕ) (e : Entry) → middle < length entries → e ≡ get_or entries middle e → IsIn address e.range → IsFound entries address (Some e.place)
 found_at entries address middle e within at inside = (e, (middle, within, sym at), inside, refl)
+
+-- ---- what the answer of a probe says
+pub is_less : (o : Ordering) (P Q R : Type 0) → false ≡ not (ordering_index o == 0) → MatchOrdering o P Q R → P
+is_less Less P Q R h m = m
+is_less Equal P Q R h m = let f : false ≡ true = h in cc
+is_less Greater P Q R h m = let f : false ≡ true = h in cc
+
+pub is_equal : (o : Ordering) (P Q R : Type 0) → true ≡ (ordering_index o == 1) → MatchOrdering o P Q R → Q
+is_equal Less P Q R h m = let f : true ≡ false = h in cc
+is_equal Equal P Q R h m = m
+is_equal Greater P Q R h m = let f : true ≡ false = h in cc
+
+pub is_greater : (o : Ordering) (P Q R : Type 0) → true ≡ not (ordering_index o == 0) → false ≡ (ordering_index o == 1) → MatchOrdering o P Q R → R
+is_greater Less P Q R h k m = let f : true ≡ false = h in cc
+is_greater Equal P Q R h k m = let f : false ≡ true = k in cc
+is_greater Greater P Q R h k m = m
+
+pub widen : (entries : List Entry) (address low high low2 high2 : ℕ) → low2 ≤ low → high ≤ high2 → Narrowed entries address low high → Narrowed entries address low2 high2
+widen entries address low high low2 high2 h k n = record {
+  below = λ i d lt. n.below i d (omega arith);
+  above = λ i d le lt. n.above i d (omega arith) lt;
+}
+
+pub inside_at : (entries : List Entry) (address middle : ℕ) (e d : Entry) → middle < length entries → e ≡ get_or entries middle e → IsIn address e.range → IsIn address (get_or entries middle d).range
+inside_at entries address middle e d within at inside = subst (λ (x : Entry). IsIn address x.range) (sym (get_or_default entries middle d e within ∙ sym at)) inside
+
+pub some_found : (entries : List Entry) (address place : ℕ) (e : Entry) → place < length entries → e ≡ get_or entries place e → ((d : Entry) → place < length entries → IsIn address (get_or entries place d).range) → IsFound entries address (Some e.place)
+some_found entries address place e within at inside = (e, (place, within, sym at), subst (λ (x : Entry). IsIn address x.range) (sym at) (inside e within), refl)

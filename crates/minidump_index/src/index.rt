@@ -1,10 +1,11 @@
-ghost use Rattle.std.specs.Prelude.{◌≡◌, ◌+◌, ◌<◌, ◌≤◌, Some, IfOk, IfErr, IfSome, MatchBool, All, Any, [], length};
+ghost use Rattle.std.specs.Prelude.{◌≡◌, ◌+◌, ◌<◌, ◌≤◌, Some, IfOk, IfErr, IfSome, MatchBool, All, Any, [], length, map, List, Option};
 ghost use Rattle.std.specs.Iterator.{YieldsFirst, YieldsLast, UpTo, at_most, item_count};
 ghost use Rattle.std.specs.Iterator.SizeHint.{IsWithinCount};
+ghost use Rattle.minidump_index.specs.declared.range.Range.{Range};
 ghost use Rattle.minidump_index.specs.Digits.{digits};
 ghost use Rattle.minidump_index.specs.Kept.{places, IsIndexOf, HoldsRanged, IsFound, IsAscending, IsInOrder, KeepsApart};
 
-use crate::Range;
+use crate::{Range, Region};
 use minidump_bytes::{Steps, probe};
 use minidump_format::Error;
 use std::alloc::{AllocError, Global};
@@ -51,6 +52,19 @@ fn ranged(alloc: Global, ranges: &[Option<Range>]) -> Result<Vec<Entry>, AllocEr
     Ok(entries)
 }
 
+// The regions that hold a range, by their places, with it.
+fn entries_of<R: Region>(alloc: Global, regions: &[R]) -> Result<Vec<Entry>, AllocError>
+    ensures { IfOk result (λ v. HoldsRanged (map R.range regions.now) v.items) }
+{
+    let mut entries = Vec::with_capacity(alloc, regions.len())?;
+    for (place, region) in regions.iter().enumerate() {
+        if let Some(range) = region.memory_range() {
+            entries.push(Entry { range, place })?;
+        }
+    }
+    Ok(entries)
+}
+
 // Whether every range ends before the address.
 fn is_free(kept: &[Entry], address: u64) -> bool
     requires { IsAscending kept.now }
@@ -62,18 +76,28 @@ fn is_free(kept: &[Entry], address: u64) -> bool
     }
 }
 
-// The entries that share no address with one kept before.
-fn apart(alloc: Global, entries: &[Entry]) -> Result<Vec<Entry>, AllocError>
-    requires { IsInOrder entries.now }
-    ensures { IfOk result (λ v. KeepsApart entries.now v.items) }
+// Drops each entry that shares an address with one kept before.
+fn drop_overlaps(entries: &mut Vec<Entry>)
+    requires { IsInOrder entries.old.items }
+    ensures { KeepsApart entries.old.items entries.new.items }
 {
-    let mut kept = Vec::with_capacity(alloc, entries.len())?;
-    for entry in entries {
-        if is_free(&kept, entry.range.start) {
-            kept.push(*entry)?;
+    let mut kept = 0;
+    for i in 0..entries.len() {
+        let entry = entries[i];
+        if is_free(&entries[..kept], entry.range.start) {
+            entries[kept] = entry;
+            kept += 1;
         }
     }
-    Ok(kept)
+    entries.truncate(kept);
+}
+
+// Sorts the entries of a list, and keeps those of its index.
+fn keep_apart(entries: &mut Vec<Entry>)
+    ensures { (ranges : List (Option Range)) → HoldsRanged ranges entries.old.items → IsIndexOf ranges entries.new.items }
+{
+    entries.sort_unstable();
+    drop_overlaps(entries);
 }
 
 impl AddressIndex {
@@ -91,9 +115,20 @@ impl AddressIndex {
         ensures kept { IfOk result (λ index. IsIndexOf ranges.now index) }
         ensures memory { IfErr result (λ e. e ≡ Error.OutOfMemory) }
     {
-        let mut entries = ranged(alloc, ranges)?;
-        entries.sort_unstable();
-        let kept = apart(alloc, &entries)?;
+        let mut kept = ranged(alloc, ranges)?;
+        keep_apart(&mut kept);
+        Ok(AddressIndex { kept })
+    }
+
+    // The index of the ranges of regions.
+    pub(crate) fn of_regions<R: Region>(
+        alloc: Global,
+        regions: &[R],
+    ) -> Result<AddressIndex, AllocError>
+        ensures { IfOk result (λ index. IsIndexOf (map R.range regions.now) index) }
+    {
+        let mut kept = entries_of(alloc, regions)?;
+        keep_apart(&mut kept);
         Ok(AddressIndex { kept })
     }
 
@@ -122,17 +157,26 @@ impl AddressIndex {
         ensures grows { steps.old ≤ steps.new }
     {
         let mut low = 0;
-        let mut high = self.kept.len();
-        while low < high {
-            let middle = low + (high - low) / 2;
+        let mut size = self.kept.len();
+        let mut found = usize::MAX;
+        while size > 0 {
+            let half = size / 2;
+            let middle = low + half;
             let entry = self.kept[middle];
-            match probe(entry.range.start, entry.range.end, address, steps) {
-                Ordering::Less => high = middle,
-                Ordering::Greater => low = middle + 1,
-                Ordering::Equal => return Some(entry.place),
-            }
+            let order = probe(entry.range.start, entry.range.end, address, steps);
+            found = if order == Ordering::Equal {
+                middle
+            } else {
+                found
+            };
+            low = if order != Ordering::Less {
+                low + (size - half)
+            } else {
+                low
+            };
+            size = half;
         }
-        None
+        Some(self.kept.get(found)?.place)
     }
 }
 

@@ -28,25 +28,13 @@ impl<R: Region> Model for RegionList<R> {
     ghost invariant = { λ s. IsIndexOf (map R.range s.regions.items) s.index };
 }
 
-// The range of each region.
-fn ranges<R: Region>(alloc: Global, regions: &[R]) -> Result<Vec<Option<Range>>, AllocError>
-    ensures { IfOk result (λ v. v.items ≡ map R.range regions.now) }
-{
-    let mut ranges = Vec::with_capacity(alloc, regions.len())?;
-    for region in regions {
-        ranges.push(region.memory_range())?;
-    }
-    Ok(ranges)
-}
-
 impl<R: Region + Drop> RegionList<R> {
     /// The list of these regions. The only refusal is [`Error::OutOfMemory`].
     pub fn from_regions(alloc: Global, regions: Vec<R>) -> Result<RegionList<R>, Error>
         ensures list { IfOk result (λ list. list ≡ regions.items) }
         ensures memory { IfErr result (λ e. e ≡ Error.OutOfMemory) }
     {
-        let ranges = ranges(alloc, &regions)?;
-        let index = AddressIndex::build(alloc, &ranges)?;
+        let index = AddressIndex::of_regions(alloc, &regions)?;
         Ok(RegionList { regions, index })
     }
 }

@@ -1,48 +1,48 @@
-use Rattle.std.proofs.Common.{arith, ◌+◌, ◌-◌, ◌/◌, ◌<◌, length}
-use Rattle.minidump_index.proofs.DigitsLemmas.{one_probe, digits-rises}
-use Rattle.minidump_index.proofs.Find.{narrow_left, narrow_right, all_open, found_at}
+use Rattle.std.proofs.Common.{arith, ◌+◌, ◌/◌, ◌<◌, length, sym, ◌∙◌}
+use Rattle.minidump_index.proofs.DigitsLemmas.{one_probe}
+use Rattle.minidump_index.proofs.Find.{narrow_left, narrow_right, is_less, is_equal, is_greater, widen, inside_at, some_found}
 use Rattle.minidump_index.proofs.index.AddressIndex.find.Goals as goal
+use Rattle.minidump_index.proofs.index.AddressIndex.find.Goals.{then-eq, else-eq}
 
-pub loop-low-init : goal.loop-low-init
-loop-low-init c = record {
-  order = omega arith;
-  within = omega arith;
-  narrowed = all_open _ _ _ _ (omega arith) (omega arith);
-  limit = omega (arith, digits-rises (c.len-high.result - 0) (length c.self.inside.kept.items) (omega arith));
-  grows = omega arith;
-}
+pub loop-size-preserved : goal.loop-size-preserved
+loop-size-preserved c =
+    let middle = c.loop-size.low + c.loop-size.size / 2 in
+    let within : c.loop-size.low + c.loop-size.size / 2 < length c.self.inside.kept.items = omega (arith, c.loop-size.invariant.within) in
+    let less = one_probe c.loop-size.size (c.loop-size.size / 2) (omega arith) (omega arith) in
+    let before = is_less c.probe-order.result _ _ _ (sym c.if-ne.false ∙ c.ne.ensures) c.probe-order.ensures.answer in
+    elim c.if-eq.branch [
+      | then-eq w ↦ (let same = is_equal c.probe-order.result _ _ _ (sym w.if-eq.true ∙ c.eq.ensures) c.probe-order.ensures.answer in absurd (omega (arith, before, same.0)))
+      | else-eq w ↦ rw w.found-is (record {
+        within = omega (arith, c.loop-size.invariant.within);
+        none = λ h. narrow_left _ _ _ _ _ c.index-entry.result.now c.self.invariant within c.index-entry.ensures before (c.loop-size.invariant.none h);
+        some = c.loop-size.invariant.some;
+        limit = omega (arith, less, c.probe-order.ensures.step, c.loop-size.invariant.limit);
+        grows = omega (arith, c.loop-size.invariant.grows, c.probe-order.ensures.step);
+      })
+    ]
 
-pub index-entry-requires : goal.index-entry-requires
-index-entry-requires c = omega arith
+pub loop-size-preserved-then-ne : goal.loop-size-preserved-then-ne
+loop-size-preserved-then-ne c =
+    let within : c.loop-size.low + c.loop-size.size / 2 < length c.self.inside.kept.items = omega (arith, c.loop-size.invariant.within) in
+    let less = one_probe c.loop-size.size (c.loop-size.size / 2) (omega arith) (omega arith) in
+    elim c.if-eq.branch [
+      | then-eq w ↦ rw w.found-is (record {
+        within = omega (arith, c.loop-size.invariant.within);
+        none = λ h. absurd (omega (arith, within, h));
+        some = λ d h. inside_at _ _ _ c.index-entry.result.now d within c.index-entry.ensures (is_equal c.probe-order.result _ _ _ (sym w.if-eq.true ∙ c.eq.ensures) c.probe-order.ensures.answer);
+        limit = omega (arith, less, c.probe-order.ensures.step, c.loop-size.invariant.limit);
+        grows = omega (arith, c.loop-size.invariant.grows, c.probe-order.ensures.step);
+      })
+      | else-eq w ↦ rw w.found-is (record {
+        within = omega (arith, c.loop-size.invariant.within);
+        none = λ h. widen _ _ _ _ _ _ (omega arith) (omega arith) (narrow_right _ _ _ _ _ c.index-entry.result.now c.self.invariant within c.index-entry.ensures (is_greater c.probe-order.result _ _ _ (sym c.if-ne.true ∙ c.ne.ensures) (sym w.if-eq.false ∙ c.eq.ensures) c.probe-order.ensures.answer).1 (c.loop-size.invariant.none h));
+        some = c.loop-size.invariant.some;
+        limit = omega (arith, less, c.probe-order.ensures.step, c.loop-size.invariant.limit);
+        grows = omega (arith, c.loop-size.invariant.grows, c.probe-order.ensures.step);
+      })
+    ]
 
-pub loop-low-preserved-in-Less : goal.loop-low-preserved-in-Less
-loop-low-preserved-in-Less c =
-    let within : c.loop-low.low + (c.loop-low.high - c.loop-low.low) / 2 < length c.self.inside.kept.items = omega arith in
-    let less = one_probe (c.loop-low.high - c.loop-low.low) (c.loop-low.low + (c.loop-low.high - c.loop-low.low) / 2 - c.loop-low.low) (omega arith) (omega arith) in
-    record {
-      order = omega arith;
-      within = omega arith;
-      narrowed = narrow_left _ _ _ _ _ c.index-entry.result.now c.self.invariant within c.index-entry.ensures c.in-Less.ensures.answer c.loop-low.invariant.narrowed;
-      limit = omega (arith, less, c.probe.ensures.step);
-      grows = omega (arith, c.loop-low.invariant.grows, c.probe.ensures.step);
-    }
-
-pub loop-low-preserved : goal.loop-low-preserved
-loop-low-preserved c =
-    let within : c.loop-low.low + (c.loop-low.high - c.loop-low.low) / 2 < length c.self.inside.kept.items = omega arith in
-    let less = one_probe (c.loop-low.high - c.loop-low.low) (c.loop-low.high - (c.loop-low.low + (c.loop-low.high - c.loop-low.low) / 2 + 1)) (omega arith) (omega arith) in
-    record {
-      order = omega arith;
-      within = omega arith;
-      narrowed = narrow_right _ _ _ _ _ c.index-entry.result.now c.self.invariant within c.index-entry.ensures c.in-Greater.ensures.answer.1 c.loop-low.invariant.narrowed;
-      limit = omega (arith, less, c.probe.ensures.step);
-      grows = omega (arith, c.loop-low.invariant.grows, c.probe.ensures.step);
-    }
-
-pub returns-in-Equal-clause-found : goal.returns-in-Equal-clause-found
-returns-in-Equal-clause-found c = rw (← c.self.view_is) (found_at _ _ _ c.index-entry.result.now (omega arith) c.index-entry.ensures c.in-Equal.ensures.answer)
-
-pub returns-in-Equal-clause-within : goal.returns-in-Equal-clause-within
-returns-in-Equal-clause-within c =
-    let less = one_probe (c.loop-low.high - c.loop-low.low) 0 (omega arith) (omega arith) in
-    rw (← c.self.view_is) (omega (arith, less, c.probe.ensures.step))
+pub returns-clause-found : goal.returns-clause-found
+returns-clause-found c =
+    let there = rw c.deref.ensures.value at c.in_ok-get.ensures.lookup in
+    rw (← c.self.view_is) (some_found c.self.inside.kept.items _ c.loop-size.found c.in_ok-get.field-0.now there.3.0 there.1 c.loop-size.invariant.some)
