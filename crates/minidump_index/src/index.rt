@@ -39,21 +39,8 @@ impl Model for AddressIndex {
     ghost invariant = { λ s. IsAscending s.kept.items };
 }
 
-// The places that hold a range, with it.
-fn ranged(alloc: Global, ranges: &[Option<Range>]) -> Result<Vec<Entry>, AllocError>
-    ensures { IfOk result (λ v. HoldsRanged ranges.now v.items) }
-{
-    let mut entries = Vec::with_capacity(alloc, ranges.len())?;
-    for (place, range) in ranges.iter().enumerate() {
-        if let Some(range) = *range {
-            entries.push(Entry { range, place })?;
-        }
-    }
-    Ok(entries)
-}
-
-// The regions that hold a range, by their places, with it.
-fn entries_of<R: Region>(alloc: Global, regions: &[R]) -> Result<Vec<Entry>, AllocError>
+// The places of regions that have a range, with it.
+fn ranged<R: Region>(alloc: Global, regions: &[R]) -> Result<Vec<Entry>, AllocError>
     ensures { IfOk result (λ v. HoldsRanged (map R.range regions.now) v.items) }
 {
     let mut entries = Vec::with_capacity(alloc, regions.len())?;
@@ -115,9 +102,7 @@ impl AddressIndex {
         ensures kept { IfOk result (λ index. IsIndexOf ranges.now index) }
         ensures memory { IfErr result (λ e. e ≡ Error.OutOfMemory) }
     {
-        let mut kept = ranged(alloc, ranges)?;
-        keep_apart(&mut kept);
-        Ok(AddressIndex { kept })
+        Ok(AddressIndex::of_regions(alloc, ranges)?)
     }
 
     // The index of the ranges of regions.
@@ -127,7 +112,7 @@ impl AddressIndex {
     ) -> Result<AddressIndex, AllocError>
         ensures { IfOk result (λ index. IsIndexOf (map R.range regions.now) index) }
     {
-        let mut kept = entries_of(alloc, regions)?;
+        let mut kept = ranged(alloc, regions)?;
         keep_apart(&mut kept);
         Ok(AddressIndex { kept })
     }
@@ -156,6 +141,7 @@ impl AddressIndex {
         ensures within { steps.new ≤ steps.old + digits (length self.now) }
         ensures grows { steps.old ≤ steps.new }
     {
+        // No branch depends on the addresses: one that is guessed wrongly costs more than a comparison.
         let mut low = 0;
         let mut size = self.kept.len();
         let mut found = usize::MAX;
