@@ -67,8 +67,8 @@ fn size_at(memory: &UnifiedMemoryList<'_>, address: u64) -> Option<u64> {
 fn takes_the_64_list_before_the_plain_list(rt: HostRuntime) -> Result<(), Fail> {
     let alloc = rt.alloc();
     for (list_64, plain, want) in [
-        (List::Good, List::Missing, Some((Some(4), None))),
         (List::Good, List::Good, Some((Some(4), None))),
+        (List::Good, List::Missing, Some((Some(4), None))),
         (List::Good, List::Short, Some((Some(4), None))),
         (List::Empty, List::Good, Some((None, None))),
         (List::Missing, List::Good, Some((Some(2), Some(1)))),
