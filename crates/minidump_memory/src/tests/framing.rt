@@ -99,7 +99,7 @@ fn refuses_64_lists_of_other_lengths(rt: HostRuntime) -> Result<(), Fail> {
     Ok(())
 }
 
-// Nothing is made that a test could refuse memory for: only the count is read, and of a 64 list the place.
+// The count alone refuses such a list: the test also passes where its first allocation fails.
 #[test]
 fn takes_no_memory_for_a_forged_count(rt: HostRuntime) -> Result<(), Fail> {
     let alloc = rt.alloc();
