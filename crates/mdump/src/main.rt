@@ -6,7 +6,7 @@ mod command;
 mod memory;
 mod program;
 
-use minidump::Told;
+use minidump::{Error, Told};
 pub use program::run;
 use std::process::ExitCode;
 use std::{env, io};
@@ -16,6 +16,9 @@ fn main(rt: HostRuntime) -> ExitCode {
     let mut err = Told::new(rt.stderr());
     let status = match words(&rt) {
         Ok(words) => run(&rt, words.as_slice(), &mut out, &mut err),
+        Err(error) if error.kind() == io::ErrorKind::OutOfMemory => {
+            program::refused(Error::OutOfMemory, &mut err)
+        }
         // A word that is no text is part of no command.
         Err(_) => program::bad_arguments(&mut err),
     };

@@ -30,6 +30,8 @@ pub fn run<R: Files + AllocGlobal, O: Write, E: Write>(
 ) -> u8
     ensures status { result ≤ 2 }
     ensures done { result ≡ 0 → IsDone O.contents (map string_bytes words.now) out.old out.new }
+    ensures none { length words.now ≡ 0 → result ≤ 1 }
+    ensures good { IsCommand (map string_bytes words.now) → result ≤ 1 }
     ensures bad { 0 < length words.now → ¬ (IsCommand (map string_bytes words.now))
         → (result ≡ 2) × (out.new ≡ out.old) }
 {
@@ -83,8 +85,8 @@ fn at<R: Files + AllocGlobal, O: Write>(
     memory_line(&dump, alloc, address, out)
 }
 
-// The status of a refusal.
-fn refused<E: Write>(error: Error, err: &mut Told<E>) -> u8
+/// The status of a refusal.
+pub(crate) fn refused<E: Write>(error: Error, err: &mut Told<E>) -> u8
     ensures { result ≡ 1 }
 {
     let _ = err.put(error.name().as_bytes());

@@ -7,3 +7,4 @@ pub mod Streams
 pub mod Text
 pub mod File
 pub mod Memory
+pub mod Answer

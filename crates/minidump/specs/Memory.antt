@@ -1,21 +1,16 @@
 -- The memory of a minidump, by either kind of list.
-use Rattle.std.specs.Prelude.{◌⊎◌, List, Option, Some, None, Result, Ok, Err, IsOk}
+use Rattle.std.specs.Prelude.{◌⊎◌, List, Option, Some, None, Result, Ok, Err, IsOk, IsOkAnd}
 use Rattle.minidump_format.specs.declared.error.Error.{Error}
-use Rattle.minidump_format.specs.declared.error.Error.TheVariants.{OutOfMemory}
 use Rattle.minidump_format.specs.declared.format.memory.MINIDUMP_MEMORY_DESCRIPTOR.{MINIDUMP_MEMORY_DESCRIPTOR}
 use Rattle.minidump_format.specs.declared.format.memory.MINIDUMP_MEMORY_DESCRIPTOR64.{MINIDUMP_MEMORY_DESCRIPTOR64}
 use Rattle.minidump_memory.specs.declared.unified.UnifiedMemoryList.{UnifiedMemoryList}
 use Rattle.minidump_memory.specs.declared.unified.UnifiedMemoryList.TheVariants as list
+use Rattle.minidump_format.specs.Memory.{memory_descriptor, memory_descriptor_64}
+use Rattle.minidump_system.specs.Framing.{list_64, plain_list}
 use Rattle.minidump_memory.specs.Memory.{Memory}
 use Rattle.minidump_memory.specs.MemoryList.{memory_list, memory_list_64}
 use Rattle.minidump_memory.specs.Seen.{memories_of}
 use Rattle.minidump.specs.Dump.{Dump, raw_stream, stream}
-
--- what was accepted: a refusal leaves it absent, but for want of memory
-abbrev pub accepted_of : {T : Type 0} → Result T Error → Result (Option T) Error
-accepted_of (Ok value) = Ok (Some value)
-accepted_of (Err OutOfMemory) = Err OutOfMemory
-accepted_of (Err _) = Ok None
 
 -- the regions of either kind of list
 pub data Memories : Type 0 where
@@ -36,6 +31,7 @@ abbrev pub memories_of_dump : Dump → Option Memories
 memories_of_dump d =
     first_accepted (stream 9 (λ bytes file order system. memory_list_64 bytes file order) d) (stream 5 (λ bytes file order system. memory_list bytes file order) d)
 
--- there are bytes of one of the two lists, so that it takes memory
+-- one of the two lists has the length that its count asks for, so that it takes memory
 abbrev pub TakesMemory : Dump → Type 0
-TakesMemory d = IsOk (raw_stream 9 d) ⊎ IsOk (raw_stream 5 d)
+TakesMemory d =
+    IsOkAnd (raw_stream 9 d) (λ b. IsOk (list_64 16 memory_descriptor_64 d.order b)) ⊎ IsOkAnd (raw_stream 5 d) (λ b. IsOk (plain_list 16 memory_descriptor d.order b))

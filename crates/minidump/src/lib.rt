@@ -1,6 +1,7 @@
 //! A reader of minidumps, the crash files that Windows, Breakpad and Crashpad write.
 #![tactic(auto)]
 
+mod answer;
 mod directory;
 mod dump;
 mod file;

@@ -1,10 +1,11 @@
-ghost use Rattle.std.specs.Prelude.{◌≡◌, IfErr, Ok};
+ghost use Rattle.std.specs.Prelude.{Ok};
 ghost use Rattle.std.specs.Option.{option_map};
 ghost use Rattle.minidump_format.specs.Answer.{Gives};
-ghost use Rattle.minidump.specs.Memory.{TakesMemory, accepted_of, memories_of_dump, memories_of_list};
+ghost use Rattle.minidump.specs.Memory.{TakesMemory, memories_of_dump, memories_of_list};
 ghost use Rattle.minidump.specs.Seen.{dump_of};
 
 use crate::Minidump;
+use crate::answer::accepted;
 use minidump_format::Error;
 use minidump_memory::{MinidumpMemory64List, MinidumpMemoryList, UnifiedMemoryList};
 use std::alloc::Global;
@@ -24,19 +25,5 @@ impl<'a> Minidump<'a> {
             Some(list) => Ok(Some(UnifiedMemoryList::Memory(list))),
             None => Ok(None),
         }
-    }
-}
-
-// What was accepted. A refusal leaves it absent, but for want of memory.
-pub(crate) fn accepted<T>(answer: Result<T, Error>) -> Result<Option<T>, Error>
-    ensures value { result ≡ accepted_of answer }
-    ensures memory { IfErr result (λ e. e ≡ Error.OutOfMemory) }
-{
-    match answer {
-        Ok(value) => Ok(Some(value)),
-        Err(error) => match error {
-            Error::OutOfMemory => Err(Error::OutOfMemory),
-            _ => Ok(None),
-        },
     }
 }

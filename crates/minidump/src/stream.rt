@@ -1,4 +1,4 @@
-ghost use Rattle.std.specs.Prelude.{◌≡◌, ◌+◌, ◌≤◌, length, IfOk, IsOk, OnOk};
+ghost use Rattle.std.specs.Prelude.{◌≡◌, ◌+◌, ◌≤◌, length, IfOk, IsOkAnd, OnOk};
 ghost use Rattle.minidump_bytes.specs.Steps.{after};
 ghost use Rattle.minidump_format.specs.Answer.{Gives};
 ghost use Rattle.minidump.specs.Dump.{raw_stream, stream};
@@ -39,7 +39,7 @@ impl<'a> Minidump<'a> {
     /// [`Minidump::get_raw_stream`], else what the type answers. It is handed the dump's system
     /// information.
     pub fn get_stream<S: MinidumpStream<'a>>(&self, alloc: Global) -> Result<S, Error>
-        ensures { Gives S.view (S.takes_memory × IsOk (raw_stream S.type_number (dump_of self.now))) result
+        ensures { Gives S.view (IsOkAnd (raw_stream S.type_number (dump_of self.now)) (λ b. S.takes_memory b (dump_of self.now).order)) result
             (stream S.type_number S.meaning (dump_of self.now)) }
     {
         self.get_stream_counted(alloc, &mut Steps::new())
@@ -51,7 +51,7 @@ impl<'a> Minidump<'a> {
         alloc: Global,
         steps: &mut Steps,
     ) -> Result<S, Error>
-        ensures means { Gives S.view (S.takes_memory × IsOk (raw_stream S.type_number (dump_of self.now))) result
+        ensures means { Gives S.view (IsOkAnd (raw_stream S.type_number (dump_of self.now)) (λ b. S.takes_memory b (dump_of self.now).order)) result
             (stream S.type_number S.meaning (dump_of self.now)) }
         ensures within { steps.new ≤ steps.old + S.limit (length (dump_of self.now).file) + 1 }
         ensures grows { steps.old ≤ steps.new }

@@ -6,8 +6,8 @@ ghost use Rattle.minidump.specs.Deciding.{Decides};
 ghost use Rattle.minidump.specs.Directory.{directory};
 ghost use Rattle.minidump.specs.Dump.{system_info_of};
 
+use crate::answer::accepted;
 use crate::directory::DecidingEntry;
-use crate::memory::accepted;
 use minidump_bytes::{Endian, Source, Steps};
 use minidump_format::Error;
 use minidump_format::format::MINIDUMP_HEADER;

@@ -1,5 +1,6 @@
-ghost use Rattle.std.specs.Prelude.{◌≡◌, ◌+◌, ◌≤◌};
+ghost use Rattle.std.specs.Prelude.{◌≡◌, ◌+◌, ◌≤◌, OnOk};
 ghost use Rattle.minidump_bytes.specs.Source.{bytes_of};
+ghost use Rattle.minidump_bytes.specs.Steps.{after};
 ghost use Rattle.minidump_format.specs.Answer.{Gives};
 ghost use Rattle.minidump_memory.specs.Memory.{described, memory_of, memory_range, number_in};
 
@@ -50,7 +51,7 @@ impl<'a, D> Region for MinidumpMemoryBase<'a, D> {
     ghost range = { memory_range };
 
     fn memory_range(&self) -> Option<Range> {
-        Range::from_size(self.base_address, self.size)
+        MinidumpMemoryBase::memory_range(self)
     }
 }
 
@@ -77,6 +78,7 @@ impl<'a> MinidumpMemory<'a> {
         ensures means { Gives memory_of ⊥ result (described (bytes_of all.entry) endian desc.now) }
         ensures within { steps.new ≤ steps.old + 1 }
         ensures grows { steps.old ≤ steps.new }
+        ensures counted { OnOk result (steps.new ≡ after steps.old 1) }
     {
         let memory = desc.memory;
         if memory.rva == 0 || memory.data_size == 0 {

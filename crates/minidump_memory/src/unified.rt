@@ -1,6 +1,7 @@
-ghost use Rattle.std.specs.Prelude.{◌≡◌, ◌≤◌, [], map};
+ghost use Rattle.std.specs.Prelude.{◌≡◌, ◌≤◌, Some, IfSome, [], length, map};
 ghost use Rattle.std.specs.Option.{option_copied, option_map};
-ghost use Rattle.std.specs.Iterator.{YieldsFirstBy, YieldsLastBy, item_count};
+ghost use Rattle.std.specs.Iterator.{YieldsFirstBy, YieldsLastBy, UpTo, at_most, item_count};
+ghost use Rattle.std.specs.Iterator.SizeHint.{IsWithinCount};
 ghost use Rattle.minidump_index.specs.Lookup.{IsByAddress, IsLookedUp, WithinDigits};
 ghost use Rattle.minidump_memory.specs.Unified.{Plain, Long, either_base, either_bytes, either_number, either_of, either_range, either_size, eithers_of};
 ghost use Rattle.minidump_memory.specs.UnifiedIter.{eithers_left, eithers_by_address};
@@ -75,7 +76,9 @@ impl<'a, 'mdmp> UnifiedMemory<'a, 'mdmp> {
 /// The regions of memory of a minidump, by either kind of list.
 #[derive(Drop)]
 pub enum UnifiedMemoryList<'a> {
+    /// The list of a usual dump.
     Memory(MinidumpMemoryList<'a>),
+    /// The list of a full dump.
     Memory64(MinidumpMemory64List<'a>),
 }
 
@@ -178,11 +181,16 @@ impl<'a, 'mdmp> Iterator for UnifiedMemoryIter<'a, 'mdmp> {
         }
     }
 
-    fn size_hint(&self) -> (usize, Option<usize>) {
-        match &self.left {
-            Left::Memory(regions) => regions.size_hint(),
-            Left::Memory64(regions) => regions.size_hint(),
-        }
+    fn size_hint(&self) -> (usize, Option<usize>)
+        ensures lower { IsWithinCount result.0 (at_most (length (eithers_left self.now))) }
+        ensures upper { IfSome result.1 (UpTo (at_most (length (eithers_left self.now)))) }
+        ensures exact { result ≡ (length (eithers_left self.now), Some (length (eithers_left self.now))) }
+    {
+        let len = match &self.left {
+            Left::Memory(regions) => regions.len(),
+            Left::Memory64(regions) => regions.len(),
+        };
+        (len, Some(len))
     }
 }
 
@@ -212,7 +220,11 @@ impl<'a, 'mdmp> Iterator for UnifiedMemoryByAddress<'a, 'mdmp> {
         }
     }
 
-    fn size_hint(&self) -> (usize, Option<usize>) {
+    fn size_hint(&self) -> (usize, Option<usize>)
+        ensures lower { IsWithinCount result.0 (at_most (length (eithers_by_address self.now))) }
+        ensures upper { IfSome result.1 (UpTo (at_most (length (eithers_by_address self.now)))) }
+        ensures exact { result ≡ (length (eithers_by_address self.now), Some (length (eithers_by_address self.now))) }
+    {
         match &self.left {
             Kept::Memory(regions) => regions.size_hint(),
             Kept::Memory64(regions) => regions.size_hint(),

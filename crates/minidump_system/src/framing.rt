@@ -1,5 +1,5 @@
 //! How a stream that is a list lays out its entries: their count, and where they begin.
-ghost use Rattle.std.specs.Prelude.{◌≡◌, ◌+◌, ◌*◌, ◌≤◌, ◌<◌, ◌^◌, ⊤, length, IfOk};
+ghost use Rattle.std.specs.Prelude.{◌≡◌, ◌+◌, ◌*◌, ◌≤◌, ◌<◌, ◌^◌, length, IfOk, IsOk};
 ghost use Rattle.minidump_bytes.specs.Source.{bytes_of};
 ghost use Rattle.minidump_bytes.specs.Steps.{after};
 ghost use Rattle.minidump_format.specs.Answer.{Gives};
@@ -20,11 +20,11 @@ pub fn read_plain_list<R: Record + Drop>(
 ) -> Result<Vec<R>, Error>
     requires some { 0 < R.SIZE }
     requires small { R.SIZE < 2 ^ 16 }
-    ensures means { Gives (λ v. v.items) ⊤ result (plain_list R.SIZE R.value endian (bytes_of bytes.entry)) }
+    ensures means { Gives (λ v. v.items) (IsOk (plain_list R.SIZE R.value endian (bytes_of bytes.entry))) result (plain_list R.SIZE R.value endian (bytes_of bytes.entry)) }
     ensures counted { IfOk result (λ v. length v.items ≡ count_of endian (bytes_of bytes.entry)) }
     ensures sized { IfOk result (λ v. 4 + R.SIZE * length v.items ≤ length (bytes_of bytes.entry)) }
     ensures within { steps.new ≤ steps.old + length (bytes_of bytes.entry) + 1 }
-    ensures grows { steps.old ≤ steps.new }
+    ensures begun { after steps.old 1 ≤ steps.new }
     ensures steps { IfOk result (λ v. steps.new ≡ after steps.old (1 + length v.items)) }
 {
     let count: u32 = bytes
@@ -54,11 +54,11 @@ pub fn read_list_64<R: Record + Drop>(
 ) -> Result<(u64, Vec<R>), Error>
     requires some { 0 < R.SIZE }
     requires small { R.SIZE < 2 ^ 16 }
-    ensures means { Gives list_64_of ⊤ result (list_64 R.SIZE R.value endian (bytes_of bytes.entry)) }
+    ensures means { Gives list_64_of (IsOk (list_64 R.SIZE R.value endian (bytes_of bytes.entry))) result (list_64 R.SIZE R.value endian (bytes_of bytes.entry)) }
     ensures counted { IfOk result (λ v. length v.1.items ≡ count_64_of endian (bytes_of bytes.entry)) }
     ensures sized { IfOk result (λ v. 16 + R.SIZE * length v.1.items ≤ length (bytes_of bytes.entry)) }
     ensures within { steps.new ≤ steps.old + length (bytes_of bytes.entry) + 2 }
-    ensures grows { steps.old ≤ steps.new }
+    ensures begun { after steps.old 1 ≤ steps.new }
     ensures steps { IfOk result (λ v. steps.new ≡ after steps.old (2 + length v.1.items)) }
 {
     let count: u64 = bytes

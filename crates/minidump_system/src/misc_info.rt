@@ -381,7 +381,7 @@ impl<'a> MinidumpStream<'a> for MinidumpMiscInfo {
 
     ghost least = { λ bytes order raw. 0 };
 
-    ghost takes_memory = { ⊥ };
+    ghost takes_memory = { λ bytes order. ⊥ };
 
     fn number_of_type() -> u32
         ensures { result ≡ 15 }

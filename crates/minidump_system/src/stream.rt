@@ -38,8 +38,8 @@ pub trait MinidumpStream<'a>: Sized {
     // how many steps it took at least where it answers a value, by the stream's bytes and their order
     ghost least: { List ℕ → Endian → Value → ℕ };
 
-    // whether a read may run out of memory: ⊤ or ⊥
-    ghost takes_memory: { Type 0 };
+    // where a read may run out of memory, by the stream's bytes and their order
+    ghost takes_memory: { List ℕ → Endian → Type 0 };
 
     /// [`MinidumpStream::STREAM_TYPE`], as contracts speak of it.
     fn number_of_type() -> u32
@@ -54,7 +54,7 @@ pub trait MinidumpStream<'a>: Sized {
         system_info: Option<&MinidumpSystemInfo>,
         steps: &mut Steps,
     ) -> Result<Self, Error>
-        ensures means { Gives view takes_memory result (meaning (bytes_of bytes.entry) (bytes_of all.entry)
+        ensures means { Gives view (takes_memory (bytes_of bytes.entry) endian) result (meaning (bytes_of bytes.entry) (bytes_of all.entry)
             endian (option_map system_of (option_copied system_info.entry))) }
         ensures within { steps.new
             ≤ steps.old + limit (max (length (bytes_of bytes.entry)) (length (bytes_of all.entry))) }

@@ -110,7 +110,7 @@ impl<'a> MinidumpStream<'a> for MinidumpSystemInfo {
 
     ghost least = { λ bytes order system. 0 };
 
-    ghost takes_memory = { ⊤ };
+    ghost takes_memory = { λ bytes order. ⊤ };
 
     fn number_of_type() -> u32
         ensures { result ≡ 7 }

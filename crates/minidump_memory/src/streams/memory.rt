@@ -12,9 +12,10 @@ use std::alloc::Global;
 /// Microsoft's `MINIDUMP_MEMORY_LIST`: a plain list of descriptors. One whose bytes are not in the file,
 /// or that has no place or no size, is skipped.
 impl<'a> MinidumpStream<'a> for MinidumpMemoryListBase<'a, MINIDUMP_MEMORY_DESCRIPTOR> {
-    ghost use Rattle.std.specs.Prelude.{◌+◌, List, ⊤};
+    ghost use Rattle.std.specs.Prelude.{◌+◌, List, IsOk};
     ghost use Rattle.minidump_format.specs.declared.format.memory.MINIDUMP_MEMORY_DESCRIPTOR.{MINIDUMP_MEMORY_DESCRIPTOR};
-    ghost use Rattle.minidump_system.specs.Framing.{count_of};
+    ghost use Rattle.minidump_system.specs.Framing.{count_of, plain_list};
+    ghost use Rattle.minidump_format.specs.Memory.{memory_descriptor};
     ghost use Rattle.minidump_memory.specs.Memory.{Memory};
     ghost use Rattle.minidump_memory.specs.MemoryList.{memory_list};
     ghost use Rattle.minidump_memory.specs.Seen.{memories_of};
@@ -33,7 +34,7 @@ impl<'a> MinidumpStream<'a> for MinidumpMemoryListBase<'a, MINIDUMP_MEMORY_DESCR
 
     ghost least = { λ bytes order regions. 1 + count_of order bytes };
 
-    ghost takes_memory = { ⊤ };
+    ghost takes_memory = { λ bytes order. IsOk (plain_list 16 memory_descriptor order bytes) };
 
     fn number_of_type() -> u32
         ensures { result ≡ 5 }

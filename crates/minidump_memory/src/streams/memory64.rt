@@ -12,9 +12,10 @@ use std::alloc::Global;
 /// Microsoft's `MINIDUMP_MEMORY64_LIST`: a 64 list of descriptors, whose bytes lie one behind another from
 /// the list's place on. `StreamReadFailure` where some of them are not in the file.
 impl<'a> MinidumpStream<'a> for MinidumpMemoryListBase<'a, MINIDUMP_MEMORY_DESCRIPTOR64> {
-    ghost use Rattle.std.specs.Prelude.{◌+◌, List, ⊤};
+    ghost use Rattle.std.specs.Prelude.{◌+◌, List, IsOk};
     ghost use Rattle.minidump_format.specs.declared.format.memory.MINIDUMP_MEMORY_DESCRIPTOR64.{MINIDUMP_MEMORY_DESCRIPTOR64};
-    ghost use Rattle.minidump_system.specs.Framing.{count_64_of};
+    ghost use Rattle.minidump_system.specs.Framing.{count_64_of, list_64};
+    ghost use Rattle.minidump_format.specs.Memory.{memory_descriptor_64};
     ghost use Rattle.minidump_memory.specs.Memory.{Memory};
     ghost use Rattle.minidump_memory.specs.MemoryList.{memory_list_64};
     ghost use Rattle.minidump_memory.specs.Seen.{memories_of};
@@ -33,7 +34,7 @@ impl<'a> MinidumpStream<'a> for MinidumpMemoryListBase<'a, MINIDUMP_MEMORY_DESCR
 
     ghost least = { λ bytes order regions. 2 + count_64_of order bytes };
 
-    ghost takes_memory = { ⊤ };
+    ghost takes_memory = { λ bytes order. IsOk (list_64 16 memory_descriptor_64 order bytes) };
 
     fn number_of_type() -> u32
         ensures { result ≡ 9 }
