@@ -1,6 +1,9 @@
 use crate::format::MINIDUMP_SYSTEM_INFO;
 use crate::system_info::{Cpu, Os};
-use crate::{Endian, Error, Minidump, MinidumpMiscInfo, MinidumpSystemInfo, Steps, Told};
+use crate::{
+    Endian, Error, Minidump, MinidumpMemory64List, MinidumpMemoryList, MinidumpMiscInfo,
+    MinidumpStream, MinidumpSystemInfo, Steps, Told,
+};
 use minidump_synth::{Section, SynthMinidump, zeroed};
 use std::alloc::Global;
 use std::test::Fail;
@@ -298,6 +301,36 @@ fn prints_the_misc_information(rt: HostRuntime) -> Result<(), Fail> {
         misc.print(alloc, &mut f)?;
         let text = String::from_utf8(f.into_device()).map_err(|_| "no text")?;
         assert_eq!(rt; text.as_str(), MISC_TEXT);
+    }
+    Ok(())
+}
+
+#[test]
+fn types_of_streams_have_their_numbers(rt: HostRuntime) -> Result<(), Fail> {
+    for (constant, function, number) in [
+        (
+            MinidumpMemoryList::STREAM_TYPE,
+            MinidumpMemoryList::number_of_type(),
+            5,
+        ),
+        (
+            MinidumpSystemInfo::STREAM_TYPE,
+            MinidumpSystemInfo::number_of_type(),
+            SYSTEM_INFO,
+        ),
+        (
+            MinidumpMemory64List::STREAM_TYPE,
+            MinidumpMemory64List::number_of_type(),
+            9,
+        ),
+        (
+            MinidumpMiscInfo::STREAM_TYPE,
+            MinidumpMiscInfo::number_of_type(),
+            MISC_INFO,
+        ),
+    ] {
+        assert_eq!(rt; constant, number);
+        assert_eq!(rt; function, number);
     }
     Ok(())
 }
