@@ -10,11 +10,8 @@ use Rattle.minidump.specs.Deciding.{Decides}
 use Rattle.std.specs.Ordering.{nat_cmp}
 use Rattle.std.specs.BTreeMap.{BTreeMap, Updates, is_at}
 use Rattle.std.proofs.lemmas.Bool.{ne_eqb}
+use Rattle.minidump_system.proofs.ListLemmas.{enumerate_from-append}
 use Rattle.minidump.proofs.KeyLemmas.{at_is_equal}
-
-enumerate_from-append : {X : Type 0} (n : ℕ) (xs ys : List X) → enumerate_from n (xs ++ ys) ≡ enumerate_from n xs ++ enumerate_from (n + length xs) ys
-enumerate_from-append n [] ys = ap (λ k. enumerate_from k ys) (omega arith)
-enumerate_from-append n (x ∷ xs) ys = ap (λ l. (n, x) ∷ l) (enumerate_from-append (n + 1) xs ys ∙ ap (λ k. enumerate_from (n + 1) xs ++ enumerate_from k ys) (omega arith))
 
 abbrev at_index : ℕ × MINIDUMP_DIRECTORY → DecidingEntry
 at_index p = record { index = p.0; entry = p.1 }
