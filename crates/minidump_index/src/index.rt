@@ -1,6 +1,7 @@
 ghost use Rattle.std.specs.Prelude.{◌≡◌, ◌+◌, ◌<◌, ◌≤◌, Some, IfOk, IfErr, IfSome, MatchBool, All, Any, [], length, map, List, Option};
 ghost use Rattle.std.specs.Iterator.{YieldsFirst, YieldsLast, UpTo, at_most, item_count};
 ghost use Rattle.std.specs.Iterator.SizeHint.{IsWithinCount};
+ghost use Rattle.minidump_bytes.specs.Steps.{after};
 ghost use Rattle.minidump_index.specs.declared.range.Range.{Range};
 ghost use Rattle.minidump_index.specs.Digits.{digits};
 ghost use Rattle.minidump_index.specs.Kept.{places, IsIndexOf, HoldsRanged, IsFound, IsAscending, IsInOrder, KeepsApart};
@@ -135,11 +136,12 @@ impl AddressIndex {
     }
 
     /// The list place of the kept range that contains the address. At most as many comparisons are made
-    /// as the number of kept ranges has binary digits.
+    /// as the number of kept ranges has binary digits, and one at least, but in an empty index.
     pub fn find(&self, address: u64, steps: &mut Steps) -> Option<usize>
         ensures found { IsFound self.now address result }
         ensures within { steps.new ≤ steps.old + digits (length self.now) }
         ensures grows { steps.old ≤ steps.new }
+        ensures compared { 0 < length self.now → after steps.old 1 ≤ steps.new }
     {
         // No branch depends on the addresses: one that is guessed wrongly costs more than a comparison.
         let mut low = 0;

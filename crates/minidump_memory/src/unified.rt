@@ -2,6 +2,7 @@ ghost use Rattle.std.specs.Prelude.{◌≡◌, ◌≤◌, Some, IfSome, [], leng
 ghost use Rattle.std.specs.Option.{option_copied, option_map};
 ghost use Rattle.std.specs.Iterator.{YieldsFirstBy, YieldsLastBy, UpTo, at_most, item_count};
 ghost use Rattle.std.specs.Iterator.SizeHint.{IsWithinCount};
+ghost use Rattle.minidump_bytes.specs.Steps.{after};
 ghost use Rattle.minidump_index.specs.Lookup.{IsByAddress, IsLookedUp, WithinDigits};
 ghost use Rattle.minidump_memory.specs.Unified.{Plain, Long, either_base, either_bytes, either_number, either_of, either_range, either_size, eithers_of};
 ghost use Rattle.minidump_memory.specs.UnifiedIter.{eithers_left, eithers_by_address};
@@ -107,6 +108,7 @@ impl<'a> UnifiedMemoryList<'a> {
         ensures found { IsLookedUp either_range (eithers_of self.now) address (option_map either_of result) }
         ensures within { WithinDigits either_range (eithers_of self.now) steps.old steps.new }
         ensures grows { steps.old ≤ steps.new }
+        ensures compared { IfSome result (λ _. after steps.old 1 ≤ steps.new) }
     {
         match self {
             UnifiedMemoryList::Memory(list) => {

@@ -18,6 +18,7 @@ loop-size-preserved c =
         some = c.loop-size.invariant.some;
         limit = omega (arith, less, c.probe-order.ensures.step, c.loop-size.invariant.limit);
         grows = omega (arith, c.loop-size.invariant.grows, c.probe-order.ensures.step);
+        compared = λ _. omega (arith, c.loop-size.invariant.grows, c.probe-order.ensures.step);
       })
     ]
 
@@ -32,6 +33,7 @@ loop-size-preserved-then-ne c =
         some = λ d h. inside_at _ _ _ c.index-entry.result.now d within c.index-entry.ensures (is_equal c.probe-order.result _ _ _ (sym w.if-eq.true ∙ c.eq.ensures) c.probe-order.ensures.answer);
         limit = omega (arith, less, c.probe-order.ensures.step, c.loop-size.invariant.limit);
         grows = omega (arith, c.loop-size.invariant.grows, c.probe-order.ensures.step);
+        compared = λ _. omega (arith, c.loop-size.invariant.grows, c.probe-order.ensures.step);
       })
       | else-eq w ↦ rw w.found-is (record {
         within = omega (arith, c.loop-size.invariant.within);
@@ -39,6 +41,7 @@ loop-size-preserved-then-ne c =
         some = c.loop-size.invariant.some;
         limit = omega (arith, less, c.probe-order.ensures.step, c.loop-size.invariant.limit);
         grows = omega (arith, c.loop-size.invariant.grows, c.probe-order.ensures.step);
+        compared = λ _. omega (arith, c.loop-size.invariant.grows, c.probe-order.ensures.step);
       })
     ]
 

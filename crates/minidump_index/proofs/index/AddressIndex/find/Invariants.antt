@@ -1,4 +1,5 @@
 use Rattle.std.proofs.Common.{◌+◌, ◌≤◌, ◌<◌, length, get_or}
+use Rattle.minidump_bytes.specs.Steps.{after}
 use Rattle.minidump_index.specs.declared.index.Entry.{Entry}
 use Rattle.minidump_index.specs.Digits.{digits}
 use Rattle.minidump_index.specs.Overlap.{IsIn}
@@ -12,6 +13,7 @@ invariant-loop-size l = record {
   some : (d : Entry) → l.found < length l.self-inside.kept.items → IsIn l.address (get_or l.self-inside.kept.items l.found d).range;
   limit : l.steps + digits l.size ≤ l.fn.steps + digits (length l.self-inside.kept.items);
   grows : l.fn.steps ≤ l.steps;
+  compared : l.size < length l.self-inside.kept.items → after l.fn.steps 1 ≤ l.steps;
 }
 
 abbrev pub decreases-loop-size : goal.decreases-loop-size
