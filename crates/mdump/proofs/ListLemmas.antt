@@ -1,7 +1,5 @@
 -- Lists of few items.
-use Rattle.std.proofs.Common.{◌≡◌, ◌<◌, ◌≤◌, List, [], ◌∷◌, length, map, get_or, arith, refl, sym, true}
-use Rattle.std.specs.Prelude.{◌==◌}
-use Rattle.std.proofs.lemmas.Bool.{eqb-true}
+use Rattle.std.proofs.Common.{◌≡◌, ◌<◌, ◌≤◌, List, [], ◌∷◌, length, get_or, arith}
 
 -- a list of two items is these two
 pub two_items : {X : Type 0} (xs : List X) (a b : X) → 2 ≤ length xs → length xs < 3 → a ≡ get_or xs 0 a → b ≡ get_or xs 1 b → xs ≡ a ∷ b ∷ []
@@ -17,8 +15,3 @@ three_items (x ∷ []) a b c least most first second third = absurd (omega arith
 three_items (x ∷ y ∷ []) a b c least most first second third = absurd (omega arith)
 three_items (x ∷ y ∷ z ∷ []) a b c least most first second third = cc
 three_items (x ∷ y ∷ z ∷ w ∷ xs) a b c least most first second third = absurd (omega arith)
-
--- of no items nothing is made
-pub none_made : {X Y : Type 0} (f : X → Y) (xs : List X) → true ≡ (length xs == 0) → map f xs ≡ []
-none_made f [] none = refl
-none_made f (x ∷ xs) none = let no : length (x ∷ xs) ≡ 0 = eqb-true (length (x ∷ xs)) 0 (sym none) in absurd (omega (arith, no))

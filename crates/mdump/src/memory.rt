@@ -1,8 +1,9 @@
-ghost use Rattle.std.specs.Prelude.{◌≡◌, IfErr, IfOk, OnOk, string_bytes};
+ghost use Rattle.std.specs.Prelude.{◌≡◌, IfErr, IfOk, string_bytes};
 ghost use Rattle.minidump_index.specs.Lookup.{IsLookedUp};
 ghost use Rattle.minidump.specs.Memory.{memories_of_dump, memories_of_list};
 ghost use Rattle.minidump.specs.Seen.{dump_of};
-ghost use Rattle.mdump.specs.Lines.{IsMemoryAt, PutsMemoryLine, memory_line, spot_range, spots};
+ghost use Rattle.mdump.specs.Done.{IsLineOf, Writes};
+ghost use Rattle.mdump.specs.Lines.{IsMemoryAt, memory_line, spot_range, spots};
 
 use minidump::{Error, Minidump, Told, UnifiedMemoryList};
 use minidump_bytes::{Piece, made};
@@ -17,7 +18,7 @@ pub(crate) fn memory_line<O: Write>(
     address: u64,
     out: &mut Told<O>,
 ) -> Result<(), Error>
-    ensures { OnOk result (PutsMemoryLine O.contents (dump_of dump.now) address out.old out.new) }
+    ensures { Writes (IsLineOf (dump_of dump.now) address) O.contents out.old out.new result }
 {
     let found = memory_at(dump, alloc, address)?;
     put_made(out, made_memory_line(alloc, found))

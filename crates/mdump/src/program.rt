@@ -1,7 +1,9 @@
-ghost use Rattle.std.specs.Prelude.{◌≡◌, ◌<◌, ◌≤◌, OnOk, length, map, string_bytes};
+ghost use Rattle.std.specs.Prelude.{◌≡◌, ◌↔◌, ◌<◌, ◌≤◌, ◌++◌, IfNone, IfSome, codes, length, map, string_bytes};
+ghost use Rattle.minidump_format.specs.declared.error.Error.{Error};
+ghost use Rattle.minidump_format.specs.Error.{refusal_name};
+ghost use Rattle.minidump_format.specs.Print.{Prints};
 ghost use Rattle.mdump.specs.Command.{IsCommand};
-ghost use Rattle.mdump.specs.Done.{IsDone, IsObeyed};
-ghost use Rattle.mdump.specs.Lines.{PutsDirectory, PutsFileLine};
+ghost use Rattle.mdump.specs.Done.{IsAnswer, IsDirectoryText, IsLine, IsPrinted, IsTextOf, TookAll, TookBeginning, Writes, usage};
 
 use crate::command::Command;
 use crate::memory::memory_line;
@@ -29,24 +31,40 @@ pub fn run<R: Files + AllocGlobal, O: Write, E: Write>(
     err: &mut Told<E>,
 ) -> u8
     ensures status { result ≤ 2 }
-    ensures done { result ≡ 0 → IsDone O.contents (map string_bytes words.now) out.old out.new }
-    ensures none { length words.now ≡ 0 → result ≤ 1 }
-    ensures good { IsCommand (map string_bytes words.now) → result ≤ 1 }
-    ensures bad { 0 < length words.now → ¬ (IsCommand (map string_bytes words.now))
-        → (result ≡ 2) × (out.new ≡ out.old) }
+    ensures done { result ≡ 0
+        → TookAll (IsAnswer (map string_bytes words.now)) O.contents out.old out.new × (err.new ≡ err.old) }
+    ensures refused { result ≡ 1
+        → TookBeginning (IsAnswer (map string_bytes words.now)) O.contents out.old out.new
+        × ((error : Error) × IsPrinted E.contents err.old err.new (refusal_name error ++ codes "\n")) }
+    ensures usage { result ≡ 2 → (out.new ≡ out.old) × IsPrinted E.contents err.old err.new usage }
+    ensures bad { result ≡ 2 ↔ ((0 < length words.now) × ¬ (IsCommand (map string_bytes words.now))) }
 {
-    let answer = if words.is_empty() {
-        put_text(out, USAGE)
-    } else {
-        match Command::parse(words) {
-            Some(command) => obey(rt, command, out),
-            None => return bad_arguments(err),
-        }
-    };
-    match answer {
-        Ok(()) => 0,
-        Err(error) => refused(error, err),
+    match answered(rt, words, out) {
+        None => bad_arguments(err),
+        Some(answer) => match answer {
+            Ok(()) => 0,
+            Err(error) => refused(error, err),
+        },
     }
+}
+
+// What came of the command of the words, or `None` where they are no command.
+fn answered<R: Files + AllocGlobal, O: Write>(
+    rt: &R,
+    words: &[String],
+    out: &mut Told<O>,
+) -> Option<Result<(), Error>>
+    ensures written { IfSome result (Writes (IsAnswer (map string_bytes words.now)) O.contents out.old out.new) }
+    ensures asked { IfSome result
+        (λ _. (0 < length words.now) → ¬ (IsCommand (map string_bytes words.now)) → ⊥) }
+    ensures none { IfNone result ((0 < length words.now) × ¬ (IsCommand (map string_bytes words.now))
+        × (out.new ≡ out.old)) }
+{
+    if words.is_empty() {
+        return Some(put_text(out, USAGE));
+    }
+    let command = Command::parse(words)?;
+    Some(obey(rt, command, out))
 }
 
 fn obey<R: Files + AllocGlobal, O: Write>(
@@ -54,7 +72,7 @@ fn obey<R: Files + AllocGlobal, O: Write>(
     command: Command<'_>,
     out: &mut Told<O>,
 ) -> Result<(), Error>
-    ensures { OnOk result (IsObeyed O.contents command.entry out.old out.new) }
+    ensures { Writes (IsTextOf command.entry) O.contents out.old out.new result }
 {
     match command {
         Command::Dir(path) => dir(rt, path, out),
@@ -63,7 +81,7 @@ fn obey<R: Files + AllocGlobal, O: Write>(
 }
 
 fn dir<R: Files + AllocGlobal, O: Write>(rt: &R, path: &str, out: &mut Told<O>) -> Result<(), Error>
-    ensures { OnOk result (PutsDirectory O.contents out.old out.new) }
+    ensures { Writes IsDirectoryText O.contents out.old out.new result }
 {
     let alloc = rt.alloc();
     let mut bytes = Vec::new(alloc);
@@ -77,7 +95,7 @@ fn at<R: Files + AllocGlobal, O: Write>(
     address: u64,
     out: &mut Told<O>,
 ) -> Result<(), Error>
-    ensures { OnOk result (PutsFileLine O.contents address out.old out.new) }
+    ensures { Writes (IsLine address) O.contents out.old out.new result }
 {
     let alloc = rt.alloc();
     let mut bytes = Vec::new(alloc);
@@ -85,19 +103,29 @@ fn at<R: Files + AllocGlobal, O: Write>(
     memory_line(&dump, alloc, address, out)
 }
 
-/// The status of a refusal.
+/// The status of a refusal, whose name goes to `err`.
 pub(crate) fn refused<E: Write>(error: Error, err: &mut Told<E>) -> u8
-    ensures { result ≡ 1 }
+    ensures status { result ≡ 1 }
+    ensures named { IsPrinted E.contents err.old err.new (refusal_name error ++ codes "\n") }
 {
-    let _ = err.put(error.name().as_bytes());
-    let _ = err.put(b"\n");
+    let _ = put_name(error, err);
     1
 }
 
-/// The status of words that are no command.
-pub(crate) fn bad_arguments<E: Write>(err: &mut Told<E>) -> u8
-    ensures { result ≡ 2 }
+fn put_name<E: Write>(error: Error, err: &mut Told<E>) -> Result<(), Error>
+    ensures { Prints E.contents err.old err.new (refusal_name error ++ codes "\n") result }
 {
-    let _ = err.put(USAGE.as_bytes());
+    match put_text(err, error.name()) {
+        Ok(()) => put_text(err, "\n"),
+        Err(failure) => Err(failure),
+    }
+}
+
+/// The status of words that are no command. The usage goes to `err`.
+pub(crate) fn bad_arguments<E: Write>(err: &mut Told<E>) -> u8
+    ensures status { result ≡ 2 }
+    ensures told { IsPrinted E.contents err.old err.new usage }
+{
+    let _ = put_text(err, USAGE);
     2
 }
