@@ -1,4 +1,6 @@
 pub mod Number
+pub mod Layout
+pub mod Exact
 pub mod Span
 pub mod Entries
 pub mod Source

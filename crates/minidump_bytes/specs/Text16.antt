@@ -6,6 +6,7 @@ use Rattle.std.specs.Char.Escape.{encode_utf16}
 use Rattle.std.specs.Char.Utf16.{has_unpaired_surrogate, utf16_lossy_chars}
 use Rattle.minidump_bytes.specs.declared.endian.Endian.{Endian}
 use Rattle.minidump_bytes.specs.Entries.{entries}
+use Rattle.minidump_bytes.specs.Layout.{number_layout}
 use Rattle.minidump_bytes.specs.Number.{number_at}
 
 -- the code units are the UTF-16 encoding of these characters, each of them a Unicode scalar value
@@ -27,7 +28,7 @@ utf16_text units = if has_unpaired_surrogate units then None else Some (encode_u
 
 -- the code units from a place on, so many: numbers of two bytes
 abbrev pub units_at : Endian → ℕ → ℕ → List ℕ → List ℕ
-units_at order place count bytes = entries 2 (λ b. number_at order 2 0 b) bytes place count
+units_at order place count bytes = entries (number_layout 2) order bytes place count
 
 -- the text in so many bytes from a place on: none where the bytes end before that, or the size is odd
 abbrev pub sized_text16 : Endian → ℕ → ℕ → List ℕ → Option (List ℕ)

@@ -10,8 +10,8 @@ pub fn array_at<R: Record + Copy, const N: usize>(
     endian: Endian,
 ) -> [R; N]
     requires some { 0 < N }
-    requires whole { place + R.SIZE * N ≤ length bytes.now }
-    ensures { result ≡ entries R.SIZE (R.value endian) bytes.now place N }
+    requires whole { place + R.layout.size * N ≤ length bytes.now }
+    ensures { result ≡ entries R.layout endian bytes.now place N }
 {
     let mut all = [record_in(bytes, place, endian, N, 0); N];
     for i in 1..N {
@@ -29,8 +29,8 @@ pub(crate) fn record_in<R: Record>(
     i: usize,
 ) -> R
     requires index { i < count }
-    requires whole { start + R.SIZE * count ≤ length bytes.now }
-    ensures { result ≡ entry R.SIZE (R.value endian) bytes.now start i }
+    requires whole { start + R.layout.size * count ≤ length bytes.now }
+    ensures { result ≡ entry R.layout endian bytes.now start i }
 {
     let place = start + R::SIZE * i;
     R::decode(&bytes[place..place + R::SIZE], endian)

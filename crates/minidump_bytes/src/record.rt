@@ -1,6 +1,7 @@
-ghost use Rattle.std.specs.Prelude.{◌≡◌, ℕ, List, length, slice_index};
+ghost use Rattle.std.proofs.Common.{rules};
+ghost use Rattle.std.specs.Prelude.{◌≡◌, ℕ, List, length};
 ghost use Rattle.minidump_bytes.specs.declared.endian.Endian.{Endian};
-ghost use Rattle.minidump_bytes.specs.Number.{number_at};
+ghost use Rattle.minidump_bytes.specs.Layout.{Layout, FitsLayout, byte_layout, number_layout};
 
 use crate::Endian;
 
@@ -11,13 +12,15 @@ pub trait Record: Sized {
     /// How many bytes it takes.
     const SIZE: usize;
 
-    // what exactly that many bytes mean
-    ghost value: { Endian → List ℕ → Self };
+    // the same, and what exactly that many bytes mean
+    ghost layout: { Layout Self };
 
     /// The value of exactly that many bytes.
     fn decode(bytes: &[u8], endian: Endian) -> Self
         requires { length bytes.now ≡ SIZE }
-        ensures { result ≡ value endian bytes.now };
+        ensures { result ≡ layout.value endian bytes.now };
+
+    ghost fits: { FitsLayout SIZE layout };
 }
 
 impl Record for u8 {
@@ -25,11 +28,13 @@ impl Record for u8 {
 
     const SIZE: usize = 1;
 
-    ghost value = { λ order bytes. slice_index bytes 0 };
+    ghost layout = { byte_layout };
 
     fn decode(bytes: &[u8], _endian: Endian) -> Self {
         bytes[0]
     }
+
+    ghost fits = { Prim.search rules };
 }
 
 impl Record for u16 {
@@ -37,11 +42,13 @@ impl Record for u16 {
 
     const SIZE: usize = 2;
 
-    ghost value = { λ order bytes. number_at order 2 0 bytes };
+    ghost layout = { number_layout 2 };
 
     fn decode(bytes: &[u8], endian: Endian) -> Self {
         endian.u16_at(bytes, 0)
     }
+
+    ghost fits = { Prim.search rules };
 }
 
 impl Record for u32 {
@@ -49,11 +56,13 @@ impl Record for u32 {
 
     const SIZE: usize = 4;
 
-    ghost value = { λ order bytes. number_at order 4 0 bytes };
+    ghost layout = { number_layout 4 };
 
     fn decode(bytes: &[u8], endian: Endian) -> Self {
         endian.u32_at(bytes, 0)
     }
+
+    ghost fits = { Prim.search rules };
 }
 
 impl Record for u64 {
@@ -61,11 +70,13 @@ impl Record for u64 {
 
     const SIZE: usize = 8;
 
-    ghost value = { λ order bytes. number_at order 8 0 bytes };
+    ghost layout = { number_layout 8 };
 
     fn decode(bytes: &[u8], endian: Endian) -> Self {
         endian.u64_at(bytes, 0)
     }
+
+    ghost fits = { Prim.search rules };
 }
 
 impl Record for u128 {
@@ -73,11 +84,13 @@ impl Record for u128 {
 
     const SIZE: usize = 16;
 
-    ghost value = { λ order bytes. number_at order 16 0 bytes };
+    ghost layout = { number_layout 16 };
 
     fn decode(bytes: &[u8], endian: Endian) -> Self {
         endian.u128_at(bytes, 0)
     }
+
+    ghost fits = { Prim.search rules };
 }
 
 /// A number of fixed width, which can be read out of a region of memory.

@@ -39,9 +39,9 @@ impl<'a> Source<'a> {
 
     /// The record at a place, or `None` where the bytes do not hold it whole.
     pub fn record<R: Record>(self, place: u64, endian: Endian, steps: &mut Steps) -> Option<R>
-        ensures value { result ≡ record_at R.SIZE R.value endian place (bytes_of self.entry) }
-        ensures readable { IsSome result ↔ (place + R.SIZE ≤ length (bytes_of self.entry)) }
-        ensures found { IfSome result (λ r. r ≡ R.value endian (slice_range (bytes_of self.entry) place (place + R.SIZE))) }
+        ensures value { result ≡ record_at R.layout endian place (bytes_of self.entry) }
+        ensures readable { IsSome result ↔ (place + R.layout.size ≤ length (bytes_of self.entry)) }
+        ensures found { IfSome result (λ r. r ≡ R.layout.value endian (slice_range (bytes_of self.entry) place (place + R.layout.size))) }
         ensures step { steps.new ≡ after steps.old 1 }
     {
         steps.tick();
@@ -59,8 +59,8 @@ impl<'a> Source<'a> {
         endian: Endian,
         steps: &mut Steps,
     ) -> Result<Vec<R>, AllocError>
-        requires { place + R.SIZE * count ≤ length (bytes_of self) }
-        ensures items { IfOk result (λ v. v.items ≡ entries R.SIZE (R.value endian) (bytes_of self.entry) place count) }
+        requires { place + R.layout.size * count ≤ length (bytes_of self) }
+        ensures items { IfOk result (λ v. v.items ≡ entries R.layout endian (bytes_of self.entry) place count) }
         ensures len { IfOk result (λ v. length v.items ≡ count) }
         ensures steps { steps.new ≡ after steps.old count }
     {

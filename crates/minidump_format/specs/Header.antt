@@ -2,33 +2,43 @@
 -- minidumpapiset.h: MINIDUMP_HEADER, MINIDUMP_LOCATION_DESCRIPTOR, MINIDUMP_DIRECTORY.
 use Rattle.std.specs.Prelude.{ℕ, List, slice_range}
 use Rattle.minidump_bytes.specs.declared.endian.Endian.{Endian}
+use Rattle.minidump_bytes.specs.Layout.{Layout}
 use Rattle.minidump_bytes.specs.Number.{number_at}
 use Rattle.minidump_format.specs.declared.format.header.MINIDUMP_HEADER.{MINIDUMP_HEADER}
 use Rattle.minidump_format.specs.declared.format.header.MINIDUMP_LOCATION_DESCRIPTOR.{MINIDUMP_LOCATION_DESCRIPTOR}
 use Rattle.minidump_format.specs.declared.format.header.MINIDUMP_DIRECTORY.{MINIDUMP_DIRECTORY}
 
 -- 32 bytes
-abbrev pub header : Endian → List ℕ → MINIDUMP_HEADER
-header order bytes = record {
-  signature = number_at order 4 0 bytes;
-  version = number_at order 4 4 bytes;
-  stream_count = number_at order 4 8 bytes;
-  stream_directory_rva = number_at order 4 12 bytes;
-  checksum = number_at order 4 16 bytes;
-  time_date_stamp = number_at order 4 20 bytes;
-  flags = number_at order 8 24 bytes;
+abbrev pub header : Layout MINIDUMP_HEADER
+header = record {
+  size = 32;
+  value = λ order bytes. record {
+    signature = number_at order 4 0 bytes;
+    version = number_at order 4 4 bytes;
+    stream_count = number_at order 4 8 bytes;
+    stream_directory_rva = number_at order 4 12 bytes;
+    checksum = number_at order 4 16 bytes;
+    time_date_stamp = number_at order 4 20 bytes;
+    flags = number_at order 8 24 bytes;
+  };
 }
 
 -- 8 bytes
-abbrev pub location : Endian → List ℕ → MINIDUMP_LOCATION_DESCRIPTOR
-location order bytes = record {
-  data_size = number_at order 4 0 bytes;
-  rva = number_at order 4 4 bytes;
+abbrev pub location : Layout MINIDUMP_LOCATION_DESCRIPTOR
+location = record {
+  size = 8;
+  value = λ order bytes. record {
+    data_size = number_at order 4 0 bytes;
+    rva = number_at order 4 4 bytes;
+  };
 }
 
 -- 12 bytes
-abbrev pub directory_entry : Endian → List ℕ → MINIDUMP_DIRECTORY
-directory_entry order bytes = record {
-  stream_type = number_at order 4 0 bytes;
-  location = location order (slice_range bytes 4 12);
+abbrev pub directory_entry : Layout MINIDUMP_DIRECTORY
+directory_entry = record {
+  size = 12;
+  value = λ order bytes. record {
+    stream_type = number_at order 4 0 bytes;
+    location = location.value order (slice_range bytes 4 12);
+  };
 }

@@ -3,6 +3,7 @@
 use Rattle.std.specs.Prelude.{ℕ, List, slice_range}
 use Rattle.minidump_bytes.specs.declared.endian.Endian.{Endian}
 use Rattle.minidump_bytes.specs.Entries.{entries}
+use Rattle.minidump_bytes.specs.Layout.{Layout, number_layout}
 use Rattle.minidump_bytes.specs.Number.{number_at, signed_at}
 use Rattle.minidump_format.specs.declared.format.misc.MINIDUMP_MISC_INFO.{MINIDUMP_MISC_INFO}
 use Rattle.minidump_format.specs.declared.format.misc.MINIDUMP_MISC_INFO_2.{MINIDUMP_MISC_INFO_2}
@@ -15,138 +16,165 @@ use Rattle.minidump_format.specs.declared.format.misc.XSTATE_CONFIG_FEATURE_MSC_
 use Rattle.minidump_format.specs.declared.format.misc.MINIDUMP_MISC_INFO_5.{MINIDUMP_MISC_INFO_5}
 
 -- 24 bytes
-abbrev pub misc_info : Endian → List ℕ → MINIDUMP_MISC_INFO
-misc_info order bytes = record {
-  size_of_info = number_at order 4 0 bytes;
-  flags1 = number_at order 4 4 bytes;
-  process_id = number_at order 4 8 bytes;
-  process_create_time = number_at order 4 12 bytes;
-  process_user_time = number_at order 4 16 bytes;
-  process_kernel_time = number_at order 4 20 bytes;
+abbrev pub misc_info : Layout MINIDUMP_MISC_INFO
+misc_info = record {
+  size = 24;
+  value = λ order bytes. record {
+    size_of_info = number_at order 4 0 bytes;
+    flags1 = number_at order 4 4 bytes;
+    process_id = number_at order 4 8 bytes;
+    process_create_time = number_at order 4 12 bytes;
+    process_user_time = number_at order 4 16 bytes;
+    process_kernel_time = number_at order 4 20 bytes;
+  };
 }
 
 -- 44 bytes
-abbrev pub misc_info_2 : Endian → List ℕ → MINIDUMP_MISC_INFO_2
-misc_info_2 order bytes = record {
-  size_of_info = number_at order 4 0 bytes;
-  flags1 = number_at order 4 4 bytes;
-  process_id = number_at order 4 8 bytes;
-  process_create_time = number_at order 4 12 bytes;
-  process_user_time = number_at order 4 16 bytes;
-  process_kernel_time = number_at order 4 20 bytes;
-  processor_max_mhz = number_at order 4 24 bytes;
-  processor_current_mhz = number_at order 4 28 bytes;
-  processor_mhz_limit = number_at order 4 32 bytes;
-  processor_max_idle_state = number_at order 4 36 bytes;
-  processor_current_idle_state = number_at order 4 40 bytes;
+abbrev pub misc_info_2 : Layout MINIDUMP_MISC_INFO_2
+misc_info_2 = record {
+  size = 44;
+  value = λ order bytes. record {
+    size_of_info = number_at order 4 0 bytes;
+    flags1 = number_at order 4 4 bytes;
+    process_id = number_at order 4 8 bytes;
+    process_create_time = number_at order 4 12 bytes;
+    process_user_time = number_at order 4 16 bytes;
+    process_kernel_time = number_at order 4 20 bytes;
+    processor_max_mhz = number_at order 4 24 bytes;
+    processor_current_mhz = number_at order 4 28 bytes;
+    processor_mhz_limit = number_at order 4 32 bytes;
+    processor_max_idle_state = number_at order 4 36 bytes;
+    processor_current_idle_state = number_at order 4 40 bytes;
+  };
 }
 
 -- 16 bytes
-abbrev pub system_time : Endian → List ℕ → SYSTEMTIME
-system_time order bytes = record {
-  year = number_at order 2 0 bytes;
-  month = number_at order 2 2 bytes;
-  day_of_week = number_at order 2 4 bytes;
-  day = number_at order 2 6 bytes;
-  hour = number_at order 2 8 bytes;
-  minute = number_at order 2 10 bytes;
-  second = number_at order 2 12 bytes;
-  milliseconds = number_at order 2 14 bytes;
+abbrev pub system_time : Layout SYSTEMTIME
+system_time = record {
+  size = 16;
+  value = λ order bytes. record {
+    year = number_at order 2 0 bytes;
+    month = number_at order 2 2 bytes;
+    day_of_week = number_at order 2 4 bytes;
+    day = number_at order 2 6 bytes;
+    hour = number_at order 2 8 bytes;
+    minute = number_at order 2 10 bytes;
+    second = number_at order 2 12 bytes;
+    milliseconds = number_at order 2 14 bytes;
+  };
 }
 
 -- 172 bytes
-abbrev pub time_zone : Endian → List ℕ → TIME_ZONE_INFORMATION
-time_zone order bytes = record {
-  bias = signed_at order 4 0 bytes;
-  standard_name = entries 2 (λ b. number_at order 2 0 b) bytes 4 32;
-  standard_date = system_time order (slice_range bytes 68 84);
-  standard_bias = signed_at order 4 84 bytes;
-  daylight_name = entries 2 (λ b. number_at order 2 0 b) bytes 88 32;
-  daylight_date = system_time order (slice_range bytes 152 168);
-  daylight_bias = signed_at order 4 168 bytes;
+abbrev pub time_zone : Layout TIME_ZONE_INFORMATION
+time_zone = record {
+  size = 172;
+  value = λ order bytes. record {
+    bias = signed_at order 4 0 bytes;
+    standard_name = entries (number_layout 2) order bytes 4 32;
+    standard_date = system_time.value order (slice_range bytes 68 84);
+    standard_bias = signed_at order 4 84 bytes;
+    daylight_name = entries (number_layout 2) order bytes 88 32;
+    daylight_date = system_time.value order (slice_range bytes 152 168);
+    daylight_bias = signed_at order 4 168 bytes;
+  };
 }
 
 -- 232 bytes
-abbrev pub misc_info_3 : Endian → List ℕ → MINIDUMP_MISC_INFO_3
-misc_info_3 order bytes = record {
-  size_of_info = number_at order 4 0 bytes;
-  flags1 = number_at order 4 4 bytes;
-  process_id = number_at order 4 8 bytes;
-  process_create_time = number_at order 4 12 bytes;
-  process_user_time = number_at order 4 16 bytes;
-  process_kernel_time = number_at order 4 20 bytes;
-  processor_max_mhz = number_at order 4 24 bytes;
-  processor_current_mhz = number_at order 4 28 bytes;
-  processor_mhz_limit = number_at order 4 32 bytes;
-  processor_max_idle_state = number_at order 4 36 bytes;
-  processor_current_idle_state = number_at order 4 40 bytes;
-  process_integrity_level = number_at order 4 44 bytes;
-  process_execute_flags = number_at order 4 48 bytes;
-  protected_process = number_at order 4 52 bytes;
-  time_zone_id = number_at order 4 56 bytes;
-  time_zone = time_zone order (slice_range bytes 60 232);
+abbrev pub misc_info_3 : Layout MINIDUMP_MISC_INFO_3
+misc_info_3 = record {
+  size = 232;
+  value = λ order bytes. record {
+    size_of_info = number_at order 4 0 bytes;
+    flags1 = number_at order 4 4 bytes;
+    process_id = number_at order 4 8 bytes;
+    process_create_time = number_at order 4 12 bytes;
+    process_user_time = number_at order 4 16 bytes;
+    process_kernel_time = number_at order 4 20 bytes;
+    processor_max_mhz = number_at order 4 24 bytes;
+    processor_current_mhz = number_at order 4 28 bytes;
+    processor_mhz_limit = number_at order 4 32 bytes;
+    processor_max_idle_state = number_at order 4 36 bytes;
+    processor_current_idle_state = number_at order 4 40 bytes;
+    process_integrity_level = number_at order 4 44 bytes;
+    process_execute_flags = number_at order 4 48 bytes;
+    protected_process = number_at order 4 52 bytes;
+    time_zone_id = number_at order 4 56 bytes;
+    time_zone = time_zone.value order (slice_range bytes 60 232);
+  };
 }
 
 -- 832 bytes
-abbrev pub misc_info_4 : Endian → List ℕ → MINIDUMP_MISC_INFO_4
-misc_info_4 order bytes = record {
-  size_of_info = number_at order 4 0 bytes;
-  flags1 = number_at order 4 4 bytes;
-  process_id = number_at order 4 8 bytes;
-  process_create_time = number_at order 4 12 bytes;
-  process_user_time = number_at order 4 16 bytes;
-  process_kernel_time = number_at order 4 20 bytes;
-  processor_max_mhz = number_at order 4 24 bytes;
-  processor_current_mhz = number_at order 4 28 bytes;
-  processor_mhz_limit = number_at order 4 32 bytes;
-  processor_max_idle_state = number_at order 4 36 bytes;
-  processor_current_idle_state = number_at order 4 40 bytes;
-  process_integrity_level = number_at order 4 44 bytes;
-  process_execute_flags = number_at order 4 48 bytes;
-  protected_process = number_at order 4 52 bytes;
-  time_zone_id = number_at order 4 56 bytes;
-  time_zone = time_zone order (slice_range bytes 60 232);
-  build_string = entries 2 (λ b. number_at order 2 0 b) bytes 232 260;
-  dbg_bld_str = entries 2 (λ b. number_at order 2 0 b) bytes 752 40;
+abbrev pub misc_info_4 : Layout MINIDUMP_MISC_INFO_4
+misc_info_4 = record {
+  size = 832;
+  value = λ order bytes. record {
+    size_of_info = number_at order 4 0 bytes;
+    flags1 = number_at order 4 4 bytes;
+    process_id = number_at order 4 8 bytes;
+    process_create_time = number_at order 4 12 bytes;
+    process_user_time = number_at order 4 16 bytes;
+    process_kernel_time = number_at order 4 20 bytes;
+    processor_max_mhz = number_at order 4 24 bytes;
+    processor_current_mhz = number_at order 4 28 bytes;
+    processor_mhz_limit = number_at order 4 32 bytes;
+    processor_max_idle_state = number_at order 4 36 bytes;
+    processor_current_idle_state = number_at order 4 40 bytes;
+    process_integrity_level = number_at order 4 44 bytes;
+    process_execute_flags = number_at order 4 48 bytes;
+    protected_process = number_at order 4 52 bytes;
+    time_zone_id = number_at order 4 56 bytes;
+    time_zone = time_zone.value order (slice_range bytes 60 232);
+    build_string = entries (number_layout 2) order bytes 232 260;
+    dbg_bld_str = entries (number_layout 2) order bytes 752 40;
+  };
 }
 
 -- 8 bytes
-abbrev pub xstate_feature : Endian → List ℕ → XSTATE_FEATURE
-xstate_feature order bytes = record {
-  offset = number_at order 4 0 bytes;
-  size = number_at order 4 4 bytes;
+abbrev pub xstate_feature : Layout XSTATE_FEATURE
+xstate_feature = record {
+  size = 8;
+  value = λ order bytes. record {
+    offset = number_at order 4 0 bytes;
+    size = number_at order 4 4 bytes;
+  };
 }
 
 -- 528 bytes
-abbrev pub xstate_config : Endian → List ℕ → XSTATE_CONFIG_FEATURE_MSC_INFO
-xstate_config order bytes = record {
-  size_of_info = number_at order 4 0 bytes;
-  context_size = number_at order 4 4 bytes;
-  enabled_features = number_at order 8 8 bytes;
-  features = entries 8 (xstate_feature order) bytes 16 64;
+abbrev pub xstate_config : Layout XSTATE_CONFIG_FEATURE_MSC_INFO
+xstate_config = record {
+  size = 528;
+  value = λ order bytes. record {
+    size_of_info = number_at order 4 0 bytes;
+    context_size = number_at order 4 4 bytes;
+    enabled_features = number_at order 8 8 bytes;
+    features = entries xstate_feature order bytes 16 64;
+  };
 }
 
 -- 1364 bytes
-abbrev pub misc_info_5 : Endian → List ℕ → MINIDUMP_MISC_INFO_5
-misc_info_5 order bytes = record {
-  size_of_info = number_at order 4 0 bytes;
-  flags1 = number_at order 4 4 bytes;
-  process_id = number_at order 4 8 bytes;
-  process_create_time = number_at order 4 12 bytes;
-  process_user_time = number_at order 4 16 bytes;
-  process_kernel_time = number_at order 4 20 bytes;
-  processor_max_mhz = number_at order 4 24 bytes;
-  processor_current_mhz = number_at order 4 28 bytes;
-  processor_mhz_limit = number_at order 4 32 bytes;
-  processor_max_idle_state = number_at order 4 36 bytes;
-  processor_current_idle_state = number_at order 4 40 bytes;
-  process_integrity_level = number_at order 4 44 bytes;
-  process_execute_flags = number_at order 4 48 bytes;
-  protected_process = number_at order 4 52 bytes;
-  time_zone_id = number_at order 4 56 bytes;
-  time_zone = time_zone order (slice_range bytes 60 232);
-  build_string = entries 2 (λ b. number_at order 2 0 b) bytes 232 260;
-  dbg_bld_str = entries 2 (λ b. number_at order 2 0 b) bytes 752 40;
-  xstate_data = xstate_config order (slice_range bytes 832 1360);
-  process_cookie = number_at order 4 1360 bytes;
+abbrev pub misc_info_5 : Layout MINIDUMP_MISC_INFO_5
+misc_info_5 = record {
+  size = 1364;
+  value = λ order bytes. record {
+    size_of_info = number_at order 4 0 bytes;
+    flags1 = number_at order 4 4 bytes;
+    process_id = number_at order 4 8 bytes;
+    process_create_time = number_at order 4 12 bytes;
+    process_user_time = number_at order 4 16 bytes;
+    process_kernel_time = number_at order 4 20 bytes;
+    processor_max_mhz = number_at order 4 24 bytes;
+    processor_current_mhz = number_at order 4 28 bytes;
+    processor_mhz_limit = number_at order 4 32 bytes;
+    processor_max_idle_state = number_at order 4 36 bytes;
+    processor_current_idle_state = number_at order 4 40 bytes;
+    process_integrity_level = number_at order 4 44 bytes;
+    process_execute_flags = number_at order 4 48 bytes;
+    protected_process = number_at order 4 52 bytes;
+    time_zone_id = number_at order 4 56 bytes;
+    time_zone = time_zone.value order (slice_range bytes 60 232);
+    build_string = entries (number_layout 2) order bytes 232 260;
+    dbg_bld_str = entries (number_layout 2) order bytes 752 40;
+    xstate_data = xstate_config.value order (slice_range bytes 832 1360);
+    process_cookie = number_at order 4 1360 bytes;
+  };
 }

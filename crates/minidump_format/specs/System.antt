@@ -2,6 +2,7 @@
 -- place, and the numbers of architectures and platforms.
 use Rattle.std.specs.Prelude.{ℕ, List, [], ◌∷◌, slice_index, find, ◌==◌, Option}
 use Rattle.minidump_bytes.specs.declared.endian.Endian.{Endian}
+use Rattle.minidump_bytes.specs.Layout.{Layout, byte_layout, number_layout}
 use Rattle.minidump_bytes.specs.Number.{number_at}
 use Rattle.minidump_bytes.specs.Entries.{entries}
 use Rattle.minidump_format.specs.declared.format.system.MINIDUMP_SYSTEM_INFO.{MINIDUMP_SYSTEM_INFO}
@@ -13,35 +14,44 @@ use Rattle.minidump_format.specs.declared.format.system.ProcessorArchitecture.Th
 use Rattle.minidump_format.specs.declared.format.system.PlatformId.TheVariants.{VER_PLATFORM_WIN32_WINDOWS, VER_PLATFORM_WIN32_NT, MacOs, Ios, Linux, Solaris, Android, Ps3, NaCl}
 
 -- 56 bytes
-abbrev pub system_info : Endian → List ℕ → MINIDUMP_SYSTEM_INFO
-system_info order bytes = record {
-  processor_architecture = number_at order 2 0 bytes;
-  processor_level = number_at order 2 2 bytes;
-  processor_revision = number_at order 2 4 bytes;
-  number_of_processors = slice_index bytes 6;
-  product_type = slice_index bytes 7;
-  major_version = number_at order 4 8 bytes;
-  minor_version = number_at order 4 12 bytes;
-  build_number = number_at order 4 16 bytes;
-  platform_id = number_at order 4 20 bytes;
-  csd_version_rva = number_at order 4 24 bytes;
-  suite_mask = number_at order 2 28 bytes;
-  reserved = number_at order 2 30 bytes;
-  cpu = entries 1 (λ b. slice_index b 0) bytes 32 24;
+abbrev pub system_info : Layout MINIDUMP_SYSTEM_INFO
+system_info = record {
+  size = 56;
+  value = λ order bytes. record {
+    processor_architecture = number_at order 2 0 bytes;
+    processor_level = number_at order 2 2 bytes;
+    processor_revision = number_at order 2 4 bytes;
+    number_of_processors = slice_index bytes 6;
+    product_type = slice_index bytes 7;
+    major_version = number_at order 4 8 bytes;
+    minor_version = number_at order 4 12 bytes;
+    build_number = number_at order 4 16 bytes;
+    platform_id = number_at order 4 20 bytes;
+    csd_version_rva = number_at order 4 24 bytes;
+    suite_mask = number_at order 2 28 bytes;
+    reserved = number_at order 2 30 bytes;
+    cpu = entries byte_layout order bytes 32 24;
+  };
 }
 
 -- 24 bytes
-abbrev pub x86_cpu_info : Endian → List ℕ → X86CpuInfo
-x86_cpu_info order bytes = record {
-  vendor_id = entries 4 (λ b. number_at order 4 0 b) bytes 0 3;
-  unused1 = entries 4 (λ b. number_at order 4 0 b) bytes 12 3;
+abbrev pub x86_cpu_info : Layout X86CpuInfo
+x86_cpu_info = record {
+  size = 24;
+  value = λ order bytes. record {
+    vendor_id = entries (number_layout 4) order bytes 0 3;
+    unused1 = entries (number_layout 4) order bytes 12 3;
+  };
 }
 
 -- 8 bytes
-abbrev pub arm_cpu_info : Endian → List ℕ → ARMCpuInfo
-arm_cpu_info order bytes = record {
-  cpuid = number_at order 4 0 bytes;
-  elf_hwcaps = number_at order 4 4 bytes;
+abbrev pub arm_cpu_info : Layout ARMCpuInfo
+arm_cpu_info = record {
+  size = 8;
+  value = λ order bytes. record {
+    cpuid = number_at order 4 0 bytes;
+    elf_hwcaps = number_at order 4 4 bytes;
+  };
 }
 
 -- the number of each architecture

@@ -1,3 +1,5 @@
+ghost use Rattle.std.proofs.Common.{rules};
+
 use minidump_bytes::{Endian, Record};
 
 /// A place in the file, in bytes from its beginning.
@@ -32,7 +34,7 @@ impl Record for MINIDUMP_HEADER {
 
     const SIZE: usize = 32;
 
-    ghost value = { header };
+    ghost layout = { header };
 
     fn decode(bytes: &[u8], endian: Endian) -> Self {
         MINIDUMP_HEADER {
@@ -45,6 +47,8 @@ impl Record for MINIDUMP_HEADER {
             flags: endian.u64_at(bytes, 24),
         }
     }
+
+    ghost fits = { Prim.search rules };
 }
 
 /// Where a part of the file lies: Microsoft's `MINIDUMP_LOCATION_DESCRIPTOR`.
@@ -63,7 +67,7 @@ impl Record for MINIDUMP_LOCATION_DESCRIPTOR {
 
     const SIZE: usize = 8;
 
-    ghost value = { location };
+    ghost layout = { location };
 
     fn decode(bytes: &[u8], endian: Endian) -> Self {
         MINIDUMP_LOCATION_DESCRIPTOR {
@@ -71,6 +75,8 @@ impl Record for MINIDUMP_LOCATION_DESCRIPTOR {
             rva: endian.u32_at(bytes, 4),
         }
     }
+
+    ghost fits = { Prim.search rules };
 }
 
 /// An entry of the directory: Microsoft's `MINIDUMP_DIRECTORY`.
@@ -89,7 +95,7 @@ impl Record for MINIDUMP_DIRECTORY {
 
     const SIZE: usize = 12;
 
-    ghost value = { directory_entry };
+    ghost layout = { directory_entry };
 
     fn decode(bytes: &[u8], endian: Endian) -> Self {
         MINIDUMP_DIRECTORY {
@@ -97,4 +103,6 @@ impl Record for MINIDUMP_DIRECTORY {
             location: MINIDUMP_LOCATION_DESCRIPTOR::decode(&bytes[4..12], endian),
         }
     }
+
+    ghost fits = { Prim.search rules };
 }

@@ -1,3 +1,5 @@
+ghost use Rattle.std.proofs.Common.{rules};
+
 use super::MINIDUMP_LOCATION_DESCRIPTOR;
 use minidump_bytes::{Endian, Record};
 
@@ -17,7 +19,7 @@ impl Record for MINIDUMP_MEMORY_DESCRIPTOR {
 
     const SIZE: usize = 16;
 
-    ghost value = { memory_descriptor };
+    ghost layout = { memory_descriptor };
 
     fn decode(bytes: &[u8], endian: Endian) -> Self {
         MINIDUMP_MEMORY_DESCRIPTOR {
@@ -25,6 +27,8 @@ impl Record for MINIDUMP_MEMORY_DESCRIPTOR {
             memory: MINIDUMP_LOCATION_DESCRIPTOR::decode(&bytes[8..16], endian),
         }
     }
+
+    ghost fits = { Prim.search rules };
 }
 
 /// A region of memory of a list whose bytes lie behind one another in the file: Microsoft's
@@ -44,7 +48,7 @@ impl Record for MINIDUMP_MEMORY_DESCRIPTOR64 {
 
     const SIZE: usize = 16;
 
-    ghost value = { memory_descriptor_64 };
+    ghost layout = { memory_descriptor_64 };
 
     fn decode(bytes: &[u8], endian: Endian) -> Self {
         MINIDUMP_MEMORY_DESCRIPTOR64 {
@@ -52,4 +56,6 @@ impl Record for MINIDUMP_MEMORY_DESCRIPTOR64 {
             data_size: endian.u64_at(bytes, 8),
         }
     }
+
+    ghost fits = { Prim.search rules };
 }

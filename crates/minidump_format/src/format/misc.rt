@@ -1,3 +1,5 @@
+ghost use Rattle.std.proofs.Common.{rules};
+
 use minidump_bytes::{Endian, Record, array_at};
 
 /// What is known of the process: Microsoft's `MINIDUMP_MISC_INFO`, the first layout.
@@ -23,7 +25,7 @@ impl Record for MINIDUMP_MISC_INFO {
 
     const SIZE: usize = 24;
 
-    ghost value = { misc_info };
+    ghost layout = { misc_info };
 
     fn decode(bytes: &[u8], endian: Endian) -> Self {
         MINIDUMP_MISC_INFO {
@@ -35,6 +37,8 @@ impl Record for MINIDUMP_MISC_INFO {
             process_kernel_time: endian.u32_at(bytes, 20),
         }
     }
+
+    ghost fits = { Prim.search rules };
 }
 
 /// The second layout, with the clock rates of the processors: Microsoft's `MINIDUMP_MISC_INFO_2`.
@@ -68,7 +72,7 @@ impl Record for MINIDUMP_MISC_INFO_2 {
 
     const SIZE: usize = 44;
 
-    ghost value = { misc_info_2 };
+    ghost layout = { misc_info_2 };
 
     fn decode(bytes: &[u8], endian: Endian) -> Self {
         MINIDUMP_MISC_INFO_2 {
@@ -85,6 +89,8 @@ impl Record for MINIDUMP_MISC_INFO_2 {
             processor_current_idle_state: endian.u32_at(bytes, 40),
         }
     }
+
+    ghost fits = { Prim.search rules };
 }
 
 /// A date and time of day: Microsoft's `SYSTEMTIME`.
@@ -111,7 +117,7 @@ impl Record for SYSTEMTIME {
 
     const SIZE: usize = 16;
 
-    ghost value = { system_time };
+    ghost layout = { system_time };
 
     fn decode(bytes: &[u8], endian: Endian) -> Self {
         SYSTEMTIME {
@@ -125,6 +131,8 @@ impl Record for SYSTEMTIME {
             milliseconds: endian.u16_at(bytes, 14),
         }
     }
+
+    ghost fits = { Prim.search rules };
 }
 
 /// A time zone: Microsoft's `TIME_ZONE_INFORMATION`.
@@ -153,7 +161,7 @@ impl Record for TIME_ZONE_INFORMATION {
 
     const SIZE: usize = 172;
 
-    ghost value = { time_zone };
+    ghost layout = { time_zone };
 
     fn decode(bytes: &[u8], endian: Endian) -> Self {
         TIME_ZONE_INFORMATION {
@@ -166,6 +174,8 @@ impl Record for TIME_ZONE_INFORMATION {
             daylight_bias: endian.i32_at(bytes, 168),
         }
     }
+
+    ghost fits = { Prim.search rules };
 }
 
 /// The third layout, with the time zone: Microsoft's `MINIDUMP_MISC_INFO_3`.
@@ -205,7 +215,7 @@ impl Record for MINIDUMP_MISC_INFO_3 {
 
     const SIZE: usize = 232;
 
-    ghost value = { misc_info_3 };
+    ghost layout = { misc_info_3 };
 
     fn decode(bytes: &[u8], endian: Endian) -> Self {
         MINIDUMP_MISC_INFO_3 {
@@ -227,6 +237,8 @@ impl Record for MINIDUMP_MISC_INFO_3 {
             time_zone: TIME_ZONE_INFORMATION::decode(&bytes[60..232], endian),
         }
     }
+
+    ghost fits = { Prim.search rules };
 }
 
 /// The fourth layout, with the builds: Microsoft's `MINIDUMP_MISC_INFO_4`.
@@ -270,7 +282,7 @@ impl Record for MINIDUMP_MISC_INFO_4 {
 
     const SIZE: usize = 832;
 
-    ghost value = { misc_info_4 };
+    ghost layout = { misc_info_4 };
 
     fn decode(bytes: &[u8], endian: Endian) -> Self {
         MINIDUMP_MISC_INFO_4 {
@@ -294,6 +306,8 @@ impl Record for MINIDUMP_MISC_INFO_4 {
             dbg_bld_str: array_at(bytes, 752, endian),
         }
     }
+
+    ghost fits = { Prim.search rules };
 }
 
 /// Where a feature of the processor keeps its state: Microsoft's `XSTATE_FEATURE`.
@@ -312,7 +326,7 @@ impl Record for XSTATE_FEATURE {
 
     const SIZE: usize = 8;
 
-    ghost value = { xstate_feature };
+    ghost layout = { xstate_feature };
 
     fn decode(bytes: &[u8], endian: Endian) -> Self {
         XSTATE_FEATURE {
@@ -320,6 +334,8 @@ impl Record for XSTATE_FEATURE {
             size: endian.u32_at(bytes, 4),
         }
     }
+
+    ghost fits = { Prim.search rules };
 }
 
 /// The layout of a processor's extended state: Microsoft's `XSTATE_CONFIG_FEATURE_MSC_INFO`.
@@ -342,7 +358,7 @@ impl Record for XSTATE_CONFIG_FEATURE_MSC_INFO {
 
     const SIZE: usize = 528;
 
-    ghost value = { xstate_config };
+    ghost layout = { xstate_config };
 
     fn decode(bytes: &[u8], endian: Endian) -> Self {
         XSTATE_CONFIG_FEATURE_MSC_INFO {
@@ -352,6 +368,8 @@ impl Record for XSTATE_CONFIG_FEATURE_MSC_INFO {
             features: array_at(bytes, 16, endian),
         }
     }
+
+    ghost fits = { Prim.search rules };
 }
 
 /// The fifth layout, with the extended state: Microsoft's `MINIDUMP_MISC_INFO_5`.
@@ -398,7 +416,7 @@ impl Record for MINIDUMP_MISC_INFO_5 {
 
     const SIZE: usize = 1364;
 
-    ghost value = { misc_info_5 };
+    ghost layout = { misc_info_5 };
 
     fn decode(bytes: &[u8], endian: Endian) -> Self {
         MINIDUMP_MISC_INFO_5 {
@@ -424,4 +442,6 @@ impl Record for MINIDUMP_MISC_INFO_5 {
             process_cookie: endian.u32_at(bytes, 1360),
         }
     }
+
+    ghost fits = { Prim.search rules };
 }

@@ -1,3 +1,4 @@
+ghost use Rattle.std.proofs.Common.{rules};
 ghost use Rattle.std.specs.Prelude.{◌≡◌};
 ghost use Rattle.minidump_format.specs.System.{architecture_of, platform_of};
 
@@ -33,7 +34,7 @@ impl Record for MINIDUMP_SYSTEM_INFO {
 
     const SIZE: usize = 56;
 
-    ghost value = { system_info };
+    ghost layout = { system_info };
 
     fn decode(bytes: &[u8], endian: Endian) -> Self {
         MINIDUMP_SYSTEM_INFO {
@@ -52,6 +53,8 @@ impl Record for MINIDUMP_SYSTEM_INFO {
             cpu: array_at(bytes, 32, endian),
         }
     }
+
+    ghost fits = { Prim.search rules };
 }
 
 /// What an x86 processor says of itself, at the beginning of the CPU bytes.
@@ -69,7 +72,7 @@ impl Record for X86CpuInfo {
 
     const SIZE: usize = 24;
 
-    ghost value = { x86_cpu_info };
+    ghost layout = { x86_cpu_info };
 
     fn decode(bytes: &[u8], endian: Endian) -> Self {
         X86CpuInfo {
@@ -77,6 +80,8 @@ impl Record for X86CpuInfo {
             unused1: array_at(bytes, 12, endian),
         }
     }
+
+    ghost fits = { Prim.search rules };
 }
 
 /// What an ARM processor says of itself, at the beginning of the CPU bytes.
@@ -94,7 +99,7 @@ impl Record for ARMCpuInfo {
 
     const SIZE: usize = 8;
 
-    ghost value = { arm_cpu_info };
+    ghost layout = { arm_cpu_info };
 
     fn decode(bytes: &[u8], endian: Endian) -> Self {
         ARMCpuInfo {
@@ -102,6 +107,8 @@ impl Record for ARMCpuInfo {
             elf_hwcaps: endian.u32_at(bytes, 4),
         }
     }
+
+    ghost fits = { Prim.search rules };
 }
 
 /// The architectures of processors that have a name: Microsoft's, with Breakpad's extensions.
