@@ -10,11 +10,11 @@ use Rattle.minidump.specs.declared.directory.DecidingEntry.{DecidingEntry}
 
 -- its entries, in the order of the file
 abbrev pub directory : Endian → MINIDUMP_HEADER → List ℕ → List MINIDUMP_DIRECTORY
-directory order h bytes = entries 12 (directory_entry order) bytes h.stream_directory_rva h.stream_count
+directory order h bytes = entries directory_entry order bytes h.stream_directory_rva h.stream_count
 
 -- each of them is in the file. The place of a directory with none isn't looked at
 abbrev pub is_readable : MINIDUMP_HEADER → List ℕ → Bool
-is_readable h bytes = h.stream_count == 0 || nat_le (h.stream_directory_rva + 12 * h.stream_count) (length bytes)
+is_readable h bytes = h.stream_count == 0 || nat_le (h.stream_directory_rva + directory_entry.size * h.stream_count) (length bytes)
 
 -- the entries, each with its index
 abbrev pub indexed : List MINIDUMP_DIRECTORY → List DecidingEntry

@@ -9,7 +9,7 @@ use Rattle.minidump_format.specs.Header.{header}
 
 -- the first 32 bytes, as a header of a byte order
 abbrev pub header_in : Endian → List ℕ → MINIDUMP_HEADER
-header_in order bytes = header order (slice_range bytes 0 32)
+header_in order bytes = header.value order (slice_range bytes 0 32)
 
 -- the byte order in which the file begins with the signature: 4d 44 4d 50 is little, 50 4d 44 4d is big
 abbrev pub order_of : List ℕ → Option Endian

@@ -34,4 +34,4 @@ memories_of_dump d =
 -- one of the two lists has the length that its count asks for, so that it takes memory
 abbrev pub TakesMemory : Dump → Type 0
 TakesMemory d =
-    IsOkAnd (raw_stream 9 d) (λ b. IsOk (list_64 16 memory_descriptor_64 d.order b)) ⊎ IsOkAnd (raw_stream 5 d) (λ b. IsOk (plain_list 16 memory_descriptor d.order b))
+    IsOkAnd (raw_stream 9 d) (λ b. IsOk (list_64 memory_descriptor_64 d.order b)) ⊎ IsOkAnd (raw_stream 5 d) (λ b. IsOk (plain_list memory_descriptor d.order b))

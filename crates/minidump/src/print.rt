@@ -1,7 +1,7 @@
-ghost use Rattle.std.specs.Prelude.{◌≡◌, ◌++◌, codes, IfOk, string_bytes};
+ghost use Rattle.std.specs.Prelude.{◌≡◌, ◌++◌, IfOk, string_bytes};
 ghost use Rattle.std.specs.List.{flat_map};
 ghost use Rattle.minidump_format.specs.Print.{Prints};
-ghost use Rattle.minidump.specs.Text.{dump_text, entry_text, header_text, shown_type, stream_text};
+ghost use Rattle.minidump.specs.Text.{dump_text, entry_text, header_text, line_end, shown_type, stream_text, streams_heading};
 ghost use Rattle.minidump.specs.Dump.{streams_of};
 ghost use Rattle.minidump.specs.Seen.{dump_of};
 
@@ -9,14 +9,14 @@ use crate::Minidump;
 use crate::directory::DecidingEntry;
 use minidump_bytes::{Piece, Told, made};
 use minidump_format::format::{MINIDUMP_HEADER, MINIDUMP_STREAM_TYPE};
-use minidump_format::{Error, put_made, put_text};
+use minidump_format::{Error, TextOf, print_values, put_made, put_text};
 use std::alloc::{AllocError, Global};
 use std::io::Write;
 
 impl<'a> Minidump<'a> {
     /// Prints the header and the directory: the deciding entries of [`Minidump::all_streams`], each with
     /// its index in the directory, and a line for each of their streams.
-    #[tactic(auto, using(minidump_format::specs::Printing::prints_then, minidump_format::specs::Printing::prints_exit))]
+    #[tactic(auto, using(minidump_format::proofs::Printing::prints_then, minidump_format::proofs::Printing::prints_exit))]
     pub fn print<W: Write>(&self, alloc: Global, f: &mut Told<W>) -> Result<(), Error>
         ensures { Prints W.contents f.old f.new (dump_text (dump_of self.now)) result }
     {
@@ -24,26 +24,71 @@ impl<'a> Minidump<'a> {
         self.print_streams(alloc, f)
     }
 
+    #[tactic(auto, using(minidump_format::proofs::Printing::prints_then, minidump_format::proofs::Printing::prints_exit))]
     fn print_entries<W: Write>(&self, alloc: Global, f: &mut Told<W>) -> Result<(), Error>
         ensures { Prints W.contents f.old f.new
             (header_text self.now.header ++ flat_map entry_text (streams_of (dump_of self.now))) result }
     {
-        put_made(f, made_header(alloc, &self.header))?;
-        for deciding in self.deciding_entries() {
-            put_made(f, made_entry(alloc, deciding))?;
-        }
-        Ok(())
+        self.print_header(alloc, f)?;
+        print_values::<EntryText, _, _, _>(self.deciding_entries(), alloc, f)
     }
 
+    fn print_header<W: Write>(&self, alloc: Global, f: &mut Told<W>) -> Result<(), Error>
+        ensures { Prints W.contents f.old f.new (header_text self.now.header) result }
+    {
+        put_made(f, made_header(alloc, &self.header))
+    }
+
+    #[tactic(auto, using(minidump_format::proofs::Printing::prints_then, minidump_format::proofs::Printing::prints_exit))]
     fn print_streams<W: Write>(&self, alloc: Global, f: &mut Told<W>) -> Result<(), Error>
         ensures { Prints W.contents f.old f.new
-            (codes "Streams:\n" ++ (flat_map stream_text (streams_of (dump_of self.now)) ++ codes "\n")) result }
+            (streams_heading ++ (flat_map stream_text (streams_of (dump_of self.now)) ++ line_end)) result }
     {
-        put_text(f, "Streams:\n")?;
-        for deciding in self.deciding_entries() {
-            put_made(f, made_stream(alloc, deciding))?;
-        }
-        put_text(f, "\n")
+        print_heading(f)?;
+        self.print_stream_lines(alloc, f)
+    }
+
+    #[tactic(auto, using(minidump_format::proofs::Printing::prints_then, minidump_format::proofs::Printing::prints_exit))]
+    fn print_stream_lines<W: Write>(&self, alloc: Global, f: &mut Told<W>) -> Result<(), Error>
+        ensures { Prints W.contents f.old f.new
+            (flat_map stream_text (streams_of (dump_of self.now)) ++ line_end) result }
+    {
+        print_values::<StreamText, _, _, _>(self.deciding_entries(), alloc, f)?;
+        print_line_end(f)
+    }
+}
+
+#[tactic(auto, unfolding(crate::specs::Text::streams_heading))]
+fn print_heading<W: Write>(f: &mut Told<W>) -> Result<(), Error>
+    ensures { Prints W.contents f.old f.new streams_heading result }
+{
+    put_text(f, "Streams:\n")
+}
+
+#[tactic(auto, unfolding(crate::specs::Text::line_end))]
+fn print_line_end<W: Write>(f: &mut Told<W>) -> Result<(), Error>
+    ensures { Prints W.contents f.old f.new line_end result }
+{
+    put_text(f, "\n")
+}
+
+pub(crate) struct EntryText;
+
+impl TextOf<DecidingEntry> for EntryText {
+    ghost text = { entry_text };
+
+    fn made(alloc: Global, deciding: &DecidingEntry) -> Result<String, AllocError> {
+        made_entry(alloc, deciding)
+    }
+}
+
+pub(crate) struct StreamText;
+
+impl TextOf<DecidingEntry> for StreamText {
+    ghost text = { stream_text };
+
+    fn made(alloc: Global, deciding: &DecidingEntry) -> Result<String, AllocError> {
+        made_stream(alloc, deciding)
     }
 }
 

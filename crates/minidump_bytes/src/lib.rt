@@ -5,6 +5,7 @@
 mod array;
 mod compare;
 mod endian;
+mod exact;
 pub mod laws;
 mod piece;
 mod record;
@@ -16,6 +17,7 @@ mod told;
 pub use array::array_at;
 pub use compare::probe;
 pub use endian::Endian;
+pub use exact::Exact;
 pub use piece::{Piece, made, push_hex, push_pieces};
 pub use record::{FixedRead, Record};
 pub use source::Source;

@@ -4,7 +4,6 @@ pub mod Print
 pub mod Header
 pub mod StreamType
 pub mod Vendor
-pub mod Printing
 pub mod System
 pub mod Misc
 pub mod Flags

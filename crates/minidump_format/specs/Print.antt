@@ -1,17 +1,15 @@
 -- What a call that prints does to its writer.
-use Rattle.std.specs.Prelude.{◌≡◌, ℕ, true, false, List, Option, Result, Ok, Err, if◌then◌else◌}
+use Rattle.std.specs.Prelude.{◌≡◌, ℕ, List, Option, Result, Ok, Err, if◌then◌else◌}
 use Rattle.minidump_bytes.specs.declared.told.Told.{Told}
 use Rattle.minidump_bytes.specs.Told.{PutsAll, PutsBeginning, has_failed}
 use Rattle.minidump_format.specs.declared.error.Error.{Error}
 use Rattle.minidump_format.specs.declared.error.Error.TheVariants.{IoError, OutOfMemory}
 
--- `Ok`: the writer took all of the text. Else it took a beginning: `IoError`, it has failed by now; `OutOfMemory`, it has not
-abbrev pub Prints : {D : Type 0} → (D → Option (List ℕ)) → Told D → Told D → List ℕ → Result (Unit {0}) Error → Type 0
-Prints contents old new text (Ok _) = PutsAll contents old new text
-Prints contents old new text (Err IoError) = PutsBeginning contents old new text × (has_failed new ≡ true)
-Prints contents old new text (Err OutOfMemory) = PutsBeginning contents old new text × (has_failed new ≡ false)
-Prints contents old new text (Err _) = ⊥
-
 -- the refusal where no memory is left: a failure of the writer goes first
 abbrev pub out_of_memory : {D : Type 0} → Told D → Error
 out_of_memory t = if has_failed t then IoError else OutOfMemory
+
+-- `Ok`: the writer took all of the text. Refused: it took a beginning, and the refusal is that of its failure or else of want of memory
+abbrev pub Prints : {D : Type 0} → (D → Option (List ℕ)) → Told D → Told D → List ℕ → Result (Unit {0}) Error → Type 0
+Prints contents old new text (Ok _) = PutsAll contents old new text
+Prints contents old new text (Err e) = PutsBeginning contents old new text × (e ≡ out_of_memory new)

@@ -8,7 +8,7 @@ mod print;
 mod vendor;
 
 pub use error::Error;
-pub use print::{put_made, put_text};
+pub use print::{Printed, TextOf, print_all, print_values, put_made, put_text};
 pub use vendor::stream_vendor;
 
 #[cfg(test)]

@@ -1,14 +1,17 @@
-ghost use Rattle.std.specs.Prelude.{◌≡◌, ℕ, List, IfOk, string_bytes};
+ghost use Rattle.std.specs.Prelude.{◌≡◌, ℕ, List, IfErr, IfOk, string_bytes};
+ghost use Rattle.std.specs.List.{flat_map};
 ghost use Rattle.minidump_format.specs.Print.{Prints, out_of_memory};
 
 use crate::Error;
 use minidump_bytes::Told;
-use std::alloc::AllocError;
+use std::alloc::{AllocError, Global};
+use std::collections::btree_map::Values;
 use std::io::Write;
 
-/// Prints a text.
+/// Prints a text. The only refusal is [`Error::IoError`].
 pub fn put_text<W: Write>(f: &mut Told<W>, text: &str) -> Result<(), Error>
-    ensures { Prints W.contents f.old f.new text.now result }
+    ensures prints { Prints W.contents f.old f.new text.now result }
+    ensures refusal { IfErr result (λ e. e ≡ Error.IoError) }
 {
     match f.put(text.as_bytes()) {
         Ok(()) => Ok(()),
@@ -36,4 +39,59 @@ fn no_memory<W: Write>(f: &Told<W>) -> Error
     } else {
         Error::OutOfMemory
     }
+}
+
+/// A value that prints its text.
+pub trait Printed {
+    // its text
+    ghost text: { Self → List ℕ };
+
+    /// Prints the text. The refusals are [`Error::IoError`], where the writer has failed, and
+    /// [`Error::OutOfMemory`].
+    fn print<W: Write>(&self, alloc: Global, f: &mut Told<W>) -> Result<(), Error>
+        ensures { Prints W.contents f.old f.new (text self.now) result };
+}
+
+/// Prints items one after another, each as it prints itself.
+pub fn print_all<T: Printed, W: Write>(
+    items: &[T],
+    alloc: Global,
+    f: &mut Told<W>,
+) -> Result<(), Error>
+    ensures { Prints W.contents f.old f.new (flat_map T.text items.now) result }
+{
+    if f.failed() {
+        return Err(Error::IoError);
+    }
+    for item in items {
+        item.print(alloc, f)?;
+    }
+    Ok(())
+}
+
+/// One way to write a value of a type as text.
+pub trait TextOf<T> {
+    // the text of a value
+    ghost text: { T → List ℕ };
+
+    /// Makes the text of a value in memory.
+    fn made(alloc: Global, value: &T) -> Result<String, AllocError>
+        ensures { IfOk result (λ t. string_bytes t ≡ text value.now) };
+}
+
+/// Prints the texts of the values of a map, in the order of their keys.
+pub fn print_values<P: TextOf<T>, K, T, W: Write>(
+    values: Values<'_, K, T>,
+    alloc: Global,
+    f: &mut Told<W>,
+) -> Result<(), Error>
+    ensures { Prints W.contents f.old f.new (flat_map P.text values.entry) result }
+{
+    if f.failed() {
+        return Err(Error::IoError);
+    }
+    for value in values {
+        put_made(f, P::made(alloc, value))?;
+    }
+    Ok(())
 }

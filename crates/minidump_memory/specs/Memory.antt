@@ -1,6 +1,7 @@
 -- Regions of memory, without where they lie in memory.
 use Rattle.std.specs.Prelude.{ℕ, ◌+◌, ◌-◌, List, Option, Some, None, Result, Ok, Err, nat_le, ◌==◌, ◌||◌, if◌then◌else◌}
 use Rattle.minidump_bytes.specs.declared.endian.Endian.{Endian}
+use Rattle.minidump_bytes.specs.Layout.{Layout}
 use Rattle.minidump_bytes.specs.Span.{record_at, span}
 use Rattle.minidump_format.specs.declared.error.Error.{Error}
 use Rattle.minidump_format.specs.declared.error.Error.TheVariants.{MemoryReadFailure, StreamReadFailure}
@@ -23,10 +24,10 @@ memory_of m = record { desc = m.desc; base_address = m.base_address; size = m.si
 abbrev pub memory_range : {D : Type 0} → MinidumpMemoryBase D → Option Range
 memory_range m = range_of m.base_address m.size
 
--- the record of a size at an address, where all of it is in the region's bytes
-abbrev pub number_in : {D T : Type 0} → ℕ → (Endian → List ℕ → T) → Memory D → ℕ → Option T
-number_in size value m address =
-    if nat_le m.base_address address then record_at size value m.endian (address - m.base_address) m.bytes else None
+-- the record of a layout at an address, where all of it is in the region's bytes
+abbrev pub number_in : {D T : Type 0} → Layout T → Memory D → ℕ → Option T
+number_in layout m address =
+    if nat_le m.base_address address then record_at layout m.endian (address - m.base_address) m.bytes else None
 
 abbrev with_bytes : MINIDUMP_MEMORY_DESCRIPTOR → Endian → Option (List ℕ) → Result (Memory MINIDUMP_MEMORY_DESCRIPTOR) Error
 with_bytes d order None = Err StreamReadFailure

@@ -21,7 +21,7 @@ regions_in file order (Ok ds) = Ok (all_described file order ds)
 
 -- Microsoft's MINIDUMP_MEMORY_LIST: a plain list of descriptors
 abbrev pub memory_list : List ℕ → List ℕ → Endian → Result (List (Memory MINIDUMP_MEMORY_DESCRIPTOR)) Error
-memory_list bytes file order = regions_in file order (plain_list 16 memory_descriptor order bytes)
+memory_list bytes file order = regions_in file order (plain_list memory_descriptor order bytes)
 
 -- where the bytes of the region of an index begin: those of the regions before it lie between the list's place and there
 abbrev pub place_64 : List64 MINIDUMP_MEMORY_DESCRIPTOR64 → ℕ → ℕ
@@ -49,4 +49,4 @@ regions_in_64 file order (Ok l) = regions_64 file order l
 
 -- Microsoft's MINIDUMP_MEMORY64_LIST: a 64 list of descriptors
 abbrev pub memory_list_64 : List ℕ → List ℕ → Endian → Result (List (Memory MINIDUMP_MEMORY_DESCRIPTOR64)) Error
-memory_list_64 bytes file order = regions_in_64 file order (list_64 16 memory_descriptor_64 order bytes)
+memory_list_64 bytes file order = regions_in_64 file order (list_64 memory_descriptor_64 order bytes)

@@ -1,6 +1,6 @@
 -- A list of memory of either kind, as one list.
 use Rattle.std.specs.Prelude.{ℕ, List, map, Option}
-use Rattle.minidump_bytes.specs.declared.endian.Endian.{Endian}
+use Rattle.minidump_bytes.specs.Layout.{Layout}
 use Rattle.minidump_format.specs.declared.format.memory.MINIDUMP_MEMORY_DESCRIPTOR.{MINIDUMP_MEMORY_DESCRIPTOR}
 use Rattle.minidump_format.specs.declared.format.memory.MINIDUMP_MEMORY_DESCRIPTOR64.{MINIDUMP_MEMORY_DESCRIPTOR64}
 use Rattle.minidump_index.specs.declared.range.Range.{Range}
@@ -31,9 +31,9 @@ abbrev pub either_range : Either → Option Range
 either_range (Plain m) = memory_range m
 either_range (Long m) = memory_range m
 
-abbrev pub either_number : {T : Type 0} → ℕ → (Endian → List ℕ → T) → Either → ℕ → Option T
-either_number size value (Plain m) address = number_in size value (memory_of m) address
-either_number size value (Long m) address = number_in size value (memory_of m) address
+abbrev pub either_number : {T : Type 0} → Layout T → Either → ℕ → Option T
+either_number layout (Plain m) address = number_in layout (memory_of m) address
+either_number layout (Long m) address = number_in layout (memory_of m) address
 
 abbrev pub either_bytes : Either → List ℕ
 either_bytes (Plain m) = m.bytes.now

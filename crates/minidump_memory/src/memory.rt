@@ -33,7 +33,7 @@ pub type MinidumpMemory64<'a> = MinidumpMemoryBase<'a, MINIDUMP_MEMORY_DESCRIPTO
 impl<'a, D> MinidumpMemoryBase<'a, D> {
     /// The number at an address, in the byte order of the dump, where the region has all of its bytes.
     pub fn get_memory_at_address<T: FixedRead>(&self, addr: u64) -> Option<T>
-        ensures { result ≡ number_in T.SIZE T.value (memory_of self.now) addr }
+        ensures { result ≡ number_in T.layout (memory_of self.now) addr }
     {
         let offset = addr.checked_sub(self.base_address)?;
         Source::new(self.bytes).record(offset, self.endian, &mut Steps::new())

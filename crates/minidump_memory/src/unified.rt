@@ -25,7 +25,7 @@ pub enum UnifiedMemory<'a, 'mdmp> {
 impl<'a, 'mdmp> UnifiedMemory<'a, 'mdmp> {
     /// The number at an address, in the byte order of the dump, where the region has all of its bytes.
     pub fn get_memory_at_address<T: FixedRead>(&self, addr: u64) -> Option<T>
-        ensures { result ≡ either_number T.SIZE T.value (either_of self.now) addr }
+        ensures { result ≡ either_number T.layout (either_of self.now) addr }
     {
         match self {
             UnifiedMemory::Memory(region) => region.get_memory_at_address(addr),

@@ -4,6 +4,7 @@ use Rattle.std.specs.Prelude.{ℕ, ◌+◌, ◌*◌, ◌^◌, List, length, slic
 use Rattle.std.specs.Global.{Vec}
 use Rattle.minidump_bytes.specs.declared.endian.Endian.{Endian}
 use Rattle.minidump_bytes.specs.Entries.{entries}
+use Rattle.minidump_bytes.specs.Layout.{Layout, number_layout}
 use Rattle.minidump_bytes.specs.Number.{number_at}
 use Rattle.minidump_bytes.specs.Span.{record_at}
 use Rattle.minidump_format.specs.declared.error.Error.{Error}
@@ -14,17 +15,17 @@ abbrev pub count_of : Endian → List ℕ → ℕ
 count_of order bytes = number_at order 4 0 (slice_range bytes 0 4)
 
 -- by the count: with it come the entries, at once or after four bytes more, and nothing else
-abbrev counted : {R : Type 0} → ℕ → (List ℕ → R) → List ℕ → Option ℕ → Result (List R) Error
-counted size value bytes None = Err StreamReadFailure
-counted size value bytes (Some count) =
-    let expected = 4 + size * count in
-    if length bytes == expected then Ok (entries size value bytes 4 count) else (
-    if length bytes == expected + 4 then Ok (entries size value bytes 8 count) else
+abbrev counted : {R : Type 0} → Layout R → Endian → List ℕ → Option ℕ → Result (List R) Error
+counted layout order bytes None = Err StreamReadFailure
+counted layout order bytes (Some count) =
+    let expected = 4 + layout.size * count in
+    if length bytes == expected then Ok (entries layout order bytes 4 count) else (
+    if length bytes == expected + 4 then Ok (entries layout order bytes 8 count) else
     Err (StreamSizeMismatch expected (length bytes)))
 
--- A plain list of entries of a size: a count of 32 bits at 0, then the entries, at 4 or at 8, to the end.
-abbrev pub plain_list : {R : Type 0} → ℕ → (Endian → List ℕ → R) → Endian → List ℕ → Result (List R) Error
-plain_list size value order bytes = counted size (value order) bytes (record_at 4 (λ e b. number_at e 4 0 b) order 0 bytes)
+-- A plain list of entries of a layout: a count of 32 bits at 0, then the entries, at 4 or at 8, to the end.
+abbrev pub plain_list : {R : Type 0} → Layout R → Endian → List ℕ → Result (List R) Error
+plain_list layout order bytes = counted layout order bytes (record_at (number_layout 4) order 0 bytes)
 
 -- the count that a 64 list begins with
 abbrev pub count_64_of : Endian → List ℕ → ℕ
@@ -39,16 +40,16 @@ abbrev pub list_64_of : {R : Type 0} → ℕ × Vec R → List64 R
 list_64_of l = record { rva = l.0; items = l.1.items }
 
 -- by the count and the place: with them come the entries, and nothing else; a length of 2^64 or more is none
-abbrev counted_64 : {R : Type 0} → ℕ → (List ℕ → R) → List ℕ → Option ℕ → Option ℕ → Result (List64 R) Error
-counted_64 size value bytes None rva = Err StreamReadFailure
-counted_64 size value bytes (Some count) None = Err StreamReadFailure
-counted_64 size value bytes (Some count) (Some rva) =
-    let expected = 16 + size * count in
+abbrev counted_64 : {R : Type 0} → Layout R → Endian → List ℕ → Option ℕ → Option ℕ → Result (List64 R) Error
+counted_64 layout order bytes None rva = Err StreamReadFailure
+counted_64 layout order bytes (Some count) None = Err StreamReadFailure
+counted_64 layout order bytes (Some count) (Some rva) =
+    let expected = 16 + layout.size * count in
     if nat_le (2 ^ 64) expected then Err StreamReadFailure else (
-    if length bytes == expected then Ok (record { rva = rva; items = entries size value bytes 16 count }) else
+    if length bytes == expected then Ok (record { rva = rva; items = entries layout order bytes 16 count }) else
     Err (StreamSizeMismatch expected (length bytes)))
 
--- A 64 list of entries of a size: a count of 64 bits at 0, a place in the file of 64 bits at 8, then the entries, at 16, to the end.
-abbrev pub list_64 : {R : Type 0} → ℕ → (Endian → List ℕ → R) → Endian → List ℕ → Result (List64 R) Error
-list_64 size value order bytes =
-    counted_64 size (value order) bytes (record_at 8 (λ e b. number_at e 8 0 b) order 0 bytes) (record_at 8 (λ e b. number_at e 8 0 b) order 8 bytes)
+-- A 64 list of entries of a layout: a count of 64 bits at 0, a place in the file of 64 bits at 8, then the entries, at 16, to the end.
+abbrev pub list_64 : {R : Type 0} → Layout R → Endian → List ℕ → Result (List64 R) Error
+list_64 layout order bytes =
+    counted_64 layout order bytes (record_at (number_layout 8) order 0 bytes) (record_at (number_layout 8) order 8 bytes)

@@ -16,19 +16,19 @@ use Rattle.minidump_system.specs.declared.misc_info.MinidumpMiscInfo.{MinidumpMi
 
 -- each layout, where the bytes hold it whole
 unfoldable pub layout_1 : Endian → List ℕ → Option RawMiscInfo
-layout_1 order bytes = option_map MiscInfo (record_at 24 misc_info order 0 bytes)
+layout_1 order bytes = option_map MiscInfo (record_at misc_info order 0 bytes)
 
 unfoldable pub layout_2 : Endian → List ℕ → Option RawMiscInfo
-layout_2 order bytes = option_map MiscInfo2 (record_at 44 misc_info_2 order 0 bytes)
+layout_2 order bytes = option_map MiscInfo2 (record_at misc_info_2 order 0 bytes)
 
 unfoldable pub layout_3 : Endian → List ℕ → Option RawMiscInfo
-layout_3 order bytes = option_map MiscInfo3 (record_at 232 misc_info_3 order 0 bytes)
+layout_3 order bytes = option_map MiscInfo3 (record_at misc_info_3 order 0 bytes)
 
 unfoldable pub layout_4 : Endian → List ℕ → Option RawMiscInfo
-layout_4 order bytes = option_map MiscInfo4 (record_at 832 misc_info_4 order 0 bytes)
+layout_4 order bytes = option_map MiscInfo4 (record_at misc_info_4 order 0 bytes)
 
 unfoldable pub layout_5 : Endian → List ℕ → Option RawMiscInfo
-layout_5 order bytes = option_map MiscInfo5 (record_at 1364 misc_info_5 order 0 bytes)
+layout_5 order bytes = option_map MiscInfo5 (record_at misc_info_5 order 0 bytes)
 
 -- the largest of them that the bytes hold, whatever size_of_info says
 abbrev pub largest_layout : Endian → List ℕ → Option RawMiscInfo

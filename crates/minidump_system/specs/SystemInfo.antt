@@ -49,7 +49,7 @@ with_record all order (Some raw) = Ok (record {
 -- a system information that is handed in is answered again; else the record that the stream begins with
 abbrev pub system_in : List ℕ → List ℕ → Endian → Option System → Result System Error
 system_in bytes all order (Some system) = Ok system
-system_in bytes all order None = with_record all order (record_at 56 system_info order 0 bytes)
+system_in bytes all order None = with_record all order (record_at system_info order 0 bytes)
 
 -- the printed text, line by line: the numbers of the record
 unfoldable pub numbers_text : MINIDUMP_SYSTEM_INFO → List ℕ

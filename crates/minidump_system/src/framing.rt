@@ -18,11 +18,9 @@ pub fn read_plain_list<R: Record + Drop>(
     endian: Endian,
     steps: &mut Steps,
 ) -> Result<Vec<R>, Error>
-    requires some { 0 < R.SIZE }
-    requires small { R.SIZE < 2 ^ 16 }
-    ensures means { Gives (λ v. v.items) (IsOk (plain_list R.SIZE R.value endian (bytes_of bytes.entry))) result (plain_list R.SIZE R.value endian (bytes_of bytes.entry)) }
+    ensures means { Gives (λ v. v.items) (IsOk (plain_list R.layout endian (bytes_of bytes.entry))) result (plain_list R.layout endian (bytes_of bytes.entry)) }
     ensures counted { IfOk result (λ v. length v.items ≡ count_of endian (bytes_of bytes.entry)) }
-    ensures sized { IfOk result (λ v. 4 + R.SIZE * length v.items ≤ length (bytes_of bytes.entry)) }
+    ensures sized { IfOk result (λ v. 4 + R.layout.size * length v.items ≤ length (bytes_of bytes.entry)) }
     ensures within { steps.new ≤ steps.old + length (bytes_of bytes.entry) + 1 }
     ensures begun { after steps.old 1 ≤ steps.new }
     ensures steps { IfOk result (λ v. steps.new ≡ after steps.old (1 + length v.items)) }
@@ -52,11 +50,9 @@ pub fn read_list_64<R: Record + Drop>(
     endian: Endian,
     steps: &mut Steps,
 ) -> Result<(u64, Vec<R>), Error>
-    requires some { 0 < R.SIZE }
-    requires small { R.SIZE < 2 ^ 16 }
-    ensures means { Gives list_64_of (IsOk (list_64 R.SIZE R.value endian (bytes_of bytes.entry))) result (list_64 R.SIZE R.value endian (bytes_of bytes.entry)) }
+    ensures means { Gives list_64_of (IsOk (list_64 R.layout endian (bytes_of bytes.entry))) result (list_64 R.layout endian (bytes_of bytes.entry)) }
     ensures counted { IfOk result (λ v. length v.1.items ≡ count_64_of endian (bytes_of bytes.entry)) }
-    ensures sized { IfOk result (λ v. 16 + R.SIZE * length v.1.items ≤ length (bytes_of bytes.entry)) }
+    ensures sized { IfOk result (λ v. 16 + R.layout.size * length v.1.items ≤ length (bytes_of bytes.entry)) }
     ensures within { steps.new ≤ steps.old + length (bytes_of bytes.entry) + 2 }
     ensures begun { after steps.old 1 ≤ steps.new }
     ensures steps { IfOk result (λ v. steps.new ≡ after steps.old (2 + length v.1.items)) }

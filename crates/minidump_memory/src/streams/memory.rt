@@ -34,7 +34,7 @@ impl<'a> MinidumpStream<'a> for MinidumpMemoryListBase<'a, MINIDUMP_MEMORY_DESCR
 
     ghost least = { λ bytes order regions. 1 + count_of order bytes };
 
-    ghost takes_memory = { λ bytes order. IsOk (plain_list 16 memory_descriptor order bytes) };
+    ghost takes_memory = { λ bytes order. IsOk (plain_list memory_descriptor order bytes) };
 
     fn number_of_type() -> u32
         ensures { result ≡ 5 }

@@ -34,7 +34,7 @@ impl<'a> MinidumpStream<'a> for MinidumpMemoryListBase<'a, MINIDUMP_MEMORY_DESCR
 
     ghost least = { λ bytes order regions. 2 + count_64_of order bytes };
 
-    ghost takes_memory = { λ bytes order. IsOk (list_64 16 memory_descriptor_64 order bytes) };
+    ghost takes_memory = { λ bytes order. IsOk (list_64 memory_descriptor_64 order bytes) };
 
     fn number_of_type() -> u32
         ensures { result ≡ 9 }

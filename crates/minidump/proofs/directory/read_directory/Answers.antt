@@ -9,7 +9,7 @@ use Rattle.minidump.proofs.directory.read_directory.Goals as goal
 pub loop-index-init : goal.loop-index-init
 loop-index-init c = record {
   decides = record {
-    at = λ t. rw (entries-none 12 (directory_entry c.args.endian) (bytes_of c.args.source) c.args.header.now.stream_directory_rva) (search rules);
+    at = λ t. rw (entries-none directory_entry c.args.endian (bytes_of c.args.source) c.args.header.now.stream_directory_rva) (search rules);
     small = λ t h. search rules;
   };
   steps = omega arith;
@@ -20,12 +20,12 @@ pub loop-index-preserved : goal.loop-index-preserved
 loop-index-preserved c =
     let source = bytes_of c.args.source in
     let start = c.args.header.now.stream_directory_rva in
-    let value = directory_entry c.args.endian in
-    let read : c.in_ok-entry.entry ≡ entry 12 value source start c.loop-index.index = grind (arith, common_steps, c.record.ensures.found) in
+    let order = c.args.endian in
+    let read : c.in_ok-entry.entry ≡ entry directory_entry order source start c.loop-index.index = grind (arith, common_steps, c.record.ensures.found) in
     let small : c.in_ok-entry.entry.stream_type < 2 ^ 32 = grind (arith, common_steps) in
     record {
       decides = rw (entries-more, ← read)
-          (decides-more _ _ (entries 12 value source start c.loop-index.index) c.in_ok-entry.entry c.loop-index.invariant.decides small
+          (decides-more _ _ (entries directory_entry order source start c.loop-index.index) c.in_ok-entry.entry c.loop-index.invariant.decides small
           (rw length-entries c.in_ok-insert.ensures.updates));
       steps = omega (arith, c.record.ensures.step, c.loop-index.invariant.steps);
       readable = grind (arith, c.record.ensures.readable.0);

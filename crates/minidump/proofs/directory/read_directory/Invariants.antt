@@ -8,7 +8,7 @@ use Rattle.minidump.proofs.directory.read_directory.Given as goal
 
 abbrev pub invariant-loop-index : goal.invariant-loop-index
 invariant-loop-index l = record {
-  decides : Decides l.entries (entries 12 (directory_entry l.endian) (bytes_of l.source) l.header.stream_directory_rva l.index);
+  decides : Decides l.entries (entries directory_entry l.endian (bytes_of l.source) l.header.stream_directory_rva l.index);
   steps : l.steps ≡ after l.fn.steps l.index;
   readable : 0 < l.index → l.header.stream_directory_rva + 12 * l.index ≤ length (bytes_of l.source);
 }

@@ -15,5 +15,5 @@ returns-clause-memory c =
     let es = directory c.args.endian h (bytes_of c.args.source) in
     let found : deciding 7 es ≡ Some c.in-Some.deciding.now = sym (c.requires.at 7) ∙ sym c.in-Some.ensures.value in
     let some : 0 < length es = deciding-among_some 7 es c.in-Some.deciding.now found in
-    let counted : 0 < h.stream_count = rw (length-entries 12 (directory_entry c.args.endian) (bytes_of c.args.source) h.stream_directory_rva h.stream_count) at some in
+    let counted : 0 < h.stream_count = rw (length-entries directory_entry c.args.endian (bytes_of c.args.source) h.stream_directory_rva h.stream_count) at some in
     IfErr-weaker c.accepted.result (λ (e : Error). e ≡ OutOfMemory) (λ (e : Error). (e ≡ OutOfMemory) × (0 < h.stream_count)) (λ e same. (same, counted)) c.accepted.ensures.memory

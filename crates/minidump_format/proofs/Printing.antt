@@ -1,12 +1,11 @@
--- Calls that print, one after another.
-use Rattle.std.specs.Prelude.{◌≡◌, ℕ, List, [], ◌++◌, Option, Result, Ok, Err, IsErrAnd}
+-- Lemmas on calls that print one after another.
+use Rattle.std.specs.Prelude.{◌≡◌, ℕ, false, List, [], ◌++◌, Option, Result, Ok, Err, IsErrAnd}
 use Rattle.std.proofs.Common.{refl, subst, append-nil, ap, sym, ◌∙◌, append_assoc}
-use Rattle.std.proofs.KnownBytes.{Appends-trans}
+use Rattle.std.proofs.KnownBytes.{Appends-nil, Appends-trans}
 use Rattle.std.proofs.lemmas.Result.{err_from_is_err_and}
 use Rattle.minidump_bytes.specs.declared.told.Told.{Told}
-use Rattle.minidump_bytes.specs.Told.{PutsAll, PutsBeginning}
+use Rattle.minidump_bytes.specs.Told.{PutsAll, PutsBeginning, device_of, has_failed}
 use Rattle.minidump_format.specs.declared.error.Error.{Error}
-use Rattle.minidump_format.specs.declared.error.Error.TheVariants.{FileNotFound, IoError, MissingHeader, HeaderMismatch, VersionMismatch, MissingDirectory, StreamReadFailure, StreamSizeMismatch, StreamNotFound, ModuleReadFailure, MemoryReadFailure, DataError, CodeViewReadFailure, UknownElementType, OutOfMemory}
 use Rattle.minidump_format.specs.Print.{Prints}
 
 module _ {D : Type 0} (contents : D → Option (List ℕ)) where
@@ -31,39 +30,11 @@ module _ {D : Type 0} (contents : D → Option (List ℕ)) where
   -- one text went out, and then another was printed
   pub prints_then : (a b c : Told D) (xs ys : List ℕ) (r : Result (Unit {0}) Error) → PutsAll contents a b xs → Prints contents b c ys r → Prints contents a c (xs ++ ys) r
   prints_then a b c xs ys (Ok _) all then = record { grown = Appends-trans _ _ _ _ _ all.grown then.grown; alive = then.alive }
-  prints_then a b c xs ys (Err FileNotFound) all then = then
-  prints_then a b c xs ys (Err IoError) all then = (beginning_after a b c xs ys all then.0, then.1)
-  prints_then a b c xs ys (Err MissingHeader) all then = then
-  prints_then a b c xs ys (Err HeaderMismatch) all then = then
-  prints_then a b c xs ys (Err VersionMismatch) all then = then
-  prints_then a b c xs ys (Err MissingDirectory) all then = then
-  prints_then a b c xs ys (Err StreamReadFailure) all then = then
-  prints_then a b c xs ys (Err (StreamSizeMismatch m n)) all then = then
-  prints_then a b c xs ys (Err StreamNotFound) all then = then
-  prints_then a b c xs ys (Err ModuleReadFailure) all then = then
-  prints_then a b c xs ys (Err MemoryReadFailure) all then = then
-  prints_then a b c xs ys (Err DataError) all then = then
-  prints_then a b c xs ys (Err CodeViewReadFailure) all then = then
-  prints_then a b c xs ys (Err UknownElementType) all then = then
-  prints_then a b c xs ys (Err OutOfMemory) all then = (beginning_after a b c xs ys all then.0, then.1)
+  prints_then a b c xs ys (Err e) all then = (beginning_after a b c xs ys all then.0, then.1)
 
   -- a refused text refuses each longer one
   pub prints_longer : (a b : Told D) (xs ys : List ℕ) (e : Error) → Prints contents a b xs (Err e) → Prints contents a b (xs ++ ys) (Err e)
-  prints_longer a b xs ys FileNotFound refused = refused
-  prints_longer a b xs ys IoError refused = (beginning_longer a b xs ys refused.0, refused.1)
-  prints_longer a b xs ys MissingHeader refused = refused
-  prints_longer a b xs ys HeaderMismatch refused = refused
-  prints_longer a b xs ys VersionMismatch refused = refused
-  prints_longer a b xs ys MissingDirectory refused = refused
-  prints_longer a b xs ys StreamReadFailure refused = refused
-  prints_longer a b xs ys (StreamSizeMismatch m n) refused = refused
-  prints_longer a b xs ys StreamNotFound refused = refused
-  prints_longer a b xs ys ModuleReadFailure refused = refused
-  prints_longer a b xs ys MemoryReadFailure refused = refused
-  prints_longer a b xs ys DataError refused = refused
-  prints_longer a b xs ys CodeViewReadFailure refused = refused
-  prints_longer a b xs ys UknownElementType refused = refused
-  prints_longer a b xs ys OutOfMemory refused = (beginning_longer a b xs ys refused.0, refused.1)
+  prints_longer a b xs ys e refused = (beginning_longer a b xs ys refused.0, refused.1)
 
   -- the exit of a `?`
   pub prints_exit : (a b : Told D) (xs ys : List ℕ) (r : Result (Unit {0}) Error) (e : Error) → IsErrAnd r (λ y. y ≡ e)
@@ -77,6 +48,10 @@ pub record PutsAllBut {D : Type 0} (contents : D → Option (List ℕ)) (old new
   pub put : PutsAll contents old new front
 
 module _ {D : Type 0} (contents : D → Option (List ℕ)) where
+  -- nothing went out yet
+  pub but_all : (a : Told D) (text : List ℕ) → has_failed a ≡ false → PutsAllBut contents a a text text
+  but_all a text alive = record { front = []; split = refl; put = record { grown = Appends-nil (contents (device_of a)); alive = alive } }
+
   -- a first part went out
   pub but_first : (a b : Told D) (xs ys : List ℕ) → PutsAll contents a b xs → PutsAllBut contents a b (xs ++ ys) ys
   but_first a b xs ys put = record { front = xs; split = refl; put = put }
