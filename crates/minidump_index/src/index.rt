@@ -1,6 +1,7 @@
 ghost use Rattle.std.specs.Prelude.{◌≡◌, ◌+◌, ◌<◌, ◌≤◌, Some, IfOk, IfErr, IfSome, MatchBool, All, Any, [], length, map, List, Option};
 ghost use Rattle.std.specs.Iterator.{YieldsFirst, YieldsLast, UpTo, at_most, item_count};
 ghost use Rattle.std.specs.Iterator.SizeHint.{IsWithinCount};
+ghost use Rattle.std.specs.List.Sorted.{IsPermutation};
 ghost use Rattle.minidump_bytes.specs.Steps.{after};
 ghost use Rattle.minidump_index.specs.declared.range.Range.{Range};
 ghost use Rattle.minidump_index.specs.Digits.{digits};
@@ -80,11 +81,19 @@ fn drop_overlaps(entries: &mut Vec<Entry>)
     entries.truncate(kept);
 }
 
+// Sorts entries by range, then by list place.
+fn sort(entries: &mut Vec<Entry>)
+    ensures order { IsInOrder entries.new.items }
+    ensures same { IsPermutation entries.old.items entries.new.items }
+{
+    entries.sort_unstable();
+}
+
 // Sorts the entries of a list, and keeps those of its index.
 fn keep_apart(entries: &mut Vec<Entry>)
     ensures { (ranges : List (Option Range)) → HoldsRanged ranges entries.old.items → IsIndexOf ranges entries.new.items }
 {
-    entries.sort_unstable();
+    sort(entries);
     drop_overlaps(entries);
 }
 
