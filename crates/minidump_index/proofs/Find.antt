@@ -14,8 +14,8 @@ pub record Narrowed (entries : List Entry) (address low high : ℕ) : Type 0 whe
   pub below : (k : ℕ) (d : Entry) → k < low → (get_or entries k d).range.end < address
   pub above : (k : ℕ) (d : Entry) → high ≤ k → k < length entries → address < (get_or entries k d).range.start
 
-pub narrow_left : (entries : List Entry) (address low high middle : ℕ) (e : Entry) → IsAscending entries → middle < length entries → e ≡ get_or entries middle e → address < e.range.start → Narrowed entries address low high → Narrowed entries address low middle
-narrow_left entries address low high middle e up within at lt n = record {
+pub narrow_left : (entries : List Entry) (address low high middle : ℕ) (e : Entry) → IsAscending entries → e ≡ get_or entries middle e → middle < length entries → address < e.range.start → Narrowed entries address low high → Narrowed entries address low middle
+narrow_left entries address low high middle e up at within lt n = record {
   below = n.below;
   above = λ k d h i.
       let here : get_or entries middle d ≡ e = get_or_default entries middle d e within ∙ sym at in
@@ -30,8 +30,8 @@ narrow_left entries address low high middle e up within at lt n = record {
       ];
 }
 
-pub narrow_right : (entries : List Entry) (address low high middle : ℕ) (e : Entry) → IsAscending entries → middle < length entries → e ≡ get_or entries middle e → e.range.end < address → Narrowed entries address low high → Narrowed entries address (middle + 1) high
-narrow_right entries address low high middle e up within at lt n = record {
+pub narrow_right : (entries : List Entry) (address low high middle : ℕ) (e : Entry) → IsAscending entries → e ≡ get_or entries middle e → middle < length entries → e.range.end < address → Narrowed entries address low high → Narrowed entries address (middle + 1) high
+narrow_right entries address low high middle e up at within lt n = record {
   below = λ k d h.
       let here : get_or entries middle d ≡ e = get_or_default entries middle d e within ∙ sym at in
       elim (cases_lt k middle) [
@@ -74,14 +74,14 @@ is_greater Less P Q R h k m = let f : true ≡ false = h in cc
 is_greater Equal P Q R h k m = let f : false ≡ true = k in cc
 is_greater Greater P Q R h k m = m
 
-pub widen : (entries : List Entry) (address low high low2 high2 : ℕ) → low2 ≤ low → high ≤ high2 → Narrowed entries address low high → Narrowed entries address low2 high2
-widen entries address low high low2 high2 h k n = record {
+pub widen : (entries : List Entry) (address low high low2 high2 : ℕ) → Narrowed entries address low high → low2 ≤ low → high ≤ high2 → Narrowed entries address low2 high2
+widen entries address low high low2 high2 n h k = record {
   below = λ i d lt. n.below i d (omega arith);
   above = λ i d le lt. n.above i d (omega arith) lt;
 }
 
-pub inside_at : (entries : List Entry) (address middle : ℕ) (e d : Entry) → middle < length entries → e ≡ get_or entries middle e → IsIn address e.range → IsIn address (get_or entries middle d).range
-inside_at entries address middle e d within at inside = subst (λ (x : Entry). IsIn address x.range) (sym (get_or_default entries middle d e within ∙ sym at)) inside
+pub inside_at : (entries : List Entry) (address middle : ℕ) (e d : Entry) → e ≡ get_or entries middle e → middle < length entries → IsIn address e.range → IsIn address (get_or entries middle d).range
+inside_at entries address middle e d at within inside = subst (λ (x : Entry). IsIn address x.range) (sym (get_or_default entries middle d e within ∙ sym at)) inside
 
 pub some_found : (entries : List Entry) (address place : ℕ) (e : Entry) → place < length entries → e ≡ get_or entries place e → ((d : Entry) → place < length entries → IsIn address (get_or entries place d).range) → IsFound entries address (Some e.place)
 some_found entries address place e within at inside = (e, (place, within, sym at), subst (λ (x : Entry). IsIn address x.range) (sym at) (inside e within), refl)
