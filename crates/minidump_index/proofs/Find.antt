@@ -1,3 +1,4 @@
+-- A search among ascending entries: what a probe leaves out.
 use Rattle.std.proofs.Common.{◌≡◌, ℕ, ◌<◌, ◌≤◌, ◌+◌, List, length, get_or, arith, subst, sym, refl, inl, inr, ◌∙◌, true, false, not}
 use Rattle.std.specs.Prelude.{Some, None, ◌==◌}
 use Rattle.std.specs.Ordering.{MatchOrdering, ordering_index}

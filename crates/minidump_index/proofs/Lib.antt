@@ -1,3 +1,4 @@
+-- The lemmas of this crate.
 pub mod Apart
 pub mod DigitsLemmas
 pub mod Exists

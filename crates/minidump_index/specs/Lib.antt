@@ -1,3 +1,4 @@
+-- What the contracts of this crate cite.
 pub mod Digits
 pub mod Kept
 pub mod Lookup

@@ -1,3 +1,4 @@
+-- What has the address is among the places left, or found.
 use Rattle.std.proofs.Common.{◌+◌, ◌≤◌, ◌<◌, length, get_or}
 use Rattle.minidump_bytes.specs.Steps.{after}
 use Rattle.minidump_index.specs.declared.index.Entry.{Entry}

@@ -1,3 +1,4 @@
+-- What is kept of the ranges is their index.
 use Rattle.minidump_index.proofs.index.AddressIndex.of_regions.Goals as goal
 
 pub returns : goal.returns
