@@ -1,5 +1,4 @@
 pub mod AddressLemmas
 pub mod CommandLemmas
 pub mod ListLemmas
-pub mod SpotLemmas
 pub mod PrintLemmas

@@ -4,6 +4,7 @@ use Rattle.minidump_bytes.specs.declared.told.Told.{Told}
 use Rattle.minidump_bytes.specs.Told.{PutsAll, PutsBeginning}
 use Rattle.minidump_format.specs.declared.error.Error.{Error}
 use Rattle.minidump_format.specs.Print.{Prints}
+use Rattle.minidump_memory.specs.Unified.{UnifiedRegion}
 use Rattle.minidump.specs.Dump.{Dump, dump_in}
 use Rattle.minidump.specs.Memory.{memories_of_dump}
 use Rattle.minidump.specs.Text.{dump_text}
@@ -21,7 +22,7 @@ IsDirectoryText text = (dump : Dump) × (dump_in dump.file ≡ Ok dump) × (text
 
 -- the line of the region that lies at an address in the memory of a dump
 abbrev pub IsLineOf : Dump → ℕ → List ℕ → Type 0
-IsLineOf dump address text = (found : Option (ℕ × ℕ)) × IsMemoryAt (memories_of_dump dump) address found × (text ≡ memory_line found)
+IsLineOf dump address text = (found : Option UnifiedRegion) × IsMemoryAt (memories_of_dump dump) address found × (text ≡ memory_line found)
 
 -- the same of some minidump
 abbrev pub IsLine : ℕ → List ℕ → Type 0

@@ -1,5 +1,5 @@
 use crate::address::hex_address;
-use crate::memory::made_memory_line;
+use crate::memory::region_line;
 use crate::run;
 use minidump::{Endian, Told};
 use minidump_synth::SynthMinidump;
@@ -263,16 +263,12 @@ fn writes_the_region_of_a_64_list(rt: HostRuntime) -> Result<(), Fail> {
 #[test]
 fn shows_a_region_of_memory(rt: HostRuntime) -> Result<(), Fail> {
     let alloc = rt.alloc();
-    for (found, want) in [
-        (
-            Some((0x7fff_0001_a000, 0x1000)),
-            "memory 0x7fff0001a000 0x1000\n",
-        ),
-        (Some((0, 0)), "memory 0x0 0x0\n"),
-        (Some((u64::MAX, 0xab)), "memory 0xffffffffffffffff 0xab\n"),
-        (None, "memory none\n"),
+    for (base, size, want) in [
+        (0x7fff_0001_a000, 0x1000, "memory 0x7fff0001a000 0x1000\n"),
+        (0, 0, "memory 0x0 0x0\n"),
+        (u64::MAX, 0xab, "memory 0xffffffffffffffff 0xab\n"),
     ] {
-        assert_eq!(rt; made_memory_line(alloc, found)?.as_str(), want);
+        assert_eq!(rt; region_line(alloc, base, size)?.as_str(), want);
     }
     Ok(())
 }

@@ -1,7 +1,8 @@
 ghost use Rattle.std.specs.Prelude.{Ok};
 ghost use Rattle.std.specs.Option.{option_map};
 ghost use Rattle.minidump_format.specs.Answer.{Gives};
-ghost use Rattle.minidump.specs.Memory.{TakesMemory, memories_of_dump, memories_of_list};
+ghost use Rattle.minidump_memory.specs.Unified.{unified_list};
+ghost use Rattle.minidump.specs.Memory.{TakesMemory, memories_of_dump};
 ghost use Rattle.minidump.specs.Seen.{dump_of};
 
 use crate::Minidump;
@@ -15,7 +16,7 @@ impl<'a> Minidump<'a> {
     /// refused, its [`MinidumpMemoryList`], else none. The only refusal is [`Error::OutOfMemory`], which is
     /// no reason to go on to the other list.
     pub fn get_memory(&self, alloc: Global) -> Result<Option<UnifiedMemoryList<'a>>, Error>
-        ensures { Gives (option_map memories_of_list) (TakesMemory (dump_of self.now)) result
+        ensures { Gives (option_map unified_list) (TakesMemory (dump_of self.now)) result
             (Ok (memories_of_dump (dump_of self.now))) }
     {
         if let Some(list) = accepted(self.get_stream::<MinidumpMemory64List<'a>>(alloc))? {

@@ -1,23 +1,45 @@
--- What is answered of the views of regions is what is answered of the regions.
-use Rattle.std.proofs.Common.{◌≡◌, ℕ, List, map, subst, sym}
+-- What is answered of a list of memory is answered of it as a list of either kind.
+use Rattle.std.proofs.Common.{◌≡◌, ℕ, List, map, refl, subst, sym}
 use Rattle.std.specs.Prelude.{Option, ◌↔◌}
 use Rattle.std.specs.Option.{option_map}
-use Rattle.minidump_index.specs.declared.range.Range.{Range}
-use Rattle.minidump_index.specs.Lookup.{IsByAddress, IsLookedUp}
+use Rattle.std.proofs.lemmas.Simd.{map-map}
+use Rattle.minidump_index.specs.Lookup.{IsByAddress, IsLookedUp, WithinDigits}
 use Rattle.minidump_index.proofs.RegionLaws.{lookups_agree, one_list}
-use Rattle.minidump_index.proofs.Views.{by_address, looked_up}
+use Rattle.minidump_index.proofs.Views as views
+use Rattle.minidump_memory.specs.declared.memory.MinidumpMemoryBase.{MinidumpMemoryBase}
+use Rattle.minidump_memory.specs.Memory.{memory_of, memory_range, region_range}
+use Rattle.minidump_memory.specs.Unified.{UnifiedDescriptor, UnifiedRegion, of_kind}
 
-module _ {R V : Type 0} (view : R → V) (range : R → Option Range) (seen : V → Option Range) (same : (r : R) → seen (view r) ≡ range r) (regions : List R) where
-  pub found_alike : (address : ℕ) (found : Option R) (other : Option V) → IsLookedUp range regions address found → IsLookedUp seen (map view regions) address other ↔ (other ≡ option_map view found)
-  found_alike address found other h =
-      let seen_found = looked_up view range seen same regions address found h in (
-        (λ k. lookups_agree seen (map view regions) address other (option_map view found) k seen_found),
-        (λ e. subst (IsLookedUp seen (map view regions) address) (sym e) seen_found),
-      )
+module _ {D : Type 0} (kind : D → UnifiedDescriptor) (regions : List (MinidumpMemoryBase D)) where
+  abbrev view : MinidumpMemoryBase D → UnifiedRegion
+  view m = of_kind kind (memory_of m)
 
-  pub ordered_alike : (given : List R) (other : List V) → IsByAddress range regions given → IsByAddress seen (map view regions) other ↔ (other ≡ map view given)
-  ordered_alike given other h =
-      let seen_given = by_address view range seen same regions given h in (
-        (λ k. one_list seen (map view regions) other (map view given) k seen_given),
-        (λ e. subst (IsByAddress seen (map view regions)) (sym e) seen_given),
-      )
+  abbrev seen : List UnifiedRegion
+  seen = map (of_kind kind) (map memory_of regions)
+
+  at_views : (P : List UnifiedRegion → Type 0) → P (map view regions) → P seen
+  at_views P h = subst P (sym (map-map (of_kind kind) memory_of regions)) h
+
+  pub looked_up : (address : ℕ) (found : Option (MinidumpMemoryBase D)) → IsLookedUp memory_range regions address found → IsLookedUp region_range seen address (option_map view found)
+  looked_up address found h =
+      at_views (λ rs. IsLookedUp region_range rs address (option_map view found)) (views.looked_up view memory_range region_range (λ m. refl) regions address found h)
+
+  pub within_digits : (old new : ℕ) → WithinDigits memory_range regions old new → WithinDigits region_range seen old new
+  within_digits old new h = at_views (λ rs. WithinDigits region_range rs old new) (views.within_digits view memory_range region_range (λ m. refl) regions old new h)
+
+  pub by_address : (given : List (MinidumpMemoryBase D)) → IsByAddress memory_range regions given → IsByAddress region_range seen (map (of_kind kind) (map memory_of given))
+  by_address given h =
+      rw (map-map (of_kind kind) memory_of regions, map-map (of_kind kind) memory_of given)
+      (views.by_address view memory_range region_range (λ m. refl) regions given h)
+
+  pub found_alike : (address : ℕ) (found : Option (MinidumpMemoryBase D)) (other : Option UnifiedRegion) → IsLookedUp memory_range regions address found → IsLookedUp region_range seen address other ↔ (other ≡ option_map view found)
+  found_alike address found other h = (
+    (λ k. lookups_agree region_range seen address other (option_map view found) k (looked_up address found h)),
+    (λ e. subst (IsLookedUp region_range seen address) (sym e) (looked_up address found h)),
+  )
+
+  pub ordered_alike : (given : List (MinidumpMemoryBase D)) (other : List UnifiedRegion) → IsByAddress memory_range regions given → IsByAddress region_range seen other ↔ (other ≡ map (of_kind kind) (map memory_of given))
+  ordered_alike given other h = (
+    (λ k. one_list region_range seen other _ k (by_address given h)),
+    (λ e. subst (IsByAddress region_range seen) (sym e) (by_address given h)),
+  )

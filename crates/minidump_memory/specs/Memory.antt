@@ -10,33 +10,36 @@ use Rattle.minidump_index.specs.declared.range.Range.{Range}
 use Rattle.minidump_index.specs.Overlap.{range_of}
 use Rattle.minidump_memory.specs.declared.memory.MinidumpMemoryBase.{MinidumpMemoryBase}
 
-pub record Memory (D : Type 0) : Type 0 where
+pub record MemoryRegion (D : Type 0) : Type 0 where
   pub desc : D
   pub base_address : ℕ
   pub size : ℕ
   pub bytes : List ℕ
   pub endian : Endian
 
-abbrev pub memory_of : {D : Type 0} → MinidumpMemoryBase D → Memory D
+abbrev pub memory_of : {D : Type 0} → MinidumpMemoryBase D → MemoryRegion D
 memory_of m = record { desc = m.desc; base_address = m.base_address; size = m.size; bytes = m.bytes.now; endian = m.endian }
 
 -- its addresses
+abbrev pub region_range : {D : Type 0} → MemoryRegion D → Option Range
+region_range m = range_of m.base_address m.size
+
 abbrev pub memory_range : {D : Type 0} → MinidumpMemoryBase D → Option Range
-memory_range m = range_of m.base_address m.size
+memory_range m = region_range (memory_of m)
 
 -- the record of a layout at an address, where all of it is in the region's bytes
-abbrev pub number_in : {D T : Type 0} → Layout T → Memory D → ℕ → Option T
+abbrev pub number_in : {D T : Type 0} → Layout T → MemoryRegion D → ℕ → Option T
 number_in layout m address =
     if nat_le m.base_address address then record_at layout m.endian (address - m.base_address) m.bytes else None
 
-abbrev with_bytes : MINIDUMP_MEMORY_DESCRIPTOR → Endian → Option (List ℕ) → Result (Memory MINIDUMP_MEMORY_DESCRIPTOR) Error
+abbrev with_bytes : MINIDUMP_MEMORY_DESCRIPTOR → Endian → Option (List ℕ) → Result (MemoryRegion MINIDUMP_MEMORY_DESCRIPTOR) Error
 with_bytes d order None = Err StreamReadFailure
 with_bytes d order (Some bytes) =
     Ok (record { desc = d; base_address = d.start_of_memory_range; size = d.memory.data_size; bytes = bytes; endian = order })
 
 -- Microsoft's MINIDUMP_MEMORY_DESCRIPTOR: the region of a descriptor, whose bytes are the span of its location. A location with no
 -- place or no size has none.
-abbrev pub described : List ℕ → Endian → MINIDUMP_MEMORY_DESCRIPTOR → Result (Memory MINIDUMP_MEMORY_DESCRIPTOR) Error
+abbrev pub described : List ℕ → Endian → MINIDUMP_MEMORY_DESCRIPTOR → Result (MemoryRegion MINIDUMP_MEMORY_DESCRIPTOR) Error
 described file order d =
     if d.memory.rva == 0 || d.memory.data_size == 0 then Err MemoryReadFailure else
     with_bytes d order (span d.memory.rva (d.memory.rva + d.memory.data_size) file)

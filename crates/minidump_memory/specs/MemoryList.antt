@@ -9,18 +9,18 @@ use Rattle.minidump_format.specs.declared.format.memory.MINIDUMP_MEMORY_DESCRIPT
 use Rattle.minidump_format.specs.declared.format.memory.MINIDUMP_MEMORY_DESCRIPTOR64.{MINIDUMP_MEMORY_DESCRIPTOR64}
 use Rattle.minidump_format.specs.Memory.{memory_descriptor, memory_descriptor_64}
 use Rattle.minidump_system.specs.Framing.{List64, list_64, plain_list}
-use Rattle.minidump_memory.specs.Memory.{Memory, described}
+use Rattle.minidump_memory.specs.Memory.{MemoryRegion, described}
 
 -- the regions of descriptors; a descriptor whose region is refused is skipped
-abbrev pub all_described : List ℕ → Endian → List MINIDUMP_MEMORY_DESCRIPTOR → List (Memory MINIDUMP_MEMORY_DESCRIPTOR)
+abbrev pub all_described : List ℕ → Endian → List MINIDUMP_MEMORY_DESCRIPTOR → List (MemoryRegion MINIDUMP_MEMORY_DESCRIPTOR)
 all_described file order ds = filter_map (λ d. result_ok (described file order d)) ds
 
-abbrev regions_in : List ℕ → Endian → Result (List MINIDUMP_MEMORY_DESCRIPTOR) Error → Result (List (Memory MINIDUMP_MEMORY_DESCRIPTOR)) Error
+abbrev regions_in : List ℕ → Endian → Result (List MINIDUMP_MEMORY_DESCRIPTOR) Error → Result (List (MemoryRegion MINIDUMP_MEMORY_DESCRIPTOR)) Error
 regions_in file order (Err e) = Err e
 regions_in file order (Ok ds) = Ok (all_described file order ds)
 
 -- Microsoft's MINIDUMP_MEMORY_LIST: a plain list of descriptors
-abbrev pub memory_list : List ℕ → List ℕ → Endian → Result (List (Memory MINIDUMP_MEMORY_DESCRIPTOR)) Error
+abbrev pub memory_list : List ℕ → List ℕ → Endian → Result (List (MemoryRegion MINIDUMP_MEMORY_DESCRIPTOR)) Error
 memory_list bytes file order = regions_in file order (plain_list memory_descriptor order bytes)
 
 -- where the bytes of the region of an index begin: those of the regions before it lie between the list's place and there
@@ -28,25 +28,25 @@ abbrev pub place_64 : List64 MINIDUMP_MEMORY_DESCRIPTOR64 → ℕ → ℕ
 place_64 l i = l.rva + sum_by (λ d. d.data_size) (take i l.items)
 
 -- the region of a descriptor whose bytes begin at a place
-abbrev pub placed : List ℕ → Endian → ℕ → MINIDUMP_MEMORY_DESCRIPTOR64 → Memory MINIDUMP_MEMORY_DESCRIPTOR64
+abbrev pub placed : List ℕ → Endian → ℕ → MINIDUMP_MEMORY_DESCRIPTOR64 → MemoryRegion MINIDUMP_MEMORY_DESCRIPTOR64
 placed file order place d =
     record { desc = d; base_address = d.start_of_memory_range; size = d.data_size; bytes = slice_range file place (place + d.data_size); endian = order }
 
 -- the regions of a 64 list, one behind another
-abbrev pub all_placed : List ℕ → Endian → List64 MINIDUMP_MEMORY_DESCRIPTOR64 → List (Memory MINIDUMP_MEMORY_DESCRIPTOR64)
+abbrev pub all_placed : List ℕ → Endian → List64 MINIDUMP_MEMORY_DESCRIPTOR64 → List (MemoryRegion MINIDUMP_MEMORY_DESCRIPTOR64)
 all_placed file order l = map (λ p. placed file order (place_64 l p.0) p.1) (enumerate_from 0 l.items)
 
 -- all of their bytes are in the file; of a list without regions nothing is asked
 abbrev pub is_inside : List ℕ → List64 MINIDUMP_MEMORY_DESCRIPTOR64 → Bool
 is_inside file l = length l.items == 0 || nat_le (place_64 l (length l.items)) (length file)
 
-abbrev pub regions_64 : List ℕ → Endian → List64 MINIDUMP_MEMORY_DESCRIPTOR64 → Result (List (Memory MINIDUMP_MEMORY_DESCRIPTOR64)) Error
+abbrev pub regions_64 : List ℕ → Endian → List64 MINIDUMP_MEMORY_DESCRIPTOR64 → Result (List (MemoryRegion MINIDUMP_MEMORY_DESCRIPTOR64)) Error
 regions_64 file order l = if is_inside file l then Ok (all_placed file order l) else Err StreamReadFailure
 
-abbrev regions_in_64 : List ℕ → Endian → Result (List64 MINIDUMP_MEMORY_DESCRIPTOR64) Error → Result (List (Memory MINIDUMP_MEMORY_DESCRIPTOR64)) Error
+abbrev regions_in_64 : List ℕ → Endian → Result (List64 MINIDUMP_MEMORY_DESCRIPTOR64) Error → Result (List (MemoryRegion MINIDUMP_MEMORY_DESCRIPTOR64)) Error
 regions_in_64 file order (Err e) = Err e
 regions_in_64 file order (Ok l) = regions_64 file order l
 
 -- Microsoft's MINIDUMP_MEMORY64_LIST: a 64 list of descriptors
-abbrev pub memory_list_64 : List ℕ → List ℕ → Endian → Result (List (Memory MINIDUMP_MEMORY_DESCRIPTOR64)) Error
+abbrev pub memory_list_64 : List ℕ → List ℕ → Endian → Result (List (MemoryRegion MINIDUMP_MEMORY_DESCRIPTOR64)) Error
 memory_list_64 bytes file order = regions_in_64 file order (list_64 memory_descriptor_64 order bytes)

@@ -7,18 +7,19 @@ use Rattle.minidump_memory.specs.declared.unified.Left.{Left}
 use Rattle.minidump_memory.specs.declared.unified.Left.TheVariants as left
 use Rattle.minidump_memory.specs.declared.unified.Kept.{Kept}
 use Rattle.minidump_memory.specs.declared.unified.Kept.TheVariants as kept
-use Rattle.minidump_memory.specs.Unified.{Either, Plain, Long}
+use Rattle.minidump_memory.specs.Memory.{memory_of}
+use Rattle.minidump_memory.specs.Unified.{Memory, Memory64, UnifiedRegion, UnifiedRegions, unified_regions}
 
-abbrev in_left : Left → List Either
-in_left (left.Memory regions) = map Plain (iter_rest regions)
-in_left (left.Memory64 regions) = map Long (iter_rest regions)
+abbrev in_left : Left → UnifiedRegions
+in_left (left.Memory regions) = Memory (map memory_of (iter_rest regions))
+in_left (left.Memory64 regions) = Memory64 (map memory_of (iter_rest regions))
 
-abbrev pub eithers_left : UnifiedMemoryIter → List Either
-eithers_left i = in_left i.left
+abbrev pub regions_left : UnifiedMemoryIter → List UnifiedRegion
+regions_left i = unified_regions (in_left i.left)
 
-abbrev in_kept : Kept → List Either
-in_kept (kept.Memory regions) = map Plain regions
-in_kept (kept.Memory64 regions) = map Long regions
+abbrev in_kept : Kept → UnifiedRegions
+in_kept (kept.Memory regions) = Memory (map memory_of regions)
+in_kept (kept.Memory64 regions) = Memory64 (map memory_of regions)
 
-abbrev pub eithers_by_address : UnifiedMemoryByAddress → List Either
-eithers_by_address i = in_kept i.left
+abbrev pub regions_by_address : UnifiedMemoryByAddress → List UnifiedRegion
+regions_by_address i = unified_regions (in_kept i.left)

@@ -2,9 +2,9 @@
 ghost use Rattle.std.specs.Prelude.{◌≡◌, ◌↔◌, ℕ, List, Option, Some, None, All, AllPairs, Contains, map};
 ghost use Rattle.std.specs.Option.{option_map};
 ghost use Rattle.minidump_index.specs.Lookup.{IsLookedUp, IsByAddress, HasAddress, LiesBelow};
-ghost use Rattle.minidump_memory.specs.Memory.{memory_range};
-ghost use Rattle.minidump_memory.specs.Seen.{regions_of};
-ghost use Rattle.minidump_memory.specs.Unified.{Either, Plain, Long, either_range, eithers_of};
+ghost use Rattle.minidump_memory.specs.Memory.{memory_of, memory_range, region_range};
+ghost use Rattle.minidump_memory.specs.Seen.{memories_of, regions_of};
+ghost use Rattle.minidump_memory.specs.Unified.{Memory, Memory64, UnifiedRegion, of_kind, unified_list, unified_regions};
 
 use crate::{MinidumpMemoryBase, MinidumpMemoryListBase, UnifiedMemoryList};
 use minidump_format::format::{MINIDUMP_MEMORY_DESCRIPTOR, MINIDUMP_MEMORY_DESCRIPTOR64};
@@ -53,32 +53,30 @@ pub fn a_region_without_a_range_is_not_kept<D>()
         → IsByAddress memory_range (regions_of list) given → memory_range region ≡ None → ¬ Contains given region }
 {}
 
-/// The regions of the unified list, in the order of the list and by address, and what it finds are those of
-/// the plain list that it holds.
+/// What the unified list finds, and its regions by address, are those of the plain list that it holds.
 pub fn the_unified_list_answers_as_the_list_it_holds()
-    ensures regions { (list : MinidumpMemoryListBase MINIDUMP_MEMORY_DESCRIPTOR)
-        → eithers_of (UnifiedMemoryList.Memory list) ≡ map Plain (regions_of list) }
     ensures found { (list : MinidumpMemoryListBase MINIDUMP_MEMORY_DESCRIPTOR) (address : ℕ)
-        (found : Option (MinidumpMemoryBase MINIDUMP_MEMORY_DESCRIPTOR)) (other : Option Either)
+        (found : Option (MinidumpMemoryBase MINIDUMP_MEMORY_DESCRIPTOR)) (other : Option UnifiedRegion)
         → IsLookedUp memory_range (regions_of list) address found
-        → IsLookedUp either_range (eithers_of (UnifiedMemoryList.Memory list)) address other ↔ (other ≡ option_map Plain found) }
+        → IsLookedUp region_range (unified_regions (unified_list (UnifiedMemoryList.Memory list))) address other
+        ↔ (other ≡ option_map (λ m. of_kind Memory (memory_of m)) found) }
     ensures by_address { (list : MinidumpMemoryListBase MINIDUMP_MEMORY_DESCRIPTOR)
-        (given : List (MinidumpMemoryBase MINIDUMP_MEMORY_DESCRIPTOR)) (other : List Either)
+        (given : List (MinidumpMemoryBase MINIDUMP_MEMORY_DESCRIPTOR)) (other : List UnifiedRegion)
         → IsByAddress memory_range (regions_of list) given
-        → IsByAddress either_range (eithers_of (UnifiedMemoryList.Memory list)) other ↔ (other ≡ map Plain given) }
+        → IsByAddress region_range (unified_regions (unified_list (UnifiedMemoryList.Memory list))) other
+        ↔ (other ≡ map (of_kind Memory) (map memory_of given)) }
 {}
 
-/// The regions of the unified list, in the order of the list and by address, and what it finds are those of
-/// the 64 list that it holds.
+/// What the unified list finds, and its regions by address, are those of the 64 list that it holds.
 pub fn the_unified_list_answers_as_the_64_list_it_holds()
-    ensures regions { (list : MinidumpMemoryListBase MINIDUMP_MEMORY_DESCRIPTOR64)
-        → eithers_of (UnifiedMemoryList.Memory64 list) ≡ map Long (regions_of list) }
     ensures found { (list : MinidumpMemoryListBase MINIDUMP_MEMORY_DESCRIPTOR64) (address : ℕ)
-        (found : Option (MinidumpMemoryBase MINIDUMP_MEMORY_DESCRIPTOR64)) (other : Option Either)
+        (found : Option (MinidumpMemoryBase MINIDUMP_MEMORY_DESCRIPTOR64)) (other : Option UnifiedRegion)
         → IsLookedUp memory_range (regions_of list) address found
-        → IsLookedUp either_range (eithers_of (UnifiedMemoryList.Memory64 list)) address other ↔ (other ≡ option_map Long found) }
+        → IsLookedUp region_range (unified_regions (unified_list (UnifiedMemoryList.Memory64 list))) address other
+        ↔ (other ≡ option_map (λ m. of_kind Memory64 (memory_of m)) found) }
     ensures by_address { (list : MinidumpMemoryListBase MINIDUMP_MEMORY_DESCRIPTOR64)
-        (given : List (MinidumpMemoryBase MINIDUMP_MEMORY_DESCRIPTOR64)) (other : List Either)
+        (given : List (MinidumpMemoryBase MINIDUMP_MEMORY_DESCRIPTOR64)) (other : List UnifiedRegion)
         → IsByAddress memory_range (regions_of list) given
-        → IsByAddress either_range (eithers_of (UnifiedMemoryList.Memory64 list)) other ↔ (other ≡ map Long given) }
+        → IsByAddress region_range (unified_regions (unified_list (UnifiedMemoryList.Memory64 list))) other
+        ↔ (other ≡ map (of_kind Memory64) (map memory_of given)) }
 {}

@@ -4,8 +4,9 @@ ghost use Rattle.std.specs.Iterator.{YieldsFirstBy, YieldsLastBy, UpTo, at_most,
 ghost use Rattle.std.specs.Iterator.SizeHint.{IsWithinCount};
 ghost use Rattle.minidump_bytes.specs.Steps.{after};
 ghost use Rattle.minidump_index.specs.Lookup.{IsByAddress, IsLookedUp, WithinDigits};
-ghost use Rattle.minidump_memory.specs.Unified.{Plain, Long, either_base, either_bytes, either_number, either_of, either_range, either_size, eithers_of};
-ghost use Rattle.minidump_memory.specs.UnifiedIter.{eithers_left, eithers_by_address};
+ghost use Rattle.minidump_memory.specs.Memory.{memory_of, number_in, region_range};
+ghost use Rattle.minidump_memory.specs.Unified.{Memory, Memory64, of_kind, unified_list, unified_region, unified_regions};
+ghost use Rattle.minidump_memory.specs.UnifiedIter.{regions_left, regions_by_address};
 
 use crate::{MinidumpMemory, MinidumpMemory64, MinidumpMemory64List, MinidumpMemoryList};
 use minidump_bytes::{FixedRead, Steps};
@@ -25,7 +26,7 @@ pub enum UnifiedMemory<'a, 'mdmp> {
 impl<'a, 'mdmp> UnifiedMemory<'a, 'mdmp> {
     /// The number at an address, in the byte order of the dump, where the region has all of its bytes.
     pub fn get_memory_at_address<T: FixedRead>(&self, addr: u64) -> Option<T>
-        ensures { result ≡ either_number T.layout (either_of self.now) addr }
+        ensures { result ≡ number_in T.layout (unified_region self.now) addr }
     {
         match self {
             UnifiedMemory::Memory(region) => region.get_memory_at_address(addr),
@@ -35,7 +36,7 @@ impl<'a, 'mdmp> UnifiedMemory<'a, 'mdmp> {
 
     /// Its addresses, or `None` where it has none.
     pub fn memory_range(&self) -> Option<Range>
-        ensures { result ≡ either_range (either_of self.now) }
+        ensures { result ≡ region_range (unified_region self.now) }
     {
         match self {
             UnifiedMemory::Memory(region) => region.memory_range(),
@@ -45,7 +46,7 @@ impl<'a, 'mdmp> UnifiedMemory<'a, 'mdmp> {
 
     /// Its bytes, as they lie in the file.
     pub fn bytes(&self) -> &'mdmp [u8]
-        ensures { result.now ≡ either_bytes (either_of self.now) }
+        ensures { result.now ≡ (unified_region self.now).bytes }
     {
         match self {
             UnifiedMemory::Memory(region) => region.bytes,
@@ -55,7 +56,7 @@ impl<'a, 'mdmp> UnifiedMemory<'a, 'mdmp> {
 
     /// Its first address.
     pub fn base_address(&self) -> u64
-        ensures { result ≡ either_base (either_of self.now) }
+        ensures { result ≡ (unified_region self.now).base_address }
     {
         match self {
             UnifiedMemory::Memory(region) => region.base_address,
@@ -65,7 +66,7 @@ impl<'a, 'mdmp> UnifiedMemory<'a, 'mdmp> {
 
     /// How many bytes it has.
     pub fn size(&self) -> u64
-        ensures { result ≡ either_size (either_of self.now) }
+        ensures { result ≡ (unified_region self.now).size }
     {
         match self {
             UnifiedMemory::Memory(region) => region.size,
@@ -86,14 +87,14 @@ pub enum UnifiedMemoryList<'a> {
 impl<'a> UnifiedMemoryList<'a> {
     /// A [`MinidumpMemoryList`] of no regions. It takes no memory.
     pub fn new(alloc: Global) -> UnifiedMemoryList<'a>
-        ensures { eithers_of result ≡ [] }
+        ensures { unified_list result ≡ Memory [] }
     {
         UnifiedMemoryList::Memory(MinidumpMemoryList::new(alloc))
     }
 
     /// The kept region that contains the address, by the list that is held.
     pub fn memory_at_address<'s>(&'s self, address: u64) -> Option<UnifiedMemory<'s, 'a>>
-        ensures { IsLookedUp either_range (eithers_of self.now) address (option_map either_of result) }
+        ensures { IsLookedUp region_range (unified_regions (unified_list self.now)) address (option_map unified_region result) }
     {
         self.memory_at_address_counted(address, &mut Steps::new())
     }
@@ -105,8 +106,8 @@ impl<'a> UnifiedMemoryList<'a> {
         address: u64,
         steps: &mut Steps,
     ) -> Option<UnifiedMemory<'s, 'a>>
-        ensures found { IsLookedUp either_range (eithers_of self.now) address (option_map either_of result) }
-        ensures within { WithinDigits either_range (eithers_of self.now) steps.old steps.new }
+        ensures found { IsLookedUp region_range (unified_regions (unified_list self.now)) address (option_map unified_region result) }
+        ensures within { WithinDigits region_range (unified_regions (unified_list self.now)) steps.old steps.new }
         ensures grows { steps.old ≤ steps.new }
         ensures compared { IfSome result (λ _. after steps.old 1 ≤ steps.new) }
     {
@@ -122,7 +123,7 @@ impl<'a> UnifiedMemoryList<'a> {
 
     /// All regions of the list that is held, in its order.
     pub fn iter(&self) -> UnifiedMemoryIter<'_, 'a>
-        ensures { eithers_left result ≡ eithers_of self.now }
+        ensures { regions_left result ≡ unified_regions (unified_list self.now) }
     {
         UnifiedMemoryIter {
             left: match self {
@@ -134,7 +135,7 @@ impl<'a> UnifiedMemoryList<'a> {
 
     /// The kept regions of the list that is held, ascending by address, from both ends.
     pub fn by_addr(&self) -> UnifiedMemoryByAddress<'_, 'a>
-        ensures { IsByAddress either_range (eithers_of self.now) (eithers_by_address result) }
+        ensures { IsByAddress region_range (unified_regions (unified_list self.now)) (regions_by_address result) }
     {
         UnifiedMemoryByAddress {
             left: match self {
@@ -146,13 +147,13 @@ impl<'a> UnifiedMemoryList<'a> {
 }
 
 fn plain<'s, 'a>(region: Option<&'s MinidumpMemory<'a>>) -> Option<UnifiedMemory<'s, 'a>>
-    ensures { option_map either_of result ≡ option_map Plain (option_copied region.entry) }
+    ensures { option_map unified_region result ≡ option_map (λ m. of_kind Memory (memory_of m)) (option_copied region.entry) }
 {
     region.map(UnifiedMemory::Memory)
 }
 
 fn long<'s, 'a>(region: Option<&'s MinidumpMemory64<'a>>) -> Option<UnifiedMemory<'s, 'a>>
-    ensures { option_map either_of result ≡ option_map Long (option_copied region.entry) }
+    ensures { option_map unified_region result ≡ option_map (λ m. of_kind Memory64 (memory_of m)) (option_copied region.entry) }
 {
     region.map(UnifiedMemory::Memory64)
 }
@@ -172,9 +173,9 @@ pub struct UnifiedMemoryIter<'a, 'mdmp> {
 impl<'a, 'mdmp> Iterator for UnifiedMemoryIter<'a, 'mdmp> {
     type Item = UnifiedMemory<'a, 'mdmp>;
 
-    ghost next_gives = { YieldsFirstBy either_of eithers_left };
+    ghost next_gives = { YieldsFirstBy unified_region regions_left };
 
-    ghost remaining = { item_count eithers_left };
+    ghost remaining = { item_count regions_left };
 
     fn next(&mut self) -> Option<UnifiedMemory<'a, 'mdmp>> {
         match &mut self.left {
@@ -184,9 +185,9 @@ impl<'a, 'mdmp> Iterator for UnifiedMemoryIter<'a, 'mdmp> {
     }
 
     fn size_hint(&self) -> (usize, Option<usize>)
-        ensures lower { IsWithinCount result.0 (at_most (length (eithers_left self.now))) }
-        ensures upper { IfSome result.1 (UpTo (at_most (length (eithers_left self.now)))) }
-        ensures exact { result ≡ (length (eithers_left self.now), Some (length (eithers_left self.now))) }
+        ensures lower { IsWithinCount result.0 (at_most (length (regions_left self.now))) }
+        ensures upper { IfSome result.1 (UpTo (at_most (length (regions_left self.now)))) }
+        ensures exact { result ≡ (length (regions_left self.now), Some (length (regions_left self.now))) }
     {
         let len = match &self.left {
             Left::Memory(regions) => regions.len(),
@@ -211,9 +212,9 @@ pub struct UnifiedMemoryByAddress<'a, 'mdmp> {
 impl<'a, 'mdmp> Iterator for UnifiedMemoryByAddress<'a, 'mdmp> {
     type Item = UnifiedMemory<'a, 'mdmp>;
 
-    ghost next_gives = { YieldsFirstBy either_of eithers_by_address };
+    ghost next_gives = { YieldsFirstBy unified_region regions_by_address };
 
-    ghost remaining = { item_count eithers_by_address };
+    ghost remaining = { item_count regions_by_address };
 
     fn next(&mut self) -> Option<UnifiedMemory<'a, 'mdmp>> {
         match &mut self.left {
@@ -223,9 +224,9 @@ impl<'a, 'mdmp> Iterator for UnifiedMemoryByAddress<'a, 'mdmp> {
     }
 
     fn size_hint(&self) -> (usize, Option<usize>)
-        ensures lower { IsWithinCount result.0 (at_most (length (eithers_by_address self.now))) }
-        ensures upper { IfSome result.1 (UpTo (at_most (length (eithers_by_address self.now)))) }
-        ensures exact { result ≡ (length (eithers_by_address self.now), Some (length (eithers_by_address self.now))) }
+        ensures lower { IsWithinCount result.0 (at_most (length (regions_by_address self.now))) }
+        ensures upper { IfSome result.1 (UpTo (at_most (length (regions_by_address self.now)))) }
+        ensures exact { result ≡ (length (regions_by_address self.now), Some (length (regions_by_address self.now))) }
     {
         match &self.left {
             Kept::Memory(regions) => regions.size_hint(),
@@ -235,7 +236,7 @@ impl<'a, 'mdmp> Iterator for UnifiedMemoryByAddress<'a, 'mdmp> {
 }
 
 impl<'a, 'mdmp> DoubleEndedIterator for UnifiedMemoryByAddress<'a, 'mdmp> {
-    ghost next_back_gives = { YieldsLastBy either_of eithers_by_address };
+    ghost next_back_gives = { YieldsLastBy unified_region regions_by_address };
 
     fn next_back(&mut self) -> Option<UnifiedMemory<'a, 'mdmp>> {
         match &mut self.left {

@@ -16,7 +16,7 @@ impl<'a> MinidumpStream<'a> for MinidumpMemoryListBase<'a, MINIDUMP_MEMORY_DESCR
     ghost use Rattle.minidump_format.specs.declared.format.memory.MINIDUMP_MEMORY_DESCRIPTOR.{MINIDUMP_MEMORY_DESCRIPTOR};
     ghost use Rattle.minidump_system.specs.Framing.{count_of, plain_list};
     ghost use Rattle.minidump_format.specs.Memory.{memory_descriptor};
-    ghost use Rattle.minidump_memory.specs.Memory.{Memory};
+    ghost use Rattle.minidump_memory.specs.Memory.{MemoryRegion};
     ghost use Rattle.minidump_memory.specs.MemoryList.{memory_list};
     ghost use Rattle.minidump_memory.specs.Seen.{memories_of};
 
@@ -24,7 +24,7 @@ impl<'a> MinidumpStream<'a> for MinidumpMemoryListBase<'a, MINIDUMP_MEMORY_DESCR
 
     const STREAM_TYPE: u32 = 5;
 
-    ghost Value = { List (Memory MINIDUMP_MEMORY_DESCRIPTOR) };
+    ghost Value = { List (MemoryRegion MINIDUMP_MEMORY_DESCRIPTOR) };
 
     ghost view = { memories_of };
 

@@ -16,7 +16,7 @@ impl<'a> MinidumpStream<'a> for MinidumpMemoryListBase<'a, MINIDUMP_MEMORY_DESCR
     ghost use Rattle.minidump_format.specs.declared.format.memory.MINIDUMP_MEMORY_DESCRIPTOR64.{MINIDUMP_MEMORY_DESCRIPTOR64};
     ghost use Rattle.minidump_system.specs.Framing.{count_64_of, list_64};
     ghost use Rattle.minidump_format.specs.Memory.{memory_descriptor_64};
-    ghost use Rattle.minidump_memory.specs.Memory.{Memory};
+    ghost use Rattle.minidump_memory.specs.Memory.{MemoryRegion};
     ghost use Rattle.minidump_memory.specs.MemoryList.{memory_list_64};
     ghost use Rattle.minidump_memory.specs.Seen.{memories_of};
 
@@ -24,7 +24,7 @@ impl<'a> MinidumpStream<'a> for MinidumpMemoryListBase<'a, MINIDUMP_MEMORY_DESCR
 
     const STREAM_TYPE: u32 = 9;
 
-    ghost Value = { List (Memory MINIDUMP_MEMORY_DESCRIPTOR64) };
+    ghost Value = { List (MemoryRegion MINIDUMP_MEMORY_DESCRIPTOR64) };
 
     ghost view = { memories_of };
 
