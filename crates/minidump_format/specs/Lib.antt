@@ -9,3 +9,14 @@ pub mod Misc
 pub mod Flags
 pub mod Xstate
 pub mod Memory
+pub mod Guid
+pub mod Module
+pub mod CodeView
+pub mod Thread
+pub mod MemoryInfo
+pub mod Handle
+pub mod Assertion
+pub mod Breakpad
+pub mod Crashpad
+pub mod Mac
+pub mod Exception

@@ -1,0 +1,194 @@
+ghost use Rattle.std.proofs.Common.{rules};
+ghost use Rattle.std.proofs.lemmas.Slice.Eq.{bytes_eq-Decides};
+
+use super::{GUID, MINIDUMP_LOCATION_DESCRIPTOR, RVA};
+use minidump_bytes::{Endian, Exact, Record};
+
+/// What Crashpad knows of the process: Crashpad's `MinidumpCrashpadInfo`.
+#[derive(Clone, Copy, Debug, PartialEq, Eq)]
+pub struct MINIDUMP_CRASHPAD_INFO {
+    pub version: u32,
+    /// Names this report.
+    pub report_id: GUID,
+    /// Names the client that crashed.
+    pub client_id: GUID,
+    /// Where the dictionary of the process is.
+    pub simple_annotations: MINIDUMP_LOCATION_DESCRIPTOR,
+    /// Where the list of modules is.
+    pub module_list: MINIDUMP_LOCATION_DESCRIPTOR,
+}
+
+impl Record for MINIDUMP_CRASHPAD_INFO {
+    ghost use Rattle.minidump_format.specs.Crashpad.{crashpad_info};
+
+    ghost SIZE = { 52 };
+
+    const SIZE: usize = 52;
+
+    ghost layout = { crashpad_info };
+
+    fn decode(bytes: &[u8], endian: Endian) -> Self {
+        MINIDUMP_CRASHPAD_INFO {
+            version: endian.u32_at(bytes, 0),
+            report_id: GUID::decode(&bytes[4..20], endian),
+            client_id: GUID::decode(&bytes[20..36], endian),
+            simple_annotations: MINIDUMP_LOCATION_DESCRIPTOR::decode(&bytes[36..44], endian),
+            module_list: MINIDUMP_LOCATION_DESCRIPTOR::decode(&bytes[44..52], endian),
+        }
+    }
+
+    ghost fits = { Prim.search rules };
+}
+
+impl Exact for MINIDUMP_CRASHPAD_INFO {
+    ghost exact = { record { equal = λ x y. ((λ h. Prim.grind (rules, bytes_eq-Decides x.report_id.data4 y.report_id.data4, bytes_eq-Decides x.client_id.data4 y.client_id.data4)), (λ h. rw h (Prim.search (rules, bytes_eq-Decides)))); copied = λ x y h. Prim.search rules } };
+}
+
+/// A link from a module to what Crashpad knows of it: Crashpad's `MinidumpModuleCrashpadInfoLink`.
+#[derive(Clone, Copy, Debug, PartialEq, Eq)]
+pub struct MINIDUMP_MODULE_CRASHPAD_INFO_LINK {
+    /// The index of the module in the module list.
+    pub minidump_module_list_index: u32,
+    /// Where its [`MINIDUMP_MODULE_CRASHPAD_INFO`] is.
+    pub location: MINIDUMP_LOCATION_DESCRIPTOR,
+}
+
+impl Record for MINIDUMP_MODULE_CRASHPAD_INFO_LINK {
+    ghost use Rattle.minidump_format.specs.Crashpad.{module_link};
+
+    ghost SIZE = { 12 };
+
+    const SIZE: usize = 12;
+
+    ghost layout = { module_link };
+
+    fn decode(bytes: &[u8], endian: Endian) -> Self {
+        MINIDUMP_MODULE_CRASHPAD_INFO_LINK {
+            minidump_module_list_index: endian.u32_at(bytes, 0),
+            location: MINIDUMP_LOCATION_DESCRIPTOR::decode(&bytes[4..12], endian),
+        }
+    }
+
+    ghost fits = { Prim.search rules };
+}
+
+impl Exact for MINIDUMP_MODULE_CRASHPAD_INFO_LINK {
+    ghost exact = { Prim.search rules };
+}
+
+/// What Crashpad knows of a module: Crashpad's `MinidumpModuleCrashpadInfo`.
+#[derive(Clone, Copy, Debug, PartialEq, Eq)]
+pub struct MINIDUMP_MODULE_CRASHPAD_INFO {
+    pub version: u32,
+    /// Where its list of texts is.
+    pub list_annotations: MINIDUMP_LOCATION_DESCRIPTOR,
+    /// Where its dictionary is.
+    pub simple_annotations: MINIDUMP_LOCATION_DESCRIPTOR,
+    /// Where its list of annotations is.
+    pub annotation_objects: MINIDUMP_LOCATION_DESCRIPTOR,
+}
+
+impl Record for MINIDUMP_MODULE_CRASHPAD_INFO {
+    ghost use Rattle.minidump_format.specs.Crashpad.{module_crashpad_info};
+
+    ghost SIZE = { 28 };
+
+    const SIZE: usize = 28;
+
+    ghost layout = { module_crashpad_info };
+
+    fn decode(bytes: &[u8], endian: Endian) -> Self {
+        MINIDUMP_MODULE_CRASHPAD_INFO {
+            version: endian.u32_at(bytes, 0),
+            list_annotations: MINIDUMP_LOCATION_DESCRIPTOR::decode(&bytes[4..12], endian),
+            simple_annotations: MINIDUMP_LOCATION_DESCRIPTOR::decode(&bytes[12..20], endian),
+            annotation_objects: MINIDUMP_LOCATION_DESCRIPTOR::decode(&bytes[20..28], endian),
+        }
+    }
+
+    ghost fits = { Prim.search rules };
+}
+
+impl Exact for MINIDUMP_MODULE_CRASHPAD_INFO {
+    ghost exact = { Prim.search rules };
+}
+
+/// An entry of a dictionary: Crashpad's `MinidumpSimpleStringDictionaryEntry`.
+#[derive(Clone, Copy, Debug, PartialEq, Eq)]
+pub struct MINIDUMP_SIMPLE_STRING_DICTIONARY_ENTRY {
+    /// Where the text of its key is.
+    pub key: RVA,
+    /// Where the text of its value is.
+    pub value: RVA,
+}
+
+impl Record for MINIDUMP_SIMPLE_STRING_DICTIONARY_ENTRY {
+    ghost use Rattle.minidump_format.specs.Crashpad.{dictionary_entry};
+
+    ghost SIZE = { 8 };
+
+    const SIZE: usize = 8;
+
+    ghost layout = { dictionary_entry };
+
+    fn decode(bytes: &[u8], endian: Endian) -> Self {
+        MINIDUMP_SIMPLE_STRING_DICTIONARY_ENTRY {
+            key: endian.u32_at(bytes, 0),
+            value: endian.u32_at(bytes, 4),
+        }
+    }
+
+    ghost fits = { Prim.search rules };
+}
+
+impl Exact for MINIDUMP_SIMPLE_STRING_DICTIONARY_ENTRY {
+    ghost exact = { Prim.search rules };
+}
+
+/// A value with a name: Crashpad's `MinidumpAnnotation`.
+#[derive(Clone, Copy, Debug, PartialEq, Eq)]
+pub struct MINIDUMP_ANNOTATION {
+    /// Where the text of its name is.
+    pub name: RVA,
+    /// What the value is, as [`MINIDUMP_ANNOTATION::TYPE_STRING`].
+    pub ty: u16,
+    pub reserved: u16,
+    /// Where the value is.
+    pub value: RVA,
+}
+
+impl Record for MINIDUMP_ANNOTATION {
+    ghost use Rattle.minidump_format.specs.Crashpad.{annotation};
+
+    ghost SIZE = { 12 };
+
+    const SIZE: usize = 12;
+
+    ghost layout = { annotation };
+
+    fn decode(bytes: &[u8], endian: Endian) -> Self {
+        MINIDUMP_ANNOTATION {
+            name: endian.u32_at(bytes, 0),
+            ty: endian.u16_at(bytes, 4),
+            reserved: endian.u16_at(bytes, 6),
+            value: endian.u32_at(bytes, 8),
+        }
+    }
+
+    ghost fits = { Prim.search rules };
+}
+
+impl Exact for MINIDUMP_ANNOTATION {
+    ghost exact = { Prim.search rules };
+}
+
+impl MINIDUMP_ANNOTATION {
+    /// The `ty` of an annotation that is to be left out.
+    pub const TYPE_INVALID: u16 = 0;
+
+    /// The `ty` of a text.
+    pub const TYPE_STRING: u16 = 1;
+
+    /// The least `ty` that is the user's own.
+    pub const TYPE_USER_DEFINED: u16 = 0x8000;
+}

@@ -1,0 +1,184 @@
+ghost use Rattle.std.proofs.Common.{rules};
+ghost use Rattle.std.specs.Prelude.{◌≡◌};
+ghost use Rattle.minidump_format.specs.Handle.{information_type_number, information_type_of};
+
+use super::RVA;
+use minidump_bytes::{Endian, Exact, Record};
+
+/// An open handle: Microsoft's `MINIDUMP_HANDLE_DESCRIPTOR`.
+#[derive(Clone, Copy, Debug, PartialEq, Eq)]
+pub struct MINIDUMP_HANDLE_DESCRIPTOR {
+    /// Its value.
+    pub handle: u64,
+    /// Where the name of its type is, or 0.
+    pub type_name_rva: RVA,
+    /// Where the name of its object is, or 0.
+    pub object_name_rva: RVA,
+    pub attributes: u32,
+    /// The access that it gives.
+    pub granted_access: u32,
+    /// How many handles its object has.
+    pub handle_count: u32,
+    /// How many pointers the kernel has to its object.
+    pub pointer_count: u32,
+}
+
+impl Record for MINIDUMP_HANDLE_DESCRIPTOR {
+    ghost use Rattle.minidump_format.specs.Handle.{handle_descriptor};
+
+    ghost SIZE = { 32 };
+
+    const SIZE: usize = 32;
+
+    ghost layout = { handle_descriptor };
+
+    fn decode(bytes: &[u8], endian: Endian) -> Self {
+        MINIDUMP_HANDLE_DESCRIPTOR {
+            handle: endian.u64_at(bytes, 0),
+            type_name_rva: endian.u32_at(bytes, 8),
+            object_name_rva: endian.u32_at(bytes, 12),
+            attributes: endian.u32_at(bytes, 16),
+            granted_access: endian.u32_at(bytes, 20),
+            handle_count: endian.u32_at(bytes, 24),
+            pointer_count: endian.u32_at(bytes, 28),
+        }
+    }
+
+    ghost fits = { Prim.search rules };
+}
+
+impl Exact for MINIDUMP_HANDLE_DESCRIPTOR {
+    ghost exact = { Prim.search rules };
+}
+
+/// An open handle, with what is known of its object: Microsoft's `MINIDUMP_HANDLE_DESCRIPTOR_2`.
+#[derive(Clone, Copy, Debug, PartialEq, Eq)]
+pub struct MINIDUMP_HANDLE_DESCRIPTOR_2 {
+    /// Its value.
+    pub handle: u64,
+    /// Where the name of its type is, or 0.
+    pub type_name_rva: RVA,
+    /// Where the name of its object is, or 0.
+    pub object_name_rva: RVA,
+    pub attributes: u32,
+    /// The access that it gives.
+    pub granted_access: u32,
+    /// How many handles its object has.
+    pub handle_count: u32,
+    /// How many pointers the kernel has to its object.
+    pub pointer_count: u32,
+    /// Where the first information on its object is, or 0.
+    pub object_info_rva: RVA,
+    pub reserved: u32,
+}
+
+impl Record for MINIDUMP_HANDLE_DESCRIPTOR_2 {
+    ghost use Rattle.minidump_format.specs.Handle.{handle_descriptor_2};
+
+    ghost SIZE = { 40 };
+
+    const SIZE: usize = 40;
+
+    ghost layout = { handle_descriptor_2 };
+
+    fn decode(bytes: &[u8], endian: Endian) -> Self {
+        MINIDUMP_HANDLE_DESCRIPTOR_2 {
+            handle: endian.u64_at(bytes, 0),
+            type_name_rva: endian.u32_at(bytes, 8),
+            object_name_rva: endian.u32_at(bytes, 12),
+            attributes: endian.u32_at(bytes, 16),
+            granted_access: endian.u32_at(bytes, 20),
+            handle_count: endian.u32_at(bytes, 24),
+            pointer_count: endian.u32_at(bytes, 28),
+            object_info_rva: endian.u32_at(bytes, 32),
+            reserved: endian.u32_at(bytes, 36),
+        }
+    }
+
+    ghost fits = { Prim.search rules };
+}
+
+impl Exact for MINIDUMP_HANDLE_DESCRIPTOR_2 {
+    ghost exact = { Prim.search rules };
+}
+
+/// An information on the object of a handle: Microsoft's `MINIDUMP_HANDLE_OBJECT_INFORMATION`.
+#[derive(Clone, Copy, Debug, PartialEq, Eq)]
+pub struct MINIDUMP_HANDLE_OBJECT_INFORMATION {
+    /// Where the next information is, or 0.
+    pub next_info_rva: RVA,
+    /// A [`MINIDUMP_HANDLE_OBJECT_INFORMATION_TYPE`], as a number.
+    pub info_type: u32,
+    /// How many bytes follow.
+    pub size_of_info: u32,
+}
+
+impl Record for MINIDUMP_HANDLE_OBJECT_INFORMATION {
+    ghost use Rattle.minidump_format.specs.Handle.{object_information};
+
+    ghost SIZE = { 12 };
+
+    const SIZE: usize = 12;
+
+    ghost layout = { object_information };
+
+    fn decode(bytes: &[u8], endian: Endian) -> Self {
+        MINIDUMP_HANDLE_OBJECT_INFORMATION {
+            next_info_rva: endian.u32_at(bytes, 0),
+            info_type: endian.u32_at(bytes, 4),
+            size_of_info: endian.u32_at(bytes, 8),
+        }
+    }
+
+    ghost fits = { Prim.search rules };
+}
+
+impl Exact for MINIDUMP_HANDLE_OBJECT_INFORMATION {
+    ghost exact = { Prim.search rules };
+}
+
+/// What is known of the object of a handle: Microsoft's `MINIDUMP_HANDLE_OBJECT_INFORMATION_TYPE`.
+#[allow(non_camel_case_types)]
+#[derive(Clone, Copy, Debug, PartialEq, Eq)]
+pub enum MINIDUMP_HANDLE_OBJECT_INFORMATION_TYPE {
+    MiniHandleObjectInformationNone = 0,
+    MiniThreadInformation1 = 1,
+    MiniMutantInformation1 = 2,
+    MiniMutantInformation2 = 3,
+    MiniProcessInformation1 = 4,
+    MiniProcessInformation2 = 5,
+    MiniEventInformation1 = 6,
+    MiniSectionInformation1 = 7,
+    MiniSemaphoreInformation1 = 8,
+}
+
+impl MINIDUMP_HANDLE_OBJECT_INFORMATION_TYPE {
+    /// The type of a number, or `None` where none has it.
+    pub fn from_u32(n: u32) -> Option<MINIDUMP_HANDLE_OBJECT_INFORMATION_TYPE>
+        ensures { result ≡ information_type_of n }
+    {
+        Some(match n {
+            0 => MINIDUMP_HANDLE_OBJECT_INFORMATION_TYPE::MiniHandleObjectInformationNone,
+            1 => MINIDUMP_HANDLE_OBJECT_INFORMATION_TYPE::MiniThreadInformation1,
+            2 => MINIDUMP_HANDLE_OBJECT_INFORMATION_TYPE::MiniMutantInformation1,
+            3 => MINIDUMP_HANDLE_OBJECT_INFORMATION_TYPE::MiniMutantInformation2,
+            4 => MINIDUMP_HANDLE_OBJECT_INFORMATION_TYPE::MiniProcessInformation1,
+            5 => MINIDUMP_HANDLE_OBJECT_INFORMATION_TYPE::MiniProcessInformation2,
+            6 => MINIDUMP_HANDLE_OBJECT_INFORMATION_TYPE::MiniEventInformation1,
+            7 => MINIDUMP_HANDLE_OBJECT_INFORMATION_TYPE::MiniSectionInformation1,
+            8 => MINIDUMP_HANDLE_OBJECT_INFORMATION_TYPE::MiniSemaphoreInformation1,
+            _ => return None,
+        })
+    }
+
+    /// Its number.
+    pub fn number(self) -> u32
+        ensures { result ≡ information_type_number self }
+    {
+        self as u32
+    }
+}
+
+impl Exact for MINIDUMP_HANDLE_OBJECT_INFORMATION_TYPE {
+    ghost exact = { Prim.search rules };
+}

@@ -1,0 +1,191 @@
+ghost use Rattle.std.proofs.Common.{rules};
+ghost use Rattle.std.specs.Prelude.{⊤};
+ghost use Rattle.minidump_format.specs.MemoryInfo.{memory_protection, memory_state, memory_type};
+
+use bitflags::{Flag, Flags, bitflag_items};
+use minidump_bytes::{Endian, Exact, Record};
+
+/// What is known of a region of memory: Microsoft's `MINIDUMP_MEMORY_INFO`.
+#[derive(Clone, Copy, Debug, PartialEq, Eq)]
+pub struct MINIDUMP_MEMORY_INFO {
+    /// Its first address.
+    pub base_address: u64,
+    /// The first address of the allocation that it is part of.
+    pub allocation_base: u64,
+    /// The protection when it was allocated: [`MemoryProtection`], as a number.
+    pub allocation_protection: u32,
+    pub unused1: u32,
+    /// How many bytes it has.
+    pub region_size: u64,
+    /// [`MemoryState`], as a number.
+    pub state: u32,
+    /// The protection of now: [`MemoryProtection`], as a number.
+    pub protection: u32,
+    /// [`MemoryType`], as a number.
+    pub _type: u32,
+    pub unused2: u32,
+}
+
+impl Record for MINIDUMP_MEMORY_INFO {
+    ghost use Rattle.minidump_format.specs.MemoryInfo.{memory_info};
+
+    ghost SIZE = { 48 };
+
+    const SIZE: usize = 48;
+
+    ghost layout = { memory_info };
+
+    fn decode(bytes: &[u8], endian: Endian) -> Self {
+        MINIDUMP_MEMORY_INFO {
+            base_address: endian.u64_at(bytes, 0),
+            allocation_base: endian.u64_at(bytes, 8),
+            allocation_protection: endian.u32_at(bytes, 16),
+            unused1: endian.u32_at(bytes, 20),
+            region_size: endian.u64_at(bytes, 24),
+            state: endian.u32_at(bytes, 32),
+            protection: endian.u32_at(bytes, 36),
+            _type: endian.u32_at(bytes, 40),
+            unused2: endian.u32_at(bytes, 44),
+        }
+    }
+
+    ghost fits = { Prim.search rules };
+}
+
+impl Exact for MINIDUMP_MEMORY_INFO {
+    ghost exact = { Prim.search rules };
+}
+
+/// How memory may be accessed: Microsoft's `PAGE_` numbers.
+#[derive(Clone, Copy, Debug, PartialEq, Eq)]
+pub struct MemoryProtection(u32);
+
+bitflag_items! {
+    impl MemoryProtection: u32 {
+        /// No access at all.
+        const PAGE_NOACCESS = 0x1;
+        const PAGE_READONLY = 0x2;
+        const PAGE_READWRITE = 0x4;
+        /// Reads, and writes to a copy of its own.
+        const PAGE_WRITECOPY = 0x8;
+        const PAGE_EXECUTE = 0x10;
+        const PAGE_EXECUTE_READ = 0x20;
+        const PAGE_EXECUTE_READWRITE = 0x40;
+        const PAGE_EXECUTE_WRITECOPY = 0x80;
+        /// The first access raises an exception.
+        const PAGE_GUARD = 0x100;
+        const PAGE_NOCACHE = 0x200;
+        const PAGE_WRITECOMBINE = 0x400;
+    }
+}
+
+impl Flags for MemoryProtection {
+    type Bits = u32;
+
+    ghost exact = { ⊤ };
+
+    ghost table = { memory_protection };
+
+    ghost set_of = { λ s. s.0 };
+
+    #[tactic(auto, unfolding(crate::specs::MemoryInfo::memory_protection))]
+    fn flags<'a>() -> &'a [Flag<MemoryProtection>] {
+        MemoryProtection::FLAGS
+    }
+
+    fn bits(&self) -> u32 {
+        self.0
+    }
+
+    fn from_bits_retain(bits: u32) -> MemoryProtection {
+        MemoryProtection(bits)
+    }
+}
+
+impl Exact for MemoryProtection {
+    ghost exact = { Prim.search rules };
+}
+
+/// Whether memory is in use: Microsoft's `MEM_` numbers of a state.
+#[derive(Clone, Copy, Debug, PartialEq, Eq)]
+pub struct MemoryState(u32);
+
+bitflag_items! {
+    impl MemoryState: u32 {
+        /// Memory stands behind it.
+        const MEM_COMMIT = 0x1000;
+        /// Reserved, with no memory behind it.
+        const MEM_RESERVE = 0x2000;
+        /// Not in use.
+        const MEM_FREE = 0x1_0000;
+    }
+}
+
+impl Flags for MemoryState {
+    type Bits = u32;
+
+    ghost exact = { ⊤ };
+
+    ghost table = { memory_state };
+
+    ghost set_of = { λ s. s.0 };
+
+    #[tactic(auto, unfolding(crate::specs::MemoryInfo::memory_state))]
+    fn flags<'a>() -> &'a [Flag<MemoryState>] {
+        MemoryState::FLAGS
+    }
+
+    fn bits(&self) -> u32 {
+        self.0
+    }
+
+    fn from_bits_retain(bits: u32) -> MemoryState {
+        MemoryState(bits)
+    }
+}
+
+impl Exact for MemoryState {
+    ghost exact = { Prim.search rules };
+}
+
+/// What memory belongs to: Microsoft's `MEM_` numbers of a type.
+#[derive(Clone, Copy, Debug, PartialEq, Eq)]
+pub struct MemoryType(u32);
+
+bitflag_items! {
+    impl MemoryType: u32 {
+        /// Of the process alone.
+        const MEM_PRIVATE = 0x2_0000;
+        /// A view of a section.
+        const MEM_MAPPED = 0x4_0000;
+        /// A view of the image of a module.
+        const MEM_IMAGE = 0x100_0000;
+    }
+}
+
+impl Flags for MemoryType {
+    type Bits = u32;
+
+    ghost exact = { ⊤ };
+
+    ghost table = { memory_type };
+
+    ghost set_of = { λ s. s.0 };
+
+    #[tactic(auto, unfolding(crate::specs::MemoryInfo::memory_type))]
+    fn flags<'a>() -> &'a [Flag<MemoryType>] {
+        MemoryType::FLAGS
+    }
+
+    fn bits(&self) -> u32 {
+        self.0
+    }
+
+    fn from_bits_retain(bits: u32) -> MemoryType {
+        MemoryType(bits)
+    }
+}
+
+impl Exact for MemoryType {
+    ghost exact = { Prim.search rules };
+}

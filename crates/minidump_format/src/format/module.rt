@@ -1,0 +1,161 @@
+ghost use Rattle.std.proofs.Common.{rules};
+
+use super::{MINIDUMP_LOCATION_DESCRIPTOR, RVA};
+use minidump_bytes::{Endian, Exact, Record, array_at};
+
+/// The version of a file: Microsoft's `VS_FIXEDFILEINFO`.
+#[derive(Clone, Copy, Debug, PartialEq, Eq)]
+pub struct VS_FIXEDFILEINFO {
+    /// [`VS_FFI_SIGNATURE`] where the version is set.
+    pub signature: u32,
+    /// [`VS_FFI_STRUCVERSION`] where the version is set.
+    pub struct_version: u32,
+    /// The first two parts of the file's version, 16 bits each.
+    pub file_version_hi: u32,
+    /// The last two parts of the file's version, 16 bits each.
+    pub file_version_lo: u32,
+    /// The first two parts of the product's version, 16 bits each.
+    pub product_version_hi: u32,
+    /// The last two parts of the product's version, 16 bits each.
+    pub product_version_lo: u32,
+    /// Which bits of `file_flags` are valid.
+    pub file_flags_mask: u32,
+    pub file_flags: u32,
+    /// The system that the file was built for.
+    pub file_os: u32,
+    pub file_type: u32,
+    pub file_subtype: u32,
+    /// The high half of the file's date.
+    pub file_date_hi: u32,
+    /// The low half of the file's date.
+    pub file_date_lo: u32,
+}
+
+impl Record for VS_FIXEDFILEINFO {
+    ghost use Rattle.minidump_format.specs.Module.{fixed_file_info};
+
+    ghost SIZE = { 52 };
+
+    const SIZE: usize = 52;
+
+    ghost layout = { fixed_file_info };
+
+    fn decode(bytes: &[u8], endian: Endian) -> Self {
+        VS_FIXEDFILEINFO {
+            signature: endian.u32_at(bytes, 0),
+            struct_version: endian.u32_at(bytes, 4),
+            file_version_hi: endian.u32_at(bytes, 8),
+            file_version_lo: endian.u32_at(bytes, 12),
+            product_version_hi: endian.u32_at(bytes, 16),
+            product_version_lo: endian.u32_at(bytes, 20),
+            file_flags_mask: endian.u32_at(bytes, 24),
+            file_flags: endian.u32_at(bytes, 28),
+            file_os: endian.u32_at(bytes, 32),
+            file_type: endian.u32_at(bytes, 36),
+            file_subtype: endian.u32_at(bytes, 40),
+            file_date_hi: endian.u32_at(bytes, 44),
+            file_date_lo: endian.u32_at(bytes, 48),
+        }
+    }
+
+    ghost fits = { Prim.search rules };
+}
+
+impl Exact for VS_FIXEDFILEINFO {
+    ghost exact = { record { equal = λ x y. ((λ h. Prim.grind rules), (λ h. Prim.grind rules)); copied = λ x y h. Prim.search rules } };
+}
+
+/// A module that was loaded: Microsoft's `MINIDUMP_MODULE`.
+#[derive(Clone, Copy, Debug, PartialEq, Eq)]
+pub struct MINIDUMP_MODULE {
+    /// Its first address.
+    pub base_of_image: u64,
+    /// How many bytes of memory it takes.
+    pub size_of_image: u32,
+    /// The checksum in the header of its image.
+    pub checksum: u32,
+    /// When it was linked, in seconds since 1970.
+    pub time_date_stamp: u32,
+    /// Where its name is.
+    pub module_name_rva: RVA,
+    /// Its version.
+    pub version_info: VS_FIXEDFILEINFO,
+    /// Where its CodeView record is.
+    pub cv_record: MINIDUMP_LOCATION_DESCRIPTOR,
+    /// Where its miscellaneous debug record is.
+    pub misc_record: MINIDUMP_LOCATION_DESCRIPTOR,
+    pub unused1: [u8; 16],
+}
+
+impl Record for MINIDUMP_MODULE {
+    ghost use Rattle.minidump_format.specs.Module.{module_entry};
+
+    ghost SIZE = { 108 };
+
+    const SIZE: usize = 108;
+
+    ghost layout = { module_entry };
+
+    fn decode(bytes: &[u8], endian: Endian) -> Self {
+        MINIDUMP_MODULE {
+            base_of_image: endian.u64_at(bytes, 0),
+            size_of_image: endian.u32_at(bytes, 8),
+            checksum: endian.u32_at(bytes, 12),
+            time_date_stamp: endian.u32_at(bytes, 16),
+            module_name_rva: endian.u32_at(bytes, 20),
+            version_info: VS_FIXEDFILEINFO::decode(&bytes[24..76], endian),
+            cv_record: MINIDUMP_LOCATION_DESCRIPTOR::decode(&bytes[76..84], endian),
+            misc_record: MINIDUMP_LOCATION_DESCRIPTOR::decode(&bytes[84..92], endian),
+            unused1: array_at(bytes, 92, endian),
+        }
+    }
+
+    ghost fits = { Prim.search rules };
+}
+
+/// A module that was unloaded: Microsoft's `MINIDUMP_UNLOADED_MODULE`.
+#[derive(Clone, Copy, Debug, PartialEq, Eq)]
+pub struct MINIDUMP_UNLOADED_MODULE {
+    /// Its first address.
+    pub base_of_image: u64,
+    /// How many bytes of memory it took.
+    pub size_of_image: u32,
+    /// The checksum in the header of its image.
+    pub checksum: u32,
+    /// When it was linked, in seconds since 1970.
+    pub time_date_stamp: u32,
+    /// Where its name is.
+    pub module_name_rva: RVA,
+}
+
+impl Record for MINIDUMP_UNLOADED_MODULE {
+    ghost use Rattle.minidump_format.specs.Module.{unloaded_module_entry};
+
+    ghost SIZE = { 24 };
+
+    const SIZE: usize = 24;
+
+    ghost layout = { unloaded_module_entry };
+
+    fn decode(bytes: &[u8], endian: Endian) -> Self {
+        MINIDUMP_UNLOADED_MODULE {
+            base_of_image: endian.u64_at(bytes, 0),
+            size_of_image: endian.u32_at(bytes, 8),
+            checksum: endian.u32_at(bytes, 12),
+            time_date_stamp: endian.u32_at(bytes, 16),
+            module_name_rva: endian.u32_at(bytes, 20),
+        }
+    }
+
+    ghost fits = { Prim.search rules };
+}
+
+impl Exact for MINIDUMP_UNLOADED_MODULE {
+    ghost exact = { Prim.search rules };
+}
+
+/// The signature of a [`VS_FIXEDFILEINFO`] that is set.
+pub const VS_FFI_SIGNATURE: u32 = 0xfeef_04bd;
+
+/// The version of the structure of a [`VS_FIXEDFILEINFO`] that is set.
+pub const VS_FFI_STRUCVERSION: u32 = 0x1_0000;

@@ -1,0 +1,134 @@
+ghost use Rattle.std.proofs.Common.{rules};
+
+use super::{MINIDUMP_LOCATION_DESCRIPTOR, MINIDUMP_MEMORY_DESCRIPTOR};
+use minidump_bytes::{Endian, Exact, Record};
+
+/// A thread: Microsoft's `MINIDUMP_THREAD`.
+#[derive(Clone, Copy, Debug, PartialEq, Eq)]
+pub struct MINIDUMP_THREAD {
+    pub thread_id: u32,
+    /// How many times it is suspended.
+    pub suspend_count: u32,
+    pub priority_class: u32,
+    pub priority: u32,
+    /// The address of its thread environment block.
+    pub teb: u64,
+    /// Its stack.
+    pub stack: MINIDUMP_MEMORY_DESCRIPTOR,
+    /// Where its context is.
+    pub thread_context: MINIDUMP_LOCATION_DESCRIPTOR,
+}
+
+impl Record for MINIDUMP_THREAD {
+    ghost use Rattle.minidump_format.specs.Thread.{thread};
+
+    ghost SIZE = { 48 };
+
+    const SIZE: usize = 48;
+
+    ghost layout = { thread };
+
+    fn decode(bytes: &[u8], endian: Endian) -> Self {
+        MINIDUMP_THREAD {
+            thread_id: endian.u32_at(bytes, 0),
+            suspend_count: endian.u32_at(bytes, 4),
+            priority_class: endian.u32_at(bytes, 8),
+            priority: endian.u32_at(bytes, 12),
+            teb: endian.u64_at(bytes, 16),
+            stack: MINIDUMP_MEMORY_DESCRIPTOR::decode(&bytes[24..40], endian),
+            thread_context: MINIDUMP_LOCATION_DESCRIPTOR::decode(&bytes[40..48], endian),
+        }
+    }
+
+    ghost fits = { Prim.search rules };
+}
+
+impl Exact for MINIDUMP_THREAD {
+    ghost exact = { Prim.search rules };
+}
+
+/// The name of a thread: Microsoft's `MINIDUMP_THREAD_NAME`.
+#[derive(Clone, Copy, Debug, PartialEq, Eq)]
+pub struct MINIDUMP_THREAD_NAME {
+    pub thread_id: u32,
+    /// Where the name is.
+    pub thread_name_rva: u64,
+}
+
+impl Record for MINIDUMP_THREAD_NAME {
+    ghost use Rattle.minidump_format.specs.Thread.{thread_name};
+
+    ghost SIZE = { 12 };
+
+    const SIZE: usize = 12;
+
+    ghost layout = { thread_name };
+
+    fn decode(bytes: &[u8], endian: Endian) -> Self {
+        MINIDUMP_THREAD_NAME {
+            thread_id: endian.u32_at(bytes, 0),
+            thread_name_rva: endian.u64_at(bytes, 4),
+        }
+    }
+
+    ghost fits = { Prim.search rules };
+}
+
+impl Exact for MINIDUMP_THREAD_NAME {
+    ghost exact = { Prim.search rules };
+}
+
+/// The state of a thread: Microsoft's `MINIDUMP_THREAD_INFO`.
+#[derive(Clone, Copy, Debug, PartialEq, Eq)]
+pub struct MINIDUMP_THREAD_INFO {
+    pub thread_id: u32,
+    /// How much of the thread was written.
+    pub dump_flags: u32,
+    /// The error that the writer met, or 0.
+    pub dump_error: u32,
+    /// The status that the thread ended with.
+    pub exit_status: u32,
+    /// When it began, in units of 100 nanoseconds since 1601.
+    pub create_time: u64,
+    /// When it ended, in units of 100 nanoseconds since 1601.
+    pub exit_time: u64,
+    /// How long it ran in the kernel, in units of 100 nanoseconds.
+    pub kernel_time: u64,
+    /// How long it ran outside the kernel, in units of 100 nanoseconds.
+    pub user_time: u64,
+    /// The address that it began at.
+    pub start_address: u64,
+    /// The processors that it may run on, a bit each.
+    pub affinity: u64,
+}
+
+impl Record for MINIDUMP_THREAD_INFO {
+    ghost use Rattle.minidump_format.specs.Thread.{thread_info};
+
+    ghost SIZE = { 64 };
+
+    const SIZE: usize = 64;
+
+    ghost layout = { thread_info };
+
+    fn decode(bytes: &[u8], endian: Endian) -> Self {
+        MINIDUMP_THREAD_INFO {
+            thread_id: endian.u32_at(bytes, 0),
+            dump_flags: endian.u32_at(bytes, 4),
+            dump_error: endian.u32_at(bytes, 8),
+            exit_status: endian.u32_at(bytes, 12),
+            create_time: endian.u64_at(bytes, 16),
+            exit_time: endian.u64_at(bytes, 24),
+            kernel_time: endian.u64_at(bytes, 32),
+            user_time: endian.u64_at(bytes, 40),
+            start_address: endian.u64_at(bytes, 48),
+            affinity: endian.u64_at(bytes, 56),
+        }
+    }
+
+    ghost fits = { Prim.search rules };
+}
+
+impl Exact for MINIDUMP_THREAD_INFO {
+    ghost exact = { Prim.search rules };
+}
