@@ -1,3 +1,4 @@
+pub mod ContextFlags
 pub mod Printing
 pub mod XstateLemmas
 pub mod GuidLemmas

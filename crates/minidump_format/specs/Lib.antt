@@ -20,3 +20,8 @@ pub mod Breakpad
 pub mod Crashpad
 pub mod Mac
 pub mod Exception
+pub mod ContextFlags
+pub mod ContextX86
+pub mod ContextAmd64
+pub mod ContextArm
+pub mod ContextArm64

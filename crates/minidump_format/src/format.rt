@@ -3,6 +3,7 @@
 mod assertion;
 mod breakpad;
 mod code_view;
+mod context;
 mod crashpad;
 mod exception;
 mod flags;
@@ -22,6 +23,10 @@ mod xstate;
 pub use assertion::MINIDUMP_ASSERTION_INFO;
 pub use breakpad::{BreakpadInfoValid, MINIDUMP_BREAKPAD_INFO};
 pub use code_view::{CV_INFO_ELF, CV_INFO_PDB20, CV_INFO_PDB70, CvSignature};
+pub use context::{
+    CONTEXT_AMD64, CONTEXT_ARM, CONTEXT_ARM64, CONTEXT_ARM64_OLD, CONTEXT_X86, ContextFlagsCpu,
+    FLOATING_SAVE_AREA_ARM, FLOATING_SAVE_AREA_X86,
+};
 pub use crashpad::{
     MINIDUMP_ANNOTATION, MINIDUMP_CRASHPAD_INFO, MINIDUMP_MODULE_CRASHPAD_INFO,
     MINIDUMP_MODULE_CRASHPAD_INFO_LINK, MINIDUMP_SIMPLE_STRING_DICTIONARY_ENTRY,

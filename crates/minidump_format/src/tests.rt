@@ -2,6 +2,8 @@ ghost use Rattle.std.specs.Prelude.{◌≡◌, Some, None, if◌then◌else◌};
 ghost use Rattle.std.specs.Option.{option_copied};
 ghost use Rattle.minidump_format.specs.Flags.{has_flag};
 
+mod context;
+
 use crate::Error;
 use crate::format::{
     ArmElfHwCaps, MiscInfoFlags, XSTATE_CONFIG_FEATURE_MSC_INFO, XSTATE_FEATURE, XstateFeatureIndex,

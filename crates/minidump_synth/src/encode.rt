@@ -1,4 +1,5 @@
 //! The bytes of records.
+mod context;
 mod header;
 mod memory;
 mod plain;

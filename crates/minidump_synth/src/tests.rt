@@ -1,3 +1,5 @@
+mod context;
+
 use crate::{Encode, FailsAt, Full, OneByte, Section, SynthMinidump, TakesNone, zeroed};
 use minidump_bytes::{Endian, Record, Refused, Told};
 use minidump_format::format::{

@@ -1,0 +1,64 @@
+ghost use Rattle.std.proofs.Common.{rules};
+ghost use Rattle.std.specs.Prelude.{⊤, ◌≡◌, bit_and};
+ghost use Rattle.bitflags.specs.Sets.{known_bits};
+ghost use Rattle.minidump_format.specs.ContextFlags.{context_flags};
+
+use bitflags::{Flag, Flags, bitflag_items};
+use minidump_bytes::Exact;
+
+/// The processors that a context can be of: the bits of its flags that Microsoft's `CONTEXT_i386` and so
+/// on, and Breakpad's `MD_CONTEXT_` numbers, name.
+#[derive(Clone, Copy, Debug, PartialEq, Eq)]
+pub struct ContextFlagsCpu(u32);
+
+bitflag_items! {
+    impl ContextFlagsCpu: u32 {
+        const CONTEXT_X86 = 0x1_0000;
+        const CONTEXT_MIPS = 0x4_0000;
+        const CONTEXT_MIPS64 = 0x8_0000;
+        const CONTEXT_AMD64 = 0x10_0000;
+        const CONTEXT_ARM64 = 0x40_0000;
+        const CONTEXT_PPC64 = 0x100_0000;
+        const CONTEXT_SPARC = 0x1000_0000;
+        const CONTEXT_PPC = 0x2000_0000;
+        const CONTEXT_ARM = 0x4000_0000;
+        /// ARM64, in the layout that Breakpad had first.
+        const CONTEXT_ARM64_OLD = 0x8000_0000;
+    }
+}
+
+impl Flags for ContextFlagsCpu {
+    type Bits = u32;
+
+    ghost exact = { ⊤ };
+
+    ghost table = { context_flags };
+
+    ghost set_of = { λ s. s.0 };
+
+    #[tactic(auto, unfolding(crate::specs::ContextFlags::context_flags))]
+    fn flags<'a>() -> &'a [Flag<ContextFlagsCpu>] {
+        ContextFlagsCpu::FLAGS
+    }
+
+    fn bits(&self) -> u32 {
+        self.0
+    }
+
+    fn from_bits_retain(bits: u32) -> ContextFlagsCpu {
+        ContextFlagsCpu(bits)
+    }
+}
+
+impl ContextFlagsCpu {
+    /// Keeps of the flags of a context the bits of processors.
+    pub fn from_flags(flags: u32) -> ContextFlagsCpu
+        ensures { result.0 ≡ bit_and flags (known_bits context_flags) }
+    {
+        ContextFlagsCpu::from_bits_truncate(flags)
+    }
+}
+
+impl Exact for ContextFlagsCpu {
+    ghost exact = { Prim.search rules };
+}
