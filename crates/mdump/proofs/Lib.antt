@@ -1,3 +1,4 @@
+-- The lemmas of this crate.
 pub mod AddressLemmas
 pub mod CommandLemmas
 pub mod ListLemmas

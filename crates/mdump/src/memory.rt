@@ -1,4 +1,4 @@
-ghost use Rattle.std.specs.Prelude.{◌≡◌, IfOk, string_bytes};
+ghost use Rattle.std.specs.Prelude.{◌≡◌, ◌⊎◌, IfErr, IfOk, string_bytes};
 ghost use Rattle.std.specs.Option.{option_copied, option_map};
 ghost use Rattle.minidump_memory.specs.Unified.{unified_list, unified_region};
 ghost use Rattle.minidump.specs.Seen.{dump_of};
@@ -18,7 +18,8 @@ pub(crate) fn memory_line<O: Write>(
     address: u64,
     out: &mut Told<O>,
 ) -> Result<(), Error>
-    ensures { Writes (IsLineOf (dump_of dump.now) address) O.contents out.old out.new result }
+    ensures written { Writes (IsLineOf (dump_of dump.now) address) O.contents out.old out.new result }
+    ensures refusal { IfErr result (λ e. (e ≡ Error.IoError) ⊎ (e ≡ Error.OutOfMemory)) }
 {
     let memory = dump.get_memory(alloc)?;
     let found = memory_at(memory.as_ref(), address);

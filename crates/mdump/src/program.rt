@@ -1,9 +1,8 @@
-ghost use Rattle.std.specs.Prelude.{◌≡◌, ◌↔◌, ◌<◌, ◌≤◌, ◌++◌, IfNone, IfSome, codes, length, map, string_bytes};
-ghost use Rattle.minidump_format.specs.declared.error.Error.{Error};
-ghost use Rattle.minidump_format.specs.Error.{refusal_name};
+ghost use Rattle.std.specs.Prelude.{◌≡◌, ◌<◌, IfErr, IfNone, IfSome, length, map, string_bytes};
 ghost use Rattle.minidump_format.specs.Print.{Prints};
+ghost use Rattle.minidump.specs.File.{IsPathRefusal};
 ghost use Rattle.mdump.specs.Command.{IsCommand};
-ghost use Rattle.mdump.specs.Done.{IsAnswer, IsDirectoryText, IsLine, IsPrinted, IsTextOf, TookAll, TookBeginning, Writes, usage};
+ghost use Rattle.mdump.specs.Done.{IsAnswer, IsDirectoryText, IsLine, IsRun, IsTextOf, IsTold, Writes, refusal_line, usage};
 
 use crate::command::Command;
 use crate::memory::memory_line;
@@ -30,14 +29,7 @@ pub fn run<R: Files + AllocGlobal, O: Write, E: Write>(
     out: &mut Told<O>,
     err: &mut Told<E>,
 ) -> u8
-    ensures status { result ≤ 2 }
-    ensures done { result ≡ 0
-        → TookAll (IsAnswer (map string_bytes words.now)) O.contents out.old out.new × (err.new ≡ err.old) }
-    ensures refused { result ≡ 1
-        → TookBeginning (IsAnswer (map string_bytes words.now)) O.contents out.old out.new
-        × ((error : Error) × IsPrinted E.contents err.old err.new (refusal_name error ++ codes "\n")) }
-    ensures usage { result ≡ 2 → (out.new ≡ out.old) × IsPrinted E.contents err.old err.new usage }
-    ensures bad { result ≡ 2 ↔ ((0 < length words.now) × ¬ (IsCommand (map string_bytes words.now))) }
+    ensures { IsRun R.File.remaining O.contents E.contents (map string_bytes words.now) out.old out.new err.old err.new result }
 {
     match answered(rt, words, out) {
         None => bad_arguments(err),
@@ -54,7 +46,8 @@ fn answered<R: Files + AllocGlobal, O: Write>(
     words: &[String],
     out: &mut Told<O>,
 ) -> Option<Result<(), Error>>
-    ensures written { IfSome result (Writes (IsAnswer (map string_bytes words.now)) O.contents out.old out.new) }
+    ensures written { IfSome result (Writes (IsAnswer R.File.remaining (map string_bytes words.now)) O.contents out.old out.new) }
+    ensures refusal { IfSome result (λ r. IfErr r (IsPathRefusal R.File.remaining)) }
     ensures asked { IfSome result
         (λ _. (0 < length words.now) → ¬ (IsCommand (map string_bytes words.now)) → ⊥) }
     ensures none { IfNone result ((0 < length words.now) × ¬ (IsCommand (map string_bytes words.now))
@@ -72,7 +65,8 @@ fn obey<R: Files + AllocGlobal, O: Write>(
     command: Command<'_>,
     out: &mut Told<O>,
 ) -> Result<(), Error>
-    ensures { Writes (IsTextOf command.entry) O.contents out.old out.new result }
+    ensures written { Writes (IsTextOf R.File.remaining command.entry) O.contents out.old out.new result }
+    ensures refusal { IfErr result (IsPathRefusal R.File.remaining) }
 {
     match command {
         Command::Dir(path) => dir(rt, path, out),
@@ -81,7 +75,8 @@ fn obey<R: Files + AllocGlobal, O: Write>(
 }
 
 fn dir<R: Files + AllocGlobal, O: Write>(rt: &R, path: &str, out: &mut Told<O>) -> Result<(), Error>
-    ensures { Writes IsDirectoryText O.contents out.old out.new result }
+    ensures written { Writes (IsDirectoryText R.File.remaining) O.contents out.old out.new result }
+    ensures refusal { IfErr result (IsPathRefusal R.File.remaining) }
 {
     let alloc = rt.alloc();
     let mut bytes = Vec::new(alloc);
@@ -95,7 +90,8 @@ fn at<R: Files + AllocGlobal, O: Write>(
     address: u64,
     out: &mut Told<O>,
 ) -> Result<(), Error>
-    ensures { Writes (IsLine address) O.contents out.old out.new result }
+    ensures written { Writes (IsLine R.File.remaining address) O.contents out.old out.new result }
+    ensures refusal { IfErr result (IsPathRefusal R.File.remaining) }
 {
     let alloc = rt.alloc();
     let mut bytes = Vec::new(alloc);
@@ -106,14 +102,15 @@ fn at<R: Files + AllocGlobal, O: Write>(
 /// The status of a refusal, whose name goes to `err`.
 pub(crate) fn refused<E: Write>(error: Error, err: &mut Told<E>) -> u8
     ensures status { result ≡ 1 }
-    ensures named { IsPrinted E.contents err.old err.new (refusal_name error ++ codes "\n") }
+    ensures named { IsTold E.contents err.old err.new (refusal_line error) }
 {
     let _ = put_name(error, err);
     1
 }
 
 fn put_name<E: Write>(error: Error, err: &mut Told<E>) -> Result<(), Error>
-    ensures { Prints E.contents err.old err.new (refusal_name error ++ codes "\n") result }
+    ensures prints { Prints E.contents err.old err.new (refusal_line error) result }
+    ensures refusal { IfErr result (λ e. e ≡ Error.IoError) }
 {
     match put_text(err, error.name()) {
         Ok(()) => put_text(err, "\n"),
@@ -124,7 +121,7 @@ fn put_name<E: Write>(error: Error, err: &mut Told<E>) -> Result<(), Error>
 /// The status of words that are no command. The usage goes to `err`.
 pub(crate) fn bad_arguments<E: Write>(err: &mut Told<E>) -> u8
     ensures status { result ≡ 2 }
-    ensures told { IsPrinted E.contents err.old err.new usage }
+    ensures told { IsTold E.contents err.old err.new usage }
 {
     let _ = put_text(err, USAGE);
     2

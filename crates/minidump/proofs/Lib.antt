@@ -1,3 +1,4 @@
+-- The lemmas of this crate.
 pub mod DirectoryLemmas
 pub mod KeyLemmas
 pub mod LawsLemmas

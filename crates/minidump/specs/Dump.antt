@@ -6,6 +6,8 @@ use Rattle.minidump_bytes.specs.Span.{span}
 use Rattle.minidump_format.specs.declared.error.Error.{Error}
 use Rattle.minidump_format.specs.declared.error.Error.TheVariants.{MissingDirectory, StreamNotFound, StreamReadFailure}
 use Rattle.minidump_format.specs.declared.format.header.MINIDUMP_HEADER.{MINIDUMP_HEADER}
+use Rattle.minidump_format.specs.declared.format.stream_type.MINIDUMP_STREAM_TYPE.TheVariants.{SystemInfoStream}
+use Rattle.minidump_format.specs.StreamType.{number_of}
 use Rattle.minidump_system.specs.SystemInfo.{System, system_in}
 use Rattle.minidump.specs.declared.directory.DecidingEntry.{DecidingEntry}
 use Rattle.minidump.specs.Header.{header_of}
@@ -60,7 +62,16 @@ stream_with system stream_type meaning d = meant meaning d system (raw_stream st
 
 -- the system information, where its stream is one with none handed in
 abbrev pub system_info_of : Dump → Option System
-system_info_of d = result_ok (stream_with None 7 system_in d)
+system_info_of d = result_ok (stream_with None (number_of SystemInfoStream) system_in d)
+
+-- the reads that it takes at least: one where the directory has it, for its span, which is read or refused
+abbrev system_reads : Result (List ℕ) Error → ℕ
+system_reads (Err StreamNotFound) = 0
+system_reads _ = 1
+
+-- the reads that a dump takes at least: one for the header, one for each entry, and those of its system information
+abbrev pub least_reads : Dump → ℕ
+least_reads d = 1 + d.header.stream_count + system_reads (raw_stream (number_of SystemInfoStream) d)
 
 -- the stream of a type, with the dump's system information
 abbrev pub stream : {V : Type 0} → ℕ → Meaning V → Dump → Result V Error

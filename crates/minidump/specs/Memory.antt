@@ -3,6 +3,8 @@ use Rattle.std.specs.Prelude.{◌⊎◌, List, Option, Some, None, Result, Ok, E
 use Rattle.minidump_format.specs.declared.error.Error.{Error}
 use Rattle.minidump_format.specs.declared.format.memory.MINIDUMP_MEMORY_DESCRIPTOR.{MINIDUMP_MEMORY_DESCRIPTOR}
 use Rattle.minidump_format.specs.declared.format.memory.MINIDUMP_MEMORY_DESCRIPTOR64.{MINIDUMP_MEMORY_DESCRIPTOR64}
+use Rattle.minidump_format.specs.declared.format.stream_type.MINIDUMP_STREAM_TYPE.TheVariants.{MemoryListStream, Memory64ListStream}
+use Rattle.minidump_format.specs.StreamType.{number_of}
 use Rattle.minidump_format.specs.Memory.{memory_descriptor, memory_descriptor_64}
 use Rattle.minidump_system.specs.Framing.{list_64, plain_list}
 use Rattle.minidump_memory.specs.Memory.{MemoryRegion}
@@ -18,9 +20,9 @@ first_accepted (Err _) (Err _) = None
 
 abbrev pub memories_of_dump : Dump → Option UnifiedRegions
 memories_of_dump d =
-    first_accepted (stream 9 (λ bytes file order system. memory_list_64 bytes file order) d) (stream 5 (λ bytes file order system. memory_list bytes file order) d)
+    first_accepted (stream (number_of Memory64ListStream) (λ bytes file order system. memory_list_64 bytes file order) d) (stream (number_of MemoryListStream) (λ bytes file order system. memory_list bytes file order) d)
 
 -- one of the two lists has the length that its count asks for, so that it takes memory
 abbrev pub TakesMemory : Dump → Type 0
 TakesMemory d =
-    IsOkAnd (raw_stream 9 d) (λ b. IsOk (list_64 memory_descriptor_64 d.order b)) ⊎ IsOkAnd (raw_stream 5 d) (λ b. IsOk (plain_list memory_descriptor d.order b))
+    IsOkAnd (raw_stream (number_of Memory64ListStream) d) (λ b. IsOk (list_64 memory_descriptor_64 d.order b)) ⊎ IsOkAnd (raw_stream (number_of MemoryListStream) d) (λ b. IsOk (plain_list memory_descriptor d.order b))

@@ -38,7 +38,7 @@ impl<'a> Minidump<'a> {
     ghost use Rattle.std.specs.Prelude.{◌+◌, ◌≤◌, length, IfOk};
     ghost use Rattle.minidump_bytes.specs.Steps.{after};
     ghost use Rattle.minidump_format.specs.Answer.{Gives};
-    ghost use Rattle.minidump.specs.Dump.{HasEntries, dump_in, raw_stream, streams_of};
+    ghost use Rattle.minidump.specs.Dump.{HasEntries, dump_in, least_reads, raw_stream, streams_of};
     ghost use Rattle.minidump.specs.Seen.{dump_of};
     ghost use Rattle.minidump.specs.Streams.{as_unknown, as_unimplemented, entries_of, streams_left, unknown_left, unimplemented_left};
     ghost use Rattle.std.specs.List.{filter_map};
@@ -61,7 +61,7 @@ impl<'a> Minidump<'a> {
         ensures means { Gives dump_of (HasEntries bytes.now) result (dump_in bytes.now) }
         ensures within { steps.new ≤ steps.old + length bytes.now + 8 }
         ensures grows { steps.old ≤ steps.new }
-        ensures at_least { IfOk result (λ d. after steps.old (1 + d.header.stream_count) ≤ steps.new) }
+        ensures at_least { IfOk result (λ d. after steps.old (least_reads (dump_of d)) ≤ steps.new) }
     {
         let source = Source::new(bytes);
         let (endian, header) = read_header(source, steps)?;

@@ -1,6 +1,6 @@
-ghost use Rattle.std.specs.Prelude.{◌≡◌, ◌≢◌, ◌↔◌, true, false, [], IfOk, IfErr, IfSome, OnOk, OnErr};
+ghost use Rattle.std.specs.Prelude.{◌≡◌, ◌≢◌, ◌↔◌, ◌⊎◌, true, false, [], IfErr, OnOk, OnErr};
 ghost use Rattle.minidump_bytes.specs.Told.{device_of, has_failed};
-ghost use Rattle.minidump.specs.File.{ReadsFile};
+ghost use Rattle.minidump.specs.File.{IsWhole, ReadsFile};
 
 use crate::Minidump;
 use minidump_bytes::Told;
@@ -12,7 +12,7 @@ use std::rt::Files;
 
 // Empties the vector, and reads into it until the reader answers no bytes. After a refusal it is empty.
 fn read_all<R: Read>(reader: &mut Told<R>, into: &mut Vec<u8>) -> Result<(), Error>
-    ensures all { OnOk result (IfSome (R.remaining (device_of reader.old)) (λ bytes. into.new.items ≡ bytes)) }
+    ensures all { OnOk result (IsWhole R.remaining (device_of reader.old) into.new.items) }
     ensures alive { OnOk result (has_failed reader.new ≡ false) }
     ensures failed { IfErr result (λ e. (e ≡ Error.IoError) ↔ (has_failed reader.new ≡ true)) }
     ensures refused { IfErr result (λ e. e ≢ Error.IoError → e ≡ Error.OutOfMemory) }
@@ -39,9 +39,20 @@ fn read_all<R: Read>(reader: &mut Told<R>, into: &mut Vec<u8>) -> Result<(), Err
 
 // Reads a file into the vector, whose bytes it replaces.
 fn read_file<R: Files>(rt: &R, path: &str, into: &mut Vec<u8>) -> Result<(), Error>
-    ensures { ReadsFile into.old.items into.new.items result }
+    ensures { ReadsFile R.File.remaining into.old.items into.new.items result }
 {
-    let file = fs::open(rt, path).map_err(|_| Error::FileNotFound)?;
+    match fs::open(rt, path) {
+        Ok(file) => read_opened(file, into),
+        Err(_) => Err(Error::FileNotFound),
+    }
+}
+
+// Reads an opened file whole.
+fn read_opened<F: Read + Drop>(file: F, into: &mut Vec<u8>) -> Result<(), Error>
+    ensures whole { OnOk result (IsWhole F.remaining file into.new.items) }
+    ensures refused { IfErr result (λ e. (e ≡ Error.IoError) ⊎ (e ≡ Error.OutOfMemory)) }
+    ensures empty { OnErr result (into.new.items ≡ []) }
+{
     read_all(&mut Told::new(file), into)
 }
 
@@ -59,7 +70,7 @@ impl<'a> Minidump<'a> {
         path: &str,
         into: &'a mut Vec<u8>,
     ) -> Result<Minidump<'a>, Error>
-        ensures { ReadsPath result }
+        ensures { ReadsPath R.File.remaining result }
     {
         read_file(rt, path, into)?;
         Minidump::read(alloc, into.as_slice())

@@ -1,4 +1,4 @@
-ghost use Rattle.std.specs.Prelude.{◌≡◌, ◌+◌, ◌≤◌, length, IfOk, IsOkAnd, OnOk};
+ghost use Rattle.std.specs.Prelude.{◌≡◌, ◌≢◌, ◌+◌, ◌≤◌, length, IfOk, IsOkAnd};
 ghost use Rattle.minidump_bytes.specs.Steps.{after};
 ghost use Rattle.minidump_format.specs.Answer.{Gives};
 ghost use Rattle.minidump.specs.Dump.{raw_stream, stream};
@@ -25,7 +25,8 @@ impl<'a> Minidump<'a> {
         ensures means { Gives (λ b. b.now) ⊥ result (raw_stream stream_type (dump_of self.now)) }
         ensures within { steps.new ≤ steps.old + 1 }
         ensures grows { steps.old ≤ steps.new }
-        ensures counted { OnOk result (steps.new ≡ after steps.old 1) }
+        ensures counted { raw_stream stream_type (dump_of self.now) ≢ Err Error.StreamNotFound
+            → steps.new ≡ after steps.old 1 }
         ensures inside { IfOk result (λ b. length b.now ≤ length (dump_of self.now).file) }
     {
         let deciding = self.entries.get(&stream_type).ok_or(Error::StreamNotFound)?;
@@ -55,6 +56,8 @@ impl<'a> Minidump<'a> {
             (stream S.type_number S.meaning (dump_of self.now)) }
         ensures within { steps.new ≤ steps.old + S.limit (length (dump_of self.now).file) + 1 }
         ensures grows { steps.old ≤ steps.new }
+        ensures counted { raw_stream S.type_number (dump_of self.now) ≢ Err Error.StreamNotFound
+            → after steps.old 1 ≤ steps.new }
         ensures at_least { IfOk result (λ x. IfOk (raw_stream S.type_number (dump_of self.now))
             (λ b. after steps.old (1 + S.least b (dump_of self.now).order (S.view x)) ≤ steps.new)) }
     {

@@ -1,9 +1,12 @@
-ghost use Rattle.std.specs.Prelude.{◌≡◌, ◌+◌, ◌≤◌, ◌<◌, IfOk, IfErr};
+ghost use Rattle.std.specs.Prelude.{◌≡◌, ◌≢◌, ◌+◌, ◌≤◌, ◌<◌, IfOk, IfErr};
 ghost use Rattle.std.specs.Option.{option_map};
 ghost use Rattle.minidump_bytes.specs.Source.{bytes_of};
+ghost use Rattle.minidump_bytes.specs.Steps.{after};
+ghost use Rattle.minidump_format.specs.declared.format.stream_type.MINIDUMP_STREAM_TYPE.TheVariants.{SystemInfoStream};
+ghost use Rattle.minidump_format.specs.StreamType.{number_of};
 ghost use Rattle.minidump_system.specs.SystemInfo.{system_of};
 ghost use Rattle.minidump.specs.Deciding.{Decides};
-ghost use Rattle.minidump.specs.Directory.{directory};
+ghost use Rattle.minidump.specs.Directory.{deciding, directory};
 ghost use Rattle.minidump.specs.Dump.{system_info_of};
 
 use crate::answer::accepted;
@@ -30,6 +33,7 @@ pub(crate) fn read_system_info(
     ensures memory { IfErr result (λ e. (e ≡ Error.OutOfMemory) × (0 < header.now.stream_count)) }
     ensures within { steps.new ≤ steps.old + 8 }
     ensures grows { steps.old ≤ steps.new }
+    ensures counted { deciding (number_of SystemInfoStream) (directory endian header.now (bytes_of source.entry)) ≢ None → after steps.old 1 ≤ steps.new }
 {
     let Some(deciding) = entries.get(&MinidumpSystemInfo::STREAM_TYPE) else {
         return Ok(None);

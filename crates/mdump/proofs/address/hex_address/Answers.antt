@@ -1,3 +1,4 @@
+-- The digits stand behind the prefix, or alone.
 use Rattle.std.proofs.Common.{◌≡◌, ◌++◌, codes, ap, sym, ◌∙◌}
 use Rattle.mdump.proofs.AddressLemmas.{behind_prefix, with_no_prefix}
 use Rattle.mdump.proofs.address.hex_address.Goals as goal

@@ -1,3 +1,4 @@
+-- Digits without a sign are read as they are.
 use Rattle.std.proofs.Common.{◌≢◌, get_or, lit<, arith}
 use Rattle.std.proofs.lemmas.Str.Pattern.{starts_char}
 use Rattle.mdump.proofs.AddressLemmas.{reads_hex}

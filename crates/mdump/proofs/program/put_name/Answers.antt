@@ -1,8 +1,9 @@
+-- The name, then the end of its line.
 use Rattle.std.proofs.Common.{[], ◌∷◌}
 use Rattle.minidump_format.specs.Error.{refusal_name}
 use Rattle.minidump_format.proofs.Printing.{prints_then}
 use Rattle.mdump.proofs.program.put_name.Goals as goal
 
-pub returns-in-Ok : goal.returns-in-Ok
-returns-in-Ok g c = prints_then g.E.Write.contents c.args.err.now c.put_text.new.f c.put_text-in-Ok.new.f (refusal_name c.args.error) (10 ∷ []) c.put_text-in-Ok.result
+pub returns-in-Ok-clause-prints : goal.returns-in-Ok-clause-prints
+returns-in-Ok-clause-prints g c = prints_then g.E.Write.contents c.args.err.now c.put_text.new.f c.put_text-in-Ok.new.f (refusal_name c.args.error) (10 ∷ []) c.put_text-in-Ok.result
     (rw c.name.ensures at c.in-Ok.ensures.prints) c.put_text-in-Ok.ensures.prints

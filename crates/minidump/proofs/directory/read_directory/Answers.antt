@@ -1,3 +1,4 @@
+-- One entry more.
 use Rattle.std.proofs.Common.{arith, ◌≡◌, ◌^◌, ◌<◌, rules}
 use Rattle.std.proofs.lemmas.Grind.{common_steps}
 use Rattle.minidump_bytes.specs.Source.{bytes_of}

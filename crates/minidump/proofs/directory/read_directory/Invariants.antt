@@ -1,3 +1,4 @@
+-- The map has the deciding ones of the entries so far, each read once.
 use Rattle.std.proofs.Common.{◌≡◌, ◌+◌, ◌*◌, ◌≤◌, ◌<◌, length}
 use Rattle.minidump_bytes.specs.Steps.{after}
 use Rattle.minidump_bytes.specs.Source.{bytes_of}

@@ -1,3 +1,4 @@
+-- The bytes so far are those that the reader has given.
 use Rattle.std.proofs.Common.{◌^◌, ◌-◌, vec_len}
 use Rattle.std.specs.Io.KnownBytes.{Consumes}
 use Rattle.minidump_bytes.specs.Told.{device_of}

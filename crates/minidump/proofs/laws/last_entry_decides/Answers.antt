@@ -1,3 +1,4 @@
+-- The lemma on the last entry of a type.
 use Rattle.minidump.proofs.LawsLemmas.{deciding-last}
 use Rattle.minidump.proofs.laws.last_entry_decides.Goals as goal
 

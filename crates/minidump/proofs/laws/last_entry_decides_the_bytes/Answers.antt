@@ -1,3 +1,4 @@
+-- The entry that decides is the last one.
 use Rattle.std.proofs.Common.{refl}
 use Rattle.minidump.proofs.LawsLemmas.{deciding-last}
 use Rattle.minidump.proofs.laws.last_entry_decides_the_bytes.Goals as goal

@@ -1,3 +1,4 @@
+-- The lemma on the listed entries.
 use Rattle.std.proofs.Common.{◌^◌}
 use Rattle.minidump.specs.Directory.{directory}
 use Rattle.minidump.proofs.LawsLemmas.{streams_ascend}

@@ -1,9 +1,12 @@
+-- Memory is wanted only where an entry decides.
 use Rattle.std.proofs.Common.{sym, ◌∙◌, ◌<◌, ◌≡◌, length, Some}
 use Rattle.std.proofs.lemmas.Result.{IfErr-weaker}
 use Rattle.minidump_bytes.specs.Source.{bytes_of}
 use Rattle.minidump_bytes.specs.Entries.{length-entries}
 use Rattle.minidump_format.specs.declared.error.Error.{Error}
 use Rattle.minidump_format.specs.declared.error.Error.TheVariants.{OutOfMemory}
+use Rattle.minidump_format.specs.declared.format.stream_type.MINIDUMP_STREAM_TYPE.TheVariants.{SystemInfoStream}
+use Rattle.minidump_format.specs.StreamType.{number_of}
 use Rattle.minidump_format.specs.Header.{directory_entry}
 use Rattle.minidump.specs.Directory.{deciding, directory}
 use Rattle.minidump.proofs.DirectoryLemmas.{deciding-among_some}
@@ -13,7 +16,7 @@ pub returns-clause-memory : goal.returns-clause-memory
 returns-clause-memory c =
     let h = c.args.header.now in
     let es = directory c.args.endian h (bytes_of c.args.source) in
-    let found : deciding 7 es ≡ Some c.in-Some.deciding.now = sym (c.requires.at 7) ∙ sym c.in-Some.ensures.value in
-    let some : 0 < length es = deciding-among_some 7 es c.in-Some.deciding.now found in
+    let found : deciding (number_of SystemInfoStream) es ≡ Some c.in-Some.deciding.now = sym (c.requires.at (number_of SystemInfoStream)) ∙ sym c.in-Some.ensures.value in
+    let some : 0 < length es = deciding-among_some (number_of SystemInfoStream) es c.in-Some.deciding.now found in
     let counted : 0 < h.stream_count = rw (length-entries directory_entry c.args.endian (bytes_of c.args.source) h.stream_directory_rva h.stream_count) at some in
     IfErr-weaker c.accepted.result (λ (e : Error). e ≡ OutOfMemory) (λ (e : Error). (e ≡ OutOfMemory) × (0 < h.stream_count)) (λ e same. (same, counted)) c.accepted.ensures.memory

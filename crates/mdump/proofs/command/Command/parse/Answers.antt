@@ -1,3 +1,4 @@
+-- Two words or three are the command that they spell.
 use Rattle.std.proofs.Common.{codes, map, string_bytes, ap, sym}
 use Rattle.std.proofs.lemmas.Slice.Eq.{bytes_eq-Decides}
 use Rattle.mdump.proofs.CommandLemmas.{no_address}

@@ -1,3 +1,4 @@
+-- The values of the map are the deciding entries, ascending by type.
 use Rattle.std.proofs.Common.{◌∙◌, ◌^◌}
 use Rattle.minidump_bytes.specs.Source.{bytes_of}
 use Rattle.minidump.specs.Directory.{directory}

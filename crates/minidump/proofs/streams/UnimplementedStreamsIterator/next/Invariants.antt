@@ -1,3 +1,4 @@
+-- Each entry that is passed over has no name, or is read.
 use Rattle.std.proofs.Common.{◌≡◌, length}
 use Rattle.minidump.specs.Streams.{streams_left, unimplemented_left}
 use Rattle.minidump.proofs.streams.UnimplementedStreamsIterator.next.Given as goal

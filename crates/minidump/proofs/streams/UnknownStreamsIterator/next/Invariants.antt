@@ -1,3 +1,4 @@
+-- Each entry that is passed over has a name.
 use Rattle.std.proofs.Common.{◌≡◌, length}
 use Rattle.minidump.specs.Streams.{streams_left, unknown_left}
 use Rattle.minidump.proofs.streams.UnknownStreamsIterator.next.Given as goal
