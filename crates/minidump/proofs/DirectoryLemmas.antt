@@ -10,7 +10,7 @@ use Rattle.minidump.specs.Deciding.{Decides}
 use Rattle.std.specs.Ordering.{nat_cmp}
 use Rattle.std.specs.BTreeMap.{BTreeMap, Updates, is_at}
 use Rattle.std.proofs.lemmas.Bool.{ne_eqb}
-use Rattle.minidump_system.proofs.ListLemmas.{enumerate_from-append}
+use Rattle.minidump_bytes.proofs.ListLemmas.{enumerate_from-append}
 use Rattle.minidump.proofs.KeyLemmas.{at_is_equal}
 
 abbrev at_index : ℕ × MINIDUMP_DIRECTORY → DecidingEntry

@@ -1,3 +1,4 @@
+pub mod ListLemmas
 pub mod HexLemmas
 pub mod NumberLemmas
 pub mod ToldLemmas

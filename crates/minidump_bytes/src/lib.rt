@@ -4,6 +4,7 @@
 
 mod array;
 mod compare;
+mod copies;
 mod endian;
 mod exact;
 pub mod laws;
@@ -16,6 +17,7 @@ mod told;
 
 pub use array::array_at;
 pub use compare::probe;
+pub use copies::copied;
 pub use endian::Endian;
 pub use exact::Exact;
 pub use piece::{Piece, made, push_hex, push_pieces};

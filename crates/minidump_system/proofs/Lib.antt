@@ -5,4 +5,3 @@ pub mod MomentText
 pub mod HexLemmas
 pub mod FeatureLemmas
 pub mod OsPartsLemmas
-pub mod ListLemmas

@@ -5,5 +5,4 @@ pub mod CpuInfo
 pub mod OsParts
 pub mod SystemInfo
 pub mod MiscInfo
-pub mod MiscInfoText
 pub mod Framing

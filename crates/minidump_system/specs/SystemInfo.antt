@@ -46,10 +46,14 @@ with_record all order (Some raw) = Ok (record {
   cpu_info = cpu_info_text (cpu_of raw.processor_architecture) raw.processor_level raw.processor_revision raw.cpu order;
 })
 
--- a system information that is handed in is answered again; else the record that the stream begins with
+-- the system of the record that the stream begins with
+abbrev pub system_read : List ℕ → List ℕ → Endian → Result System Error
+system_read bytes all order = with_record all order (record_at system_info order 0 bytes)
+
+-- a system information that is handed in is answered again; else the stream is read
 abbrev pub system_in : List ℕ → List ℕ → Endian → Option System → Result System Error
 system_in bytes all order (Some system) = Ok system
-system_in bytes all order None = with_record all order (record_at system_info order 0 bytes)
+system_in bytes all order None = system_read bytes all order
 
 -- the printed text, line by line: the numbers of the record
 unfoldable pub numbers_text : MINIDUMP_SYSTEM_INFO → List ℕ

@@ -1,6 +1,8 @@
+ghost use Rattle.std.proofs.Common.{rules};
 ghost use Rattle.std.specs.Prelude.{◌≡◌};
 ghost use Rattle.minidump_system.specs.Cpu.{cpu_of, pointer_bytes, width_of};
 
+use minidump_bytes::Exact;
 use minidump_format::format::ProcessorArchitecture;
 use std::fmt;
 
@@ -96,4 +98,12 @@ impl fmt::Display for Cpu {
             Cpu::Unknown(_) => "unknown",
         })
     }
+}
+
+impl Exact for Cpu {
+    ghost exact = { Prim.search rules };
+}
+
+impl Exact for PointerWidth {
+    ghost exact = { Prim.search rules };
 }

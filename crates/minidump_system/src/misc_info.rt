@@ -365,9 +365,11 @@ impl MinidumpMiscInfo {
 impl<'a> MinidumpStream<'a> for MinidumpMiscInfo {
     ghost use Rattle.minidump_system.specs.MiscInfo.{misc_info_in, raw_of};
     ghost use Rattle.minidump_system.specs.declared.misc_info.RawMiscInfo.{RawMiscInfo};
+    ghost use Rattle.minidump_format.specs.StreamType.{number_of};
+    ghost use Rattle.minidump_format.specs.declared.format.stream_type.MINIDUMP_STREAM_TYPE.TheVariants.{MiscInfoStream};
     ghost use Rattle.std.specs.Prelude.{◌+◌};
 
-    ghost type_number = { 15 };
+    ghost type_number = { number_of MiscInfoStream };
 
     const STREAM_TYPE: u32 = 15;
 
@@ -379,13 +381,11 @@ impl<'a> MinidumpStream<'a> for MinidumpMiscInfo {
 
     ghost limit = { λ n. n + 7 };
 
-    ghost least = { λ bytes order raw. 0 };
+    ghost least = { λ bytes order raw. 1 };
 
     ghost takes_memory = { λ bytes order. ⊥ };
 
-    fn number_of_type() -> u32
-        ensures { result ≡ 15 }
-    {
+    fn number_of_type() -> u32 {
         Self::STREAM_TYPE
     }
 
@@ -408,7 +408,7 @@ impl<'a> MinidumpStream<'a> for MinidumpMiscInfo {
 fn read_raw(bytes: Source<'_>, endian: Endian, steps: &mut Steps) -> Option<RawMiscInfo>
     ensures value { result ≡ largest_layout endian (bytes_of bytes.entry) }
     ensures within { steps.new ≤ steps.old + 5 }
-    ensures grows { steps.old ≤ steps.new }
+    ensures begun { after steps.old 1 ≤ steps.new }
 {
     if let Some(raw) = read_5(bytes, endian, steps) {
         return Some(raw);

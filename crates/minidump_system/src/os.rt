@@ -1,8 +1,9 @@
-ghost use Rattle.std.specs.Prelude.{◌≡◌, IfErr, IfOk, string_bytes};
-ghost use Rattle.minidump_format.specs.declared.error.Error.TheVariants.{OutOfMemory};
+ghost use Rattle.std.proofs.Common.{rules};
+ghost use Rattle.std.specs.Prelude.{◌≡◌, IfOk, string_bytes};
+ghost use Rattle.minidump_format.specs.Answer.{IsOkUnless};
 ghost use Rattle.minidump_system.specs.Os.{hex_of_six, os_long_name, os_of};
 
-use minidump_bytes::{Piece, made};
+use minidump_bytes::{Exact, Piece, made};
 use minidump_format::Error;
 use minidump_format::format::PlatformId;
 use std::alloc::{AllocError, Global};
@@ -46,8 +47,7 @@ impl Os {
     /// The full name, as `Windows NT`. An unknown system has its number in hexadecimal, in at least six
     /// digits. The only refusal is [`Error::OutOfMemory`].
     pub fn long_name(&self, alloc: Global) -> Result<String, Error>
-        ensures name { IfOk result (λ t. string_bytes t ≡ os_long_name self.now) }
-        ensures memory { IfErr result (λ e. e ≡ OutOfMemory) }
+        ensures { IsOkUnless result (λ t. string_bytes t ≡ os_long_name self.now) }
     {
         let name = match *self {
             Os::Windows => "Windows NT",
@@ -89,4 +89,8 @@ impl fmt::Display for Os {
             Os::Unknown(_) => "unknown",
         })
     }
+}
+
+impl Exact for Os {
+    ghost exact = { Prim.search rules };
 }

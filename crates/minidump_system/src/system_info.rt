@@ -1,13 +1,16 @@
-ghost use Rattle.std.specs.Prelude.{◌≡◌, ◌++◌, IfErr, IfOk, OnOk, string_bytes};
+ghost use Rattle.std.specs.Prelude.{◌≡◌, ◌+◌, ◌++◌, ◌≤◌, IfOk, IsOk, OnOk, string_bytes};
 ghost use Rattle.std.specs.Option.{option_copied, option_map};
+ghost use Rattle.minidump_bytes.specs.Source.{bytes_of};
+ghost use Rattle.minidump_bytes.specs.Steps.{after};
+ghost use Rattle.minidump_format.specs.Answer.{Gives, IsOkUnless};
 ghost use Rattle.minidump_format.specs.Print.{Prints};
 ghost use Rattle.minidump_system.specs.OsParts.{os_parts_of};
-ghost use Rattle.minidump_system.specs.SystemInfo.{names_text, numbers_text, system_info_text, system_of};
+ghost use Rattle.minidump_system.specs.SystemInfo.{names_text, numbers_text, system_info_text, system_of, system_read};
 
 use crate::cpu_info::made_cpu_info;
 use crate::os_parts::os_parts;
 use crate::{Cpu, MinidumpStream, Os};
-use minidump_bytes::{Endian, Piece, Source, Steps, Told, push_pieces};
+use minidump_bytes::{Endian, Piece, Source, Steps, Told, copied, push_pieces};
 use minidump_format::format::MINIDUMP_SYSTEM_INFO;
 use minidump_format::{Error, put_made};
 use std::alloc::{AllocError, Global};
@@ -27,6 +30,43 @@ pub struct MinidumpSystemInfo {
 }
 
 impl MinidumpSystemInfo {
+    /// Reads it from the bytes of its stream and those of its file, in two steps. `StreamReadFailure` where
+    /// the stream is shorter than the record.
+    pub fn read_record(
+        alloc: Global,
+        bytes: Source<'_>,
+        all: Source<'_>,
+        endian: Endian,
+        steps: &mut Steps,
+    ) -> Result<MinidumpSystemInfo, Error>
+        ensures means { Gives system_of (IsOk (system_read (bytes_of bytes.entry) (bytes_of all.entry) endian)) result
+            (system_read (bytes_of bytes.entry) (bytes_of all.entry) endian) }
+        ensures within { steps.new ≤ steps.old + 2 }
+        ensures begun { after steps.old 1 ≤ steps.new }
+        ensures steps { IfOk result (λ _. steps.new ≡ after steps.old 2) }
+    {
+        let raw: MINIDUMP_SYSTEM_INFO = bytes
+            .record(0, endian, steps)
+            .ok_or(Error::StreamReadFailure)?;
+        let cpu = Cpu::from_processor_architecture(raw.processor_architecture);
+        let csd_version = all.text16(alloc, raw.csd_version_rva as u64, endian, steps)?;
+        let cpu_info = made_cpu_info(
+            alloc,
+            cpu,
+            raw.processor_level,
+            raw.processor_revision,
+            &raw.cpu,
+            endian,
+        )?;
+        Ok(MinidumpSystemInfo {
+            raw,
+            os: Os::from_platform_id(raw.platform_id),
+            cpu,
+            csd_version,
+            cpu_info,
+        })
+    }
+
     /// The text of the service pack, or of the kernel, where the dump has one.
     pub fn csd_version(&self) -> Option<&str>
         ensures { option_copied result ≡ (system_of self.now).csd_version }
@@ -45,10 +85,9 @@ impl MinidumpSystemInfo {
     /// dots, and the build the trimmed text of the service pack; but a Linux system that left the numbers
     /// at 0 wrote both into the text, as `uname -srvmo` does.
     pub fn os_parts(&self, alloc: Global) -> Result<(String, Option<String>), Error>
-        ensures means { IfOk result (λ r. (string_bytes r.0, option_map string_bytes r.1)
+        ensures { IsOkUnless result (λ r. (string_bytes r.0, option_map string_bytes r.1)
             ≡ os_parts_of self.now.raw.major_version self.now.raw.minor_version self.now.raw.build_number
             self.now.raw.platform_id (system_of self.now).csd_version) }
-        ensures memory { IfErr result (λ e. e ≡ Error.OutOfMemory) }
     {
         let raw = &self.raw;
         os_parts(
@@ -70,8 +109,7 @@ impl MinidumpSystemInfo {
 
     /// The same value.
     pub fn try_clone(&self, alloc: Global) -> Result<MinidumpSystemInfo, Error>
-        ensures same { IfOk result (λ s. system_of s ≡ system_of self.now) }
-        ensures memory { IfErr result (λ e. e ≡ Error.OutOfMemory) }
+        ensures { IsOkUnless result (λ s. system_of s ≡ system_of self.now) }
     {
         Ok(MinidumpSystemInfo {
             raw: self.raw,
@@ -83,20 +121,13 @@ impl MinidumpSystemInfo {
     }
 }
 
-fn copied(alloc: Global, text: &Option<String>) -> Result<Option<String>, AllocError>
-    ensures { IfOk result (λ t. option_map string_bytes t ≡ option_map string_bytes text.now) }
-{
-    match text {
-        None => Ok(None),
-        Some(text) => Ok(Some(String::from_str(alloc, text.as_str())?)),
-    }
-}
-
 impl<'a> MinidumpStream<'a> for MinidumpSystemInfo {
     ghost use Rattle.std.specs.Prelude.{⊤};
+    ghost use Rattle.minidump_format.specs.StreamType.{number_of};
+    ghost use Rattle.minidump_format.specs.declared.format.stream_type.MINIDUMP_STREAM_TYPE.TheVariants.{SystemInfoStream};
     ghost use Rattle.minidump_system.specs.SystemInfo.{System, system_in};
 
-    ghost type_number = { 7 };
+    ghost type_number = { number_of SystemInfoStream };
 
     const STREAM_TYPE: u32 = 7;
 
@@ -112,9 +143,7 @@ impl<'a> MinidumpStream<'a> for MinidumpSystemInfo {
 
     ghost takes_memory = { λ bytes order. ⊤ };
 
-    fn number_of_type() -> u32
-        ensures { result ≡ 7 }
-    {
+    fn number_of_type() -> u32 {
         Self::STREAM_TYPE
     }
 
@@ -129,26 +158,7 @@ impl<'a> MinidumpStream<'a> for MinidumpSystemInfo {
         if let Some(system) = system_info {
             return system.try_clone(alloc);
         }
-        let raw: MINIDUMP_SYSTEM_INFO = bytes
-            .record(0, endian, steps)
-            .ok_or(Error::StreamReadFailure)?;
-        let cpu = Cpu::from_processor_architecture(raw.processor_architecture);
-        let csd_version = all.text16(alloc, raw.csd_version_rva as u64, endian, steps)?;
-        let cpu_info = made_cpu_info(
-            alloc,
-            cpu,
-            raw.processor_level,
-            raw.processor_revision,
-            &raw.cpu,
-            endian,
-        )?;
-        Ok(MinidumpSystemInfo {
-            raw,
-            os: Os::from_platform_id(raw.platform_id),
-            cpu,
-            csd_version,
-            cpu_info,
-        })
+        MinidumpSystemInfo::read_record(alloc, bytes, all, endian, steps)
     }
 }
 

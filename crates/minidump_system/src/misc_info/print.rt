@@ -6,8 +6,7 @@ ghost use Rattle.minidump_bytes.specs.Text16.{text_before_nul};
 ghost use Rattle.minidump_format.specs.Print.{Prints};
 ghost use Rattle.minidump_format.specs.Xstate.{xstate_features, feature_of};
 ghost use Rattle.minidump_system.specs.Dates.{system_time_text};
-ghost use Rattle.minidump_system.specs.MiscInfo.{raw_of};
-ghost use Rattle.minidump_system.specs.MiscInfoText.{head_text, create_time_line, create_time_text, times_text, processor_text, policy_text, zone_lines, bias_line, standard_lines, daylight_lines, time_zone_text, shown_units, lines_of_builds, builds_text, feature_name, feature_text, feature_lines, xstate_text, cookie_text, process_text, settings_text, misc_info_text};
+ghost use Rattle.minidump_system.specs.MiscInfo.{head_text, create_time_line, create_time_text, times_text, processor_text, policy_text, zone_lines, bias_line, standard_lines, daylight_lines, time_zone_text, shown_units, lines_of_builds, builds_text, feature_name, feature_text, feature_lines, xstate_text, cookie_text, process_text, raw_of, settings_text, misc_info_text};
 
 use crate::dates::{made_date, made_system_time};
 use crate::{MinidumpMiscInfo, RawMiscInfo};
@@ -56,7 +55,7 @@ fn push_settings(alloc: Global, out: &mut String, raw: &RawMiscInfo) -> Result<(
     push_builds(alloc, out, raw)
 }
 
-#[tactic(auto, unfolding(crate::specs::MiscInfoText::head_text))]
+#[tactic(auto, unfolding(crate::specs::MiscInfo::head_text))]
 fn push_head(out: &mut String, raw: &RawMiscInfo) -> Result<(), AllocError>
     ensures { OnOk result (string_bytes out.new ≡ string_bytes out.old ++ head_text raw.now) }
 {
@@ -74,7 +73,7 @@ fn push_head(out: &mut String, raw: &RawMiscInfo) -> Result<(), AllocError>
     )
 }
 
-#[tactic(auto, unfolding(crate::specs::MiscInfoText::times_text))]
+#[tactic(auto, unfolding(crate::specs::MiscInfo::times_text))]
 fn push_times(out: &mut String, raw: &RawMiscInfo) -> Result<(), AllocError>
     ensures { OnOk result (string_bytes out.new ≡ string_bytes out.old ++ times_text raw.now) }
 {
@@ -90,7 +89,7 @@ fn push_times(out: &mut String, raw: &RawMiscInfo) -> Result<(), AllocError>
     )
 }
 
-#[tactic(auto, unfolding(crate::specs::MiscInfoText::processor_text))]
+#[tactic(auto, unfolding(crate::specs::MiscInfo::processor_text))]
 fn push_processor(out: &mut String, raw: &RawMiscInfo) -> Result<(), AllocError>
     ensures { OnOk result (string_bytes out.new ≡ string_bytes out.old ++ processor_text raw.now) }
 {
@@ -112,7 +111,7 @@ fn push_processor(out: &mut String, raw: &RawMiscInfo) -> Result<(), AllocError>
     )
 }
 
-#[tactic(auto, unfolding(crate::specs::MiscInfoText::policy_text))]
+#[tactic(auto, unfolding(crate::specs::MiscInfo::policy_text))]
 fn push_policy(out: &mut String, raw: &RawMiscInfo) -> Result<(), AllocError>
     ensures { OnOk result (string_bytes out.new ≡ string_bytes out.old ++ policy_text raw.now) }
 {
@@ -142,7 +141,7 @@ fn push_create_time(alloc: Global, out: &mut String, raw: &RawMiscInfo) -> Resul
     }
 }
 
-#[tactic(auto, unfolding(crate::specs::MiscInfoText::create_time_line))]
+#[tactic(auto, unfolding(crate::specs::MiscInfo::create_time_line))]
 fn push_date(alloc: Global, out: &mut String, seconds: u32) -> Result<(), AllocError>
     ensures { OnOk result (string_bytes out.new ≡ string_bytes out.old ++ create_time_line seconds) }
 {
@@ -168,7 +167,7 @@ fn push_time_zone(alloc: Global, out: &mut String, raw: &RawMiscInfo) -> Result<
     }
 }
 
-#[tactic(auto, unfolding(crate::specs::MiscInfoText::zone_lines))]
+#[tactic(auto, unfolding(crate::specs::MiscInfo::zone_lines))]
 fn push_zone(
     alloc: Global,
     out: &mut String,
@@ -183,7 +182,7 @@ fn push_zone(
     push_bias(out, "    daylight_bias = ", zone.daylight_bias)
 }
 
-#[tactic(auto, unfolding(crate::specs::MiscInfoText::bias_line))]
+#[tactic(auto, unfolding(crate::specs::MiscInfo::bias_line))]
 fn push_bias(out: &mut String, words: &'static str, bias: i32) -> Result<(), AllocError>
     ensures { OnOk result (string_bytes out.new ≡ string_bytes out.old ++ bias_line words.now bias) }
 {
@@ -206,7 +205,7 @@ fn push_standard(
     push_standard_lines(out, name.as_str(), date.as_str())
 }
 
-#[tactic(auto, unfolding(crate::specs::MiscInfoText::standard_lines))]
+#[tactic(auto, unfolding(crate::specs::MiscInfo::standard_lines))]
 fn push_standard_lines<'t>(out: &mut String, name: &'t str, date: &'t str) -> Result<(), AllocError>
     ensures { OnOk result (string_bytes out.new ≡ string_bytes out.old ++ standard_lines name.now date.now) }
 {
@@ -235,7 +234,7 @@ fn push_daylight(
     push_daylight_lines(out, name.as_str(), date.as_str())
 }
 
-#[tactic(auto, unfolding(crate::specs::MiscInfoText::daylight_lines))]
+#[tactic(auto, unfolding(crate::specs::MiscInfo::daylight_lines))]
 fn push_daylight_lines<'t>(out: &mut String, name: &'t str, date: &'t str) -> Result<(), AllocError>
     ensures { OnOk result (string_bytes out.new ≡ string_bytes out.old ++ daylight_lines name.now date.now) }
 {
@@ -275,7 +274,7 @@ fn push_builds(alloc: Global, out: &mut String, raw: &RawMiscInfo) -> Result<(),
     push_build_lines(out, build.as_str(), debug_build.as_str())
 }
 
-#[tactic(auto, unfolding(crate::specs::MiscInfoText::lines_of_builds))]
+#[tactic(auto, unfolding(crate::specs::MiscInfo::lines_of_builds))]
 fn push_build_lines<'t>(
     out: &mut String,
     build: &'t str,
@@ -318,7 +317,7 @@ fn push_features(
     Ok(())
 }
 
-#[tactic(auto, unfolding(crate::specs::MiscInfoText::feature_text))]
+#[tactic(auto, unfolding(crate::specs::MiscInfo::feature_text))]
 fn push_feature(out: &mut String, index: usize, feature: &XSTATE_FEATURE) -> Result<(), AllocError>
     ensures { OnOk result (string_bytes out.new ≡ string_bytes out.old ++ feature_text (index, feature.now)) }
 {
@@ -342,7 +341,7 @@ fn push_feature(out: &mut String, index: usize, feature: &XSTATE_FEATURE) -> Res
     )
 }
 
-#[tactic(auto, unfolding(crate::specs::MiscInfoText::cookie_text))]
+#[tactic(auto, unfolding(crate::specs::MiscInfo::cookie_text))]
 fn push_cookie(out: &mut String, raw: &RawMiscInfo) -> Result<(), AllocError>
     ensures { OnOk result (string_bytes out.new ≡ string_bytes out.old ++ cookie_text raw.now) }
 {

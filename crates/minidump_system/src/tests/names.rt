@@ -3,6 +3,7 @@ use crate::dates::made_system_time;
 use crate::{Cpu, Os, PointerWidth, date_text};
 use minidump_bytes::Endian;
 use minidump_format::format::SYSTEMTIME;
+use std::alloc::Global;
 use std::test::Fail;
 
 #[test]
@@ -95,7 +96,8 @@ fn names_systems(rt: HostRuntime) -> Result<(), Fail> {
         (0x8203, Os::Android, "android", "Android"),
         (0x8204, Os::Ps3, "ps3", "PS3"),
         (0x8205, Os::NaCl, "nacl", "NaCl"),
-        (7, Os::Unknown(7), "unknown", "0x000007"),
+        (0, Os::Unknown(0), "unknown", "0x000000"),
+        (3, Os::Unknown(3), "unknown", "0x000003"),
         (
             0x12ab_34cd,
             Os::Unknown(0x12ab_34cd),
@@ -125,6 +127,7 @@ fn names_processors(rt: HostRuntime) -> Result<(), Fail> {
         (0x8003, Cpu::Arm64, "arm64", Some(8)),
         (1, Cpu::Mips, "mips", Some(4)),
         (0x8004, Cpu::Mips64, "mips64", Some(8)),
+        (2, Cpu::Unknown(2), "unknown", None),
         (77, Cpu::Unknown(77), "unknown", None),
     ] {
         assert_eq!(rt; Cpu::from_processor_architecture(number), cpu);
@@ -197,6 +200,71 @@ fn describes_arm(rt: HostRuntime) -> Result<(), Fail> {
             Endian::Little,
         )?;
         assert_eq!(rt; info.as_deref(), Some(text));
+    }
+    Ok(())
+}
+
+// What an ARM processor of level 7 says of itself.
+fn arm_info(alloc: Global, cpuid: u32, elf_hwcaps: u32) -> Result<Option<String>, Fail> {
+    let bytes = arm(cpuid, elf_hwcaps);
+    Ok(made_cpu_info(alloc, Cpu::Arm, 7, 0, &bytes, Endian::Little)?)
+}
+
+#[test]
+fn names_arm_vendors_and_parts(rt: HostRuntime) -> Result<(), Fail> {
+    let alloc = rt.alloc();
+    for (cpuid, text) in [
+        (0x4100_c050, "ARMv7 ARM Cortex-A5"),
+        (0x4100_c080, "ARMv7 ARM Cortex-A8"),
+        (0x4100_c090, "ARMv7 ARM Cortex-A9"),
+        (0x4100_c0f0, "ARMv7 ARM Cortex-A15"),
+        (0x4100_c140, "ARMv7 ARM Cortex-R4"),
+        (0x4100_c150, "ARMv7 ARM Cortex-R5"),
+        (0x4100_b360, "ARMv7 ARM ARM1136"),
+        (0x4100_b560, "ARMv7 ARM ARM1156"),
+        (0x4100_b760, "ARMv7 ARM ARM1176"),
+        (0x4100_b020, "ARMv7 ARM ARM11-MPCore"),
+        (0x4100_9260, "ARMv7 ARM ARM926"),
+        (0x4100_9460, "ARMv7 ARM ARM946"),
+        (0x4100_9660, "ARMv7 ARM ARM966"),
+        (0x5100_06f0, "ARMv7 Qualcomm Krait"),
+        (0x5100_00f0, "ARMv7 Qualcomm Scorpion"),
+        (0x5600_0000, "ARMv7 Marvell part(0x56000000)"),
+        (0x6900_0000, "ARMv7 Intel/Marvell part(0x69000000)"),
+        (0x5700_c050, "ARMv7 vendor(0x57) part(0x5700c050)"),
+    ] {
+        assert_eq!(rt; arm_info(alloc, cpuid, 0)?.as_deref(), Some(text));
+    }
+    Ok(())
+}
+
+#[test]
+fn names_arm_features(rt: HostRuntime) -> Result<(), Fail> {
+    let alloc = rt.alloc();
+    for (bit, text) in [
+        (0, "ARMv7 features: swp"),
+        (1, "ARMv7 features: half"),
+        (2, "ARMv7 features: thumb"),
+        (3, "ARMv7 features: 26bit"),
+        (4, "ARMv7 features: fastmult"),
+        (5, "ARMv7 features: fpa"),
+        (6, "ARMv7 features: vfpv2"),
+        (7, "ARMv7 features: edsp"),
+        (8, "ARMv7 features: java"),
+        (9, "ARMv7 features: iwmmxt"),
+        (10, "ARMv7 features: crunch"),
+        (11, "ARMv7 features: thumbee"),
+        (12, "ARMv7 features: neon"),
+        (13, "ARMv7 features: vfpv3"),
+        (14, "ARMv7 features: vfpv3d16"),
+        (15, "ARMv7 features: tls"),
+        (16, "ARMv7 features: vfpv4"),
+        (17, "ARMv7 features: idiva"),
+        (18, "ARMv7 features: idivt"),
+        (19, "ARMv7"),
+        (31, "ARMv7"),
+    ] {
+        assert_eq!(rt; arm_info(alloc, 0, 1 << bit)?.as_deref(), Some(text));
     }
     Ok(())
 }

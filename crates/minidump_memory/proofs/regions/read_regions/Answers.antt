@@ -3,7 +3,7 @@ use Rattle.std.specs.Result.{result_ok}
 use Rattle.minidump_bytes.specs.Source.{bytes_of}
 use Rattle.minidump_format.specs.declared.format.memory.MINIDUMP_MEMORY_DESCRIPTOR.{MINIDUMP_MEMORY_DESCRIPTOR}
 use Rattle.minidump_memory.specs.Memory.{described, memory_of}
-use Rattle.minidump_system.proofs.ListLemmas.{kept_none, kept_some}
+use Rattle.minidump_bytes.proofs.ListLemmas.{kept_none, kept_some}
 use Rattle.minidump_memory.proofs.regions.read_regions.Goals as goal
 use Rattle.minidump_memory.proofs.regions.read_regions.Goals.{in-Some+in_ok-push, in_default}
 

@@ -2,7 +2,7 @@ use Rattle.std.proofs.Common.{arith, ℕ, sym}
 use Rattle.minidump_bytes.specs.Source.{bytes_of}
 use Rattle.minidump_format.specs.declared.format.memory.MINIDUMP_MEMORY_DESCRIPTOR64.{MINIDUMP_MEMORY_DESCRIPTOR64}
 use Rattle.minidump_system.specs.Framing.{List64}
-use Rattle.minidump_system.proofs.ListLemmas.{numbered_more}
+use Rattle.minidump_bytes.proofs.ListLemmas.{numbered_more}
 use Rattle.minidump_memory.specs.Memory.{memory_of}
 use Rattle.minidump_memory.specs.MemoryList.{place_64, placed}
 use Rattle.minidump_memory.proofs.PlacedLemmas.{place_more}

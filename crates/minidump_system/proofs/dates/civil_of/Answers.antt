@@ -1,3 +1,4 @@
+-- The casts keep each part of the moment.
 use Rattle.std.proofs.Common.{◌≡◌, ◌*◌, ◌*ℤ◌, pos, to_z, of_z, w8, w16, w32, arith}
 use Rattle.std.proofs.lemmas.Int.{ints}
 use Rattle.minidump_system.proofs.MomentFacts.{civil_is}

@@ -1,3 +1,4 @@
+-- The date in UTC of the instant, and its text.
 use Rattle.std.proofs.Common.{◌≡◌, pos, ◌*◌, ◌*ℤ◌, ◌^◌, ◌<◌, arith, to_z, w64, ◌∙◌}
 use Rattle.std.proofs.lemmas.Result.{IfOk-weaker, IfOk-at_ok}
 use Rattle.std.proofs.lemmas.Int.{ints}

@@ -1,3 +1,4 @@
+-- The text of the moment, or of none.
 use Rattle.std.proofs.Common.{◌∙◌}
 use Rattle.std.proofs.lemmas.Result.{IfOk-weaker}
 use Rattle.minidump_system.proofs.MomentText.{moment_text_is, no_moment_text}

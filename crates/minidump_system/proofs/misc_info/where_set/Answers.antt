@@ -1,3 +1,4 @@
+-- Truncated flags hold a known flag where the word does.
 use Rattle.std.proofs.Common.{refl, sym, ◌∙◌, ◌≡◌, true, false}
 use Rattle.minidump_format.specs.Flags.{has_flag, has_misc_info_flag}
 use Rattle.minidump_system.proofs.misc_info.where_set.Goals as goal

@@ -1,3 +1,4 @@
+-- The formatted number has at least six digits.
 use Rattle.minidump_system.proofs.HexLemmas.{hex_six}
 use Rattle.minidump_system.proofs.os.made_number.Goals as goal
 

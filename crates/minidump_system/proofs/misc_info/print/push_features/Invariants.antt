@@ -1,7 +1,8 @@
+-- The text so far, and that of the features left, are the whole.
 use Rattle.std.proofs.Common.{◌≡◌, ◌++◌, string_bytes}
 use Rattle.std.specs.List.{flat_map}
 use Rattle.minidump_format.specs.Xstate.{features_left, xstate_features}
-use Rattle.minidump_system.specs.MiscInfoText.{feature_text}
+use Rattle.minidump_system.specs.MiscInfo.{feature_text}
 use Rattle.minidump_system.proofs.misc_info.print.push_features.Given as goal
 
 abbrev pub invariant-loop-index : goal.invariant-loop-index

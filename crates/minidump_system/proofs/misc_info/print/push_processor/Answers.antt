@@ -1,4 +1,5 @@
-use Rattle.minidump_system.specs.MiscInfoText.{processor_text}
+-- The pieces are the fields.
+use Rattle.minidump_system.specs.MiscInfo.{processor_text}
 use Rattle.minidump_system.proofs.misc_info.print.push_processor.Goals as goal
 
 pub returns : goal.returns

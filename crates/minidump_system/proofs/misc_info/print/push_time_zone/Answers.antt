@@ -1,3 +1,4 @@
+-- The lines stand behind their label.
 use Rattle.std.proofs.Common.{append_assoc}
 use Rattle.minidump_system.proofs.misc_info.print.push_time_zone.Goals as goal
 

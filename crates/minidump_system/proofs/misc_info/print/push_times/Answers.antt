@@ -1,4 +1,5 @@
-use Rattle.minidump_system.specs.MiscInfoText.{times_text}
+-- The pieces are the fields.
+use Rattle.minidump_system.specs.MiscInfo.{times_text}
 use Rattle.minidump_system.proofs.misc_info.print.push_times.Goals as goal
 
 pub returns : goal.returns

@@ -1,8 +1,9 @@
+-- The parts of a time zone, one behind another.
 use Rattle.std.proofs.Common.{rules, append_assoc}
 use Rattle.std.proofs.lemmas.Int.{to_z-of_z}
 use mir.Val.{SFits}
 use mir.Syntax.{w32}
-use Rattle.minidump_system.specs.MiscInfoText.{zone_lines}
+use Rattle.minidump_system.specs.MiscInfo.{zone_lines}
 use Rattle.minidump_system.proofs.misc_info.print.push_zone.Goals as goal
 
 pub returns : goal.returns
