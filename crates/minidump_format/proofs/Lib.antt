@@ -1,4 +1,7 @@
+-- Lemmas on the records, for this crate and those above.
 pub mod ContextFlags
+pub mod Equality
+pub mod FlagLemmas
 pub mod Printing
 pub mod XstateLemmas
 pub mod GuidLemmas

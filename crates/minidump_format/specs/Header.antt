@@ -8,7 +8,7 @@ use Rattle.minidump_format.specs.declared.format.header.MINIDUMP_HEADER.{MINIDUM
 use Rattle.minidump_format.specs.declared.format.header.MINIDUMP_LOCATION_DESCRIPTOR.{MINIDUMP_LOCATION_DESCRIPTOR}
 use Rattle.minidump_format.specs.declared.format.header.MINIDUMP_DIRECTORY.{MINIDUMP_DIRECTORY}
 
--- 32 bytes
+-- Microsoft's MINIDUMP_HEADER
 abbrev pub header : Layout MINIDUMP_HEADER
 header = record {
   size = 32;
@@ -23,7 +23,7 @@ header = record {
   };
 }
 
--- 8 bytes
+-- Microsoft's MINIDUMP_LOCATION_DESCRIPTOR
 abbrev pub location : Layout MINIDUMP_LOCATION_DESCRIPTOR
 location = record {
   size = 8;
@@ -33,7 +33,7 @@ location = record {
   };
 }
 
--- 12 bytes
+-- Microsoft's MINIDUMP_DIRECTORY
 abbrev pub directory_entry : Layout MINIDUMP_DIRECTORY
 directory_entry = record {
   size = 12;

@@ -1,3 +1,4 @@
+-- What the records mean, the types of stream, and what a call that prints answers.
 pub mod Error
 pub mod Answer
 pub mod Print

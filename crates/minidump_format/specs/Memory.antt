@@ -7,7 +7,7 @@ use Rattle.minidump_format.specs.Header.{location}
 use Rattle.minidump_format.specs.declared.format.memory.MINIDUMP_MEMORY_DESCRIPTOR.{MINIDUMP_MEMORY_DESCRIPTOR}
 use Rattle.minidump_format.specs.declared.format.memory.MINIDUMP_MEMORY_DESCRIPTOR64.{MINIDUMP_MEMORY_DESCRIPTOR64}
 
--- 16 bytes
+-- Microsoft's MINIDUMP_MEMORY_DESCRIPTOR
 abbrev pub memory_descriptor : Layout MINIDUMP_MEMORY_DESCRIPTOR
 memory_descriptor = record {
   size = 16;
@@ -17,7 +17,7 @@ memory_descriptor = record {
   };
 }
 
--- 16 bytes
+-- Microsoft's MINIDUMP_MEMORY_DESCRIPTOR64
 abbrev pub memory_descriptor_64 : Layout MINIDUMP_MEMORY_DESCRIPTOR64
 memory_descriptor_64 = record {
   size = 16;

@@ -15,7 +15,7 @@ use Rattle.minidump_format.specs.declared.format.misc.XSTATE_FEATURE.{XSTATE_FEA
 use Rattle.minidump_format.specs.declared.format.misc.XSTATE_CONFIG_FEATURE_MSC_INFO.{XSTATE_CONFIG_FEATURE_MSC_INFO}
 use Rattle.minidump_format.specs.declared.format.misc.MINIDUMP_MISC_INFO_5.{MINIDUMP_MISC_INFO_5}
 
--- 24 bytes
+-- Microsoft's MINIDUMP_MISC_INFO
 abbrev pub misc_info : Layout MINIDUMP_MISC_INFO
 misc_info = record {
   size = 24;
@@ -29,7 +29,7 @@ misc_info = record {
   };
 }
 
--- 44 bytes
+-- Microsoft's MINIDUMP_MISC_INFO_2
 abbrev pub misc_info_2 : Layout MINIDUMP_MISC_INFO_2
 misc_info_2 = record {
   size = 44;
@@ -48,7 +48,7 @@ misc_info_2 = record {
   };
 }
 
--- 16 bytes
+-- Microsoft's SYSTEMTIME
 abbrev pub system_time : Layout SYSTEMTIME
 system_time = record {
   size = 16;
@@ -64,7 +64,7 @@ system_time = record {
   };
 }
 
--- 172 bytes
+-- Microsoft's TIME_ZONE_INFORMATION
 abbrev pub time_zone : Layout TIME_ZONE_INFORMATION
 time_zone = record {
   size = 172;
@@ -79,7 +79,7 @@ time_zone = record {
   };
 }
 
--- 232 bytes
+-- Microsoft's MINIDUMP_MISC_INFO_3
 abbrev pub misc_info_3 : Layout MINIDUMP_MISC_INFO_3
 misc_info_3 = record {
   size = 232;
@@ -103,7 +103,7 @@ misc_info_3 = record {
   };
 }
 
--- 832 bytes
+-- Microsoft's MINIDUMP_MISC_INFO_4
 abbrev pub misc_info_4 : Layout MINIDUMP_MISC_INFO_4
 misc_info_4 = record {
   size = 832;
@@ -129,7 +129,7 @@ misc_info_4 = record {
   };
 }
 
--- 8 bytes
+-- Microsoft's XSTATE_FEATURE
 abbrev pub xstate_feature : Layout XSTATE_FEATURE
 xstate_feature = record {
   size = 8;
@@ -139,7 +139,7 @@ xstate_feature = record {
   };
 }
 
--- 528 bytes
+-- Microsoft's XSTATE_CONFIG_FEATURE_MSC_INFO
 abbrev pub xstate_config : Layout XSTATE_CONFIG_FEATURE_MSC_INFO
 xstate_config = record {
   size = 528;
@@ -151,7 +151,7 @@ xstate_config = record {
   };
 }
 
--- 1364 bytes
+-- Microsoft's MINIDUMP_MISC_INFO_5
 abbrev pub misc_info_5 : Layout MINIDUMP_MISC_INFO_5
 misc_info_5 = record {
   size = 1364;

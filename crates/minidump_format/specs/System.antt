@@ -13,7 +13,7 @@ use Rattle.minidump_format.specs.declared.format.system.PlatformId.{PlatformId}
 use Rattle.minidump_format.specs.declared.format.system.ProcessorArchitecture.TheVariants.{PROCESSOR_ARCHITECTURE_INTEL, PROCESSOR_ARCHITECTURE_MIPS, PROCESSOR_ARCHITECTURE_PPC, PROCESSOR_ARCHITECTURE_ARM, PROCESSOR_ARCHITECTURE_AMD64, PROCESSOR_ARCHITECTURE_IA32_ON_WIN64, PROCESSOR_ARCHITECTURE_ARM64, PROCESSOR_ARCHITECTURE_SPARC, PROCESSOR_ARCHITECTURE_PPC64, PROCESSOR_ARCHITECTURE_ARM64_OLD, PROCESSOR_ARCHITECTURE_MIPS64}
 use Rattle.minidump_format.specs.declared.format.system.PlatformId.TheVariants.{VER_PLATFORM_WIN32_WINDOWS, VER_PLATFORM_WIN32_NT, MacOs, Ios, Linux, Solaris, Android, Ps3, NaCl}
 
--- 56 bytes
+-- Microsoft's MINIDUMP_SYSTEM_INFO
 abbrev pub system_info : Layout MINIDUMP_SYSTEM_INFO
 system_info = record {
   size = 56;
@@ -34,7 +34,7 @@ system_info = record {
   };
 }
 
--- 24 bytes
+-- Microsoft's X86CpuInfo of CPU_INFORMATION
 abbrev pub x86_cpu_info : Layout X86CpuInfo
 x86_cpu_info = record {
   size = 24;
@@ -44,7 +44,7 @@ x86_cpu_info = record {
   };
 }
 
--- 8 bytes
+-- Breakpad's arm_cpu_info of MDCPUInformation
 abbrev pub arm_cpu_info : Layout ARMCpuInfo
 arm_cpu_info = record {
   size = 8;

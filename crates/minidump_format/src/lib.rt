@@ -3,7 +3,9 @@
 #![tactic(auto)]
 
 mod error;
+mod exact;
 pub mod format;
+pub mod laws;
 mod print;
 mod vendor;
 

@@ -1,5 +1,5 @@
 ghost use Rattle.std.specs.Prelude.{◌≡◌};
-ghost use Rattle.minidump_format.specs.StreamType.{is_unimplemented, type_name, stream_type_of};
+ghost use Rattle.minidump_format.specs.StreamType.{is_unimplemented, number_of, type_name, stream_type_of};
 
 /// The types of stream that have a name: Microsoft's `MINIDUMP_STREAM_TYPE`, with the extensions of
 /// Breakpad, Crashpad and Mozilla.
@@ -126,6 +126,13 @@ impl MINIDUMP_STREAM_TYPE {
             0x4b6b_0002 => MINIDUMP_STREAM_TYPE::StabilityReportStream,
             _ => return None,
         })
+    }
+
+    /// The number of the type.
+    pub fn number(self) -> u32
+        ensures { result ≡ number_of self }
+    {
+        self as u32
     }
 
     /// The name of the type, as it stands in this enum.

@@ -1,6 +1,6 @@
 ghost use Rattle.std.proofs.Common.{rules};
 ghost use Rattle.std.specs.Prelude.{◌≡◌};
-ghost use Rattle.minidump_format.specs.System.{architecture_of, platform_of};
+ghost use Rattle.minidump_format.specs.System.{architecture_number, architecture_of, platform_number, platform_of};
 
 use super::RVA;
 use minidump_bytes::{Endian, Record, array_at};
@@ -148,6 +148,13 @@ impl ProcessorArchitecture {
             _ => return None,
         })
     }
+
+    /// The number of the architecture.
+    pub fn number(self) -> u16
+        ensures { result ≡ architecture_number self }
+    {
+        self as u16
+    }
 }
 
 /// The operating systems that have a name: Microsoft's, with Breakpad's extensions.
@@ -182,5 +189,12 @@ impl PlatformId {
             0x8205 => PlatformId::NaCl,
             _ => return None,
         })
+    }
+
+    /// The number of the system.
+    pub fn number(self) -> u32
+        ensures { result ≡ platform_number self }
+    {
+        self as u32
     }
 }

@@ -1,6 +1,6 @@
 ghost use Rattle.std.specs.Prelude.{◌≡◌};
 ghost use Rattle.std.specs.Iterator.{YieldsFirst, item_count};
-ghost use Rattle.minidump_format.specs.Xstate.{xstate_features, features_left, feature_of, index_name};
+ghost use Rattle.minidump_format.specs.Xstate.{xstate_features, features_left, feature_of, index_name, index_of};
 
 use super::{XSTATE_CONFIG_FEATURE_MSC_INFO, XSTATE_FEATURE};
 
@@ -78,6 +78,13 @@ impl XstateFeatureIndex {
             62 => XstateFeatureIndex::LWP,
             _ => return None,
         })
+    }
+
+    /// The index of the feature.
+    pub fn number(self) -> usize
+        ensures { result ≡ index_of self }
+    {
+        self as usize
     }
 
     /// Its name.
