@@ -11,7 +11,15 @@ use Rattle.minidump_format.specs.declared.format.misc.XSTATE_CONFIG_FEATURE_MSC_
 use Rattle.minidump_format.specs.declared.format.misc.MINIDUMP_MISC_INFO_3.{MINIDUMP_MISC_INFO_3}
 use Rattle.minidump_format.specs.declared.format.misc.MINIDUMP_MISC_INFO_4.{MINIDUMP_MISC_INFO_4}
 use Rattle.minidump_format.specs.declared.format.misc.MINIDUMP_MISC_INFO_5.{MINIDUMP_MISC_INFO_5}
+use Rattle.minidump_format.specs.declared.format.header.MINIDUMP_LOCATION_DESCRIPTOR.{MINIDUMP_LOCATION_DESCRIPTOR}
+use Rattle.minidump_format.specs.declared.format.module.VS_FIXEDFILEINFO.{VS_FIXEDFILEINFO}
+use Rattle.minidump_format.specs.declared.format.module.MINIDUMP_MODULE.{MINIDUMP_MODULE}
+use Rattle.minidump_format.specs.declared.format.mac.MINIDUMP_MAC_CRASH_INFO.{MINIDUMP_MAC_CRASH_INFO}
 use Rattle.minidump_format.specs.contracts.format.misc.XSTATE_FEATUREPartialEq.TheImpl.{ghosts as feature}
+use Rattle.minidump_format.specs.contracts.format.header.MINIDUMP_LOCATION_DESCRIPTORPartialEq.TheImpl.{ghosts as location}
+use Rattle.minidump_format.specs.contracts.format.module.VS_FIXEDFILEINFOPartialEq.TheImpl.{ghosts as version}
+use Rattle.minidump_format.specs.contracts.format.module.MINIDUMP_MODULEPartialEq.TheImpl.{ghosts as image}
+use Rattle.minidump_format.specs.contracts.format.mac.MINIDUMP_MAC_CRASH_INFOPartialEq.TheImpl.{ghosts as mac}
 use Rattle.minidump_format.specs.contracts.format.misc.SYSTEMTIMEPartialEq.TheImpl.{ghosts as time}
 use Rattle.minidump_format.specs.contracts.format.misc.TIME_ZONE_INFORMATIONPartialEq.TheImpl.{ghosts as zone}
 use Rattle.minidump_format.specs.contracts.format.misc.XSTATE_CONFIG_FEATURE_MSC_INFOPartialEq.TheImpl.{ghosts as config}
@@ -202,3 +210,54 @@ misc_5_only x y h =
 
 pub misc_5_same : (x y : MINIDUMP_MISC_INFO_5) → Decides (misc_5.eq x y) (x ≡ y)
 misc_5_same x y = (misc_5_only x y, λ h. rw (h, features_alike y.xstate_data.features) (search (rules, tests, bytes_eq-Decides)))
+
+location_same : (x y : MINIDUMP_LOCATION_DESCRIPTOR) → Decides (location.eq x y) (x ≡ y)
+location_same x y = (λ h. search rules, λ h. search rules)
+
+locations_alike : (ls : List MINIDUMP_LOCATION_DESCRIPTOR) → pointwise location.eq ls ls ≡ true
+locations_alike ls = (pointwise_decides location_same ls ls).1 refl
+
+version_same : (x y : VS_FIXEDFILEINFO) → Decides (version.eq x y) (x ≡ y)
+version_same x y = (λ h. grind rules, λ h. grind rules)
+
+-- the module
+image_only : (x y : MINIDUMP_MODULE) → image.eq x y ≡ true → x ≡ y
+image_only x y h =
+    then _ _ (Decides-eqb _ _) h λ base_of_image h.
+    then _ _ (Decides-eqb _ _) h λ size_of_image h.
+    then _ _ (Decides-eqb _ _) h λ checksum h.
+    then _ _ (Decides-eqb _ _) h λ time_date_stamp h.
+    then _ _ (Decides-eqb _ _) h λ module_name_rva h.
+    then _ _ (version_same _ _) h λ version_info h.
+    then _ _ (location_same _ _) h λ cv_record h.
+    then _ _ (location_same _ _) h λ misc_record h.
+    λ i. record {
+      base_of_image = base_of_image i;
+      size_of_image = size_of_image i;
+      checksum = checksum i;
+      time_date_stamp = time_date_stamp i;
+      module_name_rva = module_name_rva i;
+      version_info = version_info i;
+      cv_record = cv_record i;
+      misc_record = misc_record i;
+      unused1 = (bytes_eq-Decides x.unused1 y.unused1).0 h i;
+    }
+
+pub image_same : (x y : MINIDUMP_MODULE) → Decides (image.eq x y) (x ≡ y)
+image_same x y = (image_only x y, λ h. rw h (search (rules, tests, bytes_eq-Decides)))
+
+-- the crash information of macOS
+mac_only : (x y : MINIDUMP_MAC_CRASH_INFO) → mac.eq x y ≡ true → x ≡ y
+mac_only x y h =
+    then _ _ (Decides-eqb _ _) h λ stream_type h.
+    then _ _ (Decides-eqb _ _) h λ record_count h.
+    then _ _ (Decides-eqb _ _) h λ record_start_size h.
+    λ i. record {
+      stream_type = stream_type i;
+      record_count = record_count i;
+      record_start_size = record_start_size i;
+      records = (pointwise_decides location_same x.records y.records).0 h i;
+    }
+
+pub mac_same : (x y : MINIDUMP_MAC_CRASH_INFO) → Decides (mac.eq x y) (x ≡ y)
+mac_same x y = (mac_only x y, λ h. rw (h, locations_alike y.records) (search (rules, tests)))

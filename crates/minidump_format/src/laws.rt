@@ -3,19 +3,22 @@ ghost use Rattle.std.specs.Prelude.{◌≡◌};
 ghost use Rattle.minidump_bytes.specs.Exact.{IsExact};
 
 use crate::format::{
-    MINIDUMP_MISC_INFO_3, MINIDUMP_MISC_INFO_4, MINIDUMP_MISC_INFO_5, MINIDUMP_SIGNATURE,
-    MINIDUMP_VERSION, TIME_ZONE_INFORMATION, XSTATE_CONFIG_FEATURE_MSC_INFO,
+    MINIDUMP_MAC_CRASH_INFO, MINIDUMP_MISC_INFO_3, MINIDUMP_MISC_INFO_4, MINIDUMP_MISC_INFO_5,
+    MINIDUMP_MODULE, MINIDUMP_SIGNATURE, MINIDUMP_VERSION, TIME_ZONE_INFORMATION,
+    XSTATE_CONFIG_FEATURE_MSC_INFO,
 };
 
 /// The records that hold other records, or long arrays: `==` holds of the same value alone, and a
 /// clone is the same value. The other types are [`Exact`](minidump_bytes::Exact).
-#[tactic(auto, using(crate::proofs::Equality::zone_same, crate::proofs::Equality::config_same, crate::proofs::Equality::misc_3_same, crate::proofs::Equality::misc_4_same, crate::proofs::Equality::misc_5_same))]
+#[tactic(auto, using(crate::proofs::Equality::zone_same, crate::proofs::Equality::config_same, crate::proofs::Equality::misc_3_same, crate::proofs::Equality::misc_4_same, crate::proofs::Equality::misc_5_same, crate::proofs::Equality::image_same, crate::proofs::Equality::mac_same))]
 pub fn large_records_are_exact()
     ensures time_zone { IsExact ⟦<TIME_ZONE_INFORMATION as PartialEq>⟧.eq ⟦<TIME_ZONE_INFORMATION as Clone>⟧.is_clone }
     ensures xstate { IsExact ⟦<XSTATE_CONFIG_FEATURE_MSC_INFO as PartialEq>⟧.eq ⟦<XSTATE_CONFIG_FEATURE_MSC_INFO as Clone>⟧.is_clone }
     ensures misc_info_3 { IsExact ⟦<MINIDUMP_MISC_INFO_3 as PartialEq>⟧.eq ⟦<MINIDUMP_MISC_INFO_3 as Clone>⟧.is_clone }
     ensures misc_info_4 { IsExact ⟦<MINIDUMP_MISC_INFO_4 as PartialEq>⟧.eq ⟦<MINIDUMP_MISC_INFO_4 as Clone>⟧.is_clone }
     ensures misc_info_5 { IsExact ⟦<MINIDUMP_MISC_INFO_5 as PartialEq>⟧.eq ⟦<MINIDUMP_MISC_INFO_5 as Clone>⟧.is_clone }
+    ensures module { IsExact ⟦<MINIDUMP_MODULE as PartialEq>⟧.eq ⟦<MINIDUMP_MODULE as Clone>⟧.is_clone }
+    ensures mac_crash_info { IsExact ⟦<MINIDUMP_MAC_CRASH_INFO as PartialEq>⟧.eq ⟦<MINIDUMP_MAC_CRASH_INFO as Clone>⟧.is_clone }
 {}
 
 /// The numbers that a header is known by: Microsoft's `MINIDUMP_SIGNATURE` and `MINIDUMP_VERSION`.

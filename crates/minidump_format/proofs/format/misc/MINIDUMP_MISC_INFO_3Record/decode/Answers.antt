@@ -1,6 +1,6 @@
+-- Each field is read at its place.
 use Rattle.minidump_format.proofs.format.misc.MINIDUMP_MISC_INFO_3Record.decode.Goals as goal
 
--- the record by its fields
 pub returns : goal.returns
 returns c = λ i. record {
   size_of_info = c.u32_at.ensures i;

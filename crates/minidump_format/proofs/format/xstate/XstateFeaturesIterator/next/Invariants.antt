@@ -1,3 +1,4 @@
+-- What is left stays the same while features that are not enabled are passed.
 use Rattle.std.proofs.Common.{◌≡◌, ◌-◌}
 use Rattle.minidump_format.specs.Xstate.{features_left}
 use Rattle.minidump_format.proofs.format.xstate.XstateFeaturesIterator.next.Given as goal
