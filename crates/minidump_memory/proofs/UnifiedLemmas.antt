@@ -3,7 +3,7 @@ use Rattle.std.proofs.Common.{◌≡◌, ℕ, List, map, refl, subst, sym}
 use Rattle.std.specs.Prelude.{Option, ◌↔◌}
 use Rattle.std.specs.Option.{option_map}
 use Rattle.std.proofs.lemmas.Simd.{map-map}
-use Rattle.minidump_index.specs.Lookup.{IsByAddress, IsLookedUp, WithinDigits}
+use Rattle.minidump_index.specs.Lookup.{IsByAddress, IsCountedLookup, IsLookedUp}
 use Rattle.minidump_index.proofs.RegionLaws.{lookups_agree, one_list}
 use Rattle.minidump_index.proofs.Views as views
 use Rattle.minidump_memory.specs.declared.memory.MinidumpMemoryBase.{MinidumpMemoryBase}
@@ -20,12 +20,14 @@ module _ {D : Type 0} (kind : D → UnifiedDescriptor) (regions : List (Minidump
   at_views : (P : List UnifiedRegion → Type 0) → P (map view regions) → P seen
   at_views P h = subst P (sym (map-map (of_kind kind) memory_of regions)) h
 
-  pub looked_up : (address : ℕ) (found : Option (MinidumpMemoryBase D)) → IsLookedUp memory_range regions address found → IsLookedUp region_range seen address (option_map view found)
+  looked_up : (address : ℕ) (found : Option (MinidumpMemoryBase D)) → IsLookedUp memory_range regions address found → IsLookedUp region_range seen address (option_map view found)
   looked_up address found h =
       at_views (λ rs. IsLookedUp region_range rs address (option_map view found)) (views.looked_up view memory_range region_range (λ m. refl) regions address found h)
 
-  pub within_digits : (old new : ℕ) → WithinDigits memory_range regions old new → WithinDigits region_range seen old new
-  within_digits old new h = at_views (λ rs. WithinDigits region_range rs old new) (views.within_digits view memory_range region_range (λ m. refl) regions old new h)
+  pub counted : (address old new : ℕ) (found : Option (MinidumpMemoryBase D)) → IsCountedLookup memory_range regions address old new found
+      → IsCountedLookup region_range seen address old new (option_map view found)
+  counted address old new found h =
+      at_views (λ rs. IsCountedLookup region_range rs address old new (option_map view found)) (views.counted view memory_range region_range (λ m. refl) regions address old new found h)
 
   pub by_address : (given : List (MinidumpMemoryBase D)) → IsByAddress memory_range regions given → IsByAddress region_range seen (map (of_kind kind) (map memory_of given))
   by_address given h =

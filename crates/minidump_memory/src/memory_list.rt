@@ -1,8 +1,7 @@
-ghost use Rattle.std.specs.Prelude.{◌≡◌, ◌≤◌, [], IfOk, IfErr, IfSome};
+ghost use Rattle.std.specs.Prelude.{◌≡◌, [], IfOk, IfErr};
 ghost use Rattle.std.specs.Slice.Iter.{iter_rest};
 ghost use Rattle.std.specs.Option.{option_copied};
-ghost use Rattle.minidump_bytes.specs.Steps.{after};
-ghost use Rattle.minidump_index.specs.Lookup.{IsByAddress, IsLookedUp, WithinDigits};
+ghost use Rattle.minidump_index.specs.Lookup.{IsByAddress, IsCountedLookup, IsLookedUp};
 ghost use Rattle.minidump_memory.specs.Memory.{memory_range};
 ghost use Rattle.minidump_memory.specs.Seen.{regions_of};
 
@@ -61,16 +60,13 @@ impl<'a, D: Drop> MinidumpMemoryListBase<'a, D> {
     }
 
     /// The same, and counts its comparisons: at most as many as the number of kept regions has binary
-    /// digits.
+    /// digits, and one at least where a region is kept.
     pub fn memory_at_address_counted(
         &self,
         address: u64,
         steps: &mut Steps,
     ) -> Option<&MinidumpMemoryBase<'a, D>>
-        ensures found { IsLookedUp memory_range (regions_of self.now) address (option_copied result) }
-        ensures within { WithinDigits memory_range (regions_of self.now) steps.old steps.new }
-        ensures grows { steps.old ≤ steps.new }
-        ensures compared { IfSome result (λ _. after steps.old 1 ≤ steps.new) }
+        ensures { IsCountedLookup memory_range (regions_of self.now) address steps.old steps.new (option_copied result) }
     {
         self.regions.at_address(address, steps)
     }

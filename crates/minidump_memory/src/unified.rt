@@ -1,9 +1,8 @@
-ghost use Rattle.std.specs.Prelude.{◌≡◌, ◌≤◌, Some, IfSome, [], length, map};
+ghost use Rattle.std.specs.Prelude.{◌≡◌, Some, IfSome, [], length, map};
 ghost use Rattle.std.specs.Option.{option_copied, option_map};
 ghost use Rattle.std.specs.Iterator.{YieldsFirstBy, YieldsLastBy, UpTo, at_most, item_count};
 ghost use Rattle.std.specs.Iterator.SizeHint.{IsWithinCount};
-ghost use Rattle.minidump_bytes.specs.Steps.{after};
-ghost use Rattle.minidump_index.specs.Lookup.{IsByAddress, IsLookedUp, WithinDigits};
+ghost use Rattle.minidump_index.specs.Lookup.{IsByAddress, IsCountedLookup, IsLookedUp};
 ghost use Rattle.minidump_memory.specs.Memory.{memory_of, number_in, region_range};
 ghost use Rattle.minidump_memory.specs.Unified.{Memory, Memory64, of_kind, unified_list, unified_region, unified_regions};
 ghost use Rattle.minidump_memory.specs.UnifiedIter.{regions_left, regions_by_address};
@@ -100,16 +99,13 @@ impl<'a> UnifiedMemoryList<'a> {
     }
 
     /// The same, and counts its comparisons: at most as many as the number of kept regions has binary
-    /// digits.
+    /// digits, and one at least where a region is kept.
     pub fn memory_at_address_counted<'s>(
         &'s self,
         address: u64,
         steps: &mut Steps,
     ) -> Option<UnifiedMemory<'s, 'a>>
-        ensures found { IsLookedUp region_range (unified_regions (unified_list self.now)) address (option_map unified_region result) }
-        ensures within { WithinDigits region_range (unified_regions (unified_list self.now)) steps.old steps.new }
-        ensures grows { steps.old ≤ steps.new }
-        ensures compared { IfSome result (λ _. after steps.old 1 ≤ steps.new) }
+        ensures { IsCountedLookup region_range (unified_regions (unified_list self.now)) address steps.old steps.new (option_map unified_region result) }
     {
         match self {
             UnifiedMemoryList::Memory(list) => {
