@@ -8,7 +8,8 @@ use Rattle.minidump_format.specs.StreamType.{number_of}
 use Rattle.minidump_format.specs.Memory.{memory_descriptor, memory_descriptor_64}
 use Rattle.minidump_system.specs.Framing.{list_64, plain_list}
 use Rattle.minidump_memory.specs.Memory.{MemoryRegion}
-use Rattle.minidump_memory.specs.MemoryList.{memory_list, memory_list_64}
+use Rattle.minidump_memory.specs.MemoryList.{memory_list}
+use Rattle.minidump_memory.specs.Memory64List.{memory_list_64}
 use Rattle.minidump_memory.specs.Unified.{Memory, Memory64, UnifiedRegions}
 use Rattle.minidump.specs.Dump.{Dump, raw_stream, stream}
 

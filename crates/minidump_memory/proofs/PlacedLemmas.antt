@@ -6,7 +6,7 @@ use Rattle.std.proofs.lemmas.List.{take_all}
 use Rattle.std.proofs.lemmas.List.Sums.{sum_by_more, sum_by_more_le}
 use Rattle.minidump_format.specs.declared.format.memory.MINIDUMP_MEMORY_DESCRIPTOR64.{MINIDUMP_MEMORY_DESCRIPTOR64}
 use Rattle.minidump_system.specs.Framing.{List64}
-use Rattle.minidump_memory.specs.MemoryList.{is_inside, place_64}
+use Rattle.minidump_memory.specs.Memory64List.{is_inside, place_64}
 
 abbrev size_64 : MINIDUMP_MEMORY_DESCRIPTOR64 → ℕ
 size_64 d = d.data_size

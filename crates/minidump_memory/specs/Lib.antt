@@ -1,5 +1,5 @@
 pub mod Memory
 pub mod MemoryList
-pub mod Seen
+pub mod Memory64List
 pub mod Unified
 pub mod UnifiedIter

@@ -43,3 +43,7 @@ abbrev pub described : List ℕ → Endian → MINIDUMP_MEMORY_DESCRIPTOR → Re
 described file order d =
     if d.memory.rva == 0 || d.memory.data_size == 0 then Err MemoryReadFailure else
     with_bytes d order (span d.memory.rva (d.memory.rva + d.memory.data_size) file)
+
+-- how many spans are read for it: none where there is no place or no size
+abbrev pub spans_read : MINIDUMP_MEMORY_DESCRIPTOR → ℕ
+spans_read d = if d.memory.rva == 0 || d.memory.data_size == 0 then 0 else 1

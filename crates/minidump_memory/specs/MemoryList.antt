@@ -1,15 +1,23 @@
--- The lists of regions of memory.
-use Rattle.std.specs.Prelude.{ℕ, ◌+◌, List, length, take, map, slice_range, Result, Ok, Err, nat_le, ◌==◌, ◌||◌, Bool, if◌then◌else◌}
-use Rattle.std.specs.List.{enumerate_from, filter_map, sum_by}
+-- The memory of a minidump: Microsoft's MINIDUMP_MEMORY_LIST.
+use Rattle.std.specs.Prelude.{ℕ, ◌+◌, List, map, Result, Ok, Err}
+use Rattle.std.specs.List.{filter_map, sum_by}
 use Rattle.std.specs.Result.{result_ok}
 use Rattle.minidump_bytes.specs.declared.endian.Endian.{Endian}
 use Rattle.minidump_format.specs.declared.error.Error.{Error}
-use Rattle.minidump_format.specs.declared.error.Error.TheVariants.{StreamReadFailure}
 use Rattle.minidump_format.specs.declared.format.memory.MINIDUMP_MEMORY_DESCRIPTOR.{MINIDUMP_MEMORY_DESCRIPTOR}
-use Rattle.minidump_format.specs.declared.format.memory.MINIDUMP_MEMORY_DESCRIPTOR64.{MINIDUMP_MEMORY_DESCRIPTOR64}
-use Rattle.minidump_format.specs.Memory.{memory_descriptor, memory_descriptor_64}
-use Rattle.minidump_system.specs.Framing.{List64, list_64, plain_list}
-use Rattle.minidump_memory.specs.Memory.{MemoryRegion, described}
+use Rattle.minidump_format.specs.Memory.{memory_descriptor}
+use Rattle.minidump_system.specs.Framing.{plain_list}
+use Rattle.minidump_memory.specs.declared.memory.MinidumpMemoryBase.{MinidumpMemoryBase}
+use Rattle.minidump_memory.specs.declared.memory_list.MinidumpMemoryListBase.{MinidumpMemoryListBase}
+use Rattle.minidump_memory.specs.Memory.{MemoryRegion, described, memory_of, spans_read}
+
+-- the regions of a list of either kind, in its order
+abbrev pub regions_of : {D : Type 0} → MinidumpMemoryListBase D → List (MinidumpMemoryBase D)
+regions_of l = l.regions
+
+-- the same, without where they lie in memory
+abbrev pub memories_of : {D : Type 0} → MinidumpMemoryListBase D → List (MemoryRegion D)
+memories_of l = map memory_of (regions_of l)
 
 -- the regions of descriptors; a descriptor whose region is refused is skipped
 abbrev pub all_described : List ℕ → Endian → List MINIDUMP_MEMORY_DESCRIPTOR → List (MemoryRegion MINIDUMP_MEMORY_DESCRIPTOR)
@@ -23,30 +31,10 @@ regions_in file order (Ok ds) = Ok (all_described file order ds)
 abbrev pub memory_list : List ℕ → List ℕ → Endian → Result (List (MemoryRegion MINIDUMP_MEMORY_DESCRIPTOR)) Error
 memory_list bytes file order = regions_in file order (plain_list memory_descriptor order bytes)
 
--- where the bytes of the region of an index begin: those of the regions before it lie between the list's place and there
-abbrev pub place_64 : List64 MINIDUMP_MEMORY_DESCRIPTOR64 → ℕ → ℕ
-place_64 l i = l.rva + sum_by (λ d. d.data_size) (take i l.items)
+abbrev spans_in : Result (List MINIDUMP_MEMORY_DESCRIPTOR) Error → ℕ
+spans_in (Err e) = 0
+spans_in (Ok ds) = sum_by spans_read ds
 
--- the region of a descriptor whose bytes begin at a place
-abbrev pub placed : List ℕ → Endian → ℕ → MINIDUMP_MEMORY_DESCRIPTOR64 → MemoryRegion MINIDUMP_MEMORY_DESCRIPTOR64
-placed file order place d =
-    record { desc = d; base_address = d.start_of_memory_range; size = d.data_size; bytes = slice_range file place (place + d.data_size); endian = order }
-
--- the regions of a 64 list, one behind another
-abbrev pub all_placed : List ℕ → Endian → List64 MINIDUMP_MEMORY_DESCRIPTOR64 → List (MemoryRegion MINIDUMP_MEMORY_DESCRIPTOR64)
-all_placed file order l = map (λ p. placed file order (place_64 l p.0) p.1) (enumerate_from 0 l.items)
-
--- all of their bytes are in the file; of a list without regions nothing is asked
-abbrev pub is_inside : List ℕ → List64 MINIDUMP_MEMORY_DESCRIPTOR64 → Bool
-is_inside file l = length l.items == 0 || nat_le (place_64 l (length l.items)) (length file)
-
-abbrev pub regions_64 : List ℕ → Endian → List64 MINIDUMP_MEMORY_DESCRIPTOR64 → Result (List (MemoryRegion MINIDUMP_MEMORY_DESCRIPTOR64)) Error
-regions_64 file order l = if is_inside file l then Ok (all_placed file order l) else Err StreamReadFailure
-
-abbrev regions_in_64 : List ℕ → Endian → Result (List64 MINIDUMP_MEMORY_DESCRIPTOR64) Error → Result (List (MemoryRegion MINIDUMP_MEMORY_DESCRIPTOR64)) Error
-regions_in_64 file order (Err e) = Err e
-regions_in_64 file order (Ok l) = regions_64 file order l
-
--- Microsoft's MINIDUMP_MEMORY64_LIST: a 64 list of descriptors
-abbrev pub memory_list_64 : List ℕ → List ℕ → Endian → Result (List (MemoryRegion MINIDUMP_MEMORY_DESCRIPTOR64)) Error
-memory_list_64 bytes file order = regions_in_64 file order (list_64 memory_descriptor_64 order bytes)
+-- how many spans are read for the regions of a list
+abbrev pub spans_of_list : Endian → List ℕ → ℕ
+spans_of_list order bytes = spans_in (plain_list memory_descriptor order bytes)

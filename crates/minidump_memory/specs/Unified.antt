@@ -7,7 +7,7 @@ use Rattle.minidump_memory.specs.declared.unified.UnifiedMemory.TheVariants as r
 use Rattle.minidump_memory.specs.declared.unified.UnifiedMemoryList.{UnifiedMemoryList}
 use Rattle.minidump_memory.specs.declared.unified.UnifiedMemoryList.TheVariants as list
 use Rattle.minidump_memory.specs.Memory.{MemoryRegion, memory_of}
-use Rattle.minidump_memory.specs.Seen.{memories_of}
+use Rattle.minidump_memory.specs.MemoryList.{memories_of}
 
 -- what is of a plain list, or of a 64 list
 pub data Unified (A B : Type 0) : Type 0 where

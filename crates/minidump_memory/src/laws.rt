@@ -3,7 +3,7 @@ ghost use Rattle.std.specs.Prelude.{◌≡◌, ◌↔◌, ℕ, List, Option, map
 ghost use Rattle.std.specs.Option.{option_map};
 ghost use Rattle.minidump_index.specs.Lookup.{HasRegionLaws, IsByAddress, IsLookedUp};
 ghost use Rattle.minidump_memory.specs.Memory.{memory_of, memory_range, region_range};
-ghost use Rattle.minidump_memory.specs.Seen.{regions_of};
+ghost use Rattle.minidump_memory.specs.MemoryList.{regions_of};
 ghost use Rattle.minidump_memory.specs.Unified.{Memory, Memory64, UnifiedRegion, of_kind, unified_list, unified_regions};
 
 use crate::{MinidumpMemoryBase, MinidumpMemoryListBase, UnifiedMemoryList};

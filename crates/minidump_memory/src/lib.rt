@@ -3,9 +3,8 @@
 
 pub mod laws;
 mod memory;
+mod memory64_list;
 mod memory_list;
-mod regions;
-mod streams;
 mod unified;
 
 pub use memory::{MinidumpMemory, MinidumpMemory64, MinidumpMemoryBase};

@@ -1,8 +1,8 @@
-ghost use Rattle.std.specs.Prelude.{◌≡◌, ◌+◌, ◌≤◌, OnOk};
+ghost use Rattle.std.specs.Prelude.{◌≡◌};
 ghost use Rattle.minidump_bytes.specs.Source.{bytes_of};
 ghost use Rattle.minidump_bytes.specs.Steps.{after};
 ghost use Rattle.minidump_format.specs.Answer.{Gives};
-ghost use Rattle.minidump_memory.specs.Memory.{described, memory_of, memory_range, number_in};
+ghost use Rattle.minidump_memory.specs.Memory.{described, memory_of, memory_range, number_in, spans_read};
 
 use minidump_bytes::{Endian, FixedRead, Source, Steps};
 use minidump_format::Error;
@@ -68,7 +68,7 @@ impl<'a> MinidumpMemory<'a> {
         MinidumpMemory::read_counted(desc, Source::new(all), endian, &mut Steps::new())
     }
 
-    /// The same, and counts its reads: one at most.
+    /// The same, and counts its reads: one where it has a place and a size.
     pub fn read_counted(
         desc: &MINIDUMP_MEMORY_DESCRIPTOR,
         all: Source<'a>,
@@ -76,9 +76,7 @@ impl<'a> MinidumpMemory<'a> {
         steps: &mut Steps,
     ) -> Result<MinidumpMemory<'a>, Error>
         ensures means { Gives memory_of ⊥ result (described (bytes_of all.entry) endian desc.now) }
-        ensures within { steps.new ≤ steps.old + 1 }
-        ensures grows { steps.old ≤ steps.new }
-        ensures counted { OnOk result (steps.new ≡ after steps.old 1) }
+        ensures step { steps.new ≡ after steps.old (spans_read desc.now) }
     {
         let memory = desc.memory;
         if memory.rva == 0 || memory.data_size == 0 {

@@ -1,16 +1,24 @@
-ghost use Rattle.std.specs.Prelude.{◌≡◌, [], IfOk, IfErr};
+ghost use Rattle.std.specs.Prelude.{◌≡◌, ◌+◌, ◌≤◌, [], map, length, IfOk, IfErr};
+ghost use Rattle.std.specs.List.{sum_by};
+ghost use Rattle.std.specs.Option.{option_copied, option_map};
+ghost use Rattle.std.specs.Result.{result_ok};
 ghost use Rattle.std.specs.Slice.Iter.{iter_rest};
-ghost use Rattle.std.specs.Option.{option_copied};
+ghost use Rattle.minidump_bytes.specs.Source.{bytes_of};
+ghost use Rattle.minidump_bytes.specs.Steps.{after};
+ghost use Rattle.minidump_format.specs.declared.format.stream_type.MINIDUMP_STREAM_TYPE.TheVariants.{MemoryListStream};
+ghost use Rattle.minidump_format.specs.StreamType.{number_of};
 ghost use Rattle.minidump_index.specs.Lookup.{IsByAddress, IsCountedLookup, IsLookedUp};
-ghost use Rattle.minidump_memory.specs.Memory.{memory_range};
-ghost use Rattle.minidump_memory.specs.Seen.{regions_of};
+ghost use Rattle.minidump_memory.specs.Memory.{described, memory_of, memory_range, spans_read};
+ghost use Rattle.minidump_memory.specs.MemoryList.{all_described, regions_of};
 
-use crate::MinidumpMemoryBase;
-use minidump_bytes::Steps;
+use crate::{MinidumpMemory, MinidumpMemoryBase};
+use minidump_bytes::{Endian, Source, Steps};
 use minidump_format::Error;
 use minidump_format::format::{MINIDUMP_MEMORY_DESCRIPTOR, MINIDUMP_MEMORY_DESCRIPTOR64};
 use minidump_index::{RegionList, RegionsByAddress};
-use std::alloc::Global;
+use minidump_system::framing::read_plain_list;
+use minidump_system::{MinidumpStream, MinidumpSystemInfo};
+use std::alloc::{AllocError, Global};
 use std::slice;
 
 /// Regions of memory, with lookups by address.
@@ -84,4 +92,91 @@ impl<'a, D: Drop> MinidumpMemoryListBase<'a, D> {
     {
         self.regions.by_addr()
     }
+}
+
+/// Microsoft's `MINIDUMP_MEMORY_LIST`: a plain list of descriptors. One whose bytes are not in the file,
+/// or that has no place or no size, is skipped.
+impl<'a> MinidumpStream<'a> for MinidumpMemoryListBase<'a, MINIDUMP_MEMORY_DESCRIPTOR> {
+    ghost use Rattle.std.specs.Prelude.{◌+◌, List, IsOk};
+    ghost use Rattle.minidump_format.specs.declared.format.memory.MINIDUMP_MEMORY_DESCRIPTOR.{MINIDUMP_MEMORY_DESCRIPTOR};
+    ghost use Rattle.minidump_format.specs.declared.format.stream_type.MINIDUMP_STREAM_TYPE.TheVariants.{MemoryListStream};
+    ghost use Rattle.minidump_format.specs.StreamType.{number_of};
+    ghost use Rattle.minidump_system.specs.Framing.{count_of, plain_list};
+    ghost use Rattle.minidump_format.specs.Memory.{memory_descriptor};
+    ghost use Rattle.minidump_memory.specs.Memory.{MemoryRegion};
+    ghost use Rattle.minidump_memory.specs.MemoryList.{memories_of, memory_list, spans_of_list};
+
+    ghost type_number = { number_of MemoryListStream };
+
+    const STREAM_TYPE: u32 = 5;
+
+    ghost Value = { List (MemoryRegion MINIDUMP_MEMORY_DESCRIPTOR) };
+
+    ghost view = { memories_of };
+
+    ghost meaning = { λ bytes all order system. memory_list bytes all order };
+
+    ghost limit = { λ n. n + 7 };
+
+    ghost least = { λ bytes order regions. 1 + count_of order bytes + spans_of_list order bytes };
+
+    ghost takes_memory = { λ bytes order. IsOk (plain_list memory_descriptor order bytes) };
+
+    fn number_of_type() -> u32
+        ensures { result ≡ number_of MemoryListStream }
+    {
+        Self::STREAM_TYPE
+    }
+
+    fn read(
+        alloc: Global,
+        bytes: Source<'a>,
+        all: Source<'a>,
+        endian: Endian,
+        _system_info: Option<&MinidumpSystemInfo>,
+        steps: &mut Steps,
+    ) -> Result<Self, Error> {
+        let descriptors: Vec<MINIDUMP_MEMORY_DESCRIPTOR> = read_plain_list(
+            alloc, bytes, endian, steps,
+        )?;
+        let regions = read_regions(alloc, &descriptors, all, endian, steps)?;
+        MinidumpMemoryListBase::from_regions(alloc, regions)
+    }
+}
+
+// The region of a descriptor, where it has one.
+fn region_of<'a>(
+    desc: &MINIDUMP_MEMORY_DESCRIPTOR,
+    all: Source<'a>,
+    endian: Endian,
+    steps: &mut Steps,
+) -> Option<MinidumpMemory<'a>>
+    ensures value { option_map memory_of result
+        ≡ result_ok (described (bytes_of all.entry) endian desc.now) }
+    ensures step { steps.new ≡ after steps.old (spans_read desc.now) }
+{
+    MinidumpMemory::read_counted(desc, all, endian, steps).ok()
+}
+
+// The regions of descriptors. One that is refused is skipped.
+fn read_regions<'a>(
+    alloc: Global,
+    descriptors: &[MINIDUMP_MEMORY_DESCRIPTOR],
+    all: Source<'a>,
+    endian: Endian,
+    steps: &mut Steps,
+) -> Result<Vec<MinidumpMemory<'a>>, AllocError>
+    ensures items { IfOk result (λ v. map memory_of v.items
+        ≡ all_described (bytes_of all.entry) endian descriptors.now) }
+    ensures within { steps.new ≤ steps.old + length descriptors.now }
+    ensures grows { steps.old ≤ steps.new }
+    ensures steps { IfOk result (λ _. steps.new ≡ after steps.old (sum_by spans_read descriptors.now)) }
+{
+    let mut regions = Vec::with_capacity(alloc, descriptors.len())?;
+    for desc in descriptors {
+        if let Some(region) = region_of(desc, all, endian, steps) {
+            regions.push(region)?;
+        }
+    }
+    Ok(regions)
 }

@@ -1,5 +1,5 @@
 -- A list of either kind answers as the list that it holds.
-use Rattle.minidump_memory.specs.Seen.{regions_of}
+use Rattle.minidump_memory.specs.MemoryList.{regions_of}
 use Rattle.minidump_memory.specs.Unified.{Memory64}
 use Rattle.minidump_memory.proofs.UnifiedLemmas.{found_alike, ordered_alike}
 use Rattle.minidump_memory.proofs.laws.the_unified_list_answers_as_the_64_list_it_holds.Goals as goal

@@ -1,11 +1,13 @@
+-- The regions of the descriptors so far, and where the bytes of the next begin.
 use Rattle.std.proofs.Common.{◌≡◌, ◌+◌, ◌≤◌, ◌<◌, length, map, take}
 use Rattle.std.specs.List.{enumerate_from}
 use Rattle.minidump_bytes.specs.Source.{bytes_of}
+use Rattle.minidump_bytes.specs.Steps.{after}
 use Rattle.minidump_format.specs.declared.format.memory.MINIDUMP_MEMORY_DESCRIPTOR64.{MINIDUMP_MEMORY_DESCRIPTOR64}
 use Rattle.minidump_system.specs.Framing.{List64}
 use Rattle.minidump_memory.specs.Memory.{memory_of}
-use Rattle.minidump_memory.specs.MemoryList.{place_64, placed}
-use Rattle.minidump_memory.proofs.regions.read_regions_64.Given as goal
+use Rattle.minidump_memory.specs.Memory64List.{place_64, placed}
+use Rattle.minidump_memory.proofs.memory64_list.read_regions_64.Given as goal
 
 abbrev pub invariant-loop-desc : goal.invariant-loop-desc
 invariant-loop-desc l =
@@ -16,4 +18,5 @@ invariant-loop-desc l =
       inside : 0 < l.desc-index → l.place ≤ length (bytes_of l.all);
       within : l.steps ≤ l.fn.steps + l.desc-index;
       grows : l.fn.steps ≤ l.steps;
+      counted : l.steps ≡ after l.fn.steps l.desc-index;
     }

@@ -1,12 +1,13 @@
+-- One region more.
 use Rattle.std.proofs.Common.{arith, ℕ, sym}
 use Rattle.minidump_bytes.specs.Source.{bytes_of}
 use Rattle.minidump_format.specs.declared.format.memory.MINIDUMP_MEMORY_DESCRIPTOR64.{MINIDUMP_MEMORY_DESCRIPTOR64}
 use Rattle.minidump_system.specs.Framing.{List64}
 use Rattle.minidump_bytes.proofs.ListLemmas.{numbered_more}
 use Rattle.minidump_memory.specs.Memory.{memory_of}
-use Rattle.minidump_memory.specs.MemoryList.{place_64, placed}
+use Rattle.minidump_memory.specs.Memory64List.{place_64, placed}
 use Rattle.minidump_memory.proofs.PlacedLemmas.{place_more}
-use Rattle.minidump_memory.proofs.regions.read_regions_64.Goals as goal
+use Rattle.minidump_memory.proofs.memory64_list.read_regions_64.Goals as goal
 
 pub loop-desc-preserved : goal.loop-desc-preserved
 loop-desc-preserved c =
@@ -21,4 +22,5 @@ loop-desc-preserved c =
       inside = λ _. c.in-Some.ensures.inside;
       within = omega (arith, c.region_at.ensures.step, c.loop-desc.invariant.within);
       grows = omega (arith, c.region_at.ensures.step, c.loop-desc.invariant.grows);
+      counted = omega (arith, c.region_at.ensures.step, c.loop-desc.invariant.counted);
     }

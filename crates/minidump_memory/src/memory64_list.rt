@@ -1,0 +1,118 @@
+ghost use Rattle.std.specs.Prelude.{◌≡◌, ◌+◌, ◌≤◌, ◌<◌, ⊤, map, length, IfNone, IfOk, IfSome};
+ghost use Rattle.minidump_bytes.specs.Source.{bytes_of};
+ghost use Rattle.minidump_bytes.specs.Steps.{after};
+ghost use Rattle.minidump_format.specs.declared.format.stream_type.MINIDUMP_STREAM_TYPE.TheVariants.{Memory64ListStream};
+ghost use Rattle.minidump_format.specs.Answer.{Gives};
+ghost use Rattle.minidump_format.specs.StreamType.{number_of};
+ghost use Rattle.minidump_memory.specs.Memory.{memory_of};
+ghost use Rattle.minidump_memory.specs.Memory64List.{placed, regions_64};
+
+use crate::{MinidumpMemory64, MinidumpMemoryBase, MinidumpMemoryListBase};
+use minidump_bytes::{Endian, Source, Steps};
+use minidump_format::Error;
+use minidump_format::format::MINIDUMP_MEMORY_DESCRIPTOR64;
+use minidump_system::framing::read_list_64;
+use minidump_system::{MinidumpStream, MinidumpSystemInfo};
+use std::alloc::Global;
+
+/// Microsoft's `MINIDUMP_MEMORY64_LIST`: a 64 list of descriptors, whose bytes lie one behind another from
+/// the list's place on. `StreamReadFailure` where some of them are not in the file.
+impl<'a> MinidumpStream<'a> for MinidumpMemoryListBase<'a, MINIDUMP_MEMORY_DESCRIPTOR64> {
+    ghost use Rattle.std.specs.Prelude.{◌+◌, ◌*◌, List, IsOk};
+    ghost use Rattle.minidump_format.specs.declared.format.memory.MINIDUMP_MEMORY_DESCRIPTOR64.{MINIDUMP_MEMORY_DESCRIPTOR64};
+    ghost use Rattle.minidump_format.specs.declared.format.stream_type.MINIDUMP_STREAM_TYPE.TheVariants.{Memory64ListStream};
+    ghost use Rattle.minidump_format.specs.StreamType.{number_of};
+    ghost use Rattle.minidump_system.specs.Framing.{count_64_of, list_64};
+    ghost use Rattle.minidump_format.specs.Memory.{memory_descriptor_64};
+    ghost use Rattle.minidump_memory.specs.Memory.{MemoryRegion};
+    ghost use Rattle.minidump_memory.specs.Memory64List.{memory_list_64};
+    ghost use Rattle.minidump_memory.specs.MemoryList.{memories_of};
+
+    ghost type_number = { number_of Memory64ListStream };
+
+    const STREAM_TYPE: u32 = 9;
+
+    ghost Value = { List (MemoryRegion MINIDUMP_MEMORY_DESCRIPTOR64) };
+
+    ghost view = { memories_of };
+
+    ghost meaning = { λ bytes all order system. memory_list_64 bytes all order };
+
+    ghost limit = { λ n. n + 7 };
+
+    ghost least = { λ bytes order regions. 2 + 2 * count_64_of order bytes };
+
+    ghost takes_memory = { λ bytes order. IsOk (list_64 memory_descriptor_64 order bytes) };
+
+    fn number_of_type() -> u32
+        ensures { result ≡ number_of Memory64ListStream }
+    {
+        Self::STREAM_TYPE
+    }
+
+    fn read(
+        alloc: Global,
+        bytes: Source<'a>,
+        all: Source<'a>,
+        endian: Endian,
+        _system_info: Option<&MinidumpSystemInfo>,
+        steps: &mut Steps,
+    ) -> Result<Self, Error> {
+        let (rva, descriptors) = read_list_64::<MINIDUMP_MEMORY_DESCRIPTOR64>(
+            alloc, bytes, endian, steps,
+        )?;
+        let regions = read_regions_64(alloc, rva, &descriptors, all, endian, steps)?;
+        MinidumpMemoryListBase::from_regions(alloc, regions)
+    }
+}
+
+// The region of a descriptor whose bytes begin at a place, where they are in the file.
+fn region_at<'a>(
+    desc: &MINIDUMP_MEMORY_DESCRIPTOR64,
+    place: u64,
+    all: Source<'a>,
+    endian: Endian,
+    steps: &mut Steps,
+) -> Option<MinidumpMemory64<'a>>
+    ensures value { IfSome result (λ m. memory_of m ≡ placed (bytes_of all.entry) endian place desc.now) }
+    ensures inside { IfSome result (λ _. place + desc.now.data_size ≤ length (bytes_of all.entry)) }
+    ensures outside { IfNone result (length (bytes_of all.entry) < place + desc.now.data_size) }
+    ensures step { steps.new ≡ after steps.old 1 }
+{
+    let bytes = all.span(place, desc.data_size, steps)?;
+    Some(MinidumpMemoryBase {
+        desc: *desc,
+        base_address: desc.start_of_memory_range,
+        size: desc.data_size,
+        bytes,
+        endian,
+    })
+}
+
+// The regions of descriptors, whose bytes lie one behind another from a place on. All of them have to be
+// in the file.
+fn read_regions_64<'a>(
+    alloc: Global,
+    rva: u64,
+    descriptors: &[MINIDUMP_MEMORY_DESCRIPTOR64],
+    all: Source<'a>,
+    endian: Endian,
+    steps: &mut Steps,
+) -> Result<Vec<MinidumpMemory64<'a>>, Error>
+    ensures means { Gives (λ v. map memory_of v.items) ⊤ result
+        (regions_64 (bytes_of all.entry) endian (record { rva = rva; items = descriptors.now })) }
+    ensures within { steps.new ≤ steps.old + length descriptors.now }
+    ensures grows { steps.old ≤ steps.new }
+    ensures steps { IfOk result (λ _. steps.new ≡ after steps.old (length descriptors.now)) }
+{
+    let mut regions = Vec::with_capacity(alloc, descriptors.len())?;
+    let mut place = rva;
+    for desc in descriptors {
+        let Some(region) = region_at(desc, place, all, endian, steps) else {
+            return Err(Error::StreamReadFailure);
+        };
+        regions.push(region)?;
+        place += desc.data_size;
+    }
+    Ok(regions)
+}

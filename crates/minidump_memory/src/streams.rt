@@ -1,3 +1,0 @@
-//! The two streams of memory.
-pub(crate) mod memory;
-pub(crate) mod memory64;
