@@ -6,7 +6,10 @@ ghost use Rattle.minidump_memory.specs.Memory.{memory_of, memory_range, region_r
 ghost use Rattle.minidump_memory.specs.MemoryList.{regions_of};
 ghost use Rattle.minidump_memory.specs.Unified.{Memory, Memory64, UnifiedRegion, of_kind, unified_list, unified_regions};
 
-use crate::{MinidumpMemoryBase, MinidumpMemoryListBase, UnifiedMemoryList};
+use crate::{
+    MinidumpMemory, MinidumpMemory64, MinidumpMemoryBase, MinidumpMemoryListBase, UnifiedMemory,
+    UnifiedMemoryList,
+};
 use minidump_format::format::{MINIDUMP_MEMORY_DESCRIPTOR, MINIDUMP_MEMORY_DESCRIPTOR64};
 use minidump_index::Range;
 
@@ -43,4 +46,14 @@ pub fn the_unified_list_answers_as_the_64_list_it_holds()
         → IsByAddress memory_range (regions_of list) given
         → IsByAddress region_range (unified_regions (unified_list (UnifiedMemoryList.Memory64 list))) other
         ↔ (other ≡ map (of_kind Memory64) (map memory_of given)) }
+{}
+
+/// A clone of a region is the same region, and a copy of a reference to one refers to the same.
+pub fn clones_are_the_same()
+    ensures plain { (region other : MinidumpMemoryBase MINIDUMP_MEMORY_DESCRIPTOR)
+        → ⟦<MinidumpMemory<'static> as Clone>⟧.is_clone region other → other ≡ region }
+    ensures long { (region other : MinidumpMemoryBase MINIDUMP_MEMORY_DESCRIPTOR64)
+        → ⟦<MinidumpMemory64<'static> as Clone>⟧.is_clone region other → other ≡ region }
+    ensures unified { (region other : UnifiedMemory)
+        → ⟦<UnifiedMemory<'static, 'static> as Clone>⟧.is_clone region other → other ≡ region }
 {}

@@ -136,10 +136,8 @@ impl<'a> MinidumpStream<'a> for MinidumpMemoryListBase<'a, MINIDUMP_MEMORY_DESCR
         _system_info: Option<&MinidumpSystemInfo>,
         steps: &mut Steps,
     ) -> Result<Self, Error> {
-        let descriptors: Vec<MINIDUMP_MEMORY_DESCRIPTOR> = read_plain_list(
-            alloc, bytes, endian, steps,
-        )?;
-        let regions = read_regions(alloc, &descriptors, all, endian, steps)?;
+        let entries = read_plain_list::<MINIDUMP_MEMORY_DESCRIPTOR>(alloc, bytes, endian, steps)?;
+        let regions = read_regions(alloc, &entries, all, endian, steps)?;
         MinidumpMemoryListBase::from_regions(alloc, regions)
     }
 }
