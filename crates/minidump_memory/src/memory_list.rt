@@ -1,4 +1,4 @@
-ghost use Rattle.std.specs.Prelude.{◌≡◌, ◌+◌, ◌≤◌, [], map, length, IfOk, IfErr};
+ghost use Rattle.std.specs.Prelude.{◌≡◌, ◌+◌, ◌≤◌, [], map, length, IfOk, IsOkUnless};
 ghost use Rattle.std.specs.List.{sum_by};
 ghost use Rattle.std.specs.Option.{option_copied, option_map};
 ghost use Rattle.std.specs.Result.{result_ok};
@@ -53,7 +53,7 @@ impl<'a, D: Drop> MinidumpMemoryListBase<'a, D> {
         regions: Vec<MinidumpMemoryBase<'a, D>>,
     ) -> Result<MinidumpMemoryListBase<'a, D>, Error>
         ensures list { IfOk result (λ list. regions_of list ≡ regions.entry.items) }
-        ensures memory { IfErr result (λ e. e ≡ Error.OutOfMemory) }
+        ensures memory { IsOkUnless result Error.OutOfMemory }
     {
         Ok(MinidumpMemoryListBase {
             regions: RegionList::from_regions(alloc, regions)?,
