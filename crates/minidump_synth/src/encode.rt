@@ -1,9 +1,18 @@
 //! The bytes of records.
+mod breakpad;
 mod context;
+mod crashpad;
+mod exception;
+mod handle;
 mod header;
+mod mac;
 mod memory;
+mod memory_info;
+mod misc;
+mod module;
 mod plain;
 mod system;
+mod thread;
 
 ghost use Rattle.std.specs.Prelude.{◌≤◌};
 

@@ -1,14 +1,10 @@
 mod context;
+mod fields;
+mod records;
 
-use crate::{Encode, FailsAt, Full, OneByte, Section, SynthMinidump, TakesNone, zeroed};
-use minidump_bytes::{Endian, Record, Refused, Told};
-use minidump_format::format::{
-    ARMCpuInfo, MINIDUMP_DIRECTORY, MINIDUMP_HEADER, MINIDUMP_LOCATION_DESCRIPTOR,
-    MINIDUMP_MEMORY_DESCRIPTOR, MINIDUMP_MEMORY_DESCRIPTOR64, MINIDUMP_SYSTEM_INFO, X86CpuInfo,
-};
+use crate::{FailsAt, Full, OneByte, Section, SynthMinidump, TakesNone};
+use minidump_bytes::{Endian, Refused, Told};
 use std::alloc::{AllocError, Global};
-use std::fmt::Debug;
-use std::process::Abort;
 use std::test::Fail;
 
 // One stream of type 0x11223344, whose bytes stand before the directory.
@@ -157,121 +153,6 @@ fn appends_bytes_in_their_own_order(rt: HostRuntime) -> Result<(), Fail> {
     Ok(())
 }
 
-// What is written of a record reads back as the record, in both orders.
-fn reads_back<R: Record + Encode + Copy + PartialEq + Debug>(
-    rt: &impl Abort,
-    alloc: Global,
-    record: R,
-) -> Result<(), AllocError> {
-    for endian in [Endian::Little, Endian::Big] {
-        let bytes = Section::new(alloc, endian).record(&record).finish()?;
-        assert_eq!(rt; bytes.len(), R::SIZE);
-        assert_eq!(rt; R::decode(&bytes, endian), record);
-    }
-    Ok(())
-}
-
-#[test]
-fn writes_records(rt: HostRuntime) -> Result<(), Fail> {
-    let alloc = rt.alloc();
-    let location = MINIDUMP_LOCATION_DESCRIPTOR {
-        data_size: 0x0102_0304,
-        rva: 0x0506_0708,
-    };
-    reads_back(&rt, alloc, location)?;
-    reads_back(
-        &rt,
-        alloc,
-        MINIDUMP_DIRECTORY {
-            stream_type: 0x090a_0b0c,
-            location,
-        },
-    )?;
-    reads_back(
-        &rt,
-        alloc,
-        MINIDUMP_HEADER {
-            signature: 0x0102_0304,
-            version: 0x0506_0708,
-            stream_count: 0x090a_0b0c,
-            stream_directory_rva: 0x0d0e_0f10,
-            checksum: 0x1112_1314,
-            time_date_stamp: 0x1516_1718,
-            flags: 0x191a_1b1c_1d1e_1f20,
-        },
-    )?;
-    reads_back(
-        &rt,
-        alloc,
-        MINIDUMP_SYSTEM_INFO {
-            processor_architecture: 0x0102,
-            processor_level: 0x0304,
-            processor_revision: 0x0506,
-            number_of_processors: 0x07,
-            product_type: 0x08,
-            major_version: 0x090a_0b0c,
-            minor_version: 0x0d0e_0f10,
-            build_number: 0x1112_1314,
-            platform_id: 0x1516_1718,
-            csd_version_rva: 0x191a_1b1c,
-            suite_mask: 0x1d1e,
-            reserved: 0x1f20,
-            cpu: *b"abcdefghijklmnopqrstuvwx",
-        },
-    )?;
-    reads_back(
-        &rt,
-        alloc,
-        X86CpuInfo {
-            vendor_id: [0x0102_0304, 0x0506_0708, 0x090a_0b0c],
-            unused1: [0x0d0e_0f10, 0x1112_1314, 0x1516_1718],
-        },
-    )?;
-    reads_back(
-        &rt,
-        alloc,
-        ARMCpuInfo {
-            cpuid: 0x0102_0304,
-            elf_hwcaps: 0x0506_0708,
-        },
-    )?;
-    let info = MINIDUMP_SYSTEM_INFO {
-        processor_architecture: 0x0102,
-        ..zeroed()
-    };
-    let bytes = Section::new(alloc, Endian::Big).record(&info).finish()?;
-    let mut want = [0; 56];
-    want[0] = 1;
-    want[1] = 2;
-    assert_eq!(rt; bytes.as_slice(), want.as_slice());
-    Ok(())
-}
-
-#[test]
-fn writes_descriptors_of_memory(rt: HostRuntime) -> Result<(), Fail> {
-    let alloc = rt.alloc();
-    reads_back(
-        &rt,
-        alloc,
-        MINIDUMP_MEMORY_DESCRIPTOR {
-            start_of_memory_range: 0x0102_0304_0506_0708,
-            memory: MINIDUMP_LOCATION_DESCRIPTOR {
-                data_size: 0x090a_0b0c,
-                rva: 0x0d0e_0f10,
-            },
-        },
-    )?;
-    reads_back(
-        &rt,
-        alloc,
-        MINIDUMP_MEMORY_DESCRIPTOR64 {
-            start_of_memory_range: 0x0102_0304_0506_0708,
-            data_size: 0x090a_0b0c_0d0e_0f10,
-        },
-    )?;
-    Ok(())
-}
-
 // Two regions of two and three bytes, their list, and its entry in the directory.
 const LIST: [u8; 53] = [
     0xaa, 0xab, //
@@ -392,4 +273,13 @@ fn takes_none(rt: HostRuntime) -> Result<(), Fail> {
     assert_eq!(rt; f.put(b"abcde"), Err(Refused));
     assert_eq!(rt; f.into_device().calls, 1);
     Ok(())
+}
+
+// The bytes 0, 1, 2, .. 250, 0, 1, .. so that each field of a record has a value of its own.
+fn counted(alloc: Global, size: usize) -> Result<Vec<u8>, AllocError> {
+    let mut bytes = Vec::new(alloc);
+    for i in 0..size {
+        bytes.push((i % 251) as u8)?;
+    }
+    Ok(bytes)
 }
