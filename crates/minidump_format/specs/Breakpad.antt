@@ -15,6 +15,9 @@ breakpad_info = record {
   };
 }
 
--- the name and the bit of each field that may be set
+-- MD_BREAKPAD_INFO_VALID_DUMP_THREAD_ID and MD_BREAKPAD_INFO_VALID_REQUESTING_THREAD_ID
 unfoldable pub breakpad_info_valid : List (List ℕ × ℕ)
-breakpad_info_valid = (codes "DumpThreadId", 0x1) ∷ (codes "RequestingThreadId", 0x2) ∷ []
+breakpad_info_valid =
+    (codes "DumpThreadId", 0x1) ∷
+    (codes "RequestingThreadId", 0x2) ∷
+    []

@@ -22,14 +22,34 @@ memory_info = record {
   };
 }
 
--- the name and the bit of each protection
+-- winnt.h's PAGE_NOACCESS to PAGE_WRITECOMBINE
 unfoldable pub memory_protection : List (List ℕ × ℕ)
-memory_protection = (codes "PAGE_NOACCESS", 0x1) ∷ (codes "PAGE_READONLY", 0x2) ∷ (codes "PAGE_READWRITE", 0x4) ∷ (codes "PAGE_WRITECOPY", 0x8) ∷ (codes "PAGE_EXECUTE", 0x10) ∷ (codes "PAGE_EXECUTE_READ", 0x20) ∷ (codes "PAGE_EXECUTE_READWRITE", 0x40) ∷ (codes "PAGE_EXECUTE_WRITECOPY", 0x80) ∷ (codes "PAGE_GUARD", 0x100) ∷ (codes "PAGE_NOCACHE", 0x200) ∷ (codes "PAGE_WRITECOMBINE", 0x400) ∷ []
+memory_protection =
+    (codes "PAGE_NOACCESS", 0x1) ∷
+    (codes "PAGE_READONLY", 0x2) ∷
+    (codes "PAGE_READWRITE", 0x4) ∷
+    (codes "PAGE_WRITECOPY", 0x8) ∷
+    (codes "PAGE_EXECUTE", 0x10) ∷
+    (codes "PAGE_EXECUTE_READ", 0x20) ∷
+    (codes "PAGE_EXECUTE_READWRITE", 0x40) ∷
+    (codes "PAGE_EXECUTE_WRITECOPY", 0x80) ∷
+    (codes "PAGE_GUARD", 0x100) ∷
+    (codes "PAGE_NOCACHE", 0x200) ∷
+    (codes "PAGE_WRITECOMBINE", 0x400) ∷
+    []
 
--- the same of each state
+-- winnt.h's MEM_COMMIT, MEM_RESERVE and MEM_FREE
 unfoldable pub memory_state : List (List ℕ × ℕ)
-memory_state = (codes "MEM_COMMIT", 0x1000) ∷ (codes "MEM_RESERVE", 0x2000) ∷ (codes "MEM_FREE", 0x1_0000) ∷ []
+memory_state =
+    (codes "MEM_COMMIT", 0x1000) ∷
+    (codes "MEM_RESERVE", 0x2000) ∷
+    (codes "MEM_FREE", 0x1_0000) ∷
+    []
 
--- the same of each type
+-- winnt.h's MEM_PRIVATE, MEM_MAPPED and MEM_IMAGE
 unfoldable pub memory_type : List (List ℕ × ℕ)
-memory_type = (codes "MEM_PRIVATE", 0x2_0000) ∷ (codes "MEM_MAPPED", 0x4_0000) ∷ (codes "MEM_IMAGE", 0x100_0000) ∷ []
+memory_type =
+    (codes "MEM_PRIVATE", 0x2_0000) ∷
+    (codes "MEM_MAPPED", 0x4_0000) ∷
+    (codes "MEM_IMAGE", 0x100_0000) ∷
+    []

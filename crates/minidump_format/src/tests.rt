@@ -1,6 +1,8 @@
 mod context;
 mod error;
 mod flags;
+mod guid;
+mod numbers;
 mod print;
 mod stream_type;
 mod system;

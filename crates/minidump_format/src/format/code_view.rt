@@ -29,7 +29,7 @@ impl CvSignature {
         })
     }
 
-    /// Its number.
+    /// The number of the kind.
     pub fn number(self) -> u32
         ensures { result ≡ signature_number self }
     {

@@ -171,7 +171,7 @@ impl MINIDUMP_HANDLE_OBJECT_INFORMATION_TYPE {
         })
     }
 
-    /// Its number.
+    /// The number of the type.
     pub fn number(self) -> u32
         ensures { result ≡ information_type_number self }
     {
