@@ -3,9 +3,9 @@ ghost use Rattle.std.specs.Prelude.{◌≡◌};
 ghost use Rattle.minidump_bytes.specs.Exact.{IsExact};
 
 use crate::format::{
-    MINIDUMP_MAC_CRASH_INFO, MINIDUMP_MISC_INFO_3, MINIDUMP_MISC_INFO_4, MINIDUMP_MISC_INFO_5,
-    MINIDUMP_MODULE, MINIDUMP_SIGNATURE, MINIDUMP_VERSION, TIME_ZONE_INFORMATION,
-    XSTATE_CONFIG_FEATURE_MSC_INFO,
+    MINIDUMP_ANNOTATION, MINIDUMP_MAC_CRASH_INFO, MINIDUMP_MISC_INFO_3, MINIDUMP_MISC_INFO_4,
+    MINIDUMP_MISC_INFO_5, MINIDUMP_MODULE, MINIDUMP_SIGNATURE, MINIDUMP_VERSION,
+    TIME_ZONE_INFORMATION, VS_FFI_SIGNATURE, VS_FFI_STRUCVERSION, XSTATE_CONFIG_FEATURE_MSC_INFO,
 };
 
 /// The records that hold other records, or long arrays: `==` holds of the same value alone, and a
@@ -19,6 +19,20 @@ pub fn large_records_are_exact()
     ensures misc_info_5 { IsExact ⟦<MINIDUMP_MISC_INFO_5 as PartialEq>⟧.eq ⟦<MINIDUMP_MISC_INFO_5 as Clone>⟧.is_clone }
     ensures module { IsExact ⟦<MINIDUMP_MODULE as PartialEq>⟧.eq ⟦<MINIDUMP_MODULE as Clone>⟧.is_clone }
     ensures mac_crash_info { IsExact ⟦<MINIDUMP_MAC_CRASH_INFO as PartialEq>⟧.eq ⟦<MINIDUMP_MAC_CRASH_INFO as Clone>⟧.is_clone }
+{}
+
+/// The numbers that the version of a file is known by: Microsoft's `VS_FFI_SIGNATURE` and
+/// `VS_FFI_STRUCVERSION`.
+pub fn file_info_numbers()
+    ensures signature { VS_FFI_SIGNATURE ≡ 0xfeef04bd }
+    ensures version { VS_FFI_STRUCVERSION ≡ 0x10000 }
+{}
+
+/// The numbers of the types of annotations: those of Crashpad's `Annotation`.
+pub fn annotation_numbers()
+    ensures invalid { MINIDUMP_ANNOTATION.TYPE_INVALID ≡ 0 }
+    ensures text { MINIDUMP_ANNOTATION.TYPE_STRING ≡ 1 }
+    ensures user_defined { MINIDUMP_ANNOTATION.TYPE_USER_DEFINED ≡ 0x8000 }
 {}
 
 /// The numbers that a header is known by: Microsoft's `MINIDUMP_SIGNATURE` and `MINIDUMP_VERSION`.

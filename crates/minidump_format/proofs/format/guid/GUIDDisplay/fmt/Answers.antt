@@ -1,3 +1,4 @@
+-- The text of a GUID: what each `{:0Nx}` writes, one behind another.
 use Rattle.std.proofs.Common.{append_assoc}
 use Rattle.minidump_format.proofs.GuidLemmas.{wide_digits}
 use Rattle.minidump_format.proofs.format.guid.GUIDDisplay.fmt.Goals as goal
