@@ -10,5 +10,6 @@ pub mod Order
 pub mod Ranged
 pub mod RegionLaws
 pub mod RegionsLemmas
+pub mod Same
 pub mod Sizes
 pub mod Views
