@@ -1,2 +1,3 @@
+-- The lemmas of this crate.
 pub mod PlacedLemmas
 pub mod UnifiedLemmas

@@ -1,3 +1,4 @@
+-- What the contracts of this crate cite.
 pub mod Memory
 pub mod MemoryList
 pub mod Memory64List

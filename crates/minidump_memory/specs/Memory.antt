@@ -10,6 +10,7 @@ use Rattle.minidump_index.specs.declared.range.Range.{Range}
 use Rattle.minidump_index.specs.Overlap.{range_of}
 use Rattle.minidump_memory.specs.declared.memory.MinidumpMemoryBase.{MinidumpMemoryBase}
 
+-- a region: its descriptor, its first address, how many bytes it has, the bytes and their order
 pub record MemoryRegion (D : Type 0) : Type 0 where
   pub desc : D
   pub base_address : ℕ
@@ -17,6 +18,7 @@ pub record MemoryRegion (D : Type 0) : Type 0 where
   pub bytes : List ℕ
   pub endian : Endian
 
+-- what a region of a list holds
 abbrev pub memory_of : {D : Type 0} → MinidumpMemoryBase D → MemoryRegion D
 memory_of m = record { desc = m.desc; base_address = m.base_address; size = m.size; bytes = m.bytes.now; endian = m.endian }
 
@@ -24,6 +26,7 @@ memory_of m = record { desc = m.desc; base_address = m.base_address; size = m.si
 abbrev pub region_range : {D : Type 0} → MemoryRegion D → Option Range
 region_range m = range_of m.base_address m.size
 
+-- those of a region of a list
 abbrev pub memory_range : {D : Type 0} → MinidumpMemoryBase D → Option Range
 memory_range m = region_range (memory_of m)
 

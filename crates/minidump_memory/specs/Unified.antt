@@ -9,10 +9,10 @@ use Rattle.minidump_memory.specs.declared.unified.UnifiedMemoryList.TheVariants 
 use Rattle.minidump_memory.specs.Memory.{MemoryRegion, memory_of}
 use Rattle.minidump_memory.specs.MemoryList.{memories_of}
 
--- what is of a plain list, or of a 64 list
+-- what is of a MINIDUMP_MEMORY_LIST, or of a MINIDUMP_MEMORY64_LIST
 pub data Unified (A B : Type 0) : Type 0 where
-  Memory : (plain : A) → Unified A B
-  Memory64 : (long : B) → Unified A B
+  Memory : (of_list : A) → Unified A B
+  Memory64 : (of_list64 : B) → Unified A B
 
 -- a region of either kind: its descriptor says which
 abbrev pub UnifiedDescriptor : Type 0

@@ -50,9 +50,9 @@ pub fn the_unified_list_answers_as_the_64_list_it_holds()
 
 /// A clone of a region is the same region, and a copy of a reference to one refers to the same.
 pub fn clones_are_the_same()
-    ensures plain { (region other : MinidumpMemoryBase MINIDUMP_MEMORY_DESCRIPTOR)
+    ensures memory { (region other : MinidumpMemoryBase MINIDUMP_MEMORY_DESCRIPTOR)
         → ⟦<MinidumpMemory<'static> as Clone>⟧.is_clone region other → other ≡ region }
-    ensures long { (region other : MinidumpMemoryBase MINIDUMP_MEMORY_DESCRIPTOR64)
+    ensures memory64 { (region other : MinidumpMemoryBase MINIDUMP_MEMORY_DESCRIPTOR64)
         → ⟦<MinidumpMemory64<'static> as Clone>⟧.is_clone region other → other ≡ region }
     ensures unified { (region other : UnifiedMemory)
         → ⟦<UnifiedMemory<'static, 'static> as Clone>⟧.is_clone region other → other ≡ region }

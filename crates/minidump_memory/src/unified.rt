@@ -109,10 +109,10 @@ impl<'a> UnifiedMemoryList<'a> {
     {
         match self {
             UnifiedMemoryList::Memory(list) => {
-                plain(list.memory_at_address_counted(address, steps))
+                of_memory(list.memory_at_address_counted(address, steps))
             }
             UnifiedMemoryList::Memory64(list) => {
-                long(list.memory_at_address_counted(address, steps))
+                of_memory64(list.memory_at_address_counted(address, steps))
             }
         }
     }
@@ -123,8 +123,8 @@ impl<'a> UnifiedMemoryList<'a> {
     {
         UnifiedMemoryIter {
             left: match self {
-                UnifiedMemoryList::Memory(list) => Left::Memory(list.iter()),
-                UnifiedMemoryList::Memory64(list) => Left::Memory64(list.iter()),
+                UnifiedMemoryList::Memory(list) => Listed::Memory(list.iter()),
+                UnifiedMemoryList::Memory64(list) => Listed::Memory64(list.iter()),
             },
         }
     }
@@ -142,20 +142,20 @@ impl<'a> UnifiedMemoryList<'a> {
     }
 }
 
-fn plain<'s, 'a>(region: Option<&'s MinidumpMemory<'a>>) -> Option<UnifiedMemory<'s, 'a>>
+fn of_memory<'s, 'a>(region: Option<&'s MinidumpMemory<'a>>) -> Option<UnifiedMemory<'s, 'a>>
     ensures { option_map unified_region result ≡ option_map (λ m. of_kind Memory (memory_of m)) (option_copied region.entry) }
 {
     region.map(UnifiedMemory::Memory)
 }
 
-fn long<'s, 'a>(region: Option<&'s MinidumpMemory64<'a>>) -> Option<UnifiedMemory<'s, 'a>>
+fn of_memory64<'s, 'a>(region: Option<&'s MinidumpMemory64<'a>>) -> Option<UnifiedMemory<'s, 'a>>
     ensures { option_map unified_region result ≡ option_map (λ m. of_kind Memory64 (memory_of m)) (option_copied region.entry) }
 {
     region.map(UnifiedMemory::Memory64)
 }
 
 #[derive(Drop)]
-enum Left<'a, 'mdmp> {
+enum Listed<'a, 'mdmp> {
     Memory(slice::Iter<'a, MinidumpMemory<'mdmp>>),
     Memory64(slice::Iter<'a, MinidumpMemory64<'mdmp>>),
 }
@@ -163,7 +163,7 @@ enum Left<'a, 'mdmp> {
 /// All regions of a list of memory, in its order.
 #[derive(Drop)]
 pub struct UnifiedMemoryIter<'a, 'mdmp> {
-    left: Left<'a, 'mdmp>,
+    left: Listed<'a, 'mdmp>,
 }
 
 impl<'a, 'mdmp> Iterator for UnifiedMemoryIter<'a, 'mdmp> {
@@ -175,8 +175,8 @@ impl<'a, 'mdmp> Iterator for UnifiedMemoryIter<'a, 'mdmp> {
 
     fn next(&mut self) -> Option<UnifiedMemory<'a, 'mdmp>> {
         match &mut self.left {
-            Left::Memory(regions) => plain(regions.next()),
-            Left::Memory64(regions) => long(regions.next()),
+            Listed::Memory(regions) => of_memory(regions.next()),
+            Listed::Memory64(regions) => of_memory64(regions.next()),
         }
     }
 
@@ -186,8 +186,8 @@ impl<'a, 'mdmp> Iterator for UnifiedMemoryIter<'a, 'mdmp> {
         ensures exact { result ≡ (length (regions_left self.now), Some (length (regions_left self.now))) }
     {
         let len = match &self.left {
-            Left::Memory(regions) => regions.len(),
-            Left::Memory64(regions) => regions.len(),
+            Listed::Memory(regions) => regions.len(),
+            Listed::Memory64(regions) => regions.len(),
         };
         (len, Some(len))
     }
@@ -214,8 +214,8 @@ impl<'a, 'mdmp> Iterator for UnifiedMemoryByAddress<'a, 'mdmp> {
 
     fn next(&mut self) -> Option<UnifiedMemory<'a, 'mdmp>> {
         match &mut self.left {
-            Kept::Memory(regions) => plain(regions.next()),
-            Kept::Memory64(regions) => long(regions.next()),
+            Kept::Memory(regions) => of_memory(regions.next()),
+            Kept::Memory64(regions) => of_memory64(regions.next()),
         }
     }
 
@@ -236,8 +236,8 @@ impl<'a, 'mdmp> DoubleEndedIterator for UnifiedMemoryByAddress<'a, 'mdmp> {
 
     fn next_back(&mut self) -> Option<UnifiedMemory<'a, 'mdmp>> {
         match &mut self.left {
-            Kept::Memory(regions) => plain(regions.next_back()),
-            Kept::Memory64(regions) => long(regions.next_back()),
+            Kept::Memory(regions) => of_memory(regions.next_back()),
+            Kept::Memory64(regions) => of_memory64(regions.next_back()),
         }
     }
 }

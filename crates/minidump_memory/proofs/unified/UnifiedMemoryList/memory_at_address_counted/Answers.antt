@@ -4,7 +4,7 @@ use Rattle.minidump_memory.proofs.UnifiedLemmas.{counted}
 use Rattle.minidump_memory.proofs.unified.UnifiedMemoryList.memory_at_address_counted.Goals as goal
 
 pub returns-in-Memory : goal.returns-in-Memory
-returns-in-Memory c = rw (c.plain.ensures, c.in-Memory.is) (counted Memory _ _ _ _ _ c.memory_at_address_counted.ensures)
+returns-in-Memory c = rw (c.of_memory.ensures, c.in-Memory.is) (counted Memory _ _ _ _ _ c.memory_at_address_counted.ensures)
 
 pub returns-in-Memory64 : goal.returns-in-Memory64
-returns-in-Memory64 c = rw (c.long.ensures, c.in-Memory64.is) (counted Memory64 _ _ _ _ _ c.memory_at_address_counted-in-Memory64.ensures)
+returns-in-Memory64 c = rw (c.of_memory64.ensures, c.in-Memory64.is) (counted Memory64 _ _ _ _ _ c.memory_at_address_counted-in-Memory64.ensures)
