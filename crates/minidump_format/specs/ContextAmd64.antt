@@ -1,7 +1,5 @@
 -- The context of an x86-64 processor, as a table of width and place. Microsoft's winnt.h: CONTEXT; Breakpad's
 -- minidump_cpu_amd64.h.
-use Rattle.std.specs.Prelude.{ℕ, List}
-use Rattle.minidump_bytes.specs.declared.endian.Endian.{Endian}
 use Rattle.minidump_bytes.specs.Entries.{entries}
 use Rattle.minidump_bytes.specs.Layout.{Layout, byte_layout, number_layout}
 use Rattle.minidump_bytes.specs.Number.{number_at}

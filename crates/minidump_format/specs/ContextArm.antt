@@ -1,7 +1,6 @@
 -- The context of an ARM processor and its floating-point state, as tables of width and place. Breakpad's
 -- minidump_cpu_arm.h: MDRawContextARM, MDFloatingSaveAreaARM.
-use Rattle.std.specs.Prelude.{ℕ, List, slice_range}
-use Rattle.minidump_bytes.specs.declared.endian.Endian.{Endian}
+use Rattle.std.specs.Prelude.{slice_range}
 use Rattle.minidump_bytes.specs.Entries.{entries}
 use Rattle.minidump_bytes.specs.Layout.{Layout, number_layout}
 use Rattle.minidump_bytes.specs.Number.{number_at}

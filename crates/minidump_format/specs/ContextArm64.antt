@@ -1,7 +1,5 @@
 -- The contexts of an ARM64 processor, as tables of width and place. Microsoft's winnt.h: ARM64_NT_CONTEXT; Breakpad's
 -- minidump_cpu_arm64.h: MDRawContextARM64, MDRawContextARM64_Old.
-use Rattle.std.specs.Prelude.{ℕ, List}
-use Rattle.minidump_bytes.specs.declared.endian.Endian.{Endian}
 use Rattle.minidump_bytes.specs.Entries.{entries}
 use Rattle.minidump_bytes.specs.Layout.{Layout, number_layout}
 use Rattle.minidump_bytes.specs.Number.{number_at}

@@ -1,7 +1,6 @@
 -- The context of an x86 processor and its floating-point state, as tables of width and place. Microsoft's winnt.h: CONTEXT,
 -- FLOATING_SAVE_AREA; Breakpad's minidump_cpu_x86.h.
-use Rattle.std.specs.Prelude.{ℕ, List, slice_range}
-use Rattle.minidump_bytes.specs.declared.endian.Endian.{Endian}
+use Rattle.std.specs.Prelude.{slice_range}
 use Rattle.minidump_bytes.specs.Entries.{entries}
 use Rattle.minidump_bytes.specs.Layout.{Layout, byte_layout}
 use Rattle.minidump_bytes.specs.Number.{number_at}

@@ -1,7 +1,6 @@
 -- The records at the head of a minidump, each a table of its fields: width in bytes, then place. Microsoft's
 -- minidumpapiset.h: MINIDUMP_HEADER, MINIDUMP_LOCATION_DESCRIPTOR, MINIDUMP_DIRECTORY.
-use Rattle.std.specs.Prelude.{ℕ, List, slice_range}
-use Rattle.minidump_bytes.specs.declared.endian.Endian.{Endian}
+use Rattle.std.specs.Prelude.{slice_range}
 use Rattle.minidump_bytes.specs.Layout.{Layout}
 use Rattle.minidump_bytes.specs.Number.{number_at}
 use Rattle.minidump_format.specs.declared.format.header.MINIDUMP_HEADER.{MINIDUMP_HEADER}

@@ -1,7 +1,6 @@
 -- The records of the misc information stream, as tables of width and place. Microsoft's minidumpapiset.h:
 -- MINIDUMP_MISC_INFO to MINIDUMP_MISC_INFO_5, TIME_ZONE_INFORMATION, SYSTEMTIME, XSTATE_CONFIG_FEATURE_MSC_INFO.
-use Rattle.std.specs.Prelude.{ℕ, List, slice_range}
-use Rattle.minidump_bytes.specs.declared.endian.Endian.{Endian}
+use Rattle.std.specs.Prelude.{slice_range}
 use Rattle.minidump_bytes.specs.Entries.{entries}
 use Rattle.minidump_bytes.specs.Layout.{Layout, number_layout}
 use Rattle.minidump_bytes.specs.Number.{number_at, signed_at}

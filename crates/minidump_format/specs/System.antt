@@ -1,7 +1,6 @@
 -- The system information: Microsoft's MINIDUMP_SYSTEM_INFO and Breakpad's MDCPUInformation, as tables of width and
 -- place, and the numbers of architectures and platforms.
-use Rattle.std.specs.Prelude.{ℕ, List, [], ◌∷◌, slice_index, find, ◌==◌, Option}
-use Rattle.minidump_bytes.specs.declared.endian.Endian.{Endian}
+use Rattle.std.specs.Prelude.{ℕ, [], ◌∷◌, slice_index, find, ◌==◌, Option}
 use Rattle.minidump_bytes.specs.Layout.{Layout, byte_layout, number_layout}
 use Rattle.minidump_bytes.specs.Number.{number_at}
 use Rattle.minidump_bytes.specs.Entries.{entries}
