@@ -1,3 +1,4 @@
+pub mod EntryLemmas
 pub mod ListLemmas
 pub mod HexLemmas
 pub mod NumberLemmas

@@ -1,13 +1,11 @@
-ghost use Rattle.std.specs.Prelude.{◌≡◌, ◌↔◌, ◌+◌, ◌*◌, ◌≤◌, length, slice_range, vec_capacity, IsSome, IfSome, IfOk};
+ghost use Rattle.std.specs.Prelude.{◌≡◌, ◌↔◌, ◌+◌, ◌*◌, ◌≤◌, length, slice_range, IsSome, IfSome};
 ghost use Rattle.std.specs.Option.{option_copied};
 ghost use Rattle.minidump_bytes.specs.Entries.{entries};
 ghost use Rattle.minidump_bytes.specs.Source.{bytes_of};
 ghost use Rattle.minidump_bytes.specs.Span.{record_at, span};
 ghost use Rattle.minidump_bytes.specs.Steps.{after};
 
-use crate::array::record_in;
-use crate::{Endian, Record, Steps};
-use std::alloc::{AllocError, Global};
+use crate::{Endian, Entries, Record, Steps};
 
 /// The bytes of a file, or of a part of it. Each read of it is one step, whether it is answered or not.
 #[derive(Clone, Copy)]
@@ -49,28 +47,23 @@ impl<'a> Source<'a> {
         Some(R::decode(bytes, endian))
     }
 
-    /// So many records, which stand one after another from a place on. They are as many steps, also where
-    /// no memory is found for them.
-    pub fn records<R: Record + Drop>(
+    /// So many records, which stand one after another from a place on, decoded as they are asked for. They
+    /// are as many steps, all counted here.
+    #[tactic(auto, using(crate::proofs::EntryLemmas::entries_len))]
+    pub fn entries<R: Record>(
         self,
-        alloc: Global,
         place: u64,
         count: u64,
         endian: Endian,
         steps: &mut Steps,
-    ) -> Result<Vec<R>, AllocError>
+    ) -> Entries<'a, R>
         requires { place + R.layout.size * count ≤ length (bytes_of self) }
-        ensures items { IfOk result (λ v. v.items ≡ entries R.layout endian (bytes_of self.entry) place count) }
-        ensures len { IfOk result (λ v. length v.items ≡ count) }
+        ensures items { result ≡ entries R.layout endian (bytes_of self.entry) place count }
+        ensures len { length result ≡ count }
         ensures steps { steps.new ≡ after steps.old count }
     {
         steps.add(count);
-        let mut records = Vec::with_capacity(alloc, count as usize)?;
-        let bytes = self.bytes;
-        for i in 0..count as usize {
-            records.push_reserved(record_in(bytes, place as usize, endian, count as usize, i));
-        }
-        Ok(records)
+        Entries::new(self.bytes, place as usize, count as usize, endian)
     }
 
     /// The `len` bytes from the place `from` on, or `None` where there are fewer.

@@ -1,5 +1,5 @@
 use crate::Encode;
-use minidump_bytes::Endian;
+use minidump_bytes::{Endian, Record};
 use std::alloc::{AllocError, Global};
 
 /// Bytes that grow at their end, with the byte order of their numbers. What appends answers the section,
@@ -143,6 +143,35 @@ impl Section {
     /// Appends the count of the records as a `u32`, then the records.
     pub fn list<R: Encode>(&mut self, records: &[R]) -> &mut Section {
         self.u32(saturated(records.len())).records(records)
+    }
+
+    /// Appends the count of the records as a `u32`, four zeros that align what follows, then the records.
+    pub fn aligned_list<R: Encode>(&mut self, records: &[R]) -> &mut Section {
+        self.u32(saturated(records.len())).u32(0).records(records)
+    }
+
+    /// Appends the count of the records and a place in the file, each a `u64`, then the records.
+    pub fn list_64<R: Encode>(&mut self, rva: u64, records: &[R]) -> &mut Section {
+        self.u64(records.len() as u64).u64(rva).records(records)
+    }
+
+    /// Appends the size of the list's header, that of a record, and the count of the records, each a
+    /// `u32`; zeros up to the end of the header; then the records.
+    pub fn extended_list<R: Encode + Record>(
+        &mut self,
+        size_of_header: u32,
+        records: &[R],
+    ) -> &mut Section {
+        self.u32(size_of_header)
+            .u32(saturated(R::SIZE))
+            .u32(saturated(records.len()))
+            .zeros((size_of_header as usize).saturating_sub(12))
+            .records(records)
+    }
+
+    /// Appends a handle list: an extended list with a header of 16 bytes.
+    pub fn handle_list<R: Encode + Record>(&mut self, records: &[R]) -> &mut Section {
+        self.extended_list(16, records)
     }
 }
 

@@ -1,5 +1,6 @@
 mod context;
 mod fields;
+mod lists;
 mod records;
 
 use crate::{FailsAt, Full, OneByte, Section, SynthMinidump, TakesNone};

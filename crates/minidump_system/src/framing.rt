@@ -1,29 +1,30 @@
 //! How a stream that is a list lays out its entries: their count, and where they begin.
-ghost use Rattle.std.specs.Prelude.{◌≡◌, ◌+◌, ◌*◌, ◌≤◌, ◌<◌, ◌^◌, length, IfOk, IsOk};
+ghost use Rattle.std.specs.Prelude.{◌≡◌, ◌+◌, ◌*◌, ◌≤◌, length, IfOk, IsOk};
+ghost use Rattle.std.proofs.Common.{rules};
 ghost use Rattle.minidump_bytes.specs.Source.{bytes_of};
 ghost use Rattle.minidump_bytes.specs.Steps.{after};
 ghost use Rattle.minidump_format.specs.Answer.{Gives};
-ghost use Rattle.minidump_system.specs.Framing.{count_of, count_64_of, list_64_of, plain_list, list_64};
+ghost use Rattle.minidump_system.specs.Framing.{count_of, count_64_of, extended_list, handle_list, handles_in, list_64, list_64_of, list_64_left, list_header, list_header_of, plain_list};
 
-use minidump_bytes::{Endian, Record, Source, Steps};
+use minidump_bytes::{Endian, Entries, Record, Source, Steps};
 use minidump_format::Error;
+use minidump_format::format::{MINIDUMP_HANDLE_DESCRIPTOR, MINIDUMP_HANDLE_DESCRIPTOR_2};
 use std::alloc::Global;
 
 /// The entries of a plain list: a count of 32 bits, perhaps four bytes that align what follows, and the
 /// entries to the end. `StreamReadFailure` where there is no count, `StreamSizeMismatch` where the stream
-/// has another length. Memory is taken once the length is known to be right.
-pub fn read_plain_list<R: Record + Drop>(
-    alloc: Global,
-    bytes: Source<'_>,
+/// has another length.
+pub fn plain_entries<'a, R: Record>(
+    bytes: Source<'a>,
     endian: Endian,
     steps: &mut Steps,
-) -> Result<Vec<R>, Error>
-    ensures means { Gives (λ v. v.items) (IsOk (plain_list R.layout endian (bytes_of bytes.entry))) result (plain_list R.layout endian (bytes_of bytes.entry)) }
-    ensures counted { IfOk result (λ v. length v.items ≡ count_of endian (bytes_of bytes.entry)) }
-    ensures sized { IfOk result (λ v. 4 + R.layout.size * length v.items ≤ length (bytes_of bytes.entry)) }
+) -> Result<Entries<'a, R>, Error>
+    ensures means { result ≡ plain_list R.layout endian (bytes_of bytes.entry) }
+    ensures counted { IfOk result (λ list. length list ≡ count_of endian (bytes_of bytes.entry)) }
+    ensures sized { IfOk result (λ list. 4 + R.layout.size * length list ≤ length (bytes_of bytes.entry)) }
     ensures within { steps.new ≤ steps.old + length (bytes_of bytes.entry) + 1 }
     ensures begun { after steps.old 1 ≤ steps.new }
-    ensures steps { IfOk result (λ v. steps.new ≡ after steps.old (1 + length v.items)) }
+    ensures steps { IfOk result (λ list. steps.new ≡ after steps.old (1 + length list)) }
 {
     let count: u32 = bytes
         .record(0, endian, steps)
@@ -37,25 +38,23 @@ pub fn read_plain_list<R: Record + Drop>(
     } else {
         return Err(Error::StreamSizeMismatch { expected, actual });
     };
-    Ok(bytes.records(alloc, start, count as u64, endian, steps)?)
+    Ok(bytes.entries(start, count as u64, endian, steps))
 }
 
 /// The entries of a 64 list, and the place in the file that it names: a count and a place of 64 bits, and
 /// the entries to the end. `StreamReadFailure` where one of the two numbers is missing or the length of
-/// the list is 2^64 or more, `StreamSizeMismatch` where the stream has another length. Memory is taken
-/// once the length is known to be right.
-pub fn read_list_64<R: Record + Drop>(
-    alloc: Global,
-    bytes: Source<'_>,
+/// the list is 2^64 or more, `StreamSizeMismatch` where the stream has another length.
+pub fn entries_64<'a, R: Record>(
+    bytes: Source<'a>,
     endian: Endian,
     steps: &mut Steps,
-) -> Result<(u64, Vec<R>), Error>
-    ensures means { Gives list_64_of (IsOk (list_64 R.layout endian (bytes_of bytes.entry))) result (list_64 R.layout endian (bytes_of bytes.entry)) }
-    ensures counted { IfOk result (λ v. length v.1.items ≡ count_64_of endian (bytes_of bytes.entry)) }
-    ensures sized { IfOk result (λ v. 16 + R.layout.size * length v.1.items ≤ length (bytes_of bytes.entry)) }
+) -> Result<(u64, Entries<'a, R>), Error>
+    ensures means { Gives list_64_left ⊥ result (list_64 R.layout endian (bytes_of bytes.entry)) }
+    ensures counted { IfOk result (λ l. length l.1 ≡ count_64_of endian (bytes_of bytes.entry)) }
+    ensures sized { IfOk result (λ l. 16 + R.layout.size * length l.1 ≤ length (bytes_of bytes.entry)) }
     ensures within { steps.new ≤ steps.old + length (bytes_of bytes.entry) + 2 }
     ensures begun { after steps.old 1 ≤ steps.new }
-    ensures steps { IfOk result (λ v. steps.new ≡ after steps.old (2 + length v.1.items)) }
+    ensures steps { IfOk result (λ l. steps.new ≡ after steps.old (2 + length l.1)) }
 {
     let count: u64 = bytes
         .record(0, endian, steps)
@@ -71,6 +70,144 @@ pub fn read_list_64<R: Record + Drop>(
     if actual != expected {
         return Err(Error::StreamSizeMismatch { expected, actual });
     }
-    let entries = bytes.records(alloc, 16, count, endian, steps)?;
-    Ok((rva, entries))
+    Ok((rva, bytes.entries(16, count, endian, steps)))
+}
+
+/// What an extended list and a handle list begin with.
+#[derive(Clone, Copy)]
+struct ListHeader {
+    /// How many bytes there are before the first entry.
+    size_of_header: u32,
+    size_of_entry: u32,
+    number_of_entries: u32,
+}
+
+impl Record for ListHeader {
+    ghost SIZE = { 12 };
+
+    const SIZE: usize = 12;
+
+    ghost layout = { list_header };
+
+    fn decode(bytes: &[u8], endian: Endian) -> Self {
+        ListHeader {
+            size_of_header: endian.u32_at(bytes, 0),
+            size_of_entry: endian.u32_at(bytes, 4),
+            number_of_entries: endian.u32_at(bytes, 8),
+        }
+    }
+
+    ghost fits = { Prim.search rules };
+}
+
+/// The entries of an extended list: the size of its header, the size of an entry and a count, each of 32
+/// bits, and the entries behind the header. More bytes may follow. In this order: `StreamReadFailure`
+/// where one of the numbers is missing or the entries have another size, `StreamSizeMismatch` where the
+/// stream is shorter than header and entries, `StreamReadFailure` where the header is shorter than its
+/// numbers.
+pub fn extended_entries<'a, R: Record>(
+    bytes: Source<'a>,
+    endian: Endian,
+    steps: &mut Steps,
+) -> Result<Entries<'a, R>, Error>
+    ensures means { result ≡ extended_list R.layout endian (bytes_of bytes.entry) }
+    ensures counted { IfOk result (λ list. length list ≡ (list_header_of endian (bytes_of bytes.entry)).number_of_entries) }
+    ensures sized { IfOk result (λ list. 12 + R.layout.size * length list ≤ length (bytes_of bytes.entry)) }
+    ensures within { steps.new ≤ steps.old + length (bytes_of bytes.entry) + 1 }
+    ensures begun { after steps.old 1 ≤ steps.new }
+    ensures steps { IfOk result (λ list. steps.new ≡ after steps.old (1 + length list)) }
+{
+    let header: ListHeader = bytes
+        .record(0, endian, steps)
+        .ok_or(Error::StreamReadFailure)?;
+    if header.size_of_entry as usize != R::SIZE {
+        return Err(Error::StreamReadFailure);
+    }
+    let start = header.size_of_header as usize;
+    let expected = start + R::SIZE * header.number_of_entries as usize;
+    let actual = bytes.len();
+    if actual < expected {
+        return Err(Error::StreamSizeMismatch { expected, actual });
+    }
+    if start < ListHeader::SIZE {
+        return Err(Error::StreamReadFailure);
+    }
+    Ok(bytes.entries(start as u64, header.number_of_entries as u64, endian, steps))
+}
+
+/// The entries of a handle list, in one of the two sizes that they have.
+#[derive(Drop)]
+pub enum HandleEntries<'a> {
+    Short(Entries<'a, MINIDUMP_HANDLE_DESCRIPTOR>),
+    Long(Entries<'a, MINIDUMP_HANDLE_DESCRIPTOR_2>),
+}
+
+/// The entries of a handle list, which begins as an extended list does; its header may be shorter than its
+/// numbers. In this order: `StreamReadFailure` where one of the numbers is missing, `StreamSizeMismatch`
+/// where the stream is shorter than header and entries, `StreamReadFailure` where there are entries, and
+/// their size is neither 32 nor 40. More bytes may follow.
+pub fn handle_entries<'a>(
+    bytes: Source<'a>,
+    endian: Endian,
+    steps: &mut Steps,
+) -> Result<HandleEntries<'a>, Error>
+    ensures means { result ≡ handle_list endian (bytes_of bytes.entry) }
+    ensures counted { IfOk result (λ list. handles_in list ≡ (list_header_of endian (bytes_of bytes.entry)).number_of_entries) }
+    ensures sized { IfOk result (λ list. 32 * handles_in list ≤ length (bytes_of bytes.entry)) }
+    ensures within { steps.new ≤ steps.old + length (bytes_of bytes.entry) + 1 }
+    ensures begun { after steps.old 1 ≤ steps.new }
+    ensures steps { IfOk result (λ list. steps.new ≡ after steps.old (1 + handles_in list)) }
+{
+    let header: ListHeader = bytes
+        .record(0, endian, steps)
+        .ok_or(Error::StreamReadFailure)?;
+    let start = header.size_of_header as u64;
+    let count = header.number_of_entries as u64;
+    let expected = (start + header.size_of_entry as u64 * count) as usize;
+    let actual = bytes.len();
+    if actual < expected {
+        return Err(Error::StreamSizeMismatch { expected, actual });
+    }
+    match header.size_of_entry {
+        40 => Ok(HandleEntries::Long(bytes.entries(start, count, endian, steps))),
+        32 => Ok(HandleEntries::Short(bytes.entries(start, count, endian, steps))),
+        _ if count == 0 => Ok(HandleEntries::Short(bytes.entries(start, count, endian, steps))),
+        _ => Err(Error::StreamReadFailure),
+    }
+}
+
+/// [`plain_entries`] in a vector. Memory is taken once the length is known to be right.
+pub fn read_plain_list<R: Record + Drop>(
+    alloc: Global,
+    bytes: Source<'_>,
+    endian: Endian,
+    steps: &mut Steps,
+) -> Result<Vec<R>, Error>
+    ensures means { Gives (λ v. v.items) (IsOk (plain_list R.layout endian (bytes_of bytes.entry))) result (plain_list R.layout endian (bytes_of bytes.entry)) }
+    ensures counted { IfOk result (λ v. length v.items ≡ count_of endian (bytes_of bytes.entry)) }
+    ensures sized { IfOk result (λ v. 4 + R.layout.size * length v.items ≤ length (bytes_of bytes.entry)) }
+    ensures within { steps.new ≤ steps.old + length (bytes_of bytes.entry) + 1 }
+    ensures begun { after steps.old 1 ≤ steps.new }
+    ensures steps { IfOk result (λ v. steps.new ≡ after steps.old (1 + length v.items)) }
+{
+    let entries = plain_entries(bytes, endian, steps)?;
+    Ok(entries.collect(alloc)?)
+}
+
+/// [`entries_64`] with a vector of the entries. Memory is taken once the length is known to be right.
+pub fn read_list_64<R: Record + Drop>(
+    alloc: Global,
+    bytes: Source<'_>,
+    endian: Endian,
+    steps: &mut Steps,
+) -> Result<(u64, Vec<R>), Error>
+    ensures means { Gives list_64_of (IsOk (list_64 R.layout endian (bytes_of bytes.entry))) result (list_64 R.layout endian (bytes_of bytes.entry)) }
+    ensures counted { IfOk result (λ v. length v.1.items ≡ count_64_of endian (bytes_of bytes.entry)) }
+    ensures sized { IfOk result (λ v. 16 + R.layout.size * length v.1.items ≤ length (bytes_of bytes.entry)) }
+    ensures within { steps.new ≤ steps.old + length (bytes_of bytes.entry) + 2 }
+    ensures begun { after steps.old 1 ≤ steps.new }
+    ensures steps { IfOk result (λ v. steps.new ≡ after steps.old (2 + length v.1.items)) }
+{
+    let (rva, entries) = entries_64(bytes, endian, steps)?;
+    Ok((rva, entries.collect(alloc)?))
 }

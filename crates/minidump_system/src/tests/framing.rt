@@ -1,17 +1,29 @@
-use crate::framing::{read_list_64, read_plain_list};
-use minidump_bytes::{Endian, Source, Steps};
+use crate::framing::{HandleEntries, entries_64, extended_entries, handle_entries, plain_entries};
+use minidump_bytes::{Endian, Entries, Source, Steps};
 use minidump_format::Error;
 use std::alloc::Global;
 use std::test::Fail;
 
 // The numbers of a plain list.
 fn plain(alloc: Global, bytes: &[u8], endian: Endian) -> Result<Vec<u32>, Error> {
-    read_plain_list(alloc, Source::new(bytes), endian, &mut Steps::new())
+    let entries: Entries<'_, u32> = plain_entries(Source::new(bytes), endian, &mut Steps::new())?;
+    Ok(entries.collect(alloc)?)
 }
 
 // The place and the numbers of a 64 list.
 fn list_64(alloc: Global, bytes: &[u8], endian: Endian) -> Result<(u64, Vec<u32>), Error> {
-    read_list_64(alloc, Source::new(bytes), endian, &mut Steps::new())
+    let (rva, entries) = entries_64::<u32>(Source::new(bytes), endian, &mut Steps::new())?;
+    Ok((rva, entries.collect(alloc)?))
+}
+
+// The numbers of an extended list.
+fn extended(alloc: Global, bytes: &[u8], endian: Endian) -> Result<Vec<u32>, Error> {
+    let entries: Entries<'_, u32> = extended_entries(
+        Source::new(bytes),
+        endian,
+        &mut Steps::new(),
+    )?;
+    Ok(entries.collect(alloc)?)
 }
 
 #[test]
@@ -116,12 +128,10 @@ fn refuses_64_lists_of_other_lengths(rt: HostRuntime) -> Result<(), Fail> {
 // Only the count is read, and of a 64 list the place. 4 * (2^62 - 4) + 16 is 2^64, no length of a stream.
 #[test]
 fn reads_no_entry_of_a_forged_count(rt: HostRuntime) -> Result<(), Fail> {
-    let alloc = rt.alloc();
     let mut steps = Steps::new();
     let count = Source::new(&[0xff, 0xff, 0xff, 0xff, 0, 0, 0, 0]);
-    let plain: Result<Vec<u32>, Error> = read_plain_list(alloc, count, Endian::Little, &mut steps);
     assert_eq!(rt;
-        plain.err(),
+        plain_entries::<u32>(count, Endian::Little, &mut steps).err(),
         Some(Error::StreamSizeMismatch {
             expected: 4 + 4 * 4_294_967_295,
             actual: 8
@@ -142,14 +152,166 @@ fn reads_no_entry_of_a_forged_count(rt: HostRuntime) -> Result<(), Fail> {
             lowest, 0xff, 0xff, 0xff, 0xff, 0xff, 0xff, 0x3f, 0, 0, 0, 0, 0, 0, 0, 0,
         ];
         let mut steps = Steps::new();
-        let list: Result<(u64, Vec<u32>), Error> = read_list_64(
-            alloc,
-            Source::new(&bytes),
-            Endian::Little,
-            &mut steps,
-        );
+        let list = entries_64::<u32>(Source::new(&bytes), Endian::Little, &mut steps);
         assert_eq!(rt; list.err(), Some(refusal));
         assert_eq!(rt; steps.count(), 2);
     }
+    Ok(())
+}
+
+#[test]
+fn gives_entries_one_by_one(rt: HostRuntime) -> Result<(), Fail> {
+    let bytes = [2, 0, 0, 0, 9, 0, 0, 0, 5, 0, 0, 0];
+    let mut steps = Steps::new();
+    let mut entries: Entries<'_, u32> = plain_entries(
+        Source::new(&bytes),
+        Endian::Little,
+        &mut steps,
+    )?;
+    assert_eq!(rt; steps.count(), 3);
+    assert_eq!(rt; entries.len(), 2);
+    assert_eq!(rt; entries.next(), Some(9));
+    assert_eq!(rt; entries.size_hint(), (1, Some(1)));
+    assert_eq!(rt; entries.next(), Some(5));
+    assert_eq!(rt; entries.next(), None);
+    assert_eq!(rt; entries.next(), None);
+    Ok(())
+}
+
+// The three numbers of a header, in little-endian order.
+fn header(size_of_header: u32, size_of_entry: u32, count: u32) -> [u8; 12] {
+    let [a, b, c, d] = size_of_header.to_le_bytes();
+    let [e, f, g, h] = size_of_entry.to_le_bytes();
+    let [i, j, k, l] = count.to_le_bytes();
+    [a, b, c, d, e, f, g, h, i, j, k, l]
+}
+
+#[test]
+fn extended_entries_begin_behind_their_header(rt: HostRuntime) -> Result<(), Fail> {
+    let alloc = rt.alloc();
+    let lists: [(&[u8], Endian, &[u32]); 4] = [
+        (&[12, 0, 0, 0, 4, 0, 0, 0, 0, 0, 0, 0], Endian::Little, &[]),
+        (
+            &[12, 0, 0, 0, 4, 0, 0, 0, 1, 0, 0, 0, 5, 0, 0, 0, 6],
+            Endian::Little,
+            &[5],
+        ),
+        (
+            &[13, 0, 0, 0, 4, 0, 0, 0, 1, 0, 0, 0, 9, 5, 0, 0, 0],
+            Endian::Little,
+            &[5],
+        ),
+        (
+            &[
+                0, 0, 0, 16, 0, 0, 0, 4, 0, 0, 0, 2, 9, 9, 9, 9, 0, 0, 0, 7, 0, 0, 1, 2,
+            ],
+            Endian::Big,
+            &[7, 0x102],
+        ),
+    ];
+    for (bytes, endian, want) in lists {
+        assert_eq!(rt; extended(alloc, bytes, endian)?.as_slice(), want);
+    }
+    Ok(())
+}
+
+#[test]
+fn refuses_extended_lists(rt: HostRuntime) -> Result<(), Fail> {
+    let alloc = rt.alloc();
+    for (header, refusal) in [
+        (
+            header(12, 4, 1),
+            Error::StreamSizeMismatch {
+                expected: 16,
+                actual: 12,
+            },
+        ),
+        (
+            header(8, 4, u32::MAX),
+            Error::StreamSizeMismatch {
+                expected: 17_179_869_188,
+                actual: 12,
+            },
+        ),
+        (header(11, 4, 0), Error::StreamReadFailure),
+        (header(12, 8, 1), Error::StreamReadFailure),
+        (header(12, 3, 0), Error::StreamReadFailure),
+    ] {
+        assert_eq!(rt;
+            extended(alloc, &header, Endian::Little).err(),
+            Some(refusal)
+        );
+    }
+    for length in 0..12 {
+        assert_eq!(rt;
+            extended(alloc, &header(12, 4, 0)[..length], Endian::Little).err(),
+            Some(Error::StreamReadFailure)
+        );
+    }
+    Ok(())
+}
+
+// Whether the entries of a handle list have 40 bytes, and their values.
+fn handles(alloc: Global, bytes: &[u8]) -> Result<(bool, Vec<u64>), Error> {
+    match handle_entries(Source::new(bytes), Endian::Little, &mut Steps::new())? {
+        HandleEntries::Short(list) => Ok((false, list.map(|raw| raw.handle).collect(alloc)?)),
+        HandleEntries::Long(list) => Ok((true, list.map(|raw| raw.handle).collect(alloc)?)),
+    }
+}
+
+#[test]
+fn handles_have_32_or_40_bytes(rt: HostRuntime) -> Result<(), Fail> {
+    let alloc = rt.alloc();
+    let mut bytes = [0; 84];
+    for (place, byte) in header(4, 32, 2).into_iter().enumerate() {
+        bytes[place] = byte;
+    }
+    let (is_long, values) = handles(alloc, &bytes)?;
+    assert!(rt; !is_long);
+    assert_eq!(rt; values.as_slice(), [0x2_0000_0020, 0].as_slice());
+    bytes[4] = 40;
+    let (is_long, values) = handles(alloc, &bytes)?;
+    assert!(rt; is_long);
+    assert_eq!(rt; values.as_slice(), [0x2_0000_0028, 0].as_slice());
+    bytes[4] = 33;
+    assert_eq!(rt;
+        handles(alloc, &bytes).err(),
+        Some(Error::StreamReadFailure)
+    );
+    bytes[4] = 41;
+    assert_eq!(rt;
+        handles(alloc, &bytes).err(),
+        Some(Error::StreamSizeMismatch {
+            expected: 86,
+            actual: 84
+        })
+    );
+    for length in 0..12 {
+        assert_eq!(rt;
+            handles(alloc, &bytes[..length]).err(),
+            Some(Error::StreamReadFailure)
+        );
+    }
+    Ok(())
+}
+
+// The product of the two greatest sizes and counts is no number of 32 bits, and none is read.
+#[test]
+fn no_handles_have_any_size(rt: HostRuntime) -> Result<(), Fail> {
+    let alloc = rt.alloc();
+    for (size_of_header, size_of_entry) in [(0, 33), (1, 0), (12, u32::MAX)] {
+        let (is_long, values) = handles(alloc, &header(size_of_header, size_of_entry, 0))?;
+        assert!(rt; !is_long && values.is_empty());
+    }
+    let mut steps = Steps::new();
+    let forged = header(u32::MAX, u32::MAX, u32::MAX);
+    assert_eq!(rt;
+        handle_entries(Source::new(&forged), Endian::Little, &mut steps).err(),
+        Some(Error::StreamSizeMismatch {
+            expected: 18_446_744_069_414_584_320,
+            actual: 12
+        })
+    );
+    assert_eq!(rt; steps.count(), 1);
     Ok(())
 }
