@@ -15,7 +15,7 @@ pub struct MINIDUMP_HANDLE_DESCRIPTOR {
     /// Where the name of its object is, or 0.
     pub object_name_rva: RVA,
     pub attributes: u32,
-    /// The access that it gives.
+    /// The access that it was granted.
     pub granted_access: u32,
     /// How many handles its object has.
     pub handle_count: u32,
@@ -61,7 +61,7 @@ pub struct MINIDUMP_HANDLE_DESCRIPTOR_2 {
     /// Where the name of its object is, or 0.
     pub object_name_rva: RVA,
     pub attributes: u32,
-    /// The access that it gives.
+    /// The access that it was granted.
     pub granted_access: u32,
     /// How many handles its object has.
     pub handle_count: u32,

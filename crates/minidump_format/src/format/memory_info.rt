@@ -19,7 +19,7 @@ pub struct MINIDUMP_MEMORY_INFO {
     pub region_size: u64,
     /// [`MemoryState`], as a number.
     pub state: u32,
-    /// The protection of now: [`MemoryProtection`], as a number.
+    /// The protection when the dump was written: [`MemoryProtection`], as a number.
     pub protection: u32,
     /// [`MemoryType`], as a number.
     pub _type: u32,

@@ -82,9 +82,9 @@ impl Exact for MINIDUMP_THREAD_NAME {
 #[derive(Clone, Copy, Debug, PartialEq, Eq)]
 pub struct MINIDUMP_THREAD_INFO {
     pub thread_id: u32,
-    /// How much of the thread was written.
+    /// What the writer says of the thread: Microsoft's `MINIDUMP_THREAD_INFO_` numbers.
     pub dump_flags: u32,
-    /// The error that the writer met, or 0.
+    /// The status of writing the thread, an `HRESULT`.
     pub dump_error: u32,
     /// The status that the thread ended with.
     pub exit_status: u32,
