@@ -2,5 +2,6 @@ pub mod EntryLemmas
 pub mod ListLemmas
 pub mod HexLemmas
 pub mod NumberLemmas
+pub mod SearchLemmas
 pub mod ToldLemmas
 pub mod Utf16Lemmas

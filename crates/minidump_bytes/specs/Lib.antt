@@ -8,3 +8,5 @@ pub mod Steps
 pub mod Told
 pub mod Piece
 pub mod Text16
+pub mod Text8
+pub mod Line

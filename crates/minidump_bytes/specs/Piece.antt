@@ -2,7 +2,7 @@
 use Rattle.std.specs.Prelude.{ℕ, List, ◌++◌, ◌-◌, length, replicate, codes, false, Option, Some, None}
 use Rattle.std.specs.Fmt.{decimal, digits, signed_decimal}
 use Rattle.minidump_bytes.specs.declared.piece.Piece.{Piece}
-use Rattle.minidump_bytes.specs.declared.piece.Piece.TheVariants.{Words, Decimal, Hex, Digits, Signed, Right, Left, Optional, OptionalDigits}
+use Rattle.minidump_bytes.specs.declared.piece.Piece.TheVariants.{Words, Decimal, Hex, Digits, Wide, WideDigits, Signed, Right, Left, Optional, OptionalDigits}
 
 -- what `{:#x}` writes: `0x`, then the digits, in lower case and with no zeros before them
 abbrev pub hex : ℕ → List ℕ
@@ -11,6 +11,10 @@ hex n = codes "0x" ++ digits 16 false n
 -- what `{:x}` writes
 abbrev pub plain_hex : ℕ → List ℕ
 plain_hex n = digits 16 false n
+
+-- what `{:08x}` writes for a width of 8: the digits behind the zeros that fill them up to it
+abbrev pub wide_hex : ℕ → ℕ → List ℕ
+wide_hex width n = replicate (width - length (digits 16 false n)) 48 ++ digits 16 false n
 
 -- a text at the right or at the left end of a width, with blanks beside it
 abbrev pub right : ℕ → List ℕ → List ℕ
@@ -29,6 +33,8 @@ piece_text (Words s) = s.now
 piece_text (Decimal n) = decimal n
 piece_text (Hex n) = hex n
 piece_text (Digits n) = plain_hex n
+piece_text (Wide n width) = codes "0x" ++ wide_hex width n
+piece_text (WideDigits n width) = wide_hex width n
 piece_text (Signed n) = signed_decimal n
 piece_text (Right n width) = right width (decimal n)
 piece_text (Left words width) = left width words.now

@@ -9,11 +9,13 @@ mod endian;
 mod entries;
 mod exact;
 pub mod laws;
+mod line;
 mod piece;
 mod record;
 mod source;
 mod steps;
 mod text16;
+mod text8;
 mod told;
 
 pub use array::array_at;

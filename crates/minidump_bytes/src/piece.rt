@@ -1,7 +1,7 @@
 ghost use Rattle.std.specs.Prelude.{◌≡◌, ◌++◌, ◌<◌, ◌∷◌, [], IfOk, OnOk, replicate, string_bytes, false};
 ghost use Rattle.std.specs.List.{flat_map};
 ghost use Rattle.std.specs.Fmt.{decimal, digits, digit_glyph};
-ghost use Rattle.minidump_bytes.specs.Piece.{piece_text, right};
+ghost use Rattle.minidump_bytes.specs.Piece.{piece_text, right, wide_hex};
 
 use itoa::Buffer;
 use std::alloc::{AllocError, Global};
@@ -17,6 +17,11 @@ pub enum Piece<'a> {
     Hex(u64),
     /// A number in hexadecimal, as `{:x}` writes it.
     Digits(u64),
+    /// A number in hexadecimal behind `0x`, its digits filled up to a width by zeros: `{:#010x}` is of
+    /// eight digits.
+    Wide(u64, usize),
+    /// A number in hexadecimal, its digits filled up to a width by zeros: `{:08x}` is of eight digits.
+    WideDigits(u64, usize),
     /// A signed number in decimal, as `{}` writes it.
     Signed(i32),
     /// A number in decimal behind blanks, which fill it up to a width.
@@ -51,6 +56,11 @@ pub fn push_pieces(out: &mut String, pieces: &[Piece<'_>]) -> Result<(), AllocEr
                 push_hex(out, n)?
             }
             Piece::Digits(n) => push_hex(out, n)?,
+            Piece::Wide(n, width) => {
+                out.push_str("0x")?;
+                push_wide_hex(out, n, width)?
+            }
+            Piece::WideDigits(n, width) => push_wide_hex(out, n, width)?,
             Piece::Signed(n) => {
                 let mut buffer = Buffer::new();
                 out.push_str(buffer.format(n))?
@@ -85,6 +95,28 @@ fn push_blanks(out: &mut String, count: usize) -> Result<(), AllocError>
         out.push(' ')?;
     }
     Ok(())
+}
+
+fn push_zeros(out: &mut String, count: usize) -> Result<(), AllocError>
+    ensures { OnOk result (string_bytes out.new ≡ string_bytes out.old ++ replicate count 48) }
+{
+    for _ in 0..count {
+        out.push('0')?;
+    }
+    Ok(())
+}
+
+// Appends the digits of a number in lower-case hexadecimal behind the zeros that fill them up to a width, as
+// `{:08x}` does for eight.
+fn push_wide_hex(out: &mut String, n: u64, width: usize) -> Result<(), AllocError>
+    ensures { OnOk result (string_bytes out.new ≡ string_bytes out.old ++ wide_hex width n) }
+{
+    if n < 16 {
+        push_zeros(out, width.saturating_sub(1))?;
+        return push_digit(out, n as u8);
+    }
+    push_wide_hex(out, n / 16, width.saturating_sub(1))?;
+    push_digit(out, (n % 16) as u8)
 }
 
 // Appends the digits of a number in decimal.
