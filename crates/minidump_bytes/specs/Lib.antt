@@ -10,3 +10,4 @@ pub mod Piece
 pub mod Text16
 pub mod Text8
 pub mod Line
+pub mod LinuxOsStr

@@ -62,7 +62,7 @@ fn before_nul(bytes: &[u8]) -> Option<&[u8]>
 }
 
 // The bytes as a text, where they are UTF-8.
-fn utf8_text(bytes: &[u8]) -> Option<&str>
+pub(crate) fn utf8_text(bytes: &[u8]) -> Option<&str>
     ensures { option_copied result ≡ utf8_text bytes.now }
 {
     match str::from_utf8(bytes) {
