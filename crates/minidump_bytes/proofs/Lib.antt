@@ -6,3 +6,5 @@ pub mod NumberLemmas
 pub mod SearchLemmas
 pub mod ToldLemmas
 pub mod Utf16Lemmas
+pub mod WireFieldLemmas
+pub mod WireLemmas

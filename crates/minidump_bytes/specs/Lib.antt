@@ -11,3 +11,4 @@ pub mod Text16
 pub mod Text8
 pub mod Line
 pub mod LinuxOsStr
+pub mod Wire

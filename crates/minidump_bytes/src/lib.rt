@@ -19,6 +19,7 @@ mod steps;
 mod text16;
 mod text8;
 mod told;
+mod wire;
 
 pub use array::array_at;
 pub use compare::probe;
@@ -34,6 +35,7 @@ pub use source::Source;
 pub use steps::Steps;
 pub use text16::text_before_nul;
 pub use told::{Refused, Told};
+pub use wire::{WireField, WireValue};
 
 #[cfg(test)]
 mod tests;
