@@ -6,5 +6,6 @@ pub mod NumberLemmas
 pub mod SearchLemmas
 pub mod ToldLemmas
 pub mod Utf16Lemmas
+pub mod Utf8Lemmas
 pub mod WireFieldLemmas
 pub mod WireLemmas

@@ -1,5 +1,5 @@
 -- Fields of the Protocol Buffers wire format, as its encoding guide has them.
-use Rattle.std.specs.Prelude.{◌≡◌, ℕ, zero, suc, ◌+◌, ◌-◌, ◌*◌, ◌/◌, ◌%◌, ◌^◌, ◌==◌, ◌&&◌, ◌<◌, ◌≤◌, ◌⊎◌, List, [], ◌∷◌, ◌++◌, length, take, drop, Option, Some, None, nat_le, nat_lt, if◌then◌else◌}
+use Rattle.std.specs.Prelude.{◌≡◌, ℕ, zero, suc, ◌+◌, ◌-◌, ◌*◌, ◌/◌, ◌%◌, ◌^◌, ◌==◌, ◌&&◌, ◌<◌, ◌≤◌, ◌⊎◌, List, [], ◌∷◌, ◌++◌, length, take, drop, slice_range, Option, Some, None, nat_le, nat_lt, if◌then◌else◌}
 use Rattle.std.specs.Option.{option_and_then, option_map}
 use Rattle.minidump_bytes.specs.declared.endian.Endian.TheVariants.{Little}
 use Rattle.minidump_bytes.specs.declared.wire.WireField.{WireField}
@@ -63,6 +63,12 @@ pub record SpellsField (spelled : List ℕ) (f : Field) : Type 0 where
 abbrev pub SpellsFields : List ℕ → List Field → Type 0
 SpellsFields bytes [] = bytes ≡ []
 SpellsFields bytes (f ∷ fs) = (front back : List ℕ) × (bytes ≡ front ++ back) × SpellsField front f × SpellsFields back fs
+
+-- the bytes from a place to a next one are there, and spell a field
+pub record IsFieldAt (bytes : List ℕ) (place : ℕ) (f : Field) (next : ℕ) : Type 0 where
+  pub forward : place ≤ next
+  pub within : next ≤ length bytes
+  pub spelled : SpellsField (slice_range bytes place next) f
 
 -- ---- the same as functions: what stands at the front, and the bytes behind it
 unfoldable pub groups_in : ℕ → List ℕ → Option (ℕ × List ℕ)

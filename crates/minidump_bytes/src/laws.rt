@@ -1,6 +1,8 @@
 //! Laws over the definitions that the contracts of this crate cite.
-ghost use Rattle.std.specs.Prelude.{◌≡◌, ◌<◌, ◌^◌, ℕ, All, List, MatchOption};
+ghost use Rattle.std.specs.Prelude.{◌≡◌, ◌↔◌, ◌<◌, ◌^◌, ℕ, All, List, MatchOption, Some};
 ghost use Rattle.minidump_bytes.specs.Text16.{IsTextOf, IsUtf16, utf16_text};
+ghost use Rattle.minidump_bytes.specs.Text8.{IsText8, SpellsUtf8, utf8_text};
+ghost use Rattle.minidump_bytes.specs.Wire.{Field, IsFieldAt, SpellsFields, field_at};
 
 /// Code units have a text exactly where they are the UTF-16 encoding of characters, and it is the UTF-8
 /// encoding of these.
@@ -12,4 +14,31 @@ pub fn text_spells_its_units()
 /// Two texts of the same code units are equal.
 pub fn text_of_units_is_one()
     ensures { (units one other : List ℕ) → IsTextOf units one → IsTextOf units other → one ≡ other }
+{}
+
+/// Bytes have a text exactly where they are the UTF-8 encoding of characters, and it is these bytes.
+pub fn text_is_utf8()
+    ensures { (bytes : List ℕ) → MatchOption (utf8_text bytes) (¬ (IsText8 bytes)) (λ text. (text ≡ bytes) × IsText8 bytes) }
+{}
+
+/// Bytes are the UTF-8 encoding of one list of characters at most.
+pub fn characters_of_a_text_are_one()
+    ensures { (bytes one other : List ℕ) → SpellsUtf8 bytes one → SpellsUtf8 bytes other → one ≡ other }
+{}
+
+/// A field stands at a place exactly where the bytes up to the next place spell it.
+pub fn field_is_what_bytes_spell()
+    ensures { (bytes : List ℕ) (place : ℕ) (f : Field) (next : ℕ)
+        → (field_at place bytes ≡ Some (f, next)) ↔ IsFieldAt bytes place f next }
+{}
+
+/// At a place stands one field at most, and it ends at one place.
+pub fn field_at_a_place_is_one()
+    ensures { (bytes : List ℕ) (place : ℕ) (f : Field) (next : ℕ) (g : Field) (other : ℕ)
+        → IsFieldAt bytes place f next → IsFieldAt bytes place g other → (f ≡ g) × (next ≡ other) }
+{}
+
+/// Bytes spell one list of fields at most.
+pub fn fields_of_bytes_are_one()
+    ensures { (bytes : List ℕ) (fs gs : List Field) → SpellsFields bytes fs → SpellsFields bytes gs → fs ≡ gs }
 {}

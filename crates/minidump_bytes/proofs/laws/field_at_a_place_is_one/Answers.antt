@@ -1,0 +1,5 @@
+use Rattle.minidump_bytes.proofs.WireFieldLemmas.{one_there}
+use Rattle.minidump_bytes.proofs.laws.field_at_a_place_is_one.Goals as goal
+
+pub returns : goal.returns
+returns c = one_there
