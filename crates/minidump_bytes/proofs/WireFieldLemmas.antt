@@ -198,9 +198,9 @@ is_eq m n h = grind (arith, nat_tests)
 
 by_kind : (a b c d : Bool) (kind : ℕ) (bytes : List ℕ) (q : Payload) (back : List ℕ) → (kind == 0) ≡ a → (kind == 1) ≡ b → (kind == 2) ≡ c → (kind == 5) ≡ d
     → (if a then option_and_then (λ r. Some (holds (Varint r.0) r.1)) (varint_in bytes) else (
-      if b then option_and_then (λ r. Some (holds (Eight (number_at Little 8 0 r.0)) r.1)) (front_in 8 bytes) else (
-      if c then option_and_then (λ size. option_and_then (λ r. Some (holds (Bytes r.0) r.1)) (front_in size.0 size.1)) (varint_in bytes) else (
-      if d then option_and_then (λ r. Some (holds (Four (number_at Little 4 0 r.0)) r.1)) (front_in 4 bytes) else None)))) ≡ Some (holds q back)
+    if b then option_and_then (λ r. Some (holds (Eight (number_at Little 8 0 r.0)) r.1)) (front_in 8 bytes) else (
+    if c then option_and_then (λ size. option_and_then (λ r. Some (holds (Bytes r.0) r.1)) (front_in size.0 size.1)) (varint_in bytes) else (
+    if d then option_and_then (λ r. Some (holds (Four (number_at Little 4 0 r.0)) r.1)) (front_in 4 bytes) else None)))) ≡ Some (holds q back)
     → IsPayload kind bytes q back
 by_kind true b c d kind bytes q back ia ib ic id e = varint_case kind bytes q back (varint_in bytes) refl (is_eq kind 0 ia) e
 by_kind false true c d kind bytes q back ia ib ic id e = eight_case kind bytes q back (front_in 8 bytes) refl (is_eq kind 1 ib) e

@@ -1,6 +1,7 @@
 -- The text of a piece.
-use Rattle.std.specs.Prelude.{ℕ, List, ◌++◌, ◌-◌, length, replicate, codes, false, Option, Some, None}
-use Rattle.std.specs.Fmt.{decimal, digits, signed_decimal}
+use Rattle.std.specs.Prelude.{ℕ, List, [], ◌∷◌, ◌++◌, ◌-◌, ◌/◌, ◌%◌, length, replicate, codes, false, Option, Some, None}
+use Rattle.std.specs.Fmt.{decimal, digit_glyph, digits, signed_decimal}
+use Rattle.std.specs.List.{flat_map}
 use Rattle.minidump_bytes.specs.declared.piece.Piece.{Piece}
 use Rattle.minidump_bytes.specs.declared.piece.Piece.TheVariants.{Words, Decimal, Hex, Digits, Wide, WideDigits, Signed, Right, Left, Optional, OptionalDigits}
 
@@ -15,6 +16,10 @@ plain_hex n = digits 16 false n
 -- what `{:08x}` writes for a width of 8: the digits behind the zeros that fill them up to it
 abbrev pub wide_hex : ℕ → ℕ → List ℕ
 wide_hex width n = replicate (width - length (digits 16 false n)) 48 ++ digits 16 false n
+
+-- the two digits of each byte, as `{:02x}` writes them
+abbrev pub bytes_hex : List ℕ → List ℕ
+bytes_hex bytes = flat_map (λ b. digit_glyph false (b / 16) ∷ digit_glyph false (b % 16) ∷ []) bytes
 
 -- a text at the right or at the left end of a width, with blanks beside it
 abbrev pub right : ℕ → List ℕ → List ℕ

@@ -139,21 +139,21 @@ pub fn push_hex(out: &mut String, n: u64) -> Result<(), AllocError>
     push_digit(out, (n % 16) as u8)
 }
 
-fn push_digit(out: &mut String, digit: u8) -> Result<(), AllocError>
-    requires { digit < 16 }
-    ensures { OnOk result (string_bytes out.new ≡ string_bytes out.old ++ (digit_glyph false digit ∷ [])) }
+fn push_digit(out: &mut String, value: u8) -> Result<(), AllocError>
+    requires { value < 16 }
+    ensures { OnOk result (string_bytes out.new ≡ string_bytes out.old ++ (digit_glyph false value ∷ [])) }
 {
-    out.push(char::from(shown(digit)))
+    out.push(char::from(digit(value)))
 }
 
 // The character of a digit.
-fn shown(digit: u8) -> u8
-    requires { digit < 16 }
-    ensures { result ≡ digit_glyph false digit }
+pub(crate) fn digit(value: u8) -> u8
+    requires { value < 16 }
+    ensures { result ≡ digit_glyph false value }
 {
-    if digit < 10 {
-        b'0' + digit
+    if value < 10 {
+        b'0' + value
     } else {
-        b'a' + (digit - 10)
+        b'a' + (value - 10)
     }
 }
