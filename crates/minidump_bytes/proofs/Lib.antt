@@ -5,6 +5,7 @@ pub mod LinuxTextLemmas
 pub mod NumberLemmas
 pub mod SearchLemmas
 pub mod ToldLemmas
+pub mod UnitLemmas
 pub mod Utf16Lemmas
 pub mod Utf8Lemmas
 pub mod WireFieldLemmas

@@ -1,5 +1,5 @@
 -- Texts in UTF-16.
-use Rattle.std.specs.Prelude.{◌≡◌, ℕ, ◌+◌, ◌/◌, ◌%◌, ◌==◌, true, ◌&&◌, List, length, slice_range, Option, Some, None, nat_le, if◌then◌else◌, encode_utf8_all}
+use Rattle.std.specs.Prelude.{◌≡◌, ℕ, ◌+◌, ◌≤◌, ◌/◌, ◌%◌, ◌==◌, true, ◌&&◌, List, length, slice_range, Option, Some, None, nat_le, if◌then◌else◌, encode_utf8_all}
 use Rattle.std.specs.List.{before_first, flat_map}
 use Rattle.std.specs.Str.{all_scalars}
 use Rattle.std.specs.Char.Escape.{encode_utf16}
@@ -40,6 +40,12 @@ abbrev pub text16 : Endian → ℕ → List ℕ → Option (List ℕ)
 text16 order place bytes =
     if nat_le (place + 4) (length bytes) then sized_text16 order (place + 4) (number_at order 4 0 (slice_range bytes place (place + 4))) bytes
     else None
+
+-- the bytes that a text at a place states are there: its size, which is even, and so many behind it
+abbrev pub HoldsText16 : Endian → ℕ → List ℕ → Type 0
+HoldsText16 order place bytes =
+    let size = number_at order 4 0 (slice_range bytes place (place + 4)) in
+    (place + 4 ≤ length bytes) × (size % 2 ≡ 0) × (place + 4 + size ≤ length bytes)
 
 -- the text of the code units before the first that is 0, or of all where none is
 abbrev pub text_before_nul : List ℕ → Option (List ℕ)

@@ -20,6 +20,7 @@ mod steps;
 mod text16;
 mod text8;
 mod told;
+mod utf16;
 mod wire;
 
 pub use array::array_at;

@@ -1,11 +1,11 @@
-ghost use Rattle.std.specs.Prelude.{◌≡◌, ◌+◌, ◌*◌, ◌≤◌, ◌==◌, length, IfOk, string_bytes};
+ghost use Rattle.std.specs.Prelude.{◌≡◌, ◌==◌, IfOk, OnErr, string_bytes};
 ghost use Rattle.std.specs.List.{before_first, position};
 ghost use Rattle.std.specs.Option.{option_map};
 ghost use Rattle.minidump_bytes.specs.Source.{bytes_of};
 ghost use Rattle.minidump_bytes.specs.Steps.{after};
-ghost use Rattle.minidump_bytes.specs.Text16.{text16, text_before_nul, units_at, utf16_text};
+ghost use Rattle.minidump_bytes.specs.Text16.{HoldsText16, text16, text_before_nul, utf16_text};
 
-use crate::array::record_in;
+use crate::utf16::text_at;
 use crate::{Endian, Source, Steps};
 use std::alloc::{AllocError, Global};
 
@@ -21,6 +21,7 @@ impl<'a> Source<'a> {
         steps: &mut Steps,
     ) -> Result<Option<String>, AllocError>
         ensures value { IfOk result (λ text. option_map string_bytes text ≡ text16 endian place (bytes_of self.entry)) }
+        ensures memory { OnErr result (HoldsText16 endian place (bytes_of self.entry)) }
         ensures step { steps.new ≡ after steps.old 1 }
     {
         let Some(size) = self.record::<u32>(place, endian, steps) else {
@@ -31,8 +32,7 @@ impl<'a> Source<'a> {
         if size % 2 != 0 || size > self.len() - start {
             return Ok(None);
         }
-        let units = units_in(alloc, self.bytes(), start, size / 2, endian)?;
-        text_of_units(alloc, &units)
+        text_at(alloc, self.bytes(), start, size / 2, endian)
     }
 }
 
@@ -58,25 +58,6 @@ fn first_nul(units: &[u16]) -> Option<usize>
     ensures { result ≡ position (λ unit. unit == 0) units.now }
 {
     units.iter().position(|unit| *unit == 0)
-}
-
-// The code units from a place on.
-#[tactic(auto, unfolding(crate::specs::Entries::entries))]
-fn units_in(
-    alloc: Global,
-    bytes: &[u8],
-    place: usize,
-    count: usize,
-    endian: Endian,
-) -> Result<Vec<u16>, AllocError>
-    requires { place + 2 * count ≤ length bytes.now }
-    ensures { IfOk result (λ units. units.items ≡ units_at endian place count bytes.now) }
-{
-    let mut units = Vec::with_capacity(alloc, count)?;
-    for i in 0..count {
-        units.push_reserved(record_in(bytes, place, endian, count, i));
-    }
-    Ok(units)
 }
 
 // The text of code units, if they spell one.
