@@ -1,5 +1,5 @@
 -- The first part of a text, and the parts of what follows it.
-use Rattle.std.proofs.Common.{◌≡◌, ◌<◌, ◌≤◌, ◌+◌, ◌-◌, ◌⊎◌, ℕ, zero, suc, Bool, true, false, not, cond, List, [], ◌∷◌, get_or, length, take, drop, reverse, Option, Some, None, refl, sym, ◌∙◌, ap, arith, one-add, inl, inr}
+use Rattle.std.proofs.Common.{◌≡◌, ◌<◌, ◌≤◌, ◌+◌, ◌-◌, ℕ, Bool, true, false, not, cond, List, [], ◌∷◌, get_or, length, take, drop, reverse, Option, Some, None, refl, sym, ◌∙◌, ap, arith, one-add, inl, inr}
 use Rattle.std.specs.Prelude.{◌==◌, All, filter, nat_lt}
 use Rattle.std.specs.List.{onto_first, position, position_or_len, prefix_len, slice_split, suffix_len}
 use Rattle.std.specs.Iterator.{MakesProgress, item_count}

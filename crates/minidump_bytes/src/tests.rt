@@ -274,45 +274,49 @@ fn cuts_linux_texts(rt: HostRuntime) -> Result<(), Fail> {
 }
 
 #[test]
-fn goes_through_linux_texts(rt: HostRuntime) -> Result<(), Fail> {
+fn goes_through_lines(rt: HostRuntime) -> Result<(), Fail> {
     for (bytes, lines) in [
-        (&b"A=1\0B=2\0"[..], &[&b"A=1"[..], &b"B=2"[..]][..]),
-        (&b"a\n"[..], &[&b"a"[..]][..]),
-        (&b"\n\0b"[..], &[&b""[..], &b""[..], &b"b"[..]][..]),
-        (&b""[..], &[][..]),
+        (&b"A=1\0B=2\0"[..], &b"A=1|B=2|"[..]),
+        (&b"a\n"[..], &b"a|"[..]),
+        (&b"\n\0b"[..], &b"||b|"[..]),
+        (&b""[..], &b""[..]),
     ] {
-        let mut found = LinuxOsStr::from_bytes(bytes).lines();
-        for line in lines {
-            let next = found.next().ok_or("a line is missing")?;
-            assert_eq!(rt; next.as_bytes(), *line);
+        let mut found = Vec::new(rt.alloc());
+        for line in LinuxOsStr::from_bytes(bytes).lines() {
+            found.extend_from_slice(line.as_bytes())?;
+            found.push(b'|')?;
         }
-        assert!(rt; found.next().is_none() && found.next().is_none());
+        assert_eq!(rt; found.as_slice(), lines);
     }
-    for (bytes, parts) in [
-        (
-            &b"a=b=="[..],
-            &[&b"a"[..], &b"b"[..], &b""[..], &b""[..]][..],
-        ),
-        (&b""[..], &[&b""[..]][..]),
-    ] {
-        let mut found = LinuxOsStr::from_bytes(bytes).split(b'=');
-        for part in parts {
-            let next = found.next().ok_or("a part is missing")?;
-            assert_eq!(rt; next.as_bytes(), *part);
+    Ok(())
+}
+
+#[test]
+fn goes_through_parts(rt: HostRuntime) -> Result<(), Fail> {
+    for (bytes, parts) in [(&b"a=b=="[..], &b"a|b|||"[..]), (&b""[..], &b"|"[..])] {
+        let mut found = Vec::new(rt.alloc());
+        for part in LinuxOsStr::from_bytes(bytes).split(b'=') {
+            found.extend_from_slice(part.as_bytes())?;
+            found.push(b'|')?;
         }
-        assert!(rt; found.next().is_none());
+        assert_eq!(rt; found.as_slice(), parts);
     }
+    Ok(())
+}
+
+#[test]
+fn goes_through_words(rt: HostRuntime) -> Result<(), Fail> {
     for (bytes, words) in [
-        (&b" a b=c=d"[..], &[&b"a"[..], &b"b=c=d"[..]][..]),
-        (&b"\t\x0c\r\n"[..], &[][..]),
-        (&b"x\x0by  z\n"[..], &[&b"x\x0by"[..], &b"z"[..]][..]),
+        (&b" a b=c=d"[..], &b"a|b=c=d|"[..]),
+        (&b"\t\x0c\r\n"[..], &b""[..]),
+        (&b"x\x0by  z\n"[..], &b"x\x0by|z|"[..]),
     ] {
-        let mut found = LinuxOsStr::from_bytes(bytes).split_ascii_whitespace();
-        for word in words {
-            let next = found.next().ok_or("a word is missing")?;
-            assert_eq!(rt; next.as_bytes(), *word);
+        let mut found = Vec::new(rt.alloc());
+        for word in LinuxOsStr::from_bytes(bytes).split_ascii_whitespace() {
+            found.extend_from_slice(word.as_bytes())?;
+            found.push(b'|')?;
         }
-        assert!(rt; found.next().is_none());
+        assert_eq!(rt; found.as_slice(), words);
     }
     Ok(())
 }

@@ -1,4 +1,4 @@
-use Rattle.std.proofs.Common.{◌≡◌, ◌<◌, ◌≤◌, ◌+◌, ◌∙◌, ℕ, List, get_or, length, refl, sym, arith, inl, inr}
+use Rattle.std.proofs.Common.{◌≡◌, ◌+◌, get_or, length, refl, arith, inl, inr}
 use Rattle.minidump_bytes.specs.Entries.{length-entries}
 use Rattle.minidump_bytes.specs.Layout.{number_layout}
 use Rattle.minidump_bytes.specs.Text16.{units_at}

@@ -1,4 +1,4 @@
-use Rattle.std.proofs.Common.{◌≡◌, ◌∙◌, sym, refl, arith, append_assoc, string_bytes}
+use Rattle.std.proofs.Common.{arith, append_assoc, string_bytes}
 use Rattle.minidump_bytes.specs.Entries.{length-entries}
 use Rattle.minidump_bytes.specs.Text16.{units_at}
 use Rattle.minidump_bytes.specs.Layout.{number_layout}

@@ -1,4 +1,4 @@
-use Rattle.std.proofs.Common.{◌≡◌, ◌++◌, ◌≤◌, ◌-◌, drop, encode_utf8_all, string_bytes}
+use Rattle.std.proofs.Common.{◌≡◌, ◌++◌, ◌-◌, drop, encode_utf8_all, string_bytes}
 use Rattle.std.specs.Char.Utf16.{has_unpaired_surrogate, utf16_lossy_chars}
 use Rattle.minidump_bytes.specs.Text16.{units_at}
 use Rattle.minidump_bytes.proofs.utf16.text_at.Given as goal

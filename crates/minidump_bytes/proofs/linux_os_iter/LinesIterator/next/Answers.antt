@@ -1,4 +1,4 @@
-use Rattle.std.proofs.Common.{◌<◌, ◌≤◌, length, sym, ◌∙◌, ap, ◌∷◌}
+use Rattle.std.proofs.Common.{sym, ◌∙◌, ap, ◌∷◌}
 use Rattle.minidump_bytes.proofs.LinuxTextLemmas.{goes_on, is_more, is_zero, line_first, line_last, lines_end, no_line}
 use Rattle.minidump_bytes.proofs.linux_os_iter.LinesIterator.next.Goals as goal
 
