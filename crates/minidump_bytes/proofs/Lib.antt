@@ -1,5 +1,6 @@
-pub mod EntryLemmas
+-- The lemmas of this crate.
 pub mod ListLemmas
+pub mod EntryLemmas
 pub mod HexLemmas
 pub mod LinuxTextLemmas
 pub mod NumberLemmas

@@ -1,3 +1,4 @@
+-- What the contracts of this crate cite.
 pub mod Number
 pub mod Layout
 pub mod Exact

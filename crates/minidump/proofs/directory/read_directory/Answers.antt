@@ -2,7 +2,8 @@
 use Rattle.std.proofs.Common.{arith, ◌≡◌, ◌^◌, ◌<◌, rules}
 use Rattle.std.proofs.lemmas.Grind.{common_steps}
 use Rattle.minidump_bytes.specs.Source.{bytes_of}
-use Rattle.minidump_bytes.specs.Entries.{entry, entries, entries-more, entries-none, length-entries}
+use Rattle.minidump_bytes.specs.Entries.{entry, entries}
+use Rattle.minidump_bytes.proofs.EntryLemmas.{entries-more, entries-none, length-entries}
 use Rattle.minidump_format.specs.Header.{directory_entry}
 use Rattle.minidump.proofs.DirectoryLemmas.{decides-more}
 use Rattle.minidump.proofs.directory.read_directory.Goals as goal

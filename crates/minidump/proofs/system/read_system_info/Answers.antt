@@ -2,7 +2,7 @@
 use Rattle.std.proofs.Common.{sym, ◌∙◌, ◌<◌, ◌≡◌, length, Some}
 use Rattle.std.proofs.lemmas.Result.{IfErr-weaker}
 use Rattle.minidump_bytes.specs.Source.{bytes_of}
-use Rattle.minidump_bytes.specs.Entries.{length-entries}
+use Rattle.minidump_bytes.proofs.EntryLemmas.{length-entries}
 use Rattle.minidump_format.specs.declared.error.Error.{Error}
 use Rattle.minidump_format.specs.declared.error.Error.TheVariants.{OutOfMemory}
 use Rattle.minidump_format.specs.declared.format.stream_type.MINIDUMP_STREAM_TYPE.TheVariants.{SystemInfoStream}

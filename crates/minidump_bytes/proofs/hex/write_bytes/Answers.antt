@@ -1,3 +1,4 @@
+-- A refused write leaves a beginning of the digits.
 use Rattle.std.proofs.Common.{◌+◌, [], ◌∷◌, drop, get_or, take}
 use Rattle.std.proofs.lemmas.Result.{err_from_is_err_and}
 use Rattle.minidump_bytes.specs.Piece.{bytes_hex}

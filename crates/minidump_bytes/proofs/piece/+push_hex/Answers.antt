@@ -1,3 +1,4 @@
+-- The last digit stands behind those of the sixteenth part.
 use Rattle.std.proofs.Common.{arith, append_assoc}
 use Rattle.minidump_bytes.proofs.HexLemmas.{hex_step}
 use Rattle.minidump_bytes.proofs.piece.+push_hex.Goals as goal

@@ -1,3 +1,4 @@
+-- As many blanks were pushed as counted.
 use Rattle.std.proofs.Common.{◌≡◌, ◌++◌, replicate, string_bytes}
 use Rattle.minidump_bytes.proofs.piece.push_blanks.Given as goal
 

@@ -1,3 +1,4 @@
+-- The texts of the pieces below the index were pushed.
 use Rattle.std.proofs.Common.{take, string_bytes, ◌≡◌, ◌++◌}
 use Rattle.std.specs.List.{flat_map}
 use Rattle.minidump_bytes.specs.Piece.{piece_text}

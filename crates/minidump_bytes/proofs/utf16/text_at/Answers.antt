@@ -1,5 +1,6 @@
+-- One character more was pushed, or a surrogate lacks its partner.
 use Rattle.std.proofs.Common.{arith, append_assoc, string_bytes}
-use Rattle.minidump_bytes.specs.Entries.{length-entries}
+use Rattle.minidump_bytes.proofs.EntryLemmas.{length-entries}
 use Rattle.minidump_bytes.specs.Text16.{units_at}
 use Rattle.minidump_bytes.specs.Layout.{number_layout}
 use Rattle.minidump_bytes.proofs.UnitLemmas.{no_units, text_done, text_none}

@@ -1,3 +1,4 @@
+-- The characters of the code units below the index were pushed.
 use Rattle.std.proofs.Common.{◌≡◌, ◌++◌, ◌-◌, drop, encode_utf8_all, string_bytes}
 use Rattle.std.specs.Char.Utf16.{has_unpaired_surrogate, utf16_lossy_chars}
 use Rattle.minidump_bytes.specs.Text16.{units_at}

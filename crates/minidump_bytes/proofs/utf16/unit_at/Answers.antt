@@ -1,3 +1,4 @@
+-- The code unit of an index is the record of that index.
 use Rattle.std.proofs.Common.{◌∙◌, sym, arith}
 use Rattle.std.proofs.lemmas.List.FromFn.{get_or-map-range_with_len}
 use Rattle.minidump_bytes.specs.Entries.{entries, entry}

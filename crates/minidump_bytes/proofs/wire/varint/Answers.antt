@@ -1,3 +1,4 @@
+-- One group more was read, the last one, or none is left.
 use Rattle.std.proofs.Common.{arith, refl, sym}
 use Rattle.minidump_bytes.proofs.WireLemmas.{reads_end, reads_large, reads_last, reads_long, reads_more}
 use Rattle.minidump_bytes.proofs.wire.varint.Goals as goal

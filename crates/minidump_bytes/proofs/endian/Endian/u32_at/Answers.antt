@@ -1,3 +1,4 @@
+-- The number that is read is the sum of the bytes times their powers of 256.
 use Rattle.std.proofs.Common.{◌∙◌, drop}
 use Rattle.std.proofs.lemmas.List.{take_rest}
 use Rattle.minidump_bytes.proofs.NumberLemmas.{number_little, number_big}

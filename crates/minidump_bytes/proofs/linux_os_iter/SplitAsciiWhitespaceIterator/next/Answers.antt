@@ -1,3 +1,4 @@
+-- The first word is taken off the words left.
 use Rattle.std.proofs.Common.{sym, ◌∙◌, arith, not}
 use Rattle.std.proofs.lemmas.List.Sums.{prefix_len-le-length}
 use Rattle.minidump_bytes.specs.LinuxOsStr.{is_white}

@@ -1,3 +1,4 @@
+-- The found index is that of the first separator.
 use Rattle.std.proofs.Common.{◌+◌, refl}
 use Rattle.std.proofs.lemmas.List.{take_rest}
 use Rattle.memchr.specs.Find.{is_byte}

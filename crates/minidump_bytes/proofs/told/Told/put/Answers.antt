@@ -1,3 +1,4 @@
+-- One write more went out, or a refusal followed those before.
 use Rattle.std.proofs.Common.{arith, sym, take, drop, ◌+◌, refl}
 use Rattle.std.proofs.lemmas.List.{take-append-drop}
 use Rattle.std.proofs.KnownBytes.{Appends-kept}
