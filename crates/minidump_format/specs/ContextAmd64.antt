@@ -1,11 +1,10 @@
--- The context of an x86-64 processor, as a table of width and place. Microsoft's winnt.h: CONTEXT; Breakpad's
--- minidump_cpu_amd64.h.
+-- The context of an x86-64 processor, as a table of width and place (winnt.h, Breakpad's minidump_cpu_amd64.h).
 use Rattle.minidump_bytes.specs.Entries.{entries}
 use Rattle.minidump_bytes.specs.Layout.{Layout, byte_layout, number_layout}
 use Rattle.minidump_bytes.specs.Number.{number_at}
 use Rattle.minidump_format.specs.declared.format.context.amd64.CONTEXT_AMD64.{CONTEXT_AMD64}
 
--- 1232 bytes
+-- Microsoft's CONTEXT of x64, Breakpad's MDRawContextAMD64
 abbrev pub context_amd64 : Layout CONTEXT_AMD64
 context_amd64 = record {
   size = 1232;

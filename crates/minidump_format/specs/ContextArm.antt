@@ -1,5 +1,5 @@
--- The context of an ARM processor and its floating-point state, as tables of width and place. Breakpad's
--- minidump_cpu_arm.h: MDRawContextARM, MDFloatingSaveAreaARM.
+-- The context of an ARM processor and its floating-point state, as tables of width and place (Breakpad's
+-- minidump_cpu_arm.h).
 use Rattle.std.specs.Prelude.{slice_range}
 use Rattle.minidump_bytes.specs.Entries.{entries}
 use Rattle.minidump_bytes.specs.Layout.{Layout, number_layout}
@@ -7,7 +7,7 @@ use Rattle.minidump_bytes.specs.Number.{number_at}
 use Rattle.minidump_format.specs.declared.format.context.arm.FLOATING_SAVE_AREA_ARM.{FLOATING_SAVE_AREA_ARM}
 use Rattle.minidump_format.specs.declared.format.context.arm.CONTEXT_ARM.{CONTEXT_ARM}
 
--- 296 bytes
+-- Breakpad's MDFloatingSaveAreaARM
 abbrev pub arm_float_save : Layout FLOATING_SAVE_AREA_ARM
 arm_float_save = record {
   size = 296;
@@ -18,7 +18,7 @@ arm_float_save = record {
   };
 }
 
--- 368 bytes
+-- Breakpad's MDRawContextARM
 abbrev pub context_arm : Layout CONTEXT_ARM
 context_arm = record {
   size = 368;

@@ -1,12 +1,11 @@
--- The contexts of an ARM64 processor, as tables of width and place. Microsoft's winnt.h: ARM64_NT_CONTEXT; Breakpad's
--- minidump_cpu_arm64.h: MDRawContextARM64, MDRawContextARM64_Old.
+-- The contexts of an ARM64 processor, as tables of width and place (winnt.h, Breakpad's minidump_cpu_arm64.h).
 use Rattle.minidump_bytes.specs.Entries.{entries}
 use Rattle.minidump_bytes.specs.Layout.{Layout, number_layout}
 use Rattle.minidump_bytes.specs.Number.{number_at}
 use Rattle.minidump_format.specs.declared.format.context.arm64.CONTEXT_ARM64.{CONTEXT_ARM64}
 use Rattle.minidump_format.specs.declared.format.context.arm64.CONTEXT_ARM64_OLD.{CONTEXT_ARM64_OLD}
 
--- 912 bytes
+-- Microsoft's ARM64_NT_CONTEXT, Breakpad's MDRawContextARM64
 abbrev pub context_arm64 : Layout CONTEXT_ARM64
 context_arm64 = record {
   size = 912;
@@ -26,7 +25,7 @@ context_arm64 = record {
   };
 }
 
--- 796 bytes
+-- Breakpad's MDRawContextARM64_Old
 abbrev pub context_arm64_old : Layout CONTEXT_ARM64_OLD
 context_arm64_old = record {
   size = 796;

@@ -1,5 +1,5 @@
--- The context of an x86 processor and its floating-point state, as tables of width and place. Microsoft's winnt.h: CONTEXT,
--- FLOATING_SAVE_AREA; Breakpad's minidump_cpu_x86.h.
+-- The context of an x86 processor and its floating-point state, as tables of width and place (winnt.h, Breakpad's
+-- minidump_cpu_x86.h).
 use Rattle.std.specs.Prelude.{slice_range}
 use Rattle.minidump_bytes.specs.Entries.{entries}
 use Rattle.minidump_bytes.specs.Layout.{Layout, byte_layout}
@@ -7,7 +7,7 @@ use Rattle.minidump_bytes.specs.Number.{number_at}
 use Rattle.minidump_format.specs.declared.format.context.x86.FLOATING_SAVE_AREA_X86.{FLOATING_SAVE_AREA_X86}
 use Rattle.minidump_format.specs.declared.format.context.x86.CONTEXT_X86.{CONTEXT_X86}
 
--- 112 bytes
+-- Microsoft's FLOATING_SAVE_AREA
 abbrev pub x86_float_save : Layout FLOATING_SAVE_AREA_X86
 x86_float_save = record {
   size = 112;
@@ -24,7 +24,7 @@ x86_float_save = record {
   };
 }
 
--- 716 bytes
+-- Microsoft's CONTEXT of x86, Breakpad's MDRawContextX86
 abbrev pub context_x86 : Layout CONTEXT_X86
 context_x86 = record {
   size = 716;

@@ -3,9 +3,11 @@ ghost use Rattle.std.specs.Prelude.{◌≡◌};
 ghost use Rattle.minidump_bytes.specs.Exact.{IsExact};
 
 use crate::format::{
-    MINIDUMP_ANNOTATION, MINIDUMP_MAC_CRASH_INFO, MINIDUMP_MISC_INFO_3, MINIDUMP_MISC_INFO_4,
-    MINIDUMP_MISC_INFO_5, MINIDUMP_MODULE, MINIDUMP_SIGNATURE, MINIDUMP_VERSION,
-    TIME_ZONE_INFORMATION, VS_FFI_SIGNATURE, VS_FFI_STRUCVERSION, XSTATE_CONFIG_FEATURE_MSC_INFO,
+    CONTEXT_AMD64, CONTEXT_ARM, CONTEXT_ARM64, CONTEXT_ARM64_OLD, CONTEXT_X86,
+    FLOATING_SAVE_AREA_ARM, FLOATING_SAVE_AREA_X86, MINIDUMP_ANNOTATION, MINIDUMP_MAC_CRASH_INFO,
+    MINIDUMP_MISC_INFO_3, MINIDUMP_MISC_INFO_4, MINIDUMP_MISC_INFO_5, MINIDUMP_MODULE,
+    MINIDUMP_SIGNATURE, MINIDUMP_VERSION, TIME_ZONE_INFORMATION, VS_FFI_SIGNATURE,
+    VS_FFI_STRUCVERSION, XSTATE_CONFIG_FEATURE_MSC_INFO,
 };
 
 /// The records that hold other records, or long arrays: `==` holds of the same value alone, and a
@@ -19,6 +21,17 @@ pub fn large_records_are_exact()
     ensures misc_info_5 { IsExact ⟦<MINIDUMP_MISC_INFO_5 as PartialEq>⟧.eq ⟦<MINIDUMP_MISC_INFO_5 as Clone>⟧.is_clone }
     ensures module { IsExact ⟦<MINIDUMP_MODULE as PartialEq>⟧.eq ⟦<MINIDUMP_MODULE as Clone>⟧.is_clone }
     ensures mac_crash_info { IsExact ⟦<MINIDUMP_MAC_CRASH_INFO as PartialEq>⟧.eq ⟦<MINIDUMP_MAC_CRASH_INFO as Clone>⟧.is_clone }
+{}
+
+/// The contexts, which have no `==`: a clone is the same value.
+pub fn contexts_are_copied()
+    ensures x86 { (x y : CONTEXT_X86) → ⟦<CONTEXT_X86 as Clone>⟧.is_clone x y → y ≡ x }
+    ensures x86_float_save { (x y : FLOATING_SAVE_AREA_X86) → ⟦<FLOATING_SAVE_AREA_X86 as Clone>⟧.is_clone x y → y ≡ x }
+    ensures amd64 { (x y : CONTEXT_AMD64) → ⟦<CONTEXT_AMD64 as Clone>⟧.is_clone x y → y ≡ x }
+    ensures arm { (x y : CONTEXT_ARM) → ⟦<CONTEXT_ARM as Clone>⟧.is_clone x y → y ≡ x }
+    ensures arm_float_save { (x y : FLOATING_SAVE_AREA_ARM) → ⟦<FLOATING_SAVE_AREA_ARM as Clone>⟧.is_clone x y → y ≡ x }
+    ensures arm64 { (x y : CONTEXT_ARM64) → ⟦<CONTEXT_ARM64 as Clone>⟧.is_clone x y → y ≡ x }
+    ensures arm64_old { (x y : CONTEXT_ARM64_OLD) → ⟦<CONTEXT_ARM64_OLD as Clone>⟧.is_clone x y → y ≡ x }
 {}
 
 /// The numbers that the version of a file is known by: Microsoft's `VS_FFI_SIGNATURE` and
