@@ -1,4 +1,3 @@
-mod context;
 mod fields;
 mod lists;
 mod records;

@@ -1,3 +1,4 @@
+mod context;
 mod extension;
 mod process;
 mod system;
@@ -54,6 +55,11 @@ fn reads_each_field(rt: HostRuntime) -> Result<(), Fail> {
         extension::mac_record_4(&rt, alloc, endian)?;
         extension::mac_record_5(&rt, alloc, endian)?;
         extension::mac_boot_args(&rt, alloc, endian)?;
+        context::x86(&rt, alloc, endian)?;
+        context::amd64(&rt, alloc, endian)?;
+        context::arm(&rt, alloc, endian)?;
+        context::arm64(&rt, alloc, endian)?;
+        context::arm64_old(&rt, alloc, endian)?;
     }
     Ok(())
 }
@@ -68,12 +74,12 @@ fn decoded<R: Record>(rt: &impl Abort, alloc: Global, endian: Endian) -> Result<
 // Each value is the number at its place and of its width.
 fn stand(rt: &impl Abort, endian: Endian, fields: &[(u16, u16, u64)]) {
     for (place, width, value) in fields {
-        assert_eq!(rt; *value, number(endian, *place, *width));
+        assert_eq!(rt; u128::from(*value), number(endian, *place, *width));
     }
 }
 
 // The values are the numbers of a width from a place on.
-fn follow<T: Copy + Into<u64>>(
+fn follow<T: Copy + Into<u128>>(
     rt: &impl Abort,
     endian: Endian,
     place: u16,
@@ -82,20 +88,20 @@ fn follow<T: Copy + Into<u64>>(
 ) {
     let mut place = place;
     for value in values {
-        stand(rt, endian, &[(place, width, (*value).into())]);
+        assert_eq!(rt; (*value).into(), number(endian, place, width));
         place = place.wrapping_add(width);
     }
 }
 
 // The number in so many of the bytes 0, 1, 2, .. from a place on.
-fn number(endian: Endian, place: u16, width: u16) -> u64 {
+fn number(endian: Endian, place: u16, width: u16) -> u128 {
     let mut number = 0;
     for i in 0..width {
         let k = match endian {
             Endian::Little => width - 1 - i,
             Endian::Big => i,
         };
-        number = (number << 8) | ((place as u64 + k as u64) % 251);
+        number = (number << 8) | ((place as u128 + k as u128) % 251);
     }
     number
 }
