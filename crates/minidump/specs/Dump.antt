@@ -64,14 +64,19 @@ stream_with system stream_type meaning d = meant meaning d system (raw_stream st
 abbrev pub system_info_of : Dump → Option System
 system_info_of d = result_ok (stream_with None (number_of SystemInfoStream) system_in d)
 
--- the reads that it takes at least: one where the directory has it, for its span, which is read or refused
-abbrev system_reads : Result (List ℕ) Error → ℕ
-system_reads (Err StreamNotFound) = 0
-system_reads _ = 1
+abbrev reads_of : Result (List ℕ) Error → Option System → ℕ
+reads_of (Err StreamNotFound) system = 0
+reads_of (Err _) system = 1
+reads_of (Ok bytes) None = 2
+reads_of (Ok bytes) (Some system) = 3
+
+-- the reads that the system information takes at least: its span, its record and its text, as far as each is there to be read
+abbrev pub system_reads : Dump → ℕ
+system_reads d = reads_of (raw_stream (number_of SystemInfoStream) d) (system_info_of d)
 
 -- the reads that a dump takes at least: one for the header, one for each entry, and those of its system information
 abbrev pub least_reads : Dump → ℕ
-least_reads d = 1 + d.header.stream_count + system_reads (raw_stream (number_of SystemInfoStream) d)
+least_reads d = 1 + d.header.stream_count + system_reads d
 
 -- the stream of a type, with the dump's system information
 abbrev pub stream : {V : Type 0} → ℕ → Meaning V → Dump → Result V Error

@@ -7,5 +7,11 @@ pub mod Seen
 pub mod Streams
 pub mod Text
 pub mod File
+pub mod Promise
 pub mod Memory
 pub mod Answer
+pub mod Bytes
+pub mod Format
+pub mod Index
+pub mod System
+pub mod MemoryLists

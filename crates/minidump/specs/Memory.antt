@@ -8,10 +8,9 @@ use Rattle.minidump_format.specs.StreamType.{number_of}
 use Rattle.minidump_format.specs.Memory.{memory_descriptor, memory_descriptor_64}
 use Rattle.minidump_system.specs.Framing.{list_64, plain_list}
 use Rattle.minidump_memory.specs.Memory.{MemoryRegion}
-use Rattle.minidump_memory.specs.MemoryList.{memory_list}
-use Rattle.minidump_memory.specs.Memory64List.{memory_list_64}
 use Rattle.minidump_memory.specs.Unified.{Memory, Memory64, UnifiedRegions}
 use Rattle.minidump.specs.Dump.{Dump, raw_stream, stream}
+use Rattle.minidump.specs.Promise.{memory_list_in, memory64_list_in}
 
 -- the 64 list, else the plain list where that one is missing or refused, else none
 abbrev first_accepted : Result (List (MemoryRegion MINIDUMP_MEMORY_DESCRIPTOR64)) Error → Result (List (MemoryRegion MINIDUMP_MEMORY_DESCRIPTOR)) Error → Option UnifiedRegions
@@ -21,7 +20,7 @@ first_accepted (Err _) (Err _) = None
 
 abbrev pub memories_of_dump : Dump → Option UnifiedRegions
 memories_of_dump d =
-    first_accepted (stream (number_of Memory64ListStream) (λ bytes file order system. memory_list_64 bytes file order) d) (stream (number_of MemoryListStream) (λ bytes file order system. memory_list bytes file order) d)
+    first_accepted (stream (number_of Memory64ListStream) memory64_list_in d) (stream (number_of MemoryListStream) memory_list_in d)
 
 -- one of the two lists has the length that its count asks for, so that it takes memory
 abbrev pub TakesMemory : Dump → Type 0

@@ -1,11 +1,25 @@
-//! Laws of the directory, over the definitions that the contracts of this crate cite.
+//! Laws of the directory, of the streams and of lists of regions, over the definitions that the contracts of this crate cite.
 ghost use Rattle.std.specs.Prelude.{◌≡◌, ◌≢◌, ◌<◌, ◌^◌, ◌+◌, ℕ, ◌++◌, ◌∷◌, All, Contains, List, length, map};
 ghost use Rattle.std.specs.List.Sorted.{IsStrictlyIncreasing};
 ghost use Rattle.minidump_format.specs.declared.format.header.MINIDUMP_DIRECTORY.{MINIDUMP_DIRECTORY};
 ghost use Rattle.minidump.specs.declared.directory.DecidingEntry.{DecidingEntry};
 ghost use Rattle.minidump.specs.Directory.{deciding, deciding_below, directory};
 ghost use Rattle.minidump.specs.Dump.{Dump, raw_stream, spanned, streams_of};
+ghost use Rattle.minidump.specs.Promise.{IsMemory64List, IsMemoryList, IsMiscInfo, IsSystemInfo};
 ghost use Rattle.minidump_bytes.specs.Span.{span};
+
+use crate::directory::DecidingEntry;
+pub use minidump_index::laws::{
+    a_kept_set, an_address_order, one_address_order, one_kept_set, one_region_at_an_address,
+    regions_by_address,
+};
+pub use minidump_memory::laws::{
+    region_laws, the_unified_list_answers_as_the_64_list_it_holds,
+    the_unified_list_answers_as_the_list_it_holds,
+};
+use minidump_memory::{MinidumpMemory64List, MinidumpMemoryList};
+pub use minidump_system::laws::misc_info_depends_on_its_stream_alone;
+use minidump_system::{MinidumpMiscInfo, MinidumpStream, MinidumpSystemInfo};
 
 /// Of the entries with one type the last decides: its index is how many stand before it.
 pub fn last_entry_decides()
@@ -33,4 +47,21 @@ pub fn listed_streams_decide()
         → All (λ s. deciding s.entry.stream_type (directory d.order d.header d.file) ≡ Some s) (streams_of d) }
     ensures all { (d : Dump) (stream_type : ℕ) (s : DecidingEntry) → stream_type < 2 ^ 32
         → deciding stream_type (directory d.order d.header d.file) ≡ Some s → Contains (streams_of d) s }
+{}
+
+/// Each type of stream that is read: its number, what its bytes mean, and at most n + 7 reads.
+pub fn streams_are_read_as_promised()
+    ensures system_info { let T = ⟦<MinidumpSystemInfo as MinidumpStream<'static>>⟧
+        in IsSystemInfo T.type_number T.meaning T.limit }
+    ensures misc_info { let T = ⟦<MinidumpMiscInfo as MinidumpStream<'static>>⟧
+        in IsMiscInfo T.type_number T.meaning T.limit }
+    ensures memory_list { let T = ⟦<MinidumpMemoryList<'static> as MinidumpStream<'static>>⟧
+        in IsMemoryList T.type_number T.meaning T.limit }
+    ensures memory64_list { let T = ⟦<MinidumpMemory64List<'static> as MinidumpStream<'static>>⟧
+        in IsMemory64List T.type_number T.meaning T.limit }
+{}
+
+/// A clone of a deciding entry is the same entry.
+pub fn clones_are_the_same()
+    ensures { (entry other : DecidingEntry) → ⟦<DecidingEntry as Clone>⟧.is_clone entry other → other ≡ entry }
 {}

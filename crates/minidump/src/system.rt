@@ -1,13 +1,11 @@
-ghost use Rattle.std.specs.Prelude.{◌≡◌, ◌≢◌, ◌+◌, ◌≤◌, ◌<◌, IfOk, IfErr};
+ghost use Rattle.std.specs.Prelude.{◌≡◌, ◌+◌, ◌≤◌, ◌<◌, IfOk, IfErr, OnOk};
 ghost use Rattle.std.specs.Option.{option_map};
 ghost use Rattle.minidump_bytes.specs.Source.{bytes_of};
 ghost use Rattle.minidump_bytes.specs.Steps.{after};
-ghost use Rattle.minidump_format.specs.declared.format.stream_type.MINIDUMP_STREAM_TYPE.TheVariants.{SystemInfoStream};
-ghost use Rattle.minidump_format.specs.StreamType.{number_of};
 ghost use Rattle.minidump_system.specs.SystemInfo.{system_of};
 ghost use Rattle.minidump.specs.Deciding.{Decides};
-ghost use Rattle.minidump.specs.Directory.{deciding, directory};
-ghost use Rattle.minidump.specs.Dump.{system_info_of};
+ghost use Rattle.minidump.specs.Directory.{directory};
+ghost use Rattle.minidump.specs.Dump.{system_info_of, system_reads};
 
 use crate::answer::accepted;
 use crate::directory::DecidingEntry;
@@ -31,9 +29,10 @@ pub(crate) fn read_system_info(
     ensures value { IfOk result (λ s. option_map system_of s
         ≡ system_info_of (record { file = bytes_of source.entry; order = endian; header = header.now })) }
     ensures memory { IfErr result (λ e. (e ≡ Error.OutOfMemory) × (0 < header.now.stream_count)) }
-    ensures within { steps.new ≤ steps.old + 8 }
+    ensures within { steps.new ≤ steps.old + 3 }
     ensures grows { steps.old ≤ steps.new }
-    ensures counted { deciding (number_of SystemInfoStream) (directory endian header.now (bytes_of source.entry)) ≢ None → after steps.old 1 ≤ steps.new }
+    ensures counted { OnOk result (after steps.old
+        (system_reads (record { file = bytes_of source.entry; order = endian; header = header.now })) ≤ steps.new) }
 {
     let Some(deciding) = entries.get(&MinidumpSystemInfo::STREAM_TYPE) else {
         return Ok(None);
@@ -42,5 +41,5 @@ pub(crate) fn read_system_info(
     let Some(bytes) = source.span(location.rva as u64, location.data_size as u64, steps) else {
         return Ok(None);
     };
-    accepted(MinidumpSystemInfo::read(alloc, Source::new(bytes), source, endian, None, steps))
+    accepted(MinidumpSystemInfo::read_record(alloc, Source::new(bytes), source, endian, steps))
 }

@@ -1,0 +1,10 @@
+-- What `minidump_bytes` defines, for the crates above this one.
+pub use Rattle.minidump_bytes.specs.Layout
+pub use Rattle.minidump_bytes.specs.Number
+pub use Rattle.minidump_bytes.specs.Piece
+pub use Rattle.minidump_bytes.specs.Source
+pub use Rattle.minidump_bytes.specs.Span
+pub use Rattle.minidump_bytes.specs.Steps
+pub use Rattle.minidump_bytes.specs.Text16
+pub use Rattle.minidump_bytes.specs.Told
+pub use Rattle.minidump_bytes.specs.Entries

@@ -1,0 +1,6 @@
+-- What `minidump_memory` defines, for the crates above this one.
+pub use Rattle.minidump_memory.specs.Memory
+pub use Rattle.minidump_memory.specs.MemoryList
+pub use Rattle.minidump_memory.specs.Memory64List
+pub use Rattle.minidump_memory.specs.Unified
+pub use Rattle.minidump_memory.specs.UnifiedIter

@@ -1,0 +1,42 @@
+-- The promise of this library. A file is a minidump, or has a refusal, by `dump_in`; a stream is a value, or has a refusal, by what its
+-- type means (`stream`); a read of either takes few steps (`least_reads` at least, n + 8 at most); and a list of regions answers by
+-- `HasRegionLaws`. Each type of stream that is read has a line here.
+use Rattle.std.specs.Prelude.{◌≡◌, ℕ, ◌+◌, ◌≤◌, List, Option}
+use Rattle.minidump_bytes.specs.declared.endian.Endian.{Endian}
+use Rattle.minidump_format.specs.declared.format.memory.MINIDUMP_MEMORY_DESCRIPTOR.{MINIDUMP_MEMORY_DESCRIPTOR}
+use Rattle.minidump_format.specs.declared.format.memory.MINIDUMP_MEMORY_DESCRIPTOR64.{MINIDUMP_MEMORY_DESCRIPTOR64}
+use Rattle.minidump_format.specs.declared.format.stream_type.MINIDUMP_STREAM_TYPE.{MINIDUMP_STREAM_TYPE}
+use Rattle.minidump_format.specs.declared.format.stream_type.MINIDUMP_STREAM_TYPE.TheVariants.{SystemInfoStream, MiscInfoStream, MemoryListStream, Memory64ListStream}
+use Rattle.minidump_format.specs.StreamType.{number_of}
+use Rattle.minidump_system.specs.declared.misc_info.RawMiscInfo.{RawMiscInfo}
+use Rattle.minidump_system.specs.MiscInfo.{misc_info_in}
+use Rattle.minidump_system.specs.SystemInfo.{System, system_in}
+use Rattle.minidump_memory.specs.Memory.{MemoryRegion}
+use Rattle.minidump_memory.specs.Memory64List.{memory_list_64}
+use Rattle.minidump_memory.specs.MemoryList.{memory_list}
+use Rattle.minidump.specs.Dump.{Meaning}
+
+-- a type of stream has this number and this meaning, and a read of it takes at most n + 7 steps, where neither its bytes nor those of
+-- the file are more than n
+pub record IsReadAs {V : Type 0} (stream_type : MINIDUMP_STREAM_TYPE) (assigned : Meaning V) (number : ℕ) (meaning : Meaning V) (limit : ℕ → ℕ) : Type 0 where
+  pub numbered : number ≡ number_of stream_type
+  pub means : (bytes file : List ℕ) (order : Endian) (system : Option System) → meaning bytes file order system ≡ assigned bytes file order system
+  pub within : (n : ℕ) → limit n ≤ n + 7
+
+abbrev pub IsSystemInfo : ℕ → Meaning System → (ℕ → ℕ) → Type 0
+IsSystemInfo = IsReadAs SystemInfoStream system_in
+
+abbrev pub IsMiscInfo : ℕ → Meaning RawMiscInfo → (ℕ → ℕ) → Type 0
+IsMiscInfo = IsReadAs MiscInfoStream (λ bytes file order system. misc_info_in bytes order)
+
+abbrev pub memory_list_in : Meaning (List (MemoryRegion MINIDUMP_MEMORY_DESCRIPTOR))
+memory_list_in bytes file order system = memory_list bytes file order
+
+abbrev pub IsMemoryList : ℕ → Meaning (List (MemoryRegion MINIDUMP_MEMORY_DESCRIPTOR)) → (ℕ → ℕ) → Type 0
+IsMemoryList = IsReadAs MemoryListStream memory_list_in
+
+abbrev pub memory64_list_in : Meaning (List (MemoryRegion MINIDUMP_MEMORY_DESCRIPTOR64))
+memory64_list_in bytes file order system = memory_list_64 bytes file order
+
+abbrev pub IsMemory64List : ℕ → Meaning (List (MemoryRegion MINIDUMP_MEMORY_DESCRIPTOR64)) → (ℕ → ℕ) → Type 0
+IsMemory64List = IsReadAs Memory64ListStream memory64_list_in

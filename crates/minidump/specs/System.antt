@@ -1,0 +1,9 @@
+-- What `minidump_system` defines, for the crates above this one.
+pub use Rattle.minidump_system.specs.Cpu
+pub use Rattle.minidump_system.specs.CpuInfo
+pub use Rattle.minidump_system.specs.Dates
+pub use Rattle.minidump_system.specs.Framing
+pub use Rattle.minidump_system.specs.MiscInfo
+pub use Rattle.minidump_system.specs.Os
+pub use Rattle.minidump_system.specs.OsParts
+pub use Rattle.minidump_system.specs.SystemInfo

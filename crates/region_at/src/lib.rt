@@ -1,0 +1,38 @@
+//! The region of a minidump's memory that has an address: an example of a crate on `minidump` alone.
+#![tactic(auto)]
+
+ghost use Rattle.std.specs.Prelude.{IfErr, IfOk};
+ghost use Rattle.std.specs.Option.{option_map};
+ghost use Rattle.minidump.specs.MemoryLists.Unified.{unified_list, unified_regions};
+ghost use Rattle.region_at.specs.RegionAt.{IsRefused, IsRegionAt, IsRegionIn};
+
+use minidump::{Error, Minidump, UnifiedMemoryList, laws};
+use std::alloc::Global;
+
+/// The first address and the bytes of the region in which an address lies, by the memory of the minidump
+/// that the bytes are, or `None` where no region is kept that has it.
+pub fn region_at<'a>(
+    alloc: Global,
+    bytes: &'a [u8],
+    address: u64,
+) -> Result<Option<(u64, &'a [u8])>, Error>
+    ensures found { IfOk result (λ found. IsRegionAt bytes.now address (option_map (λ r. (r.0, r.1.now)) found)) }
+    ensures refused { IfErr result (IsRefused bytes.now) }
+{
+    let dump = Minidump::read(alloc, bytes)?;
+    match dump.get_memory(alloc)? {
+        Some(memory) => Ok(region_in(&memory, address)),
+        None => Ok(None),
+    }
+}
+
+fn region_in<'a>(memory: &UnifiedMemoryList<'a>, address: u64) -> Option<(u64, &'a [u8])>
+    ensures { IsRegionIn (unified_regions (unified_list memory.now)) address (option_map (λ r. (r.0, r.1.now)) result) }
+{
+    laws::region_laws::<()>();
+    let region = memory.memory_at_address(address)?;
+    Some((region.base_address(), region.bytes()))
+}
+
+#[cfg(test)]
+mod tests;
