@@ -1,7 +1,7 @@
 ghost use Rattle.std.proofs.Common.{rules};
 ghost use Rattle.minidump_bytes.specs.Exact.{IsExact};
 
-use crate::Endian;
+use crate::{Endian, Refused};
 
 /// A plain type whose `==` holds of the same value alone, and whose clone is the same value.
 pub trait Exact: Clone + PartialEq {
@@ -9,5 +9,9 @@ pub trait Exact: Clone + PartialEq {
 }
 
 impl Exact for Endian {
+    ghost exact = { Prim.search rules };
+}
+
+impl Exact for Refused {
     ghost exact = { Prim.search rules };
 }

@@ -1,8 +1,13 @@
 //! Laws over the definitions that the contracts of this crate cite.
-ghost use Rattle.std.specs.Prelude.{◌≡◌, ◌↔◌, ◌<◌, ◌^◌, ℕ, All, List, MatchOption, Some};
+ghost use Rattle.std.specs.Prelude.{◌≡◌, ◌↔◌, ◌<◌, ◌^◌, ℕ, All, IsTrue, List, MatchOption, Some};
+ghost use Rattle.minidump_bytes.specs.LinuxOsStr.{string_of, text_of};
+ghost use Rattle.minidump_bytes.specs.declared.linux_os_str.LinuxOsStr as lent;
+ghost use Rattle.minidump_bytes.specs.declared.linux_os_str.LinuxOsString as owned;
 ghost use Rattle.minidump_bytes.specs.Text16.{IsTextOf, IsUtf16, utf16_text};
 ghost use Rattle.minidump_bytes.specs.Text8.{IsText8, SpellsUtf8, utf8_text};
 ghost use Rattle.minidump_bytes.specs.Wire.{Field, IsFieldAt, SpellsFields, field_at};
+
+use crate::{LinuxOsStr, LinuxOsString};
 
 /// Code units have a text exactly where they are the UTF-16 encoding of characters, and it is the UTF-8
 /// encoding of these.
@@ -41,4 +46,14 @@ pub fn field_at_a_place_is_one()
 /// Bytes spell one list of fields at most.
 pub fn fields_of_bytes_are_one()
     ensures { (bytes : List ℕ) (fs gs : List Field) → SpellsFields bytes fs → SpellsFields bytes gs → fs ≡ gs }
+{}
+
+/// Texts that Linux wrote are equal exactly where their bytes are, lent or owned, and a copy of a lent one
+/// is the same text.
+pub fn linux_texts_compare_by_their_bytes()
+    ensures lent { (one other : lent.LinuxOsStr)
+        → IsTrue (⟦<LinuxOsStr<'static> as PartialEq>⟧.eq one other) ↔ (text_of one ≡ text_of other) }
+    ensures copied { (one other : lent.LinuxOsStr) → ⟦<LinuxOsStr<'static> as Clone>⟧.is_clone one other → other ≡ one }
+    ensures owned { (one other : owned.LinuxOsString)
+        → IsTrue (⟦<LinuxOsString as PartialEq>⟧.eq one other) ↔ (string_of one ≡ string_of other) }
 {}
