@@ -3,11 +3,6 @@ use Rattle.std.specs.Prelude.{◌≡◌, Result, Ok, Err}
 use Rattle.minidump_format.specs.declared.error.Error.{Error}
 use Rattle.minidump_format.specs.declared.error.Error.TheVariants.{OutOfMemory}
 
--- the fact holds of the value; the only refusal is want of memory
-abbrev pub IsOkUnless : {X : Type 0} → Result X Error → (X → Type 0) → Type 0
-IsOkUnless (Ok x) fact = fact x
-IsOkUnless (Err e) fact = e ≡ OutOfMemory
-
 -- the refusal is the assigned one; or memory ran out, at a call that may take memory here
 abbrev pub Refuses : {V : Type 0} → Type 0 → Error → Result V Error → Type 0
 Refuses memory OutOfMemory assigned = memory

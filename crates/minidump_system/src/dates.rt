@@ -1,5 +1,4 @@
-ghost use Rattle.std.specs.Prelude.{◌≡◌, IfOk, MatchOption, string_bytes, true, false};
-ghost use Rattle.minidump_format.specs.Answer.{IsOkUnless};
+ghost use Rattle.std.specs.Prelude.{◌≡◌, IfOk, IsOkUnless, MatchOption, string_bytes, true, false};
 ghost use Rattle.minidump_system.specs.Dates.{IsDateText, IsMomentOf, date_text_of, is_moment, system_time_text};
 
 use jiff::Timestamp;
@@ -13,8 +12,9 @@ use std::alloc::{AllocError, Global};
 /// The date so many seconds after 1970-01-01T00:00:00Z, as `2064-02-11T00:17:46Z` (RFC 3339). The only
 /// refusal is [`Error::OutOfMemory`].
 pub fn date_text(alloc: Global, seconds: u32) -> Result<String, Error>
-    ensures civil { IsOkUnless result (λ t. IsDateText seconds (string_bytes t)) }
-    ensures counted { IsOkUnless result (λ t. string_bytes t ≡ date_text_of seconds) }
+    ensures civil { IfOk result (λ t. IsDateText seconds (string_bytes t)) }
+    ensures counted { IfOk result (λ t. string_bytes t ≡ date_text_of seconds) }
+    ensures memory { IsOkUnless result Error.OutOfMemory }
 {
     Ok(made_date(alloc, seconds)?)
 }

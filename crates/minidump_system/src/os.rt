@@ -1,6 +1,5 @@
 ghost use Rattle.std.proofs.Common.{rules};
-ghost use Rattle.std.specs.Prelude.{◌≡◌, IfOk, string_bytes};
-ghost use Rattle.minidump_format.specs.Answer.{IsOkUnless};
+ghost use Rattle.std.specs.Prelude.{◌≡◌, IfOk, IsOkUnless, string_bytes};
 ghost use Rattle.minidump_system.specs.Os.{hex_of_six, os_long_name, os_of};
 
 use minidump_bytes::{Exact, Piece, made};
@@ -47,7 +46,8 @@ impl Os {
     /// The full name, as `Windows NT`. An unknown system has its number in hexadecimal, in at least six
     /// digits. The only refusal is [`Error::OutOfMemory`].
     pub fn long_name(&self, alloc: Global) -> Result<String, Error>
-        ensures { IsOkUnless result (λ t. string_bytes t ≡ os_long_name self.now) }
+        ensures name { IfOk result (λ t. string_bytes t ≡ os_long_name self.now) }
+        ensures memory { IsOkUnless result Error.OutOfMemory }
     {
         let name = match *self {
             Os::Windows => "Windows NT",

@@ -1,5 +1,4 @@
-ghost use Rattle.std.specs.Prelude.{◌≡◌, ◌==◌, IfOk, map, option_map, string_bytes, Some};
-ghost use Rattle.minidump_format.specs.Answer.{IsOkUnless};
+ghost use Rattle.std.specs.Prelude.{◌≡◌, ◌==◌, IfOk, IsOkUnless, map, option_map, string_bytes, Some};
 ghost use Rattle.minidump_system.specs.OsParts.{named_build, named_parts, numbered_version, os_parts_of, parts_of, trailing, trimmed_build};
 
 use minidump_format::Error;
@@ -19,8 +18,9 @@ pub(crate) fn os_parts(
     platform_id: u32,
     csd: Option<&str>,
 ) -> Result<(String, Option<String>), Error>
-    ensures { IsOkUnless result (λ r. (string_bytes r.0, option_map string_bytes r.1)
+    ensures means { IfOk result (λ r. (string_bytes r.0, option_map string_bytes r.1)
         ≡ os_parts_of major minor build platform_id (option_map (λ t. t.now) csd.entry)) }
+    ensures memory { IsOkUnless result Error.OutOfMemory }
 {
     if platform_id == LINUX && major == 0 && minor == 0 && build == 0 {
         let parts = parts(alloc, csd.unwrap_or(""))?;

@@ -1,8 +1,8 @@
-ghost use Rattle.std.specs.Prelude.{◌≡◌, ◌+◌, ◌++◌, ◌≤◌, IfOk, IsOk, OnOk, string_bytes};
+ghost use Rattle.std.specs.Prelude.{◌≡◌, ◌+◌, ◌++◌, ◌≤◌, IfOk, IsOk, IsOkUnless, OnOk, string_bytes};
 ghost use Rattle.std.specs.Option.{option_copied, option_map};
 ghost use Rattle.minidump_bytes.specs.Source.{bytes_of};
 ghost use Rattle.minidump_bytes.specs.Steps.{after};
-ghost use Rattle.minidump_format.specs.Answer.{Gives, IsOkUnless};
+ghost use Rattle.minidump_format.specs.Answer.{Gives};
 ghost use Rattle.minidump_format.specs.Print.{Prints};
 ghost use Rattle.minidump_system.specs.OsParts.{os_parts_of};
 ghost use Rattle.minidump_system.specs.SystemInfo.{names_text, numbers_text, system_info_text, system_of, system_read};
@@ -85,9 +85,10 @@ impl MinidumpSystemInfo {
     /// dots, and the build the trimmed text of the service pack; but a Linux system that left the numbers
     /// at 0 wrote both into the text, as `uname -srvmo` does.
     pub fn os_parts(&self, alloc: Global) -> Result<(String, Option<String>), Error>
-        ensures { IsOkUnless result (λ r. (string_bytes r.0, option_map string_bytes r.1)
+        ensures means { IfOk result (λ r. (string_bytes r.0, option_map string_bytes r.1)
             ≡ os_parts_of self.now.raw.major_version self.now.raw.minor_version self.now.raw.build_number
             self.now.raw.platform_id (system_of self.now).csd_version) }
+        ensures memory { IsOkUnless result Error.OutOfMemory }
     {
         let raw = &self.raw;
         os_parts(
@@ -109,7 +110,8 @@ impl MinidumpSystemInfo {
 
     /// The same value.
     pub fn try_clone(&self, alloc: Global) -> Result<MinidumpSystemInfo, Error>
-        ensures { IsOkUnless result (λ s. system_of s ≡ system_of self.now) }
+        ensures same { IfOk result (λ s. system_of s ≡ system_of self.now) }
+        ensures memory { IsOkUnless result Error.OutOfMemory }
     {
         Ok(MinidumpSystemInfo {
             raw: self.raw,
