@@ -1,6 +1,7 @@
 //! Laws over the definitions that the contracts of this crate cite.
-ghost use Rattle.std.specs.Prelude.{◌≡◌, ◌↔◌, ◌<◌, ◌^◌, ℕ, All, IsTrue, List, MatchOption, Some};
-ghost use Rattle.minidump_bytes.specs.LinuxOsStr.{string_of, text_of};
+ghost use Rattle.std.specs.Prelude.{◌≡◌, ◌↔◌, ◌+◌, ◌==◌, ◌<◌, ◌^◌, ℕ, All, IsTrue, List, MatchOption, Some, length};
+ghost use Rattle.std.specs.List.{count_by, join_with_byte};
+ghost use Rattle.minidump_bytes.specs.LinuxOsStr.{split_parts, string_of, text_of};
 ghost use Rattle.minidump_bytes.specs.declared.linux_os_str.LinuxOsStr as lent;
 ghost use Rattle.minidump_bytes.specs.declared.linux_os_str.LinuxOsString as owned;
 ghost use Rattle.minidump_bytes.specs.Text16.{IsTextOf, IsUtf16, utf16_text};
@@ -56,4 +57,11 @@ pub fn linux_texts_compare_by_their_bytes()
     ensures copied { (one other : lent.LinuxOsStr) → ⟦<LinuxOsStr<'static> as Clone>⟧.is_clone one other → other ≡ one }
     ensures owned { (one other : owned.LinuxOsString)
         → IsTrue (⟦<LinuxOsString as PartialEq>⟧.eq one other) ↔ (string_of one ≡ string_of other) }
+{}
+
+/// The parts of a text, with a separator between each two, are the text, and they are one more than there
+/// are separators.
+pub fn parts_make_the_text()
+    ensures joined { (b : ℕ) (text : List ℕ) → join_with_byte b (split_parts b text) ≡ text }
+    ensures count { (b : ℕ) (text : List ℕ) → length (split_parts b text) ≡ count_by (λ c. c == b) text + 1 }
 {}
