@@ -71,14 +71,7 @@ fn decoded<R: Record>(rt: &impl Abort, alloc: Global, endian: Endian) -> Result<
     Ok(R::decode(&bytes, endian))
 }
 
-// Each value is the number at its place and of its width.
-fn stand(rt: &impl Abort, endian: Endian, fields: &[(u16, u16, u64)]) {
-    for (place, width, value) in fields {
-        assert_eq!(rt; u128::from(*value), number(endian, *place, *width));
-    }
-}
-
-// The values are the numbers of a width from a place on.
+// The values are the numbers of a width in bytes that stand one after another from a place on.
 fn follow<T: Copy + Into<u128>>(
     rt: &impl Abort,
     endian: Endian,
