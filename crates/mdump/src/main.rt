@@ -1,4 +1,27 @@
 //! `mdump`, which writes what a minidump holds as text.
+//!
+//! - `mdump dir FILE` writes the header and the directory.
+//! - `mdump at FILE HEXADDRESS` writes the base address and the size of the region of memory that contains
+//!   the address, or `memory none`.
+//! - `mdump` alone writes its usage.
+//!
+//! # Errors
+//!
+//! Status 1: the dump, the file or the output failed, and the name of the error goes to standard error.
+//! Status 2: the arguments are no command, and the usage goes to standard error.
+//!
+//! # What is proved
+//!
+//! - The status is 0, 1 or 2, and 2 exactly where the arguments are no command. At 0 the output took the
+//!   text that they ask for; at 1 a beginning of it, or nothing; at 2 nothing: `run`, by `IsRun`.
+//! - Standard error took the name of one error at 1, the usage at 2, and nothing at 0; only its own failure
+//!   cuts it short. `MissingHeader`, `HeaderMismatch`, `VersionMismatch` and `MissingDirectory` are the
+//!   error of the bytes of a file that was opened.
+//! - Which command the arguments mean, and how an address is spelled: `Command::parse`, `hex_address`.
+//! - The status and the texts of a run from the arguments of the process: `started`.
+//!
+//! What isn't: which file a path opens, and whether it is `FileNotFound`, `IoError` or `OutOfMemory` that is
+//! named, which tests show; that `main` passes on its arguments, its output and its errors.
 #![tactic(auto)]
 
 mod address;

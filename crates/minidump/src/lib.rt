@@ -1,4 +1,40 @@
-//! A reader of minidumps, the crash files that Windows, Breakpad and Crashpad write.
+//! Reads minidumps, the crash files that Windows, Breakpad and Crashpad write.
+//!
+//! - [`Minidump`] is a dump: `read` takes its bytes, `read_path` a path. `header` and `endian` are its
+//!   fields.
+//! - `get_stream` reads a stream by its type: [`MinidumpSystemInfo`], [`MinidumpMiscInfo`],
+//!   [`MinidumpMemoryList`], [`MinidumpMemory64List`], or a caller's own [`MinidumpStream`].
+//!   `get_raw_stream` lends the bytes of any stream, `get_memory` the memory of the dump by either list.
+//! - `all_streams`, `unknown_streams` and `unimplemented_streams` list the streams. `print` writes the
+//!   header and the directory.
+//! - [`laws`] has what holds of all this beyond single calls.
+//!
+//! # Errors
+//!
+//! `read` returns the first of `MissingHeader`, `HeaderMismatch`, `VersionMismatch` and `MissingDirectory`
+//! that holds, or `OutOfMemory`; `read_path` also `FileNotFound` and `IoError`. A stream is `StreamNotFound`
+//! where the directory has no entry of its type, `StreamReadFailure` where its span is not in the file; else
+//! its type decides.
+//!
+//! # What is proved
+//!
+//! - Which files are dumps, and the error of every other: `Minidump::read`, by `dump_in`. `OutOfMemory` only
+//!   where the header is accepted and counts an entry. At most n + 8 reads for n bytes, however it ends, and
+//!   at least `least_reads` where it succeeds: `read_counted`.
+//! - The last entry of a type decides its bytes: `get_raw_stream`; `laws::last_entry_decides`,
+//!   `last_entry_decides_the_bytes`.
+//! - A stream is what its type assigns to its bytes, the file, the byte order and the dump's system
+//!   information, which is present exactly where its own stream parses; at most one read more than the type
+//!   takes: `get_stream`, `get_stream_counted`. Each type that is read:
+//!   `laws::streams_are_read_as_promised`.
+//! - The memory is the 64-bit list, else, where that is missing or malformed, the memory list: `get_memory`,
+//!   by `memories_of_dump`. `OutOfMemory` is no reason to take the other list.
+//! - The deciding entries, ascending by type: `all_streams`; `laws::listed_streams_ascend`,
+//!   `listed_streams_decide`. Those without a name, and those that are never read: `unknown_streams`,
+//!   `unimplemented_streams`. The printed text: `print`. Reading a file: `read_path`.
+//!
+//! What isn't: which file a path opens, and what `read_path` leaves in the vector beyond the contract of the
+//! private `read_file`.
 #![tactic(auto)]
 
 mod answer;

@@ -1,5 +1,37 @@
-//! The records of a minidump, the types of its streams, why reading one is refused, and what a call
-//! that prints answers.
+//! The records of a minidump, the types of its streams, the errors of reading one, and the calls that print.
+//!
+//! - [`format`] has the records, enumerations and sets of flags, by the names of Microsoft's, Breakpad's and
+//!   Crashpad's headers. Each record is a `minidump_bytes::Record`.
+//! - [`Error`] is the one error of all crates. [`stream_vendor`] names the vendor of a stream type.
+//! - [`put_text`] and [`put_made`] print a text. A value that prints itself is [`Printed`], and
+//!   [`print_all`] prints several; [`TextOf`] and [`print_values`] do so for the values of a map.
+//!
+//! # Errors
+//!
+//! Printing returns [`Error::IoError`] where the writer has failed by then, and else [`Error::OutOfMemory`];
+//! [`put_text`] returns the first alone. After either, a beginning of the text was written.
+//!
+//! # What is proved
+//!
+//! - Each record is its table of offsets and widths in `specs/`: `Record::decode` of each.
+//! - The enumerations have the format's numbers: `MINIDUMP_STREAM_TYPE::from_u32`, `PlatformId::from_u32`,
+//!   `ProcessorArchitecture::from_u16`, `XstateFeatureIndex::from_index`, `CvSignature::from_u32`,
+//!   `MINIDUMP_HANDLE_OBJECT_INFORMATION_TYPE::from_u32`, and `number` of each. The stream types have their
+//!   names, whether they are read, and their vendors: `name`, `is_unimplemented`, `stream_vendor`.
+//! - A set of flags contains a flag exactly where all of its bits are set, by its table: `Flags` of
+//!   `MiscInfoFlags`, `ArmElfHwCaps`, `MemoryProtection`, `MemoryState`, `MemoryType`, `BreakpadInfoValid`.
+//! - The enabled features of the extended state, ascending: `XSTATE_CONFIG_FEATURE_MSC_INFO::iter`. The text
+//!   of a GUID: its `Display`.
+//! - `==` holds of the same value alone and a clone is the same value: `Exact` of each type;
+//!   `laws::large_records_are_exact` for records with long arrays or other records, and
+//!   `laws::contexts_are_copied` for contexts, which have no `==`.
+//! - The constants: `laws::header_numbers`, `file_info_numbers`, `annotation_numbers`. The name of an error:
+//!   `Error::name`.
+//! - A call that prints wrote all of its text, or a beginning, and returned the error above: the word
+//!   `Prints` at `put_text`, `put_made`, `print_all`, `print_values`.
+//!
+//! What isn't: the messages of the errors, which tests show. `CV_INFO_PDB70`, `CV_INFO_PDB20` and
+//! `CV_INFO_ELF` have no reader yet.
 #![tactic(auto)]
 
 mod error;

@@ -1,5 +1,5 @@
-//! Minidumps and devices for tests, which so state records and no bytes: a builder in both byte
-//! orders, and readers and writers that move one byte a call, fail at a call or take nothing.
+//! Builds minidumps for tests, which so state records and no bytes; and devices that move one byte a call,
+//! fail at a call, or take nothing. It is for tests alone.
 //!
 //! ```
 //! let mut dump = SynthMinidump::new(alloc, Endian::Little);
@@ -9,6 +9,20 @@
 //! dump.add_stream(0x1122_3344, dump.section().u32(1).cstring("a"));
 //! let bytes = dump.finish()?;
 //! ```
+//!
+//! - [`SynthMinidump`] is a dump in the making: header, what was added, directory.
+//! - [`Section`] is bytes that grow, with a byte order. [`Encode`] is what has bytes in a minidump, and
+//!   [`zeroed`] the record of zeros.
+//! - [`OneByte`], [`FailsAt`], [`TakesNone`] and [`Full`] are readers and writers.
+//!
+//! # Errors
+//!
+//! `finish` returns `AllocError` where an allocation failed, and is the only call that does.
+//!
+//! # What is proved
+//!
+//! That every call is safe and returns. What the bytes are, tests show: each record is written back as the
+//! bytes that it was read from, in both byte orders.
 #![tactic(auto)]
 
 mod device;

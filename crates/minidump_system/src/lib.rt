@@ -1,5 +1,34 @@
-//! The streams of a minidump, read by one trait; the system that it was written on, and misc
-//! information on its process.
+//! The trait of streams, the framings of lists, and two streams: the system information and the misc
+//! information.
+//!
+//! - [`MinidumpStream`] is a type of stream that `Minidump::get_stream` reads. Implement it for your own.
+//! - [`framing`] reads the four forms in which streams lay out their entries.
+//! - [`MinidumpSystemInfo`] has the operating system ([`Os`]) and the processor ([`Cpu`]) of a dump.
+//! - [`MinidumpMiscInfo`] has one of five layouts ([`RawMiscInfo`]), whose fields may be absent.
+//! - [`date_text`] writes a time stamp as RFC 3339 does.
+//!
+//! # Errors
+//!
+//! `StreamReadFailure` where a stream is too short for its numbers, `StreamSizeMismatch` where a list has
+//! another length than its count asks for, `OutOfMemory` where an allocation fails.
+//!
+//! # What is proved
+//!
+//! - `read` of a stream returns what the type's `meaning` assigns to its bytes, or `OutOfMemory` where
+//!   `takes_memory` holds, and counts at most `limit` and, where it succeeds, at least `least` reads: the
+//!   clauses of `MinidumpStream::read`.
+//! - The entries of each framing, each error with its two numbers and in the format's order, the number of
+//!   reads, and that a list of a wrong length is no reason for `OutOfMemory`: `framing::plain_entries`,
+//!   `entries_64`, `extended_entries`, `handle_entries`, `read_plain_list`, `read_list_64`.
+//! - The system information: the record, what its numbers name, the service pack and the processor in words;
+//!   two reads from its stream: `MinidumpSystemInfo::read_record`, by `system_in`.
+//! - The misc information is the largest layout that the stream holds; it takes no memory: `read`, by
+//!   `misc_info_in`; `laws::misc_info_depends_on_its_stream_alone`, `misc_info_clones_are_the_same`. A field
+//!   is absent exactly where the layout lacks it or its flag is not set: the accessors of `RawMiscInfo`.
+//! - Names, widths, versions, builds and dates: `Os`, `Cpu`, `PointerWidth`, `os_parts`, `date_text`. Both
+//!   prints, byte by byte: `print`.
+//!
+//! What isn't: that a forged count reserves no memory. The contracts show that none is answered for.
 #![tactic(auto)]
 
 mod cpu;

@@ -1,4 +1,15 @@
-//! The region of a minidump's memory that has an address: an example of a crate on `minidump` alone.
+//! Finds the region of a minidump's memory that contains an address: an example of a crate on `minidump`
+//! alone, which the README quotes.
+//!
+//! # Errors
+//!
+//! The error that the format assigns to the bytes, or `OutOfMemory`.
+//!
+//! # What is proved
+//!
+//! The region is one that the format assigns to these bytes and contains the address, and it is `None` where
+//! no kept region contains it: `region_at`, by `IsRegionAt` and `IsRefused`. The proof uses the contracts
+//! and laws of `minidump`, and nothing below.
 #![tactic(auto)]
 
 ghost use Rattle.std.specs.Prelude.{IfErr, IfOk};
