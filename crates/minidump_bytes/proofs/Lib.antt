@@ -1,4 +1,5 @@
 -- The lemmas of this crate.
+pub mod LeftLemmas
 pub mod ListLemmas
 pub mod EntryLemmas
 pub mod HexLemmas

@@ -8,10 +8,10 @@ ghost use Rattle.minidump_memory.specs.Memory.{memory_of};
 ghost use Rattle.minidump_memory.specs.Memory64List.{placed, regions_64};
 
 use crate::{MinidumpMemory64, MinidumpMemoryBase, MinidumpMemoryListBase};
-use minidump_bytes::{Endian, Source, Steps};
+use minidump_bytes::{Endian, Entries, Source, Steps};
 use minidump_format::Error;
 use minidump_format::format::MINIDUMP_MEMORY_DESCRIPTOR64;
-use minidump_system::framing::read_list_64;
+use minidump_system::framing::entries_64;
 use minidump_system::{MinidumpStream, MinidumpSystemInfo};
 use std::alloc::Global;
 
@@ -58,10 +58,8 @@ impl<'a> MinidumpStream<'a> for MinidumpMemoryListBase<'a, MINIDUMP_MEMORY_DESCR
         _system_info: Option<&MinidumpSystemInfo>,
         steps: &mut Steps,
     ) -> Result<Self, Error> {
-        let (rva, descriptors) = read_list_64::<MINIDUMP_MEMORY_DESCRIPTOR64>(
-            alloc, bytes, endian, steps,
-        )?;
-        let regions = read_regions_64(alloc, rva, &descriptors, all, endian, steps)?;
+        let (rva, descriptors) = entries_64::<MINIDUMP_MEMORY_DESCRIPTOR64>(bytes, endian, steps)?;
+        let regions = read_regions_64(alloc, rva, descriptors, all, endian, steps)?;
         MinidumpMemoryListBase::from_regions(alloc, regions)
     }
 }
@@ -94,21 +92,21 @@ fn region_at<'a>(
 fn read_regions_64<'a>(
     alloc: Global,
     rva: u64,
-    descriptors: &[MINIDUMP_MEMORY_DESCRIPTOR64],
+    descriptors: Entries<'_, MINIDUMP_MEMORY_DESCRIPTOR64>,
     all: Source<'a>,
     endian: Endian,
     steps: &mut Steps,
 ) -> Result<Vec<MinidumpMemory64<'a>>, Error>
     ensures means { Gives (λ v. map memory_of v.items) ⊤ result
-        (regions_64 (bytes_of all.entry) endian (record { rva = rva; items = descriptors.now })) }
-    ensures within { steps.new ≤ steps.old + length descriptors.now }
+        (regions_64 (bytes_of all.entry) endian (record { rva = rva; items = descriptors.entry })) }
+    ensures within { steps.new ≤ steps.old + length descriptors.entry }
     ensures grows { steps.old ≤ steps.new }
-    ensures steps { IfOk result (λ _. steps.new ≡ after steps.old (length descriptors.now)) }
+    ensures steps { IfOk result (λ _. steps.new ≡ after steps.old (length descriptors.entry)) }
 {
     let mut regions = Vec::with_capacity(alloc, descriptors.len())?;
     let mut place = rva;
     for desc in descriptors {
-        let Some(region) = region_at(desc, place, all, endian, steps) else {
+        let Some(region) = region_at(&desc, place, all, endian, steps) else {
             return Err(Error::StreamReadFailure);
         };
         regions.push(region)?;

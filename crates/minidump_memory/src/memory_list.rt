@@ -12,11 +12,11 @@ ghost use Rattle.minidump_memory.specs.Memory.{described, memory_of, memory_rang
 ghost use Rattle.minidump_memory.specs.MemoryList.{all_described, regions_of};
 
 use crate::{MinidumpMemory, MinidumpMemoryBase};
-use minidump_bytes::{Endian, Source, Steps};
+use minidump_bytes::{Endian, Entries, Source, Steps};
 use minidump_format::Error;
 use minidump_format::format::{MINIDUMP_MEMORY_DESCRIPTOR, MINIDUMP_MEMORY_DESCRIPTOR64};
 use minidump_index::{RegionList, RegionsByAddress};
-use minidump_system::framing::read_plain_list;
+use minidump_system::framing::plain_entries;
 use minidump_system::{MinidumpStream, MinidumpSystemInfo};
 use std::alloc::{AllocError, Global};
 use std::slice;
@@ -136,8 +136,8 @@ impl<'a> MinidumpStream<'a> for MinidumpMemoryListBase<'a, MINIDUMP_MEMORY_DESCR
         _system_info: Option<&MinidumpSystemInfo>,
         steps: &mut Steps,
     ) -> Result<Self, Error> {
-        let entries = read_plain_list::<MINIDUMP_MEMORY_DESCRIPTOR>(alloc, bytes, endian, steps)?;
-        let regions = read_regions(alloc, &entries, all, endian, steps)?;
+        let descriptors = plain_entries::<MINIDUMP_MEMORY_DESCRIPTOR>(bytes, endian, steps)?;
+        let regions = read_regions(alloc, descriptors, all, endian, steps)?;
         MinidumpMemoryListBase::from_regions(alloc, regions)
     }
 }
@@ -159,20 +159,20 @@ fn region_of<'a>(
 // The regions of descriptors. One that is refused is skipped.
 fn read_regions<'a>(
     alloc: Global,
-    descriptors: &[MINIDUMP_MEMORY_DESCRIPTOR],
+    descriptors: Entries<'_, MINIDUMP_MEMORY_DESCRIPTOR>,
     all: Source<'a>,
     endian: Endian,
     steps: &mut Steps,
 ) -> Result<Vec<MinidumpMemory<'a>>, AllocError>
     ensures items { IfOk result (λ v. map memory_of v.items
-        ≡ all_described (bytes_of all.entry) endian descriptors.now) }
-    ensures within { steps.new ≤ steps.old + length descriptors.now }
+        ≡ all_described (bytes_of all.entry) endian descriptors.entry) }
+    ensures within { steps.new ≤ steps.old + length descriptors.entry }
     ensures grows { steps.old ≤ steps.new }
-    ensures steps { IfOk result (λ _. steps.new ≡ after steps.old (sum_by spans_read descriptors.now)) }
+    ensures steps { IfOk result (λ _. steps.new ≡ after steps.old (sum_by spans_read descriptors.entry)) }
 {
     let mut regions = Vec::with_capacity(alloc, descriptors.len())?;
     for desc in descriptors {
-        if let Some(region) = region_of(desc, all, endian, steps) {
+        if let Some(region) = region_of(&desc, all, endian, steps) {
             regions.push(region)?;
         }
     }

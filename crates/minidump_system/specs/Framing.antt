@@ -1,7 +1,6 @@
 -- How a stream that is a list lays out its entries: Microsoft's MINIDUMP_MEMORY_LIST and others of its form,
 -- MINIDUMP_MEMORY64_LIST, MINIDUMP_THREAD_INFO_LIST and others of its form, and MINIDUMP_HANDLE_DATA_STREAM.
 use Rattle.std.specs.Prelude.{ℕ, ◌+◌, ◌*◌, ◌^◌, List, length, slice_range, Option, Some, None, Result, Ok, Err, nat_le, nat_lt, ◌==◌, ◌||◌, not, if◌then◌else◌}
-use Rattle.std.specs.Global.{Vec}
 use Rattle.minidump_bytes.specs.declared.endian.Endian.{Endian}
 use Rattle.minidump_bytes.specs.Entries.{entries}
 use Rattle.minidump_bytes.specs.Layout.{Layout, number_layout}
@@ -42,9 +41,6 @@ pub record List64 (R : Type 0) : Type 0 where
 
 abbrev pub list_64_left : {R : Type 0} → ℕ × List R → List64 R
 list_64_left l = record { rva = l.0; items = l.1 }
-
-abbrev pub list_64_of : {R : Type 0} → ℕ × Vec R → List64 R
-list_64_of l = record { rva = l.0; items = l.1.items }
 
 -- by the count and the place: with them come the entries, and nothing else; a length of 2^64 or more is none
 abbrev counted_64 : {R : Type 0} → Layout R → Endian → List ℕ → Option ℕ → Option ℕ → Result (List64 R) Error

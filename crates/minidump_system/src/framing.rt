@@ -1,15 +1,14 @@
 //! How a stream that is a list lays out its entries: their count, and where they begin.
-ghost use Rattle.std.specs.Prelude.{◌≡◌, ◌+◌, ◌*◌, ◌≤◌, length, IfOk, IsOk};
+ghost use Rattle.std.specs.Prelude.{◌≡◌, ◌+◌, ◌*◌, ◌≤◌, length, IfOk};
 ghost use Rattle.std.proofs.Common.{rules};
 ghost use Rattle.minidump_bytes.specs.Source.{bytes_of};
 ghost use Rattle.minidump_bytes.specs.Steps.{after};
 ghost use Rattle.minidump_format.specs.Answer.{Gives};
-ghost use Rattle.minidump_system.specs.Framing.{count_of, count_64_of, extended_list, handle_list, handles_in, list_64, list_64_of, list_64_left, list_header, list_header_of, plain_list};
+ghost use Rattle.minidump_system.specs.Framing.{count_of, count_64_of, extended_list, handle_list, handles_in, list_64, list_64_left, list_header, list_header_of, plain_list};
 
 use minidump_bytes::{Endian, Entries, Record, Source, Steps};
 use minidump_format::Error;
 use minidump_format::format::{MINIDUMP_HANDLE_DESCRIPTOR, MINIDUMP_HANDLE_DESCRIPTOR_2};
-use std::alloc::Global;
 
 /// The entries of a plain list: a count of 32 bits, perhaps four bytes that align what follows, and the
 /// entries to the end. `StreamReadFailure` where there is no count, `StreamSizeMismatch` where the stream
@@ -174,40 +173,4 @@ pub fn handle_entries<'a>(
         _ if count == 0 => Ok(HandleEntries::Short(bytes.entries(start, count, endian, steps))),
         _ => Err(Error::StreamReadFailure),
     }
-}
-
-/// [`plain_entries`] in a vector. Memory is taken once the length is known to be right.
-pub fn read_plain_list<R: Record + Drop>(
-    alloc: Global,
-    bytes: Source<'_>,
-    endian: Endian,
-    steps: &mut Steps,
-) -> Result<Vec<R>, Error>
-    ensures means { Gives (λ v. v.items) (IsOk (plain_list R.layout endian (bytes_of bytes.entry))) result (plain_list R.layout endian (bytes_of bytes.entry)) }
-    ensures counted { IfOk result (λ v. length v.items ≡ count_of endian (bytes_of bytes.entry)) }
-    ensures sized { IfOk result (λ v. 4 + R.layout.size * length v.items ≤ length (bytes_of bytes.entry)) }
-    ensures within { steps.new ≤ steps.old + length (bytes_of bytes.entry) + 1 }
-    ensures begun { after steps.old 1 ≤ steps.new }
-    ensures steps { IfOk result (λ v. steps.new ≡ after steps.old (1 + length v.items)) }
-{
-    let entries = plain_entries(bytes, endian, steps)?;
-    Ok(entries.collect(alloc)?)
-}
-
-/// [`entries_64`] with a vector of the entries. Memory is taken once the length is known to be right.
-pub fn read_list_64<R: Record + Drop>(
-    alloc: Global,
-    bytes: Source<'_>,
-    endian: Endian,
-    steps: &mut Steps,
-) -> Result<(u64, Vec<R>), Error>
-    ensures means { Gives list_64_of (IsOk (list_64 R.layout endian (bytes_of bytes.entry))) result (list_64 R.layout endian (bytes_of bytes.entry)) }
-    ensures counted { IfOk result (λ v. length v.1.items ≡ count_64_of endian (bytes_of bytes.entry)) }
-    ensures sized { IfOk result (λ v. 16 + R.layout.size * length v.1.items ≤ length (bytes_of bytes.entry)) }
-    ensures within { steps.new ≤ steps.old + length (bytes_of bytes.entry) + 2 }
-    ensures begun { after steps.old 1 ≤ steps.new }
-    ensures steps { IfOk result (λ v. steps.new ≡ after steps.old (2 + length v.1.items)) }
-{
-    let (rva, entries) = entries_64(bytes, endian, steps)?;
-    Ok((rva, entries.collect(alloc)?))
 }

@@ -19,7 +19,7 @@
 //!   clauses of `MinidumpStream::read`.
 //! - The entries of each framing, each error with its two numbers and in the format's order, the number of
 //!   reads, and that a list of a wrong length is no reason for `OutOfMemory`: `framing::plain_entries`,
-//!   `entries_64`, `extended_entries`, `handle_entries`, `read_plain_list`, `read_list_64`.
+//!   `entries_64`, `extended_entries`, `handle_entries`.
 //! - The system information: the record, what its numbers name, the service pack and the processor in words;
 //!   two reads from its stream: `MinidumpSystemInfo::read_record`, by `system_in`.
 //! - The misc information is the largest layout that the stream holds; it takes no memory: `read`, by

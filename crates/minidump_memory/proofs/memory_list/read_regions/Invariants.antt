@@ -1,5 +1,5 @@
 -- The regions of the descriptors so far, and the spans read for them.
-use Rattle.std.proofs.Common.{◌≡◌, ◌+◌, ◌≤◌, map, take}
+use Rattle.std.proofs.Common.{◌≡◌, ◌+◌, ◌≤◌, drop, length, map, take}
 use Rattle.std.specs.List.{sum_by}
 use Rattle.minidump_bytes.specs.Source.{bytes_of}
 use Rattle.minidump_bytes.specs.Steps.{after}
@@ -9,8 +9,9 @@ use Rattle.minidump_memory.proofs.memory_list.read_regions.Given as goal
 
 abbrev pub invariant-loop-desc : goal.invariant-loop-desc
 invariant-loop-desc l = record {
-  items : map memory_of l.regions.items ≡ all_described (bytes_of l.all) l.endian (take l.desc-index l.descriptors);
-  within : l.steps ≤ l.fn.steps + l.desc-index;
+  left : l.desc-iterator ≡ drop (length l.yielded) l.fn.descriptors;
+  items : map memory_of l.regions.items ≡ all_described (bytes_of l.all) l.endian (take (length l.yielded) l.fn.descriptors);
+  within : l.steps ≤ l.fn.steps + length l.yielded;
   grows : l.fn.steps ≤ l.steps;
-  counted : l.steps ≡ after l.fn.steps (sum_by spans_read (take l.desc-index l.descriptors));
+  counted : l.steps ≡ after l.fn.steps (sum_by spans_read (take (length l.yielded) l.fn.descriptors));
 }
