@@ -1,4 +1,4 @@
--- What stands in a fixed number of bytes: how many they are, and what they mean.
+-- Records of a fixed number of bytes: the size, and the value of that many bytes.
 use Rattle.std.specs.Prelude.{◌≡◌, ℕ, ◌<◌, ◌^◌, List, slice_index}
 use Rattle.minidump_bytes.specs.declared.endian.Endian.{Endian}
 use Rattle.minidump_bytes.specs.Number.{number_at}

@@ -1,4 +1,4 @@
--- Lines of a text of bytes.
+-- Lines: the bytes up to the next line feed, or to the end.
 use Rattle.std.specs.Prelude.{ℕ, ◌==◌, List, length, drop, Option, Some, None, nat_lt, if◌then◌else◌}
 use Rattle.std.specs.List.{before_first}
 

@@ -1,4 +1,4 @@
--- The text of a piece.
+-- The text of a piece: words, numbers in decimal and hexadecimal, padded ones, absent ones.
 use Rattle.std.specs.Prelude.{ℕ, List, [], ◌∷◌, ◌++◌, ◌-◌, ◌/◌, ◌%◌, length, replicate, codes, false, Option, Some, None}
 use Rattle.std.specs.Fmt.{decimal, digit_glyph, digits, signed_decimal}
 use Rattle.std.specs.List.{flat_map}

@@ -1,4 +1,4 @@
--- Texts in UTF-8 (RFC 3629).
+-- Texts in UTF-8 (RFC 3629): Crashpad's MinidumpUTF8String, alone and with a NUL behind it, and texts up to a NUL.
 use Rattle.std.specs.Prelude.{◌≡◌, ℕ, ◌+◌, ◌==◌, ◌&&◌, true, List, length, drop, slice_index, slice_range, Option, Some, None, nat_le, nat_lt, if◌then◌else◌, encode_utf8_all}
 use Rattle.std.specs.List.{before_first, list_any}
 use Rattle.std.specs.Str.{all_scalars, is_utf8}

@@ -3,7 +3,7 @@ ghost use Rattle.minidump_bytes.specs.Entries.{entry, entries};
 
 use crate::{Endian, Record};
 
-/// Records that stand one after another from a place on.
+/// Decodes `N` consecutive records, of which the first begins at offset `place`.
 pub fn array_at<R: Record + Copy, const N: usize>(
     bytes: &[u8],
     place: usize,
@@ -20,7 +20,7 @@ pub fn array_at<R: Record + Copy, const N: usize>(
     all
 }
 
-// The record of an index, of so many that stand one after another from a start on.
+// Decodes the record of index `i` among `count` consecutive ones that begin at `start`.
 pub(crate) fn record_in<R: Record>(
     bytes: &[u8],
     start: usize,

@@ -5,8 +5,8 @@ ghost use Rattle.minidump_bytes.specs.Steps.{after};
 use crate::Steps;
 use std::cmp::Ordering;
 
-/// Where an address lies: before, in or behind the addresses from `first` to `last`, both of them inside.
-/// It is one step. Lookups compare addresses by it alone.
+/// Compares an address with the range from `first` to `last`, both inside: `Less` below it, `Equal` in
+/// it, `Greater` above it. Counts one step. Lookups compare addresses by this call alone.
 pub fn probe(first: u64, last: u64, address: u64, steps: &mut Steps) -> Ordering
     ensures answer { MatchOrdering result (address < first) ((first ≤ address) × (address ≤ last))
         ((first ≤ address) × (last < address)) }

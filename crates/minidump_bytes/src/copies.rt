@@ -2,7 +2,7 @@ ghost use Rattle.std.specs.Prelude.{◌≡◌, IfOk, option_map, string_bytes};
 
 use std::alloc::{AllocError, Global};
 
-/// A copy of a text, where there is one.
+/// Copies a text that may be absent.
 pub fn copied(alloc: Global, text: &Option<String>) -> Result<Option<String>, AllocError>
     ensures { IfOk result (λ t. option_map string_bytes t ≡ option_map string_bytes text.now) }
 {

@@ -3,7 +3,7 @@ ghost use Rattle.minidump_bytes.specs.Number.{number_at, signed_at};
 
 use byteorder::{BigEndian, ByteOrder, LittleEndian};
 
-/// The order in which a file has the bytes of a number.
+/// The byte order of a file.
 #[derive(Clone, Copy, Debug, PartialEq, Eq)]
 pub enum Endian {
     /// The lowest byte comes first.
@@ -13,7 +13,7 @@ pub enum Endian {
 }
 
 impl Endian {
-    /// The number of 16 bits at a place.
+    /// Returns the 16-bit number at offset `place`.
     pub fn u16_at(self, bytes: &[u8], place: usize) -> u16
         requires { place + 2 ≤ length bytes.now }
         ensures { result ≡ number_at self 2 place bytes.now }
@@ -24,7 +24,7 @@ impl Endian {
         }
     }
 
-    /// The number of 32 bits at a place.
+    /// Returns the 32-bit number at offset `place`.
     pub fn u32_at(self, bytes: &[u8], place: usize) -> u32
         requires { place + 4 ≤ length bytes.now }
         ensures { result ≡ number_at self 4 place bytes.now }
@@ -35,7 +35,7 @@ impl Endian {
         }
     }
 
-    /// The number of 64 bits at a place.
+    /// Returns the 64-bit number at offset `place`.
     pub fn u64_at(self, bytes: &[u8], place: usize) -> u64
         requires { place + 8 ≤ length bytes.now }
         ensures { result ≡ number_at self 8 place bytes.now }
@@ -46,7 +46,7 @@ impl Endian {
         }
     }
 
-    /// The number of 128 bits at a place.
+    /// Returns the 128-bit number at offset `place`.
     pub fn u128_at(self, bytes: &[u8], place: usize) -> u128
         requires { place + 16 ≤ length bytes.now }
         ensures { result ≡ number_at self 16 place bytes.now }
@@ -57,7 +57,7 @@ impl Endian {
         }
     }
 
-    /// The signed number of 32 bits at a place.
+    /// Returns the signed 32-bit number at offset `place`.
     #[tactic(auto, unfolding(crate::specs::Number::signed_at))]
     pub fn i32_at(self, bytes: &[u8], place: usize) -> i32
         requires { place + 4 ≤ length bytes.now }

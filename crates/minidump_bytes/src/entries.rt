@@ -7,13 +7,14 @@ use crate::array::record_in;
 use crate::{Endian, Record};
 use std::marker::{Model, PhantomData};
 
-/// Records that stand one after another, decoded one by one. They were counted when they were asked for.
+/// An iterator over consecutive records, which decodes them one by one. [`Source::entries`] makes it, and
+/// counts all of them then.
 #[derive(Drop)]
 pub struct Entries<'a, R: Record> {
     bytes: &'a [u8],
-    // where the first one begins
+    // the offset of the first one
     start: usize,
-    // how many there are, and how many of them were given
+    // how many there are, and how many of them were yielded
     count: usize,
     given: usize,
     endian: Endian,
@@ -21,7 +22,7 @@ pub struct Entries<'a, R: Record> {
 }
 
 impl<'a, R: Record> Entries<'a, R> {
-    // So many, from a place on.
+    // Makes the iterator over `count` records from offset `start` on.
     pub(crate) fn new(bytes: &'a [u8], start: usize, count: usize, endian: Endian) -> Self
         requires { start + R.layout.size * count ≤ length bytes.now }
         ensures { result ≡ entries R.layout endian bytes.entry.now start count }

@@ -3,7 +3,8 @@ ghost use Rattle.minidump_bytes.specs.Exact.{IsExact};
 
 use crate::{Endian, Refused};
 
-/// A plain type whose `==` holds of the same value alone, and whose clone is the same value.
+/// A plain type whose `==` holds of equal values alone, and whose clones are equal values. Both are
+/// proved of each type that implements it.
 pub trait Exact: Clone + PartialEq {
     ghost exact: { IsExact Self.eq Self.is_clone };
 }

@@ -6,7 +6,7 @@ use crate::piece::digit;
 use crate::{Refused, Told};
 use std::io::Write;
 
-/// Writes bytes as two lower-case hexadecimal digits each.
+/// Writes each byte as two lower-case hexadecimal digits.
 pub fn write_bytes<W: Write>(f: &mut Told<W>, bytes: &[u8]) -> Result<(), Refused>
     ensures puts { Puts W.contents f.old f.new (bytes_hex bytes.now) result }
     ensures dead { IsTrue (has_failed f.old) → f.new ≡ f.old }

@@ -10,47 +10,48 @@ ghost use Rattle.minidump_bytes.specs.Wire.{Field, IsFieldAt, SpellsFields, fiel
 
 use crate::{LinuxOsStr, LinuxOsString};
 
-/// Code units have a text exactly where they are the UTF-16 encoding of characters, and it is the UTF-8
-/// encoding of these.
+/// Code units have a text exactly where they are the UTF-16 encoding of some characters. The text is the
+/// UTF-8 encoding of these.
 pub fn text_spells_its_units()
     ensures { (units : List ℕ) → All (λ unit. unit < 2 ^ 16) units
         → MatchOption (utf16_text units) (¬ (IsUtf16 units)) (λ text. IsTextOf units text) }
 {}
 
-/// Two texts of the same code units are equal.
+/// Code units have at most one text.
 pub fn text_of_units_is_one()
     ensures { (units one other : List ℕ) → IsTextOf units one → IsTextOf units other → one ≡ other }
 {}
 
-/// Bytes have a text exactly where they are the UTF-8 encoding of characters, and it is these bytes.
+/// Bytes have a text exactly where they are the UTF-8 encoding of some characters. The text is these
+/// bytes.
 pub fn text_is_utf8()
     ensures { (bytes : List ℕ) → MatchOption (utf8_text bytes) (¬ (IsText8 bytes)) (λ text. (text ≡ bytes) × IsText8 bytes) }
 {}
 
-/// Bytes are the UTF-8 encoding of one list of characters at most.
+/// Bytes are the UTF-8 encoding of at most one list of characters.
 pub fn characters_of_a_text_are_one()
     ensures { (bytes one other : List ℕ) → SpellsUtf8 bytes one → SpellsUtf8 bytes other → one ≡ other }
 {}
 
-/// A field stands at a place exactly where the bytes up to the next place spell it.
+/// A field is read at an offset exactly where the bytes up to the next offset spell it.
 pub fn field_is_what_bytes_spell()
     ensures { (bytes : List ℕ) (place : ℕ) (f : Field) (next : ℕ)
         → (field_at place bytes ≡ Some (f, next)) ↔ IsFieldAt bytes place f next }
 {}
 
-/// At a place stands one field at most, and it ends at one place.
+/// Bytes spell at most one field at an offset, and it has one end.
 pub fn field_at_a_place_is_one()
     ensures { (bytes : List ℕ) (place : ℕ) (f : Field) (next : ℕ) (g : Field) (other : ℕ)
         → IsFieldAt bytes place f next → IsFieldAt bytes place g other → (f ≡ g) × (next ≡ other) }
 {}
 
-/// Bytes spell one list of fields at most.
+/// Bytes spell at most one list of fields.
 pub fn fields_of_bytes_are_one()
     ensures { (bytes : List ℕ) (fs gs : List Field) → SpellsFields bytes fs → SpellsFields bytes gs → fs ≡ gs }
 {}
 
-/// Texts that Linux wrote are equal exactly where their bytes are, lent or owned, and a copy of a lent one
-/// is the same text.
+/// Linux texts, lent or owned, are equal exactly where their bytes are. A copy of a lent one is the same
+/// text.
 pub fn linux_texts_compare_by_their_bytes()
     ensures lent { (one other : lent.LinuxOsStr)
         → IsTrue (⟦<LinuxOsStr<'static> as PartialEq>⟧.eq one other) ↔ (text_of one ≡ text_of other) }
@@ -59,8 +60,8 @@ pub fn linux_texts_compare_by_their_bytes()
         → IsTrue (⟦<LinuxOsString as PartialEq>⟧.eq one other) ↔ (string_of one ≡ string_of other) }
 {}
 
-/// The parts of a text, with a separator between each two, are the text, and they are one more than there
-/// are separators.
+/// The parts of a text, joined by the separator, are the text. There is one part more than there are
+/// separators.
 pub fn parts_make_the_text()
     ensures joined { (b : ℕ) (text : List ℕ) → join_with_byte b (split_parts b text) ≡ text }
     ensures count { (b : ℕ) (text : List ℕ) → length (split_parts b text) ≡ count_by (λ c. c == b) text + 1 }

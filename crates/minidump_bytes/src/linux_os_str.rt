@@ -9,48 +9,49 @@ use crate::text8::utf8_text;
 use memchr::{memchr, memrchr};
 use std::alloc::{AllocError, Global};
 
-/// A text that Linux wrote, lent: bytes in no fixed encoding.
+/// A borrowed text that Linux wrote: bytes in no fixed encoding.
 #[derive(Clone, Copy, PartialEq, Eq)]
 pub struct LinuxOsStr<'a>(pub &'a [u8]);
 
 impl<'a> LinuxOsStr<'a> {
-    /// The empty text.
+    /// Returns the empty text.
     pub fn new() -> LinuxOsStr<'static>
         ensures { text_of result ≡ [] }
     {
         LinuxOsStr(&[])
     }
 
-    /// The text of these bytes.
+    /// Makes a text of bytes.
     pub fn from_bytes(inner: &'a [u8]) -> LinuxOsStr<'a>
         ensures { text_of result ≡ inner.now }
     {
         LinuxOsStr(inner)
     }
 
-    /// Its bytes.
+    /// Returns the bytes of the text.
     pub fn as_bytes(self) -> &'a [u8]
         ensures { result.now ≡ text_of self.entry }
     {
         self.0
     }
 
-    /// The text as a `str`, or `None` where its bytes are not UTF-8.
+    /// Returns the text as a `str`, or `None` if its bytes are not UTF-8.
     pub fn to_str(self) -> Option<&'a str>
         ensures { option_copied result ≡ utf8_text (text_of self.entry) }
     {
         utf8_text(self.0)
     }
 
-    /// The text as a `String`, in which U+FFFD stands for each sequence that is not UTF-8: for each longest
-    /// beginning of a well-formed one that does not go on, and else for each byte.
+    /// Copies the text to a `String`, with U+FFFD in place of what is not UTF-8: of each longest
+    /// beginning of a well-formed sequence that does not go on, and else of each byte.
     pub fn to_string_lossy(self, alloc: Global) -> Result<String, AllocError>
         ensures { IfOk result (λ text. string_bytes text ≡ utf8_lossy (text_of self.entry)) }
     {
         String::from_utf8_lossy(alloc, self.0)
     }
 
-    /// The parts before and behind the first such byte, or `None` where there is none.
+    /// Splits the text at the first `separator`, which is in neither part. Returns `None` if there is
+    /// none.
     pub fn split_once(self, separator: u8) -> Option<(LinuxOsStr<'a>, LinuxOsStr<'a>)>
         ensures { option_map parts_of result ≡ cut_first separator (text_of self.entry) }
     {
@@ -58,7 +59,8 @@ impl<'a> LinuxOsStr<'a> {
         Some((LinuxOsStr(&self.0[..at]), LinuxOsStr(&self.0[at + 1..])))
     }
 
-    /// The parts before and behind the last such byte, or `None` where there is none.
+    /// Splits the text at the last `separator`, which is in neither part. Returns `None` if there is
+    /// none.
     pub fn rsplit_once(self, separator: u8) -> Option<(LinuxOsStr<'a>, LinuxOsStr<'a>)>
         ensures { option_map parts_of result ≡ cut_last separator (text_of self.entry) }
     {
@@ -66,29 +68,30 @@ impl<'a> LinuxOsStr<'a> {
         Some((LinuxOsStr(&self.0[..at]), LinuxOsStr(&self.0[at + 1..])))
     }
 
-    /// Goes through the parts between such bytes: one more than there are such bytes.
+    /// Returns an iterator over the parts between separators. There is one part more than there are
+    /// separators.
     pub fn split(self, separator: u8) -> Split<'a>
         ensures { result ≡ split_parts separator (text_of self.entry) }
     {
         Split::new(self.0, separator)
     }
 
-    /// Goes through the lines. A line feed or a NUL ends a line, and so does the end of the text, where the
-    /// last line is not empty.
+    /// Returns an iterator over the lines. A line feed or a NUL ends a line. The last line may lack its
+    /// end, and is left out if it is empty.
     pub fn lines(self) -> Lines<'a>
         ensures { result ≡ text_lines (text_of self.entry) }
     {
         Lines::new(self.0)
     }
 
-    /// Goes through the parts between white space that are not empty.
+    /// Returns an iterator over the parts between white space that are not empty.
     pub fn split_ascii_whitespace(self) -> SplitAsciiWhitespace<'a>
         ensures { result ≡ words_of (text_of self.entry) }
     {
         SplitAsciiWhitespace::new(self.0)
     }
 
-    /// The text without the white space at both of its ends.
+    /// Removes the white space at both ends.
     #[tactic(auto, unfolding(crate::specs::LinuxOsStr::trimmed))]
     pub fn trim_ascii_whitespace(self) -> LinuxOsStr<'a>
         ensures { text_of result ≡ trimmed (text_of self.entry) }
@@ -96,14 +99,14 @@ impl<'a> LinuxOsStr<'a> {
         LinuxOsStr(trim_back(trim_front(self.0)))
     }
 
-    /// What follows a prefix, or `None` where the text does not begin with it.
+    /// Removes a prefix. Returns `None` if the text does not begin with it.
     pub fn strip_prefix(self, prefix: &[u8]) -> Option<LinuxOsStr<'a>>
         ensures { option_map text_of result ≡ behind prefix.now (text_of self.entry) }
     {
         Some(LinuxOsStr(self.0.strip_prefix(prefix)?))
     }
 
-    /// What a suffix follows, or `None` where the text does not end with it.
+    /// Removes a suffix. Returns `None` if the text does not end with it.
     pub fn strip_suffix(self, suffix: &[u8]) -> Option<LinuxOsStr<'a>>
         ensures { option_map text_of result ≡ before suffix.now (text_of self.entry) }
     {
@@ -126,21 +129,21 @@ fn trim_back(text: &[u8]) -> &[u8]
     text.trim_ascii_end()
 }
 
-/// A text that Linux wrote, owned.
+/// An owned text that Linux wrote.
 #[derive(PartialEq, Eq, Drop)]
 pub struct LinuxOsString {
     bytes: Vec<u8>,
 }
 
 impl LinuxOsString {
-    /// The text of these bytes.
+    /// Makes a text of bytes.
     pub fn from_vec(vec: Vec<u8>) -> Self
         ensures { string_of result ≡ vec.items }
     {
         LinuxOsString { bytes: vec }
     }
 
-    /// The empty text.
+    /// Makes the empty text.
     pub fn new(alloc: Global) -> Self
         ensures { string_of result ≡ [] }
     {
@@ -149,14 +152,14 @@ impl LinuxOsString {
         }
     }
 
-    /// The text, lent.
+    /// Borrows the text.
     pub fn as_os_str(&self) -> LinuxOsStr<'_>
         ensures { text_of result ≡ string_of self.now }
     {
         LinuxOsStr(&self.bytes)
     }
 
-    /// The same text in memory of its own.
+    /// Copies the text.
     pub fn try_clone(&self, alloc: Global) -> Result<Self, AllocError>
         ensures { IfOk result (λ text. string_of text ≡ string_of self.now) }
     {

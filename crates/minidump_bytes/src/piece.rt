@@ -6,10 +6,10 @@ ghost use Rattle.minidump_bytes.specs.Piece.{piece_text, right, wide_hex};
 use itoa::Buffer;
 use std::alloc::{AllocError, Global};
 
-/// A part of a text.
+/// A piece of a text to be made.
 #[derive(Clone, Copy)]
 pub enum Piece<'a> {
-    /// These words.
+    /// Words, as they are.
     Words(&'a str),
     /// A number in decimal, as `{}` writes it.
     Decimal(u64),
@@ -17,24 +17,24 @@ pub enum Piece<'a> {
     Hex(u64),
     /// A number in hexadecimal, as `{:x}` writes it.
     Digits(u64),
-    /// A number in hexadecimal behind `0x`, its digits filled up to a width by zeros: `{:#010x}` is of
-    /// eight digits.
+    /// A number in hexadecimal behind `0x`, with zeros in front up to a number of digits: eight for
+    /// `{:#010x}`.
     Wide(u64, usize),
-    /// A number in hexadecimal, its digits filled up to a width by zeros: `{:08x}` is of eight digits.
+    /// A number in hexadecimal, with zeros in front up to a number of digits: eight for `{:08x}`.
     WideDigits(u64, usize),
     /// A signed number in decimal, as `{}` writes it.
     Signed(i32),
-    /// A number in decimal behind blanks, which fill it up to a width.
+    /// A number in decimal, with blanks in front up to a width.
     Right(u64, usize),
-    /// Words of ASCII with blanks behind them, which fill them up to a width.
+    /// Words of ASCII, with blanks behind them up to a width.
     Left(&'a str, usize),
-    /// A number in decimal that may be absent, which is `(invalid)` then.
+    /// A number in decimal, or `(invalid)` if it is absent.
     Optional(Option<u32>),
-    /// A number in hexadecimal, as `{:x}` writes it, that may be absent.
+    /// A number in hexadecimal, as `{:x}` writes it, or `(invalid)` if it is absent.
     OptionalDigits(Option<u32>),
 }
 
-/// The texts of the pieces, one after another.
+/// Makes the text of the pieces, one behind another.
 pub fn made(alloc: Global, pieces: &[Piece<'_>]) -> Result<String, AllocError>
     ensures { IfOk result (λ text. string_bytes text ≡ flat_map piece_text pieces.now) }
 {
@@ -43,7 +43,7 @@ pub fn made(alloc: Global, pieces: &[Piece<'_>]) -> Result<String, AllocError>
     Ok(text)
 }
 
-/// Appends the texts of the pieces, one after another.
+/// Appends the text of the pieces, one behind another.
 pub fn push_pieces(out: &mut String, pieces: &[Piece<'_>]) -> Result<(), AllocError>
     ensures { OnOk result (string_bytes out.new ≡ string_bytes out.old ++ flat_map piece_text pieces.now) }
 {

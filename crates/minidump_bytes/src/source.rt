@@ -7,35 +7,36 @@ ghost use Rattle.minidump_bytes.specs.Steps.{after};
 
 use crate::{Endian, Entries, Record, Steps};
 
-/// The bytes of a file, or of a part of it. Each read of it is one step, whether it is answered or not.
+/// The bytes of a file, or of a part of it, from which reads are counted.
 #[derive(Clone, Copy)]
 pub struct Source<'a> {
     bytes: &'a [u8],
 }
 
 impl<'a> Source<'a> {
-    /// These bytes. Nothing is read yet.
+    /// Makes a source of bytes. Reads nothing.
     pub fn new(bytes: &'a [u8]) -> Self
         ensures { bytes_of result ≡ bytes.now }
     {
         Source { bytes }
     }
 
-    /// How many bytes there are.
+    /// Returns the number of bytes.
     pub fn len(self) -> usize
         ensures { result ≡ length (bytes_of self.entry) }
     {
         self.bytes.len()
     }
 
-    /// All of the bytes, as they were lent.
+    /// Returns all of the bytes. This is no read, and is not counted.
     pub fn bytes(self) -> &'a [u8]
         ensures { result.now ≡ bytes_of self.entry }
     {
         self.bytes
     }
 
-    /// The record at a place, or `None` where the bytes do not hold it whole.
+    /// Reads the record at offset `place`. Returns `None` if the bytes don't hold all of it. Counts one
+    /// step either way.
     pub fn record<R: Record>(self, place: u64, endian: Endian, steps: &mut Steps) -> Option<R>
         ensures value { result ≡ record_at R.layout endian place (bytes_of self.entry) }
         ensures readable { IsSome result ↔ (place + R.layout.size ≤ length (bytes_of self.entry)) }
@@ -47,8 +48,8 @@ impl<'a> Source<'a> {
         Some(R::decode(bytes, endian))
     }
 
-    /// So many records, which stand one after another from a place on, decoded as they are asked for. They
-    /// are as many steps, all counted here.
+    /// Returns an iterator over `count` consecutive records, of which the first begins at offset `place`.
+    /// Counts `count` steps at once.
     #[tactic(auto, using(crate::proofs::EntryLemmas::entries_len))]
     pub fn entries<R: Record>(
         self,
@@ -66,7 +67,8 @@ impl<'a> Source<'a> {
         Entries::new(self.bytes, place as usize, count as usize, endian)
     }
 
-    /// The `len` bytes from the place `from` on, or `None` where there are fewer.
+    /// Returns the `len` bytes from offset `from` on, or `None` if there are fewer. Counts one step
+    /// either way.
     pub fn span(self, from: u64, len: u64, steps: &mut Steps) -> Option<&'a [u8]>
         ensures value { option_copied result ≡ span from (from + len) (bytes_of self.entry) }
         ensures step { steps.new ≡ after steps.old 1 }
@@ -75,7 +77,7 @@ impl<'a> Source<'a> {
         self.part(from, len)
     }
 
-    // The same, not counted.
+    // Returns the `len` bytes from offset `from` on, without counting.
     fn part(self, from: u64, len: u64) -> Option<&'a [u8]>
         ensures { option_copied result ≡ span from (from + len) (bytes_of self.entry) }
     {

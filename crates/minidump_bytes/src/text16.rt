@@ -10,9 +10,11 @@ use crate::{Endian, Source, Steps};
 use std::alloc::{AllocError, Global};
 
 impl<'a> Source<'a> {
-    /// The text at a place, Microsoft's `MINIDUMP_STRING`: its size in bytes, a number of 32 bits, and
-    /// then its code units of UTF-16. `None` where the bytes do not hold it whole, the size is odd, or a
-    /// surrogate lacks its partner. No memory is taken before the size was found to be within the bytes.
+    /// Reads the UTF-16 text at offset `place`, Microsoft's `MINIDUMP_STRING`: a 32-bit size in bytes,
+    /// then the code units.
+    ///
+    /// Returns `Ok(None)` if the bytes don't hold all of it, the size is odd, or a surrogate lacks its
+    /// partner. Returns `AllocError` only if the bytes of the text are there. Counts one step.
     pub fn text16(
         self,
         alloc: Global,
@@ -36,8 +38,8 @@ impl<'a> Source<'a> {
     }
 }
 
-/// The text of the code units before the first that is 0, or of all where none is. `None` where a
-/// surrogate lacks its partner.
+/// Decodes the code units before the first 0, or all if none is 0. Returns `Ok(None)` if a surrogate
+/// lacks its partner.
 pub fn text_before_nul(alloc: Global, units: &[u16]) -> Result<Option<String>, AllocError>
     ensures { IfOk result (λ text. option_map string_bytes text ≡ text_before_nul units.now) }
 {

@@ -3,20 +3,20 @@ ghost use Rattle.minidump_bytes.specs.Told.{Puts, Takes, device_of, has_failed};
 
 use std::io::{Read, Write};
 
-/// A reader or a writer that keeps whether it has failed. From its first failure on it refuses every
-/// call, and its device is not called again.
+/// A reader or a writer that remembers a failure. From the first failure on every call returns
+/// [`Refused`], and the device is not called again.
 #[derive(Drop)]
 pub struct Told<D> {
     device: D,
     failed: bool,
 }
 
-/// The device of a [`Told`] has failed.
+/// The error of a [`Told`] whose device has failed.
 #[derive(Clone, Copy, Debug, PartialEq, Eq)]
 pub struct Refused;
 
 impl<D> Told<D> {
-    /// The device, which has not failed yet.
+    /// Wraps a device that has not failed yet.
     pub fn new(device: D) -> Told<D>
         ensures device { device_of result ≡ device }
         ensures alive { has_failed result ≡ false }
@@ -27,14 +27,14 @@ impl<D> Told<D> {
         }
     }
 
-    /// Whether a call of the device has failed.
+    /// Tells whether a call of the device has failed.
     pub fn failed(&self) -> bool
         ensures { result ≡ has_failed self.now }
     {
         self.failed
     }
 
-    /// Gives the device back.
+    /// Returns the device.
     pub fn into_device(self) -> D
         ensures { result ≡ device_of self }
     {
@@ -44,7 +44,8 @@ impl<D> Told<D> {
 }
 
 impl<W: Write> Told<W> {
-    /// Writes all of the bytes. A write that takes none of some bytes is a failure, as an error is.
+    /// Writes all of the bytes. A write that takes none of some bytes is a failure, as an error is. After
+    /// a failure a beginning of the bytes was written.
     pub fn put(&mut self, bytes: &[u8]) -> Result<(), Refused>
         ensures puts { Puts W.contents self.old self.new bytes.now result }
         ensures dead { IsTrue (has_failed self.old) → self.new ≡ self.old }
@@ -67,8 +68,8 @@ impl<W: Write> Told<W> {
 }
 
 impl<R: Read> Told<R> {
-    /// Reads some bytes to the front of the buffer, and answers how many. There are none only at the
-    /// end of the reader or for an empty buffer.
+    /// Reads some bytes to the front of the buffer, and returns how many: 0 only at the end of the reader
+    /// or if the buffer is empty.
     pub fn take(&mut self, buf: &mut [u8]) -> Result<usize, Refused>
         ensures takes { Takes R.remaining self.old self.new buf.new result }
         ensures dead { IsTrue (has_failed self.old) → self.new ≡ self.old }

@@ -9,13 +9,13 @@ use crate::{Endian, Source, Steps};
 /// The value of a [`WireField`].
 #[derive(Clone, Copy)]
 pub enum WireValue<'a> {
-    /// A number, spelled as a varint.
+    /// A number, encoded as a varint.
     Varint(u64),
-    /// The number of eight bytes, the lowest first.
+    /// A number of eight bytes, the lowest first.
     Eight(u64),
-    /// Bytes, spelled behind a varint of their length.
+    /// Bytes, behind a varint of their length.
     Bytes(&'a [u8]),
-    /// The number of four bytes, the lowest first.
+    /// A number of four bytes, the lowest first.
     Four(u32),
 }
 
@@ -24,12 +24,13 @@ pub enum WireValue<'a> {
 pub struct WireField<'a> {
     /// The number of the field, from 1 on.
     pub number: u32,
-    /// Its value.
+    /// The value of the field.
     pub value: WireValue<'a>,
 }
 
 impl<'a> Source<'a> {
-    /// The field at a place, and the place behind it. `None` where the bytes spell no field there.
+    /// Reads the field at offset `place`, and returns it with the offset behind it. Returns `None` if the
+    /// bytes encode no field there. Counts one step.
     pub fn wire_field(self, place: u64, steps: &mut Steps) -> Option<(WireField<'a>, u64)>
         ensures value { option_map (λ r. (field_of r.0, r.1)) result ≡ field_at place (bytes_of self.entry) }
         ensures inside { IfSome result (λ r. (place + room (payload_of r.0.value) < r.1) × (r.1 ≤ length (bytes_of self.entry))) }

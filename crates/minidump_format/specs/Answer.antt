@@ -1,4 +1,4 @@
--- How an answer of the program meets the one that the format assigns.
+-- How a result of the program meets the one that the format assigns.
 use Rattle.std.specs.Prelude.{◌≡◌, Result, Ok, Err}
 use Rattle.minidump_format.specs.declared.error.Error.{Error}
 use Rattle.minidump_format.specs.declared.error.Error.TheVariants.{OutOfMemory}

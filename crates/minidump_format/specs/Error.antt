@@ -1,4 +1,4 @@
--- The refusals by name.
+-- The names of the errors.
 use Rattle.std.specs.Prelude.{ℕ, List, codes}
 use Rattle.minidump_format.specs.declared.error.Error.{Error}
 use Rattle.minidump_format.specs.declared.error.Error.TheVariants.{FileNotFound, IoError, MissingHeader, HeaderMismatch, VersionMismatch, MissingDirectory, StreamReadFailure, StreamSizeMismatch, StreamNotFound, ModuleReadFailure, MemoryReadFailure, DataError, CodeViewReadFailure, UknownElementType, OutOfMemory}

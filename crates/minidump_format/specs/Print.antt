@@ -1,4 +1,4 @@
--- What a call that prints does to its writer.
+-- What a call that prints does to its writer, by its result.
 use Rattle.std.specs.Prelude.{◌≡◌, ℕ, List, Option, Result, Ok, Err, if◌then◌else◌}
 use Rattle.minidump_bytes.specs.declared.told.Told.{Told}
 use Rattle.minidump_bytes.specs.Told.{PutsAll, PutsBeginning, has_failed}

@@ -4,7 +4,7 @@ ghost use Rattle.minidump_format.specs.Error.{refusal_name};
 use std::alloc::{AllocError, AllocFailed};
 use thiserror::Error;
 
-/// Why a minidump, or a part of it, is refused.
+/// The error of reading or printing a minidump or a part of it.
 #[derive(Clone, Copy, Debug, PartialEq, Eq, Error)]
 pub enum Error {
     /// The file could not be opened.
@@ -28,12 +28,12 @@ pub enum Error {
     /// A part of a stream, or the span that the directory gives it, is not in the file.
     #[error("Error reading stream")]
     StreamReadFailure,
-    /// A list does not have the length that its count gives.
+    /// The length of a list is not the one that its count asks for.
     #[error("Stream size mismatch: expected {expected} bytes, found {actual} bytes")]
     StreamSizeMismatch {
         /// The length that was asked for.
         expected: usize,
-        /// The length that there was.
+        /// The length that there is.
         actual: usize,
     },
     /// No entry of the directory has the type.
@@ -42,7 +42,7 @@ pub enum Error {
     /// An unloaded module has no range of addresses.
     #[error("Module read failure")]
     ModuleReadFailure,
-    /// A region of memory has no bytes in the file.
+    /// A descriptor of memory has no RVA or no size.
     #[error("Memory read failure")]
     MemoryReadFailure,
     /// A text or a message is malformed.
@@ -54,13 +54,13 @@ pub enum Error {
     /// An element is of no known type.
     #[error("Uknown element type")]
     UknownElementType,
-    /// No memory was left for the answer.
+    /// An allocation failed.
     #[error("Out of memory")]
     OutOfMemory,
 }
 
 impl Error {
-    /// The name of the variant, but for `UknownElementType`, whose name is spelled right.
+    /// Returns the name of the variant. That of `UknownElementType` is `UnknownElementType`.
     pub fn name(&self) -> &'static str
         ensures { result.now ≡ refusal_name self.now }
     {

@@ -10,8 +10,8 @@ use crate::format::{
     VS_FFI_STRUCVERSION, XSTATE_CONFIG_FEATURE_MSC_INFO,
 };
 
-/// The records that hold other records, or long arrays: `==` holds of the same value alone, and a
-/// clone is the same value. The other types are [`Exact`](minidump_bytes::Exact).
+/// Of the records that hold other records or long arrays, `==` holds of equal values alone, and clones
+/// are equal values. The other types are [`Exact`](minidump_bytes::Exact).
 #[tactic(auto, using(crate::proofs::Equality::zone_same, crate::proofs::Equality::config_same, crate::proofs::Equality::misc_3_same, crate::proofs::Equality::misc_4_same, crate::proofs::Equality::misc_5_same, crate::proofs::Equality::image_same, crate::proofs::Equality::mac_same))]
 pub fn large_records_are_exact()
     ensures time_zone { IsExact ⟦<TIME_ZONE_INFORMATION as PartialEq>⟧.eq ⟦<TIME_ZONE_INFORMATION as Clone>⟧.is_clone }
@@ -23,7 +23,7 @@ pub fn large_records_are_exact()
     ensures mac_crash_info { IsExact ⟦<MINIDUMP_MAC_CRASH_INFO as PartialEq>⟧.eq ⟦<MINIDUMP_MAC_CRASH_INFO as Clone>⟧.is_clone }
 {}
 
-/// The contexts, which have no `==`: a clone is the same value.
+/// Clones of contexts are equal values. Contexts have no `==`.
 pub fn contexts_are_copied()
     ensures x86 { (x y : CONTEXT_X86) → ⟦<CONTEXT_X86 as Clone>⟧.is_clone x y → y ≡ x }
     ensures x86_float_save { (x y : FLOATING_SAVE_AREA_X86) → ⟦<FLOATING_SAVE_AREA_X86 as Clone>⟧.is_clone x y → y ≡ x }
@@ -34,21 +34,20 @@ pub fn contexts_are_copied()
     ensures arm64_old { (x y : CONTEXT_ARM64_OLD) → ⟦<CONTEXT_ARM64_OLD as Clone>⟧.is_clone x y → y ≡ x }
 {}
 
-/// The numbers that the version of a file is known by: Microsoft's `VS_FFI_SIGNATURE` and
-/// `VS_FFI_STRUCVERSION`.
+/// The constants of a file's version are Microsoft's `VS_FFI_SIGNATURE` and `VS_FFI_STRUCVERSION`.
 pub fn file_info_numbers()
     ensures signature { VS_FFI_SIGNATURE ≡ 0xfeef04bd }
     ensures version { VS_FFI_STRUCVERSION ≡ 0x10000 }
 {}
 
-/// The numbers of the types of annotations: those of Crashpad's `Annotation`.
+/// The constants of types of annotations are those of Crashpad's `Annotation`.
 pub fn annotation_numbers()
     ensures invalid { MINIDUMP_ANNOTATION.TYPE_INVALID ≡ 0 }
     ensures text { MINIDUMP_ANNOTATION.TYPE_STRING ≡ 1 }
     ensures user_defined { MINIDUMP_ANNOTATION.TYPE_USER_DEFINED ≡ 0x8000 }
 {}
 
-/// The numbers that a header is known by: Microsoft's `MINIDUMP_SIGNATURE` and `MINIDUMP_VERSION`.
+/// The constants of a header are Microsoft's `MINIDUMP_SIGNATURE` and `MINIDUMP_VERSION`.
 pub fn header_numbers()
     ensures signature { MINIDUMP_SIGNATURE ≡ 0x504d444d }
     ensures version { MINIDUMP_VERSION ≡ 0xa793 }

@@ -8,7 +8,7 @@ use std::alloc::{AllocError, Global};
 use std::collections::btree_map::Values;
 use std::io::Write;
 
-/// Prints a text. The only refusal is [`Error::IoError`].
+/// Prints a text. The only error is [`Error::IoError`].
 pub fn put_text<W: Write>(f: &mut Told<W>, text: &str) -> Result<(), Error>
     ensures prints { Prints W.contents f.old f.new text.now result }
     ensures refusal { IfErr result (λ e. e ≡ Error.IoError) }
@@ -19,7 +19,8 @@ pub fn put_text<W: Write>(f: &mut Told<W>, text: &str) -> Result<(), Error>
     }
 }
 
-/// Prints a text that was made in memory, if it was. A failure of the writer goes before want of memory.
+/// Prints a text that was made in memory. If it could not be made, returns [`Error::OutOfMemory`], or
+/// [`Error::IoError`] if the writer has failed.
 pub fn put_made<W: Write>(f: &mut Told<W>, text: Result<String, AllocError>) -> Result<(), Error>
     ensures { (bytes : List ℕ) → IfOk text (λ t. string_bytes t ≡ bytes)
         → Prints W.contents f.old f.new bytes result }
@@ -30,7 +31,7 @@ pub fn put_made<W: Write>(f: &mut Told<W>, text: Result<String, AllocError>) -> 
     }
 }
 
-// The refusal where no memory is left.
+// Returns the error of a call that ran out of memory.
 fn no_memory<W: Write>(f: &Told<W>) -> Error
     ensures { result ≡ out_of_memory f.now }
 {
@@ -46,13 +47,13 @@ pub trait Printed {
     // its text
     ghost text: { Self → List ℕ };
 
-    /// Prints the text. The refusals are [`Error::IoError`], where the writer has failed, and
+    /// Prints the text. The errors are [`Error::IoError`], if the writer has failed, and else
     /// [`Error::OutOfMemory`].
     fn print<W: Write>(&self, alloc: Global, f: &mut Told<W>) -> Result<(), Error>
         ensures { Prints W.contents f.old f.new (text self.now) result };
 }
 
-/// Prints items one after another, each as it prints itself.
+/// Prints items in order. Stops at the first error.
 pub fn print_all<T: Printed, W: Write>(
     items: &[T],
     alloc: Global,
@@ -69,7 +70,7 @@ pub fn print_all<T: Printed, W: Write>(
     Ok(())
 }
 
-/// One way to write a value of a type as text.
+/// A way to write a value as text.
 pub trait TextOf<T> {
     // the text of a value
     ghost text: { T → List ℕ };
@@ -79,7 +80,7 @@ pub trait TextOf<T> {
         ensures { IfOk result (λ t. string_bytes t ≡ text value.now) };
 }
 
-/// Prints the texts of the values of a map, in the order of their keys.
+/// Prints the texts of the values of a map, in the order of their keys. Stops at the first error.
 pub fn print_values<P: TextOf<T>, K, T, W: Write>(
     values: Values<'_, K, T>,
     alloc: Global,

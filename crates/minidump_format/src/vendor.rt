@@ -1,7 +1,7 @@
 ghost use Rattle.std.specs.Prelude.{◌≡◌};
 ghost use Rattle.minidump_format.specs.Vendor.{vendor_of};
 
-/// Whose a type of stream is, by its number.
+/// Returns the vendor of a type of stream, by its number.
 pub fn stream_vendor(stream_type: u32) -> &'static str
     ensures { result.now ≡ vendor_of stream_type }
 {

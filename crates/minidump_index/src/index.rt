@@ -14,16 +14,16 @@ use std::alloc::{AllocError, Global};
 use std::cmp::Ordering;
 use std::marker::Model;
 
-/// A range, and its place in the list.
+/// A range and its index in the list.
 #[derive(Clone, Copy, Debug, PartialEq, Eq, PartialOrd, Ord)]
 pub struct Entry {
     /// The range.
     pub range: Range,
-    /// Its place in the list.
+    /// The index of the range in the list.
     pub place: usize,
 }
 
-/// The kept ranges of a list, ascending by address.
+/// The kept ranges of a list, ascending by address, each with its index in the list.
 #[derive(Drop)]
 pub struct AddressIndex {
     kept: Vec<Entry>,
@@ -41,7 +41,7 @@ impl Model for AddressIndex {
     ghost invariant = { λ s. IsAscending s.kept.items };
 }
 
-// The places of regions that have a range, with it.
+// Collects the regions that have a range, as that range and their index.
 fn ranged<R: Region>(alloc: Global, regions: &[R]) -> Result<Vec<Entry>, AllocError>
     ensures { IfOk result (λ v. HoldsRanged (map R.range regions.now) v.items) }
 {
@@ -54,7 +54,7 @@ fn ranged<R: Region>(alloc: Global, regions: &[R]) -> Result<Vec<Entry>, AllocEr
     Ok(entries)
 }
 
-// Whether every range ends before the address.
+// Tells whether every range ends before the address.
 fn is_free(kept: &[Entry], address: u64) -> bool
     requires { IsAscending kept.now }
     ensures { MatchBool result (All (λ e. e.range.end < address) kept.now) (Any (λ e. address ≤ e.range.end) kept.now) }
@@ -98,7 +98,7 @@ fn keep_apart(entries: &mut Vec<Entry>)
 }
 
 impl AddressIndex {
-    // The index of no ranges.
+    // Makes the index of no ranges.
     pub(crate) fn empty(alloc: Global) -> AddressIndex
         ensures { result ≡ [] }
     {
@@ -107,7 +107,8 @@ impl AddressIndex {
         }
     }
 
-    /// The kept ranges of a list. The only refusal is [`Error::OutOfMemory`].
+    /// Builds the index of a list of ranges, some of which may be absent. The only error is
+    /// [`Error::OutOfMemory`].
     pub fn build(alloc: Global, ranges: &[Option<Range>]) -> Result<AddressIndex, Error>
         ensures kept { IfOk result (λ index. IsIndexOf ranges.now index) }
         ensures memory { IfErr result (λ e. e ≡ Error.OutOfMemory) }
@@ -115,7 +116,7 @@ impl AddressIndex {
         Ok(AddressIndex::of_regions(alloc, ranges)?)
     }
 
-    // The index of the ranges of regions.
+    // Builds the index of the ranges of regions.
     pub(crate) fn of_regions<R: Region>(
         alloc: Global,
         regions: &[R],
@@ -127,7 +128,7 @@ impl AddressIndex {
         Ok(AddressIndex { kept })
     }
 
-    /// How many ranges are kept.
+    /// Returns the number of kept ranges.
     pub fn len(&self) -> usize
         ensures count { result ≡ length self.now }
         ensures ascending { IsAscending self.now }
@@ -135,7 +136,8 @@ impl AddressIndex {
         self.kept.len()
     }
 
-    /// The list places of the kept ranges, ascending by address.
+    /// Returns an iterator over the kept ranges, ascending by address. It yields their indices in the
+    /// list.
     pub fn by_addr(&self) -> ByAddress<'_>
         ensures { result ≡ places self.now }
     {
@@ -144,8 +146,11 @@ impl AddressIndex {
         }
     }
 
-    /// The list place of the kept range that contains the address. At most as many comparisons are made
-    /// as the number of kept ranges has binary digits, and one at least, but in an empty index.
+    /// Returns the index in the list of the kept range that contains `address`, or `None` if no kept
+    /// range does.
+    ///
+    /// Makes at most as many comparisons as the number of kept ranges has binary digits, and at least one
+    /// unless the index is empty.
     pub fn find(&self, address: u64, steps: &mut Steps) -> Option<usize>
         ensures found { IsFound self.now address result }
         ensures within { steps.new ≤ steps.old + digits (length self.now) }
@@ -177,7 +182,8 @@ impl AddressIndex {
     }
 }
 
-/// The list places of kept ranges, ascending by address, from both ends.
+/// An iterator over kept ranges, ascending by address, from both ends. It yields their indices in the
+/// list.
 #[derive(Debug, Drop)]
 pub struct ByAddress<'a> {
     entries: &'a [Entry],

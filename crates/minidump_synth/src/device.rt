@@ -3,7 +3,7 @@ ghost use Rattle.std.specs.Prelude.{Some, []};
 use std::io;
 use std::io::{ErrorKind, Read, Write};
 
-/// A device that moves one byte a call.
+/// A reader or writer that moves one byte a call.
 #[derive(Drop)]
 pub struct OneByte<D> {
     pub inner: D,
@@ -41,17 +41,17 @@ impl<R: Read> Read for OneByte<R> {
     }
 }
 
-/// A device whose calls fail from one on: call number `at`, counted from 0, and every later one.
+/// A reader or writer whose calls fail from call number `at` on, counted from 0.
 #[derive(Drop)]
 pub struct FailsAt<D> {
     pub inner: D,
     pub at: usize,
-    /// How many calls were made, the failed ones too.
+    /// The number of calls, failed ones included.
     pub calls: usize,
 }
 
 impl<D> FailsAt<D> {
-    /// So many calls are answered, and then none.
+    /// Wraps a device of which the first `at` calls succeed.
     pub fn new(inner: D, at: usize) -> FailsAt<D> {
         FailsAt {
             inner,
@@ -87,18 +87,17 @@ impl<R: Read> Read for FailsAt<R> {
     }
 }
 
-/// A writer that takes nothing from a call on: to call number `at`, counted from 0, and every later
-/// one it answers that it took no bytes.
+/// A writer that takes no bytes from call number `at` on, counted from 0: it returns `Ok(0)`.
 #[derive(Drop)]
 pub struct TakesNone<D> {
     pub inner: D,
     pub at: usize,
-    /// How many calls were made, those that took nothing too.
+    /// The number of calls, those that took nothing included.
     pub calls: usize,
 }
 
 impl<D> TakesNone<D> {
-    /// So many calls are answered by the device, and then none.
+    /// Wraps a writer that takes bytes in the first `at` calls.
     pub fn new(inner: D, at: usize) -> TakesNone<D> {
         TakesNone {
             inner,
@@ -124,10 +123,10 @@ impl<W: Write> Write for TakesNone<W> {
     }
 }
 
-/// A writer all of whose calls fail.
+/// A writer whose calls all fail.
 #[derive(Drop)]
 pub struct Full {
-    /// How many calls were made.
+    /// The number of calls.
     pub calls: usize,
 }
 
@@ -150,7 +149,7 @@ impl Write for Full {
     }
 }
 
-// The number of a call, which is counted.
+// Counts a call, and returns its number.
 fn counted(calls: &mut usize) -> usize {
     let call = *calls;
     *calls = call.saturating_add(1);

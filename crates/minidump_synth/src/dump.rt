@@ -7,16 +7,17 @@ use minidump_format::format::{
 };
 use std::alloc::{AllocError, Global};
 
-/// A minidump in the making: the header, what was added in order, and then the directory. The public
-/// fields are the header's, to be forged. Where a growth finds no memory, only
-/// [`SynthMinidump::finish`] answers so.
+/// A minidump in the making: the header, what was added in order, and then the directory.
+///
+/// The public fields are those of the header, so that tests can forge them. Calls that run out of memory
+/// don't say so; [`SynthMinidump::finish`] does.
 #[derive(Drop)]
 pub struct SynthMinidump {
     pub signature: u32,
     pub version: u32,
-    /// How many entries the header claims, where it isn't how many there are.
+    /// The number of entries that the header states, if it isn't the number that there are.
     pub stream_count: Option<u32>,
-    /// Where the header has the directory, where it isn't behind all that was added.
+    /// The RVA of the directory that the header states, if it isn't behind all that was added.
     pub stream_directory_rva: Option<RVA>,
     pub checksum: u32,
     pub time_date_stamp: u32,
@@ -29,7 +30,7 @@ pub struct SynthMinidump {
 }
 
 impl SynthMinidump {
-    /// A minidump with no streams.
+    /// Makes a minidump with no streams.
     pub fn new(alloc: Global, endian: Endian) -> SynthMinidump {
         SynthMinidump {
             signature: MINIDUMP_SIGNATURE,
@@ -47,24 +48,24 @@ impl SynthMinidump {
         }
     }
 
-    /// An empty section in the dump's byte order.
+    /// Returns an empty section in the dump's byte order.
     pub fn section(&self) -> Section {
         Section::new(self.alloc, self.endian)
     }
 
-    /// Where the next bytes that are added will stand.
+    /// Returns the RVA of what is added next.
     pub fn rva(&self) -> RVA {
         saturated(self.placed.len()).saturating_add(32)
     }
 
-    /// Places the bytes of a record, a section or an array in the file, and answers where they begin.
+    /// Adds the bytes of a record, a section or an array, and returns their RVA.
     pub fn add<E: Encode>(&mut self, what: &E) -> RVA {
         let rva = self.rva();
         self.placed.record(what);
         rva
     }
 
-    /// The same, and answers where they are.
+    /// Adds the bytes of a record, a section or an array, and returns their location.
     pub fn add_located<E: Encode>(&mut self, what: &E) -> MINIDUMP_LOCATION_DESCRIPTOR {
         let rva = self.add(what);
         MINIDUMP_LOCATION_DESCRIPTOR {
@@ -73,20 +74,20 @@ impl SynthMinidump {
         }
     }
 
-    /// Places a UTF-16 text with its length, and answers where it begins.
+    /// Adds a UTF-16 text behind its length, and returns its RVA.
     pub fn add_text16(&mut self, text: &str) -> RVA {
         let rva = self.rva();
         self.placed.text16(text);
         rva
     }
 
-    /// Places the bytes of a stream, and adds an entry for it.
+    /// Adds the bytes of a stream, and an entry for it.
     pub fn add_stream<E: Encode>(&mut self, stream_type: u32, what: &E) {
         let location = self.add_located(what);
         self.add_entry(stream_type, location);
     }
 
-    /// Adds an entry alone, whatever stands at its location.
+    /// Adds an entry of the directory alone.
     pub fn add_entry(&mut self, stream_type: u32, location: MINIDUMP_LOCATION_DESCRIPTOR) {
         self.entries = self.entries.saturating_add(1);
         self.directory.record(&MINIDUMP_DIRECTORY {
@@ -95,7 +96,8 @@ impl SynthMinidump {
         });
     }
 
-    /// The bytes of the file, or that some growth found no memory.
+    /// Returns the bytes of the file, or `AllocError` if an earlier call ran out of memory or this one
+    /// does.
     pub fn finish(&self) -> Result<Vec<u8>, AllocError> {
         let mut file = self.section();
         file.record(&self.header())
@@ -104,7 +106,7 @@ impl SynthMinidump {
         file.finish()
     }
 
-    // The header of the file.
+    // Returns the header of the file.
     fn header(&self) -> MINIDUMP_HEADER {
         MINIDUMP_HEADER {
             signature: self.signature,

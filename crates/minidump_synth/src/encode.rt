@@ -19,7 +19,7 @@ ghost use Rattle.std.specs.Prelude.{◌≤◌};
 use crate::Section;
 use minidump_bytes::{Endian, Record};
 
-/// What has bytes in a minidump.
+/// A value that has bytes in a minidump.
 pub trait Encode {
     /// Appends the bytes of the value, in the order of the section.
     fn encode(&self, into: &mut Section);
@@ -28,7 +28,7 @@ pub trait Encode {
 // More than any record has.
 static ZEROS: [u8; 4096] = [0; 4096];
 
-/// The record whose bytes are zeros, for literals as `MINIDUMP_DIRECTORY { stream_type: 7, ..zeroed() }`.
+/// Returns the record of zeros, for literals as `MINIDUMP_DIRECTORY { stream_type: 7, ..zeroed() }`.
 pub fn zeroed<R: Record>() -> R
     requires { R.SIZE ≤ 4096 }
 {

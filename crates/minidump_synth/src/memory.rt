@@ -4,7 +4,7 @@ use minidump_format::format::{
 };
 
 impl SynthMinidump {
-    /// Places the bytes of a region of memory, and answers its descriptor for a list of regions.
+    /// Adds the bytes of a region of memory, and returns its descriptor for a memory list.
     pub fn add_memory(&mut self, base: u64, bytes: &[u8]) -> MINIDUMP_MEMORY_DESCRIPTOR {
         MINIDUMP_MEMORY_DESCRIPTOR {
             start_of_memory_range: base,
@@ -12,7 +12,7 @@ impl SynthMinidump {
         }
     }
 
-    /// Places the bytes of regions of memory, one after another, and adds the stream of their 64-bit list.
+    /// Adds the bytes of regions of memory, one behind another, and the stream of their 64-bit list.
     pub fn add_memory64_list(&mut self, regions: &[(u64, &[u8])]) {
         let rva = self.rva();
         let mut list = self.section();

@@ -2,8 +2,10 @@ use crate::Encode;
 use minidump_bytes::{Endian, Record};
 use std::alloc::{AllocError, Global};
 
-/// Bytes that grow at their end, with the byte order of their numbers. What appends answers the section,
-/// so that calls chain. Where a growth finds no memory, only [`Section::finish`] answers so.
+/// Bytes that grow at their end, with a byte order for their numbers.
+///
+/// Calls that append return the section, so that they chain. Calls that run out of memory don't say so;
+/// [`Section::finish`] does.
 #[derive(Drop)]
 pub struct Section {
     endian: Endian,
@@ -12,7 +14,7 @@ pub struct Section {
 }
 
 impl Section {
-    /// No bytes yet.
+    /// Makes an empty section.
     pub fn new(alloc: Global, endian: Endian) -> Section {
         Section {
             endian,
@@ -21,12 +23,12 @@ impl Section {
         }
     }
 
-    /// How many bytes there are.
+    /// Returns the number of bytes.
     pub fn len(&self) -> usize {
         self.bytes.len()
     }
 
-    /// The bytes, or that some growth found no memory.
+    /// Returns the bytes, or `AllocError` if an earlier call ran out of memory or this one does.
     pub fn finish(&self) -> Result<Vec<u8>, AllocError> {
         if self.failed {
             return Err(AllocError);
@@ -42,7 +44,7 @@ impl Section {
         self
     }
 
-    /// Appends so many zeros.
+    /// Appends `count` zeros.
     pub fn zeros(&mut self, count: usize) -> &mut Section {
         for _ in 0..count {
             self.u8(0);
@@ -50,7 +52,7 @@ impl Section {
         self
     }
 
-    /// Appends the bytes of another section, in that one's order.
+    /// Appends the bytes of another section, as they are.
     pub fn append(&mut self, other: &Section) -> &mut Section {
         if other.failed {
             self.failed = true;
@@ -107,7 +109,7 @@ impl Section {
             .units16(text, count)
     }
 
-    /// Appends an array of so many UTF-16 code units: those of the text, cut to as many, then zeros.
+    /// Appends an array of `count` UTF-16 code units: those of the text, cut to `count`, then zeros.
     pub fn units16(&mut self, text: &str, count: usize) -> &mut Section {
         let mut units = text.encode_utf16();
         for _ in 0..count {
@@ -126,13 +128,13 @@ impl Section {
         self.bytes(text.as_bytes()).u8(0)
     }
 
-    /// Appends a record, in the order of the section.
+    /// Appends a record, in the byte order of the section.
     pub fn record<R: Encode>(&mut self, record: &R) -> &mut Section {
         record.encode(self);
         self
     }
 
-    /// Appends records, one after another.
+    /// Appends consecutive records.
     pub fn records<R: Encode>(&mut self, records: &[R]) -> &mut Section {
         for record in records {
             record.encode(self);
@@ -150,7 +152,7 @@ impl Section {
         self.u32(saturated(records.len())).u32(0).records(records)
     }
 
-    /// Appends the count of the records and a place in the file, each a `u64`, then the records.
+    /// Appends the count of the records and an RVA, each a `u64`, then the records.
     pub fn list_64<R: Encode>(&mut self, rva: u64, records: &[R]) -> &mut Section {
         self.u64(records.len() as u64).u64(rva).records(records)
     }
@@ -175,7 +177,7 @@ impl Section {
     }
 }
 
-/// The number, or the greatest of 32 bits where it is greater.
+/// Cuts a number to 32 bits: a greater one becomes `u32::MAX`.
 pub(crate) fn saturated(n: usize) -> u32 {
     n.min(u32::MAX as usize) as u32
 }

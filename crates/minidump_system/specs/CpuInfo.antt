@@ -1,4 +1,4 @@
--- The processor in words.
+-- The processor in words: the vendor, family, model and stepping of an x86 one (Breakpad's MDCPUInformation), the parts and features of an ARM one.
 use Rattle.std.specs.Prelude.{ℕ, ◌/◌, ◌%◌, ◌^◌, List, [], ◌∷◌, ◌++◌, codes, map, filter, Bool, ◌==◌, if◌then◌else◌, bit_and, encode_utf8, Option, Some, None}
 use Rattle.std.specs.List.{concat, flat_map, range_with_len}
 use Rattle.std.specs.Int.{to_le_bytes, w32}

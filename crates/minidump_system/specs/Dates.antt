@@ -1,4 +1,4 @@
--- Dates as text.
+-- Dates as text (RFC 3339), by the civil time and by counting years, months and days.
 use Rattle.std.specs.Prelude.{◌≡◌, ℕ, zero, suc, pos, ◌+◌, ◌-◌, ◌*◌, ◌/◌, ◌%◌, ◌++◌, List, [], ◌∷◌, codes, nat_le, nat_lt, ◌==◌, Bool, ◌&&◌, if◌then◌else◌}
 use Rattle.std.specs.List.{concat}
 use Rattle.jiff_core.specs.Calendar.{days_in_year, days_in_month}

@@ -20,8 +20,8 @@ ghost use Rattle.region_at.specs.RegionAt.{IsRefused, IsRegionAt, IsRegionIn};
 use minidump::{Error, Minidump, UnifiedMemoryList, laws};
 use std::alloc::Global;
 
-/// The first address and the bytes of the region in which an address lies, by the memory of the minidump
-/// that the bytes are, or `None` where no region is kept that has it.
+/// Returns the base address and the bytes of the region of memory that contains `address`, or `None` if
+/// no kept region does. `bytes` are those of a minidump.
 pub fn region_at<'a>(
     alloc: Global,
     bytes: &'a [u8],

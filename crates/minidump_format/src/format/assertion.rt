@@ -6,9 +6,9 @@ use minidump_bytes::{Endian, Exact, Record, array_at};
 /// An assertion that failed: Breakpad's `MDRawAssertionInfo`.
 #[derive(Clone, Copy, Debug, PartialEq, Eq)]
 pub struct MINIDUMP_ASSERTION_INFO {
-    /// What was asserted, in UTF-16, up to the first zero.
+    /// The assertion, in UTF-16, up to the first zero.
     pub expression: [u16; 128],
-    /// The function that asserted it, in UTF-16, up to the first zero.
+    /// The function that has the assertion, in UTF-16, up to the first zero.
     pub function: [u16; 128],
     /// The file of that function, in UTF-16, up to the first zero.
     pub file: [u16; 128],

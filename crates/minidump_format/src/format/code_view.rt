@@ -17,7 +17,7 @@ pub enum CvSignature {
 }
 
 impl CvSignature {
-    /// The kind of a number, or `None` where none has it.
+    /// Returns the kind with the number `n`, or `None` if there is none.
     pub fn from_u32(n: u32) -> Option<CvSignature>
         ensures { result ≡ signature_of n }
     {
@@ -29,7 +29,7 @@ impl CvSignature {
         })
     }
 
-    /// The number of the kind.
+    /// Returns the number of the kind.
     pub fn number(self) -> u32
         ensures { result ≡ signature_number self }
     {
@@ -46,7 +46,7 @@ impl Exact for CvSignature {
 pub struct CV_INFO_PDB70 {
     /// [`CvSignature::Pdb70`], as a number.
     pub cv_signature: u32,
-    /// Names the program database.
+    /// The identifier of the program database.
     pub signature: GUID,
     /// How often the program database was written.
     pub age: u32,

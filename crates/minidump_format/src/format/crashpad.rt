@@ -8,9 +8,9 @@ use minidump_bytes::{Endian, Exact, Record};
 #[derive(Clone, Copy, Debug, PartialEq, Eq)]
 pub struct MINIDUMP_CRASHPAD_INFO {
     pub version: u32,
-    /// Names this report.
+    /// The identifier of this report.
     pub report_id: GUID,
-    /// Names the client that crashed.
+    /// The identifier of the client that crashed.
     pub client_id: GUID,
     /// Where the dictionary of the process is.
     pub simple_annotations: MINIDUMP_LOCATION_DESCRIPTOR,
@@ -150,7 +150,7 @@ impl Exact for MINIDUMP_SIMPLE_STRING_DICTIONARY_ENTRY {
 pub struct MINIDUMP_ANNOTATION {
     /// Where the text of its name is.
     pub name: RVA,
-    /// What the value is, as [`MINIDUMP_ANNOTATION::TYPE_STRING`].
+    /// The type of the value, as [`MINIDUMP_ANNOTATION::TYPE_STRING`].
     pub ty: u16,
     pub reserved: u16,
     /// Where the value is.
@@ -189,6 +189,6 @@ impl MINIDUMP_ANNOTATION {
     /// The `ty` of a text.
     pub const TYPE_STRING: u16 = 1;
 
-    /// The least `ty` that is the user's own.
+    /// The lowest `ty` that is defined by the user.
     pub const TYPE_USER_DEFINED: u16 = 0x8000;
 }

@@ -7,18 +7,18 @@ use minidump_bytes::{Endian, Exact, Record, array_at};
 /// An exception: Microsoft's `MINIDUMP_EXCEPTION`.
 #[derive(Clone, Copy, Debug, PartialEq, Eq)]
 pub struct MINIDUMP_EXCEPTION {
-    /// What happened, by the numbers of the system.
+    /// The exception code of the operating system.
     pub exception_code: u32,
-    /// More of what happened, by the numbers of the system.
+    /// The exception flags of the operating system.
     pub exception_flags: u32,
-    /// The address of the exception that came before, or 0.
+    /// The address of the exception that this one is chained to, or 0.
     pub exception_record: u64,
-    /// The address that it came from.
+    /// The address at which the exception happened.
     pub exception_address: u64,
     /// How many elements of `exception_information` are set.
     pub number_parameters: u32,
     pub unused1: u32,
-    /// The parameters, by the code.
+    /// The parameters, whose meaning depends on the code.
     pub exception_information: [u64; 15],
 }
 
@@ -53,7 +53,7 @@ impl Exact for MINIDUMP_EXCEPTION {
 /// An exception with its thread: Microsoft's `MINIDUMP_EXCEPTION_STREAM`.
 #[derive(Clone, Copy, Debug, PartialEq, Eq)]
 pub struct MINIDUMP_EXCEPTION_STREAM {
-    /// The thread that it happened on.
+    /// The id of the thread on which the exception happened.
     pub thread_id: u32,
     pub unused1: u32,
     /// The exception.

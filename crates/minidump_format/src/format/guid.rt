@@ -6,7 +6,7 @@ ghost use Rattle.minidump_format.specs.Guid.{guid_text};
 use minidump_bytes::{Endian, Exact, Record, array_at};
 use std::fmt;
 
-/// An identifier that nothing else has: Microsoft's `GUID`.
+/// A globally unique identifier: Microsoft's `GUID`.
 #[derive(Clone, Copy, Debug, PartialEq, Eq)]
 pub struct GUID {
     pub data1: u32,
@@ -40,7 +40,7 @@ impl Exact for GUID {
     ghost exact = { record { equal = λ x y. ((λ h. Prim.grind (rules, bytes_eq-Decides x.data4 y.data4)), (λ h. rw h (Prim.search (rules, bytes_eq-Decides)))); copied = λ x y h. Prim.search rules } };
 }
 
-/// Shows it in lower case with hyphens, as `00112233-4455-6677-8899-aabbccddeeff`.
+/// Formats the identifier in lower case with hyphens, as `00112233-4455-6677-8899-aabbccddeeff`.
 impl fmt::Display for GUID {
     ghost output = { λ g. Some (guid_text g) };
 

@@ -8,18 +8,18 @@ use minidump_bytes::{Endian, Exact, Record};
 /// An open handle: Microsoft's `MINIDUMP_HANDLE_DESCRIPTOR`.
 #[derive(Clone, Copy, Debug, PartialEq, Eq)]
 pub struct MINIDUMP_HANDLE_DESCRIPTOR {
-    /// Its value.
+    /// The value of the handle.
     pub handle: u64,
-    /// Where the name of its type is, or 0.
+    /// The RVA of the name of its type, or 0.
     pub type_name_rva: RVA,
-    /// Where the name of its object is, or 0.
+    /// The RVA of the name of its object, or 0.
     pub object_name_rva: RVA,
     pub attributes: u32,
-    /// The access that it was granted.
+    /// The access that was granted.
     pub granted_access: u32,
-    /// How many handles its object has.
+    /// The number of handles of its object.
     pub handle_count: u32,
-    /// How many pointers the kernel has to its object.
+    /// The number of pointers that the kernel has to its object.
     pub pointer_count: u32,
 }
 
@@ -54,20 +54,20 @@ impl Exact for MINIDUMP_HANDLE_DESCRIPTOR {
 /// An open handle, with what is known of its object: Microsoft's `MINIDUMP_HANDLE_DESCRIPTOR_2`.
 #[derive(Clone, Copy, Debug, PartialEq, Eq)]
 pub struct MINIDUMP_HANDLE_DESCRIPTOR_2 {
-    /// Its value.
+    /// The value of the handle.
     pub handle: u64,
-    /// Where the name of its type is, or 0.
+    /// The RVA of the name of its type, or 0.
     pub type_name_rva: RVA,
-    /// Where the name of its object is, or 0.
+    /// The RVA of the name of its object, or 0.
     pub object_name_rva: RVA,
     pub attributes: u32,
-    /// The access that it was granted.
+    /// The access that was granted.
     pub granted_access: u32,
-    /// How many handles its object has.
+    /// The number of handles of its object.
     pub handle_count: u32,
-    /// How many pointers the kernel has to its object.
+    /// The number of pointers that the kernel has to its object.
     pub pointer_count: u32,
-    /// Where the first information on its object is, or 0.
+    /// The RVA of the first piece of information on its object, or 0.
     pub object_info_rva: RVA,
     pub reserved: u32,
 }
@@ -102,14 +102,15 @@ impl Exact for MINIDUMP_HANDLE_DESCRIPTOR_2 {
     ghost exact = { Prim.search rules };
 }
 
-/// An information on the object of a handle: Microsoft's `MINIDUMP_HANDLE_OBJECT_INFORMATION`.
+/// The head of a piece of information on the object of a handle: Microsoft's
+/// `MINIDUMP_HANDLE_OBJECT_INFORMATION`.
 #[derive(Clone, Copy, Debug, PartialEq, Eq)]
 pub struct MINIDUMP_HANDLE_OBJECT_INFORMATION {
-    /// Where the next information is, or 0.
+    /// The RVA of the next piece of information, or 0.
     pub next_info_rva: RVA,
     /// A [`MINIDUMP_HANDLE_OBJECT_INFORMATION_TYPE`], as a number.
     pub info_type: u32,
-    /// How many bytes follow.
+    /// The number of bytes that follow.
     pub size_of_info: u32,
 }
 
@@ -137,7 +138,8 @@ impl Exact for MINIDUMP_HANDLE_OBJECT_INFORMATION {
     ghost exact = { Prim.search rules };
 }
 
-/// What is known of the object of a handle: Microsoft's `MINIDUMP_HANDLE_OBJECT_INFORMATION_TYPE`.
+/// The type of information on the object of a handle: Microsoft's
+/// `MINIDUMP_HANDLE_OBJECT_INFORMATION_TYPE`.
 #[allow(non_camel_case_types)]
 #[derive(Clone, Copy, Debug, PartialEq, Eq)]
 pub enum MINIDUMP_HANDLE_OBJECT_INFORMATION_TYPE {
@@ -153,7 +155,7 @@ pub enum MINIDUMP_HANDLE_OBJECT_INFORMATION_TYPE {
 }
 
 impl MINIDUMP_HANDLE_OBJECT_INFORMATION_TYPE {
-    /// The type of a number, or `None` where none has it.
+    /// Returns the type with the number `n`, or `None` if there is none.
     pub fn from_u32(n: u32) -> Option<MINIDUMP_HANDLE_OBJECT_INFORMATION_TYPE>
         ensures { result ≡ information_type_of n }
     {
@@ -171,7 +173,7 @@ impl MINIDUMP_HANDLE_OBJECT_INFORMATION_TYPE {
         })
     }
 
-    /// The number of the type.
+    /// Returns the number of the type.
     pub fn number(self) -> u32
         ensures { result ≡ information_type_number self }
     {

@@ -2,7 +2,7 @@ ghost use Rattle.std.proofs.Common.{rules};
 
 use minidump_bytes::{Endian, Record};
 
-/// A place in the file, in bytes from its beginning.
+/// An offset in the file, in bytes from its beginning.
 pub type RVA = u32;
 
 /// The first four bytes of a minidump, `MDMP`, as a number.
@@ -11,15 +11,15 @@ pub const MINIDUMP_SIGNATURE: u32 = 0x504d_444d;
 /// The low 16 bits of a header's version.
 pub const MINIDUMP_VERSION: u32 = 0xa793;
 
-/// The head of a minidump, its first 32 bytes: Microsoft's `MINIDUMP_HEADER`.
+/// The header of a minidump, its first 32 bytes: Microsoft's `MINIDUMP_HEADER`.
 #[derive(Clone, Copy, Debug, PartialEq, Eq)]
 pub struct MINIDUMP_HEADER {
     pub signature: u32,
     /// The low 16 bits are [`MINIDUMP_VERSION`]; the others are the writer's own.
     pub version: u32,
-    /// How many entries the directory has.
+    /// The number of entries of the directory.
     pub stream_count: u32,
-    /// Where the directory begins.
+    /// The RVA of the directory.
     pub stream_directory_rva: RVA,
     pub checksum: u32,
     /// When the dump was written, in seconds since 1970.
@@ -51,12 +51,12 @@ impl Record for MINIDUMP_HEADER {
     ghost fits = { Prim.search rules };
 }
 
-/// Where a part of the file lies: Microsoft's `MINIDUMP_LOCATION_DESCRIPTOR`.
+/// The location of a part of the file: Microsoft's `MINIDUMP_LOCATION_DESCRIPTOR`.
 #[derive(Clone, Copy, Debug, PartialEq, Eq)]
 pub struct MINIDUMP_LOCATION_DESCRIPTOR {
-    /// How many bytes it has.
+    /// The number of bytes.
     pub data_size: u32,
-    /// Where it begins.
+    /// The offset at which it begins.
     pub rva: RVA,
 }
 
@@ -84,7 +84,7 @@ impl Record for MINIDUMP_LOCATION_DESCRIPTOR {
 pub struct MINIDUMP_DIRECTORY {
     /// The type of the stream, as a number.
     pub stream_type: u32,
-    /// Where its bytes are.
+    /// The location of its bytes.
     pub location: MINIDUMP_LOCATION_DESCRIPTOR,
 }
 

@@ -3,15 +3,15 @@ ghost use Rattle.std.proofs.Common.{rules};
 use super::MINIDUMP_LOCATION_DESCRIPTOR;
 use minidump_bytes::{Endian, Exact, Record, array_at};
 
-/// Where the crash information of macOS is: Breakpad's `MDRawMacCrashInfo`.
+/// The crash information of macOS: Mozilla's `MDRawMacCrashInfo`.
 #[derive(Clone, Copy, Debug, PartialEq, Eq)]
 pub struct MINIDUMP_MAC_CRASH_INFO {
     pub stream_type: u32,
-    /// How many of the records are set.
+    /// The number of records that are set.
     pub record_count: u32,
-    /// How many bytes of a record stand before its texts.
+    /// The number of bytes of a record in front of its texts.
     pub record_start_size: u32,
-    /// Where the records are.
+    /// The locations of the records.
     pub records: [MINIDUMP_LOCATION_DESCRIPTOR; 20],
 }
 
@@ -36,7 +36,7 @@ impl Record for MINIDUMP_MAC_CRASH_INFO {
     ghost fits = { Prim.search rules };
 }
 
-/// The head of each record of crash information, and the whole of version 1: Breakpad's
+/// The head of each record of crash information, and all of version 1: Mozilla's
 /// `MDRawMacCrashInfoRecord`.
 #[derive(Clone, Copy, Debug, PartialEq, Eq)]
 pub struct MINIDUMP_MAC_CRASH_INFO_RECORD {
@@ -142,11 +142,11 @@ impl Exact for MINIDUMP_MAC_CRASH_INFO_RECORD_5 {
     ghost exact = { Prim.search rules };
 }
 
-/// Where the boot arguments of macOS are: Mozilla's `MDRawMacBootargs`.
+/// The boot arguments of macOS: Mozilla's `MDRawMacBootargs`.
 #[derive(Clone, Copy, Debug, PartialEq, Eq)]
 pub struct MINIDUMP_MAC_BOOTARGS {
     pub stream_type: u32,
-    /// Where the text is.
+    /// The RVA of the text.
     pub bootargs: u64,
 }
 
@@ -173,14 +173,14 @@ impl Exact for MINIDUMP_MAC_BOOTARGS {
     ghost exact = { Prim.search rules };
 }
 
-/// The texts of a record of version 1, which has none.
+/// The texts of a record of version 1: none.
 #[derive(Drop)]
 pub struct MINIDUMP_MAC_CRASH_INFO_RECORD_STRINGS {}
 
 /// The texts of a record of version 4, in their order.
 #[derive(Drop)]
 pub struct MINIDUMP_MAC_CRASH_INFO_RECORD_STRINGS_4 {
-    /// The path of the module that the record is of.
+    /// The path of the module that the record belongs to.
     pub module_path: String,
     pub message: String,
     pub signature_string: String,
@@ -191,7 +191,7 @@ pub struct MINIDUMP_MAC_CRASH_INFO_RECORD_STRINGS_4 {
 /// The texts of a record from version 5 on, in their order.
 #[derive(Drop)]
 pub struct MINIDUMP_MAC_CRASH_INFO_RECORD_STRINGS_5 {
-    /// The path of the module that the record is of.
+    /// The path of the module that the record belongs to.
     pub module_path: String,
     pub message: String,
     pub signature_string: String,

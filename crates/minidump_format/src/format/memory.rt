@@ -6,9 +6,9 @@ use minidump_bytes::{Endian, Record};
 /// A region of memory, with its bytes anywhere in the file: Microsoft's `MINIDUMP_MEMORY_DESCRIPTOR`.
 #[derive(Clone, Copy, Debug, PartialEq, Eq)]
 pub struct MINIDUMP_MEMORY_DESCRIPTOR {
-    /// Its first address.
+    /// The base address.
     pub start_of_memory_range: u64,
-    /// Where its bytes are.
+    /// The location of its bytes.
     pub memory: MINIDUMP_LOCATION_DESCRIPTOR,
 }
 
@@ -35,9 +35,9 @@ impl Record for MINIDUMP_MEMORY_DESCRIPTOR {
 /// `MINIDUMP_MEMORY_DESCRIPTOR64`.
 #[derive(Clone, Copy, Debug, PartialEq, Eq)]
 pub struct MINIDUMP_MEMORY_DESCRIPTOR64 {
-    /// Its first address.
+    /// The base address.
     pub start_of_memory_range: u64,
-    /// How many bytes it has.
+    /// The number of bytes.
     pub data_size: u64,
 }
 

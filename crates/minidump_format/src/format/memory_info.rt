@@ -5,17 +5,17 @@ ghost use Rattle.minidump_format.specs.MemoryInfo.{memory_protection, memory_sta
 use bitflags::{Flag, Flags, bitflag_items};
 use minidump_bytes::{Endian, Exact, Record};
 
-/// What is known of a region of memory: Microsoft's `MINIDUMP_MEMORY_INFO`.
+/// Information on a region of memory: Microsoft's `MINIDUMP_MEMORY_INFO`.
 #[derive(Clone, Copy, Debug, PartialEq, Eq)]
 pub struct MINIDUMP_MEMORY_INFO {
-    /// Its first address.
+    /// The base address.
     pub base_address: u64,
-    /// The first address of the allocation that it is part of.
+    /// The base address of the allocation that the region is part of.
     pub allocation_base: u64,
     /// The protection when it was allocated: [`MemoryProtection`], as a number.
     pub allocation_protection: u32,
     pub unused1: u32,
-    /// How many bytes it has.
+    /// The number of bytes.
     pub region_size: u64,
     /// [`MemoryState`], as a number.
     pub state: u32,
@@ -106,7 +106,7 @@ impl Exact for MemoryProtection {
     ghost exact = { Prim.search rules };
 }
 
-/// Whether memory is in use: Microsoft's `MEM_` numbers of a state.
+/// The state of memory: Microsoft's `MEM_COMMIT`, `MEM_RESERVE` and `MEM_FREE`.
 #[derive(Clone, Copy, Debug, PartialEq, Eq)]
 pub struct MemoryState(u32);
 
@@ -148,13 +148,13 @@ impl Exact for MemoryState {
     ghost exact = { Prim.search rules };
 }
 
-/// What memory belongs to: Microsoft's `MEM_` numbers of a type.
+/// The type of memory: Microsoft's `MEM_PRIVATE`, `MEM_MAPPED` and `MEM_IMAGE`.
 #[derive(Clone, Copy, Debug, PartialEq, Eq)]
 pub struct MemoryType(u32);
 
 bitflag_items! {
     impl MemoryType: u32 {
-        /// Of the process alone.
+        /// Private to the process.
         const MEM_PRIVATE = 0x2_0000;
         /// A view of a section.
         const MEM_MAPPED = 0x4_0000;

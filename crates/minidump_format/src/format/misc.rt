@@ -2,19 +2,19 @@ ghost use Rattle.std.proofs.Common.{rules};
 
 use minidump_bytes::{Endian, Record, array_at};
 
-/// What is known of the process: Microsoft's `MINIDUMP_MISC_INFO`, the first layout.
+/// Information on the process, in the first layout: Microsoft's `MINIDUMP_MISC_INFO`.
 #[derive(Clone, Copy, Debug, PartialEq, Eq)]
 pub struct MINIDUMP_MISC_INFO {
-    /// How many bytes the record has, which tells its layout.
+    /// The size of the record as its writer states it. Reading does not depend on it.
     pub size_of_info: u32,
     /// Which of the other fields are set: [`MiscInfoFlags`](super::MiscInfoFlags), as a number.
     pub flags1: u32,
     pub process_id: u32,
-    /// When the process began, in seconds since 1970.
+    /// The time at which the process began, in seconds since 1970.
     pub process_create_time: u32,
-    /// How long it ran outside the kernel, in seconds.
+    /// The time for which the process ran in user mode, in seconds.
     pub process_user_time: u32,
-    /// How long it ran in the kernel, in seconds.
+    /// The time for which the process ran in kernel mode, in seconds.
     pub process_kernel_time: u32,
 }
 
@@ -44,16 +44,16 @@ impl Record for MINIDUMP_MISC_INFO {
 /// The second layout, with the clock rates of the processors: Microsoft's `MINIDUMP_MISC_INFO_2`.
 #[derive(Clone, Copy, Debug, PartialEq, Eq)]
 pub struct MINIDUMP_MISC_INFO_2 {
-    /// How many bytes the record has, which tells its layout.
+    /// The size of the record as its writer states it. Reading does not depend on it.
     pub size_of_info: u32,
     /// Which of the other fields are set: [`MiscInfoFlags`](super::MiscInfoFlags), as a number.
     pub flags1: u32,
     pub process_id: u32,
-    /// When the process began, in seconds since 1970.
+    /// The time at which the process began, in seconds since 1970.
     pub process_create_time: u32,
-    /// How long it ran outside the kernel, in seconds.
+    /// The time for which the process ran in user mode, in seconds.
     pub process_user_time: u32,
-    /// How long it ran in the kernel, in seconds.
+    /// The time for which the process ran in kernel mode, in seconds.
     pub process_kernel_time: u32,
     /// The highest clock rate of the processors, in MHz.
     pub processor_max_mhz: u32,
@@ -96,13 +96,13 @@ impl Record for MINIDUMP_MISC_INFO_2 {
 /// A date and time of day: Microsoft's `SYSTEMTIME`.
 #[derive(Clone, Copy, Debug, PartialEq, Eq)]
 pub struct SYSTEMTIME {
-    /// Of a change of time: 0 where it comes each year.
+    /// The year; 0 in a time zone whose change comes each year.
     pub year: u16,
-    /// From 1, January; 0 where there is no change.
+    /// The month, from 1 for January; 0 in a time zone without a change.
     pub month: u16,
-    /// From 0, Sunday.
+    /// The day of the week, from 0 for Sunday.
     pub day_of_week: u16,
-    /// Of the month; of a change each year, which of the weekdays in the month, 5 for the last.
+    /// The day of the month; of a change each year, which of the weekdays in the month, 5 for the last.
     pub day: u16,
     pub hour: u16,
     pub minute: u16,
@@ -181,16 +181,16 @@ impl Record for TIME_ZONE_INFORMATION {
 /// The third layout, with the time zone: Microsoft's `MINIDUMP_MISC_INFO_3`.
 #[derive(Clone, Copy, Debug, PartialEq, Eq)]
 pub struct MINIDUMP_MISC_INFO_3 {
-    /// How many bytes the record has, which tells its layout.
+    /// The size of the record as its writer states it. Reading does not depend on it.
     pub size_of_info: u32,
     /// Which of the other fields are set: [`MiscInfoFlags`](super::MiscInfoFlags), as a number.
     pub flags1: u32,
     pub process_id: u32,
-    /// When the process began, in seconds since 1970.
+    /// The time at which the process began, in seconds since 1970.
     pub process_create_time: u32,
-    /// How long it ran outside the kernel, in seconds.
+    /// The time for which the process ran in user mode, in seconds.
     pub process_user_time: u32,
-    /// How long it ran in the kernel, in seconds.
+    /// The time for which the process ran in kernel mode, in seconds.
     pub process_kernel_time: u32,
     /// The highest clock rate of the processors, in MHz.
     pub processor_max_mhz: u32,
@@ -244,16 +244,16 @@ impl Record for MINIDUMP_MISC_INFO_3 {
 /// The fourth layout, with the builds: Microsoft's `MINIDUMP_MISC_INFO_4`.
 #[derive(Clone, Copy, Debug, PartialEq, Eq)]
 pub struct MINIDUMP_MISC_INFO_4 {
-    /// How many bytes the record has, which tells its layout.
+    /// The size of the record as its writer states it. Reading does not depend on it.
     pub size_of_info: u32,
     /// Which of the other fields are set: [`MiscInfoFlags`](super::MiscInfoFlags), as a number.
     pub flags1: u32,
     pub process_id: u32,
-    /// When the process began, in seconds since 1970.
+    /// The time at which the process began, in seconds since 1970.
     pub process_create_time: u32,
-    /// How long it ran outside the kernel, in seconds.
+    /// The time for which the process ran in user mode, in seconds.
     pub process_user_time: u32,
-    /// How long it ran in the kernel, in seconds.
+    /// The time for which the process ran in kernel mode, in seconds.
     pub process_kernel_time: u32,
     /// The highest clock rate of the processors, in MHz.
     pub processor_max_mhz: u32,
@@ -310,12 +310,12 @@ impl Record for MINIDUMP_MISC_INFO_4 {
     ghost fits = { Prim.search rules };
 }
 
-/// Where a feature of the processor keeps its state: Microsoft's `XSTATE_FEATURE`.
+/// The place of a feature in the extended state: Microsoft's `XSTATE_FEATURE`.
 #[derive(Clone, Copy, Debug, PartialEq, Eq)]
 pub struct XSTATE_FEATURE {
-    /// Where its state begins in the extended state, in bytes.
+    /// The offset of its state in the extended state.
     pub offset: u32,
-    /// How many bytes its state has.
+    /// The number of bytes of its state.
     pub size: u32,
 }
 
@@ -341,11 +341,11 @@ impl Record for XSTATE_FEATURE {
 /// The layout of a processor's extended state: Microsoft's `XSTATE_CONFIG_FEATURE_MSC_INFO`.
 #[derive(Clone, Copy, Debug, PartialEq, Eq)]
 pub struct XSTATE_CONFIG_FEATURE_MSC_INFO {
-    /// How many bytes the record has.
+    /// The size of the record as its writer states it.
     pub size_of_info: u32,
-    /// How many bytes the extended state has.
+    /// The number of bytes of the extended state.
     pub context_size: u32,
-    /// The bit of an index is set where the feature of that index is enabled.
+    /// The enabled features, a bit for each index.
     pub enabled_features: u64,
     /// The features by their index, [`XstateFeatureIndex`](super::XstateFeatureIndex).
     pub features: [XSTATE_FEATURE; 64],
@@ -375,16 +375,16 @@ impl Record for XSTATE_CONFIG_FEATURE_MSC_INFO {
 /// The fifth layout, with the extended state: Microsoft's `MINIDUMP_MISC_INFO_5`.
 #[derive(Clone, Copy, Debug, PartialEq, Eq)]
 pub struct MINIDUMP_MISC_INFO_5 {
-    /// How many bytes the record has, which tells its layout.
+    /// The size of the record as its writer states it. Reading does not depend on it.
     pub size_of_info: u32,
     /// Which of the other fields are set: [`MiscInfoFlags`](super::MiscInfoFlags), as a number.
     pub flags1: u32,
     pub process_id: u32,
-    /// When the process began, in seconds since 1970.
+    /// The time at which the process began, in seconds since 1970.
     pub process_create_time: u32,
-    /// How long it ran outside the kernel, in seconds.
+    /// The time for which the process ran in user mode, in seconds.
     pub process_user_time: u32,
-    /// How long it ran in the kernel, in seconds.
+    /// The time for which the process ran in kernel mode, in seconds.
     pub process_kernel_time: u32,
     /// The highest clock rate of the processors, in MHz.
     pub processor_max_mhz: u32,

@@ -68,21 +68,21 @@ impl Exact for VS_FIXEDFILEINFO {
 /// A module that was loaded: Microsoft's `MINIDUMP_MODULE`.
 #[derive(Clone, Copy, Debug, PartialEq, Eq)]
 pub struct MINIDUMP_MODULE {
-    /// Its first address.
+    /// The base address.
     pub base_of_image: u64,
-    /// How many bytes of memory it takes.
+    /// The number of bytes of memory that it takes.
     pub size_of_image: u32,
     /// The checksum in the header of its image.
     pub checksum: u32,
-    /// When it was linked, in seconds since 1970.
+    /// The time at which it was linked, in seconds since 1970.
     pub time_date_stamp: u32,
-    /// Where its name is.
+    /// The RVA of its name.
     pub module_name_rva: RVA,
     /// Its version.
     pub version_info: VS_FIXEDFILEINFO,
-    /// Where its CodeView record is.
+    /// The location of its CodeView record.
     pub cv_record: MINIDUMP_LOCATION_DESCRIPTOR,
-    /// Where its miscellaneous debug record is.
+    /// The location of its miscellaneous debug record.
     pub misc_record: MINIDUMP_LOCATION_DESCRIPTOR,
     pub unused1: [u8; 16],
 }
@@ -116,15 +116,15 @@ impl Record for MINIDUMP_MODULE {
 /// A module that was unloaded: Microsoft's `MINIDUMP_UNLOADED_MODULE`.
 #[derive(Clone, Copy, Debug, PartialEq, Eq)]
 pub struct MINIDUMP_UNLOADED_MODULE {
-    /// Its first address.
+    /// The base address.
     pub base_of_image: u64,
-    /// How many bytes of memory it took.
+    /// The number of bytes of memory that it took.
     pub size_of_image: u32,
     /// The checksum in the header of its image.
     pub checksum: u32,
-    /// When it was linked, in seconds since 1970.
+    /// The time at which it was linked, in seconds since 1970.
     pub time_date_stamp: u32,
-    /// Where its name is.
+    /// The RVA of its name.
     pub module_name_rva: RVA,
 }
 

@@ -64,7 +64,7 @@ pub enum MINIDUMP_STREAM_TYPE {
 }
 
 impl MINIDUMP_STREAM_TYPE {
-    /// The type of a number, or `None` where no type has it.
+    /// Returns the type with the number `n`, or `None` if there is none.
     pub fn from_u32(n: u32) -> Option<MINIDUMP_STREAM_TYPE>
         ensures { result ≡ stream_type_of n }
     {
@@ -128,14 +128,14 @@ impl MINIDUMP_STREAM_TYPE {
         })
     }
 
-    /// The number of the type.
+    /// Returns the number of the type.
     pub fn number(self) -> u32
         ensures { result ≡ number_of self }
     {
         self as u32
     }
 
-    /// The name of the type, as it stands in this enum.
+    /// Returns the name of the type, as it stands in this enum.
     pub fn name(self) -> &'static str
         ensures { result.now ≡ type_name self }
     {
@@ -198,7 +198,7 @@ impl MINIDUMP_STREAM_TYPE {
         }
     }
 
-    /// Whether streams of the type are listed, but never read.
+    /// Tells whether streams of the type are listed as unimplemented, since they are never read.
     pub fn is_unimplemented(self) -> bool
         ensures { result ≡ is_unimplemented self }
     {

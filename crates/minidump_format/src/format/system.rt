@@ -19,11 +19,11 @@ pub struct MINIDUMP_SYSTEM_INFO {
     pub build_number: u32,
     /// A [`PlatformId`], as a number.
     pub platform_id: u32,
-    /// Where the text of the service pack begins.
+    /// The RVA of the text of the service pack.
     pub csd_version_rva: RVA,
     pub suite_mask: u16,
     pub reserved: u16,
-    /// What the processor says of itself: [`X86CpuInfo`] or [`ARMCpuInfo`], by the architecture.
+    /// The identification of the processor: an [`X86CpuInfo`] or an [`ARMCpuInfo`], by the architecture.
     pub cpu: [u8; 24],
 }
 
@@ -57,7 +57,7 @@ impl Record for MINIDUMP_SYSTEM_INFO {
     ghost fits = { Prim.search rules };
 }
 
-/// What an x86 processor says of itself, at the beginning of the CPU bytes.
+/// The identification of an x86 processor, as the CPU bytes begin with it.
 #[derive(Clone, Copy, Debug, PartialEq, Eq)]
 pub struct X86CpuInfo {
     /// The twelve characters of the vendor, the lowest byte of each number first.
@@ -84,7 +84,7 @@ impl Record for X86CpuInfo {
     ghost fits = { Prim.search rules };
 }
 
-/// What an ARM processor says of itself, at the beginning of the CPU bytes.
+/// The identification of an ARM processor, as the CPU bytes begin with it.
 #[derive(Clone, Copy, Debug, PartialEq, Eq)]
 pub struct ARMCpuInfo {
     pub cpuid: u32,
@@ -129,7 +129,7 @@ pub enum ProcessorArchitecture {
 }
 
 impl ProcessorArchitecture {
-    /// The architecture of a number, or `None` where none has it.
+    /// Returns the architecture with the number `n`, or `None` if there is none.
     pub fn from_u16(n: u16) -> Option<ProcessorArchitecture>
         ensures { result ≡ architecture_of n }
     {
@@ -149,7 +149,7 @@ impl ProcessorArchitecture {
         })
     }
 
-    /// The number of the architecture.
+    /// Returns the number of the architecture.
     pub fn number(self) -> u16
         ensures { result ≡ architecture_number self }
     {
@@ -173,7 +173,7 @@ pub enum PlatformId {
 }
 
 impl PlatformId {
-    /// The system of a number, or `None` where none has it.
+    /// Returns the operating system with the number `n`, or `None` if there is none.
     pub fn from_u32(n: u32) -> Option<PlatformId>
         ensures { result ≡ platform_of n }
     {
@@ -191,7 +191,7 @@ impl PlatformId {
         })
     }
 
-    /// The number of the system.
+    /// Returns the number of the operating system.
     pub fn number(self) -> u32
         ensures { result ≡ platform_number self }
     {

@@ -7,7 +7,7 @@ use minidump_bytes::{Endian, Exact, Record};
 #[derive(Clone, Copy, Debug, PartialEq, Eq)]
 pub struct MINIDUMP_THREAD {
     pub thread_id: u32,
-    /// How many times it is suspended.
+    /// The suspend count.
     pub suspend_count: u32,
     pub priority_class: u32,
     pub priority: u32,
@@ -15,7 +15,7 @@ pub struct MINIDUMP_THREAD {
     pub teb: u64,
     /// Its stack.
     pub stack: MINIDUMP_MEMORY_DESCRIPTOR,
-    /// Where its context is.
+    /// The location of its context.
     pub thread_context: MINIDUMP_LOCATION_DESCRIPTOR,
 }
 
@@ -51,7 +51,7 @@ impl Exact for MINIDUMP_THREAD {
 #[derive(Clone, Copy, Debug, PartialEq, Eq)]
 pub struct MINIDUMP_THREAD_NAME {
     pub thread_id: u32,
-    /// Where the name is.
+    /// The RVA of the name.
     pub thread_name_rva: u64,
 }
 
@@ -82,21 +82,21 @@ impl Exact for MINIDUMP_THREAD_NAME {
 #[derive(Clone, Copy, Debug, PartialEq, Eq)]
 pub struct MINIDUMP_THREAD_INFO {
     pub thread_id: u32,
-    /// What the writer says of the thread: Microsoft's `MINIDUMP_THREAD_INFO_` numbers.
+    /// The state of the thread: Microsoft's `MINIDUMP_THREAD_INFO_` numbers.
     pub dump_flags: u32,
     /// The status of writing the thread, an `HRESULT`.
     pub dump_error: u32,
-    /// The status that the thread ended with.
+    /// The exit status of the thread.
     pub exit_status: u32,
-    /// When it began, in units of 100 nanoseconds since 1601.
+    /// The time at which the thread began, in units of 100 nanoseconds since 1601.
     pub create_time: u64,
-    /// When it ended, in units of 100 nanoseconds since 1601.
+    /// The time at which the thread ended, in units of 100 nanoseconds since 1601.
     pub exit_time: u64,
-    /// How long it ran in the kernel, in units of 100 nanoseconds.
+    /// The time for which it ran in kernel mode, in units of 100 nanoseconds.
     pub kernel_time: u64,
-    /// How long it ran outside the kernel, in units of 100 nanoseconds.
+    /// The time for which it ran in user mode, in units of 100 nanoseconds.
     pub user_time: u64,
-    /// The address that it began at.
+    /// The address at which it began.
     pub start_address: u64,
     /// The processors that it may run on, a bit each.
     pub affinity: u64,

@@ -5,7 +5,7 @@ ghost use Rattle.minidump_format.specs.Xstate.{xstate_features, features_left, f
 use super::{XSTATE_CONFIG_FEATURE_MSC_INFO, XSTATE_FEATURE};
 
 impl XSTATE_CONFIG_FEATURE_MSC_INFO {
-    /// The enabled features, each with its index, ascending.
+    /// Returns an iterator over the enabled features, each with its index, ascending.
     pub fn iter(&self) -> XstateFeatures<'_>
         ensures { features_left result ≡ xstate_features self.now }
     {
@@ -16,7 +16,8 @@ impl XSTATE_CONFIG_FEATURE_MSC_INFO {
     }
 }
 
-/// The enabled features of an [`XSTATE_CONFIG_FEATURE_MSC_INFO`], each with its index, ascending.
+/// An iterator over the enabled features of an [`XSTATE_CONFIG_FEATURE_MSC_INFO`], each with its index,
+/// ascending.
 #[derive(Drop)]
 pub struct XstateFeatures<'a> {
     config: &'a XSTATE_CONFIG_FEATURE_MSC_INFO,
@@ -61,7 +62,7 @@ pub enum XstateFeatureIndex {
 }
 
 impl XstateFeatureIndex {
-    /// The feature of an index, or `None` where none has it.
+    /// Returns the feature with an index, or `None` if there is none.
     pub fn from_index(index: usize) -> Option<XstateFeatureIndex>
         ensures { result ≡ feature_of index }
     {
@@ -80,14 +81,14 @@ impl XstateFeatureIndex {
         })
     }
 
-    /// The index of the feature.
+    /// Returns the index of the feature.
     pub fn number(self) -> usize
         ensures { result ≡ index_of self }
     {
         self as usize
     }
 
-    /// Its name.
+    /// Returns the name of the feature.
     pub fn name(self) -> &'static str
         ensures { result.now ≡ index_name self }
     {

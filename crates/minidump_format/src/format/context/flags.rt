@@ -6,8 +6,8 @@ ghost use Rattle.minidump_format.specs.ContextFlags.{context_flags};
 use bitflags::{Flag, Flags, bitflag_items};
 use minidump_bytes::Exact;
 
-/// The processors that a context can be of: the bits of its flags that Microsoft's `CONTEXT_i386` and so
-/// on, and Breakpad's `MD_CONTEXT_` numbers, name.
+/// The processor of a context, as bits of its flags: Microsoft's `CONTEXT_i386` and so on, Breakpad's
+/// `MD_CONTEXT_` numbers.
 #[derive(Clone, Copy, Debug, PartialEq, Eq)]
 pub struct ContextFlagsCpu(u32);
 
@@ -51,7 +51,7 @@ impl Flags for ContextFlagsCpu {
 }
 
 impl ContextFlagsCpu {
-    /// Keeps of the flags of a context the bits of processors.
+    /// Takes the processor out of the flags of a context, and drops the other bits.
     pub fn from_flags(flags: u32) -> ContextFlagsCpu
         ensures { result.0 ≡ bit_and flags (known_bits context_flags) }
     {
