@@ -1,0 +1,4 @@
+-- The lemmas of this crate.
+pub mod MergeLemmas
+pub mod RowLemmas
+pub mod ReportLemmas

@@ -1,0 +1,105 @@
+-- A message is read field by field.
+use Rattle.std.proofs.Common.{◌≡◌, ℕ, zero, suc, ◌<◌, ◌≤◌, ◌+◌, Bool, true, false, List, [], ◌∷◌, length, arith, refl, ap, sym, ◌∙◌}
+use Rattle.std.specs.Prelude.{Option, Some, None, Result, Ok, Err, ◌==◌, if◌then◌else◌}
+use Rattle.std.specs.Option.{ok_or, option_and_then, option_map}
+use Rattle.std.proofs.lemmas.Bool.Decides.{nat_tests}
+use Rattle.std.proofs.lemmas.Result.{err_from_is_err_and}
+use Rattle.std.specs.Result.{IsErrAnd}
+use Rattle.std.specs.Prelude.{⊤}
+use Rattle.minidump_bytes.specs.Wire.{Field, field_at}
+use Rattle.minidump_format.specs.Answer.{Gives, Refuses}
+use Rattle.minidump_format.specs.declared.error.Error.{Error}
+use Rattle.minidump_format.specs.declared.error.Error.TheVariants.{DataError, OutOfMemory}
+use Rattle.minidump_stability.specs.Fields.{fields_from, fields_in}
+use Rattle.minidump_stability.specs.Rows.{merged_bytes, merged_fields, puts}
+
+pub fields_end : (most place : ℕ) (bytes : List ℕ) → place ≡ length bytes → fields_from (suc most) place bytes ≡ Some []
+unfolding fields_from
+fields_end most place bytes end = let yes : (place == length bytes) ≡ true = grind (arith, nat_tests) in rw yes refl
+
+abbrev after_one : ℕ → List ℕ → Option (Field × ℕ) → Option (List Field)
+after_one most bytes o = option_and_then (λ r. option_map (λ fs. r.0 ∷ fs) (fields_from most r.1 bytes)) o
+
+pub fields_more : (most place : ℕ) (bytes : List ℕ) → place < length bytes → fields_from (suc most) place bytes ≡ after_one most bytes (field_at place bytes)
+unfolding fields_from
+fields_more most place bytes more = let no : (place == length bytes) ≡ false = grind (arith, nat_tests) in rw no refl
+
+module _ {V : Type 0} (put : Field → V → Option V) where
+  -- the bytes from a place on make the whole of what is there
+  pub record Merging (whole : Option V) (bytes : List ℕ) (place : ℕ) (now : V) : Type 0 where
+    pub most : ℕ
+    pub enough : length bytes < place + most
+    pub within : place ≤ length bytes
+    pub same : merged_fields put (fields_from most place bytes) now ≡ whole
+
+  pub merging_none : (bytes : List ℕ) (v : V) → Merging (merged_bytes put bytes v) bytes 0 v
+  unfolding fields_in
+  merging_none bytes v = record { most = 1 + length bytes; enough = omega arith; within = omega arith; same = refl }
+
+  end_by : (whole : Option V) (bytes : List ℕ) (place : ℕ) (now : V) (most : ℕ) → place ≡ length bytes → length bytes < place + most → merged_fields put (fields_from most place bytes) now ≡ whole → whole ≡ Some now
+  end_by whole bytes place now zero end enough same = absurd (omega (arith, enough))
+  end_by whole bytes place now (suc most) end enough same = sym (rw (fields_end most place bytes end) at same)
+
+  pub merging_end : (whole : Option V) (bytes : List ℕ) (place : ℕ) (now : V) → length bytes ≤ place → Merging whole bytes place now → whole ≡ Some now
+  merging_end whole bytes place now past m = end_by whole bytes place now m.most (omega (arith, m.within)) m.enough m.same
+
+  one_by : (fields : Option (List Field)) (f : Field) (now : V) (made : Option V) → put f now ≡ made → merged_fields put (option_map (λ fs. f ∷ fs) fields) now ≡ option_and_then (λ v. merged_fields put fields v) made
+  one_by None f now None p = refl
+  one_by None f now (Some v) p = refl
+  one_by (Some fs) f now made p = rw p (refl_then fs made)
+    where
+      refl_then : (fs : List Field) (made : Option V) → option_and_then (puts put fs) made ≡ option_and_then (λ v. merged_fields put (Some fs) v) made
+      refl_then fs None = refl
+      refl_then fs (Some v) = refl
+
+  -- one field more, which is or isn't there
+  pub one_more : (whole : Option V) (bytes : List ℕ) (place : ℕ) (now : V) → place < length bytes → Merging whole bytes place now
+      → (most : ℕ) × (length bytes ≤ place + most) × (merged_fields put (after_one most bytes (field_at place bytes)) now ≡ whole)
+  one_more whole bytes place now more m = step m.most m.enough m.same
+    where
+      step : (most : ℕ) → length bytes < place + most → merged_fields put (fields_from most place bytes) now ≡ whole
+          → (k : ℕ) × (length bytes ≤ place + k) × (merged_fields put (after_one k bytes (field_at place bytes)) now ≡ whole)
+      step zero enough same = absurd (omega (arith, enough, more))
+      step (suc most) enough same = (most, omega (arith, enough), rw (fields_more most place bytes more) at same)
+
+  pub merging_more : (whole : Option V) (bytes : List ℕ) (place next : ℕ) (f : Field) (now new : V) → place < next → next ≤ length bytes → field_at place bytes ≡ Some (f, next) → put f now ≡ Some new
+      → Merging whole bytes place now → Merging whole bytes next new
+  merging_more whole bytes place next f now new forward within at p m =
+      let s = one_more whole bytes place now (omega (arith, forward, within)) m in
+      record { most = s.0; enough = omega (arith, s.1, forward); within = within; same = sym (one_by (fields_from s.0 next bytes) f now (Some new) p) ∙ rw at at s.2 }
+
+  pub merging_stuck : (whole : Option V) (bytes : List ℕ) (place : ℕ) (now : V) → place < length bytes → field_at place bytes ≡ None → Merging whole bytes place now → whole ≡ None
+  merging_stuck whole bytes place now more none m = let s = one_more whole bytes place now more m in sym (rw none at s.2)
+
+  pub merging_refused : (whole : Option V) (bytes : List ℕ) (place next : ℕ) (f : Field) (now : V) → place < length bytes → field_at place bytes ≡ Some (f, next) → put f now ≡ None
+      → Merging whole bytes place now → whole ≡ None
+  merging_refused whole bytes place next f now more at p m =
+      let s = one_more whole bytes place now more m in
+      sym (sym (one_by (fields_from s.0 next bytes) f now None p) ∙ rw at at s.2)
+
+-- ---- how refusals are handed on
+module _ {A B : Type 0} where
+  pub refused_alike : (e : Error) (part : Option A) (whole : Option B) → (part ≡ None → whole ≡ None) → Refuses ⊤ e (ok_or part DataError) → Refuses ⊤ e (ok_or whole DataError)
+  refused_alike OutOfMemory part whole rule h = h
+  refused_alike e (Some x) whole rule h = (let k : Ok x ≡ Err e = h in cc)
+  refused_alike e None whole rule h = (let k : ok_or {T = A} None DataError ≡ Err e = h in let s : DataError ≡ e = cc in rw (rule refl, s) refl)
+
+-- the exit of a `?`: where a part was refused, the whole is
+pub gives_refused : {X A B : Type 0} (view : X → B) (r : Result X Error) (e : Error) (part : Option A) (whole : Option B) → IsErrAnd r (λ y. y ≡ e) → Refuses ⊤ e (ok_or part DataError)
+    → (part ≡ None → whole ≡ None) → Gives view ⊤ r (ok_or whole DataError)
+gives_refused view r e part whole exit refusal rule = let p = err_from_is_err_and r exit in rw (p.1, p.2) (refused_alike e part whole rule refusal)
+
+-- and where it is known that nothing is there
+pub gives_none : {X B : Type 0} (view : X → B) (r : Result X Error) (e : Error) (whole : Option B) → IsErrAnd r (λ y. y ≡ e) → whole ≡ None → DataError ≡ e → Gives view ⊤ r (ok_or whole DataError)
+gives_none view r e whole exit none is = let p = err_from_is_err_and r exit in rw (p.1, p.2, none, ← is) refl
+
+pub none_seen : {A B : Type 0} (seen : A → B) (r : Option A) (o : Option B) (d e : Error) → option_map seen r ≡ o → Err e ≡ ok_or r d → (o ≡ None) × (d ≡ e)
+none_seen seen (Some x) o d e s h = (let k : Err e ≡ Ok x = h in cc)
+none_seen seen None o d e s h = (sym s, (let k : e ≡ d = cc in sym k))
+
+pub some_seen : {A B : Type 0} (seen : A → B) (r : Option A) (o : Option B) (x : A) → option_map seen r ≡ o → r ≡ Some x → o ≡ Some (seen x)
+some_seen seen r o x s h = sym (rw h at s)
+
+pub is_there : {A : Type 0} (o : Option A) (d : Error) (x : A) → ok_or o d ≡ Ok x → o ≡ Some x
+is_there (Some a) d x h = (let k : a ≡ x = cc in ap Some k)
+is_there None d x h = (let k : Err d ≡ Ok x = h in cc)

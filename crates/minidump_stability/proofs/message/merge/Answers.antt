@@ -1,0 +1,45 @@
+-- The bytes are read field by field, and each is put in.
+use Rattle.std.proofs.Common.{◌≡◌, arith, ap, length}
+use Rattle.std.specs.Prelude.{Some}
+use Rattle.std.specs.Option.{ok_or}
+use Rattle.minidump_format.specs.declared.error.Error.TheVariants.{DataError}
+use Rattle.minidump_bytes.specs.Source.{bytes_of}
+use Rattle.minidump_bytes.specs.Wire.{field_at, field_of}
+use Rattle.minidump_stability.proofs.MergeLemmas.{gives_none, gives_refused, is_there, merging_end, merging_more, merging_none, merging_refused, merging_stuck, none_seen, some_seen}
+use Rattle.minidump_stability.proofs.message.merge.Goals as goal
+
+pub loop-place-init : goal.loop-place-init
+loop-place-init g c = record {
+  merging = merging_none g.M.Message.put c.args.bytes.now (g.M.Message.view c.args.old);
+  within = omega arith;
+  grows = omega arith;
+}
+
+pub returns-in_err-field-clause-means : goal.returns-in_err-field-clause-means
+returns-in_err-field-clause-means g c =
+    let size : length (bytes_of c.new-source.result) ≡ length c.args.bytes.now = ap length c.new-source.ensures in
+    let none = none_seen _ c.wire_field.result _ _ _ (rw c.new-source.ensures at c.wire_field.ensures.value) c.in_err-field.ensures.value in
+    gives_none _ _ _ _ c.from_residual.ensures.1
+    (merging_stuck g.M.Message.put _ c.args.bytes.now c.loop-place.place _ (omega (arith, size)) none.0 c.loop-place.invariant.merging) none.1
+
+pub returns-in_err-message-clause-means : goal.returns-in_err-message-clause-means
+returns-in_err-message-clause-means g c =
+    let size : length (bytes_of c.new-source.result) ≡ length c.args.bytes.now = ap length c.new-source.ensures in
+    let is : field_at c.loop-place.place c.args.bytes.now ≡ Some (field_of c.in_ok-field.field, c.in_ok-field.next) = some_seen _ c.wire_field.result _ (c.in_ok-field.field, c.in_ok-field.next) (rw c.new-source.ensures at c.wire_field.ensures.value) c.in_ok-field.ensures.ok_part in
+    gives_refused _ _ _ _ _ c.from_residual-in_err-message.ensures.1 c.in_err-message.ensures.means
+    (λ h. merging_refused g.M.Message.put _ c.args.bytes.now c.loop-place.place c.in_ok-field.next (field_of c.in_ok-field.field) _ (omega (arith, size)) is h c.loop-place.invariant.merging)
+
+pub loop-place-preserved : goal.loop-place-preserved
+loop-place-preserved g c =
+    let is : field_at c.loop-place.place c.args.bytes.now ≡ Some (field_of c.in_ok-field.field, c.in_ok-field.next) = some_seen _ c.wire_field.result _ (c.in_ok-field.field, c.in_ok-field.next) (rw c.new-source.ensures at c.wire_field.ensures.value) c.in_ok-field.ensures.ok_part in
+    let inside = rw (c.new-source.ensures, c.in_ok-field.ensures.ok_part) at c.wire_field.ensures.inside in
+    record {
+      merging = merging_more g.M.Message.put _ c.args.bytes.now c.loop-place.place c.in_ok-field.next (field_of c.in_ok-field.field) _ _ (omega (arith, inside.0)) inside.1 is (is_there _ _ _ c.in_ok-message.ensures.means) c.loop-place.invariant.merging;
+      within = omega (arith, inside.0, c.put.ensures.within, c.wire_field.ensures.step, c.loop-place.invariant.within);
+      grows = omega (arith, c.put.ensures.grows, c.wire_field.ensures.step, c.loop-place.invariant.grows);
+    }
+
+pub returns-clause-means : goal.returns-clause-means
+returns-clause-means g c =
+    let size : length (bytes_of c.new-source.result) ≡ length c.args.bytes.now = ap length c.new-source.ensures in
+    ap (λ o. ok_or o DataError) (merging_end g.M.Message.put _ c.args.bytes.now c.loop-place.place _ (omega (arith, size)) c.loop-place.invariant.merging)

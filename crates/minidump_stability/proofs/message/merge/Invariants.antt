@@ -1,0 +1,16 @@
+-- How far a message is read.
+use Rattle.std.proofs.Common.{◌+◌, ◌-◌, ◌≤◌, length}
+use Rattle.minidump_bytes.specs.Source.{bytes_of}
+use Rattle.minidump_stability.specs.Rows.{merged_bytes}
+use Rattle.minidump_stability.proofs.MergeLemmas.{Merging}
+use Rattle.minidump_stability.proofs.message.merge.Given as goal
+
+abbrev pub invariant-loop-place : goal.invariant-loop-place
+invariant-loop-place g l = record {
+  merging : Merging g.M.Message.put (merged_bytes g.M.Message.put l.bytes (g.M.Message.view l.fn.old)) l.bytes l.place (g.M.Message.view l.message);
+  within : l.steps ≤ l.fn.steps + l.place;
+  grows : l.fn.steps ≤ l.steps;
+}
+
+abbrev pub decreases-loop-place : goal.decreases-loop-place
+decreases-loop-place g l = length l.bytes - l.place

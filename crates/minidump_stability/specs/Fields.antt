@@ -1,0 +1,73 @@
+-- What the fields of a message mean, as the encoding guide of Protocol Buffers has it.
+use Rattle.std.specs.Prelude.{ℕ, ℤ, pos, ◌-ℤ◌, zero, suc, ◌+◌, ◌%◌, ◌^◌, ◌==◌, nat_lt, List, [], ◌∷◌, ◌++◌, length, Option, Some, None, if◌then◌else◌}
+use Rattle.std.specs.Option.{option_and_then, option_map}
+use Rattle.minidump_bytes.specs.Wire.{Bytes, Eight, Field, Four, Payload, Varint, field_at}
+
+-- each of them, or none
+abbrev pub each : {A B : Type 0} → (A → Option B) → List A → Option (List B)
+each value [] = Some []
+each value (x ∷ xs) = option_and_then (λ y. option_map (λ ys. y ∷ ys) (each value xs)) (value x)
+
+abbrev pub both : {A B : Type 0} → Option A → Option B → Option (A × B)
+both a b = option_and_then (λ x. option_map (λ y. (x, y)) b) a
+
+-- the fields from a place on, fewer than so many
+unfoldable pub fields_from : ℕ → ℕ → List ℕ → Option (List Field)
+fields_from zero place bytes = None
+fields_from (suc most) place bytes =
+    if place == length bytes then Some []
+    else option_and_then (λ r. option_map (λ fs. r.0 ∷ fs) (fields_from most r.1 bytes)) (field_at place bytes)
+
+-- the fields that bytes spell
+unfoldable pub fields_in : List ℕ → Option (List Field)
+fields_in bytes = fields_from (1 + length bytes) 0 bytes
+
+-- what stands in the fields of a number, in their order
+abbrev pub payloads : ℕ → List Field → List Payload
+payloads number [] = []
+payloads number (f ∷ fs) = if f.number == number then f.payload ∷ payloads number fs else payloads number fs
+
+-- uint32: the low 32 bits of a varint
+abbrev pub uint32_in : Payload → Option ℕ
+uint32_in (Varint n) = Some (n % 2 ^ 32)
+uint32_in (Eight n) = None
+uint32_in (Bytes bytes) = None
+uint32_in (Four n) = None
+
+-- int64: a varint in two's complement
+abbrev pub int64_in : Payload → Option ℤ
+int64_in (Varint n) = Some (if nat_lt n (2 ^ 63) then pos n else pos n -ℤ pos (2 ^ 64))
+int64_in (Eight n) = None
+int64_in (Bytes bytes) = None
+int64_in (Four n) = None
+
+-- a message: the fields that its bytes spell
+abbrev pub message_in : Payload → Option (List Field)
+message_in (Varint n) = None
+message_in (Eight n) = None
+message_in (Bytes bytes) = fields_in bytes
+message_in (Four n) = None
+
+abbrev pub last_of : {N : Type 0} → List N → Option N → Option N
+last_of [] old = old
+last_of (n ∷ ns) old = last_of ns (Some n)
+
+-- a scalar is its last value
+abbrev pub scalar : {N : Type 0} → (Payload → Option N) → ℕ → List Field → Option (Option N)
+scalar value number fs = option_map (λ ns. last_of ns None) (each value (payloads number fs))
+
+abbrev pub joined : List (List Field) → List Field
+joined [] = []
+joined (fs ∷ more) = fs ++ joined more
+
+abbrev pub merged : {M : Type 0} → (List Field → Option M) → List (List Field) → Option (Option M)
+merged message [] = Some None
+merged message (fs ∷ more) = option_map Some (message (joined (fs ∷ more)))
+
+-- a nested message is that of the fields of all its payloads, joined
+abbrev pub nested : {M : Type 0} → (List Field → Option M) → ℕ → List Field → Option (Option M)
+nested message number fs = option_and_then (merged message) (each message_in (payloads number fs))
+
+-- a repeated message is one for each payload
+abbrev pub repeated : {M : Type 0} → (List Field → Option M) → ℕ → List Field → Option (List M)
+repeated message number fs = option_and_then (each message) (each message_in (payloads number fs))

@@ -1,0 +1,5 @@
+-- What the contracts of this crate cite.
+pub mod Fields
+pub mod StabilityReport
+pub mod Rows
+pub mod ReportRows

@@ -1,0 +1,43 @@
+-- Messages as tables of rows, which take their fields one after another.
+use Rattle.std.specs.Prelude.{ℕ, List, [], ◌∷◌, ◌++◌, ◌==◌, Option, Some, None, unwrap_or, if◌then◌else◌}
+use Rattle.std.specs.Option.{option_and_then, option_map}
+use Rattle.minidump_bytes.specs.Wire.{Bytes, Eight, Field, Four, Payload, Varint}
+use Rattle.minidump_stability.specs.Fields.{both, fields_in, message_in}
+
+-- fields put in one after another
+module _ {V : Type 0} (put : Field → V → Option V) where
+  abbrev pub puts : List Field → V → Option V
+  puts [] v = Some v
+  puts (f ∷ fs) v = option_and_then (puts fs) (put f v)
+
+abbrev pub merged_fields : {V : Type 0} → (Field → V → Option V) → Option (List Field) → V → Option V
+merged_fields put fields v = option_and_then (λ fs. puts put fs v) fields
+
+-- a message with the fields that bytes spell
+abbrev pub merged_bytes : {V : Type 0} → (Field → V → Option V) → List ℕ → V → Option V
+merged_bytes put bytes v = merged_fields put (fields_in bytes) v
+
+-- ---- rows
+-- the fields of a number change a value, others don't
+abbrev pub only : {X : Type 0} → ℕ → (Payload → X → Option X) → Field → X → Option X
+only number change f x = if f.number == number then change f.payload x else Some x
+
+-- a row above others
+abbrev pub row : {X W : Type 0} → ℕ → (Payload → X → Option X) → (Field → W → Option W) → Field → X × W → Option (X × W)
+row number change rest f v = both (only number change f v.0) (rest f v.1)
+
+abbrev pub one_scalar : {N : Type 0} → (Payload → Option N) → Payload → Option (Option N)
+one_scalar value p = option_map Some (value p)
+
+abbrev pub scalar_row : {N : Type 0} → (Payload → Option N) → Payload → Option N → Option (Option N)
+scalar_row value p old = one_scalar value p
+
+abbrev pub one_nested : {M : Type 0} → (Field → M → Option M) → M → Payload → Option M → Option (Option M)
+one_nested put empty p old = option_map Some (merged_fields put (message_in p) (unwrap_or old empty))
+
+abbrev pub one_repeated : {M : Type 0} → (Field → M → Option M) → M → Payload → List M → Option (List M)
+one_repeated put empty p old = option_map (λ m. old ++ m ∷ []) (merged_fields put (message_in p) empty)
+
+-- a table of rows on values that are seen as its places
+abbrev pub through : {V W : Type 0} → (V → W) → (W → V) → (Field → W → Option W) → Field → V → Option V
+through seen made put f v = option_map made (put f (seen v))

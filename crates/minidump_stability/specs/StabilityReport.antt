@@ -1,0 +1,76 @@
+-- The messages of Chromium's stability_report.proto: each field by its number, other fields are skipped.
+use Rattle.std.specs.Prelude.{ℕ, List, [], Option, None, Result}
+use Rattle.std.specs.Option.{ok_or, option_and_then, option_map}
+use Rattle.minidump_bytes.specs.Wire.{Field}
+use Rattle.minidump_format.specs.declared.error.Error.{Error}
+use Rattle.minidump_format.specs.declared.error.Error.TheVariants.{DataError}
+use Rattle.minidump_stability.specs.declared.process_state.FileSystemState.{FileSystemState}
+use Rattle.minidump_stability.specs.declared.process_state.MemoryState.{MemoryState}
+use Rattle.minidump_stability.specs.declared.process_state.file_system_state.PosixFileSystemState.{PosixFileSystemState}
+use Rattle.minidump_stability.specs.declared.process_state.file_system_state.WindowsFileSystemState.{WindowsFileSystemState}
+use Rattle.minidump_stability.specs.declared.process_state.memory_state.WindowsMemory.{WindowsMemory}
+use Rattle.minidump_stability.specs.declared.report.ProcessState.{ProcessState}
+use Rattle.minidump_stability.specs.declared.report.StabilityReport.{StabilityReport}
+use Rattle.minidump_stability.specs.declared.report.SystemMemoryState.{SystemMemoryState}
+use Rattle.minidump_stability.specs.declared.system_memory_state.WindowsMemory as system
+use Rattle.minidump_stability.specs.Fields.{both, fields_in, int64_in, nested, repeated, scalar, uint32_in}
+
+-- ProcessState.MemoryState.WindowsMemory
+abbrev pub windows_memory : List Field → Option WindowsMemory
+windows_memory fs =
+    option_map (λ v. record { process_private_usage = v.0; process_peak_workingset_size = v.1.0; process_peak_pagefile_usage = v.1.1.0; process_allocation_attempt = v.1.1.1 })
+    (both (scalar uint32_in 1 fs) (both (scalar uint32_in 2 fs) (both (scalar uint32_in 3 fs) (scalar uint32_in 4 fs))))
+
+-- ProcessState.MemoryState
+abbrev pub memory_state : List Field → Option MemoryState
+memory_state fs = option_map (λ memory. record { windows_memory = memory }) (nested windows_memory 1 fs)
+
+-- ProcessState.FileSystemState.PosixFileSystemState
+abbrev pub posix_file_system_state : List Field → Option PosixFileSystemState
+posix_file_system_state fs = option_map (λ files. record { open_file_descriptors = files }) (scalar uint32_in 1 fs)
+
+-- ProcessState.FileSystemState.WindowsFileSystemState
+abbrev pub windows_file_system_state : List Field → Option WindowsFileSystemState
+windows_file_system_state fs = option_map (λ handles. record { process_handle_count = handles }) (scalar uint32_in 1 fs)
+
+-- ProcessState.FileSystemState
+abbrev pub file_system_state : List Field → Option FileSystemState
+file_system_state fs =
+    option_map (λ v. record { posix_file_system_state = v.0; windows_file_system_state = v.1 })
+    (both (nested posix_file_system_state 1 fs) (nested windows_file_system_state 2 fs))
+
+-- ProcessState
+abbrev pub process_state : List Field → Option ProcessState
+process_state fs =
+    option_map (λ v. record { process_id = v.0; memory_state = v.1.0; file_system_state = v.1.1 })
+    (both (scalar int64_in 3 fs) (both (nested memory_state 4 fs) (nested file_system_state 7 fs)))
+
+-- SystemMemoryState.WindowsMemory
+abbrev pub system_windows_memory : List Field → Option system.WindowsMemory
+system_windows_memory fs =
+    option_map (λ v. record { system_commit_limit = v.0; system_commit_remaining = v.1.0; system_handle_count = v.1.1 })
+    (both (scalar uint32_in 1 fs) (both (scalar uint32_in 2 fs) (scalar uint32_in 3 fs)))
+
+-- SystemMemoryState
+abbrev pub system_memory_state : List Field → Option SystemMemoryState
+system_memory_state fs = option_map (λ memory. record { windows_memory = memory }) (nested system_windows_memory 1 fs)
+
+-- StabilityReport
+pub record Report : Type 0 where
+  pub process_states : List ProcessState
+  pub system_memory_state : Option SystemMemoryState
+
+abbrev pub no_report : Report
+no_report = record { process_states = []; system_memory_state = None }
+
+abbrev pub report : List Field → Option Report
+report fs =
+    option_map (λ v. record { process_states = v.0; system_memory_state = v.1 })
+    (both (repeated process_state 2 fs) (nested system_memory_state 7 fs))
+
+-- the report that a stream holds
+abbrev pub stability_report : List ℕ → Result Report Error
+stability_report bytes = ok_or (option_and_then report (fields_in bytes)) DataError
+
+abbrev pub report_of : StabilityReport → Report
+report_of r = record { process_states = r.process_states.items; system_memory_state = r.system_memory_state }

@@ -1,0 +1,1 @@
+//! Laws of the stability report, over the definitions that its contracts cite.

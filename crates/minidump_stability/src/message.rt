@@ -1,0 +1,100 @@
+ghost use Rattle.std.specs.Prelude.{◌≡◌, ◌+◌, ◌≤◌, ⊤, Option, length};
+ghost use Rattle.std.specs.Option.{ok_or, option_map};
+ghost use Rattle.minidump_bytes.specs.Wire.{Field, field_of, payload_of, room};
+ghost use Rattle.minidump_format.specs.declared.error.Error.TheVariants.{DataError};
+ghost use Rattle.minidump_format.specs.Answer.{Gives};
+ghost use Rattle.minidump_stability.specs.Fields.{int64_in, uint32_in};
+ghost use Rattle.minidump_stability.specs.Rows.{merged_bytes, one_nested, one_scalar};
+
+use minidump_bytes::{Source, Steps, WireField, WireValue};
+use minidump_format::Error;
+use std::alloc::Global;
+
+/// A message, which is read field by field.
+pub trait Message: Sized {
+    ghost Value: { Type 0 };
+
+    ghost view: { Self → Value };
+
+    // the message of no fields
+    ghost empty: { Value };
+
+    // the message with one field more
+    ghost put: { Field → Value → Option Value };
+
+    /// The message of no fields.
+    fn none(alloc: Global) -> Self
+        ensures { view result ≡ empty };
+
+    /// The message with one field more. `DataError` where it is a known field of another type, or holds a
+    /// message that can't be read.
+    fn put(self, alloc: Global, field: WireField<'_>, steps: &mut Steps) -> Result<Self, Error>
+        ensures means { Gives view ⊤ result (ok_or (put (field_of field.entry) (view self)) DataError) }
+        ensures within { steps.new ≤ steps.old + room (payload_of field.entry.value) }
+        ensures grows { steps.old ≤ steps.new };
+}
+
+/// The message with the fields that bytes spell. `DataError` where they spell none.
+pub fn merge<M: Message + Drop>(
+    alloc: Global,
+    old: M,
+    bytes: &[u8],
+    steps: &mut Steps,
+) -> Result<M, Error>
+    ensures means { Gives M.view ⊤ result (ok_or (merged_bytes M.put bytes.now (M.view old)) DataError) }
+    ensures within { steps.new ≤ steps.old + length bytes.now }
+    ensures grows { steps.old ≤ steps.new }
+{
+    let source = Source::new(bytes);
+    let mut message = old;
+    let mut place = 0;
+    while place < source.len() as u64 {
+        let (field, next) = source.wire_field(place, steps).ok_or(Error::DataError)?;
+        message = message.put(alloc, field, steps)?;
+        place = next;
+    }
+    Ok(message)
+}
+
+/// The nested message with those of a field's payload.
+pub fn nested<M: Message + Drop>(
+    alloc: Global,
+    old: Option<M>,
+    value: WireValue<'_>,
+    steps: &mut Steps,
+) -> Result<Option<M>, Error>
+    ensures means { Gives (option_map M.view) ⊤ result
+        (ok_or (one_nested M.put M.empty (payload_of value.entry) (option_map M.view old)) DataError) }
+    ensures within { steps.new ≤ steps.old + room (payload_of value.entry) }
+    ensures grows { steps.old ≤ steps.new }
+{
+    let WireValue::Bytes(bytes) = value else {
+        return Err(Error::DataError);
+    };
+    let old = match old {
+        Some(old) => old,
+        None => M::none(alloc),
+    };
+    Ok(Some(merge(alloc, old, bytes, steps)?))
+}
+
+/// The low 32 bits of a field's number.
+pub fn uint32(value: WireValue<'_>) -> Result<Option<u32>, Error>
+    ensures { result ≡ ok_or (one_scalar uint32_in (payload_of value.entry)) DataError }
+{
+    match value {
+        WireValue::Varint(number) => Ok(Some((number & 0xffff_ffff) as u32)),
+        _ => Err(Error::DataError),
+    }
+}
+
+/// A field's number, in two's complement.
+pub fn int64(value: WireValue<'_>) -> Result<Option<i64>, Error>
+    ensures { result ≡ ok_or (one_scalar int64_in (payload_of value.entry)) DataError }
+{
+    match value {
+        WireValue::Varint(number) if number < 1 << 63 => Ok(Some(number as i64)),
+        WireValue::Varint(number) => Ok(Some(-((u64::MAX - number) as i64) - 1)),
+        _ => Err(Error::DataError),
+    }
+}

@@ -1,0 +1,99 @@
+//! Messages of the state of a process.
+pub mod file_system_state;
+pub mod memory_state;
+
+ghost use Rattle.std.proofs.Common.{rules};
+
+use crate::message::{Message, nested};
+use minidump_bytes::{Exact, Steps, WireField};
+use minidump_format::Error;
+use file_system_state::{PosixFileSystemState, WindowsFileSystemState};
+use memory_state::WindowsMemory;
+use std::alloc::Global;
+
+/// The memory of a process.
+#[derive(Clone, Copy, PartialEq, Eq)]
+pub struct MemoryState {
+    /// On Windows.
+    pub windows_memory: Option<WindowsMemory>,
+}
+
+impl Message for MemoryState {
+    ghost use Rattle.minidump_stability.specs.declared.process_state.MemoryState.{MemoryState};
+    ghost use Rattle.minidump_stability.specs.ReportRows.{no_memory_state, put_memory_state};
+
+    ghost Value = { MemoryState };
+
+    ghost view = { λ m. m };
+
+    ghost empty = { no_memory_state };
+
+    ghost put = { put_memory_state };
+
+    fn none(_alloc: Global) -> Self {
+        MemoryState {
+            windows_memory: None,
+        }
+    }
+
+    #[tactic(auto, unfolding(crate::specs::ReportRows::put_memory_state))]
+    fn put(self, alloc: Global, field: WireField<'_>, steps: &mut Steps) -> Result<Self, Error> {
+        let mut new = self;
+        match field.number {
+            1 => new.windows_memory = nested(alloc, new.windows_memory, field.value, steps)?,
+            _ => {}
+        }
+        Ok(new)
+    }
+}
+
+impl Exact for MemoryState {
+    ghost exact = { record {
+      equal = λ x y. ((λ h. Prim.search rules), (λ h. Prim.search rules));
+      copied = λ x y h. Prim.search rules;
+    } };
+}
+
+/// The files of a process.
+#[derive(Clone, Copy, PartialEq, Eq)]
+pub struct FileSystemState {
+    /// On a POSIX system.
+    pub posix_file_system_state: Option<PosixFileSystemState>,
+    /// On Windows.
+    pub windows_file_system_state: Option<WindowsFileSystemState>,
+}
+
+impl Message for FileSystemState {
+    ghost use Rattle.minidump_stability.specs.declared.process_state.FileSystemState.{FileSystemState};
+    ghost use Rattle.minidump_stability.specs.ReportRows.{no_file_system_state, put_file_system_state};
+
+    ghost Value = { FileSystemState };
+
+    ghost view = { λ m. m };
+
+    ghost empty = { no_file_system_state };
+
+    ghost put = { put_file_system_state };
+
+    fn none(_alloc: Global) -> Self {
+        FileSystemState {
+            posix_file_system_state: None,
+            windows_file_system_state: None,
+        }
+    }
+
+    #[tactic(auto, unfolding(crate::specs::ReportRows::put_file_system_state))]
+    fn put(self, alloc: Global, field: WireField<'_>, steps: &mut Steps) -> Result<Self, Error> {
+        let mut new = self;
+        match field.number {
+            1 => new.posix_file_system_state = nested(alloc, new.posix_file_system_state, field.value, steps)?,
+            2 => new.windows_file_system_state = nested(alloc, new.windows_file_system_state, field.value, steps)?,
+            _ => {}
+        }
+        Ok(new)
+    }
+}
+
+impl Exact for FileSystemState {
+    ghost exact = { Prim.search rules };
+}

@@ -1,0 +1,195 @@
+ghost use Rattle.std.specs.Prelude.{◌≡◌};
+ghost use Rattle.std.proofs.Common.{rules};
+ghost use Rattle.minidump_format.specs.declared.format.stream_type.MINIDUMP_STREAM_TYPE.TheVariants.{StabilityReportStream};
+ghost use Rattle.minidump_format.specs.StreamType.{number_of};
+ghost use Rattle.minidump_stability.specs.StabilityReport.{no_report, report_of};
+
+use crate::message::{Message, int64, merge, nested};
+use crate::process_state::{FileSystemState, MemoryState};
+use crate::system_memory_state;
+use minidump_bytes::{Endian, Exact, Source, Steps, WireField, WireValue};
+use minidump_format::Error;
+use minidump_system::{MinidumpStream, MinidumpSystemInfo};
+use std::alloc::Global;
+
+/// The state of a process.
+#[derive(Clone, Copy, PartialEq, Eq)]
+pub struct ProcessState {
+    /// The id of the process.
+    pub process_id: Option<i64>,
+    /// Its memory.
+    pub memory_state: Option<MemoryState>,
+    /// Its files.
+    pub file_system_state: Option<FileSystemState>,
+}
+
+impl Message for ProcessState {
+    ghost use Rattle.minidump_stability.specs.declared.report.ProcessState.{ProcessState};
+    ghost use Rattle.minidump_stability.specs.ReportRows.{no_process_state, put_process_state};
+
+    ghost Value = { ProcessState };
+
+    ghost view = { λ m. m };
+
+    ghost empty = { no_process_state };
+
+    ghost put = { put_process_state };
+
+    fn none(_alloc: Global) -> Self {
+        ProcessState {
+            process_id: None,
+            memory_state: None,
+            file_system_state: None,
+        }
+    }
+
+    #[tactic(auto, unfolding(crate::specs::ReportRows::put_process_state))]
+    fn put(self, alloc: Global, field: WireField<'_>, steps: &mut Steps) -> Result<Self, Error> {
+        let mut new = self;
+        match field.number {
+            3 => new.process_id = int64(field.value)?,
+            4 => new.memory_state = nested(alloc, new.memory_state, field.value, steps)?,
+            7 => new.file_system_state = nested(alloc, new.file_system_state, field.value, steps)?,
+            _ => {}
+        }
+        Ok(new)
+    }
+}
+
+/// The memory of a system.
+#[derive(Clone, Copy, PartialEq, Eq)]
+pub struct SystemMemoryState {
+    /// On Windows.
+    pub windows_memory: Option<system_memory_state::WindowsMemory>,
+}
+
+impl Message for SystemMemoryState {
+    ghost use Rattle.minidump_stability.specs.declared.report.SystemMemoryState.{SystemMemoryState};
+    ghost use Rattle.minidump_stability.specs.ReportRows.{no_system_memory_state, put_system_memory_state};
+
+    ghost Value = { SystemMemoryState };
+
+    ghost view = { λ m. m };
+
+    ghost empty = { no_system_memory_state };
+
+    ghost put = { put_system_memory_state };
+
+    fn none(_alloc: Global) -> Self {
+        SystemMemoryState {
+            windows_memory: None,
+        }
+    }
+
+    #[tactic(auto, unfolding(crate::specs::ReportRows::put_system_memory_state))]
+    fn put(self, alloc: Global, field: WireField<'_>, steps: &mut Steps) -> Result<Self, Error> {
+        let mut new = self;
+        match field.number {
+            1 => new.windows_memory = nested(alloc, new.windows_memory, field.value, steps)?,
+            _ => {}
+        }
+        Ok(new)
+    }
+}
+
+impl Exact for SystemMemoryState {
+    ghost exact = { Prim.search rules };
+}
+
+/// Chromium's report of what a browser and its system were like when it crashed.
+#[derive(Drop)]
+pub struct StabilityReport {
+    /// The processes.
+    pub process_states: Vec<ProcessState>,
+    /// The memory of the system.
+    pub system_memory_state: Option<SystemMemoryState>,
+}
+
+impl StabilityReport {
+    /// The report without anything in it. It takes no memory.
+    pub fn new(alloc: Global) -> StabilityReport
+        ensures { report_of result ≡ no_report }
+    {
+        StabilityReport {
+            process_states: Vec::new(alloc),
+            system_memory_state: None,
+        }
+    }
+}
+
+impl Message for StabilityReport {
+    ghost use Rattle.minidump_stability.specs.StabilityReport.{Report, no_report, report_of};
+    ghost use Rattle.minidump_stability.specs.ReportRows.{put_report};
+
+    ghost Value = { Report };
+
+    ghost view = { report_of };
+
+    ghost empty = { no_report };
+
+    ghost put = { put_report };
+
+    fn none(alloc: Global) -> Self {
+        StabilityReport::new(alloc)
+    }
+
+    #[tactic(auto, unfolding(crate::specs::ReportRows::put_report))]
+    fn put(self, alloc: Global, field: WireField<'_>, steps: &mut Steps) -> Result<Self, Error> {
+        let mut new = self;
+        match field.number {
+            2 => {
+                let WireValue::Bytes(bytes) = field.value else {
+                    return Err(Error::DataError);
+                };
+                let state = merge(alloc, ProcessState::none(alloc), bytes, steps)?;
+                new.process_states.push(state)?;
+            }
+            7 => {
+                new.system_memory_state =
+                    nested(alloc, new.system_memory_state, field.value, steps)?;
+            }
+            _ => {}
+        }
+        Ok(new)
+    }
+}
+
+impl<'a> MinidumpStream<'a> for StabilityReport {
+    ghost use Rattle.std.specs.Prelude.{◌+◌, ⊤};
+    ghost use Rattle.minidump_format.specs.declared.format.stream_type.MINIDUMP_STREAM_TYPE.TheVariants.{StabilityReportStream};
+    ghost use Rattle.minidump_format.specs.StreamType.{number_of};
+    ghost use Rattle.minidump_stability.specs.StabilityReport.{Report, report_of, stability_report};
+
+    ghost type_number = { number_of StabilityReportStream };
+
+    const STREAM_TYPE: u32 = 0x4b6b_0002;
+
+    ghost Value = { Report };
+
+    ghost view = { report_of };
+
+    ghost meaning = { λ bytes all order system. stability_report bytes };
+
+    ghost limit = { λ n. n + 7 };
+
+    ghost least = { λ bytes order report. 0 };
+
+    ghost takes_memory = { λ bytes order. ⊤ };
+
+    fn number_of_type() -> u32
+        ensures { result ≡ number_of StabilityReportStream }
+    {
+        Self::STREAM_TYPE
+    }
+
+    fn read(
+        alloc: Global,
+        bytes: Source<'a>,
+        _all: Source<'a>,
+        _endian: Endian,
+        _system_info: Option<&MinidumpSystemInfo>,
+        steps: &mut Steps,
+    ) -> Result<Self, Error> {
+        merge(alloc, StabilityReport::new(alloc), bytes.bytes(), steps)
+    }
+}
