@@ -2,3 +2,4 @@
 pub mod MergeLemmas
 pub mod RowLemmas
 pub mod ReportLemmas
+pub mod FieldLemmas

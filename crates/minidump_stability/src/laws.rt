@@ -1,1 +1,31 @@
 //! Laws of the stability report, over the definitions that its contracts cite.
+ghost use Rattle.std.specs.Prelude.{◌≡◌, ◌↔◌, ℕ, List, MatchResult, None, Option, Some};
+ghost use Rattle.minidump_bytes.specs.declared.endian.Endian.{Endian};
+ghost use Rattle.minidump_bytes.specs.Wire.{Field, SpellsFields};
+ghost use Rattle.minidump_format.specs.declared.error.Error.TheVariants.{DataError};
+ghost use Rattle.minidump_stability.specs.Fields.{fields_in};
+ghost use Rattle.minidump_stability.specs.StabilityReport.{report, stability_report};
+ghost use Rattle.minidump_system.specs.SystemInfo.{System};
+
+use crate::StabilityReport;
+use minidump_system::MinidumpStream;
+
+/// Bytes have the fields that they spell, and no others.
+pub fn fields_are_what_bytes_spell()
+    ensures { (bytes : List ℕ) (fs : List Field) → (fields_in bytes ≡ Some fs) ↔ SpellsFields bytes fs }
+{}
+
+/// A stream holds a report exactly where it spells fields that mean this report. Any other is refused by
+/// `DataError`.
+pub fn report_is_what_its_fields_mean()
+    ensures { (bytes : List ℕ) → MatchResult (stability_report bytes)
+        (λ r. (fs : List Field) × SpellsFields bytes fs × (report fs ≡ Some r))
+        (λ e. (e ≡ DataError) × ((fs : List Field) → SpellsFields bytes fs → report fs ≡ None)) }
+{}
+
+/// The report depends on the bytes of its stream alone.
+pub fn report_depends_on_its_stream_alone()
+    ensures { (bytes all other : List ℕ) (order another : Endian) (s t : Option System)
+        → ⟦<StabilityReport as MinidumpStream<'static>>⟧.meaning bytes all order s
+        ≡ ⟦<StabilityReport as MinidumpStream<'static>>⟧.meaning bytes other another t }
+{}

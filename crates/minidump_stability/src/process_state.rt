@@ -5,10 +5,10 @@ pub mod memory_state;
 ghost use Rattle.std.proofs.Common.{rules};
 
 use crate::message::{Message, nested};
-use minidump_bytes::{Exact, Steps, WireField};
-use minidump_format::Error;
 use file_system_state::{PosixFileSystemState, WindowsFileSystemState};
 use memory_state::WindowsMemory;
+use minidump_bytes::{Exact, Steps, WireField};
+use minidump_format::Error;
 use std::alloc::Global;
 
 /// The memory of a process.
@@ -86,8 +86,18 @@ impl Message for FileSystemState {
     fn put(self, alloc: Global, field: WireField<'_>, steps: &mut Steps) -> Result<Self, Error> {
         let mut new = self;
         match field.number {
-            1 => new.posix_file_system_state = nested(alloc, new.posix_file_system_state, field.value, steps)?,
-            2 => new.windows_file_system_state = nested(alloc, new.windows_file_system_state, field.value, steps)?,
+            1 => new.posix_file_system_state = nested(
+                alloc,
+                new.posix_file_system_state,
+                field.value,
+                steps,
+            )?,
+            2 => new.windows_file_system_state = nested(
+                alloc,
+                new.windows_file_system_state,
+                field.value,
+                steps,
+            )?,
             _ => {}
         }
         Ok(new)

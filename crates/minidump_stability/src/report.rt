@@ -1,4 +1,4 @@
-ghost use Rattle.std.specs.Prelude.{◌≡◌};
+ghost use Rattle.std.specs.Prelude.{◌≡◌, IfOk, IsOkUnless};
 ghost use Rattle.std.proofs.Common.{rules};
 ghost use Rattle.minidump_format.specs.declared.format.stream_type.MINIDUMP_STREAM_TYPE.TheVariants.{StabilityReportStream};
 ghost use Rattle.minidump_format.specs.StreamType.{number_of};
@@ -97,7 +97,7 @@ impl Exact for SystemMemoryState {
 }
 
 /// Chromium's report of what a browser and its system were like when it crashed.
-#[derive(Drop)]
+#[derive(PartialEq, Eq, Drop)]
 pub struct StabilityReport {
     /// The processes.
     pub process_states: Vec<ProcessState>,
@@ -114,6 +114,19 @@ impl StabilityReport {
             process_states: Vec::new(alloc),
             system_memory_state: None,
         }
+    }
+
+    /// The same report.
+    pub fn try_clone(&self, alloc: Global) -> Result<StabilityReport, Error>
+        ensures report { IfOk result (λ copy. report_of copy ≡ report_of self.now) }
+        ensures memory { IsOkUnless result Error.OutOfMemory }
+    {
+        let mut process_states = Vec::new(alloc);
+        process_states.extend_from_slice(&self.process_states)?;
+        Ok(StabilityReport {
+            process_states,
+            system_memory_state: self.system_memory_state,
+        })
     }
 }
 
@@ -145,8 +158,12 @@ impl Message for StabilityReport {
                 new.process_states.push(state)?;
             }
             7 => {
-                new.system_memory_state =
-                    nested(alloc, new.system_memory_state, field.value, steps)?;
+                new.system_memory_state = nested(
+                    alloc,
+                    new.system_memory_state,
+                    field.value,
+                    steps,
+                )?;
             }
             _ => {}
         }
