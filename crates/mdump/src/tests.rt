@@ -1,8 +1,10 @@
 use crate::address::hex_address;
 use crate::memory::region_line;
 use crate::run;
+use crate::start::arguments;
 use minidump::{Endian, Told};
 use minidump_synth::SynthMinidump;
+use std::env::{Env, FillError};
 use std::io::{ErrorKind, Write};
 use std::process::Abort;
 use std::rt::Files;
@@ -306,5 +308,48 @@ fn reports_a_full_output(rt: HostRuntime) -> Result<(), Fail> {
     let mut out = Told::new(Vec::new(alloc));
     assert_eq!(rt; run(&rt, &words[..1], &mut out, &mut Told::new(Full)), 2);
     fs::remove_file(&rt, path)?;
+    Ok(())
+}
+
+const ARGUMENTS: [&str; 5] = ["mdump", "at", "regions.dmp", "0x1008", ""];
+
+// A process with so many of these arguments.
+#[derive(Drop)]
+struct Process {
+    count: usize,
+}
+
+impl Env for Process {
+    fn arg(&self, i: usize, buf: &mut [u8]) -> Result<usize, FillError> {
+        if i >= self.count || i >= ARGUMENTS.len() {
+            return Err(FillError::NotPresent);
+        }
+        let bytes = ARGUMENTS[i].as_bytes();
+        if bytes.len() > buf.len() {
+            return Err(FillError::TooLong);
+        }
+        buf[..bytes.len()].copy_from_slice(bytes);
+        Ok(bytes.len())
+    }
+
+    fn var(&self, _name: &str, _buf: &mut [u8]) -> Result<usize, FillError> {
+        Err(FillError::NotPresent)
+    }
+
+    fn var_at(&self, _i: usize, _buf: &mut [u8]) -> Result<usize, FillError> {
+        Err(FillError::NotPresent)
+    }
+}
+
+#[test]
+fn takes_all_arguments(rt: HostRuntime) -> Result<(), Fail> {
+    let alloc = rt.alloc();
+    for count in [0, 1, 5] {
+        let taken = arguments(&(Process { count }, alloc))?;
+        assert_eq!(rt; taken.len(), count);
+        for (word, want) in taken.iter().zip(&ARGUMENTS) {
+            assert_eq!(rt; word.as_str(), *want);
+        }
+    }
     Ok(())
 }

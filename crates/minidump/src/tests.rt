@@ -1,3 +1,4 @@
+mod file;
 mod memory;
 mod streams;
 
