@@ -1,7 +1,7 @@
 ghost use Rattle.std.specs.Prelude.{◌≡◌, ◌↔◌, ℕ};
 ghost use Rattle.mdump.specs.Address.{SpellsAddress, WritesHex};
 
-// The address that the word spells.
+// Returns the address that a word spells, if it spells one.
 pub(crate) fn hex_address(word: &str) -> Option<u64>
     ensures { (n : ℕ) → (result ≡ Some n) ↔ SpellsAddress word.now n }
 {
@@ -11,7 +11,7 @@ pub(crate) fn hex_address(word: &str) -> Option<u64>
     }
 }
 
-// The number that 1 to 16 hexadecimal digits write.
+// Returns the number of 1 to 16 hexadecimal digits.
 fn hex_digits(digits: &str) -> Option<u64>
     ensures { (n : ℕ) → (result ≡ Some n) ↔ WritesHex digits.now n }
 {

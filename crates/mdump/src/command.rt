@@ -3,17 +3,17 @@ ghost use Rattle.mdump.specs.Command.{IsCommand, IsCommandOf};
 
 use crate::address::hex_address;
 
-/// What the program is asked to do.
+/// A command of the program.
 #[derive(Clone, Copy)]
 pub(crate) enum Command<'w> {
-    /// To write the header and the directory of the file with this path.
+    /// Write the header and the directory of the file with this path.
     Dir(&'w str),
-    /// To write what lies at this address in the file with this path.
+    /// Write the region of memory that contains this address in the file with this path.
     At(&'w str, u64),
 }
 
 impl<'w> Command<'w> {
-    // The command that the words mean, or `None` where they mean none.
+    // Parses the words, or returns `None` if they are no command.
     pub(crate) fn parse(words: &'w [String]) -> Option<Command<'w>>
         ensures some { IfSome result (IsCommandOf (map string_bytes words.now)) }
         ensures none { IfNone result (¬ (IsCommand (map string_bytes words.now))) }

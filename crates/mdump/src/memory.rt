@@ -11,7 +11,7 @@ use minidump_format::put_made;
 use std::alloc::{AllocError, Global};
 use std::io::Write;
 
-// Writes the line of the region of memory in which the address lies.
+// Writes the line of the region of memory that contains the address.
 pub(crate) fn memory_line<O: Write>(
     dump: &Minidump<'_>,
     alloc: Global,
@@ -26,7 +26,7 @@ pub(crate) fn memory_line<O: Write>(
     put_made(out, made_memory_line(alloc, found))
 }
 
-// The region of the dump's memory in which the address lies.
+// Finds the region of memory that contains the address.
 fn memory_at<'s, 'a>(
     memory: Option<&'s UnifiedMemoryList<'a>>,
     address: u64,
@@ -36,7 +36,7 @@ fn memory_at<'s, 'a>(
     memory?.memory_at_address(address)
 }
 
-// The line of a region of memory, or that there is none.
+// Makes the line of a region of memory, or the line that there is none.
 fn made_memory_line(
     alloc: Global,
     found: Option<UnifiedMemory<'_, '_>>,
@@ -49,7 +49,7 @@ fn made_memory_line(
     }
 }
 
-// The line of a region of memory, by its first address and its size.
+// Makes the line of a region of memory, by its base address and its size.
 pub(crate) fn region_line(alloc: Global, base: u64, size: u64) -> Result<String, AllocError>
     ensures { IfOk result (λ t. string_bytes t ≡ region_line base size) }
 {

@@ -13,16 +13,16 @@ use std::rt::Files;
 
 const USAGE: &str = "usage: mdump dir FILE | at FILE HEXADDRESS | report FILE\n";
 
-/// Runs the program with its words, those after its own name, and answers its status.
+/// Runs the program with its arguments, without its own name, and returns the status.
 ///
-/// - No words: the usage goes to `out`, and the status is 0.
-/// - `dir FILE`: the header and the directory of the file go to `out`, and the status is 0.
-/// - `at FILE HEXADDRESS`: the region of memory in which the address lies goes to `out` as a line, and
-///   the status is 0. The address is 1 to 16 hexadecimal digits, alone or behind `0x`.
-/// - A refusal: its name goes to `err`, and the status is 1. A failure of `out` is one, `IoError`.
-/// - Other words: the usage goes to `err`, and the status is 2. No file is opened.
+/// - No arguments: writes the usage to `out`. The status is 0.
+/// - `dir FILE`: writes the header and the directory of the file to `out`. The status is 0.
+/// - `at FILE HEXADDRESS`: writes the region of memory that contains the address to `out`, as a line. The
+///   address is 1 to 16 hexadecimal digits, alone or behind `0x`. The status is 0.
+/// - An error: writes its name to `err`. The status is 1. A failure of `out` is the error `IoError`.
+/// - Other arguments: writes the usage to `err`. The status is 2. No file is opened.
 ///
-/// A failure of `err` changes no status.
+/// A failure of `err` does not change the status.
 pub fn run<R: Files + AllocGlobal, O: Write, E: Write>(
     rt: &R,
     words: &[String],
@@ -40,7 +40,7 @@ pub fn run<R: Files + AllocGlobal, O: Write, E: Write>(
     }
 }
 
-// What came of the command of the words, or `None` where they are no command.
+// Obeys the words, or returns `None` if they are no command.
 fn answered<R: Files + AllocGlobal, O: Write>(
     rt: &R,
     words: &[String],
@@ -99,7 +99,7 @@ fn at<R: Files + AllocGlobal, O: Write>(
     memory_line(&dump, alloc, address, out)
 }
 
-/// The status of a refusal, whose name goes to `err`.
+/// Writes the name of an error to `err`, and returns the status.
 pub(crate) fn refused<E: Write>(error: Error, err: &mut Told<E>) -> u8
     ensures status { result ≡ 1 }
     ensures named { IsTold E.contents err.old err.new (refusal_line error) }
@@ -118,7 +118,7 @@ fn put_name<E: Write>(error: Error, err: &mut Told<E>) -> Result<(), Error>
     }
 }
 
-/// The status of words that are no command. The usage goes to `err`.
+/// Writes the usage to `err`, and returns the status of arguments that are no command.
 pub(crate) fn bad_arguments<E: Write>(err: &mut Told<E>) -> u8
     ensures status { result ≡ 2 }
     ensures told { IsTold E.contents err.old err.new usage }

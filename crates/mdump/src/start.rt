@@ -11,7 +11,7 @@ use std::process::ExitCode;
 use std::rt::Files;
 use std::{env, io};
 
-/// Runs the program with the arguments of its process, of which the first is its own name.
+/// Runs the program with the arguments of its process. The first is its own name.
 pub(crate) fn started<R: Files + AllocGlobal, O: Write, E: Write>(
     rt: &R,
     args: io::Result<Vec<String>>,
@@ -28,13 +28,13 @@ pub(crate) fn started<R: Files + AllocGlobal, O: Write, E: Write>(
     let status = match args {
         Ok(args) => run(rt, words(args.as_slice()), out, err),
         Err(error) if error.kind() == ErrorKind::OutOfMemory => refused(Error::OutOfMemory, err),
-        // A word that is no text is part of no command.
+        // An argument that is not UTF-8 is part of no command.
         Err(_) => bad_arguments(err),
     };
     ExitCode::from(status)
 }
 
-// The words behind the program's own name.
+// Returns the arguments without the program's own name.
 fn words(args: &[String]) -> &[String]
     ensures { result.now ≡ drop 1 args.now }
 {
@@ -44,7 +44,7 @@ fn words(args: &[String]) -> &[String]
     }
 }
 
-/// The arguments of the process, its own name among them.
+/// Returns the arguments of the process, its own name included.
 pub(crate) fn arguments<R: Env + AllocGlobal>(rt: &R) -> io::Result<Vec<String>> {
     Ok(env::args(rt)?.collect(rt.alloc())?)
 }

@@ -3,7 +3,7 @@ ghost use Rattle.minidump.specs.Answer.{accepted_of};
 
 use minidump_format::Error;
 
-// What was accepted. A refusal leaves it absent, but for want of memory.
+// Turns every error except `OutOfMemory` into `None`.
 pub(crate) fn accepted<T>(answer: Result<T, Error>) -> Result<Option<T>, Error>
     ensures value { result ≡ accepted_of answer }
     ensures memory { IfErr result (λ e. e ≡ Error.OutOfMemory) }

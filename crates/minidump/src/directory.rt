@@ -9,15 +9,15 @@ use minidump_format::format::{MINIDUMP_DIRECTORY, MINIDUMP_HEADER};
 use std::alloc::Global;
 use std::collections::BTreeMap;
 
-/// The entry that decides a type of stream, which is the last of that type.
+/// The entry that decides a type of stream: the last of that type.
 #[derive(Clone, Copy)]
 pub(crate) struct DecidingEntry {
-    /// Its index in the directory.
+    /// The index of the entry in the directory.
     pub(crate) index: u32,
     pub(crate) entry: MINIDUMP_DIRECTORY,
 }
 
-// The deciding entries by type. Memory is taken for these alone, one at a time.
+// Reads the directory, and returns the deciding entries by type.
 pub(crate) fn read_directory(
     alloc: Global,
     source: Source<'_>,

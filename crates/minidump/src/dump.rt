@@ -18,7 +18,8 @@ use std::alloc::Global;
 use std::collections::BTreeMap;
 use std::collections::btree_map::Values;
 
-/// A minidump: its header and its directory. Its streams are read when they are asked for.
+/// A minidump: its header, its directory and its system information. Other streams are read when they are
+/// asked for.
 #[derive(Drop)]
 pub struct Minidump<'a> {
     /// The header.
@@ -27,7 +28,7 @@ pub struct Minidump<'a> {
     pub endian: Endian,
     pub(crate) source: Source<'a>,
     pub(crate) entries: BTreeMap<u32, DecidingEntry>,
-    // as its stream says, where that is one
+    // set exactly where the SystemInfo stream parses
     pub(crate) system_info: Option<MinidumpSystemInfo>,
     ghost decides: { Decides entries (directory endian header (bytes_of source)) },
     ghost knows: { option_map system_of system_info
@@ -43,16 +44,20 @@ impl<'a> Minidump<'a> {
     ghost use Rattle.minidump.specs.Streams.{as_unknown, as_unimplemented, entries_of, streams_left, unknown_left, unimplemented_left};
     ghost use Rattle.std.specs.List.{filter_map};
 
-    /// Accepts the header and the directory of a file, or refuses it by `MissingHeader`,
-    /// `HeaderMismatch`, `VersionMismatch` or `MissingDirectory`. Of the rest of the file the system
-    /// information alone is read. Memory is taken for it and for the deciding entry of each type.
+    /// Reads the header, the directory and the system information of a minidump.
+    ///
+    /// Returns the first of these errors that holds: `MissingHeader` if there are fewer than 32 bytes,
+    /// `HeaderMismatch` if they don't begin with the signature in either byte order, `VersionMismatch` if
+    /// the low 16 bits of the version are not those of a minidump, `MissingDirectory` if an entry is not
+    /// in the file. Returns `OutOfMemory` only if the header is accepted and counts at least one entry. A
+    /// missing or malformed SystemInfo stream is no error.
     pub fn read(alloc: Global, bytes: &'a [u8]) -> Result<Minidump<'a>, Error>
         ensures { Gives dump_of (HasEntries bytes.now) result (dump_in bytes.now) }
     {
         Minidump::read_counted(alloc, bytes, &mut Steps::new())
     }
 
-    /// The same, and counts its reads: at most eight more than the file has bytes.
+    /// Reads as [`Minidump::read`] does, and counts the reads: at most `n + 8` for `n` bytes.
     pub fn read_counted(
         alloc: Global,
         bytes: &'a [u8],
@@ -76,7 +81,8 @@ impl<'a> Minidump<'a> {
         })
     }
 
-    /// The entries that decide a type of stream, ascending by type. They take no memory.
+    /// Returns an iterator over the deciding entries of the directory, ascending by type. Of several
+    /// entries of a type the last decides.
     pub fn all_streams(&self) -> Streams<'_>
         ensures { streams_left result ≡ entries_of (streams_of (dump_of self.now)) }
     {
@@ -85,14 +91,14 @@ impl<'a> Minidump<'a> {
         }
     }
 
-    // The same, each with its index.
+    // Returns the deciding entries, each with its index.
     pub(crate) fn deciding_entries(&self) -> Values<'_, u32, DecidingEntry>
         ensures { result ≡ streams_of (dump_of self.now) }
     {
         self.entries.values()
     }
 
-    /// Those of [`Minidump::all_streams`] whose type has no name.
+    /// Returns an iterator over the streams of [`Minidump::all_streams`] whose type has no name.
     pub fn unknown_streams(&self) -> UnknownStreams<'_>
         ensures { unknown_left result ≡ filter_map as_unknown (entries_of (streams_of (dump_of self.now))) }
     {
@@ -101,7 +107,8 @@ impl<'a> Minidump<'a> {
         }
     }
 
-    /// Those of [`Minidump::all_streams`] whose type has a name, but is not read.
+    /// Returns an iterator over the streams of [`Minidump::all_streams`] whose type has a name, but is
+    /// never read.
     pub fn unimplemented_streams(&self) -> UnimplementedStreams<'_>
         ensures { unimplemented_left result
             ≡ filter_map as_unimplemented (entries_of (streams_of (dump_of self.now))) }

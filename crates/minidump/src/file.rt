@@ -10,7 +10,7 @@ use std::fs;
 use std::io::Read;
 use std::rt::Files;
 
-// Empties the vector, and reads into it until the reader answers no bytes. After a refusal it is empty.
+// Empties the vector, and reads into it up to the end. After an error it is empty.
 fn read_all<R: Read>(reader: &mut Told<R>, into: &mut Vec<u8>) -> Result<(), Error>
     ensures all { OnOk result (IsWhole R.remaining (device_of reader.old) into.new.items) }
     ensures alive { OnOk result (has_failed reader.new ≡ false) }
@@ -59,11 +59,11 @@ fn read_opened<F: Read + Drop>(file: F, into: &mut Vec<u8>) -> Result<(), Error>
 impl<'a> Minidump<'a> {
     ghost use Rattle.minidump.specs.File.{ReadsPath};
 
-    /// Reads a file into the vector, whose bytes it replaces, and accepts it as [`Minidump::read`] does.
+    /// Reads a file into `into`, whose bytes it replaces, and then as [`Minidump::read`] does.
     ///
-    /// `FileNotFound` where the file can't be opened: the vector stays as it was. `IoError` where a read
-    /// of it fails: the vector is empty, as it is where it can't grow enough. After every other answer
-    /// it holds the bytes of the file.
+    /// Returns `FileNotFound` if the file can't be opened, which leaves `into` as it was, and `IoError`
+    /// if a read fails, which leaves `into` empty, as does `OutOfMemory` while the file is read. After
+    /// every other result `into` holds the bytes of the file.
     pub fn read_path<R: Files>(
         rt: &R,
         alloc: Global,

@@ -8,7 +8,7 @@ use minidump_bytes::{Endian, Source, Steps};
 use minidump_format::Error;
 use minidump_format::format::{MINIDUMP_HEADER, MINIDUMP_SIGNATURE, MINIDUMP_VERSION};
 
-// The header, and the byte order in which it has the signature.
+// Reads the header, and finds the byte order in which it has the signature.
 pub(crate) fn read_header(
     source: Source<'_>,
     steps: &mut Steps,

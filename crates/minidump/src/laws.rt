@@ -21,14 +21,14 @@ use minidump_memory::{MinidumpMemory64List, MinidumpMemoryList};
 pub use minidump_system::laws::misc_info_depends_on_its_stream_alone;
 use minidump_system::{MinidumpMiscInfo, MinidumpStream, MinidumpSystemInfo};
 
-/// Of the entries with one type the last decides: its index is how many stand before it.
+/// Of the entries with one type the last decides. Its index is the number of entries before it.
 pub fn last_entry_decides()
     ensures { (es later : List MINIDUMP_DIRECTORY) (e : MINIDUMP_DIRECTORY)
         → All (λ x. x.stream_type ≢ e.stream_type) later
         → deciding e.stream_type (es ++ (e ∷ later)) ≡ Some (record { index = length es; entry = e }) }
 {}
 
-/// It decides the bytes of the stream.
+/// The last entry of a type decides the bytes of the stream.
 pub fn last_entry_decides_the_bytes()
     ensures { (d : Dump) (es later : List MINIDUMP_DIRECTORY) (e : MINIDUMP_DIRECTORY)
         → directory d.order d.header d.file ≡ es ++ (e ∷ later)
@@ -36,12 +36,12 @@ pub fn last_entry_decides_the_bytes()
         → raw_stream e.stream_type d ≡ spanned (span e.location.rva (e.location.rva + e.location.data_size) d.file) }
 {}
 
-/// The listed streams ascend by type, so that each type is listed once at most.
+/// The listed streams ascend by type, so that each type is listed at most once.
 pub fn listed_streams_ascend()
     ensures { (d : Dump) → IsStrictlyIncreasing (map (λ s. s.entry.stream_type) (streams_of d)) }
 {}
 
-/// Exactly the deciding entries are listed.
+/// The listed streams are exactly the deciding entries.
 pub fn listed_streams_decide()
     ensures each { (d : Dump)
         → All (λ s. deciding s.entry.stream_type (directory d.order d.header d.file) ≡ Some s) (streams_of d) }
@@ -49,7 +49,7 @@ pub fn listed_streams_decide()
         → deciding stream_type (directory d.order d.header d.file) ≡ Some s → Contains (streams_of d) s }
 {}
 
-/// Each type of stream that is read: its number, what its bytes mean, and at most n + 7 reads.
+/// Each type of stream that is read has this number and this meaning, and takes at most `n + 7` reads.
 pub fn streams_are_read_as_promised()
     ensures system_info { let T = ⟦<MinidumpSystemInfo as MinidumpStream<'static>>⟧
         in IsSystemInfo T.type_number T.meaning T.limit }
@@ -61,7 +61,7 @@ pub fn streams_are_read_as_promised()
         in IsMemory64List T.type_number T.meaning T.limit }
 {}
 
-/// A clone of a deciding entry is the same entry.
+/// Clones of a deciding entry are equal values.
 pub fn clones_are_the_same()
     ensures { (entry other : DecidingEntry) → ⟦<DecidingEntry as Clone>⟧.is_clone entry other → other ≡ entry }
 {}

@@ -66,7 +66,7 @@ pub use streams::{
     UnimplementedStreams, UnknownStreams,
 };
 
-/// What names an operating system and a processor.
+/// The names of operating systems and processors.
 pub mod system_info {
     pub use minidump_system::{Cpu, Os, PointerWidth};
 }

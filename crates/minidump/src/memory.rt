@@ -12,9 +12,9 @@ use minidump_memory::{MinidumpMemory64List, MinidumpMemoryList, UnifiedMemoryLis
 use std::alloc::Global;
 
 impl<'a> Minidump<'a> {
-    /// The memory that the dump holds: its [`MinidumpMemory64List`], else, where that is missing or
-    /// refused, its [`MinidumpMemoryList`], else none. The only refusal is [`Error::OutOfMemory`], which is
-    /// no reason to go on to the other list.
+    /// Returns the memory of the dump: its [`MinidumpMemory64List`], or, if that is missing or malformed,
+    /// its [`MinidumpMemoryList`], or `None` if neither can be read. The only error is
+    /// [`Error::OutOfMemory`], after which the other list is not tried.
     pub fn get_memory(&self, alloc: Global) -> Result<Option<UnifiedMemoryList<'a>>, Error>
         ensures { Gives (option_map unified_list) (TakesMemory (dump_of self.now)) result
             (Ok (memories_of_dump (dump_of self.now))) }

@@ -14,8 +14,8 @@ use std::alloc::{AllocError, Global};
 use std::io::Write;
 
 impl<'a> Minidump<'a> {
-    /// Prints the header and the directory: the deciding entries of [`Minidump::all_streams`], each with
-    /// its index in the directory, and a line for each of their streams.
+    /// Prints the header and the directory: the entries of [`Minidump::all_streams`], each with its index
+    /// in the directory, and a line for each of their streams.
     #[tactic(auto, using(minidump_format::proofs::Printing::prints_then, minidump_format::proofs::Printing::prints_exit))]
     pub fn print<W: Write>(&self, alloc: Global, f: &mut Told<W>) -> Result<(), Error>
         ensures { Prints W.contents f.old f.new (dump_text (dump_of self.now)) result }
@@ -160,7 +160,7 @@ fn made_stream(alloc: Global, deciding: &DecidingEntry) -> Result<String, AllocE
     )
 }
 
-// The name of a type of stream.
+// Returns the name of a type of stream.
 #[tactic(auto, unfolding(crate::specs::Text::shown_type))]
 fn type_name(stream_type: u32) -> &'static str
     ensures { result.now ≡ shown_type stream_type }

@@ -11,16 +11,16 @@ use minidump_system::MinidumpStream;
 use std::alloc::Global;
 
 impl<'a> Minidump<'a> {
-    /// The bytes of the stream of a type, as they lie in the file, by the deciding entry of the type.
-    /// `StreamNotFound` where the directory has none, `StreamReadFailure` where its span is not in the
-    /// file.
+    /// Returns the bytes of the stream with the type `stream_type`, as they lie in the file. Returns
+    /// `StreamNotFound` if the directory has no entry of the type, `StreamReadFailure` if the last such
+    /// entry has a location that is not in the file. Takes no memory.
     pub fn get_raw_stream(&self, stream_type: u32) -> Result<&'a [u8], Error>
         ensures { Gives (λ b. b.now) ⊥ result (raw_stream stream_type (dump_of self.now)) }
     {
         self.raw_stream(stream_type, &mut Steps::new())
     }
 
-    // The same, counted.
+    // Returns the bytes of a stream, and counts the read.
     fn raw_stream(&self, stream_type: u32, steps: &mut Steps) -> Result<&'a [u8], Error>
         ensures means { Gives (λ b. b.now) ⊥ result (raw_stream stream_type (dump_of self.now)) }
         ensures within { steps.new ≤ steps.old + 1 }
@@ -36,9 +36,9 @@ impl<'a> Minidump<'a> {
             .ok_or(Error::StreamReadFailure)
     }
 
-    /// The stream of a type, read from its bytes: `StreamNotFound` and `StreamReadFailure` as in
-    /// [`Minidump::get_raw_stream`], else what the type answers. It is handed the dump's system
-    /// information.
+    /// Reads the stream of the type `S`, and hands it the dump's system information. Returns
+    /// `StreamNotFound` and `StreamReadFailure` as [`Minidump::get_raw_stream`] does, else the errors of
+    /// the type.
     pub fn get_stream<S: MinidumpStream<'a>>(&self, alloc: Global) -> Result<S, Error>
         ensures { Gives S.view (IsOkAnd (raw_stream S.type_number (dump_of self.now)) (λ b. S.takes_memory b (dump_of self.now).order)) result
             (stream S.type_number S.meaning (dump_of self.now)) }
@@ -46,7 +46,8 @@ impl<'a> Minidump<'a> {
         self.get_stream_counted(alloc, &mut Steps::new())
     }
 
-    /// The same, and counts its reads: at most one more than a read of the type takes.
+    /// Reads as [`Minidump::get_stream`] does, and counts the reads: at most one more than the type
+    /// takes.
     pub fn get_stream_counted<S: MinidumpStream<'a>>(
         &self,
         alloc: Global,

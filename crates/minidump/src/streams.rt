@@ -10,38 +10,38 @@ use minidump_format::format::{
 use minidump_format::stream_vendor;
 use std::collections::btree_map::Values;
 
-/// A stream of a type that this crate reads.
+/// A stream whose type this crate reads.
 #[derive(Drop)]
 pub struct MinidumpImplementedStream {
     pub stream_type: MINIDUMP_STREAM_TYPE,
-    /// Where its bytes are.
+    /// The location of its bytes.
     pub location: MINIDUMP_LOCATION_DESCRIPTOR,
-    /// Whose the type is.
+    /// The vendor of the type.
     pub vendor: &'static str,
 }
 
-/// A stream of a type that has no name.
+/// A stream whose type has no name.
 #[derive(Clone, Debug, Drop)]
 pub struct MinidumpUnknownStream {
     /// The type, as a number.
     pub stream_type: u32,
-    /// Where its bytes are.
+    /// The location of its bytes.
     pub location: MINIDUMP_LOCATION_DESCRIPTOR,
-    /// Whose the type is.
+    /// The vendor of the type.
     pub vendor: &'static str,
 }
 
-/// A stream of a type that has a name, but is not read by this crate.
+/// A stream whose type has a name, but is never read.
 #[derive(Clone, Debug, Drop)]
 pub struct MinidumpUnimplementedStream {
     pub stream_type: MINIDUMP_STREAM_TYPE,
-    /// Where its bytes are.
+    /// The location of its bytes.
     pub location: MINIDUMP_LOCATION_DESCRIPTOR,
-    /// Whose the type is.
+    /// The vendor of the type.
     pub vendor: &'static str,
 }
 
-/// The entries of a directory that decide a type of stream, ascending by type.
+/// An iterator over the deciding entries of a directory, ascending by type.
 #[derive(Drop)]
 pub struct Streams<'a> {
     pub(crate) entries: Values<'a, u32, DecidingEntry>,
@@ -60,7 +60,7 @@ impl<'a> Iterator for Streams<'a> {
     }
 }
 
-/// The streams of types that have no name, ascending by type.
+/// An iterator over the streams whose type has no name, ascending by type.
 #[derive(Drop)]
 pub struct UnknownStreams<'a> {
     pub(crate) streams: Streams<'a>,
@@ -83,7 +83,7 @@ impl<'a> Iterator for UnknownStreams<'a> {
     }
 }
 
-// The stream of an entry, where its type has no name.
+// Returns the stream of an entry, if its type has no name.
 fn unknown_stream(entry: &MINIDUMP_DIRECTORY) -> Option<MinidumpUnknownStream>
     ensures { option_map unknown_view result ≡ as_unknown entry.now }
 {
@@ -97,7 +97,7 @@ fn unknown_stream(entry: &MINIDUMP_DIRECTORY) -> Option<MinidumpUnknownStream>
     }
 }
 
-/// The streams of types that have a name, but are not read, ascending by type.
+/// An iterator over the streams whose type has a name, but is never read, ascending by type.
 #[derive(Drop)]
 pub struct UnimplementedStreams<'a> {
     pub(crate) streams: Streams<'a>,
@@ -120,7 +120,7 @@ impl<'a> Iterator for UnimplementedStreams<'a> {
     }
 }
 
-// The stream of an entry, where its type has a name and is not read.
+// Returns the stream of an entry, if its type has a name, but is never read.
 fn unimplemented_stream(entry: &MINIDUMP_DIRECTORY) -> Option<MinidumpUnimplementedStream>
     ensures { option_map unimplemented_view result ≡ as_unimplemented entry.now }
 {

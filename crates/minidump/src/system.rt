@@ -16,7 +16,8 @@ use minidump_system::{MinidumpStream, MinidumpSystemInfo};
 use std::alloc::Global;
 use std::collections::BTreeMap;
 
-// The system information, where its stream is one. A refusal other than want of memory leaves it absent.
+// Reads the system information. It is absent if its stream is missing or malformed; the only error is
+// `OutOfMemory`.
 pub(crate) fn read_system_info(
     alloc: Global,
     source: Source<'_>,

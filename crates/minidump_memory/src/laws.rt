@@ -13,14 +13,14 @@ use crate::{
 use minidump_format::format::{MINIDUMP_MEMORY_DESCRIPTOR, MINIDUMP_MEMORY_DESCRIPTOR64};
 use minidump_index::Range;
 
-/// The laws of the regions of each list of memory.
+/// The laws of each list of memory: how lookups, the order by address and the regions fit together.
 #[tactic(auto, using(minidump_index::proofs::RegionLaws::region_laws))]
 pub fn region_laws<D>()
     ensures plain { (list : MinidumpMemoryListBase D) → HasRegionLaws memory_range (regions_of list) }
     ensures unified { (list : UnifiedMemoryList) → HasRegionLaws region_range (unified_regions (unified_list list)) }
 {}
 
-/// What the unified list finds, and its regions by address, are those of the plain list that it holds.
+/// The lookups and the regions by address of a unified list are those of the memory list that it holds.
 pub fn the_unified_list_answers_as_the_list_it_holds()
     ensures found { (list : MinidumpMemoryListBase MINIDUMP_MEMORY_DESCRIPTOR) (address : ℕ)
         (found : Option (MinidumpMemoryBase MINIDUMP_MEMORY_DESCRIPTOR)) (other : Option UnifiedRegion)
@@ -34,7 +34,7 @@ pub fn the_unified_list_answers_as_the_list_it_holds()
         ↔ (other ≡ map (of_kind Memory) (map memory_of given)) }
 {}
 
-/// What the unified list finds, and its regions by address, are those of the 64 list that it holds.
+/// The lookups and the regions by address of a unified list are those of the 64-bit list that it holds.
 pub fn the_unified_list_answers_as_the_64_list_it_holds()
     ensures found { (list : MinidumpMemoryListBase MINIDUMP_MEMORY_DESCRIPTOR64) (address : ℕ)
         (found : Option (MinidumpMemoryBase MINIDUMP_MEMORY_DESCRIPTOR64)) (other : Option UnifiedRegion)
@@ -48,7 +48,7 @@ pub fn the_unified_list_answers_as_the_64_list_it_holds()
         ↔ (other ≡ map (of_kind Memory64) (map memory_of given)) }
 {}
 
-/// A clone of a region is the same region, and a copy of a reference to one refers to the same.
+/// Clones of a region are the same region.
 pub fn clones_are_the_same()
     ensures memory { (region other : MinidumpMemoryBase MINIDUMP_MEMORY_DESCRIPTOR)
         → ⟦<MinidumpMemory<'static> as Clone>⟧.is_clone region other → other ≡ region }

@@ -28,7 +28,8 @@
 //!   `the_unified_list_answers_as_the_64_list_it_holds`. A clone is the same region:
 //!   `laws::clones_are_the_same`.
 //!
-//! What isn't: that a region's bytes are the file's own memory and outlive the list, which tests show.
+//! What isn't: that a forged count reserves no memory (the contracts show that no `OutOfMemory` is returned
+//! for it), and that a region's bytes are the file's own memory and outlive the list, which tests show.
 //! Permissions and prints of memory are not there yet.
 #![tactic(auto)]
 

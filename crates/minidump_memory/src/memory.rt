@@ -9,29 +9,30 @@ use minidump_format::Error;
 use minidump_format::format::{MINIDUMP_MEMORY_DESCRIPTOR, MINIDUMP_MEMORY_DESCRIPTOR64};
 use minidump_index::{Range, Region};
 
-/// A region of memory, and its bytes as they lie in the file.
+/// A region of memory, with its bytes as they lie in the file.
 #[derive(Clone, Drop)]
 pub struct MinidumpMemoryBase<'a, D> {
-    /// The descriptor, as it stands in the stream.
+    /// The descriptor in the stream.
     pub desc: D,
-    /// The first address.
+    /// The address of the first byte.
     pub base_address: u64,
-    /// How many bytes it has.
+    /// The number of bytes.
     pub size: u64,
-    /// Its bytes.
+    /// The bytes.
     pub bytes: &'a [u8],
-    /// Their order.
+    /// The byte order of the dump.
     pub endian: Endian,
 }
 
-/// A region of memory of a [`MINIDUMP_MEMORY_DESCRIPTOR`].
+/// A region of memory by a [`MINIDUMP_MEMORY_DESCRIPTOR`].
 pub type MinidumpMemory<'a> = MinidumpMemoryBase<'a, MINIDUMP_MEMORY_DESCRIPTOR>;
 
-/// A region of memory of a [`MINIDUMP_MEMORY_DESCRIPTOR64`].
+/// A region of memory by a [`MINIDUMP_MEMORY_DESCRIPTOR64`].
 pub type MinidumpMemory64<'a> = MinidumpMemoryBase<'a, MINIDUMP_MEMORY_DESCRIPTOR64>;
 
 impl<'a, D> MinidumpMemoryBase<'a, D> {
-    /// The number at an address, in the byte order of the dump, where the region has all of its bytes.
+    /// Returns the number at address `addr`, in the byte order of the dump, or `None` if the region
+    /// doesn't hold all of its bytes.
     pub fn get_memory_at_address<T: FixedRead>(&self, addr: u64) -> Option<T>
         ensures { result ≡ number_in T.layout (memory_of self.now) addr }
     {
@@ -39,7 +40,7 @@ impl<'a, D> MinidumpMemoryBase<'a, D> {
         Source::new(self.bytes).record(offset, self.endian, &mut Steps::new())
     }
 
-    /// Its addresses, or `None` where it has none.
+    /// Returns the range of addresses, or `None` if the region has no size or its end is 2^64 or more.
     pub fn memory_range(&self) -> Option<Range>
         ensures { result ≡ memory_range self.now }
     {
@@ -56,8 +57,8 @@ impl<'a, D> Region for MinidumpMemoryBase<'a, D> {
 }
 
 impl<'a> MinidumpMemory<'a> {
-    /// The region of a descriptor, with its bytes out of those of the file. `MemoryReadFailure` where it
-    /// has no place or no size, `StreamReadFailure` where its bytes are not in the file.
+    /// Reads the region of a descriptor from the bytes of the file. Returns `MemoryReadFailure` if its
+    /// RVA or its size is 0, `StreamReadFailure` if its bytes are not in the file.
     pub fn read(
         desc: &MINIDUMP_MEMORY_DESCRIPTOR,
         all: &'a [u8],
@@ -68,7 +69,7 @@ impl<'a> MinidumpMemory<'a> {
         MinidumpMemory::read_counted(desc, Source::new(all), endian, &mut Steps::new())
     }
 
-    /// The same, and counts its reads: one where it has a place and a size.
+    /// Reads as [`MinidumpMemory::read`] does, and counts one read unless the RVA or the size is 0.
     pub fn read_counted(
         desc: &MINIDUMP_MEMORY_DESCRIPTOR,
         all: Source<'a>,

@@ -15,8 +15,8 @@ use minidump_system::framing::entries_64;
 use minidump_system::{MinidumpStream, MinidumpSystemInfo};
 use std::alloc::Global;
 
-/// Microsoft's `MINIDUMP_MEMORY64_LIST`: a 64 list of descriptors, whose bytes lie one behind another from
-/// the list's place on. `StreamReadFailure` where some of them are not in the file.
+/// Microsoft's `MINIDUMP_MEMORY64_LIST`: a 64-bit list of descriptors, whose bytes lie one behind another
+/// from the list's RVA on. Returns `StreamReadFailure` if some of them are not in the file.
 impl<'a> MinidumpStream<'a> for MinidumpMemoryListBase<'a, MINIDUMP_MEMORY_DESCRIPTOR64> {
     ghost use Rattle.std.specs.Prelude.{◌+◌, ◌*◌, List, IsOk};
     ghost use Rattle.minidump_format.specs.declared.format.memory.MINIDUMP_MEMORY_DESCRIPTOR64.{MINIDUMP_MEMORY_DESCRIPTOR64};
@@ -64,7 +64,8 @@ impl<'a> MinidumpStream<'a> for MinidumpMemoryListBase<'a, MINIDUMP_MEMORY_DESCR
     }
 }
 
-// The region of a descriptor whose bytes begin at a place, where they are in the file.
+// Reads the region of a descriptor whose bytes begin at offset `place`, or returns `None` if they are not
+// in the file.
 fn region_at<'a>(
     desc: &MINIDUMP_MEMORY_DESCRIPTOR64,
     place: u64,
@@ -87,8 +88,8 @@ fn region_at<'a>(
     })
 }
 
-// The regions of descriptors, whose bytes lie one behind another from a place on. All of them have to be
-// in the file.
+// Reads the regions of descriptors, whose bytes lie one behind another from offset `rva` on. All of them
+// have to be in the file.
 fn read_regions_64<'a>(
     alloc: Global,
     rva: u64,

@@ -21,24 +21,24 @@ use minidump_system::{MinidumpStream, MinidumpSystemInfo};
 use std::alloc::{AllocError, Global};
 use std::slice;
 
-/// Regions of memory, with lookups by address.
+/// A list of regions of memory, with lookups by address.
 ///
-/// Of regions that share addresses one is kept: they are gone through by first address, then by last
-/// address, then by their place in the list, and each is kept that shares no address with one kept before.
-/// A region of no size, or one whose end, `base_address + size`, is 2^64 or more, has no addresses.
+/// Of overlapping regions one is kept: they are taken by first address, then by last address, then by
+/// index, and each is kept that shares no address with one kept before. A region without a size, or whose
+/// end, `base_address + size`, is 2^64 or more, has no addresses and is not kept.
 #[derive(Drop)]
 pub struct MinidumpMemoryListBase<'a, D> {
     regions: RegionList<MinidumpMemoryBase<'a, D>>,
 }
 
-/// The regions of memory of a minidump, each with its bytes anywhere in the file.
+/// The memory list of a minidump. The bytes of a region may lie anywhere in the file.
 pub type MinidumpMemoryList<'a> = MinidumpMemoryListBase<'a, MINIDUMP_MEMORY_DESCRIPTOR>;
 
-/// The regions of memory of a full dump, whose bytes lie one behind another in the file.
+/// The 64-bit memory list of a full dump. The bytes of the regions lie one behind another in the file.
 pub type MinidumpMemory64List<'a> = MinidumpMemoryListBase<'a, MINIDUMP_MEMORY_DESCRIPTOR64>;
 
 impl<'a, D: Drop> MinidumpMemoryListBase<'a, D> {
-    /// The list of no regions. It takes no memory.
+    /// Makes an empty list. Takes no memory.
     pub fn new(alloc: Global) -> MinidumpMemoryListBase<'a, D>
         ensures { regions_of result ≡ [] }
     {
@@ -47,7 +47,7 @@ impl<'a, D: Drop> MinidumpMemoryListBase<'a, D> {
         }
     }
 
-    /// The list of these regions. The only refusal is [`Error::OutOfMemory`], after which they are dropped.
+    /// Makes a list of regions. The only error is [`Error::OutOfMemory`], after which they are dropped.
     pub fn from_regions(
         alloc: Global,
         regions: Vec<MinidumpMemoryBase<'a, D>>,
@@ -60,15 +60,15 @@ impl<'a, D: Drop> MinidumpMemoryListBase<'a, D> {
         })
     }
 
-    /// The kept region that contains the address.
+    /// Returns the kept region that contains `address`, or `None` if no kept region does.
     pub fn memory_at_address(&self, address: u64) -> Option<&MinidumpMemoryBase<'a, D>>
         ensures { IsLookedUp memory_range (regions_of self.now) address (option_copied result) }
     {
         self.memory_at_address_counted(address, &mut Steps::new())
     }
 
-    /// The same, and counts its comparisons: at most as many as the number of kept regions has binary
-    /// digits, and one at least where a region is kept.
+    /// Looks up as `memory_at_address` does, and counts the comparisons: at most as many as the number of
+    /// kept regions has binary digits, and at least one if a region is kept.
     pub fn memory_at_address_counted(
         &self,
         address: u64,
@@ -79,14 +79,14 @@ impl<'a, D: Drop> MinidumpMemoryListBase<'a, D> {
         self.regions.at_address(address, steps)
     }
 
-    /// All regions, in the order of the list.
+    /// Returns an iterator over all regions, in the order of the list.
     pub fn iter(&self) -> slice::Iter<'_, MinidumpMemoryBase<'a, D>>
         ensures { iter_rest result ≡ regions_of self.now }
     {
         self.regions.as_slice().iter()
     }
 
-    /// The kept regions, ascending by address, from both ends.
+    /// Returns an iterator over the kept regions, ascending by address, from both ends.
     pub fn by_addr(&self) -> RegionsByAddress<'_, MinidumpMemoryBase<'a, D>>
         ensures { IsByAddress memory_range (regions_of self.now) result }
     {
@@ -94,8 +94,8 @@ impl<'a, D: Drop> MinidumpMemoryListBase<'a, D> {
     }
 }
 
-/// Microsoft's `MINIDUMP_MEMORY_LIST`: a plain list of descriptors. One whose bytes are not in the file,
-/// or that has no place or no size, is skipped.
+/// Microsoft's `MINIDUMP_MEMORY_LIST`: a plain list of descriptors. One whose RVA or size is 0, or whose
+/// bytes are not in the file, is skipped.
 impl<'a> MinidumpStream<'a> for MinidumpMemoryListBase<'a, MINIDUMP_MEMORY_DESCRIPTOR> {
     ghost use Rattle.std.specs.Prelude.{◌+◌, List, IsOk};
     ghost use Rattle.minidump_format.specs.declared.format.memory.MINIDUMP_MEMORY_DESCRIPTOR.{MINIDUMP_MEMORY_DESCRIPTOR};
@@ -142,7 +142,7 @@ impl<'a> MinidumpStream<'a> for MinidumpMemoryListBase<'a, MINIDUMP_MEMORY_DESCR
     }
 }
 
-// The region of a descriptor, where it has one.
+// Reads the region of a descriptor, or returns `None` if it is skipped.
 fn region_of<'a>(
     desc: &MINIDUMP_MEMORY_DESCRIPTOR,
     all: Source<'a>,
@@ -156,7 +156,7 @@ fn region_of<'a>(
     MinidumpMemory::read_counted(desc, all, endian, steps).ok()
 }
 
-// The regions of descriptors. One that is refused is skipped.
+// Reads the regions of descriptors, but for those that are skipped.
 fn read_regions<'a>(
     alloc: Global,
     descriptors: Entries<'_, MINIDUMP_MEMORY_DESCRIPTOR>,

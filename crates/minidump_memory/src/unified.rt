@@ -13,17 +13,18 @@ use minidump_index::{Range, RegionsByAddress};
 use std::alloc::Global;
 use std::slice;
 
-/// A region of memory of either kind of list.
+/// A region of either kind of list of memory.
 #[derive(Clone, Copy)]
 pub enum UnifiedMemory<'a, 'mdmp> {
-    /// Of a [`MinidumpMemoryList`].
+    /// A region of a [`MinidumpMemoryList`].
     Memory(&'a MinidumpMemory<'mdmp>),
-    /// Of a [`MinidumpMemory64List`].
+    /// A region of a [`MinidumpMemory64List`].
     Memory64(&'a MinidumpMemory64<'mdmp>),
 }
 
 impl<'a, 'mdmp> UnifiedMemory<'a, 'mdmp> {
-    /// The number at an address, in the byte order of the dump, where the region has all of its bytes.
+    /// Returns the number at address `addr`, in the byte order of the dump, or `None` if the region
+    /// doesn't hold all of its bytes.
     pub fn get_memory_at_address<T: FixedRead>(&self, addr: u64) -> Option<T>
         ensures { result ≡ number_in T.layout (unified_region self.now) addr }
     {
@@ -33,7 +34,7 @@ impl<'a, 'mdmp> UnifiedMemory<'a, 'mdmp> {
         }
     }
 
-    /// Its addresses, or `None` where it has none.
+    /// Returns the range of addresses, or `None` if the region has no size or its end is 2^64 or more.
     pub fn memory_range(&self) -> Option<Range>
         ensures { result ≡ region_range (unified_region self.now) }
     {
@@ -43,7 +44,7 @@ impl<'a, 'mdmp> UnifiedMemory<'a, 'mdmp> {
         }
     }
 
-    /// Its bytes, as they lie in the file.
+    /// Returns the bytes, as they lie in the file.
     pub fn bytes(&self) -> &'mdmp [u8]
         ensures { result.now ≡ (unified_region self.now).bytes }
     {
@@ -53,7 +54,7 @@ impl<'a, 'mdmp> UnifiedMemory<'a, 'mdmp> {
         }
     }
 
-    /// Its first address.
+    /// Returns the address of the first byte.
     pub fn base_address(&self) -> u64
         ensures { result ≡ (unified_region self.now).base_address }
     {
@@ -63,7 +64,7 @@ impl<'a, 'mdmp> UnifiedMemory<'a, 'mdmp> {
         }
     }
 
-    /// How many bytes it has.
+    /// Returns the number of bytes.
     pub fn size(&self) -> u64
         ensures { result ≡ (unified_region self.now).size }
     {
@@ -74,32 +75,32 @@ impl<'a, 'mdmp> UnifiedMemory<'a, 'mdmp> {
     }
 }
 
-/// The regions of memory of a minidump, by either kind of list.
+/// A list of memory of either kind.
 #[derive(Drop)]
 pub enum UnifiedMemoryList<'a> {
-    /// The list of a usual dump.
+    /// The memory list.
     Memory(MinidumpMemoryList<'a>),
-    /// The list of a full dump.
+    /// The 64-bit memory list of a full dump.
     Memory64(MinidumpMemory64List<'a>),
 }
 
 impl<'a> UnifiedMemoryList<'a> {
-    /// A [`MinidumpMemoryList`] of no regions. It takes no memory.
+    /// Makes an empty [`MinidumpMemoryList`]. Takes no memory.
     pub fn new(alloc: Global) -> UnifiedMemoryList<'a>
         ensures { unified_list result ≡ Memory [] }
     {
         UnifiedMemoryList::Memory(MinidumpMemoryList::new(alloc))
     }
 
-    /// The kept region that contains the address, by the list that is held.
+    /// Returns the kept region of the list that contains `address`, or `None` if no kept region does.
     pub fn memory_at_address<'s>(&'s self, address: u64) -> Option<UnifiedMemory<'s, 'a>>
         ensures { IsLookedUp region_range (unified_regions (unified_list self.now)) address (option_map unified_region result) }
     {
         self.memory_at_address_counted(address, &mut Steps::new())
     }
 
-    /// The same, and counts its comparisons: at most as many as the number of kept regions has binary
-    /// digits, and one at least where a region is kept.
+    /// Looks up as `memory_at_address` does, and counts the comparisons: at most as many as the number of
+    /// kept regions has binary digits, and at least one if a region is kept.
     pub fn memory_at_address_counted<'s>(
         &'s self,
         address: u64,
@@ -117,7 +118,7 @@ impl<'a> UnifiedMemoryList<'a> {
         }
     }
 
-    /// All regions of the list that is held, in its order.
+    /// Returns an iterator over all regions, in the order of the list.
     pub fn iter(&self) -> UnifiedMemoryIter<'_, 'a>
         ensures { regions_left result ≡ unified_regions (unified_list self.now) }
     {
@@ -129,7 +130,7 @@ impl<'a> UnifiedMemoryList<'a> {
         }
     }
 
-    /// The kept regions of the list that is held, ascending by address, from both ends.
+    /// Returns an iterator over the kept regions, ascending by address, from both ends.
     pub fn by_addr(&self) -> UnifiedMemoryByAddress<'_, 'a>
         ensures { IsByAddress region_range (unified_regions (unified_list self.now)) (regions_by_address result) }
     {
@@ -160,7 +161,7 @@ enum Listed<'a, 'mdmp> {
     Memory64(slice::Iter<'a, MinidumpMemory64<'mdmp>>),
 }
 
-/// All regions of a list of memory, in its order.
+/// An iterator over all regions of a list of memory, in its order.
 #[derive(Drop)]
 pub struct UnifiedMemoryIter<'a, 'mdmp> {
     left: Listed<'a, 'mdmp>,
@@ -199,7 +200,7 @@ enum Kept<'a, 'mdmp> {
     Memory64(RegionsByAddress<'a, MinidumpMemory64<'mdmp>>),
 }
 
-/// The kept regions of a list of memory, ascending by address, from both ends.
+/// An iterator over the kept regions of a list of memory, ascending by address, from both ends.
 #[derive(Drop)]
 pub struct UnifiedMemoryByAddress<'a, 'mdmp> {
     left: Kept<'a, 'mdmp>,

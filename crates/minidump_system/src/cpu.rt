@@ -18,11 +18,11 @@ pub enum Cpu {
     Arm64,
     Mips,
     Mips64,
-    /// The number of the architecture, which is no known one's.
+    /// An unknown architecture, by its number.
     Unknown(u16),
 }
 
-/// How wide an address is.
+/// The width of an address.
 #[derive(Clone, Copy, Debug, PartialEq, Eq)]
 pub enum PointerWidth {
     Bits32,
@@ -31,7 +31,7 @@ pub enum PointerWidth {
 }
 
 impl Cpu {
-    /// The architecture of a number: a [`ProcessorArchitecture`].
+    /// Returns the processor by the number of its architecture, a [`ProcessorArchitecture`].
     pub fn from_processor_architecture(arch: u16) -> Cpu
         ensures { result ≡ cpu_of arch }
     {
@@ -53,7 +53,7 @@ impl Cpu {
         }
     }
 
-    /// How wide an address of the architecture is.
+    /// Returns the width of an address.
     pub fn pointer_width(&self) -> PointerWidth
         ensures { result ≡ width_of self.now }
     {
@@ -66,7 +66,7 @@ impl Cpu {
 }
 
 impl PointerWidth {
-    /// How many bytes an address takes, if that is known.
+    /// Returns the number of bytes of an address, or `None` if it is unknown.
     pub fn size_in_bytes(self) -> Option<u8>
         ensures { result ≡ pointer_bytes self }
     {

@@ -6,8 +6,8 @@ use crate::Cpu;
 use minidump_bytes::{Endian, Piece, push_pieces};
 use std::alloc::{AllocError, Global};
 
-/// The processor in words, where its architecture has any: of the processor's level and revision, and
-/// of the bytes that the system information has for the processor.
+/// Describes the processor by its level, its revision and the CPU bytes of the system information.
+/// Returns `Ok(None)` if the architecture has no description.
 pub(crate) fn made_cpu_info(
     alloc: Global,
     cpu: Cpu,

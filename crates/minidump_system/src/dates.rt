@@ -9,8 +9,8 @@ use minidump_format::Error;
 use minidump_format::format::SYSTEMTIME;
 use std::alloc::{AllocError, Global};
 
-/// The date so many seconds after 1970-01-01T00:00:00Z, as `2064-02-11T00:17:46Z` (RFC 3339). The only
-/// refusal is [`Error::OutOfMemory`].
+/// Writes the date that is `seconds` after 1970-01-01T00:00:00Z as RFC 3339 does, for example
+/// `2064-02-11T00:17:46Z`. The only error is [`Error::OutOfMemory`].
 pub fn date_text(alloc: Global, seconds: u32) -> Result<String, Error>
     ensures civil { IfOk result (λ t. IsDateText seconds (string_bytes t)) }
     ensures counted { IfOk result (λ t. string_bytes t ≡ date_text_of seconds) }
@@ -19,7 +19,7 @@ pub fn date_text(alloc: Global, seconds: u32) -> Result<String, Error>
     Ok(made_date(alloc, seconds)?)
 }
 
-/// The text of [`date_text`].
+/// Makes the text of [`date_text`].
 pub(crate) fn made_date(alloc: Global, seconds: u32) -> Result<String, AllocError>
     ensures civil { IfOk result (λ t. IsDateText seconds (string_bytes t)) }
     ensures counted { IfOk result (λ t. string_bytes t ≡ date_text_of seconds) }
@@ -29,8 +29,8 @@ pub(crate) fn made_date(alloc: Global, seconds: u32) -> Result<String, AllocErro
     format!(in alloc; "{date}Z")
 }
 
-/// The moment as `0000-11-01T02:33:51.123Z`, or `<invalid date>` where the calendar or the clock has no
-/// such moment.
+/// Writes a date and time as `0000-11-01T02:33:51.123Z`, or `<invalid date>` if the calendar or the clock
+/// doesn't have it.
 pub(crate) fn made_system_time(alloc: Global, time: &SYSTEMTIME) -> Result<String, AllocError>
     ensures { IfOk result (λ t. string_bytes t ≡ system_time_text time.now) }
 {

@@ -10,9 +10,11 @@ use minidump_bytes::{Endian, Entries, Record, Source, Steps};
 use minidump_format::Error;
 use minidump_format::format::{MINIDUMP_HANDLE_DESCRIPTOR, MINIDUMP_HANDLE_DESCRIPTOR_2};
 
-/// The entries of a plain list: a count of 32 bits, perhaps four bytes that align what follows, and the
-/// entries to the end. `StreamReadFailure` where there is no count, `StreamSizeMismatch` where the stream
-/// has another length.
+/// Reads a plain list: a 32-bit count, perhaps four bytes that align what follows, then the entries, to
+/// the end.
+///
+/// Returns `StreamReadFailure` if there is no count, `StreamSizeMismatch` if the stream has another
+/// length than the count asks for.
 pub fn plain_entries<'a, R: Record>(
     bytes: Source<'a>,
     endian: Endian,
@@ -40,9 +42,11 @@ pub fn plain_entries<'a, R: Record>(
     Ok(bytes.entries(start, count as u64, endian, steps))
 }
 
-/// The entries of a 64 list, and the place in the file that it names: a count and a place of 64 bits, and
-/// the entries to the end. `StreamReadFailure` where one of the two numbers is missing or the length of
-/// the list is 2^64 or more, `StreamSizeMismatch` where the stream has another length.
+/// Reads a 64-bit list: a 64-bit count, a 64-bit RVA, then the entries, to the end. Returns the RVA and
+/// the entries.
+///
+/// Returns `StreamReadFailure` if one of the two numbers is missing or the length that they ask for is
+/// 2^64 or more, `StreamSizeMismatch` if the stream has another length than that.
 pub fn entries_64<'a, R: Record>(
     bytes: Source<'a>,
     endian: Endian,
@@ -72,10 +76,10 @@ pub fn entries_64<'a, R: Record>(
     Ok((rva, bytes.entries(16, count, endian, steps)))
 }
 
-/// What an extended list and a handle list begin with.
+/// The header of an extended list and of a handle list.
 #[derive(Clone, Copy)]
 struct ListHeader {
-    /// How many bytes there are before the first entry.
+    /// The offset of the first entry.
     size_of_header: u32,
     size_of_entry: u32,
     number_of_entries: u32,
@@ -99,11 +103,12 @@ impl Record for ListHeader {
     ghost fits = { Prim.search rules };
 }
 
-/// The entries of an extended list: the size of its header, the size of an entry and a count, each of 32
-/// bits, and the entries behind the header. More bytes may follow. In this order: `StreamReadFailure`
-/// where one of the numbers is missing or the entries have another size, `StreamSizeMismatch` where the
-/// stream is shorter than header and entries, `StreamReadFailure` where the header is shorter than its
-/// numbers.
+/// Reads an extended list: the size of its header, the size of an entry and a count, each of 32 bits,
+/// then the entries behind the header. More bytes may follow.
+///
+/// Returns, in this order, `StreamReadFailure` if one of the numbers is missing or the entries have
+/// another size, `StreamSizeMismatch` if the stream is shorter than header and entries,
+/// `StreamReadFailure` if the header is shorter than its numbers.
 pub fn extended_entries<'a, R: Record>(
     bytes: Source<'a>,
     endian: Endian,
@@ -134,17 +139,19 @@ pub fn extended_entries<'a, R: Record>(
     Ok(bytes.entries(start as u64, header.number_of_entries as u64, endian, steps))
 }
 
-/// The entries of a handle list, in one of the two sizes that they have.
+/// The entries of a handle list, which have one of two sizes.
 #[derive(Drop)]
 pub enum HandleEntries<'a> {
     Short(Entries<'a, MINIDUMP_HANDLE_DESCRIPTOR>),
     Long(Entries<'a, MINIDUMP_HANDLE_DESCRIPTOR_2>),
 }
 
-/// The entries of a handle list, which begins as an extended list does; its header may be shorter than its
-/// numbers. In this order: `StreamReadFailure` where one of the numbers is missing, `StreamSizeMismatch`
-/// where the stream is shorter than header and entries, `StreamReadFailure` where there are entries, and
-/// their size is neither 32 nor 40. More bytes may follow.
+/// Reads a handle list, which is laid out as an extended list; its header may be shorter than its
+/// numbers. More bytes may follow.
+///
+/// Returns, in this order, `StreamReadFailure` if one of the numbers is missing, `StreamSizeMismatch` if
+/// the stream is shorter than header and entries, `StreamReadFailure` if there are entries of another
+/// size than 32 or 40.
 pub fn handle_entries<'a>(
     bytes: Source<'a>,
     endian: Endian,

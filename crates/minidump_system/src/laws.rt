@@ -7,15 +7,15 @@ ghost use Rattle.minidump_system.specs.declared.misc_info.RawMiscInfo.{RawMiscIn
 
 use crate::{MinidumpMiscInfo, MinidumpStream, RawMiscInfo};
 
-/// The misc information depends on the bytes of its stream and their order alone, and neither on the
-/// rest of the file nor on the system information.
+/// The misc information depends on its stream and the byte order alone, not on the rest of the file or
+/// the system information.
 pub fn misc_info_depends_on_its_stream_alone()
     ensures { (bytes all other : List ℕ) (order : Endian) (s t : Option System)
         → ⟦<MinidumpMiscInfo as MinidumpStream<'static>>⟧.meaning bytes all order s
         ≡ ⟦<MinidumpMiscInfo as MinidumpStream<'static>>⟧.meaning bytes other order t }
 {}
 
-/// A clone of a misc information is the same value.
+/// Clones of a misc information are equal values.
 pub fn misc_info_clones_are_the_same()
     ensures raw { (x y : RawMiscInfo) → ⟦<RawMiscInfo as Clone>⟧.is_clone x y → y ≡ x }
     ensures whole { (x y : MinidumpMiscInfo) → ⟦<MinidumpMiscInfo as Clone>⟧.is_clone x y → y ≡ x }

@@ -17,9 +17,9 @@
 //! - `read` of a stream returns what the type's `meaning` assigns to its bytes, or `OutOfMemory` where
 //!   `takes_memory` holds, and counts at most `limit` and, where it succeeds, at least `least` reads: the
 //!   clauses of `MinidumpStream::read`.
-//! - The entries of each framing, each error with its two numbers and in the format's order, the number of
-//!   reads, and that a list of a wrong length is no reason for `OutOfMemory`: `framing::plain_entries`,
-//!   `entries_64`, `extended_entries`, `handle_entries`.
+//! - The entries of each framing, one by one, each error in the format's order and with its two numbers, and
+//!   the number of reads, without taking memory: `framing::plain_entries`, `entries_64`,
+//!   `extended_entries`, `handle_entries`.
 //! - The system information: the record, what its numbers name, the service pack and the processor in words;
 //!   two reads from its stream: `MinidumpSystemInfo::read_record`, by `system_in`.
 //! - The misc information is the largest layout that the stream holds; it takes no memory: `read`, by
@@ -28,7 +28,7 @@
 //! - Names, widths, versions, builds and dates: `Os`, `Cpu`, `PointerWidth`, `os_parts`, `date_text`. Both
 //!   prints, byte by byte: `print`.
 //!
-//! What isn't: that a forged count reserves no memory. The contracts show that none is answered for.
+//! What isn't: that a `read` counts on the counter that it is handed each read beyond `least`.
 #![tactic(auto)]
 
 mod cpu;

@@ -19,12 +19,12 @@ pub enum Os {
     Android,
     Ps3,
     NaCl,
-    /// The platform number, which is no known system's.
+    /// An unknown operating system, by its platform number.
     Unknown(u32),
 }
 
 impl Os {
-    /// The system of a platform number: a [`PlatformId`].
+    /// Returns the operating system by its platform number, a [`PlatformId`].
     pub fn from_platform_id(id: u32) -> Os
         ensures { result ≡ os_of id }
     {
@@ -43,8 +43,8 @@ impl Os {
         }
     }
 
-    /// The full name, as `Windows NT`. An unknown system has its number in hexadecimal, in at least six
-    /// digits. The only refusal is [`Error::OutOfMemory`].
+    /// Returns the full name, as `Windows NT`. That of an unknown system is its number in hexadecimal,
+    /// with at least six digits. The only error is [`Error::OutOfMemory`].
     pub fn long_name(&self, alloc: Global) -> Result<String, Error>
         ensures name { IfOk result (λ t. string_bytes t ≡ os_long_name self.now) }
         ensures memory { IsOkUnless result Error.OutOfMemory }

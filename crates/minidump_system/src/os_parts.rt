@@ -7,9 +7,9 @@ use std::alloc::{AllocError, Global};
 // The platform of Linux.
 const LINUX: u32 = 0x8201;
 
-/// The version and the build text of an operating system, by the numbers and the csd text (of the
-/// service pack) of the system information. A Linux system that left its numbers at 0 wrote its version
-/// into the text. Refused with `OutOfMemory` alone.
+/// Returns the version and the build of an operating system, by the numbers and the service pack's text
+/// of the system information. A Linux system that left its numbers at 0 has both in the text. The only
+/// error is `OutOfMemory`.
 pub(crate) fn os_parts(
     alloc: Global,
     major: u32,

@@ -12,40 +12,40 @@ use minidump_bytes::{Endian, Source, Steps};
 use minidump_format::Error;
 use std::alloc::Global;
 
-/// A stream of a minidump, which is read when it is asked for.
+/// A type of stream, which `Minidump::get_stream` reads.
 ///
-/// A type of stream says what its bytes mean, by the ghost members of this trait; `read` answers exactly
-/// that. A caller's own type brings its own.
+/// Its ghost members say what the bytes of such a stream mean, how many reads it takes, and where memory
+/// may run out. `read` is proved to do exactly that. Implement it for streams of your own.
 pub trait MinidumpStream<'a>: Sized {
-    // the number of its type in the directory
+    // the number of the type in the directory
     ghost type_number: { ℕ };
 
-    /// The number of its type in the directory.
+    /// The number of the type in the directory.
     const STREAM_TYPE: u32;
 
-    // what a value is, without where it lies in memory, and how it is seen as one
+    // the value without its addresses, and the view of a stream as one
     ghost Value: { Type 0 };
 
     ghost view: { Self → Value };
 
-    // the value or the refusal that the format assigns to a stream's bytes, the bytes of its file, their
-    // byte order and the system information, where there is one
+    // the value or the error that the format assigns to a stream's bytes, the file's bytes, the byte
+    // order and the system information, which may be absent
     ghost meaning: { List ℕ → List ℕ → Endian → Option System → Result Value Error };
 
-    // how many steps a read takes at most, by the larger of the two lengths
+    // the most reads, by the length of the stream or of the file, whichever is larger
     ghost limit: { ℕ → ℕ };
 
-    // how many steps it took at least where it answers a value, by the stream's bytes and their order
+    // the fewest reads of a stream that is read, by its bytes, the byte order and the value
     ghost least: { List ℕ → Endian → Value → ℕ };
 
-    // where a read may run out of memory, by the stream's bytes and their order
+    // where a read may run out of memory, by the stream's bytes and the byte order
     ghost takes_memory: { List ℕ → Endian → Type 0 };
 
-    /// [`MinidumpStream::STREAM_TYPE`], as contracts speak of it.
+    /// Returns [`MinidumpStream::STREAM_TYPE`], for contracts to name.
     fn number_of_type() -> u32
         ensures { result ≡ type_number };
 
-    /// Reads the stream from its bytes and those of its file.
+    /// Reads the stream from its `bytes` and those of the whole file, `all`.
     fn read(
         alloc: Global,
         bytes: Source<'a>,

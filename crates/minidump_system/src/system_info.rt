@@ -16,7 +16,7 @@ use minidump_format::{Error, put_made};
 use std::alloc::{AllocError, Global};
 use std::io::Write;
 
-/// The system that a dump was written on.
+/// The system information: the operating system and the processor that a dump was written on.
 #[derive(Drop)]
 pub struct MinidumpSystemInfo {
     /// The record, as it stands in the stream.
@@ -30,8 +30,8 @@ pub struct MinidumpSystemInfo {
 }
 
 impl MinidumpSystemInfo {
-    /// Reads it from the bytes of its stream and those of its file, in two steps. `StreamReadFailure` where
-    /// the stream is shorter than the record.
+    /// Reads the system information from the bytes of its stream and those of the whole file, in at most
+    /// two reads. Returns `StreamReadFailure` if the stream is shorter than the record.
     pub fn read_record(
         alloc: Global,
         bytes: Source<'_>,
@@ -67,23 +67,25 @@ impl MinidumpSystemInfo {
         })
     }
 
-    /// The text of the service pack, or of the kernel, where the dump has one.
+    /// Returns the text of the service pack, or on Linux of the kernel, or `None` if the dump has none.
     pub fn csd_version(&self) -> Option<&str>
         ensures { option_copied result ≡ (system_of self.now).csd_version }
     {
         self.csd_version.as_ref().map(|text| text.as_str())
     }
 
-    /// What the processor says of itself, where it is known how to read that.
+    /// Returns the description of the processor, or `None` if its architecture has none.
     pub fn cpu_info(&self) -> Option<&str>
         ensures { option_copied result ≡ (system_of self.now).cpu_info }
     {
         self.cpu_info.as_ref().map(|text| text.as_str())
     }
 
-    /// The version and the build of the operating system. The version is the three numbers, joined by
-    /// dots, and the build the trimmed text of the service pack; but a Linux system that left the numbers
-    /// at 0 wrote both into the text, as `uname -srvmo` does.
+    /// Returns the version and the build of the operating system.
+    ///
+    /// The version is the three numbers, joined by dots, and the build the trimmed text of the service
+    /// pack. A Linux system that left the numbers at 0 has both in the text, as `uname -srvmo` writes
+    /// them. The only error is `OutOfMemory`.
     pub fn os_parts(&self, alloc: Global) -> Result<(String, Option<String>), Error>
         ensures means { IfOk result (λ r. (string_bytes r.0, option_map string_bytes r.1)
             ≡ os_parts_of self.now.raw.major_version self.now.raw.minor_version self.now.raw.build_number
@@ -101,14 +103,14 @@ impl MinidumpSystemInfo {
         )
     }
 
-    /// Prints the record, the version and what the processor says of itself.
+    /// Prints the record, the version and the description of the processor.
     pub fn print<W: Write>(&self, alloc: Global, f: &mut Told<W>) -> Result<(), Error>
         ensures { Prints W.contents f.old f.new (system_info_text (system_of self.now)) result }
     {
         put_made(f, made_text(alloc, self))
     }
 
-    /// The same value.
+    /// Copies the system information. The only error is `OutOfMemory`.
     pub fn try_clone(&self, alloc: Global) -> Result<MinidumpSystemInfo, Error>
         ensures same { IfOk result (λ s. system_of s ≡ system_of self.now) }
         ensures memory { IsOkUnless result Error.OutOfMemory }

@@ -19,7 +19,7 @@ use std::alloc::{AllocError, Global};
 use std::io::Write;
 
 impl MinidumpMiscInfo {
-    /// Prints every field, or `(invalid)` where it is absent.
+    /// Prints every field, or `(invalid)` if it is absent.
     pub fn print<W: Write>(&self, alloc: Global, f: &mut Told<W>) -> Result<(), Error>
         ensures { Prints W.contents f.old f.new (misc_info_text (raw_of self.now)) result }
     {
