@@ -1,0 +1,9 @@
+-- What the contracts of this crate cite.
+pub mod Register
+pub mod X86
+pub mod Amd64
+pub mod Arm
+pub mod Arm64
+pub mod Context
+pub mod ArrayNumbers
+pub mod TableLaws

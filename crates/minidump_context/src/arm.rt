@@ -1,0 +1,96 @@
+ghost use Rattle.std.specs.Prelude.{◌≡◌, ◌<◌, slice_index};
+ghost use Rattle.minidump_context.specs.Arm.{arm_numbers};
+
+use crate::{CpuContext, CpuRegisterNames};
+use minidump_format::format::CONTEXT_ARM;
+
+// Which of the numbered registers each listed one is.
+const NUMBERS: [usize; 16] = [0, 1, 2, 3, 4, 5, 6, 7, 8, 9, 10, 12, 11, 13, 14, 15];
+
+#[tactic(auto, unfolding(crate::specs::Arm::arm_numbers))]
+fn number_of(place: usize) -> usize
+    requires { place < 16 }
+    ensures listed { result ≡ slice_index arm_numbers place }
+    ensures within { result < 16 }
+{
+    NUMBERS[place]
+}
+
+impl CpuRegisterNames for CONTEXT_ARM {
+    ghost use Rattle.minidump_context.specs.Arm.{arm_registers};
+
+    ghost table = { arm_registers };
+
+    const REGISTERS: &'static [&'static str] = &[
+        "r0", "r1", "r2", "r3", "r4", "r5", "r6", "r7", "r8", "r9", "r10", "r12", "fp", "sp", "lr",
+        "pc",
+    ];
+
+    #[tactic(auto, unfolding(crate::specs::Arm::arm_registers))]
+    fn names() -> &'static [&'static str] {
+        Self::REGISTERS
+    }
+}
+
+impl CpuContext for CONTEXT_ARM {
+    ghost use Rattle.std.specs.Prelude.{codes};
+    ghost use Rattle.minidump_context.specs.Arm.{arm_aliases, arm_values, arm_rest};
+    ghost use Rattle.minidump_context.specs.TableLaws.{arm_as_many, arm_placed, arm_own_names, arm_own_pointers, arm_own_aliases};
+
+    type Register = u32;
+
+    ghost aliases = { arm_aliases };
+
+    ghost values = { arm_values };
+
+    ghost rest = { arm_rest };
+
+    ghost processor = { 0x4000_0000 };
+
+    ghost flags = { λ c. c.context_flags };
+
+    ghost stack_pointer = { codes "sp" };
+
+    ghost instruction_pointer = { codes "pc" };
+
+    #[tactic(auto, unfolding(crate::specs::Arm::arm_aliases))]
+    fn aliases() -> &'static [(&'static str, &'static str)] {
+        &[("r11", "fp"), ("r13", "sp"), ("r14", "lr"), ("r15", "pc")]
+    }
+
+    #[tactic(auto, unfolding(crate::specs::Arm::arm_registers, crate::specs::Arm::arm_values))]
+    fn register_at(&self, place: usize) -> u32 {
+        self.iregs[number_of(place)]
+    }
+
+    #[tactic(auto, unfolding(crate::specs::Arm::arm_registers, crate::specs::Arm::arm_values, crate::specs::Arm::arm_rest))]
+    fn set_register_at(&mut self, place: usize, value: u32) {
+        self.iregs[number_of(place)] = value;
+    }
+
+    fn processor() -> u32 {
+        0x4000_0000
+    }
+
+    fn flags(&self) -> u32 {
+        self.context_flags
+    }
+
+    fn stack_pointer_register_name(&self) -> &'static str {
+        "sp"
+    }
+
+    fn instruction_pointer_register_name(&self) -> &'static str {
+        "pc"
+    }
+
+    ghost as_many = { arm_as_many };
+
+    ghost own_names = { arm_own_names };
+
+    ghost own_aliases = { arm_own_aliases };
+
+    ghost own_pointers = { arm_own_pointers };
+
+    ghost placed = { arm_placed };
+}

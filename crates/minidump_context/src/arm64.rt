@@ -1,0 +1,177 @@
+use crate::{CpuContext, CpuRegisterNames};
+use minidump_format::format::{CONTEXT_ARM64, CONTEXT_ARM64_OLD};
+
+// The names of the registers, in both layouts.
+const REGISTERS: &'static [&'static str] = &[
+    "x0", "x1", "x2", "x3", "x4", "x5", "x6", "x7", "x8", "x9", "x10", "x11", "x12", "x13", "x14",
+    "x15", "x16", "x17", "x18", "x19", "x20", "x21", "x22", "x23", "x24", "x25", "x26", "x27",
+    "x28", "fp", "lr", "sp", "pc",
+];
+
+impl CpuRegisterNames for CONTEXT_ARM64 {
+    ghost use Rattle.minidump_context.specs.Arm64.{arm64_registers};
+
+    ghost table = { arm64_registers };
+
+    const REGISTERS: &'static [&'static str] = REGISTERS;
+
+    #[tactic(auto, unfolding(crate::specs::Arm64::arm64_registers))]
+    fn names() -> &'static [&'static str] {
+        Self::REGISTERS
+    }
+}
+
+impl CpuContext for CONTEXT_ARM64 {
+    ghost use Rattle.std.specs.Prelude.{codes};
+    ghost use Rattle.minidump_context.specs.Arm64.{arm64_aliases, arm64_values, arm64_rest};
+    ghost use Rattle.minidump_context.specs.TableLaws.{arm64_as_many, arm64_placed, arm64_own_names, arm64_own_pointers, arm64_own_aliases};
+
+    type Register = u64;
+
+    ghost aliases = { arm64_aliases };
+
+    ghost values = { arm64_values };
+
+    ghost rest = { arm64_rest };
+
+    ghost processor = { 0x40_0000 };
+
+    ghost flags = { λ c. c.context_flags };
+
+    ghost stack_pointer = { codes "sp" };
+
+    ghost instruction_pointer = { codes "pc" };
+
+    #[tactic(auto, unfolding(crate::specs::Arm64::arm64_aliases))]
+    fn aliases() -> &'static [(&'static str, &'static str)] {
+        &[("x29", "fp"), ("x30", "lr")]
+    }
+
+    #[tactic(auto, unfolding(crate::specs::Arm64::arm64_registers, crate::specs::Arm64::arm64_values))]
+    fn register_at(&self, place: usize) -> u64 {
+        match place {
+            31 => self.sp,
+            32 => self.pc,
+            _ => self.iregs[place],
+        }
+    }
+
+    #[tactic(auto, unfolding(crate::specs::Arm64::arm64_registers, crate::specs::Arm64::arm64_values, crate::specs::Arm64::arm64_rest))]
+    fn set_register_at(&mut self, place: usize, value: u64) {
+        match place {
+            31 => self.sp = value,
+            32 => self.pc = value,
+            _ => self.iregs[place] = value,
+        }
+    }
+
+    fn processor() -> u32 {
+        0x40_0000
+    }
+
+    fn flags(&self) -> u32 {
+        self.context_flags
+    }
+
+    fn stack_pointer_register_name(&self) -> &'static str {
+        "sp"
+    }
+
+    fn instruction_pointer_register_name(&self) -> &'static str {
+        "pc"
+    }
+
+    ghost as_many = { arm64_as_many };
+
+    ghost own_names = { arm64_own_names };
+
+    ghost own_aliases = { arm64_own_aliases };
+
+    ghost own_pointers = { arm64_own_pointers };
+
+    ghost placed = { arm64_placed };
+}
+
+impl CpuRegisterNames for CONTEXT_ARM64_OLD {
+    ghost use Rattle.minidump_context.specs.Arm64.{arm64_registers};
+
+    ghost table = { arm64_registers };
+
+    const REGISTERS: &'static [&'static str] = REGISTERS;
+
+    #[tactic(auto, unfolding(crate::specs::Arm64::arm64_registers))]
+    fn names() -> &'static [&'static str] {
+        Self::REGISTERS
+    }
+}
+
+impl CpuContext for CONTEXT_ARM64_OLD {
+    ghost use Rattle.std.specs.Prelude.{codes, ◌%◌, ◌^◌};
+    ghost use Rattle.minidump_context.specs.Arm64.{arm64_aliases, arm64_old_values, arm64_old_rest};
+    ghost use Rattle.minidump_context.specs.TableLaws.{arm64_old_as_many, arm64_old_placed, arm64_own_names, arm64_own_pointers, arm64_own_aliases};
+
+    type Register = u64;
+
+    ghost aliases = { arm64_aliases };
+
+    ghost values = { arm64_old_values };
+
+    ghost rest = { arm64_old_rest };
+
+    ghost processor = { 0x8000_0000 };
+
+    ghost flags = { λ c. c.context_flags % 2 ^ 32 };
+
+    ghost stack_pointer = { codes "sp" };
+
+    ghost instruction_pointer = { codes "pc" };
+
+    #[tactic(auto, unfolding(crate::specs::Arm64::arm64_aliases))]
+    fn aliases() -> &'static [(&'static str, &'static str)] {
+        &[("x29", "fp"), ("x30", "lr")]
+    }
+
+    #[tactic(auto, unfolding(crate::specs::Arm64::arm64_registers, crate::specs::Arm64::arm64_old_values))]
+    fn register_at(&self, place: usize) -> u64 {
+        match place {
+            31 => self.sp,
+            32 => self.pc,
+            _ => self.iregs[place],
+        }
+    }
+
+    #[tactic(auto, unfolding(crate::specs::Arm64::arm64_registers, crate::specs::Arm64::arm64_old_values, crate::specs::Arm64::arm64_old_rest))]
+    fn set_register_at(&mut self, place: usize, value: u64) {
+        match place {
+            31 => self.sp = value,
+            32 => self.pc = value,
+            _ => self.iregs[place] = value,
+        }
+    }
+
+    fn processor() -> u32 {
+        0x8000_0000
+    }
+
+    fn flags(&self) -> u32 {
+        (self.context_flags & 0xffff_ffff) as u32
+    }
+
+    fn stack_pointer_register_name(&self) -> &'static str {
+        "sp"
+    }
+
+    fn instruction_pointer_register_name(&self) -> &'static str {
+        "pc"
+    }
+
+    ghost as_many = { arm64_old_as_many };
+
+    ghost own_names = { arm64_own_names };
+
+    ghost own_aliases = { arm64_own_aliases };
+
+    ghost own_pointers = { arm64_own_pointers };
+
+    ghost placed = { arm64_old_placed };
+}

@@ -1,0 +1,215 @@
+ghost use Rattle.std.proofs.Common.{rules};
+ghost use Rattle.std.specs.Prelude.{◌≡◌, IfOk, IfSome, IsOkUnless, IsSome, Some, map, string_bytes};
+ghost use Rattle.std.specs.Option.{option_copied};
+ghost use Rattle.minidump_context.specs.Register.{register_text, set_names};
+ghost use Rattle.minidump_context.specs.Context.{accepted, context_in, context_of, context_registers_left, held_in, is_of, map_ok, memoized_in, registers_of, valid_in, valid_registers_from};
+
+use crate::{ContextRegisters, CpuContext, MinidumpContextValidity, MinidumpRawContext};
+use minidump_bytes::{Endian, Exact, Source, Steps};
+use minidump_format::Error;
+use minidump_format::format::ProcessorArchitecture;
+use minidump_system::{MinidumpMiscInfo, MinidumpSystemInfo};
+use std::alloc::Global;
+
+/// Why a context is refused.
+#[derive(Clone, Copy, PartialEq, Eq, Debug)]
+pub enum ContextError {
+    /// There are too few bytes, or the flags are another processor's.
+    ReadFailure,
+    /// The architecture of the system has no known layout of contexts.
+    UnknownCpuContext,
+}
+
+impl Exact for ContextError {
+    ghost exact = { Prim.search rules };
+}
+
+/// The registers of a thread, and which of them are valid.
+#[derive(Drop)]
+pub struct MinidumpContext {
+    pub raw: MinidumpRawContext,
+    pub valid: MinidumpContextValidity,
+}
+
+impl MinidumpContext {
+    /// Makes a context of which all registers are valid.
+    pub fn from_raw(raw: MinidumpRawContext) -> MinidumpContext
+        ensures raw { result.raw ≡ raw }
+        ensures valid { result.valid ≡ MinidumpContextValidity.All }
+    {
+        MinidumpContext {
+            raw,
+            valid: MinidumpContextValidity::All,
+        }
+    }
+
+    /// Reads the context that some bytes begin with, in the layout that the architecture of the system picks;
+    /// the misc information decides nothing. All of its registers are valid. `UnknownCpuContext` where
+    /// the architecture has no known layout; `ReadFailure` where there are too few bytes, or the low 32 bits of the
+    /// flags lack the bit of the processor or have that of another one below 0x10000000.
+    pub fn read(
+        bytes: &[u8],
+        endian: Endian,
+        system_info: &MinidumpSystemInfo,
+        _misc: Option<&MinidumpMiscInfo>,
+    ) -> Result<MinidumpContext, ContextError>
+        ensures raw { map_ok (λ c. c.raw) result ≡ context_in system_info.now.raw.processor_architecture endian bytes.now }
+        ensures valid { IfOk result (λ c. c.valid ≡ MinidumpContextValidity.All) }
+    {
+        let architecture = ProcessorArchitecture::from_u16(system_info.raw.processor_architecture);
+        Ok(MinidumpContext::from_raw(read_raw(bytes, endian, architecture)?))
+    }
+
+    /// Gives what the instruction pointer holds.
+    pub fn get_instruction_pointer(&self) -> u64
+        ensures { held_in (registers_of self.now.raw) (registers_of self.now.raw).instruction_pointer ≡ Some result }
+    {
+        self.raw.instruction_pointer()
+    }
+
+    /// Gives what the stack pointer holds.
+    pub fn get_stack_pointer(&self) -> u64
+        ensures { held_in (registers_of self.now.raw) (registers_of self.now.raw).stack_pointer ≡ Some result }
+    {
+        self.raw.stack_pointer()
+    }
+
+    /// Gives the name in the list of the register that a name names, or `None` where it names none.
+    pub fn memoize_register(&self, reg: &str) -> Option<&'static str>
+        ensures { option_copied result ≡ memoized_in (registers_of self.now.raw) reg.now }
+    {
+        self.raw.memoize_register(reg)
+    }
+
+    /// Gives what a register holds. Its name is one that `memoize_register` knows.
+    pub fn get_register_always(&self, reg: &str) -> u64
+        requires { IsSome (memoized_in (registers_of self.now.raw) reg.now) }
+        ensures { held_in (registers_of self.now.raw) reg.now ≡ Some result }
+    {
+        self.raw.get_register_always(reg)
+    }
+
+    /// Gives what a register holds, or `None` where it isn't valid.
+    pub fn get_register(&self, reg: &str) -> Option<u64>
+        ensures { result ≡ valid_in self.now.valid (registers_of self.now.raw) reg.now }
+    {
+        self.raw.get_register(reg, &self.valid)
+    }
+
+    /// Writes what a register holds as `0x` and two digits a byte. Its name is one that `memoize_register`
+    /// knows.
+    pub fn format_register(&self, alloc: Global, reg: &str) -> Result<String, Error>
+        requires { IsSome (memoized_in (registers_of self.now.raw) reg.now) }
+        ensures text { IfOk result (λ text. IfSome (held_in (registers_of self.now.raw) reg.now)
+            (λ value. string_bytes text ≡ register_text (registers_of self.now.raw).size value)) }
+        ensures memory { IsOkUnless result Error.OutOfMemory }
+    {
+        self.raw.format_register(alloc, reg)
+    }
+
+    /// Gives the name of each register.
+    pub fn general_purpose_registers(&self) -> &'static [&'static str]
+        ensures { map (λ n. n.now) result.now ≡ (registers_of self.now.raw).names }
+    {
+        self.raw.names()
+    }
+
+    /// Gives all registers, each with its name and what it holds, in the order of the list of names.
+    pub fn registers(&self) -> ContextRegisters<'_>
+        ensures { context_registers_left result ≡ valid_registers_from MinidumpContextValidity.All (registers_of self.now.raw) 0 }
+    {
+        ContextRegisters {
+            raw: &self.raw,
+            valid: None,
+            place: 0,
+        }
+    }
+
+    /// Gives the valid registers, each with its name and what it holds, in the order of the list of names.
+    pub fn valid_registers(&self) -> ContextRegisters<'_>
+        ensures { context_registers_left result ≡ valid_registers_from self.now.valid (registers_of self.now.raw) 0 }
+    {
+        ContextRegisters {
+            raw: &self.raw,
+            valid: Some(&self.valid),
+            place: 0,
+        }
+    }
+
+    /// How many bytes a register has.
+    pub fn register_size(&self) -> usize
+        ensures { result ≡ (registers_of self.now.raw).size }
+    {
+        self.raw.register_size()
+    }
+
+    /// The same context.
+    pub fn try_clone(&self, alloc: Global) -> Result<Self, Error>
+        ensures raw { IfOk result (λ copy. copy.raw ≡ self.now.raw) }
+        ensures valid { IfOk result (λ copy. set_names copy.valid ≡ set_names self.now.valid) }
+        ensures memory { IsOkUnless result Error.OutOfMemory }
+    {
+        Ok(MinidumpContext {
+            raw: self.raw,
+            valid: self.valid.try_clone(alloc)?,
+        })
+    }
+}
+
+// The context of an architecture that some bytes begin with.
+fn read_raw(
+    bytes: &[u8],
+    endian: Endian,
+    architecture: Option<ProcessorArchitecture>,
+) -> Result<MinidumpRawContext, ContextError>
+    ensures { result ≡ context_of architecture endian bytes.now }
+{
+    match architecture {
+        Some(
+            ProcessorArchitecture::PROCESSOR_ARCHITECTURE_INTEL
+            | ProcessorArchitecture::PROCESSOR_ARCHITECTURE_IA32_ON_WIN64,
+        ) => Ok(MinidumpRawContext::X86(accepted(bytes, endian)?)),
+        Some(ProcessorArchitecture::PROCESSOR_ARCHITECTURE_AMD64) => {
+            Ok(MinidumpRawContext::Amd64(accepted(bytes, endian)?))
+        }
+        Some(ProcessorArchitecture::PROCESSOR_ARCHITECTURE_ARM) => {
+            Ok(MinidumpRawContext::Arm(accepted(bytes, endian)?))
+        }
+        Some(ProcessorArchitecture::PROCESSOR_ARCHITECTURE_ARM64) => {
+            Ok(MinidumpRawContext::Arm64(accepted(bytes, endian)?))
+        }
+        Some(ProcessorArchitecture::PROCESSOR_ARCHITECTURE_ARM64_OLD) => {
+            Ok(MinidumpRawContext::OldArm64(accepted(bytes, endian)?))
+        }
+        _ => Err(ContextError::UnknownCpuContext),
+    }
+}
+
+// The context of a processor that some bytes begin with.
+#[tactic(auto, unfolding(crate::specs::Context::accepted))]
+fn accepted<C: CpuContext + Drop>(bytes: &[u8], endian: Endian) -> Result<C, ContextError>
+    ensures { result ≡ accepted C.layout C.processor C.flags endian bytes.now }
+{
+    let context: C = Source::new(bytes)
+        .record(0, endian, &mut Steps::new())
+        .ok_or(ContextError::ReadFailure)?;
+    if is_of(C::processor(), context.flags()) {
+        Ok(context)
+    } else {
+        Err(ContextError::ReadFailure)
+    }
+}
+
+// Whether flags have the bit of a processor, and no other processor's below 0x1000_0000.
+#[tactic(auto, unfolding(minidump_format::specs::ContextFlags::context_flags))]
+fn is_of(processor: u32, flags: u32) -> bool
+    ensures { result ≡ is_of processor flags }
+{
+    flags & processor == processor
+        && (processor == 0x1_0000 || flags & 0x1_0000 != 0x1_0000)
+        && (processor == 0x4_0000 || flags & 0x4_0000 != 0x4_0000)
+        && (processor == 0x8_0000 || flags & 0x8_0000 != 0x8_0000)
+        && (processor == 0x10_0000 || flags & 0x10_0000 != 0x10_0000)
+        && (processor == 0x40_0000 || flags & 0x40_0000 != 0x40_0000)
+        && (processor == 0x100_0000 || flags & 0x100_0000 != 0x100_0000)
+}

@@ -1,0 +1,49 @@
+ghost use Rattle.std.specs.Prelude.{◌≡◌};
+ghost use Rattle.std.specs.Iterator.{YieldsFirstBy, item_count};
+ghost use Rattle.std.specs.Option.{option_copied};
+ghost use Rattle.minidump_context.specs.Register.{asked};
+ghost use Rattle.minidump_context.specs.Context.{context_registers_left, registers_of, valid_in};
+
+use crate::{MinidumpContextValidity, MinidumpRawContext};
+
+/// Registers of a context, each with its name and what it holds, in the order of the list of names.
+#[derive(Clone, Drop)]
+pub struct ContextRegisters<'a> {
+    pub(crate) raw: &'a MinidumpRawContext,
+    // The valid ones; all where there is no set.
+    pub(crate) valid: Option<&'a MinidumpContextValidity>,
+    // The first of the list that has not been looked at.
+    pub(crate) place: usize,
+}
+
+impl<'a> ContextRegisters<'a> {
+    // What a register holds, where it is asked for.
+    fn asked(&self, name: &str) -> Option<u64>
+        ensures { result ≡ valid_in (asked (option_copied self.now.valid)) (registers_of self.now.raw.now) name.now }
+    {
+        match self.valid {
+            Some(valid) => self.raw.get_register(name, valid),
+            None => self.raw.get_register(name, &MinidumpContextValidity::All),
+        }
+    }
+}
+
+impl<'a> Iterator for ContextRegisters<'a> {
+    type Item = (&'static str, u64);
+
+    ghost next_gives = { YieldsFirstBy (λ r. (r.0.now, r.1)) context_registers_left };
+
+    ghost remaining = { item_count context_registers_left };
+
+    fn next(&mut self) -> Option<(&'static str, u64)> {
+        let names = self.raw.names();
+        while self.place < names.len() {
+            let name = names[self.place];
+            self.place += 1;
+            if let Some(value) = self.asked(name) {
+                return Some((name, value));
+            }
+        }
+        None
+    }
+}

@@ -1,0 +1,232 @@
+ghost use Rattle.std.specs.Prelude.{◌≡◌, ◌↔◌, ◌<◌, ◌*◌, ℕ, List, Option, Some, None, IsSome, is_some, true, if◌then◌else◌, IfOk, IsOkUnless, IfSome, string_bytes, position, length, map, slice_set};
+ghost use Rattle.std.specs.List.{slice_get, range_with_len, list_all};
+ghost use Rattle.std.specs.Option.{option_copied};
+ghost use Rattle.std.specs.Str.{bytes_eq};
+ghost use Rattle.minidump_bytes.specs.declared.endian.Endian.{Endian};
+ghost use Rattle.minidump_bytes.specs.Number.{number_at};
+ghost use Rattle.minidump_context.specs.Register.{place_of, memoized, value_of, is_valid, names_of, valid_from, registers_left, register_text, IsChanged};
+
+use crate::names::place_of;
+use crate::{CpuRegisters, MinidumpContextValidity};
+use minidump_bytes::{FixedRead, Piece, Record, made};
+use minidump_format::Error;
+use std::alloc::Global;
+
+/// The number that a register holds.
+pub trait RegisterNumber: FixedRead {
+    ghost number: { Self → ℕ };
+
+    /// The number in 64 bits.
+    fn to_u64(self) -> u64
+        ensures { result ≡ number self };
+
+    /// How many hexadecimal digits it has at most.
+    fn hex_digits() -> usize
+        ensures { result ≡ 2 * Self.SIZE };
+}
+
+impl RegisterNumber for u32 {
+    ghost number = { λ n. n };
+
+    fn to_u64(self) -> u64 {
+        self as u64
+    }
+
+    fn hex_digits() -> usize {
+        8
+    }
+}
+
+impl RegisterNumber for u64 {
+    ghost number = { λ n. n };
+
+    fn to_u64(self) -> u64 {
+        self
+    }
+
+    fn hex_digits() -> usize {
+        16
+    }
+}
+
+/// The names of the registers of a context.
+pub trait CpuRegisterNames {
+    // the name of each register and its place in the record, in bytes
+    ghost table: { List (List ℕ × ℕ) };
+
+    /// The name of each general-purpose register.
+    const REGISTERS: &'static [&'static str];
+
+    /// Gives [`REGISTERS`](CpuRegisterNames::REGISTERS), which a contract can't name.
+    fn names() -> &'static [&'static str]
+        ensures { map (λ n. n.now) result.now ≡ names_of table };
+}
+
+/// The context of a processor: its registers by name.
+pub trait CpuContext: CpuRegisterNames + Record {
+    /// What a register holds.
+    type Register: RegisterNumber;
+
+    // the aliases of registers, each with the name of the table
+    ghost aliases: { List (List ℕ × List ℕ) };
+
+    // what the registers hold, in the order of the table
+    ghost values: { Self → List Self.Register };
+
+    // what the context holds beside them
+    ghost rest: { Self → Self };
+
+    // the bit of the processor in the flags, and the flags of a context
+    ghost processor: { ℕ };
+
+    ghost flags: { Self → ℕ };
+
+    // the names of the stack pointer and of the instruction pointer
+    ghost stack_pointer: { List ℕ };
+
+    ghost instruction_pointer: { List ℕ };
+
+    /// Gives the aliases of registers, each with its name in the list.
+    fn aliases() -> &'static [(&'static str, &'static str)]
+        ensures { map (λ a. (a.0.now, a.1.now)) result.now ≡ aliases };
+
+    /// Gives what the register at a place of the list holds.
+    fn register_at(&self, place: usize) -> Self::Register
+        requires { place < length Self.table }
+        ensures { slice_get (values self.now) place ≡ Some result };
+
+    /// Changes the register at a place of the list, and nothing else.
+    fn set_register_at(&mut self, place: usize, value: Self::Register)
+        requires { place < length Self.table }
+        ensures set { values self.new ≡ slice_set (values self.old) place value }
+        ensures rest { rest self.new ≡ rest self.old };
+
+    /// Gives the bit of the processor in the flags of its contexts.
+    fn processor() -> u32
+        ensures { result ≡ processor };
+
+    /// Gives the flags of the context.
+    fn flags(&self) -> u32
+        ensures { result ≡ flags self.now };
+
+    /// Gives the name of the stack pointer.
+    fn stack_pointer_register_name(&self) -> &'static str
+        ensures { result.now ≡ stack_pointer };
+
+    /// Gives the name of the instruction pointer.
+    fn instruction_pointer_register_name(&self) -> &'static str
+        ensures { result.now ≡ instruction_pointer };
+
+    /// Gives the name in the list of the register that a name names, or `None` where it names none.
+    final fn memoize_register(&self, reg: &str) -> Option<&'static str>
+        ensures { option_copied result ≡ memoized (names_of Self.table) aliases reg.now }
+    {
+        let names = Self::names();
+        let place = place_of(names, Self::aliases(), reg)?;
+        Some(names[place])
+    }
+
+    /// Whether a name is that of a valid register: one of which the set has the name or an alias.
+    final fn register_is_valid(&self, reg: &str, valid: &MinidumpContextValidity) -> bool
+        ensures { result ≡ is_valid valid.now (names_of Self.table) aliases reg.now }
+    {
+        match self.memoize_register(reg) {
+            Some(listed) => valid.holds_any(Self::aliases(), listed),
+            None => false,
+        }
+    }
+
+    /// Gives what a register holds. Its name is one that `memoize_register` knows.
+    final fn get_register_always(&self, reg: &str) -> Self::Register
+        requires { IsSome (memoized (names_of Self.table) aliases reg.now) }
+        ensures { value_of (names_of Self.table) aliases (values self.now) reg.now ≡ Some result }
+    {
+        let place = place_of(Self::names(), Self::aliases(), reg).unwrap();
+        self.register_at(place)
+    }
+
+    /// Gives what a register holds, or `None` where it isn't valid.
+    final fn get_register(
+        &self,
+        reg: &str,
+        valid: &MinidumpContextValidity,
+    ) -> Option<Self::Register>
+        ensures { result ≡ (if is_valid valid.now (names_of Self.table) aliases reg.now
+            then value_of (names_of Self.table) aliases (values self.now) reg.now else None) }
+    {
+        if self.register_is_valid(reg, valid) {
+            Some(self.get_register_always(reg))
+        } else {
+            None
+        }
+    }
+
+    /// Changes a register, under all of its names, and nothing else. `None`, and no change, where none has the
+    /// name.
+    final fn set_register(&mut self, reg: &str, val: Self::Register) -> Option<()>
+        ensures named { IsSome result ↔ IsSome (place_of (names_of Self.table) aliases reg.now) }
+        ensures changed { IsChanged values rest self.old self.new val (place_of (names_of Self.table) aliases reg.now) }
+    {
+        let place = place_of(Self::names(), Self::aliases(), reg)?;
+        self.set_register_at(place, val);
+        Some(())
+    }
+
+    /// Writes what a register holds as `0x` and two digits a byte. Its name is one that `memoize_register`
+    /// knows.
+    final fn format_register(&self, alloc: Global, reg: &str) -> Result<String, Error>
+        requires { IsSome (memoized (names_of Self.table) aliases reg.now) }
+        ensures text { IfOk result (λ text. IfSome (value_of (names_of Self.table) aliases (values self.now) reg.now)
+            (λ value. string_bytes text ≡ register_text Self.Register.SIZE (Self.Register.number value))) }
+        ensures memory { IsOkUnless result Error.OutOfMemory }
+    {
+        let value = self.get_register_always(reg).to_u64();
+        Ok(made(alloc, &[Piece::Wide(value, Self::Register::hex_digits())])?)
+    }
+
+    /// Gives all registers, each with its name and what it holds, in the order of the list.
+    final fn registers(&self) -> CpuRegisters<'_, Self>
+        ensures { registers_left (names_of Self.table) aliases values result
+            ≡ valid_from MinidumpContextValidity.All (names_of Self.table) aliases (values self.now) 0 }
+    {
+        CpuRegisters {
+            context: self,
+            valid: None,
+            place: 0,
+        }
+    }
+
+    /// Gives the valid registers, each with its name and what it holds, in the order of the list.
+    final fn valid_registers<'a>(
+        &'a self,
+        valid: &'a MinidumpContextValidity,
+    ) -> CpuRegisters<'a, Self>
+        ensures { registers_left (names_of Self.table) aliases values result
+            ≡ valid_from valid.now (names_of Self.table) aliases (values self.now) 0 }
+    {
+        CpuRegisters {
+            context: self,
+            valid: Some(valid),
+            place: 0,
+        }
+    }
+
+    // each row of the table has a value
+    ghost as_many: { (c : Self) → length (values c) ≡ length Self.table };
+
+    // each name of the table is that of its own row, and each alias that of the row of its name
+    ghost own_names: { map (place_of (names_of Self.table) aliases) (names_of Self.table)
+        ≡ map Some (range_with_len 0 (length Self.table)) };
+
+    ghost own_aliases: { (map (λ a. place_of (names_of Self.table) aliases a.0) aliases
+        ≡ map (λ a. position (λ n. bytes_eq n a.1) (names_of Self.table)) aliases)
+        × (list_all (λ a. is_some (place_of (names_of Self.table) aliases a.0)) aliases ≡ true) };
+
+    // both pointers are registers
+    ghost own_pointers: { IsSome (place_of (names_of Self.table) aliases stack_pointer)
+        × IsSome (place_of (names_of Self.table) aliases instruction_pointer) };
+
+    // each register of a context that is read is the number at its place in the record
+    ghost placed: { (order : Endian) (bytes : List ℕ) → map Self.Register.number (values (Self.layout.value order bytes))
+        ≡ map (λ row. number_at order Self.Register.SIZE row.1 bytes) Self.table };
+}

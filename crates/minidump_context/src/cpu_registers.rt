@@ -1,0 +1,49 @@
+ghost use Rattle.std.specs.Prelude.{◌≡◌};
+ghost use Rattle.std.specs.Iterator.{YieldsFirstBy, item_count};
+ghost use Rattle.std.specs.Option.{option_copied};
+ghost use Rattle.minidump_context.specs.Register.{names_of, registers_left, is_valid, asked};
+
+use crate::{CpuContext, MinidumpContextValidity};
+
+/// Registers of a context, each with its name and what it holds, in the order of the list of names.
+#[derive(Clone, Drop)]
+pub struct CpuRegisters<'a, T> {
+    pub(crate) context: &'a T,
+    // The valid ones; all where there is no set.
+    pub(crate) valid: Option<&'a MinidumpContextValidity>,
+    // The first of the list that has not been looked at.
+    pub(crate) place: usize,
+}
+
+impl<'a, T: CpuContext> Iterator for CpuRegisters<'a, T> {
+    type Item = (&'static str, T::Register);
+
+    ghost next_gives = { YieldsFirstBy (λ r. (r.0.now, r.1))
+        (registers_left (names_of T.table) T.aliases T.values) };
+
+    ghost remaining = { item_count
+        (registers_left (names_of T.table) T.aliases T.values) };
+
+    fn next(&mut self) -> Option<(&'static str, T::Register)> {
+        let names = T::names();
+        while self.place < names.len() {
+            let place = self.place;
+            self.place += 1;
+            let name = names[place];
+            if is_asked(self.context, name, self.valid) {
+                return Some((name, self.context.register_at(place)));
+            }
+        }
+        None
+    }
+}
+
+// Whether a name is that of a register that is asked for.
+fn is_asked<T: CpuContext>(context: &T, name: &str, valid: Option<&MinidumpContextValidity>) -> bool
+    ensures { result ≡ is_valid (asked (option_copied valid.entry)) (names_of T.table) T.aliases name.now }
+{
+    match valid {
+        Some(valid) => context.register_is_valid(name, valid),
+        None => context.register_is_valid(name, &MinidumpContextValidity::All),
+    }
+}

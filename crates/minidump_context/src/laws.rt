@@ -1,0 +1,72 @@
+//! Laws of registers, for the context of every processor.
+ghost use Rattle.std.specs.Prelude.{◌≡◌, ◌≢◌, ◌↔◌, ℕ, IsTrue, List, Option, Some, None, is_some, true, length, map, position};
+ghost use Rattle.std.specs.List.{range_with_len, list_all};
+ghost use Rattle.std.specs.Str.{bytes_eq};
+ghost use Rattle.minidump_bytes.specs.declared.endian.Endian.{Endian};
+ghost use Rattle.minidump_bytes.specs.Number.{number_at};
+ghost use Rattle.minidump_context.specs.Register.{names_of, place_of, value_of, holds, is_valid, IsChanged, IsSameValidity};
+
+use crate::{
+    ContextRegisters, CpuContext, CpuRegisters, MinidumpContextValidity, MinidumpRawContext,
+};
+
+/// A register that was changed has its new value under each of its names.
+pub fn a_change_is_seen_under_all_names<T: CpuContext>()
+    ensures { (before after : T) (value : T.Register) (place : ℕ) (name : List ℕ)
+        → IsChanged T.values T.rest before after value (Some place)
+        → place_of (names_of T.table) T.aliases name ≡ Some place
+        → value_of (names_of T.table) T.aliases (T.values after) name ≡ Some value }
+{}
+
+/// Every other register holds what it held, and what the context holds beside registers is as it was. With a
+/// name that is no register's the whole context is.
+pub fn nothing_else_is_changed<T: CpuContext>()
+    ensures registers { (before after : T) (value : T.Register) (place : ℕ) (name : List ℕ)
+        → IsChanged T.values T.rest before after value (Some place)
+        → place_of (names_of T.table) T.aliases name ≢ Some place
+        → value_of (names_of T.table) T.aliases (T.values after) name
+        ≡ value_of (names_of T.table) T.aliases (T.values before) name }
+    ensures rest { (before after : T) (value : T.Register) (place : ℕ)
+        → IsChanged T.values T.rest before after value (Some place) → T.rest after ≡ T.rest before }
+    ensures unnamed { (before after : T) (value : T.Register)
+        → IsChanged T.values T.rest before after value None → after ≡ before }
+{}
+
+/// The registers of a context that is read are the numbers at their places in the record.
+pub fn registers_stand_at_their_places<T: CpuContext>()
+    ensures { (order : Endian) (bytes : List ℕ) → map T.Register.number (T.values (T.layout.value order bytes))
+        ≡ map (λ row. number_at order T.Register.SIZE row.1 bytes) T.table }
+{}
+
+/// Each name of the list names the register of its own place, and each alias that of its name in the list.
+pub fn names_name_their_registers<T: CpuContext>()
+    ensures listed { map (place_of (names_of T.table) T.aliases) (names_of T.table)
+        ≡ map Some (range_with_len 0 (length T.table)) }
+    ensures aliases { map (λ a. place_of (names_of T.table) T.aliases a.0) T.aliases
+        ≡ map (λ a. position (λ n. bytes_eq n a.1) (names_of T.table)) T.aliases }
+    ensures known { list_all (λ a. is_some (place_of (names_of T.table) T.aliases a.0)) T.aliases ≡ true }
+{}
+
+/// A register is valid under each of its names where the set has any of them.
+pub fn any_name_makes_a_register_valid<T: CpuContext>()
+    ensures { (valid : MinidumpContextValidity) (name held : List ℕ) (place : ℕ)
+        → place_of (names_of T.table) T.aliases name ≡ Some place
+        → place_of (names_of T.table) T.aliases held ≡ Some place
+        → holds valid held ≡ true → is_valid valid (names_of T.table) T.aliases name ≡ true }
+{}
+
+/// Two sets of valid registers are equal exactly where both are all, or have the same names.
+pub fn sets_are_equal_by_their_names()
+    ensures { (x y : MinidumpContextValidity)
+        → IsTrue (⟦<MinidumpContextValidity as PartialEq>⟧.eq x y) ↔ IsSameValidity x y }
+{}
+
+/// A clone of a context is the same context, and a clone of an iterator of registers has the same ones left.
+pub fn clones_are_the_same<T: CpuContext + Clone + 'static>()
+    ensures raw { (context other : MinidumpRawContext)
+        → ⟦<MinidumpRawContext as Clone>⟧.is_clone context other → other ≡ context }
+    ensures registers { (registers other : CpuRegisters T)
+        → ⟦<CpuRegisters<'static, T> as Clone>⟧.is_clone registers other → other ≡ registers }
+    ensures context_registers { (registers other : ContextRegisters)
+        → ⟦<ContextRegisters<'static> as Clone>⟧.is_clone registers other → other ≡ registers }
+{}
