@@ -21,7 +21,7 @@
 //! - The status and the texts of a run from the arguments of the process: `started`.
 //!
 //! What isn't: which file a path opens, and whether it is `FileNotFound`, `IoError` or `OutOfMemory` that is
-//! named, which tests show; that `main` passes on its arguments, its output and its errors.
+//! named, which tests show; and, but by review, that `main` passes on its arguments and its devices.
 #![tactic(auto)]
 
 mod address;

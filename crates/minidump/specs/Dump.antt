@@ -1,4 +1,4 @@
--- A minidump without where it lies in memory, which files are one, and what their streams are.
+-- A minidump without its addresses in memory: which files are one, and what their streams are.
 use Rattle.std.specs.Prelude.{ℕ, ◌+◌, ◌^◌, ◌<◌, List, Option, Some, None, Result, Ok, Err, IsOkAnd, if◌then◌else◌}
 use Rattle.std.specs.Result.{result_ok}
 use Rattle.minidump_bytes.specs.declared.endian.Endian.{Endian}

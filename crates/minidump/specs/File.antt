@@ -26,7 +26,7 @@ ReadsFile remaining old new (Err _) = ⊥
 abbrev pub IsRefusedFile : {F : Type 0} → (F → Option (List ℕ)) → Error → Type 0
 IsRefusedFile remaining e = (bytes : List ℕ) × IsFile remaining bytes × (dump_in bytes ≡ Err e)
 
--- why reading a path is refused: by the file, by the refusal that the format assigns to its bytes, or for want of memory
+-- the errors of reading a path: of the file, the one that the format assigns to its bytes, or that of an allocation
 abbrev pub IsPathRefusal : {F : Type 0} → (F → Option (List ℕ)) → Error → Type 0
 IsPathRefusal remaining FileNotFound = ⊤
 IsPathRefusal remaining IoError = ⊤

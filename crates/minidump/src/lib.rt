@@ -34,7 +34,7 @@
 //!   `unimplemented_streams`. The printed text: `print`. Reading a file: `read_path`.
 //!
 //! What isn't: which file a path opens, and what `read_path` leaves in the vector beyond the contract of the
-//! private `read_file`.
+//! private `read_file`, which tests show.
 #![tactic(auto)]
 
 mod answer;

@@ -26,11 +26,11 @@ IsTextOf units bytes = (characters : List ℕ) × Spells units characters × (by
 unfoldable pub utf16_text : List ℕ → Option (List ℕ)
 utf16_text units = if has_unpaired_surrogate units then None else Some (encode_utf8_all (utf16_lossy_chars units))
 
--- the code units from a place on, so many: numbers of two bytes
+-- a count of code units from a place on: numbers of two bytes
 abbrev pub units_at : Endian → ℕ → ℕ → List ℕ → List ℕ
 units_at order place count bytes = entries (number_layout 2) order bytes place count
 
--- the text in so many bytes from a place on: none where the bytes end before that, or the size is odd
+-- the text of a size from a place on: none where the bytes end before that, or the size is odd
 abbrev pub sized_text16 : Endian → ℕ → ℕ → List ℕ → Option (List ℕ)
 sized_text16 order place size bytes =
     if (size % 2 == 0) && nat_le (place + size) (length bytes) then utf16_text (units_at order place (size / 2) bytes) else None
@@ -41,7 +41,7 @@ text16 order place bytes =
     if nat_le (place + 4) (length bytes) then sized_text16 order (place + 4) (number_at order 4 0 (slice_range bytes place (place + 4))) bytes
     else None
 
--- the bytes that a text at a place states are there: its size, which is even, and so many behind it
+-- the bytes of a text at a place are there: its size, which is even, and as many bytes behind it
 abbrev pub HoldsText16 : Endian → ℕ → List ℕ → Type 0
 HoldsText16 order place bytes =
     let size = number_at order 4 0 (slice_range bytes place (place + 4)) in

@@ -18,7 +18,7 @@ IsText8 bytes = (characters : List ℕ) × SpellsUtf8 bytes characters
 unfoldable pub utf8_text : List ℕ → Option (List ℕ)
 utf8_text bytes = if is_utf8 bytes then Some bytes else None
 
--- the text in so many bytes from a place on: none where the bytes end before that
+-- the text of a size from a place on: none where the bytes end before that
 abbrev pub sized_text8 : ℕ → ℕ → List ℕ → Option (List ℕ)
 sized_text8 place size bytes = if nat_le (place + size) (length bytes) then utf8_text (slice_range bytes place (place + size)) else None
 

@@ -42,7 +42,7 @@ wire_type (Eight n) = 1
 wire_type (Bytes bytes) = 2
 wire_type (Four n) = 5
 
--- a varint, eight or four bytes from the lowest on, or a varint of the length and so many bytes
+-- a varint, eight or four bytes from the lowest on, or a varint of the length and as many bytes
 abbrev pub SpellsPayload : List ℕ → Payload → Type 0
 SpellsPayload spelled (Varint n) = IsVarint spelled n
 SpellsPayload spelled (Eight n) = (length spelled ≡ 8) × (n ≡ number_at Little 8 0 spelled)

@@ -62,7 +62,7 @@ fn first_nul(units: &[u16]) -> Option<usize>
     units.iter().position(|unit| *unit == 0)
 }
 
-// The text of code units, if they spell one.
+// Decodes code units, if they spell a text.
 #[tactic(auto, unfolding(crate::specs::Text16::utf16_text))]
 fn text_of_units(alloc: Global, units: &[u16]) -> Result<Option<String>, AllocError>
     ensures { IfOk result (λ text. option_map string_bytes text ≡ utf16_text units.now) }

@@ -8,7 +8,7 @@ use crate::Endian;
 use crate::array::record_in;
 use std::alloc::{AllocError, Global};
 
-// The text of so many code units from a place on, if they spell one.
+// Decodes `count` code units from offset `place` on, if they spell a text.
 pub(crate) fn text_at(
     alloc: Global,
     bytes: &[u8],

@@ -46,7 +46,7 @@ impl<'a> Source<'a> {
     }
 }
 
-// The field at the front, and the bytes behind it.
+// Reads the field at the front, and returns it with the bytes behind it.
 #[tactic(auto, unfolding(crate::specs::Wire::field_in))]
 fn field(bytes: &[u8]) -> Option<(WireField<'_>, &[u8])>
     ensures value { option_map (λ r. (field_of r.0, r.1.now)) result ≡ field_in bytes.now }
@@ -64,7 +64,7 @@ fn field(bytes: &[u8]) -> Option<(WireField<'_>, &[u8])>
     Some((WireField { number, value }, rest))
 }
 
-// The value of a wire type at the front, and the bytes behind it.
+// Reads the value of a wire type at the front, and returns it with the bytes behind it.
 #[tactic(auto, unfolding(crate::specs::Wire::payload_in))]
 fn payload(kind: u32, bytes: &[u8]) -> Option<(WireValue<'_>, &[u8])>
     ensures value { option_map (λ r. (payload_of r.0, r.1.now)) result ≡ payload_in kind bytes.now }
@@ -92,7 +92,7 @@ fn payload(kind: u32, bytes: &[u8]) -> Option<(WireValue<'_>, &[u8])>
     }
 }
 
-// So many bytes, and those behind them.
+// Splits off the first `count` bytes.
 #[tactic(auto, unfolding(crate::specs::Wire::front_in))]
 fn front(bytes: &[u8], count: u64) -> Option<(&[u8], &[u8])>
     ensures value { option_map (λ r. (r.0.now, r.1.now)) result ≡ front_in count bytes.now }
@@ -105,7 +105,7 @@ fn front(bytes: &[u8], count: u64) -> Option<(&[u8], &[u8])>
     Some(bytes.split_at(count as usize))
 }
 
-// The number at the front, a varint, and the bytes behind it.
+// Reads the varint at the front, and returns it with the bytes behind it.
 fn varint(bytes: &[u8]) -> Option<(u64, &[u8])>
     ensures value { option_map (λ r. (r.0, r.1.now)) result ≡ varint_in bytes.now }
     ensures shorter { IfSome result (λ r. length r.1.now < length bytes.now) }

@@ -5,11 +5,11 @@ use Rattle.minidump_bytes.specs.Told.{PutsAll, PutsBeginning, has_failed}
 use Rattle.minidump_format.specs.declared.error.Error.{Error}
 use Rattle.minidump_format.specs.declared.error.Error.TheVariants.{IoError, OutOfMemory}
 
--- the refusal where no memory is left: a failure of the writer goes first
+-- the error where an allocation failed: a failure of the writer goes first
 abbrev pub out_of_memory : {D : Type 0} → Told D → Error
 out_of_memory t = if has_failed t then IoError else OutOfMemory
 
--- `Ok`: the writer took all of the text. Refused: it took a beginning, and the refusal is that of its failure or else of want of memory
+-- `Ok`: the writer took all of the text. `Err`: it took a beginning; the error is IoError where it has failed, and else OutOfMemory
 abbrev pub Prints : {D : Type 0} → (D → Option (List ℕ)) → Told D → Told D → List ℕ → Result (Unit {0}) Error → Type 0
 Prints contents old new text (Ok _) = PutsAll contents old new text
 Prints contents old new text (Err e) = PutsBeginning contents old new text × (e ≡ out_of_memory new)

@@ -15,7 +15,7 @@ use Rattle.minidump_memory.specs.Memory.{MemoryRegion, described, memory_of, spa
 abbrev pub regions_of : {D : Type 0} → MinidumpMemoryListBase D → List (MinidumpMemoryBase D)
 regions_of l = l.regions
 
--- the same, without where they lie in memory
+-- the same, without their addresses in memory
 abbrev pub memories_of : {D : Type 0} → MinidumpMemoryListBase D → List (MemoryRegion D)
 memories_of l = map memory_of (regions_of l)
 

@@ -9,16 +9,16 @@ use Rattle.jiff_core.specs.DateTime.{civil_nanos}
 use Rattle.jiff.specs.Words.{iso_datetime_text}
 use Rattle.minidump_format.specs.declared.format.misc.SYSTEMTIME.{SYSTEMTIME}
 
--- the text is that of the civil date and time so many seconds after 1970-01-01T00:00:00, with a Z
+-- the text is that of the civil date and time that many seconds after 1970-01-01T00:00:00, with a Z
 abbrev pub IsDateText : ℕ → List ℕ → Type 0
 IsDateText seconds text = (dt : DateTime) × (civil_nanos dt ≡ pos (seconds * 1_000_000_000)) × (text ≡ iso_datetime_text dt ++ codes "Z")
 
--- the year, and the days that are left in it, so many days after 1 January of the year y; it looks at k years at most
+-- the year, and the days that are left in it, a number of days after 1 January of the year y; it looks at k years at most
 abbrev pub year_from : ℕ → ℕ → ℕ → ℕ × ℕ
 year_from zero y days = (y, days)
 year_from (suc k) y days = if nat_lt days (days_in_year (pos y)) then (y, days) else year_from k (y + 1) (days - days_in_year (pos y))
 
--- the month, and the days that are left in it, so many days after the first of the month m; it looks at k months at most
+-- the month, and the days that are left in it, a number of days after the first of the month m; it looks at k months at most
 abbrev pub month_from : ℕ → ℕ → ℕ → ℕ → ℕ × ℕ
 month_from zero y m days = (m, days)
 month_from (suc k) y m days = if nat_lt days (days_in_month (pos y) m) then (m, days) else month_from k y (m + 1) (days - days_in_month (pos y) m)
@@ -43,7 +43,7 @@ moment_text year month day hour minute second fraction = concat (
     ∷ codes "T" ∷ two_digits hour ∷ codes ":" ∷ two_digits minute ∷ codes ":" ∷ two_digits second
     ∷ fraction ∷ codes "Z" ∷ [])
 
--- the text of the date so many seconds after 1970-01-01T00:00:00Z, of at most 2 ^ 32
+-- the text of the date that many seconds after 1970-01-01T00:00:00Z, of at most 2 ^ 32
 unfoldable pub date_text_of : ℕ → List ℕ
 date_text_of seconds =
     let y = year_from 137 1970 (seconds / 86400) in

@@ -18,7 +18,7 @@ use Rattle.minidump_system.specs.Os.{os_of}
 use Rattle.minidump_system.specs.Cpu.{cpu_of}
 use Rattle.minidump_system.specs.CpuInfo.{cpu_info_text}
 
--- a system information without where it lies in memory: the record, what its numbers name, and its texts
+-- a system information without its addresses: the record, what its numbers name, and its texts
 pub record System : Type 0 where
   pub raw : MINIDUMP_SYSTEM_INFO
   pub os : Os
