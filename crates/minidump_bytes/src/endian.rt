@@ -6,9 +6,9 @@ use byteorder::{BigEndian, ByteOrder, LittleEndian};
 /// The byte order of a file.
 #[derive(Clone, Copy, Debug, PartialEq, Eq)]
 pub enum Endian {
-    /// The lowest byte comes first.
+    /// The least significant byte comes first.
     Little,
-    /// The highest byte comes first.
+    /// The most significant byte comes first.
     Big,
 }
 

@@ -13,7 +13,7 @@ pub enum Piece<'a> {
     Words(&'a str),
     /// A number in decimal, as `{}` writes it.
     Decimal(u64),
-    /// A number in hexadecimal behind `0x`, as `{:#x}` writes it.
+    /// A number in hexadecimal after `0x`, as `{:#x}` writes it.
     Hex(u64),
     /// A number in hexadecimal, as `{:x}` writes it.
     Digits(u64),
@@ -127,7 +127,7 @@ fn push_decimal(out: &mut String, n: u64) -> Result<(), AllocError>
     out.push_str(buffer.format(n))
 }
 
-/// Appends the digits of a number in lower-case hexadecimal, as `{:x}` does.
+/// Appends a number in lower-case hexadecimal, as `{:x}` writes it.
 #[tactic(auto, using(crate::proofs::HexLemmas::hex_last, crate::proofs::HexLemmas::hex_one))]
 pub fn push_hex(out: &mut String, n: u64) -> Result<(), AllocError>
     ensures { OnOk result (string_bytes out.new ≡ string_bytes out.old ++ digits 16 false n) }

@@ -4,7 +4,7 @@ use Rattle.minidump_bytes.specs.Number.{number_at}
 use Rattle.minidump_bytes.specs.Entries.{entries}
 use Rattle.minidump_format.specs.declared.format.assertion.MINIDUMP_ASSERTION_INFO.{MINIDUMP_ASSERTION_INFO}
 
--- 776 bytes
+-- Breakpad's MDRawAssertionInfo
 abbrev pub assertion_info : Layout MINIDUMP_ASSERTION_INFO
 assertion_info = record {
   size = 776;

@@ -4,7 +4,7 @@ use Rattle.minidump_bytes.specs.Layout.{Layout}
 use Rattle.minidump_bytes.specs.Number.{number_at}
 use Rattle.minidump_format.specs.declared.format.breakpad.MINIDUMP_BREAKPAD_INFO.{MINIDUMP_BREAKPAD_INFO}
 
--- 12 bytes
+-- Breakpad's MDRawBreakpadInfo
 abbrev pub breakpad_info : Layout MINIDUMP_BREAKPAD_INFO
 breakpad_info = record {
   size = 12;

@@ -12,7 +12,7 @@ use Rattle.minidump_format.specs.declared.format.crashpad.MINIDUMP_MODULE_CRASHP
 use Rattle.minidump_format.specs.declared.format.crashpad.MINIDUMP_SIMPLE_STRING_DICTIONARY_ENTRY.{MINIDUMP_SIMPLE_STRING_DICTIONARY_ENTRY}
 use Rattle.minidump_format.specs.declared.format.crashpad.MINIDUMP_ANNOTATION.{MINIDUMP_ANNOTATION}
 
--- 52 bytes
+-- Crashpad's MinidumpCrashpadInfo
 abbrev pub crashpad_info : Layout MINIDUMP_CRASHPAD_INFO
 crashpad_info = record {
   size = 52;
@@ -25,7 +25,7 @@ crashpad_info = record {
   };
 }
 
--- 12 bytes
+-- Crashpad's MinidumpModuleCrashpadInfoLink
 abbrev pub module_link : Layout MINIDUMP_MODULE_CRASHPAD_INFO_LINK
 module_link = record {
   size = 12;
@@ -35,7 +35,7 @@ module_link = record {
   };
 }
 
--- 28 bytes
+-- Crashpad's MinidumpModuleCrashpadInfo
 abbrev pub module_crashpad_info : Layout MINIDUMP_MODULE_CRASHPAD_INFO
 module_crashpad_info = record {
   size = 28;
@@ -47,7 +47,7 @@ module_crashpad_info = record {
   };
 }
 
--- 8 bytes
+-- Crashpad's MinidumpSimpleStringDictionaryEntry
 abbrev pub dictionary_entry : Layout MINIDUMP_SIMPLE_STRING_DICTIONARY_ENTRY
 dictionary_entry = record {
   size = 8;
@@ -57,7 +57,7 @@ dictionary_entry = record {
   };
 }
 
--- 12 bytes
+-- Crashpad's MinidumpAnnotation
 abbrev pub annotation : Layout MINIDUMP_ANNOTATION
 annotation = record {
   size = 12;

@@ -7,7 +7,7 @@ use Rattle.minidump_format.specs.Header.{location}
 use Rattle.minidump_format.specs.declared.format.exception.MINIDUMP_EXCEPTION.{MINIDUMP_EXCEPTION}
 use Rattle.minidump_format.specs.declared.format.exception.MINIDUMP_EXCEPTION_STREAM.{MINIDUMP_EXCEPTION_STREAM}
 
--- 152 bytes
+-- Microsoft's MINIDUMP_EXCEPTION
 abbrev pub exception : Layout MINIDUMP_EXCEPTION
 exception = record {
   size = 152;
@@ -22,7 +22,7 @@ exception = record {
   };
 }
 
--- 168 bytes
+-- Microsoft's MINIDUMP_EXCEPTION_STREAM
 abbrev pub exception_stream : Layout MINIDUMP_EXCEPTION_STREAM
 exception_stream = record {
   size = 168;

@@ -7,7 +7,7 @@ use Rattle.minidump_format.specs.declared.format.guid.GUID.{GUID}
 use Rattle.std.specs.Fmt.{digits}
 use Rattle.std.specs.List.{flat_map, join_with_byte}
 
--- 16 bytes
+-- Microsoft's GUID
 abbrev pub guid : Layout GUID
 guid = record {
   size = 16;

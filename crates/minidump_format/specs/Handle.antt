@@ -9,7 +9,7 @@ use Rattle.minidump_format.specs.declared.format.handle.MINIDUMP_HANDLE_OBJECT_I
 use Rattle.minidump_format.specs.declared.format.handle.MINIDUMP_HANDLE_OBJECT_INFORMATION_TYPE.{MINIDUMP_HANDLE_OBJECT_INFORMATION_TYPE}
 use Rattle.minidump_format.specs.declared.format.handle.MINIDUMP_HANDLE_OBJECT_INFORMATION_TYPE.TheVariants.{MiniHandleObjectInformationNone, MiniThreadInformation1, MiniMutantInformation1, MiniMutantInformation2, MiniProcessInformation1, MiniProcessInformation2, MiniEventInformation1, MiniSectionInformation1, MiniSemaphoreInformation1}
 
--- 32 bytes
+-- Microsoft's MINIDUMP_HANDLE_DESCRIPTOR
 abbrev pub handle_descriptor : Layout MINIDUMP_HANDLE_DESCRIPTOR
 handle_descriptor = record {
   size = 32;
@@ -24,7 +24,7 @@ handle_descriptor = record {
   };
 }
 
--- 40 bytes
+-- Microsoft's MINIDUMP_HANDLE_DESCRIPTOR_2
 abbrev pub handle_descriptor_2 : Layout MINIDUMP_HANDLE_DESCRIPTOR_2
 handle_descriptor_2 = record {
   size = 40;
@@ -41,7 +41,7 @@ handle_descriptor_2 = record {
   };
 }
 
--- 12 bytes
+-- Microsoft's MINIDUMP_HANDLE_OBJECT_INFORMATION
 abbrev pub object_information : Layout MINIDUMP_HANDLE_OBJECT_INFORMATION
 object_information = record {
   size = 12;

@@ -1,5 +1,5 @@
--- The crash information of macOS: MDRawMacCrashInfo, MDRawMacCrashInfoRecord and MDRawMacBootargs, Mozilla's extensions of
--- Breakpad's minidump_format.h.
+-- The crash information of macOS: MDRawMacCrashInfo, MDRawMacCrashInfoRecord and MDRawMacBootargs,
+-- Mozilla's extensions of Breakpad's minidump_format.h.
 use Rattle.minidump_bytes.specs.Layout.{Layout}
 use Rattle.minidump_bytes.specs.Number.{number_at}
 use Rattle.minidump_bytes.specs.Entries.{entries}
@@ -10,7 +10,7 @@ use Rattle.minidump_format.specs.declared.format.mac.MINIDUMP_MAC_CRASH_INFO_REC
 use Rattle.minidump_format.specs.declared.format.mac.MINIDUMP_MAC_CRASH_INFO_RECORD_5.{MINIDUMP_MAC_CRASH_INFO_RECORD_5}
 use Rattle.minidump_format.specs.declared.format.mac.MINIDUMP_MAC_BOOTARGS.{MINIDUMP_MAC_BOOTARGS}
 
--- 172 bytes
+-- Mozilla's MDRawMacCrashInfo
 abbrev pub mac_crash_info : Layout MINIDUMP_MAC_CRASH_INFO
 mac_crash_info = record {
   size = 172;
@@ -22,7 +22,7 @@ mac_crash_info = record {
   };
 }
 
--- 16 bytes
+-- the fields of Mozilla's MDRawMacCrashInfoRecord that every version has
 abbrev pub mac_record : Layout MINIDUMP_MAC_CRASH_INFO_RECORD
 mac_record = record {
   size = 16;
@@ -32,7 +32,7 @@ mac_record = record {
   };
 }
 
--- 32 bytes
+-- those from version 4 on
 abbrev pub mac_record_4 : Layout MINIDUMP_MAC_CRASH_INFO_RECORD_4
 mac_record_4 = record {
   size = 32;
@@ -44,7 +44,7 @@ mac_record_4 = record {
   };
 }
 
--- 40 bytes
+-- those from version 5 on
 abbrev pub mac_record_5 : Layout MINIDUMP_MAC_CRASH_INFO_RECORD_5
 mac_record_5 = record {
   size = 40;
@@ -57,7 +57,7 @@ mac_record_5 = record {
   };
 }
 
--- 12 bytes
+-- Mozilla's MDRawMacBootargs
 abbrev pub mac_boot_args : Layout MINIDUMP_MAC_BOOTARGS
 mac_boot_args = record {
   size = 12;

@@ -1,11 +1,11 @@
--- What is known of a region of memory: Microsoft's MINIDUMP_MEMORY_INFO of minidumpapiset.h, and its sets of bits, the
--- PAGE_ and MEM_ numbers of winnt.h.
+-- What is known of a region of memory: Microsoft's MINIDUMP_MEMORY_INFO of minidumpapiset.h, and its sets
+-- of bits, the PAGE_ and MEM_ numbers of winnt.h.
 use Rattle.std.specs.Prelude.{ℕ, List, [], ◌∷◌, codes}
 use Rattle.minidump_bytes.specs.Layout.{Layout}
 use Rattle.minidump_bytes.specs.Number.{number_at}
 use Rattle.minidump_format.specs.declared.format.memory_info.MINIDUMP_MEMORY_INFO.{MINIDUMP_MEMORY_INFO}
 
--- 48 bytes
+-- Microsoft's MINIDUMP_MEMORY_INFO
 abbrev pub memory_info : Layout MINIDUMP_MEMORY_INFO
 memory_info = record {
   size = 48;

@@ -1,5 +1,6 @@
--- The records of the misc information stream, as tables of width and place. Microsoft's minidumpapiset.h:
--- MINIDUMP_MISC_INFO to MINIDUMP_MISC_INFO_5, TIME_ZONE_INFORMATION, SYSTEMTIME, XSTATE_CONFIG_FEATURE_MSC_INFO.
+-- The records of the misc information stream, as tables of width and place: Microsoft's
+-- MINIDUMP_MISC_INFO to MINIDUMP_MISC_INFO_5 and XSTATE_CONFIG_FEATURE_MSC_INFO (minidumpapiset.h),
+-- TIME_ZONE_INFORMATION (timezoneapi.h), SYSTEMTIME (minwinbase.h) and XSTATE_FEATURE (winnt.h).
 use Rattle.std.specs.Prelude.{slice_range}
 use Rattle.minidump_bytes.specs.Entries.{entries}
 use Rattle.minidump_bytes.specs.Layout.{Layout, number_layout}

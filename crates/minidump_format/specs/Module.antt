@@ -1,5 +1,5 @@
--- Modules, loaded and unloaded: Microsoft's MINIDUMP_MODULE and MINIDUMP_UNLOADED_MODULE of minidumpapiset.h, and
--- VS_FIXEDFILEINFO of verrsrc.h.
+-- Modules, loaded and unloaded: Microsoft's MINIDUMP_MODULE and MINIDUMP_UNLOADED_MODULE of
+-- minidumpapiset.h, and VS_FIXEDFILEINFO of verrsrc.h.
 use Rattle.std.specs.Prelude.{slice_range}
 use Rattle.minidump_bytes.specs.Layout.{Layout, byte_layout}
 use Rattle.minidump_bytes.specs.Number.{number_at}
@@ -9,7 +9,7 @@ use Rattle.minidump_format.specs.declared.format.module.VS_FIXEDFILEINFO.{VS_FIX
 use Rattle.minidump_format.specs.declared.format.module.MINIDUMP_MODULE.{MINIDUMP_MODULE}
 use Rattle.minidump_format.specs.declared.format.module.MINIDUMP_UNLOADED_MODULE.{MINIDUMP_UNLOADED_MODULE}
 
--- 52 bytes
+-- Microsoft's VS_FIXEDFILEINFO
 abbrev pub fixed_file_info : Layout VS_FIXEDFILEINFO
 fixed_file_info = record {
   size = 52;
@@ -30,7 +30,7 @@ fixed_file_info = record {
   };
 }
 
--- 108 bytes
+-- Microsoft's MINIDUMP_MODULE
 abbrev pub module_entry : Layout MINIDUMP_MODULE
 module_entry = record {
   size = 108;
@@ -47,7 +47,7 @@ module_entry = record {
   };
 }
 
--- 24 bytes
+-- Microsoft's MINIDUMP_UNLOADED_MODULE
 abbrev pub unloaded_module_entry : Layout MINIDUMP_UNLOADED_MODULE
 unloaded_module_entry = record {
   size = 24;

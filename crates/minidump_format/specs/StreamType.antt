@@ -1,5 +1,6 @@
--- The types of stream: MINIDUMP_STREAM_TYPE of Microsoft's minidumpapiset.h, MDStreamType of Breakpad's and
--- Crashpad's minidump_format.h, and Mozilla's extensions.
+-- The types of stream: MINIDUMP_STREAM_TYPE of Microsoft's minidumpapiset.h, MDStreamType of Breakpad's
+-- minidump_format.h, and the extensions of Crashpad (minidump_extensions.h), Chromium
+-- (StabilityReportStream) and Mozilla.
 use Rattle.std.specs.Prelude.{ℕ, Bool, true, false, List, [], ◌∷◌, codes, find, ◌==◌, Option}
 use Rattle.minidump_format.specs.declared.format.stream_type.MINIDUMP_STREAM_TYPE.{MINIDUMP_STREAM_TYPE}
 use Rattle.minidump_format.specs.declared.format.stream_type.MINIDUMP_STREAM_TYPE.TheVariants.{UnusedStream, ReservedStream0, ReservedStream1, ThreadListStream, ModuleListStream, MemoryListStream, ExceptionStream, SystemInfoStream, ThreadExListStream, Memory64ListStream, CommentStreamA, CommentStreamW, HandleDataStream, FunctionTable, UnloadedModuleListStream, MiscInfoStream, MemoryInfoListStream, ThreadInfoListStream, HandleOperationListStream, TokenStream, JavaScriptDataStream, SystemMemoryInfoStream, ProcessVmCountersStream, IptTraceStream, ThreadNamesStream, ceStreamNull, ceStreamSystemInfo, ceStreamException, ceStreamModuleList, ceStreamProcessList, ceStreamThreadList, ceStreamThreadContextList, ceStreamThreadCallStackList, ceStreamMemoryVirtualList, ceStreamMemoryPhysicalList, ceStreamBucketParameters, ceStreamProcessModuleMap, ceStreamDiagnosisList, LastReservedStream, BreakpadInfoStream, AssertionInfoStream, LinuxCpuInfo, LinuxProcStatus, LinuxLsbRelease, LinuxCmdLine, LinuxEnviron, LinuxAuxv, LinuxMaps, LinuxDsoDebug, CrashpadInfoStream, MozMacosCrashInfoStream, MozMacosBootargsStream, MozLinuxLimits, MozSoftErrors, StabilityReportStream}

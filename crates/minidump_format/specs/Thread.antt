@@ -8,7 +8,7 @@ use Rattle.minidump_format.specs.declared.format.thread.MINIDUMP_THREAD.{MINIDUM
 use Rattle.minidump_format.specs.declared.format.thread.MINIDUMP_THREAD_NAME.{MINIDUMP_THREAD_NAME}
 use Rattle.minidump_format.specs.declared.format.thread.MINIDUMP_THREAD_INFO.{MINIDUMP_THREAD_INFO}
 
--- 48 bytes
+-- Microsoft's MINIDUMP_THREAD
 abbrev pub thread : Layout MINIDUMP_THREAD
 thread = record {
   size = 48;
@@ -23,7 +23,7 @@ thread = record {
   };
 }
 
--- 12 bytes
+-- Microsoft's MINIDUMP_THREAD_NAME
 abbrev pub thread_name : Layout MINIDUMP_THREAD_NAME
 thread_name = record {
   size = 12;
@@ -33,7 +33,7 @@ thread_name = record {
   };
 }
 
--- 64 bytes
+-- Microsoft's MINIDUMP_THREAD_INFO
 abbrev pub thread_info : Layout MINIDUMP_THREAD_INFO
 thread_info = record {
   size = 64;

@@ -31,7 +31,7 @@ pub enum Error {
     /// The length of a list is not the one that its count asks for.
     #[error("Stream size mismatch: expected {expected} bytes, found {actual} bytes")]
     StreamSizeMismatch {
-        /// The length that was asked for.
+        /// The length that the count gives.
         expected: usize,
         /// The length that there is.
         actual: usize,
@@ -51,7 +51,7 @@ pub enum Error {
     /// A module's name or its CodeView record is malformed.
     #[error("Error reading CodeView data")]
     CodeViewReadFailure,
-    /// An element is of no known type.
+    /// An element has an unknown type.
     #[error("Uknown element type")]
     UknownElementType,
     /// An allocation failed.

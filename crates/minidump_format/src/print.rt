@@ -42,7 +42,7 @@ fn no_memory<W: Write>(f: &Told<W>) -> Error
     }
 }
 
-/// A value that prints its text.
+/// A value that can print itself.
 pub trait Printed {
     // its text
     ghost text: { Self → List ℕ };
@@ -75,7 +75,7 @@ pub trait TextOf<T> {
     // the text of a value
     ghost text: { T → List ℕ };
 
-    /// Makes the text of a value in memory.
+    /// Formats a value.
     fn made(alloc: Global, value: &T) -> Result<String, AllocError>
         ensures { IfOk result (λ t. string_bytes t ≡ text value.now) };
 }

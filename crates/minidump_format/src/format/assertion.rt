@@ -10,9 +10,9 @@ pub struct MINIDUMP_ASSERTION_INFO {
     pub expression: [u16; 128],
     /// The function that has the assertion, in UTF-16, up to the first zero.
     pub function: [u16; 128],
-    /// The file of that function, in UTF-16, up to the first zero.
+    /// The source file, in UTF-16, up to the first 0.
     pub file: [u16; 128],
-    /// The line in that file.
+    /// The line of the source file.
     pub line: u32,
     /// The kind of the assertion.
     pub _type: u32,

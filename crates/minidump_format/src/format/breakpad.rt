@@ -5,14 +5,14 @@ ghost use Rattle.minidump_format.specs.Breakpad.{breakpad_info_valid};
 use bitflags::{Flag, Flags, bitflag_items};
 use minidump_bytes::{Endian, Exact, Record};
 
-/// Which threads wrote the dump and asked for it: Breakpad's `MDRawBreakpadInfo`.
+/// The threads that wrote and requested the dump: Breakpad's `MDRawBreakpadInfo`.
 #[derive(Clone, Copy, Debug, PartialEq, Eq)]
 pub struct MINIDUMP_BREAKPAD_INFO {
     /// Which of the other fields are set: [`BreakpadInfoValid`], as a number.
     pub validity: u32,
-    /// The thread that wrote the dump.
+    /// The id of the thread that wrote the dump.
     pub dump_thread_id: u32,
-    /// The thread that asked for it.
+    /// The id of the thread that requested the dump.
     pub requesting_thread_id: u32,
 }
 
@@ -48,7 +48,7 @@ bitflag_items! {
     impl BreakpadInfoValid: u32 {
         /// The thread that wrote the dump.
         const DumpThreadId = 0x1;
-        /// The thread that asked for it.
+        /// The thread that requested the dump.
         const RequestingThreadId = 0x2;
     }
 }

@@ -4,7 +4,7 @@ ghost use Rattle.std.proofs.lemmas.Slice.Eq.{bytes_eq-Decides};
 use super::{GUID, MINIDUMP_LOCATION_DESCRIPTOR, RVA};
 use minidump_bytes::{Endian, Exact, Record};
 
-/// What Crashpad knows of the process: Crashpad's `MinidumpCrashpadInfo`.
+/// Crashpad's information on the process: `MinidumpCrashpadInfo`.
 #[derive(Clone, Copy, Debug, PartialEq, Eq)]
 pub struct MINIDUMP_CRASHPAD_INFO {
     pub version: u32,
@@ -12,9 +12,9 @@ pub struct MINIDUMP_CRASHPAD_INFO {
     pub report_id: GUID,
     /// The identifier of the client that crashed.
     pub client_id: GUID,
-    /// Where the dictionary of the process is.
+    /// The location of the process's dictionary.
     pub simple_annotations: MINIDUMP_LOCATION_DESCRIPTOR,
-    /// Where the list of modules is.
+    /// The location of the list of modules.
     pub module_list: MINIDUMP_LOCATION_DESCRIPTOR,
 }
 
@@ -44,12 +44,12 @@ impl Exact for MINIDUMP_CRASHPAD_INFO {
     ghost exact = { record { equal = λ x y. ((λ h. Prim.grind (rules, bytes_eq-Decides x.report_id.data4 y.report_id.data4, bytes_eq-Decides x.client_id.data4 y.client_id.data4)), (λ h. rw h (Prim.search (rules, bytes_eq-Decides)))); copied = λ x y h. Prim.search rules } };
 }
 
-/// A link from a module to what Crashpad knows of it: Crashpad's `MinidumpModuleCrashpadInfoLink`.
+/// A link from a module to Crashpad's information on it: `MinidumpModuleCrashpadInfoLink`.
 #[derive(Clone, Copy, Debug, PartialEq, Eq)]
 pub struct MINIDUMP_MODULE_CRASHPAD_INFO_LINK {
     /// The index of the module in the module list.
     pub minidump_module_list_index: u32,
-    /// Where its [`MINIDUMP_MODULE_CRASHPAD_INFO`] is.
+    /// The location of its [`MINIDUMP_MODULE_CRASHPAD_INFO`].
     pub location: MINIDUMP_LOCATION_DESCRIPTOR,
 }
 
@@ -76,15 +76,15 @@ impl Exact for MINIDUMP_MODULE_CRASHPAD_INFO_LINK {
     ghost exact = { Prim.search rules };
 }
 
-/// What Crashpad knows of a module: Crashpad's `MinidumpModuleCrashpadInfo`.
+/// Crashpad's information on a module: `MinidumpModuleCrashpadInfo`.
 #[derive(Clone, Copy, Debug, PartialEq, Eq)]
 pub struct MINIDUMP_MODULE_CRASHPAD_INFO {
     pub version: u32,
-    /// Where its list of texts is.
+    /// The location of its list of texts.
     pub list_annotations: MINIDUMP_LOCATION_DESCRIPTOR,
-    /// Where its dictionary is.
+    /// The location of its dictionary.
     pub simple_annotations: MINIDUMP_LOCATION_DESCRIPTOR,
-    /// Where its list of annotations is.
+    /// The location of its list of annotations.
     pub annotation_objects: MINIDUMP_LOCATION_DESCRIPTOR,
 }
 
@@ -116,9 +116,9 @@ impl Exact for MINIDUMP_MODULE_CRASHPAD_INFO {
 /// An entry of a dictionary: Crashpad's `MinidumpSimpleStringDictionaryEntry`.
 #[derive(Clone, Copy, Debug, PartialEq, Eq)]
 pub struct MINIDUMP_SIMPLE_STRING_DICTIONARY_ENTRY {
-    /// Where the text of its key is.
+    /// The offset of the key, a UTF-8 text.
     pub key: RVA,
-    /// Where the text of its value is.
+    /// The offset of the value, a UTF-8 text.
     pub value: RVA,
 }
 
@@ -145,15 +145,15 @@ impl Exact for MINIDUMP_SIMPLE_STRING_DICTIONARY_ENTRY {
     ghost exact = { Prim.search rules };
 }
 
-/// A value with a name: Crashpad's `MinidumpAnnotation`.
+/// A named value: Crashpad's `MinidumpAnnotation`.
 #[derive(Clone, Copy, Debug, PartialEq, Eq)]
 pub struct MINIDUMP_ANNOTATION {
-    /// Where the text of its name is.
+    /// The offset of the name, a UTF-8 text.
     pub name: RVA,
     /// The type of the value, as [`MINIDUMP_ANNOTATION::TYPE_STRING`].
     pub ty: u16,
     pub reserved: u16,
-    /// Where the value is.
+    /// The offset of the value.
     pub value: RVA,
 }
 
@@ -183,7 +183,7 @@ impl Exact for MINIDUMP_ANNOTATION {
 }
 
 impl MINIDUMP_ANNOTATION {
-    /// The `ty` of an annotation that is to be left out.
+    /// The `ty` of an annotation without a value.
     pub const TYPE_INVALID: u16 = 0;
 
     /// The `ty` of a text.

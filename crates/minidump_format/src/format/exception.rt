@@ -15,7 +15,7 @@ pub struct MINIDUMP_EXCEPTION {
     pub exception_record: u64,
     /// The address at which the exception happened.
     pub exception_address: u64,
-    /// How many elements of `exception_information` are set.
+    /// The number of elements of `exception_information` that are set.
     pub number_parameters: u32,
     pub unused1: u32,
     /// The parameters, whose meaning depends on the code.
@@ -58,7 +58,7 @@ pub struct MINIDUMP_EXCEPTION_STREAM {
     pub unused1: u32,
     /// The exception.
     pub exception_record: MINIDUMP_EXCEPTION,
-    /// Where the context of the thread is.
+    /// The location of the thread's context.
     pub thread_context: MINIDUMP_LOCATION_DESCRIPTOR,
 }
 

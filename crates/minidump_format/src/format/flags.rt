@@ -11,7 +11,7 @@ bitflag_items! {
     impl MiscInfoFlags: u32 {
         /// The id of the process.
         const MINIDUMP_MISC1_PROCESS_ID = 0x1;
-        /// When the process began, and how long it ran.
+        /// The times of the process.
         const MINIDUMP_MISC1_PROCESS_TIMES = 0x2;
         /// The clock rates and the idle states of the processors.
         const MINIDUMP_MISC1_PROCESSOR_POWER_INFO = 0x4;
@@ -23,7 +23,7 @@ bitflag_items! {
         const MINIDUMP_MISC3_TIMEZONE = 0x40;
         /// Whether the process is protected.
         const MINIDUMP_MISC3_PROTECTED_PROCESS = 0x80;
-        /// Both builds.
+        /// `build_string` and `dbg_bld_str`.
         const MINIDUMP_MISC4_BUILDSTRING = 0x100;
         /// The cookie of the process.
         const MINIDUMP_MISC5_PROCESS_COOKIE = 0x200;

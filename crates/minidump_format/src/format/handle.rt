@@ -51,7 +51,7 @@ impl Exact for MINIDUMP_HANDLE_DESCRIPTOR {
     ghost exact = { Prim.search rules };
 }
 
-/// An open handle, with what is known of its object: Microsoft's `MINIDUMP_HANDLE_DESCRIPTOR_2`.
+/// An open handle, with further information on its object: Microsoft's `MINIDUMP_HANDLE_DESCRIPTOR_2`.
 #[derive(Clone, Copy, Debug, PartialEq, Eq)]
 pub struct MINIDUMP_HANDLE_DESCRIPTOR_2 {
     /// The value of the handle.
@@ -108,7 +108,7 @@ impl Exact for MINIDUMP_HANDLE_DESCRIPTOR_2 {
 pub struct MINIDUMP_HANDLE_OBJECT_INFORMATION {
     /// The RVA of the next piece of information, or 0.
     pub next_info_rva: RVA,
-    /// A [`MINIDUMP_HANDLE_OBJECT_INFORMATION_TYPE`], as a number.
+    /// The type: [`MINIDUMP_HANDLE_OBJECT_INFORMATION_TYPE`], as a number.
     pub info_type: u32,
     /// The number of bytes that follow.
     pub size_of_info: u32,

@@ -5,10 +5,10 @@ use minidump_bytes::{Endian, Record};
 /// An offset in the file, in bytes from its beginning.
 pub type RVA = u32;
 
-/// The first four bytes of a minidump, `MDMP`, as a number.
+/// The signature of a minidump, its first four bytes: `MDMP`, as a number.
 pub const MINIDUMP_SIGNATURE: u32 = 0x504d_444d;
 
-/// The low 16 bits of a header's version.
+/// The low 16 bits of a header's `version`.
 pub const MINIDUMP_VERSION: u32 = 0xa793;
 
 /// The header of a minidump, its first 32 bytes: Microsoft's `MINIDUMP_HEADER`.

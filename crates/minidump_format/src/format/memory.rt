@@ -3,7 +3,7 @@ ghost use Rattle.std.proofs.Common.{rules};
 use super::MINIDUMP_LOCATION_DESCRIPTOR;
 use minidump_bytes::{Endian, Record};
 
-/// A region of memory, with its bytes anywhere in the file: Microsoft's `MINIDUMP_MEMORY_DESCRIPTOR`.
+/// A memory region, and the location of its bytes: Microsoft's `MINIDUMP_MEMORY_DESCRIPTOR`.
 #[derive(Clone, Copy, Debug, PartialEq, Eq)]
 pub struct MINIDUMP_MEMORY_DESCRIPTOR {
     /// The base address.
@@ -31,7 +31,7 @@ impl Record for MINIDUMP_MEMORY_DESCRIPTOR {
     ghost fits = { Prim.search rules };
 }
 
-/// A region of memory of a list whose bytes lie behind one another in the file: Microsoft's
+/// A memory region of a list whose regions' bytes are consecutive in the file: Microsoft's
 /// `MINIDUMP_MEMORY_DESCRIPTOR64`.
 #[derive(Clone, Copy, Debug, PartialEq, Eq)]
 pub struct MINIDUMP_MEMORY_DESCRIPTOR64 {

@@ -12,16 +12,16 @@ pub struct MINIDUMP_MEMORY_INFO {
     pub base_address: u64,
     /// The base address of the allocation that the region is part of.
     pub allocation_base: u64,
-    /// The protection when it was allocated: [`MemoryProtection`], as a number.
+    /// The protection when the region was allocated: [`MemoryProtection`], as a number.
     pub allocation_protection: u32,
     pub unused1: u32,
     /// The number of bytes.
     pub region_size: u64,
-    /// [`MemoryState`], as a number.
+    /// The state: [`MemoryState`], as a number.
     pub state: u32,
     /// The protection when the dump was written: [`MemoryProtection`], as a number.
     pub protection: u32,
-    /// [`MemoryType`], as a number.
+    /// The type: [`MemoryType`], as a number.
     pub _type: u32,
     pub unused2: u32,
 }
@@ -56,17 +56,17 @@ impl Exact for MINIDUMP_MEMORY_INFO {
     ghost exact = { Prim.search rules };
 }
 
-/// How memory may be accessed: Microsoft's `PAGE_` numbers.
+/// The access that pages allow: Microsoft's `PAGE_` numbers.
 #[derive(Clone, Copy, Debug, PartialEq, Eq)]
 pub struct MemoryProtection(u32);
 
 bitflag_items! {
     impl MemoryProtection: u32 {
-        /// No access at all.
+        /// No access.
         const PAGE_NOACCESS = 0x1;
         const PAGE_READONLY = 0x2;
         const PAGE_READWRITE = 0x4;
-        /// Reads, and writes to a copy of its own.
+        /// Reads, and writes to a private copy.
         const PAGE_WRITECOPY = 0x8;
         const PAGE_EXECUTE = 0x10;
         const PAGE_EXECUTE_READ = 0x20;
@@ -112,11 +112,11 @@ pub struct MemoryState(u32);
 
 bitflag_items! {
     impl MemoryState: u32 {
-        /// Memory stands behind it.
+        /// Committed: memory is allocated for it.
         const MEM_COMMIT = 0x1000;
-        /// Reserved, with no memory behind it.
+        /// Reserved: no memory is allocated for it yet.
         const MEM_RESERVE = 0x2000;
-        /// Not in use.
+        /// Free: not in use.
         const MEM_FREE = 0x1_0000;
     }
 }
@@ -156,9 +156,9 @@ bitflag_items! {
     impl MemoryType: u32 {
         /// Private to the process.
         const MEM_PRIVATE = 0x2_0000;
-        /// A view of a section.
+        /// Mapped from a section.
         const MEM_MAPPED = 0x4_0000;
-        /// A view of the image of a module.
+        /// Mapped from the image of a module.
         const MEM_IMAGE = 0x100_0000;
     }
 }

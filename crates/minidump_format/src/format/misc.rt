@@ -55,11 +55,11 @@ pub struct MINIDUMP_MISC_INFO_2 {
     pub process_user_time: u32,
     /// The time for which the process ran in kernel mode, in seconds.
     pub process_kernel_time: u32,
-    /// The highest clock rate of the processors, in MHz.
+    /// The processor's highest clock rate in MHz.
     pub processor_max_mhz: u32,
-    /// Their clock rate when the dump was written, in MHz.
+    /// The processor's current clock rate in MHz.
     pub processor_current_mhz: u32,
-    /// The clock rate that the system limits them to, in MHz.
+    /// The limit that the system sets to the clock rate, in MHz.
     pub processor_mhz_limit: u32,
     pub processor_max_idle_state: u32,
     pub processor_current_idle_state: u32,
@@ -140,13 +140,13 @@ impl Record for SYSTEMTIME {
 pub struct TIME_ZONE_INFORMATION {
     /// Minutes to add to local time for UTC.
     pub bias: i32,
-    /// The name of standard time, in UTF-16, up to the first zero.
+    /// The name of standard time, in UTF-16, up to the first 0.
     pub standard_name: [u16; 32],
     /// When standard time begins.
     pub standard_date: SYSTEMTIME,
     /// Minutes to add to `bias` in standard time.
     pub standard_bias: i32,
-    /// The name of daylight saving time, in UTF-16, up to the first zero.
+    /// The name of daylight saving time, in UTF-16, up to the first 0.
     pub daylight_name: [u16; 32],
     /// When daylight saving time begins.
     pub daylight_date: SYSTEMTIME,
@@ -192,18 +192,18 @@ pub struct MINIDUMP_MISC_INFO_3 {
     pub process_user_time: u32,
     /// The time for which the process ran in kernel mode, in seconds.
     pub process_kernel_time: u32,
-    /// The highest clock rate of the processors, in MHz.
+    /// The processor's highest clock rate in MHz.
     pub processor_max_mhz: u32,
-    /// Their clock rate when the dump was written, in MHz.
+    /// The processor's current clock rate in MHz.
     pub processor_current_mhz: u32,
-    /// The clock rate that the system limits them to, in MHz.
+    /// The limit that the system sets to the clock rate, in MHz.
     pub processor_mhz_limit: u32,
     pub processor_max_idle_state: u32,
     pub processor_current_idle_state: u32,
     pub process_integrity_level: u32,
     pub process_execute_flags: u32,
     pub protected_process: u32,
-    /// 0: the zone has no daylight saving time; 1: standard time; 2: daylight saving time.
+    /// The time zone id: 0 no daylight saving time, 1 standard time, 2 daylight saving time.
     pub time_zone_id: u32,
     pub time_zone: TIME_ZONE_INFORMATION,
 }
@@ -255,23 +255,23 @@ pub struct MINIDUMP_MISC_INFO_4 {
     pub process_user_time: u32,
     /// The time for which the process ran in kernel mode, in seconds.
     pub process_kernel_time: u32,
-    /// The highest clock rate of the processors, in MHz.
+    /// The processor's highest clock rate in MHz.
     pub processor_max_mhz: u32,
-    /// Their clock rate when the dump was written, in MHz.
+    /// The processor's current clock rate in MHz.
     pub processor_current_mhz: u32,
-    /// The clock rate that the system limits them to, in MHz.
+    /// The limit that the system sets to the clock rate, in MHz.
     pub processor_mhz_limit: u32,
     pub processor_max_idle_state: u32,
     pub processor_current_idle_state: u32,
     pub process_integrity_level: u32,
     pub process_execute_flags: u32,
     pub protected_process: u32,
-    /// 0: the zone has no daylight saving time; 1: standard time; 2: daylight saving time.
+    /// The time zone id: 0 no daylight saving time, 1 standard time, 2 daylight saving time.
     pub time_zone_id: u32,
     pub time_zone: TIME_ZONE_INFORMATION,
-    /// The build of the system, in UTF-16, up to the first zero.
+    /// The build of the system, in UTF-16, up to the first 0.
     pub build_string: [u16; 260],
-    /// The build of the library that wrote the dump, in UTF-16, up to the first zero.
+    /// The build of the library that wrote the dump, in UTF-16, up to the first 0.
     pub dbg_bld_str: [u16; 40],
 }
 
@@ -347,7 +347,7 @@ pub struct XSTATE_CONFIG_FEATURE_MSC_INFO {
     pub context_size: u32,
     /// The enabled features, a bit for each index.
     pub enabled_features: u64,
-    /// The features by their index, [`XstateFeatureIndex`](super::XstateFeatureIndex).
+    /// The places of the features by index, [`XstateFeatureIndex`](super::XstateFeatureIndex).
     pub features: [XSTATE_FEATURE; 64],
 }
 
@@ -386,23 +386,23 @@ pub struct MINIDUMP_MISC_INFO_5 {
     pub process_user_time: u32,
     /// The time for which the process ran in kernel mode, in seconds.
     pub process_kernel_time: u32,
-    /// The highest clock rate of the processors, in MHz.
+    /// The processor's highest clock rate in MHz.
     pub processor_max_mhz: u32,
-    /// Their clock rate when the dump was written, in MHz.
+    /// The processor's current clock rate in MHz.
     pub processor_current_mhz: u32,
-    /// The clock rate that the system limits them to, in MHz.
+    /// The limit that the system sets to the clock rate, in MHz.
     pub processor_mhz_limit: u32,
     pub processor_max_idle_state: u32,
     pub processor_current_idle_state: u32,
     pub process_integrity_level: u32,
     pub process_execute_flags: u32,
     pub protected_process: u32,
-    /// 0: the zone has no daylight saving time; 1: standard time; 2: daylight saving time.
+    /// The time zone id: 0 no daylight saving time, 1 standard time, 2 daylight saving time.
     pub time_zone_id: u32,
     pub time_zone: TIME_ZONE_INFORMATION,
-    /// The build of the system, in UTF-16, up to the first zero.
+    /// The build of the system, in UTF-16, up to the first 0.
     pub build_string: [u16; 260],
-    /// The build of the library that wrote the dump, in UTF-16, up to the first zero.
+    /// The build of the library that wrote the dump, in UTF-16, up to the first 0.
     pub dbg_bld_str: [u16; 40],
     /// The layout of the processor's extended state.
     pub xstate_data: XSTATE_CONFIG_FEATURE_MSC_INFO,

@@ -18,7 +18,7 @@ pub struct VS_FIXEDFILEINFO {
     pub product_version_hi: u32,
     /// The last two parts of the product's version, 16 bits each.
     pub product_version_lo: u32,
-    /// Which bits of `file_flags` are valid.
+    /// The bits of `file_flags` that are valid.
     pub file_flags_mask: u32,
     pub file_flags: u32,
     /// The system that the file was built for.
@@ -65,20 +65,20 @@ impl Exact for VS_FIXEDFILEINFO {
     ghost exact = { record { equal = λ x y. ((λ h. Prim.grind rules), (λ h. Prim.grind rules)); copied = λ x y h. Prim.search rules } };
 }
 
-/// A module that was loaded: Microsoft's `MINIDUMP_MODULE`.
+/// A loaded module: Microsoft's `MINIDUMP_MODULE`.
 #[derive(Clone, Copy, Debug, PartialEq, Eq)]
 pub struct MINIDUMP_MODULE {
     /// The base address.
     pub base_of_image: u64,
     /// The number of bytes of memory that it takes.
     pub size_of_image: u32,
-    /// The checksum in the header of its image.
+    /// The checksum in the header of the module's image.
     pub checksum: u32,
     /// The time at which it was linked, in seconds since 1970.
     pub time_date_stamp: u32,
     /// The RVA of its name.
     pub module_name_rva: RVA,
-    /// Its version.
+    /// The version.
     pub version_info: VS_FIXEDFILEINFO,
     /// The location of its CodeView record.
     pub cv_record: MINIDUMP_LOCATION_DESCRIPTOR,
@@ -113,14 +113,14 @@ impl Record for MINIDUMP_MODULE {
     ghost fits = { Prim.search rules };
 }
 
-/// A module that was unloaded: Microsoft's `MINIDUMP_UNLOADED_MODULE`.
+/// An unloaded module: Microsoft's `MINIDUMP_UNLOADED_MODULE`.
 #[derive(Clone, Copy, Debug, PartialEq, Eq)]
 pub struct MINIDUMP_UNLOADED_MODULE {
     /// The base address.
     pub base_of_image: u64,
     /// The number of bytes of memory that it took.
     pub size_of_image: u32,
-    /// The checksum in the header of its image.
+    /// The checksum in the header of the module's image.
     pub checksum: u32,
     /// The time at which it was linked, in seconds since 1970.
     pub time_date_stamp: u32,

@@ -1,8 +1,8 @@
 ghost use Rattle.std.specs.Prelude.{◌≡◌};
 ghost use Rattle.minidump_format.specs.StreamType.{is_unimplemented, number_of, type_name, stream_type_of};
 
-/// The types of stream that have a name: Microsoft's `MINIDUMP_STREAM_TYPE`, with the extensions of
-/// Breakpad, Crashpad and Mozilla.
+/// The named types of stream: Microsoft's `MINIDUMP_STREAM_TYPE`, with the extensions of Breakpad,
+/// Crashpad, Chromium and Mozilla.
 #[allow(non_camel_case_types)]
 #[derive(Clone, Copy, Debug, PartialEq, Eq)]
 pub enum MINIDUMP_STREAM_TYPE {

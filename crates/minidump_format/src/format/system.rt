@@ -5,10 +5,10 @@ ghost use Rattle.minidump_format.specs.System.{architecture_number, architecture
 use super::RVA;
 use minidump_bytes::{Endian, Record, array_at};
 
-/// The system that a dump was written on: Microsoft's `MINIDUMP_SYSTEM_INFO`.
+/// The system information: Microsoft's `MINIDUMP_SYSTEM_INFO`.
 #[derive(Clone, Copy, Debug, PartialEq, Eq)]
 pub struct MINIDUMP_SYSTEM_INFO {
-    /// A [`ProcessorArchitecture`], as a number.
+    /// The architecture: [`ProcessorArchitecture`], as a number.
     pub processor_architecture: u16,
     pub processor_level: u16,
     pub processor_revision: u16,
@@ -17,7 +17,7 @@ pub struct MINIDUMP_SYSTEM_INFO {
     pub major_version: u32,
     pub minor_version: u32,
     pub build_number: u32,
-    /// A [`PlatformId`], as a number.
+    /// The platform: [`PlatformId`], as a number.
     pub platform_id: u32,
     /// The RVA of the text of the service pack.
     pub csd_version_rva: RVA,
@@ -60,7 +60,7 @@ impl Record for MINIDUMP_SYSTEM_INFO {
 /// The identification of an x86 processor, as the CPU bytes begin with it.
 #[derive(Clone, Copy, Debug, PartialEq, Eq)]
 pub struct X86CpuInfo {
-    /// The twelve characters of the vendor, the lowest byte of each number first.
+    /// The vendor's 12 characters, the lowest byte of each number first.
     pub vendor_id: [u32; 3],
     pub unused1: [u32; 3],
 }
@@ -88,7 +88,7 @@ impl Record for X86CpuInfo {
 #[derive(Clone, Copy, Debug, PartialEq, Eq)]
 pub struct ARMCpuInfo {
     pub cpuid: u32,
-    /// The features that the kernel reported.
+    /// The features that the kernel reports: [`ArmElfHwCaps`](super::ArmElfHwCaps), as a number.
     pub elf_hwcaps: u32,
 }
 
@@ -111,7 +111,7 @@ impl Record for ARMCpuInfo {
     ghost fits = { Prim.search rules };
 }
 
-/// The architectures of processors that have a name: Microsoft's, with Breakpad's extensions.
+/// The named processor architectures: Microsoft's, with Breakpad's extensions.
 #[allow(non_camel_case_types)]
 #[derive(Clone, Copy, Debug, PartialEq, Eq)]
 pub enum ProcessorArchitecture {
@@ -157,7 +157,7 @@ impl ProcessorArchitecture {
     }
 }
 
-/// The operating systems that have a name: Microsoft's, with Breakpad's extensions.
+/// The named platforms: Microsoft's, with Breakpad's extensions.
 #[allow(non_camel_case_types)]
 #[derive(Clone, Copy, Debug, PartialEq, Eq)]
 pub enum PlatformId {

@@ -11,9 +11,9 @@ pub struct MINIDUMP_THREAD {
     pub suspend_count: u32,
     pub priority_class: u32,
     pub priority: u32,
-    /// The address of its thread environment block.
+    /// The address of the thread environment block.
     pub teb: u64,
-    /// Its stack.
+    /// The memory region of the stack.
     pub stack: MINIDUMP_MEMORY_DESCRIPTOR,
     /// The location of its context.
     pub thread_context: MINIDUMP_LOCATION_DESCRIPTOR,
@@ -84,7 +84,7 @@ pub struct MINIDUMP_THREAD_INFO {
     pub thread_id: u32,
     /// The state of the thread: Microsoft's `MINIDUMP_THREAD_INFO_` numbers.
     pub dump_flags: u32,
-    /// The status of writing the thread, an `HRESULT`.
+    /// The dump status of the thread, an `HRESULT`.
     pub dump_error: u32,
     /// The exit status of the thread.
     pub exit_status: u32,
@@ -98,7 +98,7 @@ pub struct MINIDUMP_THREAD_INFO {
     pub user_time: u64,
     /// The address at which it began.
     pub start_address: u64,
-    /// The processors that it may run on, a bit each.
+    /// The processors that the thread may run on, a bit each.
     pub affinity: u64,
 }
 

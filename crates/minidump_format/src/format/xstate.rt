@@ -21,7 +21,7 @@ impl XSTATE_CONFIG_FEATURE_MSC_INFO {
 #[derive(Drop)]
 pub struct XstateFeatures<'a> {
     config: &'a XSTATE_CONFIG_FEATURE_MSC_INFO,
-    /// The first index that has not been looked at.
+    /// The next index.
     index: usize,
 }
 
@@ -45,7 +45,7 @@ impl<'a> Iterator for XstateFeatures<'a> {
     }
 }
 
-/// The features of a processor's extended state that have a name: Microsoft's `XSTATE_` numbers.
+/// The named features of a processor's extended state: Microsoft's `XSTATE_` numbers.
 #[allow(non_camel_case_types)]
 #[derive(Clone, Copy, Debug, PartialEq, Eq)]
 pub enum XstateFeatureIndex {

@@ -6,15 +6,15 @@ use minidump_bytes::{Endian, Record, array_at};
 /// `MDRawContextAMD64`.
 #[derive(Clone, Copy)]
 pub struct CONTEXT_AMD64 {
-    /// Room for the first argument of a call; the next five likewise.
+    /// The home space of a call's first parameter; the next five fields likewise.
     pub p1_home: u64,
     pub p2_home: u64,
     pub p3_home: u64,
     pub p4_home: u64,
     pub p5_home: u64,
     pub p6_home: u64,
-    /// The processor, [`ContextFlagsCpu`](super::ContextFlagsCpu), and which registers are set, as
-    /// a number.
+    /// The processor, as [`ContextFlagsCpu`](super::ContextFlagsCpu) names it, and which registers are
+    /// set.
     pub context_flags: u32,
     pub mx_csr: u32,
     pub cs: u16,
@@ -51,8 +51,8 @@ pub struct CONTEXT_AMD64 {
     pub unused1: [u8; 512],
     /// The vector registers, Microsoft's `VectorRegister`.
     pub unused2: [u128; 26],
-    /// Microsoft's `VectorControl`, `DebugControl`, and where the last branch and the last
-    /// exception went to and came from.
+    /// Microsoft's `VectorControl`, `DebugControl`, and the addresses of the last branch and the last
+    /// exception, to and from.
     pub unused3: [u64; 6],
 }
 

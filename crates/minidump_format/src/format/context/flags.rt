@@ -22,7 +22,7 @@ bitflag_items! {
         const CONTEXT_SPARC = 0x1000_0000;
         const CONTEXT_PPC = 0x2000_0000;
         const CONTEXT_ARM = 0x4000_0000;
-        /// ARM64, in the layout that Breakpad had first.
+        /// ARM64, in Breakpad's first layout.
         const CONTEXT_ARM64_OLD = 0x8000_0000;
     }
 }

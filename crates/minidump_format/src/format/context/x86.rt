@@ -47,8 +47,8 @@ impl Record for FLOATING_SAVE_AREA_X86 {
 /// `MDRawContextX86`.
 #[derive(Clone, Copy)]
 pub struct CONTEXT_X86 {
-    /// The processor, [`ContextFlagsCpu`](super::ContextFlagsCpu), and which registers are set, as
-    /// a number.
+    /// The processor, as [`ContextFlagsCpu`](super::ContextFlagsCpu) names it, and which registers are
+    /// set.
     pub context_flags: u32,
     pub dr0: u32,
     pub dr1: u32,

@@ -1,3 +1,4 @@
+-- Each field is read at its place.
 use Rattle.minidump_format.proofs.format.context.x86.CONTEXT_X86Record.decode.Goals as goal
 
 -- the record by its fields
