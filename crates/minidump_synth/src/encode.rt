@@ -21,7 +21,7 @@ use minidump_bytes::{Endian, Record};
 
 /// A value that has bytes in a minidump.
 pub trait Encode {
-    /// Appends the bytes of the value, in the order of the section.
+    /// Appends the value's bytes, in the section's byte order.
     fn encode(&self, into: &mut Section);
 }
 

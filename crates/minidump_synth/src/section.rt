@@ -36,7 +36,7 @@ impl Section {
         self.bytes.clone()
     }
 
-    /// Appends bytes as they are.
+    /// Appends `bytes`.
     pub fn bytes(&mut self, bytes: &[u8]) -> &mut Section {
         if self.bytes.extend_from_slice(bytes).is_err() {
             self.failed = true;
@@ -60,12 +60,12 @@ impl Section {
         self.bytes(&other.bytes)
     }
 
-    /// Appends a number of 8 bits.
+    /// Appends a `u8`.
     pub fn u8(&mut self, n: u8) -> &mut Section {
         self.bytes(&[n])
     }
 
-    /// Appends a number of 16 bits.
+    /// Appends a `u16`.
     pub fn u16(&mut self, n: u16) -> &mut Section {
         match self.endian {
             Endian::Little => self.bytes(&n.to_le_bytes()),
@@ -73,7 +73,7 @@ impl Section {
         }
     }
 
-    /// Appends a number of 32 bits.
+    /// Appends a `u32`.
     pub fn u32(&mut self, n: u32) -> &mut Section {
         match self.endian {
             Endian::Little => self.bytes(&n.to_le_bytes()),
@@ -81,7 +81,7 @@ impl Section {
         }
     }
 
-    /// Appends a number of 64 bits.
+    /// Appends a `u64`.
     pub fn u64(&mut self, n: u64) -> &mut Section {
         match self.endian {
             Endian::Little => self.bytes(&n.to_le_bytes()),
@@ -89,7 +89,7 @@ impl Section {
         }
     }
 
-    /// Appends a number of 128 bits.
+    /// Appends a `u128`.
     pub fn u128(&mut self, n: u128) -> &mut Section {
         match self.endian {
             Endian::Little => self.bytes(&n.to_le_bytes()),
@@ -97,7 +97,7 @@ impl Section {
         }
     }
 
-    /// Appends a signed number of 32 bits, in two's complement.
+    /// Appends an `i32`.
     pub fn i32(&mut self, n: i32) -> &mut Section {
         self.u32(n.cast_unsigned())
     }
@@ -157,7 +157,7 @@ impl Section {
         self.u64(records.len() as u64).u64(rva).records(records)
     }
 
-    /// Appends the size of the list's header, that of a record, and the count of the records, each a
+    /// Appends the size of the list's header, the size of a record and the count of the records, each a
     /// `u32`; zeros up to the end of the header; then the records.
     pub fn extended_list<R: Encode + Record>(
         &mut self,

@@ -1,3 +1,4 @@
+-- The lemmas of this crate.
 pub mod DateFacts
 pub mod DateText
 pub mod MomentFacts

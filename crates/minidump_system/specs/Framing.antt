@@ -17,7 +17,7 @@ use Rattle.minidump_system.specs.declared.framing.ListHeader.{ListHeader}
 abbrev pub count_of : Endian → List ℕ → ℕ
 count_of order bytes = number_at order 4 0 (slice_range bytes 0 4)
 
--- by the count: with it come the entries, at once or after four bytes more, and nothing else
+-- the list by its count: the length must be 4 + size * count, or four more
 abbrev counted : {R : Type 0} → Layout R → Endian → List ℕ → Option ℕ → Result (List R) Error
 counted layout order bytes None = Err StreamReadFailure
 counted layout order bytes (Some count) =

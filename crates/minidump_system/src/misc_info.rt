@@ -57,7 +57,7 @@ impl RawMiscInfo {
         }
     }
 
-    /// The id of the process.
+    /// Returns the id of the process.
     #[tactic(auto, unfolding(crate::specs::MiscInfo::process_id))]
     pub fn process_id(&self) -> Option<&u32>
         ensures { option_copied result ≡ process_id self.now }
@@ -212,7 +212,7 @@ impl RawMiscInfo {
         )
     }
 
-    /// The integrity level of the process.
+    /// Returns the integrity level of the process.
     #[tactic(auto, unfolding(crate::specs::MiscInfo::process_integrity_level))]
     pub fn process_integrity_level(&self) -> Option<&u32>
         ensures { option_copied result ≡ process_integrity_level self.now }
@@ -281,7 +281,7 @@ impl RawMiscInfo {
         where_set(flags1, MiscInfoFlags::MINIDUMP_MISC3_TIMEZONE, field)
     }
 
-    /// The time zone.
+    /// Returns the time zone.
     #[tactic(auto, unfolding(crate::specs::MiscInfo::time_zone))]
     pub fn time_zone(&self) -> Option<&TIME_ZONE_INFORMATION>
         ensures { option_copied result ≡ time_zone self.now }
@@ -321,7 +321,7 @@ impl RawMiscInfo {
         where_set(flags1, MiscInfoFlags::MINIDUMP_MISC4_BUILDSTRING, field)
     }
 
-    /// The layout of the processor's extended state.
+    /// Returns the layout of the processor's extended state.
     #[tactic(auto, unfolding(crate::specs::MiscInfo::xstate_data))]
     pub fn xstate_data(&self) -> Option<&XSTATE_CONFIG_FEATURE_MSC_INFO>
         ensures { option_copied result ≡ xstate_data self.now }
@@ -332,7 +332,7 @@ impl RawMiscInfo {
         }
     }
 
-    /// The cookie of the process.
+    /// Returns the cookie of the process.
     #[tactic(auto, unfolding(crate::specs::MiscInfo::process_cookie))]
     pub fn process_cookie(&self) -> Option<&u32>
         ensures { option_copied result ≡ process_cookie self.now }

@@ -8,7 +8,7 @@ use minidump_format::format::PlatformId;
 use std::alloc::{AllocError, Global};
 use std::fmt;
 
-/// The operating system that a dump was written on.
+/// The operating system that the dump was written on.
 #[derive(Clone, Copy, Debug, PartialEq, Eq)]
 pub enum Os {
     Windows,

@@ -19,11 +19,11 @@ use std::io::Write;
 /// The system information: the operating system and the processor that a dump was written on.
 #[derive(Drop)]
 pub struct MinidumpSystemInfo {
-    /// The record, as it stands in the stream.
+    /// The record of the stream.
     pub raw: MINIDUMP_SYSTEM_INFO,
     /// The operating system.
     pub os: Os,
-    /// The processor.
+    /// The CPU architecture.
     pub cpu: Cpu,
     csd_version: Option<String>,
     cpu_info: Option<String>,
