@@ -6,7 +6,7 @@ ghost use Rattle.minidump_bytes.specs.Piece.{piece_text, right, wide_hex};
 use itoa::Buffer;
 use std::alloc::{AllocError, Global};
 
-/// A piece of a text to be made.
+/// A piece of formatted text.
 #[derive(Clone, Copy)]
 pub enum Piece<'a> {
     /// Words, as they are.
@@ -17,7 +17,7 @@ pub enum Piece<'a> {
     Hex(u64),
     /// A number in hexadecimal, as `{:x}` writes it.
     Digits(u64),
-    /// A number in hexadecimal behind `0x`, with zeros in front up to a number of digits: eight for
+    /// A number in hexadecimal after `0x`, with zeros in front up to a number of digits: eight for
     /// `{:#010x}`.
     Wide(u64, usize),
     /// A number in hexadecimal, with zeros in front up to a number of digits: eight for `{:08x}`.

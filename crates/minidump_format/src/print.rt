@@ -70,7 +70,7 @@ pub fn print_all<T: Printed, W: Write>(
     Ok(())
 }
 
-/// A way to write a value as text.
+/// A way to format values of type `T`.
 pub trait TextOf<T> {
     // the text of a value
     ghost text: { T → List ℕ };

@@ -1,7 +1,7 @@
 ghost use Rattle.std.specs.Prelude.{◌≡◌};
 ghost use Rattle.minidump_format.specs.Vendor.{vendor_of};
 
-/// Returns the vendor of a type of stream, by its number.
+/// Returns the vendor of a stream type: by its high half, or `Official` up to 0xffff.
 pub fn stream_vendor(stream_type: u32) -> &'static str
     ensures { result.now ≡ vendor_of stream_type }
 {

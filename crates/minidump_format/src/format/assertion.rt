@@ -6,9 +6,9 @@ use minidump_bytes::{Endian, Exact, Record, array_at};
 /// An assertion that failed: Breakpad's `MDRawAssertionInfo`.
 #[derive(Clone, Copy, Debug, PartialEq, Eq)]
 pub struct MINIDUMP_ASSERTION_INFO {
-    /// The assertion, in UTF-16, up to the first zero.
+    /// The assertion, in UTF-16, up to the first 0.
     pub expression: [u16; 128],
-    /// The function that has the assertion, in UTF-16, up to the first zero.
+    /// The function that has the assertion, in UTF-16, up to the first 0.
     pub function: [u16; 128],
     /// The source file, in UTF-16, up to the first 0.
     pub file: [u16; 128],

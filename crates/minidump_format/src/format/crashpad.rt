@@ -116,9 +116,9 @@ impl Exact for MINIDUMP_MODULE_CRASHPAD_INFO {
 /// An entry of a dictionary: Crashpad's `MinidumpSimpleStringDictionaryEntry`.
 #[derive(Clone, Copy, Debug, PartialEq, Eq)]
 pub struct MINIDUMP_SIMPLE_STRING_DICTIONARY_ENTRY {
-    /// The offset of the key, a UTF-8 text.
+    /// The RVA of the key, a UTF-8 text.
     pub key: RVA,
-    /// The offset of the value, a UTF-8 text.
+    /// The RVA of the value, a UTF-8 text.
     pub value: RVA,
 }
 
@@ -148,12 +148,12 @@ impl Exact for MINIDUMP_SIMPLE_STRING_DICTIONARY_ENTRY {
 /// A named value: Crashpad's `MinidumpAnnotation`.
 #[derive(Clone, Copy, Debug, PartialEq, Eq)]
 pub struct MINIDUMP_ANNOTATION {
-    /// The offset of the name, a UTF-8 text.
+    /// The RVA of the name, a UTF-8 text.
     pub name: RVA,
-    /// The type of the value, as [`MINIDUMP_ANNOTATION::TYPE_STRING`].
+    /// The type of the value: one of the `TYPE_` constants, or a user-defined number.
     pub ty: u16,
     pub reserved: u16,
-    /// The offset of the value.
+    /// The RVA of the value.
     pub value: RVA,
 }
 
@@ -189,6 +189,6 @@ impl MINIDUMP_ANNOTATION {
     /// The `ty` of a text.
     pub const TYPE_STRING: u16 = 1;
 
-    /// The lowest `ty` that is defined by the user.
+    /// The least `ty` that is user-defined.
     pub const TYPE_USER_DEFINED: u16 = 0x8000;
 }

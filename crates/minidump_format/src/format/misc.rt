@@ -5,7 +5,8 @@ use minidump_bytes::{Endian, Record, array_at};
 /// Information on the process, in the first layout: Microsoft's `MINIDUMP_MISC_INFO`.
 #[derive(Clone, Copy, Debug, PartialEq, Eq)]
 pub struct MINIDUMP_MISC_INFO {
-    /// The size of the record as its writer states it. Reading does not depend on it.
+    /// The size of the record as its writer states it. The layout is chosen by the stream's length
+    /// instead.
     pub size_of_info: u32,
     /// Which of the other fields are set: [`MiscInfoFlags`](super::MiscInfoFlags), as a number.
     pub flags1: u32,
@@ -44,7 +45,8 @@ impl Record for MINIDUMP_MISC_INFO {
 /// The second layout, with the clock rates of the processors: Microsoft's `MINIDUMP_MISC_INFO_2`.
 #[derive(Clone, Copy, Debug, PartialEq, Eq)]
 pub struct MINIDUMP_MISC_INFO_2 {
-    /// The size of the record as its writer states it. Reading does not depend on it.
+    /// The size of the record as its writer states it. The layout is chosen by the stream's length
+    /// instead.
     pub size_of_info: u32,
     /// Which of the other fields are set: [`MiscInfoFlags`](super::MiscInfoFlags), as a number.
     pub flags1: u32,
@@ -96,13 +98,14 @@ impl Record for MINIDUMP_MISC_INFO_2 {
 /// A date and time of day: Microsoft's `SYSTEMTIME`.
 #[derive(Clone, Copy, Debug, PartialEq, Eq)]
 pub struct SYSTEMTIME {
-    /// The year; 0 in a time zone whose change comes each year.
+    /// The year; 0 in a time zone's date that recurs every year.
     pub year: u16,
-    /// The month, from 1 for January; 0 in a time zone without a change.
+    /// The month, 1 to 12; 0 in a time zone without daylight saving time.
     pub month: u16,
-    /// The day of the week, from 0 for Sunday.
+    /// The day of the week, 0 for Sunday.
     pub day_of_week: u16,
-    /// The day of the month; of a change each year, which of the weekdays in the month, 5 for the last.
+    /// The day of the month; in a date that recurs every year, which occurrence of `day_of_week` in the
+    /// month, 5 for the last.
     pub day: u16,
     pub hour: u16,
     pub minute: u16,
@@ -181,7 +184,8 @@ impl Record for TIME_ZONE_INFORMATION {
 /// The third layout, with the time zone: Microsoft's `MINIDUMP_MISC_INFO_3`.
 #[derive(Clone, Copy, Debug, PartialEq, Eq)]
 pub struct MINIDUMP_MISC_INFO_3 {
-    /// The size of the record as its writer states it. Reading does not depend on it.
+    /// The size of the record as its writer states it. The layout is chosen by the stream's length
+    /// instead.
     pub size_of_info: u32,
     /// Which of the other fields are set: [`MiscInfoFlags`](super::MiscInfoFlags), as a number.
     pub flags1: u32,
@@ -244,7 +248,8 @@ impl Record for MINIDUMP_MISC_INFO_3 {
 /// The fourth layout, with the builds: Microsoft's `MINIDUMP_MISC_INFO_4`.
 #[derive(Clone, Copy, Debug, PartialEq, Eq)]
 pub struct MINIDUMP_MISC_INFO_4 {
-    /// The size of the record as its writer states it. Reading does not depend on it.
+    /// The size of the record as its writer states it. The layout is chosen by the stream's length
+    /// instead.
     pub size_of_info: u32,
     /// Which of the other fields are set: [`MiscInfoFlags`](super::MiscInfoFlags), as a number.
     pub flags1: u32,
@@ -375,7 +380,8 @@ impl Record for XSTATE_CONFIG_FEATURE_MSC_INFO {
 /// The fifth layout, with the extended state: Microsoft's `MINIDUMP_MISC_INFO_5`.
 #[derive(Clone, Copy, Debug, PartialEq, Eq)]
 pub struct MINIDUMP_MISC_INFO_5 {
-    /// The size of the record as its writer states it. Reading does not depend on it.
+    /// The size of the record as its writer states it. The layout is chosen by the stream's length
+    /// instead.
     pub size_of_info: u32,
     /// Which of the other fields are set: [`MiscInfoFlags`](super::MiscInfoFlags), as a number.
     pub flags1: u32,

@@ -23,7 +23,7 @@ pub struct MINIDUMP_SYSTEM_INFO {
     pub csd_version_rva: RVA,
     pub suite_mask: u16,
     pub reserved: u16,
-    /// The identification of the processor: an [`X86CpuInfo`] or an [`ARMCpuInfo`], by the architecture.
+    /// The CPU information: an [`X86CpuInfo`] or an [`ARMCpuInfo`], by the architecture.
     pub cpu: [u8; 24],
 }
 
@@ -57,7 +57,7 @@ impl Record for MINIDUMP_SYSTEM_INFO {
     ghost fits = { Prim.search rules };
 }
 
-/// The identification of an x86 processor, as the CPU bytes begin with it.
+/// The x86 CPU information: the vendor's 12 characters.
 #[derive(Clone, Copy, Debug, PartialEq, Eq)]
 pub struct X86CpuInfo {
     /// The vendor's 12 characters, the lowest byte of each number first.
@@ -84,7 +84,7 @@ impl Record for X86CpuInfo {
     ghost fits = { Prim.search rules };
 }
 
-/// The identification of an ARM processor, as the CPU bytes begin with it.
+/// The ARM CPU information: cpuid and feature bits.
 #[derive(Clone, Copy, Debug, PartialEq, Eq)]
 pub struct ARMCpuInfo {
     pub cpuid: u32,

@@ -51,7 +51,7 @@ impl Flags for ContextFlagsCpu {
 }
 
 impl ContextFlagsCpu {
-    /// Takes the processor out of the flags of a context, and drops the other bits.
+    /// Keeps the bits of a context's flags that name a processor.
     pub fn from_flags(flags: u32) -> ContextFlagsCpu
         ensures { result.0 ≡ bit_and flags (known_bits context_flags) }
     {
