@@ -42,7 +42,7 @@ pub record List64 (R : Type 0) : Type 0 where
 abbrev pub list_64_left : {R : Type 0} → ℕ × List R → List64 R
 list_64_left l = record { rva = l.0; items = l.1 }
 
--- by the count and the place: with them come the entries, and nothing else; a length of 2^64 or more is none
+-- the 64 list by count and place: its length must be 16 + size * count, below 2^64
 abbrev counted_64 : {R : Type 0} → Layout R → Endian → List ℕ → Option ℕ → Option ℕ → Result (List64 R) Error
 counted_64 layout order bytes None rva = Err StreamReadFailure
 counted_64 layout order bytes (Some count) None = Err StreamReadFailure

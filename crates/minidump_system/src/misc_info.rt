@@ -27,9 +27,9 @@ pub enum RawMiscInfo {
     MiscInfo5(MINIDUMP_MISC_INFO_5),
 }
 
-/// Returns a field, or `None` if the layout doesn't have it or its flag isn't set.
+/// The fields, each `None` if the layout doesn't have it or its flag isn't set.
 impl RawMiscInfo {
-    /// The size of the record as its writer states it. It does not decide the layout.
+    /// Returns the size of the record as its writer states it. It does not decide the layout.
     #[tactic(auto, unfolding(crate::specs::MiscInfo::size_of_info))]
     pub fn size_of_info(&self) -> Option<&u32>
         ensures { option_copied result ≡ size_of_info self.now }
@@ -43,7 +43,7 @@ impl RawMiscInfo {
         }
     }
 
-    /// The fields that are set, as the number of [`MiscInfoFlags`].
+    /// Returns the flags of the fields that are set, as the number of [`MiscInfoFlags`].
     #[tactic(auto, unfolding(crate::specs::MiscInfo::flags1))]
     pub fn flags1(&self) -> Option<&u32>
         ensures { option_copied result ≡ flags1 self.now }
@@ -72,7 +72,7 @@ impl RawMiscInfo {
         where_set(flags1, MiscInfoFlags::MINIDUMP_MISC1_PROCESS_ID, field)
     }
 
-    /// The time at which the process began, in seconds since 1970.
+    /// Returns the time at which the process began, in seconds since 1970.
     #[tactic(auto, unfolding(crate::specs::MiscInfo::process_create_time))]
     pub fn process_create_time(&self) -> Option<&u32>
         ensures { option_copied result ≡ process_create_time self.now }
@@ -87,7 +87,7 @@ impl RawMiscInfo {
         where_set(flags1, MiscInfoFlags::MINIDUMP_MISC1_PROCESS_TIMES, field)
     }
 
-    /// The time for which the process ran in user mode, in seconds.
+    /// Returns the time for which the process ran in user mode, in seconds.
     #[tactic(auto, unfolding(crate::specs::MiscInfo::process_user_time))]
     pub fn process_user_time(&self) -> Option<&u32>
         ensures { option_copied result ≡ process_user_time self.now }
@@ -102,7 +102,7 @@ impl RawMiscInfo {
         where_set(flags1, MiscInfoFlags::MINIDUMP_MISC1_PROCESS_TIMES, field)
     }
 
-    /// The time for which the process ran in kernel mode, in seconds.
+    /// Returns the time for which the process ran in kernel mode, in seconds.
     #[tactic(auto, unfolding(crate::specs::MiscInfo::process_kernel_time))]
     pub fn process_kernel_time(&self) -> Option<&u32>
         ensures { option_copied result ≡ process_kernel_time self.now }
@@ -117,7 +117,7 @@ impl RawMiscInfo {
         where_set(flags1, MiscInfoFlags::MINIDUMP_MISC1_PROCESS_TIMES, field)
     }
 
-    /// The highest clock rate of the processor, in MHz.
+    /// Returns the processor's highest clock rate in MHz.
     #[tactic(auto, unfolding(crate::specs::MiscInfo::processor_max_mhz))]
     pub fn processor_max_mhz(&self) -> Option<&u32>
         ensures { option_copied result ≡ processor_max_mhz self.now }
@@ -136,7 +136,7 @@ impl RawMiscInfo {
         )
     }
 
-    /// The clock rate of the processor, in MHz.
+    /// Returns the processor's current clock rate in MHz.
     #[tactic(auto, unfolding(crate::specs::MiscInfo::processor_current_mhz))]
     pub fn processor_current_mhz(&self) -> Option<&u32>
         ensures { option_copied result ≡ processor_current_mhz self.now }
@@ -155,7 +155,7 @@ impl RawMiscInfo {
         )
     }
 
-    /// The clock rate that the system limits the processor to, in MHz.
+    /// Returns the processor's clock rate limit in MHz.
     #[tactic(auto, unfolding(crate::specs::MiscInfo::processor_mhz_limit))]
     pub fn processor_mhz_limit(&self) -> Option<&u32>
         ensures { option_copied result ≡ processor_mhz_limit self.now }
@@ -174,7 +174,7 @@ impl RawMiscInfo {
         )
     }
 
-    /// The highest idle state of the processor.
+    /// Returns the processor's highest idle state.
     #[tactic(auto, unfolding(crate::specs::MiscInfo::processor_max_idle_state))]
     pub fn processor_max_idle_state(&self) -> Option<&u32>
         ensures { option_copied result ≡ processor_max_idle_state self.now }
@@ -193,7 +193,7 @@ impl RawMiscInfo {
         )
     }
 
-    /// The idle state of the processor.
+    /// Returns the processor's current idle state.
     #[tactic(auto, unfolding(crate::specs::MiscInfo::processor_current_idle_state))]
     pub fn processor_current_idle_state(&self) -> Option<&u32>
         ensures { option_copied result ≡ processor_current_idle_state self.now }
@@ -230,7 +230,7 @@ impl RawMiscInfo {
         )
     }
 
-    /// The execute flags of the process.
+    /// Returns the execute flags of the process.
     #[tactic(auto, unfolding(crate::specs::MiscInfo::process_execute_flags))]
     pub fn process_execute_flags(&self) -> Option<&u32>
         ensures { option_copied result ≡ process_execute_flags self.now }
@@ -248,7 +248,7 @@ impl RawMiscInfo {
         )
     }
 
-    /// Whether the process is protected.
+    /// Returns whether the process is protected, as a number.
     #[tactic(auto, unfolding(crate::specs::MiscInfo::protected_process))]
     pub fn protected_process(&self) -> Option<&u32>
         ensures { option_copied result ≡ protected_process self.now }
@@ -266,8 +266,7 @@ impl RawMiscInfo {
         )
     }
 
-    /// The part of the year in the time zone: 1 for standard time, 2 for daylight saving time, 0 if there
-    /// is none.
+    /// Returns the time zone id: 0 no daylight saving time, 1 standard time, 2 daylight saving time.
     #[tactic(auto, unfolding(crate::specs::MiscInfo::time_zone_id))]
     pub fn time_zone_id(&self) -> Option<&u32>
         ensures { option_copied result ≡ time_zone_id self.now }
@@ -295,7 +294,7 @@ impl RawMiscInfo {
         where_set(flags1, MiscInfoFlags::MINIDUMP_MISC3_TIMEZONE, field)
     }
 
-    /// The build of the operating system, in UTF-16, up to the first zero.
+    /// Returns the build of the operating system, in UTF-16, up to the first 0.
     #[tactic(auto, unfolding(crate::specs::MiscInfo::build_string))]
     pub fn build_string(&self) -> Option<&[u16; 260]>
         ensures { option_copied result ≡ build_string self.now }
@@ -308,7 +307,7 @@ impl RawMiscInfo {
         where_set(flags1, MiscInfoFlags::MINIDUMP_MISC4_BUILDSTRING, field)
     }
 
-    /// The build of the library that wrote the dump, in UTF-16, up to the first zero.
+    /// Returns the build of the library that wrote the dump, in UTF-16, up to the first 0.
     #[tactic(auto, unfolding(crate::specs::MiscInfo::dbg_bld_str))]
     pub fn dbg_bld_str(&self) -> Option<&[u16; 40]>
         ensures { option_copied result ≡ dbg_bld_str self.now }
