@@ -1,6 +1,6 @@
 -- The operating systems by number and by name.
-use Rattle.std.specs.Prelude.{ℕ, ◌-◌, ◌++◌, List, codes, false, length, replicate, Option, Some, None}
-use Rattle.std.specs.Fmt.{digits}
+use Rattle.std.specs.Prelude.{ℕ, ◌++◌, List, codes, Option, Some, None}
+use Rattle.minidump_bytes.specs.Piece.{wide_hex}
 use Rattle.minidump_format.specs.declared.format.system.PlatformId.{PlatformId}
 use Rattle.minidump_format.specs.declared.format.system.PlatformId.TheVariants as platform
 use Rattle.minidump_format.specs.System.{platform_of}
@@ -25,7 +25,7 @@ os_of id = os_on id (platform_of id)
 
 -- `0x` and at least six digits, with zeros before them
 abbrev pub hex_of_six : ℕ → List ℕ
-hex_of_six n = codes "0x" ++ (replicate (6 - length (digits 16 false n)) 48 ++ digits 16 false n)
+hex_of_six n = codes "0x" ++ wide_hex 6 n
 
 abbrev pub os_long_name : Os → List ℕ
 os_long_name Windows = codes "Windows NT"
