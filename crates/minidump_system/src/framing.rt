@@ -10,11 +10,13 @@ use minidump_bytes::{Endian, Entries, Record, Source, Steps};
 use minidump_format::Error;
 use minidump_format::format::{MINIDUMP_HANDLE_DESCRIPTOR, MINIDUMP_HANDLE_DESCRIPTOR_2};
 
-/// Reads a plain list: a 32-bit count, perhaps four bytes that align what follows, then the entries, to
-/// the end.
+/// Reads the entries of a plain list: a 32-bit count, perhaps four bytes that align what follows, then
+/// the entries, to the end.
 ///
-/// Returns `StreamReadFailure` if there is no count, `StreamSizeMismatch` if the stream has another
-/// length than the count asks for.
+/// The errors, in this order:
+///
+/// 1. `StreamReadFailure` if there is no count.
+/// 2. `StreamSizeMismatch` if the stream has another length than the count asks for.
 pub fn plain_entries<'a, R: Record>(
     bytes: Source<'a>,
     endian: Endian,
@@ -42,11 +44,14 @@ pub fn plain_entries<'a, R: Record>(
     Ok(bytes.entries(start, count as u64, endian, steps))
 }
 
-/// Reads a 64-bit list: a 64-bit count, a 64-bit RVA, then the entries, to the end. Returns the RVA and
-/// the entries.
+/// Reads the entries of a 64-bit list: a 64-bit count, a 64-bit RVA, then the entries, to the end.
+/// Returns the RVA and the entries.
 ///
-/// Returns `StreamReadFailure` if one of the two numbers is missing or the length that they ask for is
-/// 2^64 or more, `StreamSizeMismatch` if the stream has another length than that.
+/// The errors, in this order:
+///
+/// 1. `StreamReadFailure` if one of the two numbers is missing or the length that they ask for is 2^64 or
+///    more.
+/// 2. `StreamSizeMismatch` if the stream has another length than that.
 pub fn entries_64<'a, R: Record>(
     bytes: Source<'a>,
     endian: Endian,
@@ -103,12 +108,14 @@ impl Record for ListHeader {
     ghost fits = { Prim.search rules };
 }
 
-/// Reads an extended list: the size of its header, the size of an entry and a count, each of 32 bits,
-/// then the entries behind the header. More bytes may follow.
+/// Reads the entries of an extended list: the size of its header, the size of an entry and a count, each
+/// of 32 bits, then the entries behind the header. More bytes may follow.
 ///
-/// Returns, in this order, `StreamReadFailure` if one of the numbers is missing or the entries have
-/// another size, `StreamSizeMismatch` if the stream is shorter than header and entries,
-/// `StreamReadFailure` if the header is shorter than its numbers.
+/// The errors, in this order:
+///
+/// 1. `StreamReadFailure` if one of the numbers is missing or the entries have another size.
+/// 2. `StreamSizeMismatch` if the stream is shorter than header and entries.
+/// 3. `StreamReadFailure` if the header is shorter than its numbers.
 pub fn extended_entries<'a, R: Record>(
     bytes: Source<'a>,
     endian: Endian,
@@ -146,12 +153,14 @@ pub enum HandleEntries<'a> {
     Long(Entries<'a, MINIDUMP_HANDLE_DESCRIPTOR_2>),
 }
 
-/// Reads a handle list, which is laid out as an extended list; its header may be shorter than its
-/// numbers. More bytes may follow.
+/// Reads the entries of a handle list, which is laid out as an extended list; its header may be shorter
+/// than its numbers. More bytes may follow.
 ///
-/// Returns, in this order, `StreamReadFailure` if one of the numbers is missing, `StreamSizeMismatch` if
-/// the stream is shorter than header and entries, `StreamReadFailure` if there are entries of another
-/// size than 32 or 40.
+/// The errors, in this order:
+///
+/// 1. `StreamReadFailure` if one of the numbers is missing.
+/// 2. `StreamSizeMismatch` if the stream is shorter than header and entries.
+/// 3. `StreamReadFailure` if there are entries of another size than 32 or 40.
 pub fn handle_entries<'a>(
     bytes: Source<'a>,
     endian: Endian,
