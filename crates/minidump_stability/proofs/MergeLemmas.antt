@@ -1,8 +1,9 @@
 -- A message is read field by field.
 use Rattle.std.proofs.Common.{◌≡◌, ℕ, zero, suc, ◌<◌, ◌≤◌, ◌+◌, Bool, true, false, List, [], ◌∷◌, length, arith, refl, ap, sym, ◌∙◌}
-use Rattle.std.specs.Prelude.{Option, Some, None, Result, Ok, Err, ◌==◌, if◌then◌else◌}
+use Rattle.std.specs.Prelude.{unwrap_or, Option, Some, None, Result, Ok, Err, ◌==◌, if◌then◌else◌}
 use Rattle.std.specs.Option.{ok_or, option_and_then, option_map}
 use Rattle.std.proofs.lemmas.Bool.Decides.{nat_tests}
+use Rattle.std.proofs.lemmas.List.Sums.{sum_by-cons}
 use Rattle.std.proofs.lemmas.Result.{err_from_is_err_and}
 use Rattle.std.specs.Result.{IsErrAnd}
 use Rattle.std.specs.Prelude.{⊤}
@@ -10,7 +11,7 @@ use Rattle.minidump_bytes.specs.Wire.{Field, field_at}
 use Rattle.minidump_format.specs.Answer.{Gives, Refuses}
 use Rattle.minidump_format.specs.declared.error.Error.{Error}
 use Rattle.minidump_format.specs.declared.error.Error.TheVariants.{DataError, OutOfMemory}
-use Rattle.minidump_stability.specs.Fields.{fields_from, fields_in}
+use Rattle.minidump_stability.specs.Fields.{counted, fields_from, fields_in}
 use Rattle.minidump_stability.specs.Rows.{merged_bytes, merged_fields, puts}
 
 pub fields_end : (most place : ℕ) (bytes : List ℕ) → place ≡ length bytes → fields_from (suc most) place bytes ≡ Some []
@@ -76,6 +77,38 @@ module _ {V : Type 0} (put : Field → V → Option V) where
   merging_refused whole bytes place next f now more at p m =
       let s = one_more whole bytes place now more m in
       sym (sym (one_by (fields_from s.0 next bytes) f now None p) ∙ rw at at s.2)
+
+-- so many fields are counted before a place, of all that there are
+pub record Counting (inside : Field → ℕ) (bytes : List ℕ) (place done : ℕ) : Type 0 where
+  pub most : ℕ
+  pub enough : length bytes < place + most
+  pub total : (fs : List Field) → fields_from most place bytes ≡ Some fs → counted inside (unwrap_or (fields_in bytes) []) ≡ done + counted inside fs
+
+module _ (inside : Field → ℕ) where
+  pub counting_none : (bytes : List ℕ) → Counting inside bytes 0 0
+  unfolding fields_in
+  counting_none bytes = record { most = 1 + length bytes; enough = omega arith; total = λ fs h. rw h (omega arith) }
+
+  pub counting_end : (bytes : List ℕ) (place done : ℕ) → place ≡ length bytes → Counting inside bytes place done → counted inside (unwrap_or (fields_in bytes) []) ≡ done
+  counting_end bytes place done end c = go c.most c.enough c.total
+    where
+      go : (most : ℕ) → length bytes < place + most → ((fs : List Field) → fields_from most place bytes ≡ Some fs → counted inside (unwrap_or (fields_in bytes) []) ≡ done + counted inside fs)
+          → counted inside (unwrap_or (fields_in bytes) []) ≡ done
+      go zero enough total = absurd (omega (arith, enough, end))
+      go (suc most) enough total = let all = total [] (fields_end most place bytes end) in omega (arith, all)
+
+  pub counting_more : (bytes : List ℕ) (place next done : ℕ) (f : Field) → place < next → next ≤ length bytes → field_at place bytes ≡ Some (f, next) → Counting inside bytes place done
+      → Counting inside bytes next (done + (1 + inside f))
+  counting_more bytes place next done f forward fits at c = go c.most c.enough c.total
+    where
+      go : (most : ℕ) → length bytes < place + most → ((fs : List Field) → fields_from most place bytes ≡ Some fs → counted inside (unwrap_or (fields_in bytes) []) ≡ done + counted inside fs)
+          → Counting inside bytes next (done + (1 + inside f))
+      go zero enough total = absurd (omega (arith, enough, forward, fits))
+      go (suc most) enough total = record {
+        most = most;
+        enough = omega (arith, enough, forward);
+        total = λ fs h. (let all = total (f ∷ fs) (fields_more most place bytes (omega (arith, forward, fits)) ∙ rw (at, h) refl) in omega (arith, all, sum_by-cons (λ g. 1 + inside g) f fs));
+      }
 
 -- ---- how refusals are handed on
 module _ {A B : Type 0} where

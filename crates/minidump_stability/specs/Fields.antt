@@ -1,5 +1,6 @@
 -- What the fields of a message mean, as the encoding guide of Protocol Buffers has it.
-use Rattle.std.specs.Prelude.{ℕ, ℤ, pos, ◌-ℤ◌, zero, suc, ◌+◌, ◌%◌, ◌^◌, ◌==◌, nat_lt, List, [], ◌∷◌, ◌++◌, length, Option, Some, None, if◌then◌else◌}
+use Rattle.std.specs.Prelude.{ℕ, ℤ, pos, ◌-ℤ◌, zero, suc, ◌+◌, ◌%◌, ◌^◌, ◌==◌, nat_lt, List, [], ◌∷◌, ◌++◌, length, Option, Some, None, unwrap_or, if◌then◌else◌}
+use Rattle.std.specs.List.{sum_by}
 use Rattle.std.specs.Option.{option_and_then, option_map}
 use Rattle.minidump_bytes.specs.Wire.{Bytes, Eight, Field, Four, Payload, Varint, field_at}
 
@@ -71,3 +72,19 @@ nested message number fs = option_and_then (merged message) (each message_in (pa
 -- a repeated message is one for each payload
 abbrev pub repeated : {M : Type 0} → (List Field → Option M) → ℕ → List Field → Option (List M)
 repeated message number fs = option_and_then (each message) (each message_in (payloads number fs))
+
+-- ---- how many fields there are
+-- those of a message, with so many inside each
+abbrev pub counted : (Field → ℕ) → List Field → ℕ
+counted inside fs = sum_by (λ f. 1 + inside f) fs
+
+-- those of the message in a payload
+abbrev pub count_in : (Field → ℕ) → Payload → ℕ
+count_in inside p = counted inside (unwrap_or (message_in p) [])
+
+-- those inside a field of a number, which holds a message
+abbrev pub within : ℕ → (Field → ℕ) → Field → ℕ
+within number inside f = if f.number == number then count_in inside f.payload else 0
+
+abbrev pub none_within : Field → ℕ
+none_within f = 0

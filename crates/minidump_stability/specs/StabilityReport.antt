@@ -1,5 +1,5 @@
 -- The messages of Chromium's stability_report.proto: each field by its number, other fields are skipped.
-use Rattle.std.specs.Prelude.{ℕ, List, [], Option, None, Result}
+use Rattle.std.specs.Prelude.{ℕ, ◌+◌, List, [], Option, None, Result, unwrap_or}
 use Rattle.std.specs.Option.{ok_or, option_and_then, option_map}
 use Rattle.minidump_bytes.specs.Wire.{Field}
 use Rattle.minidump_format.specs.declared.error.Error.{Error}
@@ -13,7 +13,7 @@ use Rattle.minidump_stability.specs.declared.report.ProcessState.{ProcessState}
 use Rattle.minidump_stability.specs.declared.report.StabilityReport.{StabilityReport}
 use Rattle.minidump_stability.specs.declared.report.SystemMemoryState.{SystemMemoryState}
 use Rattle.minidump_stability.specs.declared.system_memory_state.WindowsMemory as system
-use Rattle.minidump_stability.specs.Fields.{both, fields_in, int64_in, nested, repeated, scalar, uint32_in}
+use Rattle.minidump_stability.specs.Fields.{both, counted, fields_in, int64_in, nested, none_within, repeated, scalar, uint32_in, within}
 
 -- ProcessState.MemoryState.WindowsMemory
 abbrev pub windows_memory : List Field → Option WindowsMemory
@@ -74,3 +74,23 @@ stability_report bytes = ok_or (option_and_then report (fields_in bytes)) DataEr
 
 abbrev pub report_of : StabilityReport → Report
 report_of r = record { process_states = r.process_states.items; system_memory_state = r.system_memory_state }
+
+-- ---- how many fields are inside a field of each message
+unfoldable pub memory_state_fields : Field → ℕ
+memory_state_fields f = within 1 none_within f
+
+unfoldable pub file_system_state_fields : Field → ℕ
+file_system_state_fields f = within 1 none_within f + within 2 none_within f
+
+unfoldable pub process_state_fields : Field → ℕ
+process_state_fields f = within 4 memory_state_fields f + within 7 file_system_state_fields f
+
+unfoldable pub system_memory_state_fields : Field → ℕ
+system_memory_state_fields f = within 1 none_within f
+
+unfoldable pub report_fields : Field → ℕ
+report_fields f = within 2 process_state_fields f + within 7 system_memory_state_fields f
+
+-- all fields of a stream, those of nested messages among them
+abbrev pub fields_of_report : List ℕ → ℕ
+fields_of_report bytes = counted report_fields (unwrap_or (fields_in bytes) [])

@@ -1,9 +1,10 @@
-ghost use Rattle.std.specs.Prelude.{◌≡◌, ◌+◌, ◌≤◌, ⊤, Option, length};
+ghost use Rattle.std.specs.Prelude.{◌≡◌, ◌+◌, ◌≤◌, ⊤, ℕ, [], Option, length, unwrap_or, IfOk};
 ghost use Rattle.std.specs.Option.{ok_or, option_map};
+ghost use Rattle.minidump_bytes.specs.Steps.{after};
 ghost use Rattle.minidump_bytes.specs.Wire.{Field, field_of, payload_of, room};
 ghost use Rattle.minidump_format.specs.declared.error.Error.TheVariants.{DataError};
 ghost use Rattle.minidump_format.specs.Answer.{Gives};
-ghost use Rattle.minidump_stability.specs.Fields.{int64_in, uint32_in};
+ghost use Rattle.minidump_stability.specs.Fields.{count_in, counted, fields_in, int64_in, uint32_in};
 ghost use Rattle.minidump_stability.specs.Rows.{merged_bytes, one_nested, one_scalar};
 
 use minidump_bytes::{Source, Steps, WireField, WireValue};
@@ -22,6 +23,9 @@ pub trait Message: Sized {
     // the message with one field more
     ghost put: { Field → Value → Option Value };
 
+    // how many fields are inside one of its fields
+    ghost inside: { Field → ℕ };
+
     /// The message of no fields.
     fn none(alloc: Global) -> Self
         ensures { view result ≡ empty };
@@ -31,7 +35,8 @@ pub trait Message: Sized {
     fn put(self, alloc: Global, field: WireField<'_>, steps: &mut Steps) -> Result<Self, Error>
         ensures means { Gives view ⊤ result (ok_or (put (field_of field.entry) (view self)) DataError) }
         ensures within { steps.new ≤ steps.old + room (payload_of field.entry.value) }
-        ensures grows { steps.old ≤ steps.new };
+        ensures grows { steps.old ≤ steps.new }
+        ensures counted { IfOk result (λ _. steps.new ≡ after steps.old (inside (field_of field.entry))) };
 }
 
 /// The message with the fields that bytes spell. `DataError` where they spell none.
@@ -44,6 +49,8 @@ pub fn merge<M: Message + Drop>(
     ensures means { Gives M.view ⊤ result (ok_or (merged_bytes M.put bytes.now (M.view old)) DataError) }
     ensures within { steps.new ≤ steps.old + length bytes.now }
     ensures grows { steps.old ≤ steps.new }
+    ensures counted { IfOk result
+        (λ _. steps.new ≡ after steps.old (counted M.inside (unwrap_or (fields_in bytes.now) []))) }
 {
     let source = Source::new(bytes);
     let mut message = old;
@@ -67,6 +74,7 @@ pub fn nested<M: Message + Drop>(
         (ok_or (one_nested M.put M.empty (payload_of value.entry) (option_map M.view old)) DataError) }
     ensures within { steps.new ≤ steps.old + room (payload_of value.entry) }
     ensures grows { steps.old ≤ steps.new }
+    ensures counted { IfOk result (λ _. steps.new ≡ after steps.old (count_in M.inside (payload_of value.entry))) }
 {
     let WireValue::Bytes(bytes) = value else {
         return Err(Error::DataError);

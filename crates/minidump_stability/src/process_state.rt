@@ -21,6 +21,7 @@ pub struct MemoryState {
 impl Message for MemoryState {
     ghost use Rattle.minidump_stability.specs.declared.process_state.MemoryState.{MemoryState};
     ghost use Rattle.minidump_stability.specs.ReportRows.{no_memory_state, put_memory_state};
+    ghost use Rattle.minidump_stability.specs.StabilityReport.{memory_state_fields};
 
     ghost Value = { MemoryState };
 
@@ -30,13 +31,15 @@ impl Message for MemoryState {
 
     ghost put = { put_memory_state };
 
+    ghost inside = { memory_state_fields };
+
     fn none(_alloc: Global) -> Self {
         MemoryState {
             windows_memory: None,
         }
     }
 
-    #[tactic(auto, unfolding(crate::specs::ReportRows::put_memory_state))]
+    #[tactic(auto, unfolding(crate::specs::ReportRows::put_memory_state, crate::specs::StabilityReport::memory_state_fields))]
     fn put(self, alloc: Global, field: WireField<'_>, steps: &mut Steps) -> Result<Self, Error> {
         let mut new = self;
         match field.number {
@@ -66,6 +69,7 @@ pub struct FileSystemState {
 impl Message for FileSystemState {
     ghost use Rattle.minidump_stability.specs.declared.process_state.FileSystemState.{FileSystemState};
     ghost use Rattle.minidump_stability.specs.ReportRows.{no_file_system_state, put_file_system_state};
+    ghost use Rattle.minidump_stability.specs.StabilityReport.{file_system_state_fields};
 
     ghost Value = { FileSystemState };
 
@@ -75,6 +79,8 @@ impl Message for FileSystemState {
 
     ghost put = { put_file_system_state };
 
+    ghost inside = { file_system_state_fields };
+
     fn none(_alloc: Global) -> Self {
         FileSystemState {
             posix_file_system_state: None,
@@ -82,7 +88,7 @@ impl Message for FileSystemState {
         }
     }
 
-    #[tactic(auto, unfolding(crate::specs::ReportRows::put_file_system_state))]
+    #[tactic(auto, unfolding(crate::specs::ReportRows::put_file_system_state, crate::specs::StabilityReport::file_system_state_fields))]
     fn put(self, alloc: Global, field: WireField<'_>, steps: &mut Steps) -> Result<Self, Error> {
         let mut new = self;
         match field.number {

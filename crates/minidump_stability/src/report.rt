@@ -26,6 +26,7 @@ pub struct ProcessState {
 impl Message for ProcessState {
     ghost use Rattle.minidump_stability.specs.declared.report.ProcessState.{ProcessState};
     ghost use Rattle.minidump_stability.specs.ReportRows.{no_process_state, put_process_state};
+    ghost use Rattle.minidump_stability.specs.StabilityReport.{process_state_fields};
 
     ghost Value = { ProcessState };
 
@@ -35,6 +36,8 @@ impl Message for ProcessState {
 
     ghost put = { put_process_state };
 
+    ghost inside = { process_state_fields };
+
     fn none(_alloc: Global) -> Self {
         ProcessState {
             process_id: None,
@@ -43,7 +46,7 @@ impl Message for ProcessState {
         }
     }
 
-    #[tactic(auto, unfolding(crate::specs::ReportRows::put_process_state))]
+    #[tactic(auto, unfolding(crate::specs::ReportRows::put_process_state, crate::specs::StabilityReport::process_state_fields))]
     fn put(self, alloc: Global, field: WireField<'_>, steps: &mut Steps) -> Result<Self, Error> {
         let mut new = self;
         match field.number {
@@ -66,6 +69,7 @@ pub struct SystemMemoryState {
 impl Message for SystemMemoryState {
     ghost use Rattle.minidump_stability.specs.declared.report.SystemMemoryState.{SystemMemoryState};
     ghost use Rattle.minidump_stability.specs.ReportRows.{no_system_memory_state, put_system_memory_state};
+    ghost use Rattle.minidump_stability.specs.StabilityReport.{system_memory_state_fields};
 
     ghost Value = { SystemMemoryState };
 
@@ -75,13 +79,15 @@ impl Message for SystemMemoryState {
 
     ghost put = { put_system_memory_state };
 
+    ghost inside = { system_memory_state_fields };
+
     fn none(_alloc: Global) -> Self {
         SystemMemoryState {
             windows_memory: None,
         }
     }
 
-    #[tactic(auto, unfolding(crate::specs::ReportRows::put_system_memory_state))]
+    #[tactic(auto, unfolding(crate::specs::ReportRows::put_system_memory_state, crate::specs::StabilityReport::system_memory_state_fields))]
     fn put(self, alloc: Global, field: WireField<'_>, steps: &mut Steps) -> Result<Self, Error> {
         let mut new = self;
         match field.number {
@@ -133,6 +139,7 @@ impl StabilityReport {
 impl Message for StabilityReport {
     ghost use Rattle.minidump_stability.specs.StabilityReport.{Report, no_report, report_of};
     ghost use Rattle.minidump_stability.specs.ReportRows.{put_report};
+    ghost use Rattle.minidump_stability.specs.StabilityReport.{report_fields};
 
     ghost Value = { Report };
 
@@ -142,11 +149,13 @@ impl Message for StabilityReport {
 
     ghost put = { put_report };
 
+    ghost inside = { report_fields };
+
     fn none(alloc: Global) -> Self {
         StabilityReport::new(alloc)
     }
 
-    #[tactic(auto, unfolding(crate::specs::ReportRows::put_report))]
+    #[tactic(auto, unfolding(crate::specs::ReportRows::put_report, crate::specs::StabilityReport::report_fields))]
     fn put(self, alloc: Global, field: WireField<'_>, steps: &mut Steps) -> Result<Self, Error> {
         let mut new = self;
         match field.number {
@@ -175,7 +184,7 @@ impl<'a> MinidumpStream<'a> for StabilityReport {
     ghost use Rattle.std.specs.Prelude.{◌+◌, ⊤};
     ghost use Rattle.minidump_format.specs.declared.format.stream_type.MINIDUMP_STREAM_TYPE.TheVariants.{StabilityReportStream};
     ghost use Rattle.minidump_format.specs.StreamType.{number_of};
-    ghost use Rattle.minidump_stability.specs.StabilityReport.{Report, report_of, stability_report};
+    ghost use Rattle.minidump_stability.specs.StabilityReport.{Report, fields_of_report, report_of, stability_report};
 
     ghost type_number = { number_of StabilityReportStream };
 
@@ -189,7 +198,7 @@ impl<'a> MinidumpStream<'a> for StabilityReport {
 
     ghost limit = { λ n. n + 7 };
 
-    ghost least = { λ bytes order report. 0 };
+    ghost least = { λ bytes order report. fields_of_report bytes };
 
     ghost takes_memory = { λ bytes order. ⊤ };
 

@@ -20,6 +20,7 @@ pub struct WindowsMemory {
 impl Message for WindowsMemory {
     ghost use Rattle.minidump_stability.specs.declared.system_memory_state.WindowsMemory.{WindowsMemory};
     ghost use Rattle.minidump_stability.specs.ReportRows.{no_system_windows_memory, put_system_windows_memory};
+    ghost use Rattle.minidump_stability.specs.Fields.{none_within};
 
     ghost Value = { WindowsMemory };
 
@@ -28,6 +29,8 @@ impl Message for WindowsMemory {
     ghost empty = { no_system_windows_memory };
 
     ghost put = { put_system_windows_memory };
+
+    ghost inside = { none_within };
 
     fn none(_alloc: Global) -> Self {
         WindowsMemory {

@@ -16,6 +16,7 @@ pub struct PosixFileSystemState {
 impl Message for PosixFileSystemState {
     ghost use Rattle.minidump_stability.specs.declared.process_state.file_system_state.PosixFileSystemState.{PosixFileSystemState};
     ghost use Rattle.minidump_stability.specs.ReportRows.{no_posix_file_system_state, put_posix_file_system_state};
+    ghost use Rattle.minidump_stability.specs.Fields.{none_within};
 
     ghost Value = { PosixFileSystemState };
 
@@ -24,6 +25,8 @@ impl Message for PosixFileSystemState {
     ghost empty = { no_posix_file_system_state };
 
     ghost put = { put_posix_file_system_state };
+
+    ghost inside = { none_within };
 
     fn none(_alloc: Global) -> Self {
         PosixFileSystemState {
@@ -56,6 +59,7 @@ pub struct WindowsFileSystemState {
 impl Message for WindowsFileSystemState {
     ghost use Rattle.minidump_stability.specs.declared.process_state.file_system_state.WindowsFileSystemState.{WindowsFileSystemState};
     ghost use Rattle.minidump_stability.specs.ReportRows.{no_windows_file_system_state, put_windows_file_system_state};
+    ghost use Rattle.minidump_stability.specs.Fields.{none_within};
 
     ghost Value = { WindowsFileSystemState };
 
@@ -64,6 +68,8 @@ impl Message for WindowsFileSystemState {
     ghost empty = { no_windows_file_system_state };
 
     ghost put = { put_windows_file_system_state };
+
+    ghost inside = { none_within };
 
     fn none(_alloc: Global) -> Self {
         WindowsFileSystemState {

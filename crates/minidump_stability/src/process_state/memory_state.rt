@@ -22,6 +22,7 @@ pub struct WindowsMemory {
 impl Message for WindowsMemory {
     ghost use Rattle.minidump_stability.specs.declared.process_state.memory_state.WindowsMemory.{WindowsMemory};
     ghost use Rattle.minidump_stability.specs.ReportRows.{no_windows_memory, put_windows_memory};
+    ghost use Rattle.minidump_stability.specs.Fields.{none_within};
 
     ghost Value = { WindowsMemory };
 
@@ -30,6 +31,8 @@ impl Message for WindowsMemory {
     ghost empty = { no_windows_memory };
 
     ghost put = { put_windows_memory };
+
+    ghost inside = { none_within };
 
     fn none(_alloc: Global) -> Self {
         WindowsMemory {

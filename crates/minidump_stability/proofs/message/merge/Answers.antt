@@ -1,11 +1,11 @@
 -- The bytes are read field by field, and each is put in.
-use Rattle.std.proofs.Common.{◌≡◌, arith, ap, length}
+use Rattle.std.proofs.Common.{◌≡◌, ◌+◌, arith, ap, length}
 use Rattle.std.specs.Prelude.{Some}
 use Rattle.std.specs.Option.{ok_or}
 use Rattle.minidump_format.specs.declared.error.Error.TheVariants.{DataError}
 use Rattle.minidump_bytes.specs.Source.{bytes_of}
 use Rattle.minidump_bytes.specs.Wire.{field_at, field_of}
-use Rattle.minidump_stability.proofs.MergeLemmas.{gives_none, gives_refused, is_there, merging_end, merging_more, merging_none, merging_refused, merging_stuck, none_seen, some_seen}
+use Rattle.minidump_stability.proofs.MergeLemmas.{counting_end, counting_more, counting_none, gives_none, gives_refused, is_there, merging_end, merging_more, merging_none, merging_refused, merging_stuck, none_seen, some_seen}
 use Rattle.minidump_stability.proofs.message.merge.Goals as goal
 
 pub loop-place-init : goal.loop-place-init
@@ -13,6 +13,7 @@ loop-place-init g c = record {
   merging = merging_none g.M.Message.put c.args.bytes.now (g.M.Message.view c.args.old);
   within = omega arith;
   grows = omega arith;
+  counted = (0, counting_none g.M.Message.inside c.args.bytes.now, omega arith);
 }
 
 pub returns-in_err-field-clause-means : goal.returns-in_err-field-clause-means
@@ -37,9 +38,19 @@ loop-place-preserved g c =
       merging = merging_more g.M.Message.put _ c.args.bytes.now c.loop-place.place c.in_ok-field.next (field_of c.in_ok-field.field) _ _ (omega (arith, inside.0)) inside.1 is (is_there _ _ _ c.in_ok-message.ensures.means) c.loop-place.invariant.merging;
       within = omega (arith, inside.0, c.put.ensures.within, c.wire_field.ensures.step, c.loop-place.invariant.within);
       grows = omega (arith, c.put.ensures.grows, c.wire_field.ensures.step, c.loop-place.invariant.grows);
+      counted = (
+        c.loop-place.invariant.counted.0 + (1 + g.M.Message.inside (field_of c.in_ok-field.field)),
+        counting_more g.M.Message.inside c.args.bytes.now c.loop-place.place c.in_ok-field.next _ (field_of c.in_ok-field.field) (omega (arith, inside.0)) inside.1 is c.loop-place.invariant.counted.1,
+        omega (arith, c.in_ok-message.ensures.counted, c.wire_field.ensures.step, c.loop-place.invariant.counted.2),
+      );
     }
 
 pub returns-clause-means : goal.returns-clause-means
 returns-clause-means g c =
     let size : length (bytes_of c.new-source.result) ≡ length c.args.bytes.now = ap length c.new-source.ensures in
     ap (λ o. ok_or o DataError) (merging_end g.M.Message.put _ c.args.bytes.now c.loop-place.place _ (omega (arith, size)) c.loop-place.invariant.merging)
+
+pub returns-clause-counted : goal.returns-clause-counted
+returns-clause-counted g c =
+    let size : length (bytes_of c.new-source.result) ≡ length c.args.bytes.now = ap length c.new-source.ensures in
+    rw (counting_end g.M.Message.inside c.args.bytes.now c.loop-place.place c.loop-place.invariant.counted.0 (omega (arith, size, c.loop-place.invariant.merging.within)) c.loop-place.invariant.counted.1) c.loop-place.invariant.counted.2

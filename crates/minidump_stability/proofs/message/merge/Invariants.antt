@@ -1,8 +1,8 @@
 -- How far a message is read.
-use Rattle.std.proofs.Common.{◌+◌, ◌-◌, ◌≤◌, length}
-use Rattle.minidump_bytes.specs.Source.{bytes_of}
+use Rattle.std.proofs.Common.{◌≡◌, ℕ, ◌+◌, ◌-◌, ◌≤◌, length}
+use Rattle.minidump_bytes.specs.Steps.{after}
 use Rattle.minidump_stability.specs.Rows.{merged_bytes}
-use Rattle.minidump_stability.proofs.MergeLemmas.{Merging}
+use Rattle.minidump_stability.proofs.MergeLemmas.{Counting, Merging}
 use Rattle.minidump_stability.proofs.message.merge.Given as goal
 
 abbrev pub invariant-loop-place : goal.invariant-loop-place
@@ -10,6 +10,7 @@ invariant-loop-place g l = record {
   merging : Merging g.M.Message.put (merged_bytes g.M.Message.put l.bytes (g.M.Message.view l.fn.old)) l.bytes l.place (g.M.Message.view l.message);
   within : l.steps ≤ l.fn.steps + l.place;
   grows : l.fn.steps ≤ l.steps;
+  counted : (done : ℕ) × Counting g.M.Message.inside l.bytes l.place done × (l.steps ≡ after l.fn.steps done);
 }
 
 abbrev pub decreases-loop-place : goal.decreases-loop-place
