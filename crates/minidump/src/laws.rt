@@ -1,4 +1,5 @@
-//! Laws of the directory, of the streams and of lists of regions, over the definitions that the contracts of this crate cite.
+//! Laws of the directory, of the streams and of lists of regions, over the definitions that the contracts of
+//! this crate name. Each is a call that does nothing; its contract says what holds.
 ghost use Rattle.std.specs.Prelude.{◌≡◌, ◌≢◌, ◌<◌, ◌^◌, ◌+◌, ℕ, ◌++◌, ◌∷◌, All, Contains, List, length, map};
 ghost use Rattle.std.specs.List.Sorted.{IsStrictlyIncreasing};
 ghost use Rattle.minidump_format.specs.declared.format.header.MINIDUMP_DIRECTORY.{MINIDUMP_DIRECTORY};
