@@ -1,4 +1,26 @@
-//! The stability report that Chromium keeps in its dumps.
+//! The stability report that Chromium keeps in its dumps: messages in the wire format of Protocol Buffers.
+//!
+//! - [`StabilityReport`] is the stream, which `Minidump::get_stream` reads by its type.
+//! - [`ProcessState`] and [`SystemMemoryState`] are its messages, and [`process_state`] and
+//!   [`system_memory_state`] have theirs. Each field may be absent.
+//!
+//! # Errors
+//!
+//! `DataError` where the stream spells no fields, where a known field has another wire type, or where it
+//! holds a message that spells no fields; `OutOfMemory` where an allocation fails.
+//!
+//! # What is proved
+//!
+//! - A stream has the report that its fields mean, or `DataError`; of a number the last value counts, nested
+//!   messages are joined, repeated ones are listed, and other fields are skipped: `StabilityReport::read`,
+//!   by `stability_report`; `laws::fields_are_what_bytes_spell`, `report_is_what_its_fields_mean`.
+//! - It depends on its stream alone: `laws::report_depends_on_its_stream_alone`.
+//! - A read takes at most n + 7 reads and, where it succeeds, at least one for each field, nested ones
+//!   included: `limit` and `least` of `StabilityReport`.
+//! - A copy is the same report: `StabilityReport::try_clone`.
+//!
+//! What isn't: where memory may run out within a stream; the contract allows it for every stream. The print
+//! of the report is not there yet.
 #![tactic(auto)]
 
 pub mod laws;
