@@ -43,10 +43,12 @@ impl MinidumpContext {
         }
     }
 
-    /// Reads the context that some bytes begin with, in the layout that the architecture of the system picks;
-    /// the misc information decides nothing. All of its registers are valid. `UnknownCpuContext` where
-    /// the architecture has no known layout; `ReadFailure` where there are too few bytes, or the low 32 bits of the
-    /// flags lack the bit of the processor or have that of another one below 0x10000000.
+    /// Reads the context at the beginning of the bytes, in the layout that the architecture of the system
+    /// picks; the misc information decides nothing. All of its registers are valid. Takes no memory.
+    ///
+    /// Returns `UnknownCpuContext` if the architecture has no known layout, and `ReadFailure` if there are too
+    /// few bytes, or the low 32 bits of the flags lack the bit of the processor or have that of another one
+    /// below 0x10000000.
     pub fn read(
         bytes: &[u8],
         endian: Endian,
@@ -60,28 +62,28 @@ impl MinidumpContext {
         Ok(MinidumpContext::from_raw(read_raw(bytes, endian, architecture)?))
     }
 
-    /// Gives what the instruction pointer holds.
+    /// Returns what the instruction pointer holds.
     pub fn get_instruction_pointer(&self) -> u64
         ensures { held_in (registers_of self.now.raw) (registers_of self.now.raw).instruction_pointer ≡ Some result }
     {
         self.raw.instruction_pointer()
     }
 
-    /// Gives what the stack pointer holds.
+    /// Returns what the stack pointer holds.
     pub fn get_stack_pointer(&self) -> u64
         ensures { held_in (registers_of self.now.raw) (registers_of self.now.raw).stack_pointer ≡ Some result }
     {
         self.raw.stack_pointer()
     }
 
-    /// Gives the name in the list of the register that a name names, or `None` where it names none.
+    /// Returns the name in the list of the register that a name names, or `None` if it names none.
     pub fn memoize_register(&self, reg: &str) -> Option<&'static str>
         ensures { option_copied result ≡ memoized_in (registers_of self.now.raw) reg.now }
     {
         self.raw.memoize_register(reg)
     }
 
-    /// Gives what a register holds. Its name is one that `memoize_register` knows.
+    /// Returns what a register holds. Its name is one that `memoize_register` knows.
     pub fn get_register_always(&self, reg: &str) -> u64
         requires { IsSome (memoized_in (registers_of self.now.raw) reg.now) }
         ensures { held_in (registers_of self.now.raw) reg.now ≡ Some result }
@@ -89,15 +91,15 @@ impl MinidumpContext {
         self.raw.get_register_always(reg)
     }
 
-    /// Gives what a register holds, or `None` where it isn't valid.
+    /// Returns what a register holds, or `None` if it isn't valid.
     pub fn get_register(&self, reg: &str) -> Option<u64>
         ensures { result ≡ valid_in self.now.valid (registers_of self.now.raw) reg.now }
     {
         self.raw.get_register(reg, &self.valid)
     }
 
-    /// Writes what a register holds as `0x` and two digits a byte. Its name is one that `memoize_register`
-    /// knows.
+    /// Formats what a register holds as `0x` and two digits a byte. Its name is one that `memoize_register`
+    /// knows. The only error is `OutOfMemory`.
     pub fn format_register(&self, alloc: Global, reg: &str) -> Result<String, Error>
         requires { IsSome (memoized_in (registers_of self.now.raw) reg.now) }
         ensures text { IfOk result (λ text. IfSome (held_in (registers_of self.now.raw) reg.now)
@@ -107,14 +109,14 @@ impl MinidumpContext {
         self.raw.format_register(alloc, reg)
     }
 
-    /// Gives the name of each register.
+    /// Returns the name of each register.
     pub fn general_purpose_registers(&self) -> &'static [&'static str]
         ensures { map (λ n. n.now) result.now ≡ (registers_of self.now.raw).names }
     {
         self.raw.names()
     }
 
-    /// Gives all registers, each with its name and what it holds, in the order of the list of names.
+    /// Returns an iterator over all registers, each with its name and what it holds, in the order of the list of names.
     pub fn registers(&self) -> ContextRegisters<'_>
         ensures { context_registers_left result ≡ valid_registers_from MinidumpContextValidity.All (registers_of self.now.raw) 0 }
     {
@@ -125,7 +127,7 @@ impl MinidumpContext {
         }
     }
 
-    /// Gives the valid registers, each with its name and what it holds, in the order of the list of names.
+    /// Returns an iterator over the valid registers, each with its name and what it holds, in the order of the list of names.
     pub fn valid_registers(&self) -> ContextRegisters<'_>
         ensures { context_registers_left result ≡ valid_registers_from self.now.valid (registers_of self.now.raw) 0 }
     {
@@ -136,14 +138,14 @@ impl MinidumpContext {
         }
     }
 
-    /// How many bytes a register has.
+    /// Returns how many bytes a register has.
     pub fn register_size(&self) -> usize
         ensures { result ≡ (registers_of self.now.raw).size }
     {
         self.raw.register_size()
     }
 
-    /// The same context.
+    /// Copies the context. The only error is `OutOfMemory`.
     pub fn try_clone(&self, alloc: Global) -> Result<Self, Error>
         ensures raw { IfOk result (λ copy. copy.raw ≡ self.now.raw) }
         ensures valid { IfOk result (λ copy. set_names copy.valid ≡ set_names self.now.valid) }

@@ -16,11 +16,11 @@ use std::alloc::Global;
 pub trait RegisterNumber: FixedRead {
     ghost number: { Self → ℕ };
 
-    /// The number in 64 bits.
+    /// Returns the number in 64 bits.
     fn to_u64(self) -> u64
         ensures { result ≡ number self };
 
-    /// How many hexadecimal digits it has at most.
+    /// Returns how many hexadecimal digits it has at most.
     fn hex_digits() -> usize
         ensures { result ≡ 2 * Self.SIZE };
 }
@@ -57,7 +57,7 @@ pub trait CpuRegisterNames {
     /// The name of each general-purpose register.
     const REGISTERS: &'static [&'static str];
 
-    /// Gives [`REGISTERS`](CpuRegisterNames::REGISTERS), which a contract can't name.
+    /// Returns [`REGISTERS`](CpuRegisterNames::REGISTERS), which a contract can't name.
     fn names() -> &'static [&'static str]
         ensures { map (λ n. n.now) result.now ≡ names_of table };
 }
@@ -86,11 +86,11 @@ pub trait CpuContext: CpuRegisterNames + Record {
 
     ghost instruction_pointer: { List ℕ };
 
-    /// Gives the aliases of registers, each with its name in the list.
+    /// Returns the aliases of registers, each with its name in the list.
     fn aliases() -> &'static [(&'static str, &'static str)]
         ensures { map (λ a. (a.0.now, a.1.now)) result.now ≡ aliases };
 
-    /// Gives what the register at a place of the list holds.
+    /// Returns what the register at a place of the list holds.
     fn register_at(&self, place: usize) -> Self::Register
         requires { place < length Self.table }
         ensures { slice_get (values self.now) place ≡ Some result };
@@ -101,23 +101,23 @@ pub trait CpuContext: CpuRegisterNames + Record {
         ensures set { values self.new ≡ slice_set (values self.old) place value }
         ensures rest { rest self.new ≡ rest self.old };
 
-    /// Gives the bit of the processor in the flags of its contexts.
+    /// Returns the bit of the processor in the flags of its contexts.
     fn processor() -> u32
         ensures { result ≡ processor };
 
-    /// Gives the flags of the context.
+    /// Returns the flags of the context.
     fn flags(&self) -> u32
         ensures { result ≡ flags self.now };
 
-    /// Gives the name of the stack pointer.
+    /// Returns the name of the stack pointer.
     fn stack_pointer_register_name(&self) -> &'static str
         ensures { result.now ≡ stack_pointer };
 
-    /// Gives the name of the instruction pointer.
+    /// Returns the name of the instruction pointer.
     fn instruction_pointer_register_name(&self) -> &'static str
         ensures { result.now ≡ instruction_pointer };
 
-    /// Gives the name in the list of the register that a name names, or `None` where it names none.
+    /// Returns the name in the list of the register that a name names, or `None` if it names none.
     final fn memoize_register(&self, reg: &str) -> Option<&'static str>
         ensures { option_copied result ≡ memoized (names_of Self.table) aliases reg.now }
     {
@@ -126,7 +126,7 @@ pub trait CpuContext: CpuRegisterNames + Record {
         Some(names[place])
     }
 
-    /// Whether a name is that of a valid register: one of which the set has the name or an alias.
+    /// Returns whether a name is that of a valid register: one of which the set has any of the names.
     final fn register_is_valid(&self, reg: &str, valid: &MinidumpContextValidity) -> bool
         ensures { result ≡ is_valid valid.now (names_of Self.table) aliases reg.now }
     {
@@ -136,7 +136,7 @@ pub trait CpuContext: CpuRegisterNames + Record {
         }
     }
 
-    /// Gives what a register holds. Its name is one that `memoize_register` knows.
+    /// Returns what a register holds. Its name is one that `memoize_register` knows.
     final fn get_register_always(&self, reg: &str) -> Self::Register
         requires { IsSome (memoized (names_of Self.table) aliases reg.now) }
         ensures { value_of (names_of Self.table) aliases (values self.now) reg.now ≡ Some result }
@@ -145,7 +145,7 @@ pub trait CpuContext: CpuRegisterNames + Record {
         self.register_at(place)
     }
 
-    /// Gives what a register holds, or `None` where it isn't valid.
+    /// Returns what a register holds, or `None` if it isn't valid.
     final fn get_register(
         &self,
         reg: &str,
@@ -161,8 +161,8 @@ pub trait CpuContext: CpuRegisterNames + Record {
         }
     }
 
-    /// Changes a register, under all of its names, and nothing else. `None`, and no change, where none has the
-    /// name.
+    /// Changes a register under all of its names, and nothing else. Returns `None`, and changes nothing, if no
+    /// register has the name.
     final fn set_register(&mut self, reg: &str, val: Self::Register) -> Option<()>
         ensures named { IsSome result ↔ IsSome (place_of (names_of Self.table) aliases reg.now) }
         ensures changed { IsChanged values rest self.old self.new val (place_of (names_of Self.table) aliases reg.now) }
@@ -172,8 +172,8 @@ pub trait CpuContext: CpuRegisterNames + Record {
         Some(())
     }
 
-    /// Writes what a register holds as `0x` and two digits a byte. Its name is one that `memoize_register`
-    /// knows.
+    /// Formats what a register holds as `0x` and two digits a byte. Its name is one that `memoize_register`
+    /// knows. The only error is `OutOfMemory`.
     final fn format_register(&self, alloc: Global, reg: &str) -> Result<String, Error>
         requires { IsSome (memoized (names_of Self.table) aliases reg.now) }
         ensures text { IfOk result (λ text. IfSome (value_of (names_of Self.table) aliases (values self.now) reg.now)
@@ -184,7 +184,7 @@ pub trait CpuContext: CpuRegisterNames + Record {
         Ok(made(alloc, &[Piece::Wide(value, Self::Register::hex_digits())])?)
     }
 
-    /// Gives all registers, each with its name and what it holds, in the order of the list.
+    /// Returns an iterator over all registers, each with its name and what it holds, in the order of the list.
     final fn registers(&self) -> CpuRegisters<'_, Self>
         ensures { registers_left (names_of Self.table) aliases values result
             ≡ valid_from MinidumpContextValidity.All (names_of Self.table) aliases (values self.now) 0 }
@@ -196,7 +196,7 @@ pub trait CpuContext: CpuRegisterNames + Record {
         }
     }
 
-    /// Gives the valid registers, each with its name and what it holds, in the order of the list.
+    /// Returns an iterator over the valid registers, each with its name and what it holds, in the order of the list.
     final fn valid_registers<'a>(
         &'a self,
         valid: &'a MinidumpContextValidity,

@@ -17,7 +17,7 @@ pub enum MinidumpContextValidity {
 }
 
 impl MinidumpContextValidity {
-    /// The same set.
+    /// Copies the set. The only error is `OutOfMemory`.
     pub fn try_clone(&self, alloc: Global) -> Result<Self, Error>
         ensures same { IfOk result (λ copy. set_names copy ≡ set_names self.now) }
         ensures memory { IsOkUnless result Error.OutOfMemory }
