@@ -3,3 +3,4 @@ pub mod MergeLemmas
 pub mod RowLemmas
 pub mod ReportLemmas
 pub mod FieldLemmas
+pub mod ExactLemmas

@@ -1,13 +1,14 @@
 //! Laws of the stability report, over the definitions that its contracts cite.
-ghost use Rattle.std.specs.Prelude.{◌≡◌, ◌↔◌, ℕ, List, MatchResult, None, Option, Some};
+ghost use Rattle.std.specs.Prelude.{◌≡◌, ◌↔◌, ℕ, IsTrue, List, MatchResult, None, Option, Some};
 ghost use Rattle.minidump_bytes.specs.declared.endian.Endian.{Endian};
+ghost use Rattle.minidump_bytes.specs.Exact.{IsExact};
 ghost use Rattle.minidump_bytes.specs.Wire.{Field, SpellsFields};
 ghost use Rattle.minidump_format.specs.declared.error.Error.TheVariants.{DataError};
 ghost use Rattle.minidump_stability.specs.Fields.{fields_in};
-ghost use Rattle.minidump_stability.specs.StabilityReport.{report, stability_report};
+ghost use Rattle.minidump_stability.specs.StabilityReport.{report, report_of, stability_report};
 ghost use Rattle.minidump_system.specs.SystemInfo.{System};
 
-use crate::StabilityReport;
+use crate::{ProcessState, StabilityReport};
 use minidump_system::MinidumpStream;
 
 /// Bytes have the fields that they spell, and no others.
@@ -28,4 +29,14 @@ pub fn report_depends_on_its_stream_alone()
     ensures { (bytes all other : List ℕ) (order another : Endian) (s t : Option System)
         → ⟦<StabilityReport as MinidumpStream<'static>>⟧.meaning bytes all order s
         ≡ ⟦<StabilityReport as MinidumpStream<'static>>⟧.meaning bytes other another t }
+{}
+
+/// A state of a process equals the same state alone, and a clone of it is the same state.
+pub fn process_states_compare_and_copy_exactly()
+    ensures { IsExact ⟦<ProcessState as PartialEq>⟧.eq ⟦<ProcessState as Clone>⟧.is_clone }
+{}
+
+/// Reports are equal where they hold the same.
+pub fn reports_compare_by_what_they_hold()
+    ensures { (x y : StabilityReport) → IsTrue (⟦<StabilityReport as PartialEq>⟧.eq x y) ↔ (report_of x ≡ report_of y) }
 {}

@@ -17,7 +17,8 @@
 //! - It depends on its stream alone: `laws::report_depends_on_its_stream_alone`.
 //! - A read takes at most n + 7 reads and, where it succeeds, at least one for each field, nested ones
 //!   included: `limit` and `least` of `StabilityReport`.
-//! - A copy is the same report: `StabilityReport::try_clone`.
+//! - A copy is the same report, and reports are equal where they hold the same: `StabilityReport::try_clone`,
+//!   `laws::reports_compare_by_what_they_hold`; each message copies and compares exactly.
 //!
 //! What isn't: where memory may run out within a stream; the contract allows it for every stream. The print
 //! of the report is not there yet.
