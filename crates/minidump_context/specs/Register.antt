@@ -1,6 +1,6 @@
 -- Registers by name. A processor has a table of names and places in its record, and aliases of some of these names; beside the table
 -- a context has the list of what its registers hold.
-use Rattle.std.specs.Prelude.{⊤, ◌≡◌, ℕ, ◌-◌, ◌*◌, Bool, true, false, ◌||◌, ◌&&◌, List, [], ◌∷◌, ◌++◌, codes, length, drop, map, replicate, Option, Some, None, if◌then◌else◌, position}
+use Rattle.std.specs.Prelude.{⊤, ◌≡◌, ℕ, ◌*◌, Bool, true, false, ◌||◌, ◌&&◌, List, [], ◌∷◌, ◌++◌, codes, drop, map, Option, Some, None, if◌then◌else◌, position}
 use Rattle.std.specs.HashSet.{contains_by}
 use Rattle.std.specs.List.{slice_get, slice_set, list_any, filter, zip}
 use Rattle.std.specs.Option.{option_map_or, option_and_then, option_copied}

@@ -202,7 +202,8 @@ fn accepted<C: CpuContext + Drop>(bytes: &[u8], endian: Endian) -> Result<C, Con
     }
 }
 
-// Whether flags have the bit of a processor, and no other processor's below 0x1000_0000.
+// Whether flags have the bit of a processor, and no other processor's below 0x1000_0000: of X86, MIPS, MIPS64,
+// AMD64, ARM64 and PPC64, in this order.
 #[tactic(auto, unfolding(minidump_format::specs::ContextFlags::context_flags))]
 fn is_of(processor: u32, flags: u32) -> bool
     ensures { result ≡ is_of processor flags }
