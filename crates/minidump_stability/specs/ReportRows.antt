@@ -13,6 +13,7 @@ use Rattle.minidump_stability.specs.Fields.{int64_in, uint32_in}
 use Rattle.minidump_stability.specs.StabilityReport.{Report, no_report}
 use Rattle.minidump_stability.specs.Rows.{one_nested, one_repeated, only, row, scalar_row, through}
 
+-- ProcessState.MemoryState.WindowsMemory
 abbrev pub no_windows_memory : WindowsMemory
 no_windows_memory = record { process_private_usage = None; process_peak_workingset_size = None; process_peak_pagefile_usage = None; process_allocation_attempt = None }
 
@@ -21,6 +22,7 @@ put_windows_memory =
     through (λ m. (m.process_private_usage, (m.process_peak_workingset_size, (m.process_peak_pagefile_usage, m.process_allocation_attempt)))) (λ v. record { process_private_usage = v.0; process_peak_workingset_size = v.1.0; process_peak_pagefile_usage = v.1.1.0; process_allocation_attempt = v.1.1.1 })
     (row 1 (scalar_row uint32_in) (row 2 (scalar_row uint32_in) (row 3 (scalar_row uint32_in) (only 4 (scalar_row uint32_in)))))
 
+-- ProcessState.MemoryState
 abbrev pub no_memory_state : MemoryState
 no_memory_state = record { windows_memory = None }
 
@@ -29,6 +31,7 @@ put_memory_state =
     through (λ m. m.windows_memory) (λ v. record { windows_memory = v })
     (only 1 (one_nested put_windows_memory no_windows_memory))
 
+-- ProcessState.FileSystemState.PosixFileSystemState
 abbrev pub no_posix_file_system_state : PosixFileSystemState
 no_posix_file_system_state = record { open_file_descriptors = None }
 
@@ -37,6 +40,7 @@ put_posix_file_system_state =
     through (λ m. m.open_file_descriptors) (λ v. record { open_file_descriptors = v })
     (only 1 (scalar_row uint32_in))
 
+-- ProcessState.FileSystemState.WindowsFileSystemState
 abbrev pub no_windows_file_system_state : WindowsFileSystemState
 no_windows_file_system_state = record { process_handle_count = None }
 
@@ -45,6 +49,7 @@ put_windows_file_system_state =
     through (λ m. m.process_handle_count) (λ v. record { process_handle_count = v })
     (only 1 (scalar_row uint32_in))
 
+-- ProcessState.FileSystemState
 abbrev pub no_file_system_state : FileSystemState
 no_file_system_state = record { posix_file_system_state = None; windows_file_system_state = None }
 
@@ -53,6 +58,7 @@ put_file_system_state =
     through (λ m. (m.posix_file_system_state, m.windows_file_system_state)) (λ v. record { posix_file_system_state = v.0; windows_file_system_state = v.1 })
     (row 1 (one_nested put_posix_file_system_state no_posix_file_system_state) (only 2 (one_nested put_windows_file_system_state no_windows_file_system_state)))
 
+-- ProcessState
 abbrev pub no_process_state : ProcessState
 no_process_state = record { process_id = None; memory_state = None; file_system_state = None }
 
@@ -61,6 +67,7 @@ put_process_state =
     through (λ m. (m.process_id, (m.memory_state, m.file_system_state))) (λ v. record { process_id = v.0; memory_state = v.1.0; file_system_state = v.1.1 })
     (row 3 (scalar_row int64_in) (row 4 (one_nested put_memory_state no_memory_state) (only 7 (one_nested put_file_system_state no_file_system_state))))
 
+-- SystemMemoryState.WindowsMemory
 abbrev pub no_system_windows_memory : system.WindowsMemory
 no_system_windows_memory = record { system_commit_limit = None; system_commit_remaining = None; system_handle_count = None }
 
@@ -69,6 +76,7 @@ put_system_windows_memory =
     through (λ m. (m.system_commit_limit, (m.system_commit_remaining, m.system_handle_count))) (λ v. record { system_commit_limit = v.0; system_commit_remaining = v.1.0; system_handle_count = v.1.1 })
     (row 1 (scalar_row uint32_in) (row 2 (scalar_row uint32_in) (only 3 (scalar_row uint32_in))))
 
+-- SystemMemoryState
 abbrev pub no_system_memory_state : SystemMemoryState
 no_system_memory_state = record { windows_memory = None }
 
@@ -77,6 +85,7 @@ put_system_memory_state =
     through (λ m. m.windows_memory) (λ v. record { windows_memory = v })
     (only 1 (one_nested put_system_windows_memory no_system_windows_memory))
 
+-- StabilityReport
 unfoldable pub put_report : Field → Report → Option Report
 put_report =
     through (λ m. (m.process_states, m.system_memory_state)) (λ v. record { process_states = v.0; system_memory_state = v.1 })

@@ -1,7 +1,7 @@
--- Messages as tables of rows, which take their fields one after another.
+-- What one field more makes of a message, by a table of its fields.
 use Rattle.std.specs.Prelude.{ℕ, List, [], ◌∷◌, ◌++◌, ◌==◌, Option, Some, None, unwrap_or, if◌then◌else◌}
 use Rattle.std.specs.Option.{option_and_then, option_map}
-use Rattle.minidump_bytes.specs.Wire.{Bytes, Eight, Field, Four, Payload, Varint}
+use Rattle.minidump_bytes.specs.Wire.{Field, Payload}
 use Rattle.minidump_stability.specs.Fields.{both, fields_in, message_in}
 
 -- fields put in one after another
@@ -10,6 +10,7 @@ module _ {V : Type 0} (put : Field → V → Option V) where
   puts [] v = Some v
   puts (f ∷ fs) v = option_and_then (puts fs) (put f v)
 
+-- a message with these fields, where there are fields
 abbrev pub merged_fields : {V : Type 0} → (Field → V → Option V) → Option (List Field) → V → Option V
 merged_fields put fields v = option_and_then (λ fs. puts put fs v) fields
 
@@ -26,15 +27,19 @@ only number change f x = if f.number == number then change f.payload x else Some
 abbrev pub row : {X W : Type 0} → ℕ → (Payload → X → Option X) → (Field → W → Option W) → Field → X × W → Option (X × W)
 row number change rest f v = both (only number change f v.0) (rest f v.1)
 
+-- a scalar of a payload takes the place of the one before
 abbrev pub one_scalar : {N : Type 0} → (Payload → Option N) → Payload → Option (Option N)
 one_scalar value p = option_map Some (value p)
 
+-- the same, as a row has it
 abbrev pub scalar_row : {N : Type 0} → (Payload → Option N) → Payload → Option N → Option (Option N)
 scalar_row value p old = one_scalar value p
 
+-- the fields of a payload are put into the message that is there
 abbrev pub one_nested : {M : Type 0} → (Field → M → Option M) → M → Payload → Option M → Option (Option M)
 one_nested put empty p old = option_map Some (merged_fields put (message_in p) (unwrap_or old empty))
 
+-- the message of a payload stands behind those before
 abbrev pub one_repeated : {M : Type 0} → (Field → M → Option M) → M → Payload → List M → Option (List M)
 one_repeated put empty p old = option_map (λ m. old ++ m ∷ []) (merged_fields put (message_in p) empty)
 
