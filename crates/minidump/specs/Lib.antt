@@ -15,3 +15,5 @@ pub mod Format
 pub mod Index
 pub mod System
 pub mod MemoryLists
+pub mod Stability
+pub mod Contexts

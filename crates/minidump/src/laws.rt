@@ -6,7 +6,7 @@ ghost use Rattle.minidump_format.specs.declared.format.header.MINIDUMP_DIRECTORY
 ghost use Rattle.minidump.specs.declared.directory.DecidingEntry.{DecidingEntry};
 ghost use Rattle.minidump.specs.Directory.{deciding, deciding_below, directory};
 ghost use Rattle.minidump.specs.Dump.{Dump, raw_stream, spanned, streams_of};
-ghost use Rattle.minidump.specs.Promise.{IsMemory64List, IsMemoryList, IsMiscInfo, IsSystemInfo};
+ghost use Rattle.minidump.specs.Promise.{IsMemory64List, IsMemoryList, IsMiscInfo, IsStabilityReport, IsSystemInfo};
 ghost use Rattle.minidump_bytes.specs.Span.{span};
 
 use crate::directory::DecidingEntry;
@@ -19,6 +19,10 @@ pub use minidump_memory::laws::{
     the_unified_list_answers_as_the_list_it_holds,
 };
 use minidump_memory::{MinidumpMemory64List, MinidumpMemoryList};
+use minidump_stability::StabilityReport;
+pub use minidump_stability::laws::{
+    fields_are_what_bytes_spell, report_depends_on_its_stream_alone, report_is_what_its_fields_mean,
+};
 pub use minidump_system::laws::misc_info_depends_on_its_stream_alone;
 use minidump_system::{MinidumpMiscInfo, MinidumpStream, MinidumpSystemInfo};
 
@@ -60,6 +64,8 @@ pub fn streams_are_read_as_promised()
         in IsMemoryList T.type_number T.meaning T.limit }
     ensures memory64_list { let T = ⟦<MinidumpMemory64List<'static> as MinidumpStream<'static>>⟧
         in IsMemory64List T.type_number T.meaning T.limit }
+    ensures stability_report { let T = ⟦<StabilityReport as MinidumpStream<'static>>⟧
+        in IsStabilityReport T.type_number T.meaning T.limit }
 {}
 
 /// Clones of a deciding entry are equal values.

@@ -3,7 +3,7 @@
 //! - [`Minidump`] is a dump: `read` takes its bytes, `read_path` a path. `header` and `endian` are its
 //!   fields.
 //! - `get_stream` reads a stream by its type: [`MinidumpSystemInfo`], [`MinidumpMiscInfo`],
-//!   [`MinidumpMemoryList`], [`MinidumpMemory64List`], or a caller's own [`MinidumpStream`].
+//!   [`MinidumpMemoryList`], [`MinidumpMemory64List`], [`StabilityReport`], or a caller's own [`MinidumpStream`].
 //!   `get_raw_stream` lends the bytes of any stream, `get_memory` the memory of the dump by either list.
 //! - `all_streams`, `unknown_streams` and `unimplemented_streams` list the streams. `print` writes the
 //!   header and the directory.
@@ -50,13 +50,23 @@ mod streams;
 mod system;
 
 pub use dump::Minidump;
-pub use minidump_bytes::{Endian, FixedRead, Record, Refused, Source, Steps, Told, probe};
+pub use minidump_bytes::{
+    Endian, FixedRead, Record, Refused, Source, Steps, Told, WireField, WireValue, probe,
+    write_bytes,
+};
+pub use minidump_context::{
+    ContextError, ContextRegisters, CpuContext, CpuRegisterNames, CpuRegisters, MinidumpContext,
+    MinidumpContextValidity, MinidumpRawContext, RegisterNumber,
+};
 pub use minidump_format::{Error, format, stream_vendor};
 pub use minidump_index::{AddressIndex, ByAddress, Range, Region, RegionsByAddress};
 pub use minidump_memory::{
     MinidumpMemory, MinidumpMemory64, MinidumpMemory64List, MinidumpMemoryBase, MinidumpMemoryList,
     MinidumpMemoryListBase, UnifiedMemory, UnifiedMemoryByAddress, UnifiedMemoryIter,
     UnifiedMemoryList,
+};
+pub use minidump_stability::{
+    ProcessState, StabilityReport, SystemMemoryState, process_state, system_memory_state,
 };
 pub use minidump_system::{
     MinidumpMiscInfo, MinidumpStream, MinidumpSystemInfo, RawMiscInfo, date_text,
@@ -65,6 +75,11 @@ pub use streams::{
     MinidumpImplementedStream, MinidumpUnimplementedStream, MinidumpUnknownStream, Streams,
     UnimplementedStreams, UnknownStreams,
 };
+
+/// Texts of Linux, which need not be UTF-8.
+pub mod strings {
+    pub use minidump_bytes::{Lines, LinuxOsStr, LinuxOsString, Split, SplitAsciiWhitespace};
+}
 
 /// The names of operating systems and processors.
 pub mod system_info {
