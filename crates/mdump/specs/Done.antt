@@ -67,6 +67,8 @@ pub record IsRun {F O E : Type 0} (files : F → Option (List ℕ)) (output : O 
   pub done : status ≡ 0 → TookAll (IsAnswer files words) output out_old out_new × (err_new ≡ err_old)
   pub refused : status ≡ 1
       → TookBeginning (IsAnswer files words) output out_old out_new × ((e : Error) × IsPathRefusal files e × IsTold errors err_old err_new (refusal_line e))
+  -- of no words only a failure of the output is refused
+  pub shown : length words ≡ 0 → status ≡ 1 → has_failed out_new ≡ true
   pub usage : status ≡ 2 → (out_new ≡ out_old) × IsTold errors err_old err_new usage
   pub bad : status ≡ 2 ↔ ((0 < length words) × ¬ (IsCommand words))
 

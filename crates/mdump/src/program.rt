@@ -1,4 +1,5 @@
-ghost use Rattle.std.specs.Prelude.{◌≡◌, ◌<◌, IfErr, IfNone, IfSome, length, map, string_bytes};
+ghost use Rattle.std.specs.Prelude.{◌≡◌, ◌<◌, true, IfErr, IfNone, IfSome, OnErr, length, map, string_bytes};
+ghost use Rattle.minidump_bytes.specs.Told.{has_failed};
 ghost use Rattle.minidump_format.specs.Print.{Prints};
 ghost use Rattle.minidump.specs.File.{IsPathRefusal};
 ghost use Rattle.mdump.specs.Command.{IsCommand};
@@ -48,6 +49,7 @@ fn answered<R: Files + AllocGlobal, O: Write>(
 ) -> Option<Result<(), Error>>
     ensures written { IfSome result (Writes (IsAnswer R.File.remaining (map string_bytes words.now)) O.contents out.old out.new) }
     ensures refusal { IfSome result (λ r. IfErr r (IsPathRefusal R.File.remaining)) }
+    ensures shown { length words.now ≡ 0 → IfSome result (λ r. OnErr r (has_failed out.new ≡ true)) }
     ensures asked { IfSome result
         (λ _. (0 < length words.now) → ¬ (IsCommand (map string_bytes words.now)) → ⊥) }
     ensures none { IfNone result ((0 < length words.now) × ¬ (IsCommand (map string_bytes words.now))
