@@ -57,7 +57,8 @@ impl<'a> Minidump<'a> {
         Minidump::read_counted(alloc, bytes, &mut Steps::new())
     }
 
-    /// Reads as [`Minidump::read`] does, and counts the reads: at most `n + 8` for `n` bytes.
+    /// Reads as [`Minidump::read`] does, and counts the reads: at least one, and at most `n + 8` for `n`
+    /// bytes.
     pub fn read_counted(
         alloc: Global,
         bytes: &'a [u8],
@@ -66,6 +67,7 @@ impl<'a> Minidump<'a> {
         ensures means { Gives dump_of (HasEntries bytes.now) result (dump_in bytes.now) }
         ensures within { steps.new ≤ steps.old + length bytes.now + 8 }
         ensures grows { steps.old ≤ steps.new }
+        ensures begun { after steps.old 1 ≤ steps.new }
         ensures at_least { IfOk result (λ d. after steps.old (least_reads (dump_of d)) ≤ steps.new) }
     {
         let source = Source::new(bytes);

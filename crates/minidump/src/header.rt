@@ -16,7 +16,7 @@ pub(crate) fn read_header(
     ensures means { Gives (λ x. x) ⊥ result (header_of (bytes_of source.entry)) }
     ensures within { steps.new ≤ steps.old + 2 }
     ensures grows { steps.old ≤ steps.new }
-    ensures at_least { OnOk result (after steps.old 1 ≤ steps.new) }
+    ensures begun { after steps.old 1 ≤ steps.new }
     ensures long { OnOk result (32 ≤ length (bytes_of source.entry)) }
 {
     let little: MINIDUMP_HEADER = source

@@ -7,9 +7,11 @@ ghost use Rattle.minidump.specs.declared.directory.DecidingEntry.{DecidingEntry}
 ghost use Rattle.minidump.specs.Directory.{deciding, deciding_below, directory};
 ghost use Rattle.minidump.specs.Dump.{Dump, raw_stream, spanned, streams_of};
 ghost use Rattle.minidump.specs.Promise.{IsMemory64List, IsMemoryList, IsMiscInfo, IsStabilityReport, IsSystemInfo};
+ghost use Rattle.minidump.specs.Streams.{unimplemented_view, unknown_view};
 ghost use Rattle.minidump_bytes.specs.Span.{span};
 
 use crate::directory::DecidingEntry;
+use crate::streams::{MinidumpUnimplementedStream, MinidumpUnknownStream};
 pub use minidump_index::laws::{
     a_kept_set, an_address_order, one_address_order, one_kept_set, one_region_at_an_address,
     regions_by_address,
@@ -68,7 +70,12 @@ pub fn streams_are_read_as_promised()
         in IsStabilityReport T.type_number T.meaning T.limit }
 {}
 
-/// Clones of a deciding entry are equal values.
+/// Clones of a deciding entry, of an unknown stream and of an unimplemented one are equal values.
 pub fn clones_are_the_same()
-    ensures { (entry other : DecidingEntry) → ⟦<DecidingEntry as Clone>⟧.is_clone entry other → other ≡ entry }
+    ensures entry { (entry other : DecidingEntry) → ⟦<DecidingEntry as Clone>⟧.is_clone entry other → other ≡ entry }
+    ensures unknown { (stream other : MinidumpUnknownStream)
+        → ⟦<MinidumpUnknownStream as Clone>⟧.is_clone stream other → unknown_view other ≡ unknown_view stream }
+    ensures unimplemented { (stream other : MinidumpUnimplementedStream)
+        → ⟦<MinidumpUnimplementedStream as Clone>⟧.is_clone stream other
+        → unimplemented_view other ≡ unimplemented_view stream }
 {}
