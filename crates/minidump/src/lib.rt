@@ -5,6 +5,7 @@
 //! - `get_stream` reads a stream by its type: [`MinidumpSystemInfo`], [`MinidumpMiscInfo`],
 //!   [`MinidumpMemoryList`], [`MinidumpMemory64List`], [`StabilityReport`], or a caller's own [`MinidumpStream`].
 //!   `get_raw_stream` lends the bytes of any stream, `get_memory` the memory of the dump by either list.
+//! - [`MinidumpContext`] decodes the registers of a thread from the bytes of its context.
 //! - `all_streams`, `unknown_streams` and `unimplemented_streams` list the streams. `print` writes the
 //!   header and the directory.
 //! - [`laws`] has what holds of all this beyond single calls.

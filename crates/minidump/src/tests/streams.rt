@@ -2,7 +2,7 @@ use crate::format::MINIDUMP_SYSTEM_INFO;
 use crate::system_info::{Cpu, Os};
 use crate::{
     Endian, Error, Minidump, MinidumpMemory64List, MinidumpMemoryList, MinidumpMiscInfo,
-    MinidumpStream, MinidumpSystemInfo, Steps, Told,
+    MinidumpStream, MinidumpSystemInfo, StabilityReport, Steps, Told,
 };
 use minidump_synth::{Section, SynthMinidump, zeroed};
 use std::alloc::Global;
@@ -11,6 +11,8 @@ use std::test::Fail;
 const SYSTEM_INFO: u32 = 7;
 
 const MISC_INFO: u32 = 15;
+
+const STABILITY_REPORT: u32 = 0x4b6b_0002;
 
 const SYSTEM_TEXT: &str = "MINIDUMP_SYSTEM_INFO
   processor_architecture                     = 0x9
@@ -328,9 +330,45 @@ fn types_of_streams_have_their_numbers(rt: HostRuntime) -> Result<(), Fail> {
             MinidumpMiscInfo::number_of_type(),
             MISC_INFO,
         ),
+        (
+            StabilityReport::STREAM_TYPE,
+            StabilityReport::number_of_type(),
+            STABILITY_REPORT,
+        ),
     ] {
         assert_eq!(rt; constant, number);
         assert_eq!(rt; function, number);
+    }
+    Ok(())
+}
+
+// A report whose nested message is cut off inside a field, and one of one process, by its id.
+#[test]
+fn reads_the_stability_report(rt: HostRuntime) -> Result<(), Fail> {
+    let alloc = rt.alloc();
+    for endian in BOTH {
+        let mut dump = SynthMinidump::new(alloc, endian);
+        dump.add_stream(
+            STABILITY_REPORT,
+            &[0x12, 0x04, 0x18, 0xec, 0x76, 0x22, 0x00],
+        );
+        let bytes = dump.finish()?;
+        let dump = Minidump::read(alloc, bytes.as_slice())?;
+        assert!(rt;
+            matches!(
+                dump.get_stream::<StabilityReport>(alloc),
+                Err(Error::DataError)
+            )
+        );
+        let mut dump = SynthMinidump::new(alloc, endian);
+        dump.add_stream(STABILITY_REPORT, &[0x12, 0x03, 0x18, 0xec, 0x76]);
+        let bytes = dump.finish()?;
+        let dump = Minidump::read(alloc, bytes.as_slice())?;
+        let mut steps = Steps::new();
+        let report: StabilityReport = dump.get_stream_counted(alloc, &mut steps)?;
+        assert_eq!(rt; steps.count(), 3);
+        assert_eq!(rt; report.process_states.len(), 1);
+        assert_eq!(rt; report.process_states[0].process_id, Some(15212));
     }
     Ok(())
 }
