@@ -1,0 +1,9 @@
+-- The lemmas of this crate.
+mod FoundLemmas
+mod GuidLemmas
+mod KeptLemmas
+mod ListLemmas
+mod NumberLemmas
+mod OrderLemmas
+mod PaddedLemmas
+mod ShownLemmas

@@ -1,0 +1,78 @@
+-- CodeView records: Microsoft's `RSDS` and `NB10`, and Breakpad's MDCVInfoELF of minidump_format.h.
+use Rattle.std.specs.Prelude.{ℕ, ◌+◌, ◌==◌, List, length, drop, slice_range, Option, Some, None, Result, Ok, Err, nat_lt, if◌then◌else◌}
+use Rattle.std.specs.List.{before_first}
+use Rattle.std.specs.Option.{ok_or}
+use Rattle.std.specs.Str.Lossy.{utf8_lossy}
+use Rattle.minidump_bytes.specs.declared.endian.Endian.{Endian}
+use Rattle.minidump_bytes.specs.Number.{number_at}
+use Rattle.minidump_bytes.specs.Span.{span}
+use Rattle.minidump_format.specs.CodeView.{signature_of}
+use Rattle.minidump_format.specs.Guid.{guid}
+use Rattle.minidump_format.specs.declared.error.Error.{Error}
+use Rattle.minidump_format.specs.declared.error.Error.TheVariants.{CodeViewReadFailure}
+use Rattle.minidump_format.specs.declared.format.code_view.CvSignature.{CvSignature}
+use Rattle.minidump_format.specs.declared.format.code_view.CvSignature.TheVariants as signature
+use Rattle.minidump_format.specs.declared.format.guid.GUID.{GUID}
+use Rattle.minidump_format.specs.declared.format.header.MINIDUMP_LOCATION_DESCRIPTOR.{MINIDUMP_LOCATION_DESCRIPTOR}
+use Rattle.minidump_modules.specs.declared.code_view.CodeView.{CodeView}
+use Rattle.minidump_modules.specs.declared.code_view.CodeView.TheVariants.{Pdb20, Pdb70, Elf, Unknown}
+use Rattle.minidump_modules.specs.Reads.{and_then}
+
+-- a CodeView record as a value; each but the last begins with its signature
+pub data View : Type 0 where
+  -- then GUID, age and name
+  pdb70 : ℕ → GUID → ℕ → List ℕ → View
+  -- then offset, time stamp, age and name
+  pdb20 : ℕ → ℕ → ℕ → ℕ → List ℕ → View
+  -- then a build id
+  elf : ℕ → List ℕ → View
+  unknown : List ℕ → View
+
+abbrev pub view_of : CodeView → View
+view_of (Pdb70 r) = pdb70 r.cv_signature r.signature r.age r.pdb_file_name.items
+view_of (Pdb20 r) = pdb20 r.cv_signature r.cv_offset r.signature r.age r.pdb_file_name.items
+view_of (Elf r) = elf r.cv_signature r.build_id.items
+view_of (Unknown bytes) = unknown bytes.items
+
+-- the GUID of Microsoft's CV_INFO_PDB70
+unfoldable pub pdb70_guid : Endian → List ℕ → GUID
+pdb70_guid order bytes = guid.value order (slice_range bytes 4 20)
+
+-- Microsoft's CV_INFO_PDB70: 24 bytes and a name
+unfoldable pub pdb70_in : Endian → List ℕ → Result View Error
+pdb70_in order bytes =
+    if nat_lt (length bytes) 24 then Err CodeViewReadFailure else
+    Ok (pdb70 (number_at order 4 0 bytes) (pdb70_guid order bytes) (number_at order 4 20 bytes) (drop 24 bytes))
+
+-- Microsoft's CV_INFO_PDB20: 16 bytes and a name
+unfoldable pub pdb20_in : Endian → List ℕ → Result View Error
+pdb20_in order bytes =
+    if nat_lt (length bytes) 16 then Err CodeViewReadFailure else
+    Ok (pdb20 (number_at order 4 0 bytes) (number_at order 4 4 bytes) (number_at order 4 8 bytes) (number_at order 4 12 bytes) (drop 16 bytes))
+
+-- the record of a kind
+abbrev record_of : Endian → List ℕ → Option CvSignature → Result View Error
+record_of order bytes (Some signature.Pdb70) = pdb70_in order bytes
+record_of order bytes (Some signature.Pdb20) = pdb20_in order bytes
+record_of order bytes (Some signature.Elf) = Ok (elf (number_at order 4 0 bytes) (drop 4 bytes))
+record_of order bytes None = Ok (unknown bytes)
+
+-- the record that bytes are, by the signature in the first four
+unfoldable pub code_view : Endian → List ℕ → Result View Error
+code_view order bytes =
+    if nat_lt (length bytes) 4 then Err CodeViewReadFailure else
+    record_of order bytes (signature_of (number_at order 4 0 bytes))
+
+-- the record at a location: none where that has no size
+unfoldable pub code_view_at : Endian → MINIDUMP_LOCATION_DESCRIPTOR → List ℕ → Result (Option View) Error
+code_view_at order place file =
+    if place.data_size == 0 then Ok None else
+    and_then (ok_or (span place.rva (place.rva + place.data_size) file) CodeViewReadFailure) (λ bytes. and_then (code_view order bytes) (λ view. Ok (Some view)))
+
+-- how many spans are read for it
+abbrev pub views_read : MINIDUMP_LOCATION_DESCRIPTOR → ℕ
+views_read place = if place.data_size == 0 then 0 else 1
+
+-- the bytes before the first NUL as a text, with U+FFFD for what is not UTF-8
+unfoldable pub lossy_name : List ℕ → List ℕ
+lossy_name bytes = utf8_lossy (before_first (λ b. b == 0) bytes)

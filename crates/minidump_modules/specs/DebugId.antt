@@ -1,0 +1,61 @@
+-- Debug identifiers, as Breakpad has them: a GUID, or the time stamp of a Pdb20, with an appendix.
+use Rattle.std.specs.Prelude.{ℕ, ◌-◌, ◌++◌, ◌==◌, ◌&&◌, List, [], codes, length, take, drop, replicate, true, false, Option, Some, None, nat_le, nat_lt, if◌then◌else◌, Bool, ◌∷◌, ◌^◌}
+use Rattle.std.specs.Char.{digit_value}
+use Rattle.std.specs.Fmt.{digits}
+use Rattle.std.specs.Int.{to_be_bytes, w16, w32}
+use Rattle.std.specs.Option.{option_and_then, option_map}
+use Rattle.std.specs.Str.Parse.{digits_value}
+use Rattle.uuid.specs.Text.{hyphenated_text, lower, parsed_simple}
+use Rattle.minidump_format.specs.declared.format.guid.GUID.{GUID}
+use Rattle.minidump_modules.specs.declared.debug_id.DebugId.{DebugId}
+use Rattle.minidump_modules.specs.declared.debug_id.Kind.{Kind}
+use Rattle.minidump_modules.specs.declared.debug_id.Kind.TheVariants.{Guid, Stamp}
+
+-- the 16 bytes of a GUID as RFC 9562 orders them: the highest byte of each number first
+unfoldable pub guid_bytes : GUID → List ℕ
+guid_bytes g = to_be_bytes w32 g.data1 ++ (to_be_bytes w16 g.data2 ++ (to_be_bytes w16 g.data3 ++ g.data4))
+
+abbrev pub by_guid : List ℕ → ℕ → DebugId
+by_guid bytes appendix = record { kind = Guid bytes appendix }
+
+abbrev pub by_stamp : ℕ → ℕ → DebugId
+by_stamp stamp age = record { kind = Stamp stamp age }
+
+abbrev pub all_digits : ℕ → List ℕ → Bool
+all_digits base [] = true
+all_digits base (c ∷ cs) = nat_lt (digit_value c) base && all_digits base cs
+
+-- the number of so many bits that one digit or more write
+unfoldable pub number : ℕ → ℕ → List ℕ → Option ℕ
+number base bits digits =
+    if nat_lt 0 (length digits) && all_digits base digits && nat_lt (digits_value base digits) (2 ^ bits) then Some (digits_value base digits) else None
+
+-- the bytes that 32 hexadecimal digits write
+unfoldable pub sixteen_bytes : List ℕ → Option (List ℕ)
+sixteen_bytes digits = parsed_simple digits
+
+-- Breakpad's form: the 32 digits of a GUID, and 1 to 8 of an appendix
+abbrev pub from_breakpad : List ℕ → Option DebugId
+from_breakpad text =
+    if nat_le 33 (length text) && nat_le (length text) 40
+    then option_and_then (λ uuid. option_map (by_guid uuid) (number 16 32 (drop 32 text))) (sixteen_bytes (take 32 text))
+    else None
+
+-- an appendix behind a hyphen, where it is not 0
+abbrev pub appendix_text : ℕ → List ℕ
+appendix_text n = if n == 0 then [] else codes "-" ++ digits 16 false n
+
+-- eight digits in upper case
+abbrev pub eight_upper : ℕ → List ℕ
+eight_upper n = replicate (8 - length (digits 16 true n)) 48 ++ digits 16 true n
+
+-- a GUID as it is written: 8, 4, 4, 4 and 12 digits
+unfoldable pub guid_text : List ℕ → List ℕ
+guid_text bytes = hyphenated_text lower bytes
+
+abbrev kind_text : Kind → List ℕ
+kind_text (Guid bytes appendix) = guid_text bytes ++ appendix_text appendix
+kind_text (Stamp stamp age) = eight_upper stamp ++ appendix_text age
+
+abbrev pub debug_id_text : DebugId → List ℕ
+debug_id_text id = kind_text id.kind

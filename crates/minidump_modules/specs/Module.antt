@@ -1,0 +1,94 @@
+-- Modules: Microsoft's MINIDUMP_MODULE with its name and its CodeView record.
+use Rattle.std.specs.Prelude.{ℕ, ◌+◌, Bool, List, is_some, replicate, Option, None, Result, Ok, string_bytes}
+use Rattle.std.specs.Option.{ok_or, option_map}
+use Rattle.minidump_bytes.specs.declared.endian.Endian.{Endian}
+use Rattle.minidump_bytes.specs.declared.endian.Endian.TheVariants.{Little}
+use Rattle.minidump_bytes.specs.Text16.{text16}
+use Rattle.minidump_format.specs.declared.error.Error.{Error}
+use Rattle.minidump_format.specs.declared.error.Error.TheVariants.{CodeViewReadFailure}
+use Rattle.minidump_format.specs.declared.format.module.MINIDUMP_MODULE.{MINIDUMP_MODULE}
+use Rattle.minidump_index.specs.declared.range.Range.{Range}
+use Rattle.minidump_index.specs.Overlap.{range_of}
+use Rattle.minidump_system.specs.declared.os.Os.{Os}
+use Rattle.minidump_modules.specs.declared.module.MinidumpModule.{MinidumpModule}
+use Rattle.minidump_modules.specs.CodeView.{View, code_view_at, view_of, views_read}
+use Rattle.minidump_modules.specs.Identity.{Identity, code_identifier, debug_file, debug_identifier}
+use Rattle.minidump_modules.specs.Reads.{and_then}
+use Rattle.minidump_modules.specs.Version.{version_of}
+
+-- a module as a value: with the byte order and the system of its dump
+pub record ModuleValue : Type 0 where
+  pub raw : MINIDUMP_MODULE
+  pub name : List ℕ
+  pub view : Option View
+  pub order : Endian
+  pub os : Option Os
+
+abbrev pub module_of : MinidumpModule → ModuleValue
+module_of m = record { raw = m.raw; name = string_bytes m.name; view = option_map view_of m.codeview_info; order = m.endian; os = m.os }
+
+-- an entry of a base address and a size, with zeros everywhere else
+abbrev entry_of : ℕ → ℕ → MINIDUMP_MODULE
+entry_of base size = record {
+  base_of_image = base;
+  size_of_image = size;
+  checksum = 0;
+  time_date_stamp = 0;
+  module_name_rva = 0;
+  version_info = record {
+    signature = 0;
+    struct_version = 0;
+    file_version_hi = 0;
+    file_version_lo = 0;
+    product_version_hi = 0;
+    product_version_lo = 0;
+    file_flags_mask = 0;
+    file_flags = 0;
+    file_os = 0;
+    file_type = 0;
+    file_subtype = 0;
+    file_date_hi = 0;
+    file_date_lo = 0;
+  };
+  cv_record = record { data_size = 0; rva = 0 };
+  misc_record = record { data_size = 0; rva = 0 };
+  unused1 = replicate 16 0;
+}
+
+-- a module that was not read: of no known system, without a CodeView record
+abbrev pub made_module : ℕ → ℕ → List ℕ → ModuleValue
+made_module base size name = record { raw = entry_of base size; name = name; view = None; order = Little; os = None }
+
+-- what a module is known by
+abbrev pub identity_of : ModuleValue → Identity
+identity_of m = record {
+  base = m.raw.base_of_image;
+  size = m.raw.size_of_image;
+  code_file = m.name;
+  code_identifier = code_identifier m.os m.raw.time_date_stamp m.raw.size_of_image m.view;
+  debug_file = debug_file m.name m.view;
+  debug_identifier = debug_identifier m.order m.view;
+  version = version_of m.os m.raw.version_info;
+}
+
+abbrev pub module_identity : MinidumpModule → Identity
+module_identity m = identity_of (module_of m)
+
+-- its addresses
+abbrev pub module_range : MinidumpModule → Option Range
+module_range m = range_of m.raw.base_of_image m.raw.size_of_image
+
+-- the module of an entry: its name, and then its CodeView record
+unfoldable pub read_module : Endian → Option Os → List ℕ → MINIDUMP_MODULE → Result ModuleValue Error
+read_module order os file raw =
+    and_then (ok_or (text16 order raw.module_name_rva file) CodeViewReadFailure) (λ name.
+    and_then (code_view_at order raw.cv_record file) (λ view.
+    Ok (record { raw = raw; name = name; view = view; order = order; os = os })))
+
+-- how much is read for it: its name, and its CodeView record where it has one
+abbrev pub module_reads : MINIDUMP_MODULE → ℕ
+module_reads raw = 1 + views_read raw.cv_record
+
+-- an entry with addresses
+unfoldable pub has_range : MINIDUMP_MODULE → Bool
+has_range raw = is_some (range_of raw.base_of_image raw.size_of_image)

@@ -1,0 +1,43 @@
+-- The modules of a dump: Microsoft's MINIDUMP_MODULE_LIST.
+use Rattle.std.specs.Prelude.{ℕ, List, filter, map, Option, Result, Ok, Err}
+use Rattle.std.specs.List.{sum_by}
+use Rattle.std.specs.Option.{option_map}
+use Rattle.minidump_bytes.specs.declared.endian.Endian.{Endian}
+use Rattle.minidump_format.specs.declared.error.Error.{Error}
+use Rattle.minidump_format.specs.declared.format.module.MINIDUMP_MODULE.{MINIDUMP_MODULE}
+use Rattle.minidump_format.specs.Module.{module_entry}
+use Rattle.minidump_system.specs.declared.os.Os.{Os}
+use Rattle.minidump_system.specs.Framing.{plain_list}
+use Rattle.minidump_system.specs.SystemInfo.{System}
+use Rattle.minidump_modules.specs.declared.module.MinidumpModule.{MinidumpModule}
+use Rattle.minidump_modules.specs.declared.module_list.MinidumpModuleList.{MinidumpModuleList}
+use Rattle.minidump_modules.specs.Module.{ModuleValue, has_range, module_of, module_reads, read_module}
+use Rattle.minidump_modules.specs.Reads.{all_ok, and_then}
+
+-- its modules, in the order of the list
+abbrev pub modules_of : MinidumpModuleList → List MinidumpModule
+modules_of l = l.modules
+
+-- the same as values
+abbrev pub module_values : MinidumpModuleList → List ModuleValue
+module_values l = map module_of (modules_of l)
+
+-- the modules of entries; an entry without addresses is skipped whole
+abbrev pub modules_in : Endian → Option Os → List ℕ → List MINIDUMP_MODULE → Result (List ModuleValue) Error
+modules_in order os file raws = all_ok (read_module order os file) (filter has_range raws)
+
+-- Microsoft's MINIDUMP_MODULE_LIST: a plain list of entries
+abbrev pub module_list : List ℕ → List ℕ → Endian → Option System → Result (List ModuleValue) Error
+module_list bytes file order system = and_then (plain_list module_entry order bytes) (modules_in order (option_map (λ s. s.os) system) file)
+
+-- how much is read for the modules of entries
+abbrev pub modules_read : List MINIDUMP_MODULE → ℕ
+modules_read raws = sum_by module_reads (filter has_range raws)
+
+abbrev reads_in : Result (List MINIDUMP_MODULE) Error → ℕ
+reads_in (Err e) = 0
+reads_in (Ok raws) = modules_read raws
+
+-- and for those of a list
+abbrev pub reads_of_list : Endian → List ℕ → ℕ
+reads_of_list order bytes = reads_in (plain_list module_entry order bytes)

@@ -1,0 +1,17 @@
+-- The unloaded modules of a dump: Microsoft's MINIDUMP_UNLOADED_MODULE_LIST.
+use Rattle.std.specs.Prelude.{ℕ, List, map, Result}
+use Rattle.minidump_bytes.specs.declared.endian.Endian.{Endian}
+use Rattle.minidump_format.specs.declared.error.Error.{Error}
+use Rattle.minidump_format.specs.Module.{unloaded_module_entry}
+use Rattle.minidump_system.specs.Framing.{extended_list}
+use Rattle.minidump_modules.specs.declared.unloaded_module.MinidumpUnloadedModule.{MinidumpUnloadedModule}
+use Rattle.minidump_modules.specs.UnloadedModule.{UnloadedValue, listed_unloaded, unloaded_of}
+use Rattle.minidump_modules.specs.Reads.{all_ok, and_then}
+
+-- the modules of a list as values, in its order
+abbrev pub unloaded_values : List MinidumpUnloadedModule → List UnloadedValue
+unloaded_values modules = map unloaded_of modules
+
+-- Microsoft's MINIDUMP_UNLOADED_MODULE_LIST: an extended list of entries
+abbrev pub unloaded_list : List ℕ → List ℕ → Endian → Result (List UnloadedValue) Error
+unloaded_list bytes file order = and_then (extended_list unloaded_module_entry order bytes) (all_ok (listed_unloaded order file))

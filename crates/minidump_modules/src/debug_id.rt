@@ -1,0 +1,135 @@
+ghost use Rattle.std.proofs.Common.{rules};
+ghost use Rattle.std.specs.Prelude.{◌≡◌, ◌≤◌, ◌<◌, All, length};
+ghost use Rattle.minidump_modules.specs.DebugId.{by_guid, by_stamp, from_breakpad, guid_bytes, number, sixteen_bytes};
+
+use minidump_bytes::Exact;
+use minidump_format::format::GUID;
+use std::fmt;
+use uuid::Uuid;
+
+/// The identifier of a module's debug file: a GUID, or the time stamp of an old program database, each
+/// with an appendix, as its age.
+#[derive(Clone, Copy, Debug, PartialEq, Eq)]
+pub struct DebugId {
+    kind: Kind,
+}
+
+#[derive(Clone, Copy, Debug, PartialEq, Eq)]
+enum Kind {
+    Guid(Uuid, u32),
+    Stamp(u32, u32),
+}
+
+impl DebugId {
+    /// Reads Breakpad's form: the 32 hexadecimal digits of a GUID, then 1 to 8 of the appendix. Returns
+    /// `None` for any other text.
+    pub fn from_breakpad(text: &str) -> Option<DebugId>
+        ensures { result ≡ from_breakpad text.now }
+    {
+        let bytes = text.as_bytes();
+        if bytes.len() < 33 || bytes.len() > 40 {
+            return None;
+        }
+        let uuid = sixteen_bytes(&bytes[..32])?;
+        let appendix = hex_number(&bytes[32..])?;
+        Some(DebugId::from_parts(uuid, appendix))
+    }
+
+    /// Makes the identifier of a GUID with an appendix.
+    pub fn from_parts(uuid: Uuid, appendix: u32) -> DebugId
+        ensures { result ≡ by_guid uuid appendix }
+    {
+        DebugId {
+            kind: Kind::Guid(uuid, appendix),
+        }
+    }
+
+    /// Makes the identifier of an old program database, by its time stamp and its age.
+    pub fn from_pdb20(timestamp: u32, age: u32) -> DebugId
+        ensures { result ≡ by_stamp timestamp age }
+    {
+        DebugId {
+            kind: Kind::Stamp(timestamp, age),
+        }
+    }
+
+    /// Makes the identifier of a GUID with the appendix 0.
+    pub fn from_uuid(uuid: Uuid) -> DebugId
+        ensures { result ≡ by_guid uuid 0 }
+    {
+        DebugId::from_parts(uuid, 0)
+    }
+}
+
+impl Exact for DebugId {
+    ghost exact = { Prim.search rules };
+}
+
+/// Formats a GUID in lower case with hyphens, and a time stamp as eight digits in upper case; an appendix
+/// other than 0 follows behind a hyphen.
+impl fmt::Display for DebugId {
+    ghost use Rattle.std.specs.Prelude.{Some};
+    ghost use Rattle.minidump_modules.specs.DebugId.{debug_id_text};
+
+    ghost output = { λ id. Some (debug_id_text id) };
+
+    fn fmt<W: fmt::Write>(&self, f: &mut fmt::Formatter<W>) -> fmt::Result {
+        match self.kind {
+            Kind::Guid(uuid, appendix) => {
+                if appendix == 0 {
+                    write!(f, "{uuid}")
+                } else {
+                    write!(f, "{uuid}-{appendix:x}")
+                }
+            }
+            Kind::Stamp(stamp, age) => {
+                if age == 0 {
+                    write!(f, "{stamp:08X}")
+                } else {
+                    write!(f, "{stamp:08X}-{age:x}")
+                }
+            }
+        }
+    }
+}
+
+// Makes the UUID of a GUID.
+pub(crate) fn uuid_of(guid: &GUID) -> Uuid
+    ensures { result ≡ guid_bytes guid.now }
+{
+    let uuid = Uuid::from_fields(guid.data1, guid.data2, guid.data3, &guid.data4);
+    bytes_fit(uuid.as_bytes());
+    uuid
+}
+
+// Reads each byte, so that each is below 256 in the contract. It is compiled away.
+fn bytes_fit(bytes: &[u8; 16])
+    ensures { (length bytes.now ≡ 16) × All (λ b. b < 256) bytes.now }
+{
+    for i in 0..16 {
+        let _ = bytes[i];
+    }
+}
+
+// Reads the GUID of 32 digits.
+fn sixteen_bytes(digits: &[u8]) -> Option<Uuid>
+    requires { length digits.now ≡ 32 }
+    ensures { result ≡ sixteen_bytes digits.now }
+{
+    Uuid::try_parse_ascii(digits).ok()
+}
+
+// Reads the number of at most eight digits.
+fn hex_number(digits: &[u8]) -> Option<u32>
+    requires { length digits.now ≤ 8 }
+    ensures { result ≡ number 16 32 digits.now }
+{
+    if digits.is_empty() {
+        return None;
+    }
+    let mut value = 0;
+    for byte in digits {
+        value = value * 16 + (*byte as char).to_digit(16)?;
+    }
+    Some(value)
+}

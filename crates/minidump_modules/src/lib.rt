@@ -1,0 +1,61 @@
+//! The modules of a minidump, loaded and unloaded, and the identifiers that symbol tools know them by.
+//!
+//! - [`MinidumpModuleList`] is the list of loaded modules, with lookups by address; [`MinidumpModule`] is one
+//!   of them, with its name and its [`CodeView`] record.
+//! - [`MinidumpUnloadedModuleList`] and [`MinidumpUnloadedModule`] are the same of unloaded modules, which
+//!   may overlap: [`ModulesAtAddress`] yields each that contains an address.
+//! - [`Module`] is what both are known by: names, version, [`CodeId`] and [`DebugId`].
+//!
+//! # Errors
+//!
+//! Reading a list returns `StreamReadFailure` or `StreamSizeMismatch` where the stream is malformed,
+//! `CodeViewReadFailure` for a malformed name or CodeView record of a loaded module, `ModuleReadFailure` for
+//! an unloaded module without addresses, `DataError` for a malformed name of one, and `OutOfMemory` where an
+//! allocation fails. A loaded module without addresses is skipped, its name and its record unread.
+//!
+//! # What is proved
+//!
+//! - Each list has the modules that the format assigns to its stream, in its order, or returns the error that
+//!   it assigns, in at most n + 7 reads and at least one for the count and for each entry, name and CodeView
+//!   record: `MinidumpStream::read` of both lists, by `module_list` and `unloaded_list`. One module by its
+//!   entry: `MinidumpModule::read`, by `read_module`; `MinidumpUnloadedModule::read`, by `read_unloaded`.
+//! - The identifiers, the debug file and the version are those of the CodeView record, the system, the build
+//!   id and the version record: the functions of `Module`, by `identity_of` and `unloaded_identity`. Their
+//!   texts: `CodeId::new`, `from_binary`, `Display`; `DebugId::from_breakpad`, `Display`.
+//! - A lookup returns the kept module that contains the address, in at most as many comparisons as the number
+//!   of kept modules has binary digits: `module_at_address`, `module_at_address_counted`. The kept ones by
+//!   address, from both ends: `by_addr`. How these fit together: `laws::region_laws`.
+//! - Of unloaded modules all that contain an address are returned, by start, then by end, then by index:
+//!   `modules_at_address`, by `AreAt`; all that have a range: `by_addr`, by `IsByStart`.
+//! - A copy is the same module, record or list: each `try_clone`. `==` of `DebugId` holds of equal values
+//!   alone: `Exact`.
+//!
+//! What isn't: that a forged count reserves no memory (the contracts show that no `OutOfMemory` is returned
+//! for it). Prints of modules are not there yet.
+#![tactic(auto)]
+
+mod code_id;
+mod code_view;
+mod debug_id;
+mod identity;
+pub mod laws;
+mod module;
+mod module_list;
+mod unloaded_iter;
+mod unloaded_module;
+mod unloaded_module_list;
+mod unloaded_order;
+mod version;
+
+pub use code_id::CodeId;
+pub use code_view::CodeView;
+pub use debug_id::DebugId;
+pub use identity::Module;
+pub use module::MinidumpModule;
+pub use module_list::MinidumpModuleList;
+pub use unloaded_iter::{ModulesAtAddress, UnloadedModulesByAddress};
+pub use unloaded_module::MinidumpUnloadedModule;
+pub use unloaded_module_list::MinidumpUnloadedModuleList;
+
+#[cfg(test)]
+mod tests;

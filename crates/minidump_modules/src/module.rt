@@ -1,0 +1,291 @@
+ghost use Rattle.std.specs.Prelude.{◌≡◌, ◌+◌, ◌≤◌, ⊤, [], IfOk, IsOkUnless, string_bytes};
+ghost use Rattle.std.specs.Option.{ok_or, option_copied, option_map};
+ghost use Rattle.minidump_bytes.specs.declared.endian.Endian.TheVariants.{Little};
+ghost use Rattle.minidump_bytes.specs.Source.{bytes_of};
+ghost use Rattle.minidump_bytes.specs.Steps.{after};
+ghost use Rattle.minidump_bytes.specs.Text16.{text16};
+ghost use Rattle.minidump_format.specs.Answer.{Gives};
+ghost use Rattle.minidump_format.specs.declared.error.Error.TheVariants.{CodeViewReadFailure};
+ghost use Rattle.minidump_format.specs.Guid.{guid};
+ghost use Rattle.minidump_modules.specs.DebugId.{guid_bytes};
+ghost use Rattle.minidump_modules.specs.Identity.{is_blank, padded};
+ghost use Rattle.minidump_modules.specs.Module.{made_module, module_of, module_range, module_reads, read_module};
+
+use crate::code_view::{code_view_at, lossy_name};
+use crate::debug_id::uuid_of;
+use crate::version::version_of;
+use crate::{CodeId, CodeView, DebugId, Module};
+use minidump_bytes::{Endian, Record, Source, Steps};
+use minidump_format::Error;
+use minidump_format::format::{
+    GUID, MINIDUMP_LOCATION_DESCRIPTOR, MINIDUMP_MODULE, VS_FIXEDFILEINFO,
+};
+use minidump_index::{Range, Region};
+use minidump_system::{MinidumpSystemInfo, Os};
+use std::alloc::Global;
+use uuid::Uuid;
+
+/// A loaded module: the program itself, or a library.
+#[derive(Drop)]
+pub struct MinidumpModule {
+    /// The entry in the stream.
+    pub raw: MINIDUMP_MODULE,
+    /// The name of its file.
+    pub name: String,
+    /// The CodeView record, or `None` if the entry names none.
+    pub codeview_info: Option<CodeView>,
+    endian: Endian,
+    os: Option<Os>,
+}
+
+impl MinidumpModule {
+    /// Makes a module of a base address, a size and a name, with nothing else. The only error is
+    /// [`Error::OutOfMemory`].
+    pub fn new(alloc: Global, base: u64, size: u32, name: &str) -> Result<MinidumpModule, Error>
+        ensures value { IfOk result (λ m. module_of m ≡ made_module base size name.now) }
+        ensures memory { IsOkUnless result Error.OutOfMemory }
+    {
+        Ok(MinidumpModule {
+            raw: empty_entry(base, size),
+            name: String::from_str(alloc, name)?,
+            codeview_info: None,
+            endian: Endian::Little,
+            os: None,
+        })
+    }
+
+    /// Reads the name and the CodeView record of an entry from the bytes of the file. Returns
+    /// `CodeViewReadFailure` if one of them is malformed, `OutOfMemory` if an allocation fails.
+    pub fn read(
+        alloc: Global,
+        raw: MINIDUMP_MODULE,
+        bytes: &[u8],
+        endian: Endian,
+        system_info: Option<&MinidumpSystemInfo>,
+    ) -> Result<MinidumpModule, Error>
+        ensures { Gives module_of ⊤ result (read_module endian (option_map (λ s. s.os) (option_copied system_info.entry)) bytes.now raw) }
+    {
+        let os = system_info.map(|system| system.os);
+        MinidumpModule::read_counted(
+            alloc,
+            &raw,
+            Source::new(bytes),
+            endian,
+            os,
+            &mut Steps::new(),
+        )
+    }
+
+    // Reads as `read` does, and counts a read for the name and one for the CodeView record.
+    #[tactic(auto, unfolding(crate::specs::Module::read_module))]
+    pub(crate) fn read_counted(
+        alloc: Global,
+        raw: &MINIDUMP_MODULE,
+        all: Source<'_>,
+        endian: Endian,
+        os: Option<Os>,
+        steps: &mut Steps,
+    ) -> Result<MinidumpModule, Error>
+        ensures means { Gives module_of ⊤ result (read_module endian os (bytes_of all.entry) raw.now) }
+        ensures within { steps.new ≤ steps.old + 2 }
+        ensures grows { steps.old ≤ steps.new }
+        ensures steps { IfOk result (λ _. steps.new ≡ after steps.old (module_reads raw.now)) }
+    {
+        let name = name_at(alloc, raw.module_name_rva, all, endian, steps)?;
+        let codeview_info = code_view_at(alloc, &raw.cv_record, all, endian, steps)?;
+        Ok(MinidumpModule {
+            raw: *raw,
+            name,
+            codeview_info,
+            endian,
+            os,
+        })
+    }
+
+    /// Copies the module. The only error is [`Error::OutOfMemory`].
+    pub fn try_clone(&self, alloc: Global) -> Result<MinidumpModule, Error>
+        ensures same { IfOk result (λ m. module_of m ≡ module_of self.now) }
+        ensures memory { IsOkUnless result Error.OutOfMemory }
+    {
+        let codeview_info = match &self.codeview_info {
+            Some(view) => Some(view.try_clone(alloc)?),
+            None => None,
+        };
+        Ok(MinidumpModule {
+            raw: self.raw,
+            name: String::from_str(alloc, self.name.as_str())?,
+            codeview_info,
+            endian: self.endian,
+            os: self.os,
+        })
+    }
+}
+
+impl Module for MinidumpModule {
+    ghost use Rattle.minidump_modules.specs.Module.{module_identity};
+
+    ghost identity = { module_identity };
+
+    fn base_address(&self) -> u64 {
+        self.raw.base_of_image
+    }
+
+    fn size(&self) -> u64 {
+        self.raw.size_of_image as u64
+    }
+
+    fn code_file(&self) -> &str {
+        self.name.as_str()
+    }
+
+    fn code_identifier(&self, alloc: Global) -> Result<Option<CodeId>, Error> {
+        let id = match &self.codeview_info {
+            Some(CodeView::Pdb70(record)) => match self.os {
+                Some(Os::MacOs | Os::Ios) => {
+                    let uuid = uuid_of(&record.signature);
+                    CodeId::from_binary(alloc, uuid.as_bytes())?
+                }
+                _ => CodeId::from_stamp(alloc, self.raw.time_date_stamp, self.raw.size_of_image)?,
+            },
+            Some(CodeView::Pdb20(_)) => {
+                CodeId::from_stamp(alloc, self.raw.time_date_stamp, self.raw.size_of_image)?
+            }
+            Some(CodeView::Elf(record)) => {
+                if is_blank(&record.build_id) {
+                    return Ok(None);
+                }
+                CodeId::from_binary(alloc, &record.build_id)?
+            }
+            Some(CodeView::Unknown(_)) => return Ok(None),
+            None => match self.os {
+                Some(Os::Windows) => {
+                    CodeId::from_stamp(alloc, self.raw.time_date_stamp, self.raw.size_of_image)?
+                }
+                _ => return Ok(None),
+            },
+        };
+        Ok(Some(id))
+    }
+
+    fn debug_file(&self, alloc: Global) -> Result<Option<String>, Error> {
+        let name = match &self.codeview_info {
+            Some(CodeView::Pdb70(record)) => lossy_name(alloc, &record.pdb_file_name)?,
+            Some(CodeView::Pdb20(record)) => lossy_name(alloc, &record.pdb_file_name)?,
+            Some(CodeView::Elf(_)) => String::from_str(alloc, self.name.as_str())?,
+            Some(CodeView::Unknown(_)) | None => return Ok(None),
+        };
+        Ok(Some(name))
+    }
+
+    fn debug_identifier(&self) -> Option<DebugId> {
+        match &self.codeview_info {
+            Some(CodeView::Pdb70(record)) => {
+                let uuid = uuid_of(&record.signature);
+                if uuid.is_nil() {
+                    return None;
+                }
+                Some(DebugId::from_parts(uuid, record.age))
+            }
+            Some(CodeView::Pdb20(record)) => Some(DebugId::from_pdb20(
+                record.signature,
+                record.age,
+            )),
+            Some(CodeView::Elf(record)) => {
+                if is_blank(&record.build_id) {
+                    return None;
+                }
+                Some(DebugId::from_uuid(build_uuid(&record.build_id, self.endian)))
+            }
+            Some(CodeView::Unknown(_)) | None => None,
+        }
+    }
+
+    fn version(&self, alloc: Global) -> Result<Option<String>, Error> {
+        Ok(version_of(alloc, self.os, &self.raw.version_info)?)
+    }
+}
+
+impl Region for MinidumpModule {
+    ghost range = { module_range };
+
+    fn memory_range(&self) -> Option<Range> {
+        Range::from_size(self.raw.base_of_image, self.raw.size_of_image as u64)
+    }
+}
+
+// Makes the entry of a base address and a size, with zeros everywhere else.
+fn empty_entry(base: u64, size: u32) -> MINIDUMP_MODULE
+    ensures { result ≡ (made_module base size []).raw }
+{
+    let nowhere = MINIDUMP_LOCATION_DESCRIPTOR {
+        data_size: 0,
+        rva: 0,
+    };
+    MINIDUMP_MODULE {
+        base_of_image: base,
+        size_of_image: size,
+        checksum: 0,
+        time_date_stamp: 0,
+        module_name_rva: 0,
+        version_info: VS_FIXEDFILEINFO {
+            signature: 0,
+            struct_version: 0,
+            file_version_hi: 0,
+            file_version_lo: 0,
+            product_version_hi: 0,
+            product_version_lo: 0,
+            file_flags_mask: 0,
+            file_flags: 0,
+            file_os: 0,
+            file_type: 0,
+            file_subtype: 0,
+            file_date_hi: 0,
+            file_date_lo: 0,
+        },
+        cv_record: nowhere,
+        misc_record: nowhere,
+        unused1: [0; 16],
+    }
+}
+
+// Reads the name at an RVA.
+fn name_at(
+    alloc: Global,
+    rva: u32,
+    all: Source<'_>,
+    endian: Endian,
+    steps: &mut Steps,
+) -> Result<String, Error>
+    ensures means { Gives string_bytes ⊤ result (ok_or (text16 endian rva (bytes_of all.entry)) CodeViewReadFailure) }
+    ensures step { steps.new ≡ after steps.old 1 }
+{
+    match all.text16(alloc, rva as u64, endian, steps)? {
+        Some(name) => Ok(name),
+        None => Err(Error::CodeViewReadFailure),
+    }
+}
+
+// Tells whether a build id is empty or all zeros.
+#[tactic(auto, unfolding(crate::specs::Identity::is_blank))]
+fn is_blank(build_id: &[u8]) -> bool
+    ensures { result ≡ is_blank build_id.now }
+{
+    build_id.iter().all(|b| *b == 0)
+}
+
+// Makes the UUID that a build id begins with, in the byte order of the dump.
+fn build_uuid(build_id: &[u8], endian: Endian) -> Uuid
+    ensures { result ≡ guid_bytes (guid.value endian (padded build_id.now)) }
+{
+    uuid_of(&GUID::decode(&padded(build_id), endian))
+}
+
+// Copies the first 16 bytes, with zeros behind them where there are fewer.
+fn padded(build_id: &[u8]) -> [u8; 16]
+    ensures { result ≡ padded build_id.now }
+{
+    let mut bytes = [0; 16];
+    let len = build_id.len().min(16);
+    bytes[..len].copy_from_slice(&build_id[..len]);
+    bytes
+}

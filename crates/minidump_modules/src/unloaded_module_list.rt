@@ -1,0 +1,199 @@
+ghost use Rattle.std.specs.Prelude.{◌≡◌, ◌+◌, ◌≤◌, ⊤, [], IfOk, IsOkUnless, length, map};
+ghost use Rattle.std.specs.Slice.Iter.{iter_rest};
+ghost use Rattle.minidump_bytes.specs.Source.{bytes_of};
+ghost use Rattle.minidump_bytes.specs.Steps.{after};
+ghost use Rattle.minidump_format.specs.Answer.{Gives};
+ghost use Rattle.minidump_format.specs.declared.format.stream_type.MINIDUMP_STREAM_TYPE.TheVariants.{UnloadedModuleListStream};
+ghost use Rattle.minidump_format.specs.StreamType.{number_of};
+ghost use Rattle.minidump_modules.specs.Reads.{all_ok};
+ghost use Rattle.minidump_modules.specs.UnloadedModule.{listed_unloaded, unloaded_of};
+ghost use Rattle.minidump_modules.specs.UnloadedModuleList.{unloaded_values};
+ghost use Rattle.minidump_modules.specs.UnloadedOrder.{AreAt, IsByStart};
+
+use crate::unloaded_order::{Placed, order_of};
+use crate::{MinidumpUnloadedModule, ModulesAtAddress, UnloadedModulesByAddress};
+use minidump_bytes::{Endian, Entries, Source, Steps};
+use minidump_format::Error;
+use minidump_format::format::MINIDUMP_UNLOADED_MODULE;
+use minidump_index::Range;
+use minidump_system::framing::extended_entries;
+use minidump_system::{MinidumpStream, MinidumpSystemInfo};
+use std::alloc::Global;
+use std::marker::Model;
+use std::slice;
+
+/// The unloaded modules of a process, which may overlap, with lookups by address.
+#[derive(Drop)]
+pub struct MinidumpUnloadedModuleList {
+    modules: Vec<MinidumpUnloadedModule>,
+    // those that have a range, by start, then by end, then by index
+    order: Vec<Placed>,
+}
+
+impl Model for MinidumpUnloadedModuleList {
+    ghost use Rattle.std.specs.Prelude.{List};
+    ghost use Rattle.minidump_modules.specs.declared.unloaded_module.MinidumpUnloadedModule.{MinidumpUnloadedModule};
+    ghost use Rattle.minidump_modules.specs.UnloadedOrder.{IsInside, IsOrderOf};
+
+    ghost Value = { List MinidumpUnloadedModule };
+
+    ghost view = { λ s. s.modules.items };
+
+    ghost invariant = { λ s. IsOrderOf s.modules.items s.order.items × IsInside s.modules.items s.order.items };
+}
+
+impl MinidumpUnloadedModuleList {
+    /// Makes an empty list. Takes no memory.
+    pub fn new(alloc: Global) -> MinidumpUnloadedModuleList
+        ensures { result ≡ [] }
+    {
+        MinidumpUnloadedModuleList {
+            modules: Vec::new(alloc),
+            order: Vec::new(alloc),
+        }
+    }
+
+    /// Makes a list of modules. The only error is [`Error::OutOfMemory`], after which they are dropped.
+    pub fn from_modules(
+        alloc: Global,
+        modules: Vec<MinidumpUnloadedModule>,
+    ) -> Result<MinidumpUnloadedModuleList, Error>
+        ensures list { IfOk result (λ list. list ≡ modules.items) }
+        ensures memory { IsOkUnless result Error.OutOfMemory }
+    {
+        let order = order_of(alloc, &modules)?;
+        Ok(MinidumpUnloadedModuleList { modules, order })
+    }
+
+    /// Returns an iterator over all modules, in the order of the list.
+    pub fn iter(&self) -> slice::Iter<'_, MinidumpUnloadedModule>
+        ensures { iter_rest result ≡ self.now }
+    {
+        self.modules.iter()
+    }
+
+    /// Returns an iterator over the modules that contain `address`, by start, then by end, then by index.
+    pub fn modules_at_address(&self, address: u64) -> ModulesAtAddress<'_>
+        ensures { AreAt self.now address result }
+    {
+        ModulesAtAddress::new(&self.order, &self.modules, address)
+    }
+
+    /// Returns an iterator over the modules that have a range, by start, then by end, then by index.
+    pub fn by_addr(&self) -> UnloadedModulesByAddress<'_>
+        ensures { IsByStart self.now result }
+    {
+        UnloadedModulesByAddress::new(&self.order, &self.modules)
+    }
+
+    /// Copies the list. The only error is [`Error::OutOfMemory`].
+    pub fn try_clone(&self, alloc: Global) -> Result<MinidumpUnloadedModuleList, Error>
+        ensures same { IfOk result (λ list. unloaded_values list ≡ unloaded_values self.now) }
+        ensures memory { IsOkUnless result Error.OutOfMemory }
+    {
+        let modules = copied_modules(alloc, &self.modules)?;
+        MinidumpUnloadedModuleList::from_modules(alloc, modules)
+    }
+}
+
+/// Microsoft's `MINIDUMP_UNLOADED_MODULE_LIST`: an extended list of entries. One without addresses refuses
+/// the list with `ModuleReadFailure`, one with a malformed name with `DataError`.
+impl<'a> MinidumpStream<'a> for MinidumpUnloadedModuleList {
+    ghost use Rattle.std.specs.Prelude.{◌+◌, ◌*◌, List, IsOk, length};
+    ghost use Rattle.minidump_format.specs.declared.format.stream_type.MINIDUMP_STREAM_TYPE.TheVariants.{UnloadedModuleListStream};
+    ghost use Rattle.minidump_format.specs.Module.{unloaded_module_entry};
+    ghost use Rattle.minidump_format.specs.StreamType.{number_of};
+    ghost use Rattle.minidump_system.specs.Framing.{extended_list, list_header_of};
+    ghost use Rattle.minidump_modules.specs.UnloadedModule.{UnloadedValue};
+    ghost use Rattle.minidump_modules.specs.UnloadedModuleList.{unloaded_list, unloaded_values};
+
+    ghost type_number = { number_of UnloadedModuleListStream };
+
+    const STREAM_TYPE: u32 = 14;
+
+    ghost Value = { List UnloadedValue };
+
+    ghost view = { unloaded_values };
+
+    ghost meaning = { λ bytes all order system. unloaded_list bytes all order };
+
+    ghost limit = { λ n. n + 7 };
+
+    ghost least = { λ bytes order modules. 1 + 2 * (list_header_of order bytes).number_of_entries };
+
+    ghost takes_memory = { λ bytes order. IsOk (extended_list unloaded_module_entry order bytes) };
+
+    fn number_of_type() -> u32
+        ensures { result ≡ number_of UnloadedModuleListStream }
+    {
+        Self::STREAM_TYPE
+    }
+
+    fn read(
+        alloc: Global,
+        bytes: Source<'a>,
+        all: Source<'a>,
+        endian: Endian,
+        _system_info: Option<&MinidumpSystemInfo>,
+        steps: &mut Steps,
+    ) -> Result<Self, Error> {
+        let raws = extended_entries::<MINIDUMP_UNLOADED_MODULE>(bytes, endian, steps)?;
+        let modules = read_modules(alloc, raws, all, endian, steps)?;
+        MinidumpUnloadedModuleList::from_modules(alloc, modules)
+    }
+}
+
+// Reads the modules of entries.
+fn read_modules(
+    alloc: Global,
+    raws: Entries<'_, MINIDUMP_UNLOADED_MODULE>,
+    all: Source<'_>,
+    endian: Endian,
+    steps: &mut Steps,
+) -> Result<Vec<MinidumpUnloadedModule>, Error>
+    ensures means { Gives (λ v. map unloaded_of v.items) ⊤ result (all_ok (listed_unloaded endian (bytes_of all.entry)) raws.entry) }
+    ensures within { steps.new ≤ steps.old + length raws.entry }
+    ensures grows { steps.old ≤ steps.new }
+    ensures steps { IfOk result (λ _. steps.new ≡ after steps.old (length raws.entry)) }
+{
+    let mut modules = Vec::with_capacity(alloc, raws.len())?;
+    for raw in raws {
+        modules.push(listed_module(alloc, &raw, all, endian, steps)?)?;
+    }
+    Ok(modules)
+}
+
+// Reads the module of an entry, which must have addresses.
+#[tactic(auto, unfolding(crate::specs::UnloadedModule::listed_unloaded))]
+fn listed_module(
+    alloc: Global,
+    raw: &MINIDUMP_UNLOADED_MODULE,
+    all: Source<'_>,
+    endian: Endian,
+    steps: &mut Steps,
+) -> Result<MinidumpUnloadedModule, Error>
+    ensures means { Gives unloaded_of ⊤ result (listed_unloaded endian (bytes_of all.entry) raw.now) }
+    ensures within { steps.new ≤ steps.old + 1 }
+    ensures grows { steps.old ≤ steps.new }
+    ensures step { IfOk result (λ _. steps.new ≡ after steps.old 1) }
+{
+    if Range::from_size(raw.base_of_image, raw.size_of_image as u64).is_none() {
+        return Err(Error::ModuleReadFailure);
+    }
+    MinidumpUnloadedModule::read_counted(alloc, raw, all, endian, steps)
+}
+
+// Copies modules.
+fn copied_modules(
+    alloc: Global,
+    modules: &[MinidumpUnloadedModule],
+) -> Result<Vec<MinidumpUnloadedModule>, Error>
+    ensures same { IfOk result (λ copies. map unloaded_of copies.items ≡ map unloaded_of modules.now) }
+    ensures memory { IsOkUnless result Error.OutOfMemory }
+{
+    let mut copies = Vec::with_capacity(alloc, modules.len())?;
+    for module in modules {
+        copies.push(module.try_clone(alloc)?)?;
+    }
+    Ok(copies)
+}

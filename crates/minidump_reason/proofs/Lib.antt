@@ -1,0 +1,4 @@
+-- The lemmas of this crate.
+pub mod NamesLemmas
+pub mod HasNameLemmas
+pub mod ExactLemmas

@@ -1,0 +1,188 @@
+-- The words of a crash reason: Darwin's kern/exc_resource.h and kern/exc_guard.h for what codes and subcodes hold.
+use Rattle.std.specs.Prelude.{ℕ, ◌==◌, List, [], ◌∷◌, ◌++◌, codes, Option, Some, None, unwrap_or, if◌then◌else◌}
+use Rattle.std.specs.Fmt.{decimal}
+use Rattle.std.specs.List.{concat}
+use Rattle.minidump_bytes.specs.Piece.{wide_hex}
+use Rattle.minidump_reason.specs.declared.family.CodeFamily.{CodeFamily}
+use Rattle.minidump_reason.specs.declared.family.CodeFamily.TheVariants as family
+use Rattle.minidump_reason.specs.declared.reason.CrashReason.{CrashReason}
+use Rattle.minidump_reason.specs.declared.reason.CrashReason.TheVariants.{MacGeneral, MacBadAccessKern, MacBadAccessArm, MacBadAccessPpc, MacBadAccessX86, MacBadInstructionArm, MacBadInstructionPpc, MacBadInstructionX86, MacArithmeticArm, MacArithmeticPpc, MacArithmeticX86, MacSoftware, MacBreakpointArm, MacBreakpointPpc, MacBreakpointX86, MacResource, MacGuard, LinuxGeneral, LinuxSigill, LinuxSigtrap, LinuxSigbus, LinuxSigfpe, LinuxSigsegv, LinuxSigsys, WindowsGeneral, WindowsWinError, WindowsWinErrorWithFacility, WindowsNtStatus, WindowsAccessViolation, WindowsInPageError, WindowsStackBufferOverrun, WindowsUnknown, Unknown}
+use Rattle.minidump_reason.specs.Bits.{bits_of}
+use Rattle.minidump_reason.specs.Names.{Lists, name_of}
+
+-- what `{:#010x}` writes
+abbrev pub hex8 : ℕ → List ℕ
+hex8 n = codes "0x" ++ wide_hex 8 n
+
+-- what `{:#018x}` writes
+abbrev pub hex16 : ℕ → List ℕ
+hex16 n = codes "0x" ++ wide_hex 16 n
+
+-- the name of a code, or an unlisted code itself
+unfoldable pub name_text : Lists → CodeFamily → ℕ → List ℕ
+name_text names family code = unwrap_or (name_of names family code) (hex8 code)
+
+-- words before the name of a code
+unfoldable pub listed : Lists → List ℕ → CodeFamily → ℕ → List ℕ
+listed names words family code = words ++ name_text names family code
+
+-- the name of a flavor with its details, or the code and the subcode of an unlisted one
+abbrev pub flavored : Option (List ℕ) → List ℕ → ℕ → ℕ → List ℕ
+flavored (Some name) details code subcode = name ++ details
+flavored None details code subcode = hex16 code ++ (codes " / " ++ hex16 subcode)
+
+-- ---- macOS and iOS
+
+-- an exception by its name; 0x43507378 is Crashpad's simulated one
+unfoldable pub mac_general_text : Lists → ℕ → ℕ → List ℕ
+mac_general_text names c f =
+    if c == 0x43507378 then codes "Simulated Exception"
+    else concat (name_text names family.Mac c ∷ codes " / " ∷ hex8 f ∷ [])
+
+-- RESOURCE_TYPE_CPU
+unfoldable pub cpu_text : ℕ → ℕ → List ℕ
+cpu_text code subcode = concat (
+    codes " interval: " ∷ decimal (bits_of code 7 25) ∷ codes "s CPU limit: " ∷ decimal (bits_of code 0 3)
+    ∷ codes "% CPU consumed: " ∷ decimal (bits_of subcode 0 3) ∷ codes "%" ∷ [])
+
+-- RESOURCE_TYPE_WAKEUPS
+unfoldable pub wakeups_text : ℕ → ℕ → List ℕ
+wakeups_text code subcode = concat (
+    codes " interval: " ∷ decimal (bits_of code 20 20) ∷ codes "s wakeups permitted: " ∷ decimal (bits_of code 0 12)
+    ∷ codes " wakeups observed: " ∷ decimal (bits_of subcode 0 12) ∷ [])
+
+-- RESOURCE_TYPE_MEMORY
+unfoldable pub memory_text : ℕ → List ℕ
+memory_text code = concat (codes " high watermark limit: " ∷ decimal (bits_of code 0 13) ∷ codes "MiB" ∷ [])
+
+-- RESOURCE_TYPE_IO
+unfoldable pub io_text : ℕ → ℕ → List ℕ
+io_text code subcode = concat (
+    codes " interval: " ∷ decimal (bits_of code 15 17) ∷ codes "s I/O limit: " ∷ decimal (bits_of code 0 15)
+    ∷ codes "% I/O observed: " ∷ decimal (bits_of subcode 0 15) ∷ codes "%" ∷ [])
+
+-- RESOURCE_TYPE_THREADS
+unfoldable pub threads_text : ℕ → List ℕ
+threads_text code = concat (codes " high watermark limit: " ∷ decimal (bits_of code 0 15) ∷ [])
+
+-- the flavor, in bits 58 to 60 of the code, by the type of the resource: 1 CPU, 2 WAKEUPS, 3 MEMORY, 4 IO, 5 THREADS
+unfoldable pub resource_flavor : Lists → ℕ → ℕ → ℕ → List ℕ
+resource_flavor names kind code subcode =
+    let flavor = bits_of code 58 3 in
+    if kind == 1 then flavored (name_of names family.MacResourceCpu flavor) (cpu_text code subcode) code subcode else (
+    if kind == 2 then flavored (name_of names family.MacResourceWakeups flavor) (wakeups_text code subcode) code subcode else (
+    if kind == 3 then flavored (name_of names family.MacResourceMemory flavor) (memory_text code) code subcode else (
+    if kind == 4 then flavored (name_of names family.MacResourceIo flavor) (io_text code subcode) code subcode else (
+    if kind == 5 then flavored (name_of names family.MacResourceThreads flavor) (threads_text code) code subcode
+    else flavored None [] code subcode))))
+
+-- EXC_RESOURCE
+abbrev pub resource_text : Lists → ℕ → ℕ → ℕ → List ℕ
+resource_text names kind code subcode =
+    listed names (codes "EXC_RESOURCE / ") family.MacResource kind ++ (codes " / " ++ resource_flavor names kind code subcode)
+
+-- GUARD_TYPE_MACH_PORT with a subcode of 0
+unfoldable pub port_text : ℕ → List ℕ
+port_text code = concat (codes " port name: " ∷ decimal (bits_of code 0 28) ∷ [])
+
+-- GUARD_TYPE_MACH_PORT with another subcode
+unfoldable pub port_subcode_text : ℕ → ℕ → List ℕ
+port_subcode_text code subcode = concat (codes " port name: " ∷ decimal (bits_of code 0 28) ∷ codes " subcode: " ∷ decimal subcode ∷ [])
+
+-- GUARD_TYPE_FD
+unfoldable pub fd_text : ℕ → ℕ → List ℕ
+fd_text code subcode = concat (codes " file descriptor: " ∷ decimal (bits_of code 0 28) ∷ codes " guard identifier: " ∷ decimal subcode ∷ [])
+
+-- GUARD_TYPE_USER, which has no flavor
+unfoldable pub user_text : ℕ → ℕ → List ℕ
+user_text code subcode = concat (codes "/ namespace: " ∷ decimal (bits_of code 0 32) ∷ codes " guard identifier: " ∷ decimal subcode ∷ [])
+
+-- GUARD_TYPE_VN
+unfoldable pub vn_text : ℕ → ℕ → List ℕ
+vn_text code subcode = concat (codes " pid: " ∷ decimal (bits_of code 0 28) ∷ codes " guard identifier: " ∷ decimal subcode ∷ [])
+
+-- GUARD_TYPE_VIRT_MEMORY
+unfoldable pub offset_text : ℕ → List ℕ
+offset_text subcode = concat (codes " offset: " ∷ decimal subcode ∷ [])
+
+-- GUARD_TYPE_REJECTED_SC
+unfoldable pub syscall_text : ℕ → List ℕ
+syscall_text subcode = concat (codes " syscall: " ∷ decimal subcode ∷ [])
+
+-- the flavor, in bits 32 to 60 of the code, with its details
+unfoldable pub guard_flavor : Lists → CodeFamily → ℕ → ℕ → List ℕ → List ℕ
+guard_flavor names family code subcode details = codes " / " ++ flavored (name_of names family (bits_of code 32 29)) details code subcode
+
+-- by the type of the guard: 0 NONE, 1 MACH_PORT, 2 FD, 3 USER, 4 VN, 5 VIRT_MEMORY, 6 REJECTED_SC
+unfoldable pub guard_detail : Lists → ℕ → ℕ → ℕ → List ℕ
+guard_detail names kind code subcode =
+    if kind == 0 then [] else (
+    if kind == 1 then guard_flavor names family.MacGuardMachPort code subcode (if subcode == 0 then port_text code else port_subcode_text code subcode) else (
+    if kind == 2 then guard_flavor names family.MacGuardFd code subcode (fd_text code subcode) else (
+    if kind == 3 then user_text code subcode else (
+    if kind == 4 then guard_flavor names family.MacGuardVn code subcode (vn_text code subcode) else (
+    if kind == 5 then guard_flavor names family.MacGuardVirtMemory code subcode (offset_text subcode) else (
+    if kind == 6 then guard_flavor names family.MacGuardRejectedSysCall code subcode (syscall_text subcode)
+    else codes " / " ++ flavored None [] code subcode))))))
+
+-- EXC_GUARD
+abbrev pub guard_text : Lists → ℕ → ℕ → ℕ → List ℕ
+guard_text names kind code subcode = listed names (codes "EXC_GUARD / ") family.MacGuard kind ++ guard_detail names kind code subcode
+
+-- ---- Linux and Android
+
+-- the si_code; a listed 0, SI_USER, is left out
+abbrev sicode_text : Option (List ℕ) → ℕ → List ℕ
+sicode_text (Some name) f = if f == 0 then [] else codes " / " ++ name
+sicode_text None f = codes " / " ++ hex8 f
+
+-- a signal by its name, with its si_code
+unfoldable pub linux_general_text : Lists → ℕ → ℕ → List ℕ
+linux_general_text names c f = name_text names family.Linux c ++ sicode_text (name_of names family.LinuxSicode f) f
+
+-- ---- Windows
+
+-- an exception by its name; Chromium's out of memory, Visual C++'s exception and Crashpad's simulated one have words of their own
+unfoldable pub windows_general_text : Lists → ℕ → List ℕ
+windows_general_text names c =
+    if c == 0xe0000008 then codes "Out of Memory" else (
+    if c == 0xe06d7363 then codes "Unhandled C++ Exception" else (
+    if c == 0x0517a7ed then codes "Simulated Exception" else name_text names family.Windows c))
+
+-- ---- every reason
+
+-- the words of a reason
+abbrev pub reason_text : Lists → CrashReason → List ℕ
+reason_text names (MacGeneral c f) = mac_general_text names c f
+reason_text names (MacBadAccessKern f) = listed names (codes "EXC_BAD_ACCESS / ") family.MacBadAccessKern f
+reason_text names (MacBadAccessArm f) = listed names (codes "EXC_BAD_ACCESS / ") family.MacBadAccessArm f
+reason_text names (MacBadAccessPpc f) = listed names (codes "EXC_BAD_ACCESS / ") family.MacBadAccessPpc f
+reason_text names (MacBadAccessX86 f) = listed names (codes "EXC_BAD_ACCESS / ") family.MacBadAccessX86 f
+reason_text names (MacBadInstructionArm f) = listed names (codes "EXC_BAD_INSTRUCTION / ") family.MacBadInstructionArm f
+reason_text names (MacBadInstructionPpc f) = listed names (codes "EXC_BAD_INSTRUCTION / ") family.MacBadInstructionPpc f
+reason_text names (MacBadInstructionX86 f) = listed names (codes "EXC_BAD_INSTRUCTION / ") family.MacBadInstructionX86 f
+reason_text names (MacArithmeticArm f) = listed names (codes "EXC_ARITHMETIC / ") family.MacArithmeticArm f
+reason_text names (MacArithmeticPpc f) = listed names (codes "EXC_ARITHMETIC / ") family.MacArithmeticPpc f
+reason_text names (MacArithmeticX86 f) = listed names (codes "EXC_ARITHMETIC / ") family.MacArithmeticX86 f
+reason_text names (MacSoftware f) = listed names (codes "EXC_SOFTWARE / ") family.MacSoftware f
+reason_text names (MacBreakpointArm f) = listed names (codes "EXC_BREAKPOINT / ") family.MacBreakpointArm f
+reason_text names (MacBreakpointPpc f) = listed names (codes "EXC_BREAKPOINT / ") family.MacBreakpointPpc f
+reason_text names (MacBreakpointX86 f) = listed names (codes "EXC_BREAKPOINT / ") family.MacBreakpointX86 f
+reason_text names (MacResource kind code subcode) = resource_text names kind code subcode
+reason_text names (MacGuard kind code subcode) = guard_text names kind code subcode
+reason_text names (LinuxGeneral c f) = linux_general_text names c f
+reason_text names (LinuxSigill f) = listed names (codes "SIGILL / ") family.LinuxSigill f
+reason_text names (LinuxSigtrap f) = listed names (codes "SIGTRAP / ") family.LinuxSigtrap f
+reason_text names (LinuxSigbus f) = listed names (codes "SIGBUS / ") family.LinuxSigbus f
+reason_text names (LinuxSigfpe f) = listed names (codes "SIGFPE / ") family.LinuxSigfpe f
+reason_text names (LinuxSigsegv f) = listed names (codes "SIGSEGV / ") family.LinuxSigsegv f
+reason_text names (LinuxSigsys f) = listed names (codes "SIGSYS / ") family.LinuxSigsys f
+reason_text names (WindowsGeneral c) = windows_general_text names c
+reason_text names (WindowsWinError c) = listed names [] family.WinError c
+reason_text names (WindowsWinErrorWithFacility facility c) = listed names [] family.WinErrorFacility facility ++ listed names (codes " / ") family.WinError c
+reason_text names (WindowsNtStatus c) = listed names [] family.NtStatus c
+reason_text names (WindowsAccessViolation kind) = listed names (codes "EXCEPTION_ACCESS_VIOLATION_") family.WindowsAccess kind
+reason_text names (WindowsInPageError kind status) = listed names (codes "EXCEPTION_IN_PAGE_ERROR_") family.WindowsInPageError kind ++ listed names (codes " / ") family.NtStatus status
+reason_text names (WindowsStackBufferOverrun c) = listed names (codes "EXCEPTION_STACK_BUFFER_OVERRUN / ") family.FastFail c
+reason_text names (WindowsUnknown c) = codes "unknown " ++ hex8 c
+reason_text names (Unknown c f) = concat (codes "unknown " ∷ hex8 c ∷ codes " / " ∷ hex8 f ∷ [])
