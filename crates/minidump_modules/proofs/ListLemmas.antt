@@ -16,7 +16,7 @@ use Rattle.minidump_bytes.specs.Number.{number_at}
 use Rattle.minidump_format.specs.declared.format.guid.GUID.{GUID}
 use Rattle.minidump_modules.specs.CodeView.{pdb70, pdb70_guid, pdb70_in}
 use Rattle.minidump_modules.specs.Identity.{padded}
-use Rattle.minidump_modules.specs.Reads.{all_ok, and_then}
+use Rattle.minidump_system.specs.Reads.{all_ok, and_then}
 
 step : {V : Type 0} (r : Result V Error) (A B W : Result (List V) Error) → W ≡ and_then A (λ vs. and_then B (λ ws. Ok (vs ++ ws)))
     → and_then r (λ v. and_then W (λ vs. Ok (v ∷ vs))) ≡ and_then (and_then r (λ v. and_then A (λ vs. Ok (v ∷ vs)))) (λ us. and_then B (λ ws. Ok (us ++ ws)))

@@ -16,7 +16,7 @@ use Rattle.minidump_format.specs.declared.format.guid.GUID.{GUID}
 use Rattle.minidump_format.specs.declared.format.header.MINIDUMP_LOCATION_DESCRIPTOR.{MINIDUMP_LOCATION_DESCRIPTOR}
 use Rattle.minidump_modules.specs.declared.code_view.CodeView.{CodeView}
 use Rattle.minidump_modules.specs.declared.code_view.CodeView.TheVariants.{Pdb20, Pdb70, Elf, Unknown}
-use Rattle.minidump_modules.specs.Reads.{and_then}
+use Rattle.minidump_system.specs.Reads.{and_then}
 
 -- a CodeView record as a value; each but the last begins with its signature
 pub data View : Type 0 where

@@ -1,5 +1,4 @@
 -- What the contracts of this crate cite.
-pub mod Reads
 pub mod CodeId
 pub mod CodeView
 pub mod DebugId

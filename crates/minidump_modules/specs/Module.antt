@@ -13,7 +13,7 @@ use Rattle.minidump_system.specs.declared.os.Os.{Os}
 use Rattle.minidump_modules.specs.declared.module.MinidumpModule.{MinidumpModule}
 use Rattle.minidump_modules.specs.CodeView.{View, code_view_at, view_of, views_read}
 use Rattle.minidump_modules.specs.Identity.{Identity, code_identifier, debug_file, debug_identifier}
-use Rattle.minidump_modules.specs.Reads.{and_then}
+use Rattle.minidump_system.specs.Reads.{and_then}
 use Rattle.minidump_modules.specs.Version.{version_of}
 
 -- a module as a value: with the byte order and the system of its dump

@@ -12,7 +12,7 @@ use Rattle.minidump_system.specs.SystemInfo.{System}
 use Rattle.minidump_modules.specs.declared.module.MinidumpModule.{MinidumpModule}
 use Rattle.minidump_modules.specs.declared.module_list.MinidumpModuleList.{MinidumpModuleList}
 use Rattle.minidump_modules.specs.Module.{ModuleValue, has_range, module_of, module_reads, read_module}
-use Rattle.minidump_modules.specs.Reads.{all_ok, and_then}
+use Rattle.minidump_system.specs.Reads.{all_ok, and_then}
 
 -- its modules, in the order of the list
 abbrev pub modules_of : MinidumpModuleList → List MinidumpModule

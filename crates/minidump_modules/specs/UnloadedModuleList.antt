@@ -6,7 +6,7 @@ use Rattle.minidump_format.specs.Module.{unloaded_module_entry}
 use Rattle.minidump_system.specs.Framing.{extended_list}
 use Rattle.minidump_modules.specs.declared.unloaded_module.MinidumpUnloadedModule.{MinidumpUnloadedModule}
 use Rattle.minidump_modules.specs.UnloadedModule.{UnloadedValue, listed_unloaded, unloaded_of}
-use Rattle.minidump_modules.specs.Reads.{all_ok, and_then}
+use Rattle.minidump_system.specs.Reads.{all_ok, and_then}
 
 -- the modules of a list as values, in its order
 abbrev pub unloaded_values : List MinidumpUnloadedModule → List UnloadedValue

@@ -5,7 +5,7 @@ ghost use Rattle.minidump_bytes.specs.Steps.{after};
 ghost use Rattle.minidump_format.specs.Answer.{Gives};
 ghost use Rattle.minidump_format.specs.declared.format.stream_type.MINIDUMP_STREAM_TYPE.TheVariants.{UnloadedModuleListStream};
 ghost use Rattle.minidump_format.specs.StreamType.{number_of};
-ghost use Rattle.minidump_modules.specs.Reads.{all_ok};
+ghost use Rattle.minidump_system.specs.Reads.{all_ok};
 ghost use Rattle.minidump_modules.specs.UnloadedModule.{listed_unloaded, unloaded_of};
 ghost use Rattle.minidump_modules.specs.UnloadedModuleList.{unloaded_values};
 ghost use Rattle.minidump_modules.specs.UnloadedOrder.{AreAt, IsByStart};

@@ -7,3 +7,4 @@ pub mod OsParts
 pub mod SystemInfo
 pub mod MiscInfo
 pub mod Framing
+pub mod Reads

@@ -5,7 +5,7 @@ use Rattle.minidump_bytes.specs.Source.{bytes_of}
 use Rattle.minidump_bytes.specs.Steps.{after}
 use Rattle.minidump_modules.specs.Module.{has_range, module_of, read_module}
 use Rattle.minidump_modules.specs.ModuleList.{modules_read}
-use Rattle.minidump_modules.specs.Reads.{all_ok}
+use Rattle.minidump_system.specs.Reads.{all_ok}
 use Rattle.minidump_modules.proofs.module_list.read_modules.Given as goal
 
 abbrev pub invariant-loop-raw : goal.invariant-loop-raw

@@ -3,7 +3,7 @@ use Rattle.std.proofs.Common.{◌≡◌, ◌+◌, ◌≤◌, drop, length, map, 
 use Rattle.minidump_bytes.specs.Source.{bytes_of}
 use Rattle.minidump_bytes.specs.Steps.{after}
 use Rattle.minidump_modules.specs.UnloadedModule.{listed_unloaded, unloaded_of}
-use Rattle.minidump_modules.specs.Reads.{all_ok}
+use Rattle.minidump_system.specs.Reads.{all_ok}
 use Rattle.minidump_modules.proofs.unloaded_module_list.read_modules.Given as goal
 
 abbrev pub invariant-loop-raw : goal.invariant-loop-raw
