@@ -17,3 +17,5 @@ pub mod System
 pub mod MemoryLists
 pub mod Stability
 pub mod Contexts
+pub mod Modules
+pub mod Reasons

@@ -7,7 +7,7 @@ use Rattle.minidump_bytes.specs.declared.endian.Endian.{Endian}
 use Rattle.minidump_format.specs.declared.format.memory.MINIDUMP_MEMORY_DESCRIPTOR.{MINIDUMP_MEMORY_DESCRIPTOR}
 use Rattle.minidump_format.specs.declared.format.memory.MINIDUMP_MEMORY_DESCRIPTOR64.{MINIDUMP_MEMORY_DESCRIPTOR64}
 use Rattle.minidump_format.specs.declared.format.stream_type.MINIDUMP_STREAM_TYPE.{MINIDUMP_STREAM_TYPE}
-use Rattle.minidump_format.specs.declared.format.stream_type.MINIDUMP_STREAM_TYPE.TheVariants.{SystemInfoStream, MiscInfoStream, MemoryListStream, Memory64ListStream, StabilityReportStream}
+use Rattle.minidump_format.specs.declared.format.stream_type.MINIDUMP_STREAM_TYPE.TheVariants.{SystemInfoStream, MiscInfoStream, ModuleListStream, MemoryListStream, Memory64ListStream, UnloadedModuleListStream, StabilityReportStream}
 use Rattle.minidump_format.specs.StreamType.{number_of}
 use Rattle.minidump_system.specs.declared.misc_info.RawMiscInfo.{RawMiscInfo}
 use Rattle.minidump_system.specs.MiscInfo.{misc_info_in}
@@ -15,6 +15,10 @@ use Rattle.minidump_system.specs.SystemInfo.{System, system_in}
 use Rattle.minidump_memory.specs.Memory.{MemoryRegion}
 use Rattle.minidump_memory.specs.Memory64List.{memory_list_64}
 use Rattle.minidump_memory.specs.MemoryList.{memory_list}
+use Rattle.minidump_modules.specs.Module.{ModuleValue}
+use Rattle.minidump_modules.specs.ModuleList.{module_list}
+use Rattle.minidump_modules.specs.UnloadedModule.{UnloadedValue}
+use Rattle.minidump_modules.specs.UnloadedModuleList.{unloaded_list}
 use Rattle.minidump_stability.specs.StabilityReport.{Report, stability_report}
 use Rattle.minidump.specs.Dump.{Meaning}
 
@@ -42,6 +46,12 @@ memory64_list_in bytes file order system = memory_list_64 bytes file order
 
 abbrev pub IsMemory64List : ℕ → Meaning (List (MemoryRegion MINIDUMP_MEMORY_DESCRIPTOR64)) → (ℕ → ℕ) → Type 0
 IsMemory64List = IsReadAs Memory64ListStream memory64_list_in
+
+abbrev pub IsModuleList : ℕ → Meaning (List ModuleValue) → (ℕ → ℕ) → Type 0
+IsModuleList = IsReadAs ModuleListStream module_list
+
+abbrev pub IsUnloadedModuleList : ℕ → Meaning (List UnloadedValue) → (ℕ → ℕ) → Type 0
+IsUnloadedModuleList = IsReadAs UnloadedModuleListStream (λ bytes file order system. unloaded_list bytes file order)
 
 abbrev pub IsStabilityReport : ℕ → Meaning Report → (ℕ → ℕ) → Type 0
 IsStabilityReport = IsReadAs StabilityReportStream (λ bytes file order system. stability_report bytes)

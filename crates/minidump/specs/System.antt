@@ -6,4 +6,5 @@ pub use Rattle.minidump_system.specs.Framing
 pub use Rattle.minidump_system.specs.MiscInfo
 pub use Rattle.minidump_system.specs.Os
 pub use Rattle.minidump_system.specs.OsParts
+pub use Rattle.minidump_system.specs.Reads
 pub use Rattle.minidump_system.specs.SystemInfo

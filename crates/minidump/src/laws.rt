@@ -6,7 +6,7 @@ ghost use Rattle.minidump_format.specs.declared.format.header.MINIDUMP_DIRECTORY
 ghost use Rattle.minidump.specs.declared.directory.DecidingEntry.{DecidingEntry};
 ghost use Rattle.minidump.specs.Directory.{deciding, deciding_below, directory};
 ghost use Rattle.minidump.specs.Dump.{Dump, raw_stream, spanned, streams_of};
-ghost use Rattle.minidump.specs.Promise.{IsMemory64List, IsMemoryList, IsMiscInfo, IsStabilityReport, IsSystemInfo};
+ghost use Rattle.minidump.specs.Promise.{IsMemory64List, IsMemoryList, IsMiscInfo, IsModuleList, IsStabilityReport, IsSystemInfo, IsUnloadedModuleList};
 ghost use Rattle.minidump.specs.Streams.{unimplemented_view, unknown_view};
 ghost use Rattle.minidump_bytes.specs.Span.{span};
 
@@ -21,6 +21,9 @@ pub use minidump_memory::laws::{
     the_unified_list_answers_as_the_list_it_holds,
 };
 use minidump_memory::{MinidumpMemory64List, MinidumpMemoryList};
+pub use minidump_modules::laws::region_laws as module_laws;
+use minidump_modules::{MinidumpModuleList, MinidumpUnloadedModuleList};
+pub use minidump_reason::laws::{codes_have_their_listed_names, wide_codes_are_unlisted};
 use minidump_stability::StabilityReport;
 pub use minidump_stability::laws::{
     fields_are_what_bytes_spell, report_depends_on_its_stream_alone, report_is_what_its_fields_mean,
@@ -66,6 +69,10 @@ pub fn streams_are_read_as_promised()
         in IsMemoryList T.type_number T.meaning T.limit }
     ensures memory64_list { let T = ⟦<MinidumpMemory64List<'static> as MinidumpStream<'static>>⟧
         in IsMemory64List T.type_number T.meaning T.limit }
+    ensures module_list { let T = ⟦<MinidumpModuleList as MinidumpStream<'static>>⟧
+        in IsModuleList T.type_number T.meaning T.limit }
+    ensures unloaded_module_list { let T = ⟦<MinidumpUnloadedModuleList as MinidumpStream<'static>>⟧
+        in IsUnloadedModuleList T.type_number T.meaning T.limit }
     ensures stability_report { let T = ⟦<StabilityReport as MinidumpStream<'static>>⟧
         in IsStabilityReport T.type_number T.meaning T.limit }
 {}

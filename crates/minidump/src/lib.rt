@@ -3,8 +3,10 @@
 //! - [`Minidump`] is a dump: `read` takes its bytes, `read_path` a path. `header` and `endian` are its
 //!   fields.
 //! - `get_stream` reads a stream by its type: [`MinidumpSystemInfo`], [`MinidumpMiscInfo`],
-//!   [`MinidumpMemoryList`], [`MinidumpMemory64List`], [`StabilityReport`], or a caller's own [`MinidumpStream`].
-//!   `get_raw_stream` lends the bytes of any stream, `get_memory` the memory of the dump by either list.
+//!   [`MinidumpMemoryList`], [`MinidumpMemory64List`], [`MinidumpModuleList`], [`MinidumpUnloadedModuleList`],
+//!   [`StabilityReport`], or a caller's own [`MinidumpStream`]. `get_raw_stream` lends the bytes of any stream,
+//!   `get_memory` the memory of the dump by either list.
+//! - [`CrashReason`] is why a process crashed, in the words of the caller's own lists of names.
 //! - [`MinidumpContext`] decodes the registers of a thread from the bytes of its context.
 //! - `all_streams`, `unknown_streams` and `unimplemented_streams` list the streams. `print` writes the
 //!   header and the directory.
@@ -66,6 +68,11 @@ pub use minidump_memory::{
     MinidumpMemoryListBase, UnifiedMemory, UnifiedMemoryByAddress, UnifiedMemoryIter,
     UnifiedMemoryList,
 };
+pub use minidump_modules::{
+    CodeId, CodeView, DebugId, MinidumpModule, MinidumpModuleList, MinidumpUnloadedModule,
+    MinidumpUnloadedModuleList, Module, ModulesAtAddress, UnloadedModulesByAddress,
+};
+pub use minidump_reason::{CodeFamily, CodeNames, CodeNamesError, CrashReason};
 pub use minidump_stability::{
     ProcessState, StabilityReport, SystemMemoryState, process_state, system_memory_state,
 };

@@ -1,5 +1,6 @@
 mod file;
 mod memory;
+mod modules;
 mod streams;
 
 use crate::format::{MINIDUMP_LOCATION_DESCRIPTOR, MINIDUMP_STREAM_TYPE};
@@ -9,6 +10,8 @@ use std::alloc::{AllocError, Global};
 use std::io::Write;
 use std::process::Abort;
 use std::test::Fail;
+
+const BOTH: [Endian; 2] = [Endian::Little, Endian::Big];
 
 // A header with no streams, whose directory would be at the end of all places.
 const EMPTY: [u8; 32] = [

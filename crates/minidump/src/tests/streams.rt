@@ -1,8 +1,10 @@
+use super::BOTH;
 use crate::format::MINIDUMP_SYSTEM_INFO;
 use crate::system_info::{Cpu, Os};
 use crate::{
     Endian, Error, Minidump, MinidumpMemory64List, MinidumpMemoryList, MinidumpMiscInfo,
-    MinidumpStream, MinidumpSystemInfo, StabilityReport, Steps, Told,
+    MinidumpModuleList, MinidumpStream, MinidumpSystemInfo, MinidumpUnloadedModuleList,
+    StabilityReport, Steps, Told,
 };
 use minidump_synth::{Section, SynthMinidump, zeroed};
 use std::alloc::Global;
@@ -87,8 +89,6 @@ const SHORT_MISC_TEXT: &str = "MINIDUMP_MISC_INFO
   process_cookie               = (invalid)
 
 ";
-
-const BOTH: [Endian; 2] = [Endian::Little, Endian::Big];
 
 fn windows() -> MINIDUMP_SYSTEM_INFO {
     MINIDUMP_SYSTEM_INFO {
@@ -307,38 +307,20 @@ fn prints_the_misc_information(rt: HostRuntime) -> Result<(), Fail> {
     Ok(())
 }
 
+// Whether the constant and the function of a type of stream are this number.
+fn has_number<'a, S: MinidumpStream<'a>>(number: u32) -> bool {
+    S::STREAM_TYPE == number && S::number_of_type() == number
+}
+
 #[test]
 fn types_of_streams_have_their_numbers(rt: HostRuntime) -> Result<(), Fail> {
-    for (constant, function, number) in [
-        (
-            MinidumpMemoryList::STREAM_TYPE,
-            MinidumpMemoryList::number_of_type(),
-            5,
-        ),
-        (
-            MinidumpSystemInfo::STREAM_TYPE,
-            MinidumpSystemInfo::number_of_type(),
-            SYSTEM_INFO,
-        ),
-        (
-            MinidumpMemory64List::STREAM_TYPE,
-            MinidumpMemory64List::number_of_type(),
-            9,
-        ),
-        (
-            MinidumpMiscInfo::STREAM_TYPE,
-            MinidumpMiscInfo::number_of_type(),
-            MISC_INFO,
-        ),
-        (
-            StabilityReport::STREAM_TYPE,
-            StabilityReport::number_of_type(),
-            STABILITY_REPORT,
-        ),
-    ] {
-        assert_eq!(rt; constant, number);
-        assert_eq!(rt; function, number);
-    }
+    assert!(rt; has_number::<MinidumpModuleList>(4));
+    assert!(rt; has_number::<MinidumpMemoryList>(5));
+    assert!(rt; has_number::<MinidumpSystemInfo>(SYSTEM_INFO));
+    assert!(rt; has_number::<MinidumpMemory64List>(9));
+    assert!(rt; has_number::<MinidumpUnloadedModuleList>(14));
+    assert!(rt; has_number::<MinidumpMiscInfo>(MISC_INFO));
+    assert!(rt; has_number::<StabilityReport>(STABILITY_REPORT));
     Ok(())
 }
 
