@@ -1,1 +1,5 @@
 -- What the contracts of this crate cite.
+pub mod Parts
+pub mod Dictionary
+pub mod Annotation
+pub mod CrashpadInfo

@@ -3,3 +3,7 @@
 //! errors.
 #![tactic(auto)]
 
+mod crashpad;
+pub mod laws;
+
+pub use crashpad::{MinidumpAnnotation, MinidumpCrashpadInfo, MinidumpModuleCrashpadInfo};

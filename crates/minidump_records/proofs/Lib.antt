@@ -1,0 +1,5 @@
+-- The lemmas of this crate.
+pub mod EachLemmas
+pub mod PutLemmas
+pub mod CrashpadSteps
+pub mod DictionaryLemmas

@@ -1,0 +1,40 @@
+-- One pair more is put into the map.
+use Rattle.std.proofs.Common.{◌+◌, ◌∙◌, refl, arith, map, string_bytes}
+use Rattle.std.specs.String.{string_cmp}
+use Rattle.std.proofs.lemmas.List.{map-id, map_push}
+use Rattle.std.proofs.lemmas.Iterator.Adapters.{YieldsList-from_vec}
+use Rattle.std.proofs.lemmas.Iterator.Consumers.{YieldsList-end}
+use Rattle.minidump_records.specs.Dictionary.{dictionary, pair_of}
+use Rattle.minidump_records.proofs.EachLemmas.{gives_exit}
+use Rattle.minidump_records.proofs.PutLemmas.{put_seen, put_weighs}
+use Rattle.minidump_records.proofs.crashpad.dictionary.read_dictionary.Goals as goal
+
+pub returns-in_err-pairs-clause-means : goal.returns-in_err-pairs-clause-means
+unfolding dictionary
+returns-in_err-pairs-clause-means g c = gives_exit _ _ _ _ _ c.from_residual.ensures.1 c.in_err-pairs.ensures.means (λ h. rw h refl)
+
+pub loop-pair-preserved-in_ok-insert : goal.loop-pair-preserved-in_ok-insert
+loop-pair-preserved-in_ok-insert g c =
+    rw (c.in_ok-insert.ensures.entries, map_push) (put_seen string_cmp string_bytes g.V.Valued.view (λ j k. refl) _ (map (pair_of g.V.Valued.view) c.loop-pair.yielded) _ _ c.loop-pair.invariant)
+
+pub loop-pair-preserved : goal.loop-pair-preserved
+loop-pair-preserved g c =
+    rw (c.in_ok-insert.ensures.entries, map_push) (put_seen string_cmp string_bytes g.V.Valued.view (λ j k. refl) _ (map (pair_of g.V.Valued.view) c.loop-pair.yielded) _ _ c.loop-pair.invariant)
+
+pub returns-clause-means : goal.returns-clause-means
+unfolding dictionary
+returns-clause-means g c =
+    let pairs = c.in_ok-pairs.pairs in
+    let road = YieldsList-from_vec {s = c.into_iter-pair-iterator.result} pairs.items c.into_iter-pair-iterator.ensures.into_iter_gives.0 (c.into_iter-pair-iterator.ensures.into_iter_gives.1 ∙ pairs.ok.0) in
+    let t = YieldsList-end road c.loop-pair.yielded c.loop-pair.pair-iterator c.loop-pair.yielded_by c.next.result c.next.new.self c.in-None.is c.next.ensures.steps in
+    let whole = rw map-id at t.0 in
+    rw (c.in_ok-pairs.ensures.means, c.loop-pair.invariant, whole) refl
+
+pub returns-clause-at_least : goal.returns-clause-at_least
+returns-clause-at_least g c =
+    let pairs = c.in_ok-pairs.pairs in
+    let road = YieldsList-from_vec {s = c.into_iter-pair-iterator.result} pairs.items c.into_iter-pair-iterator.ensures.into_iter_gives.0 (c.into_iter-pair-iterator.ensures.into_iter_gives.1 ∙ pairs.ok.0) in
+    let t = YieldsList-end road c.loop-pair.yielded c.loop-pair.pair-iterator c.loop-pair.yielded_by c.next.result c.next.new.self c.in-None.is c.next.ensures.steps in
+    let whole = rw map-id at t.0 in
+    let fewer = put_weighs (λ v. 1 + (1 + g.V.Valued.least v)) (map (pair_of g.V.Valued.view) pairs.items) in
+    rw (c.loop-pair.invariant, whole) (omega (arith, fewer, c.in_ok-pairs.ensures.at_least))

@@ -1,0 +1,15 @@
+//! Crashpad's information on a process and its modules.
+
+mod annotation;
+mod dictionary;
+mod info;
+mod module_info;
+mod part;
+mod text;
+
+pub use annotation::MinidumpAnnotation;
+pub use info::MinidumpCrashpadInfo;
+pub use module_info::MinidumpModuleCrashpadInfo;
+
+#[cfg(test)]
+mod tests;

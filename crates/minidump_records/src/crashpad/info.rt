@@ -1,0 +1,86 @@
+ghost use Rattle.std.specs.Prelude.{◌≡◌, ◌+◌, ◌≤◌};
+
+use super::MinidumpModuleCrashpadInfo;
+use super::dictionary::read_dictionary;
+use super::part::read_list;
+use minidump_bytes::{Endian, Source, Steps};
+use minidump_format::Error;
+use minidump_format::format::{
+    MINIDUMP_CRASHPAD_INFO, MINIDUMP_MODULE_CRASHPAD_INFO_LINK,
+    MINIDUMP_SIMPLE_STRING_DICTIONARY_ENTRY,
+};
+use minidump_system::{MinidumpStream, MinidumpSystemInfo};
+use std::alloc::Global;
+use std::collections::BTreeMap;
+
+/// Crashpad's information on a process and its modules: `MinidumpCrashpadInfo`.
+#[derive(Drop)]
+pub struct MinidumpCrashpadInfo {
+    pub raw: MINIDUMP_CRASHPAD_INFO,
+    /// The texts of the process's dictionary, by key.
+    pub simple_annotations: BTreeMap<String, String>,
+    /// The information on modules, one for each link, in the order of the links.
+    pub module_list: Vec<MinidumpModuleCrashpadInfo>,
+}
+
+/// Crashpad's `MinidumpCrashpadInfo`: a record, whose version is not 0, then its dictionary and its list of
+/// links to modules.
+impl<'a> MinidumpStream<'a> for MinidumpCrashpadInfo {
+    ghost use Rattle.std.specs.Prelude.{◌+◌, ◌*◌, ◌-◌, ⊤};
+    ghost use Rattle.minidump_format.specs.declared.format.stream_type.MINIDUMP_STREAM_TYPE.TheVariants.{CrashpadInfoStream};
+    ghost use Rattle.minidump_format.specs.StreamType.{number_of};
+    ghost use Rattle.minidump_records.specs.CrashpadInfo.{Crashpad, crashpad_in, crashpad_of, crashpad_reads};
+
+    ghost type_number = { number_of CrashpadInfoStream };
+
+    const STREAM_TYPE: u32 = 0x4350_0001;
+
+    ghost Value = { Crashpad };
+
+    ghost view = { crashpad_of };
+
+    ghost meaning = { λ bytes all order system. crashpad_in bytes all order };
+
+    ghost limit = { λ n. (n + 8) * (n + 8) - 1 };
+
+    ghost least = { λ bytes order info. crashpad_reads info };
+
+    ghost takes_memory = { λ bytes order. ⊤ };
+
+    fn number_of_type() -> u32 {
+        Self::STREAM_TYPE
+    }
+
+    #[tactic(auto, unfolding(crate::specs::CrashpadInfo::crashpad_in))]
+    fn read(
+        alloc: Global,
+        bytes: Source<'a>,
+        all: Source<'a>,
+        endian: Endian,
+        _system_info: Option<&MinidumpSystemInfo>,
+        steps: &mut Steps,
+    ) -> Result<Self, Error> {
+        let raw: MINIDUMP_CRASHPAD_INFO = bytes
+            .record(0, endian, steps)
+            .ok_or(Error::StreamReadFailure)?;
+        if raw.version == 0 {
+            return Err(Error::VersionMismatch);
+        }
+        let simple_annotations = read_dictionary::<MINIDUMP_SIMPLE_STRING_DICTIONARY_ENTRY, String>(
+            alloc,
+            raw.simple_annotations,
+            all,
+            endian,
+            steps,
+        )?;
+        let module_list = read_list::<
+            MINIDUMP_MODULE_CRASHPAD_INFO_LINK,
+            MinidumpModuleCrashpadInfo,
+        >(alloc, raw.module_list, all, endian, steps)?;
+        Ok(MinidumpCrashpadInfo {
+            raw,
+            simple_annotations,
+            module_list,
+        })
+    }
+}

@@ -1,0 +1,143 @@
+ghost use Rattle.std.specs.Prelude.{◌≡◌, ◌+◌, ◌≤◌, ⊤, ℕ, List, Result, length, map, IfOk};
+ghost use Rattle.std.specs.List.{sum_by};
+ghost use Rattle.minidump_bytes.specs.declared.endian.Endian.{Endian};
+ghost use Rattle.minidump_bytes.specs.Source.{bytes_of};
+ghost use Rattle.minidump_bytes.specs.Steps.{after};
+ghost use Rattle.minidump_format.specs.declared.error.Error.{Error};
+ghost use Rattle.minidump_format.specs.Answer.{Gives};
+ghost use Rattle.minidump_records.specs.Parts.{list_of, opened, opened_reads, parts, tested_list, untested_list, WithinParts};
+
+use minidump_bytes::{Endian, Record, Source, Steps};
+use minidump_format::Error;
+use minidump_format::format::MINIDUMP_LOCATION_DESCRIPTOR;
+use std::alloc::Global;
+
+/// What an entry of a list names in the file.
+pub(crate) trait Part<E>: Sized {
+    ghost Value: { Type 0 };
+
+    ghost view: { Self → Value };
+
+    // the value or the error, by the byte order, the file's bytes and the entry
+    ghost part: { Endian → List ℕ → E → Result Value Error };
+
+    // the most reads, by the file's length
+    ghost limit: { ℕ → ℕ };
+
+    // the fewest reads of a value that is read
+    ghost least: { Value → ℕ };
+
+    /// Reads it from the bytes of the file, `all`.
+    fn read_part(
+        alloc: Global,
+        entry: &E,
+        all: Source<'_>,
+        endian: Endian,
+        steps: &mut Steps,
+    ) -> Result<Self, Error>
+        ensures means { Gives view ⊤ result (part endian (bytes_of all.entry) entry.now) }
+        ensures within { steps.new ≤ steps.old + limit (length (bytes_of all.entry)) }
+        ensures grows { steps.old ≤ steps.new }
+        ensures at_least { IfOk result (λ p. after steps.old (least (view p)) ≤ steps.new) };
+}
+
+// Reads the bytes of the list at a location, and the count that they begin with. Without bytes the count is 0.
+#[tactic(auto, unfolding(crate::specs::Parts::opened))]
+fn open_list<'a>(
+    location: MINIDUMP_LOCATION_DESCRIPTOR,
+    all: Source<'a>,
+    endian: Endian,
+    steps: &mut Steps,
+) -> Result<(Source<'a>, u32), Error>
+    ensures means { Gives (λ l. list_of (bytes_of l.0) l.1) ⊥ result (opened endian (bytes_of all.entry) location) }
+    ensures inside { IfOk result (λ l. length (bytes_of l.0) ≤ length (bytes_of all.entry)) }
+    ensures within { steps.new ≤ steps.old + 2 }
+    ensures grows { steps.old ≤ steps.new }
+    ensures at_least { IfOk result (λ _. after steps.old (opened_reads location) ≤ steps.new) }
+{
+    let bytes = all
+        .span(location.rva as u64, location.data_size as u64, steps)
+        .ok_or(Error::StreamReadFailure)?;
+    let bytes = Source::new(bytes);
+    if location.data_size == 0 {
+        return Ok((bytes, 0));
+    }
+    let count: u32 = bytes
+        .record(0, endian, steps)
+        .ok_or(Error::StreamReadFailure)?;
+    Ok((bytes, count))
+}
+
+// Reads the parts that `count` entries name, which stand behind the count. The list grows entry by entry, so
+// that a forged count reserves no memory.
+fn read_parts<E: Record + Drop, P: Part<E> + Drop>(
+    alloc: Global,
+    bytes: Source<'_>,
+    count: u32,
+    all: Source<'_>,
+    endian: Endian,
+    steps: &mut Steps,
+) -> Result<Vec<P>, Error>
+    ensures means { Gives (λ v. map P.view v.items) ⊤ result
+        (parts E.layout P.part endian (bytes_of all.entry) (list_of (bytes_of bytes.entry) count)) }
+    ensures within { WithinParts E.layout.size (length (bytes_of bytes.entry)) (P.limit (length (bytes_of all.entry))) steps.old steps.new }
+    ensures grows { steps.old ≤ steps.new }
+    ensures at_least { IfOk result (λ v. after steps.old (sum_by (λ p. 1 + P.least p) (map P.view v.items)) ≤ steps.new) }
+{
+    let mut parts = Vec::new(alloc);
+    for i in 0..count {
+        let place = 4 + E::SIZE as u64 * i as u64;
+        let entry: E = bytes
+            .record(place, endian, steps)
+            .ok_or(Error::StreamReadFailure)?;
+        let part = P::read_part(alloc, &entry, all, endian, steps)?;
+        parts.push(part)?;
+    }
+    Ok(parts)
+}
+
+/// Reads the parts of the list at a location, whatever its count says.
+#[tactic(auto, unfolding(crate::specs::Parts::untested_list))]
+pub(crate) fn read_untested<E: Record + Drop, P: Part<E> + Drop>(
+    alloc: Global,
+    location: MINIDUMP_LOCATION_DESCRIPTOR,
+    all: Source<'_>,
+    endian: Endian,
+    steps: &mut Steps,
+) -> Result<Vec<P>, Error>
+    ensures means { Gives (λ v. map P.view v.items) ⊤ result
+        (untested_list E.layout P.part endian (bytes_of all.entry) location) }
+    ensures within { WithinParts E.layout.size (length (bytes_of all.entry)) (P.limit (length (bytes_of all.entry))) (steps.old + 2) steps.new }
+    ensures grows { steps.old ≤ steps.new }
+    ensures at_least { IfOk result (λ v. after steps.old
+        (opened_reads location + sum_by (λ p. 1 + P.least p) (map P.view v.items)) ≤ steps.new) }
+{
+    let (bytes, count) = open_list(location, all, endian, steps)?;
+    read_parts(alloc, bytes, count, all, endian, steps)
+}
+
+/// Reads the parts of the list at a location. Returns `StreamSizeMismatch` if `count` entries are more bytes
+/// than the whole file has.
+#[tactic(auto, unfolding(crate::specs::Parts::tested_list))]
+pub(crate) fn read_list<E: Record + Drop, P: Part<E> + Drop>(
+    alloc: Global,
+    location: MINIDUMP_LOCATION_DESCRIPTOR,
+    all: Source<'_>,
+    endian: Endian,
+    steps: &mut Steps,
+) -> Result<Vec<P>, Error>
+    ensures means { Gives (λ v. map P.view v.items) ⊤ result
+        (tested_list E.layout P.part endian (bytes_of all.entry) location) }
+    ensures within { WithinParts E.layout.size (length (bytes_of all.entry)) (P.limit (length (bytes_of all.entry))) (steps.old + 2) steps.new }
+    ensures grows { steps.old ≤ steps.new }
+    ensures at_least { IfOk result (λ v. after steps.old
+        (opened_reads location + sum_by (λ p. 1 + P.least p) (map P.view v.items)) ≤ steps.new) }
+{
+    let (bytes, count) = open_list(location, all, endian, steps)?;
+    let expected = E::SIZE * count as usize;
+    let actual = all.len();
+    if expected > actual {
+        return Err(Error::StreamSizeMismatch { expected, actual });
+    }
+    read_parts(alloc, bytes, count, all, endian, steps)
+}
