@@ -3,3 +3,5 @@ pub mod EachLemmas
 pub mod PutLemmas
 pub mod CrashpadSteps
 pub mod DictionaryLemmas
+pub mod KeyLemmas
+pub mod NameLemmas

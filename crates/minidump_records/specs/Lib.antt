@@ -3,3 +3,5 @@ pub mod Parts
 pub mod Dictionary
 pub mod Annotation
 pub mod CrashpadInfo
+pub mod ThreadNames
+pub mod ThreadInfo

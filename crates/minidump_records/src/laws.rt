@@ -1,8 +1,16 @@
-//! Laws of the streams, over the definitions that contracts cite.
-ghost use Rattle.std.specs.Prelude.{◌≡◌, ◌↔◌, ℕ, List, []};
+//! Laws of the streams of this crate, over the definitions that their contracts cite.
+ghost use Rattle.std.specs.Prelude.{◌≡◌, ◌≢◌, ◌↔◌, ◌<◌, ◌^◌, ◌++◌, ◌∷◌, ℕ, All, List, Option, Some, []};
+ghost use Rattle.minidump_bytes.specs.declared.endian.Endian.{Endian};
 ghost use Rattle.minidump_format.specs.declared.format.crashpad.MINIDUMP_ANNOTATION.{MINIDUMP_ANNOTATION};
+ghost use Rattle.minidump_records.specs.declared.thread_info.MinidumpThreadInfo.{MinidumpThreadInfo};
 ghost use Rattle.minidump_records.specs.Annotation.{Annotation, AreSame, unsupported, user_defined};
 ghost use Rattle.minidump_records.specs.Dictionary.{IsDictionaryOf, put_all};
+ghost use Rattle.minidump_records.specs.ThreadInfo.{last_info};
+ghost use Rattle.minidump_records.specs.ThreadNames.{ThreadName, last_names, name_at};
+ghost use Rattle.minidump_system.specs.SystemInfo.{System};
+
+use crate::{MinidumpThreadInfo, MinidumpThreadInfoList};
+use minidump_system::MinidumpStream;
 
 /// The entries of a dictionary: the keys ascend by their bytes, and each has the value of its last pair. No
 /// other list of entries has this.
@@ -14,5 +22,24 @@ pub fn dictionaries_have_the_last_values()
 /// `same_as` is no equality: an annotation whose value is not read is not the same as itself.
 pub fn an_annotation_need_not_be_the_same_as_itself()
     ensures user_defined { (raw : MINIDUMP_ANNOTATION) → AreSame (user_defined raw) (user_defined raw) → ⊥ }
-    ensures unsupported { (raw : MINIDUMP_ANNOTATION) → AreSame (unsupported raw) (unsupported raw) → ⊥ }
+    ensures unsupported { (raw : MINIDUMP_ANNOTATION) → AreSame (unsupported raw) (unsupported raw) → ⊥ }{}
+
+/// Of the names of one thread the last is kept.
+pub fn last_name_of_a_thread_is_kept()
+    ensures { (before later : List ThreadName) (n : ThreadName) → n.0 < 2 ^ 32
+        → All (λ x. x.0 ≢ n.0) later
+        → name_at (last_names (2 ^ 32) (before ++ (n ∷ later))) n.0 ≡ Some n.1 }
 {}
+
+/// Of the information of one thread the last is found.
+pub fn last_info_of_a_thread_is_found()
+    ensures { (before later : List MinidumpThreadInfo) (i : MinidumpThreadInfo)
+        → All (λ x. x.raw.thread_id ≢ i.raw.thread_id) later
+        → last_info (before ++ (i ∷ later)) i.raw.thread_id ≡ Some i }
+{}
+
+/// The information of threads depends on its stream and the byte order alone.
+pub fn thread_infos_depend_on_their_stream_alone()
+    ensures { (bytes all other : List ℕ) (order : Endian) (s t : Option System)
+        → ⟦<MinidumpThreadInfoList as MinidumpStream<'static>>⟧.meaning bytes all order s
+        ≡ ⟦<MinidumpThreadInfoList as MinidumpStream<'static>>⟧.meaning bytes other order t }

@@ -1,0 +1,51 @@
+-- One entry more: its name is put in, or it has none.
+use Rattle.std.proofs.Common.{◌≡◌, ◌∙◌, ◌^◌, ◌<◌, Some, None, arith, length, sym, ap}
+use Rattle.std.specs.Prelude.{string_bytes}
+use Rattle.std.proofs.lemmas.Grind.{common_steps}
+use Rattle.std.specs.Option.{option_map}
+use Rattle.minidump_bytes.specs.Source.{bytes_of}
+use Rattle.minidump_bytes.proofs.LeftLemmas.{IsNext, all_given, next_left, one_given}
+use Rattle.minidump_records.specs.ThreadNames.{ThreadName, named}
+use Rattle.minidump_records.proofs.NameLemmas.{has_all, has_more, named_more, named_skip}
+use Rattle.minidump_records.proofs.thread_names.read_names.Goals as goal
+
+pub loop-raw-preserved-in-Continue-branch-3 : goal.loop-raw-preserved-in-Continue-branch-3
+loop-raw-preserved-in-Continue-branch-3 c =
+    let xs = c.args.raws in
+    let i = length c.loop-raw.yielded in
+    let raw = c.in-Some.raw in
+    let name_in = named c.args.endian (bytes_of c.args.all) in
+    let next : IsNext xs i raw raw c.next.new.self = next_left xs i raw raw _ (sym c.loop-raw.invariant.left ∙ c.in-Some.ensures.steps) in
+    let small : raw.thread_id < 2 ^ 32 = grind (arith, common_steps) in
+    let text = rw c.in-Some-2.is at c.in_ok-name.ensures.value in
+    let is : name_in raw ≡ Some (raw.thread_id, string_bytes c.in-Some-2.name) = ap (option_map {U = ThreadName} (λ name. (raw.thread_id, name))) (sym text) in
+    rw (one_given c.loop-raw.yielded raw) (record {
+      left = next.left;
+      last = rw (named_more name_in xs i raw (raw.thread_id, string_bytes c.in-Some-2.name) next.inside (rw next.item is))
+          (has_more string_bytes (2 ^ 32) _ _ _ raw.thread_id c.in-Some-2.name c.loop-raw.invariant.last small c.in_ok-put_name.ensures.updates c.put_name.ensures.ordered);
+      within = omega (arith, c.text16.ensures.step, c.loop-raw.invariant.within);
+      grows = omega (arith, c.text16.ensures.step, c.loop-raw.invariant.grows);
+      counted = omega (arith, c.text16.ensures.step, c.loop-raw.invariant.counted);
+    })
+
+pub loop-raw-preserved : goal.loop-raw-preserved
+loop-raw-preserved c =
+    let xs = c.args.raws in
+    let i = length c.loop-raw.yielded in
+    let raw = c.in-Some.raw in
+    let name_in = named c.args.endian (bytes_of c.args.all) in
+    let next : IsNext xs i raw raw c.next.new.self = next_left xs i raw raw _ (sym c.loop-raw.invariant.left ∙ c.in-Some.ensures.steps) in
+    let text = rw c.in_default.is at c.in_ok-name.ensures.value in
+    let is : name_in raw ≡ None = ap (option_map {U = ThreadName} (λ name. (raw.thread_id, name))) (sym text) in
+    rw (one_given c.loop-raw.yielded raw) (record {
+      left = next.left;
+      last = rw (named_skip name_in xs i raw next.inside (rw next.item is)) c.loop-raw.invariant.last;
+      within = omega (arith, c.text16.ensures.step, c.loop-raw.invariant.within);
+      grows = omega (arith, c.text16.ensures.step, c.loop-raw.invariant.grows);
+      counted = omega (arith, c.text16.ensures.step, c.loop-raw.invariant.counted);
+    })
+
+pub returns-clause-names : goal.returns-clause-names
+returns-clause-names c =
+    let all = rw (all_given c.args.raws (length c.loop-raw.yielded) (sym c.loop-raw.invariant.left ∙ c.in-None.ensures.steps.0)) at c.loop-raw.invariant.last in
+    has_all string_bytes (2 ^ 32) _ _ all

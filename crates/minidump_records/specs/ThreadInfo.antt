@@ -1,0 +1,21 @@
+-- The state of threads: Microsoft's MINIDUMP_THREAD_INFO_LIST.
+use Rattle.std.specs.Prelude.{ℕ, ◌==◌, List, find, map, reverse, Option, Result}
+use Rattle.minidump_bytes.specs.declared.endian.Endian.{Endian}
+use Rattle.minidump_format.specs.declared.error.Error.{Error}
+use Rattle.minidump_format.specs.declared.format.thread.MINIDUMP_THREAD_INFO.{MINIDUMP_THREAD_INFO}
+use Rattle.minidump_format.specs.Thread.{thread_info}
+use Rattle.minidump_system.specs.Framing.{extended_list}
+use Rattle.minidump_records.specs.declared.thread_info.MinidumpThreadInfo.{MinidumpThreadInfo}
+use Rattle.minidump_records.specs.declared.thread_info.MinidumpThreadInfoList.{MinidumpThreadInfoList}
+
+-- the entries of a list, in its order
+abbrev pub infos_of : MinidumpThreadInfoList → List MINIDUMP_THREAD_INFO
+infos_of l = map (λ i. i.raw) l.thread_infos.items
+
+-- Microsoft's MINIDUMP_THREAD_INFO_LIST: an extended list of entries
+abbrev pub thread_infos : List ℕ → Endian → Result (List MINIDUMP_THREAD_INFO) Error
+thread_infos bytes order = extended_list thread_info order bytes
+
+-- the last information of a thread
+abbrev pub last_info : List MinidumpThreadInfo → ℕ → Option MinidumpThreadInfo
+last_info infos id = find (λ i. i.raw.thread_id == id) (reverse infos)

@@ -1,0 +1,104 @@
+ghost use Rattle.std.specs.Prelude.{◌≡◌, [], IfOk, map};
+ghost use Rattle.std.specs.Option.{option_copied};
+ghost use Rattle.minidump_records.specs.ThreadInfo.{infos_of, last_info};
+
+use minidump_bytes::{Endian, Entries, Source, Steps};
+use minidump_format::Error;
+use minidump_format::format::MINIDUMP_THREAD_INFO;
+use minidump_system::framing::extended_entries;
+use minidump_system::{MinidumpStream, MinidumpSystemInfo};
+use std::alloc::{AllocError, Global};
+
+/// The state of a thread: its times, its exit status and where it began.
+#[derive(Drop)]
+pub struct MinidumpThreadInfo {
+    /// The entry in the stream.
+    pub raw: MINIDUMP_THREAD_INFO,
+}
+
+/// The state of each thread, in the order of the file.
+#[derive(Drop)]
+pub struct MinidumpThreadInfoList {
+    pub thread_infos: Vec<MinidumpThreadInfo>,
+}
+
+impl MinidumpThreadInfoList {
+    /// Makes an empty list. Takes no memory.
+    pub fn new(alloc: Global) -> MinidumpThreadInfoList
+        ensures { infos_of result ≡ [] }
+    {
+        MinidumpThreadInfoList {
+            thread_infos: Vec::new(alloc),
+        }
+    }
+
+    /// Returns the information of the thread with an id, the last if there are several, or `None` if there is
+    /// none.
+    pub fn get_thread_info(&self, id: u32) -> Option<&MinidumpThreadInfo>
+        ensures { option_copied result ≡ last_info self.now.thread_infos.items id }
+    {
+        let infos = self.thread_infos.as_slice();
+        infos.iter().rev().find(|info| info.raw.thread_id == id)
+    }
+}
+
+/// Microsoft's `MINIDUMP_THREAD_INFO_LIST`: an extended list of entries.
+impl<'a> MinidumpStream<'a> for MinidumpThreadInfoList {
+    ghost use Rattle.std.specs.Prelude.{◌+◌, List, IsOk};
+    ghost use Rattle.minidump_format.specs.declared.format.stream_type.MINIDUMP_STREAM_TYPE.TheVariants.{ThreadInfoListStream};
+    ghost use Rattle.minidump_format.specs.declared.format.thread.MINIDUMP_THREAD_INFO.{MINIDUMP_THREAD_INFO};
+    ghost use Rattle.minidump_format.specs.StreamType.{number_of};
+    ghost use Rattle.minidump_format.specs.Thread.{thread_info};
+    ghost use Rattle.minidump_system.specs.Framing.{extended_list, list_header_of};
+    ghost use Rattle.minidump_records.specs.ThreadInfo.{infos_of, thread_infos};
+
+    ghost type_number = { number_of ThreadInfoListStream };
+
+    const STREAM_TYPE: u32 = 17;
+
+    ghost Value = { List MINIDUMP_THREAD_INFO };
+
+    ghost view = { infos_of };
+
+    ghost meaning = { λ bytes all order system. thread_infos bytes order };
+
+    ghost limit = { λ n. n + 7 };
+
+    ghost least = { λ bytes order infos. 1 + (list_header_of order bytes).number_of_entries };
+
+    ghost takes_memory = { λ bytes order. IsOk (extended_list thread_info order bytes) };
+
+    fn number_of_type() -> u32
+        ensures { result ≡ number_of ThreadInfoListStream }
+    {
+        Self::STREAM_TYPE
+    }
+
+    fn read(
+        alloc: Global,
+        bytes: Source<'a>,
+        _all: Source<'a>,
+        endian: Endian,
+        _system_info: Option<&MinidumpSystemInfo>,
+        steps: &mut Steps,
+    ) -> Result<Self, Error> {
+        let raws = extended_entries::<MINIDUMP_THREAD_INFO>(bytes, endian, steps)?;
+        Ok(MinidumpThreadInfoList {
+            thread_infos: all_infos(alloc, raws)?,
+        })
+    }
+}
+
+// Returns the information of each entry.
+fn all_infos(
+    alloc: Global,
+    raws: Entries<'_, MINIDUMP_THREAD_INFO>,
+) -> Result<Vec<MinidumpThreadInfo>, AllocError>
+    ensures { IfOk result (λ infos. map (λ i. i.raw) infos.items ≡ raws.entry) }
+{
+    let mut infos = Vec::with_capacity(alloc, raws.len())?;
+    for raw in raws {
+        infos.push(MinidumpThreadInfo { raw })?;
+    }
+    Ok(infos)
+}

@@ -1,0 +1,134 @@
+ghost use Rattle.std.specs.Prelude.{◌≡◌, ◌^◌, ◌+◌, ◌≤◌, [], length, IfOk, IsOkUnless, OnOk, map, string_bytes};
+ghost use Rattle.std.specs.BTreeMap.{IsOrdered, Updates};
+ghost use Rattle.std.specs.List.{filter_map};
+ghost use Rattle.std.specs.Option.{option_copied};
+ghost use Rattle.std.specs.Ordering.{nat_cmp};
+ghost use Rattle.minidump_bytes.specs.Source.{bytes_of};
+ghost use Rattle.minidump_bytes.specs.Steps.{after};
+ghost use Rattle.minidump_records.specs.ThreadNames.{last_names, name_at, named, names_of};
+
+use minidump_bytes::{Endian, Entries, Source, Steps};
+use minidump_format::Error;
+use minidump_format::format::MINIDUMP_THREAD_NAME;
+use minidump_system::framing::plain_entries;
+use minidump_system::{MinidumpStream, MinidumpSystemInfo};
+use std::alloc::{AllocError, Global};
+use std::collections::BTreeMap;
+
+/// The names of threads, by their ids.
+#[derive(Drop)]
+pub struct MinidumpThreadNames {
+    names: BTreeMap<u32, String>,
+}
+
+impl MinidumpThreadNames {
+    /// Makes names of no thread. Takes no memory.
+    pub fn new(alloc: Global) -> MinidumpThreadNames
+        ensures { names_of result ≡ [] }
+    {
+        MinidumpThreadNames {
+            names: BTreeMap::new(alloc),
+        }
+    }
+
+    /// Returns the name of a thread, or `None` if it has none.
+    pub fn get_name(&self, thread_id: u32) -> Option<&str>
+        ensures { option_copied result ≡ name_at (names_of self.now) thread_id }
+    {
+        let name = self.names.get(&thread_id)?;
+        Some(name.as_str())
+    }
+
+    /// Copies the names. The only error is [`Error::OutOfMemory`].
+    pub fn try_clone(&self, _alloc: Global) -> Result<MinidumpThreadNames, Error>
+        ensures same { IfOk result (λ copy. names_of copy ≡ names_of self.now) }
+        ensures memory { IsOkUnless result Error.OutOfMemory }
+    {
+        Ok(MinidumpThreadNames {
+            names: self.names.clone()?,
+        })
+    }
+}
+
+/// Microsoft's `MINIDUMP_THREAD_NAME_LIST`: a plain list of entries. One whose name is no text is skipped; of
+/// several names of one thread the last is kept.
+impl<'a> MinidumpStream<'a> for MinidumpThreadNames {
+    ghost use Rattle.std.specs.Prelude.{◌+◌, ◌*◌, List, IsOk};
+    ghost use Rattle.minidump_format.specs.declared.format.stream_type.MINIDUMP_STREAM_TYPE.TheVariants.{ThreadNamesStream};
+    ghost use Rattle.minidump_format.specs.StreamType.{number_of};
+    ghost use Rattle.minidump_format.specs.Thread.{thread_name};
+    ghost use Rattle.minidump_system.specs.Framing.{count_of, plain_list};
+    ghost use Rattle.minidump_records.specs.ThreadNames.{ThreadName, names_of, thread_names};
+
+    ghost type_number = { number_of ThreadNamesStream };
+
+    const STREAM_TYPE: u32 = 24;
+
+    ghost Value = { List ThreadName };
+
+    ghost view = { names_of };
+
+    ghost meaning = { λ bytes all order system. thread_names bytes all order };
+
+    ghost limit = { λ n. n + 7 };
+
+    ghost least = { λ bytes order names. 1 + 2 * count_of order bytes };
+
+    ghost takes_memory = { λ bytes order. IsOk (plain_list thread_name order bytes) };
+
+    fn number_of_type() -> u32
+        ensures { result ≡ number_of ThreadNamesStream }
+    {
+        Self::STREAM_TYPE
+    }
+
+    fn read(
+        alloc: Global,
+        bytes: Source<'a>,
+        all: Source<'a>,
+        endian: Endian,
+        _system_info: Option<&MinidumpSystemInfo>,
+        steps: &mut Steps,
+    ) -> Result<Self, Error> {
+        let raws = plain_entries::<MINIDUMP_THREAD_NAME>(bytes, endian, steps)?;
+        Ok(MinidumpThreadNames {
+            names: read_names(alloc, raws, all, endian, steps)?,
+        })
+    }
+}
+
+// Reads the names of entries, and keeps the last of each thread.
+fn read_names(
+    alloc: Global,
+    raws: Entries<'_, MINIDUMP_THREAD_NAME>,
+    all: Source<'_>,
+    endian: Endian,
+    steps: &mut Steps,
+) -> Result<BTreeMap<u32, String>, AllocError>
+    ensures names { IfOk result (λ names. map (λ e. (e.0, string_bytes e.1)) names.entries
+        ≡ last_names (2 ^ 32) (filter_map (named endian (bytes_of all.entry)) raws.entry)) }
+    ensures within { steps.new ≤ steps.old + length raws.entry }
+    ensures grows { steps.old ≤ steps.new }
+    ensures steps { IfOk result (λ _. steps.new ≡ after steps.old (length raws.entry)) }
+{
+    let mut names = BTreeMap::new(alloc);
+    for raw in raws {
+        if let Some(name) = all.text16(alloc, raw.thread_name_rva, endian, steps)? {
+            put_name(&mut names, raw.thread_id, name)?;
+        }
+    }
+    Ok(names)
+}
+
+// Puts in the name of a thread, in place of an earlier one.
+fn put_name(
+    names: &mut BTreeMap<u32, String>,
+    thread_id: u32,
+    name: String,
+) -> Result<(), AllocError>
+    ensures updates { OnOk result (Updates nat_cmp names.old names.new thread_id (Some name)) }
+    ensures ordered { IsOrdered nat_cmp names.new }
+{
+    names.insert(thread_id, name)?;
+    Ok(())
+}
