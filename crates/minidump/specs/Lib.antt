@@ -19,3 +19,4 @@ pub mod Stability
 pub mod Contexts
 pub mod Modules
 pub mod Reasons
+pub mod Records

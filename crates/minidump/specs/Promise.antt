@@ -6,8 +6,9 @@ use Rattle.std.specs.Prelude.{◌≡◌, ℕ, ◌+◌, ◌≤◌, List, Option}
 use Rattle.minidump_bytes.specs.declared.endian.Endian.{Endian}
 use Rattle.minidump_format.specs.declared.format.memory.MINIDUMP_MEMORY_DESCRIPTOR.{MINIDUMP_MEMORY_DESCRIPTOR}
 use Rattle.minidump_format.specs.declared.format.memory.MINIDUMP_MEMORY_DESCRIPTOR64.{MINIDUMP_MEMORY_DESCRIPTOR64}
+use Rattle.minidump_format.specs.declared.format.thread.MINIDUMP_THREAD_INFO.{MINIDUMP_THREAD_INFO}
 use Rattle.minidump_format.specs.declared.format.stream_type.MINIDUMP_STREAM_TYPE.{MINIDUMP_STREAM_TYPE}
-use Rattle.minidump_format.specs.declared.format.stream_type.MINIDUMP_STREAM_TYPE.TheVariants.{SystemInfoStream, MiscInfoStream, ModuleListStream, MemoryListStream, Memory64ListStream, UnloadedModuleListStream, StabilityReportStream}
+use Rattle.minidump_format.specs.declared.format.stream_type.MINIDUMP_STREAM_TYPE.TheVariants.{SystemInfoStream, MiscInfoStream, ModuleListStream, MemoryListStream, Memory64ListStream, UnloadedModuleListStream, ThreadInfoListStream, ThreadNamesStream, StabilityReportStream}
 use Rattle.minidump_format.specs.StreamType.{number_of}
 use Rattle.minidump_system.specs.declared.misc_info.RawMiscInfo.{RawMiscInfo}
 use Rattle.minidump_system.specs.MiscInfo.{misc_info_in}
@@ -19,6 +20,8 @@ use Rattle.minidump_modules.specs.Module.{ModuleValue}
 use Rattle.minidump_modules.specs.ModuleList.{module_list}
 use Rattle.minidump_modules.specs.UnloadedModule.{UnloadedValue}
 use Rattle.minidump_modules.specs.UnloadedModuleList.{unloaded_list}
+use Rattle.minidump_records.specs.ThreadInfo.{thread_infos}
+use Rattle.minidump_records.specs.ThreadNames.{ThreadName, thread_names}
 use Rattle.minidump_stability.specs.StabilityReport.{Report, stability_report}
 use Rattle.minidump.specs.Dump.{Meaning}
 
@@ -52,6 +55,12 @@ IsModuleList = IsReadAs ModuleListStream module_list
 
 abbrev pub IsUnloadedModuleList : ℕ → Meaning (List UnloadedValue) → (ℕ → ℕ) → Type 0
 IsUnloadedModuleList = IsReadAs UnloadedModuleListStream (λ bytes file order system. unloaded_list bytes file order)
+
+abbrev pub IsThreadNames : ℕ → Meaning (List ThreadName) → (ℕ → ℕ) → Type 0
+IsThreadNames = IsReadAs ThreadNamesStream (λ bytes file order system. thread_names bytes file order)
+
+abbrev pub IsThreadInfoList : ℕ → Meaning (List MINIDUMP_THREAD_INFO) → (ℕ → ℕ) → Type 0
+IsThreadInfoList = IsReadAs ThreadInfoListStream (λ bytes file order system. thread_infos bytes order)
 
 abbrev pub IsStabilityReport : ℕ → Meaning Report → (ℕ → ℕ) → Type 0
 IsStabilityReport = IsReadAs StabilityReportStream (λ bytes file order system. stability_report bytes)

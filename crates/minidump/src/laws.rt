@@ -6,7 +6,7 @@ ghost use Rattle.minidump_format.specs.declared.format.header.MINIDUMP_DIRECTORY
 ghost use Rattle.minidump.specs.declared.directory.DecidingEntry.{DecidingEntry};
 ghost use Rattle.minidump.specs.Directory.{deciding, deciding_below, directory};
 ghost use Rattle.minidump.specs.Dump.{Dump, raw_stream, spanned, streams_of};
-ghost use Rattle.minidump.specs.Promise.{IsMemory64List, IsMemoryList, IsMiscInfo, IsModuleList, IsStabilityReport, IsSystemInfo, IsUnloadedModuleList};
+ghost use Rattle.minidump.specs.Promise.{IsMemory64List, IsMemoryList, IsMiscInfo, IsModuleList, IsStabilityReport, IsSystemInfo, IsThreadInfoList, IsThreadNames, IsUnloadedModuleList};
 ghost use Rattle.minidump.specs.Streams.{unimplemented_view, unknown_view};
 ghost use Rattle.minidump_bytes.specs.Span.{span};
 
@@ -24,6 +24,11 @@ use minidump_memory::{MinidumpMemory64List, MinidumpMemoryList};
 pub use minidump_modules::laws::region_laws as module_laws;
 use minidump_modules::{MinidumpModuleList, MinidumpUnloadedModuleList};
 pub use minidump_reason::laws::{codes_have_their_listed_names, wide_codes_are_unlisted};
+pub use minidump_records::laws::{
+    last_info_of_a_thread_is_found, last_name_of_a_thread_is_kept,
+    thread_infos_depend_on_their_stream_alone,
+};
+use minidump_records::{MinidumpThreadInfoList, MinidumpThreadNames};
 use minidump_stability::StabilityReport;
 pub use minidump_stability::laws::{
     fields_are_what_bytes_spell, report_depends_on_its_stream_alone, report_is_what_its_fields_mean,
@@ -73,6 +78,10 @@ pub fn streams_are_read_as_promised()
         in IsModuleList T.type_number T.meaning T.limit }
     ensures unloaded_module_list { let T = ⟦<MinidumpUnloadedModuleList as MinidumpStream<'static>>⟧
         in IsUnloadedModuleList T.type_number T.meaning T.limit }
+    ensures thread_names { let T = ⟦<MinidumpThreadNames as MinidumpStream<'static>>⟧
+        in IsThreadNames T.type_number T.meaning T.limit }
+    ensures thread_info_list { let T = ⟦<MinidumpThreadInfoList as MinidumpStream<'static>>⟧
+        in IsThreadInfoList T.type_number T.meaning T.limit }
     ensures stability_report { let T = ⟦<StabilityReport as MinidumpStream<'static>>⟧
         in IsStabilityReport T.type_number T.meaning T.limit }
 {}

@@ -1,6 +1,7 @@
 mod file;
 mod memory;
 mod modules;
+mod records;
 mod streams;
 
 use crate::format::{MINIDUMP_LOCATION_DESCRIPTOR, MINIDUMP_STREAM_TYPE};

@@ -1,10 +1,11 @@
 ghost use Rattle.std.specs.Prelude.{◌≡◌, ◌^◌, ◌+◌, ◌≤◌, [], length, IfOk, IsOkUnless, OnOk, map, string_bytes};
 ghost use Rattle.std.specs.BTreeMap.{IsOrdered, Updates};
 ghost use Rattle.std.specs.List.{filter_map};
-ghost use Rattle.std.specs.Option.{option_copied};
+ghost use Rattle.std.specs.Option.{option_copied, option_map};
 ghost use Rattle.std.specs.Ordering.{nat_cmp};
 ghost use Rattle.minidump_bytes.specs.Source.{bytes_of};
 ghost use Rattle.minidump_bytes.specs.Steps.{after};
+ghost use Rattle.minidump_bytes.specs.Text16.{text16};
 ghost use Rattle.minidump_records.specs.ThreadNames.{last_names, name_at, named, names_of};
 
 use minidump_bytes::{Endian, Entries, Source, Steps};
@@ -113,11 +114,25 @@ fn read_names(
 {
     let mut names = BTreeMap::new(alloc);
     for raw in raws {
-        if let Some(name) = all.text16(alloc, raw.thread_name_rva, endian, steps)? {
+        if let Some(name) = read_name(alloc, &raw, all, endian, steps)? {
             put_name(&mut names, raw.thread_id, name)?;
         }
     }
     Ok(names)
+}
+
+// Reads the name of an entry, or returns `Ok(None)` if it is no text.
+fn read_name(
+    alloc: Global,
+    raw: &MINIDUMP_THREAD_NAME,
+    all: Source<'_>,
+    endian: Endian,
+    steps: &mut Steps,
+) -> Result<Option<String>, AllocError>
+    ensures name { IfOk result (λ name. option_map string_bytes name ≡ text16 endian raw.now.thread_name_rva (bytes_of all.entry)) }
+    ensures step { steps.new ≡ after steps.old 1 }
+{
+    all.text16(alloc, raw.thread_name_rva, endian, steps)
 }
 
 // Puts in the name of a thread, in place of an earlier one.

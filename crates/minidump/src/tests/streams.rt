@@ -3,8 +3,8 @@ use crate::format::MINIDUMP_SYSTEM_INFO;
 use crate::system_info::{Cpu, Os};
 use crate::{
     Endian, Error, Minidump, MinidumpMemory64List, MinidumpMemoryList, MinidumpMiscInfo,
-    MinidumpModuleList, MinidumpStream, MinidumpSystemInfo, MinidumpUnloadedModuleList,
-    StabilityReport, Steps, Told,
+    MinidumpModuleList, MinidumpStream, MinidumpSystemInfo, MinidumpThreadInfoList,
+    MinidumpThreadNames, MinidumpUnloadedModuleList, StabilityReport, Steps, Told,
 };
 use minidump_synth::{Section, SynthMinidump, zeroed};
 use std::alloc::Global;
@@ -320,6 +320,8 @@ fn types_of_streams_have_their_numbers(rt: HostRuntime) -> Result<(), Fail> {
     assert!(rt; has_number::<MinidumpMemory64List>(9));
     assert!(rt; has_number::<MinidumpUnloadedModuleList>(14));
     assert!(rt; has_number::<MinidumpMiscInfo>(MISC_INFO));
+    assert!(rt; has_number::<MinidumpThreadInfoList>(17));
+    assert!(rt; has_number::<MinidumpThreadNames>(24));
     assert!(rt; has_number::<StabilityReport>(STABILITY_REPORT));
     Ok(())
 }

@@ -17,15 +17,15 @@ loop-raw-preserved-in-Continue-branch-3 c =
     let name_in = named c.args.endian (bytes_of c.args.all) in
     let next : IsNext xs i raw raw c.next.new.self = next_left xs i raw raw _ (sym c.loop-raw.invariant.left ∙ c.in-Some.ensures.steps) in
     let small : raw.thread_id < 2 ^ 32 = grind (arith, common_steps) in
-    let text = rw c.in-Some-2.is at c.in_ok-name.ensures.value in
+    let text = rw c.in-Some-2.is at c.in_ok-name.ensures.name in
     let is : name_in raw ≡ Some (raw.thread_id, string_bytes c.in-Some-2.name) = ap (option_map {U = ThreadName} (λ name. (raw.thread_id, name))) (sym text) in
     rw (one_given c.loop-raw.yielded raw) (record {
       left = next.left;
       last = rw (named_more name_in xs i raw (raw.thread_id, string_bytes c.in-Some-2.name) next.inside (rw next.item is))
           (has_more string_bytes (2 ^ 32) _ _ _ raw.thread_id c.in-Some-2.name c.loop-raw.invariant.last small c.in_ok-put_name.ensures.updates c.put_name.ensures.ordered);
-      within = omega (arith, c.text16.ensures.step, c.loop-raw.invariant.within);
-      grows = omega (arith, c.text16.ensures.step, c.loop-raw.invariant.grows);
-      counted = omega (arith, c.text16.ensures.step, c.loop-raw.invariant.counted);
+      within = omega (arith, c.read_name.ensures.step, c.loop-raw.invariant.within);
+      grows = omega (arith, c.read_name.ensures.step, c.loop-raw.invariant.grows);
+      counted = omega (arith, c.read_name.ensures.step, c.loop-raw.invariant.counted);
     })
 
 pub loop-raw-preserved : goal.loop-raw-preserved
@@ -35,14 +35,14 @@ loop-raw-preserved c =
     let raw = c.in-Some.raw in
     let name_in = named c.args.endian (bytes_of c.args.all) in
     let next : IsNext xs i raw raw c.next.new.self = next_left xs i raw raw _ (sym c.loop-raw.invariant.left ∙ c.in-Some.ensures.steps) in
-    let text = rw c.in_default.is at c.in_ok-name.ensures.value in
+    let text = rw c.in_default.is at c.in_ok-name.ensures.name in
     let is : name_in raw ≡ None = ap (option_map {U = ThreadName} (λ name. (raw.thread_id, name))) (sym text) in
     rw (one_given c.loop-raw.yielded raw) (record {
       left = next.left;
       last = rw (named_skip name_in xs i raw next.inside (rw next.item is)) c.loop-raw.invariant.last;
-      within = omega (arith, c.text16.ensures.step, c.loop-raw.invariant.within);
-      grows = omega (arith, c.text16.ensures.step, c.loop-raw.invariant.grows);
-      counted = omega (arith, c.text16.ensures.step, c.loop-raw.invariant.counted);
+      within = omega (arith, c.read_name.ensures.step, c.loop-raw.invariant.within);
+      grows = omega (arith, c.read_name.ensures.step, c.loop-raw.invariant.grows);
+      counted = omega (arith, c.read_name.ensures.step, c.loop-raw.invariant.counted);
     })
 
 pub returns-clause-names : goal.returns-clause-names
