@@ -22,7 +22,8 @@ pub fn dictionaries_have_the_last_values()
 /// `same_as` is no equality: an annotation whose value is not read is not the same as itself.
 pub fn an_annotation_need_not_be_the_same_as_itself()
     ensures user_defined { (raw : MINIDUMP_ANNOTATION) → AreSame (user_defined raw) (user_defined raw) → ⊥ }
-    ensures unsupported { (raw : MINIDUMP_ANNOTATION) → AreSame (unsupported raw) (unsupported raw) → ⊥ }{}
+    ensures unsupported { (raw : MINIDUMP_ANNOTATION) → AreSame (unsupported raw) (unsupported raw) → ⊥ }
+{}
 
 /// Of the names of one thread the last is kept.
 pub fn last_name_of_a_thread_is_kept()
@@ -43,3 +44,4 @@ pub fn thread_infos_depend_on_their_stream_alone()
     ensures { (bytes all other : List ℕ) (order : Endian) (s t : Option System)
         → ⟦<MinidumpThreadInfoList as MinidumpStream<'static>>⟧.meaning bytes all order s
         ≡ ⟦<MinidumpThreadInfoList as MinidumpStream<'static>>⟧.meaning bytes other order t }
+{}
