@@ -1,14 +1,14 @@
 -- The promise of this library. A file is a minidump, or has an error, by `dump_in` of Dump.antt; a stream is a value, or has an error,
 -- by `stream` there and by what its type means. Reading a file of n bytes takes `least_reads` at least and n + 8 at most; a stream takes
--- one for its span and n + 7 more at most. A list of regions answers by `HasRegionLaws` of minidump_index. Each type of stream that is
+-- one for its span and n + 7 more at most; handles and Crashpad's information take (n + 8)² - 1 more at most. A list of regions answers by `HasRegionLaws` of minidump_index. Each type of stream that is
 -- read has a line here.
-use Rattle.std.specs.Prelude.{◌≡◌, ℕ, ◌+◌, ◌≤◌, List, Option}
+use Rattle.std.specs.Prelude.{◌≡◌, ℕ, ◌+◌, ◌-◌, ◌*◌, ◌≤◌, List, Option}
 use Rattle.minidump_bytes.specs.declared.endian.Endian.{Endian}
 use Rattle.minidump_format.specs.declared.format.memory.MINIDUMP_MEMORY_DESCRIPTOR.{MINIDUMP_MEMORY_DESCRIPTOR}
 use Rattle.minidump_format.specs.declared.format.memory.MINIDUMP_MEMORY_DESCRIPTOR64.{MINIDUMP_MEMORY_DESCRIPTOR64}
 use Rattle.minidump_format.specs.declared.format.thread.MINIDUMP_THREAD_INFO.{MINIDUMP_THREAD_INFO}
 use Rattle.minidump_format.specs.declared.format.stream_type.MINIDUMP_STREAM_TYPE.{MINIDUMP_STREAM_TYPE}
-use Rattle.minidump_format.specs.declared.format.stream_type.MINIDUMP_STREAM_TYPE.TheVariants.{SystemInfoStream, MiscInfoStream, ModuleListStream, MemoryListStream, Memory64ListStream, UnloadedModuleListStream, ThreadInfoListStream, ThreadNamesStream, StabilityReportStream}
+use Rattle.minidump_format.specs.declared.format.stream_type.MINIDUMP_STREAM_TYPE.TheVariants.{SystemInfoStream, MiscInfoStream, ModuleListStream, MemoryListStream, Memory64ListStream, UnloadedModuleListStream, ThreadInfoListStream, ThreadNamesStream, CrashpadInfoStream, StabilityReportStream}
 use Rattle.minidump_format.specs.StreamType.{number_of}
 use Rattle.minidump_system.specs.declared.misc_info.RawMiscInfo.{RawMiscInfo}
 use Rattle.minidump_system.specs.MiscInfo.{misc_info_in}
@@ -22,15 +22,22 @@ use Rattle.minidump_modules.specs.UnloadedModule.{UnloadedValue}
 use Rattle.minidump_modules.specs.UnloadedModuleList.{unloaded_list}
 use Rattle.minidump_records.specs.ThreadInfo.{thread_infos}
 use Rattle.minidump_records.specs.ThreadNames.{ThreadName, thread_names}
+use Rattle.minidump_records.specs.CrashpadInfo.{Crashpad, crashpad_in}
 use Rattle.minidump_stability.specs.StabilityReport.{Report, stability_report}
 use Rattle.minidump.specs.Dump.{Meaning}
 
--- a type of stream has this number and this meaning, and a read of it takes at most n + 7 steps, where neither its bytes nor those of
--- the file are more than n
-pub record IsReadAs {V : Type 0} (stream_type : MINIDUMP_STREAM_TYPE) (assigned : Meaning V) (number : ℕ) (meaning : Meaning V) (limit : ℕ → ℕ) : Type 0 where
+-- a type of stream has this number and this meaning, and a read of it takes at most so many steps, by n, where neither its bytes nor
+-- those of the file are more than n
+pub record IsReadWithin {V : Type 0} (most : ℕ → ℕ) (stream_type : MINIDUMP_STREAM_TYPE) (assigned : Meaning V) (number : ℕ) (meaning : Meaning V) (limit : ℕ → ℕ) : Type 0 where
   pub numbered : number ≡ number_of stream_type
   pub means : (bytes file : List ℕ) (order : Endian) (system : Option System) → meaning bytes file order system ≡ assigned bytes file order system
-  pub within : (n : ℕ) → limit n ≤ n + 7
+  pub within : (n : ℕ) → limit n ≤ most n
+
+abbrev pub IsReadAs : {V : Type 0} → MINIDUMP_STREAM_TYPE → Meaning V → ℕ → Meaning V → (ℕ → ℕ) → Type 0
+IsReadAs = IsReadWithin (λ n. n + 7)
+
+abbrev pub IsReadInSquare : {V : Type 0} → MINIDUMP_STREAM_TYPE → Meaning V → ℕ → Meaning V → (ℕ → ℕ) → Type 0
+IsReadInSquare = IsReadWithin (λ n. (n + 8) * (n + 8) - 1)
 
 abbrev pub IsSystemInfo : ℕ → Meaning System → (ℕ → ℕ) → Type 0
 IsSystemInfo = IsReadAs SystemInfoStream system_in
@@ -61,6 +68,9 @@ IsThreadNames = IsReadAs ThreadNamesStream (λ bytes file order system. thread_n
 
 abbrev pub IsThreadInfoList : ℕ → Meaning (List MINIDUMP_THREAD_INFO) → (ℕ → ℕ) → Type 0
 IsThreadInfoList = IsReadAs ThreadInfoListStream (λ bytes file order system. thread_infos bytes order)
+
+abbrev pub IsCrashpadInfo : ℕ → Meaning Crashpad → (ℕ → ℕ) → Type 0
+IsCrashpadInfo = IsReadInSquare CrashpadInfoStream (λ bytes file order system. crashpad_in bytes file order)
 
 abbrev pub IsStabilityReport : ℕ → Meaning Report → (ℕ → ℕ) → Type 0
 IsStabilityReport = IsReadAs StabilityReportStream (λ bytes file order system. stability_report bytes)

@@ -6,7 +6,7 @@ ghost use Rattle.minidump_format.specs.declared.format.header.MINIDUMP_DIRECTORY
 ghost use Rattle.minidump.specs.declared.directory.DecidingEntry.{DecidingEntry};
 ghost use Rattle.minidump.specs.Directory.{deciding, deciding_below, directory};
 ghost use Rattle.minidump.specs.Dump.{Dump, raw_stream, spanned, streams_of};
-ghost use Rattle.minidump.specs.Promise.{IsMemory64List, IsMemoryList, IsMiscInfo, IsModuleList, IsStabilityReport, IsSystemInfo, IsThreadInfoList, IsThreadNames, IsUnloadedModuleList};
+ghost use Rattle.minidump.specs.Promise.{IsCrashpadInfo, IsMemory64List, IsMemoryList, IsMiscInfo, IsModuleList, IsStabilityReport, IsSystemInfo, IsThreadInfoList, IsThreadNames, IsUnloadedModuleList};
 ghost use Rattle.minidump.specs.Streams.{unimplemented_view, unknown_view};
 ghost use Rattle.minidump_bytes.specs.Span.{span};
 
@@ -25,10 +25,11 @@ pub use minidump_modules::laws::region_laws as module_laws;
 use minidump_modules::{MinidumpModuleList, MinidumpUnloadedModuleList};
 pub use minidump_reason::laws::{codes_have_their_listed_names, wide_codes_are_unlisted};
 pub use minidump_records::laws::{
+    an_annotation_need_not_be_the_same_as_itself, dictionaries_have_the_last_values,
     last_info_of_a_thread_is_found, last_name_of_a_thread_is_kept,
     thread_infos_depend_on_their_stream_alone,
 };
-use minidump_records::{MinidumpThreadInfoList, MinidumpThreadNames};
+use minidump_records::{MinidumpCrashpadInfo, MinidumpThreadInfoList, MinidumpThreadNames};
 use minidump_stability::StabilityReport;
 pub use minidump_stability::laws::{
     fields_are_what_bytes_spell, report_depends_on_its_stream_alone, report_is_what_its_fields_mean,
@@ -64,7 +65,8 @@ pub fn listed_streams_decide()
         → deciding stream_type (directory d.order d.header d.file) ≡ Some s → Contains (streams_of d) s }
 {}
 
-/// Each type of stream that is read has this number and this meaning, and takes at most `n + 7` reads.
+/// Each type of stream that is read has this number and this meaning, and takes at most `n + 7` reads;
+/// handles and Crashpad's information take at most `(n + 8)² - 1`.
 pub fn streams_are_read_as_promised()
     ensures system_info { let T = ⟦<MinidumpSystemInfo as MinidumpStream<'static>>⟧
         in IsSystemInfo T.type_number T.meaning T.limit }
@@ -82,6 +84,8 @@ pub fn streams_are_read_as_promised()
         in IsThreadNames T.type_number T.meaning T.limit }
     ensures thread_info_list { let T = ⟦<MinidumpThreadInfoList as MinidumpStream<'static>>⟧
         in IsThreadInfoList T.type_number T.meaning T.limit }
+    ensures crashpad_info { let T = ⟦<MinidumpCrashpadInfo as MinidumpStream<'static>>⟧
+        in IsCrashpadInfo T.type_number T.meaning T.limit }
     ensures stability_report { let T = ⟦<StabilityReport as MinidumpStream<'static>>⟧
         in IsStabilityReport T.type_number T.meaning T.limit }
 {}

@@ -1,3 +1,4 @@
+mod crashpad;
 mod file;
 mod memory;
 mod modules;

@@ -2,9 +2,10 @@ use super::BOTH;
 use crate::format::MINIDUMP_SYSTEM_INFO;
 use crate::system_info::{Cpu, Os};
 use crate::{
-    Endian, Error, Minidump, MinidumpMemory64List, MinidumpMemoryList, MinidumpMiscInfo,
-    MinidumpModuleList, MinidumpStream, MinidumpSystemInfo, MinidumpThreadInfoList,
-    MinidumpThreadNames, MinidumpUnloadedModuleList, StabilityReport, Steps, Told,
+    Endian, Error, Minidump, MinidumpCrashpadInfo, MinidumpMemory64List, MinidumpMemoryList,
+    MinidumpMiscInfo, MinidumpModuleList, MinidumpStream, MinidumpSystemInfo,
+    MinidumpThreadInfoList, MinidumpThreadNames, MinidumpUnloadedModuleList, StabilityReport,
+    Steps, Told,
 };
 use minidump_synth::{Section, SynthMinidump, zeroed};
 use std::alloc::Global;
@@ -322,6 +323,7 @@ fn types_of_streams_have_their_numbers(rt: HostRuntime) -> Result<(), Fail> {
     assert!(rt; has_number::<MinidumpMiscInfo>(MISC_INFO));
     assert!(rt; has_number::<MinidumpThreadInfoList>(17));
     assert!(rt; has_number::<MinidumpThreadNames>(24));
+    assert!(rt; has_number::<MinidumpCrashpadInfo>(0x4350_0001));
     assert!(rt; has_number::<StabilityReport>(STABILITY_REPORT));
     Ok(())
 }
