@@ -1,5 +1,7 @@
 -- The lemmas of this crate.
 pub mod AddressLemmas
 pub mod CommandLemmas
+pub mod JoinedLemmas
 pub mod ListLemmas
+pub mod LookupLemmas
 pub mod PrintLemmas

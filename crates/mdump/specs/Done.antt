@@ -1,19 +1,26 @@
 -- What the program writes.
 use Rattle.std.specs.Prelude.{◌≡◌, ◌↔◌, ◌⊎◌, ℕ, ◌<◌, ◌≤◌, ◌++◌, List, [], codes, length, true, Option, Result, Ok, Err}
+use Rattle.std.specs.Option.{option_map}
+use Rattle.std.specs.Result.{result_ok}
 use Rattle.minidump_bytes.specs.declared.told.Told.{Told}
 use Rattle.minidump_bytes.specs.Told.{PutsAll, PutsBeginning, has_failed}
 use Rattle.minidump_format.specs.declared.error.Error.{Error}
 use Rattle.minidump_format.specs.declared.error.Error.TheVariants.{OutOfMemory}
 use Rattle.minidump_format.specs.Error.{refusal_name}
-use Rattle.minidump_memory.specs.Unified.{UnifiedRegion}
-use Rattle.minidump.specs.Dump.{Dump}
+use Rattle.minidump_format.specs.declared.format.stream_type.MINIDUMP_STREAM_TYPE.TheVariants.{ModuleListStream}
+use Rattle.minidump_format.specs.StreamType.{number_of}
+use Rattle.minidump_memory.specs.Memory.{region_range}
+use Rattle.minidump_memory.specs.Unified.{UnifiedRegion, unified_regions}
+use Rattle.minidump_modules.specs.Module.{ModuleValue, value_range}
+use Rattle.minidump_modules.specs.ModuleList.{module_list}
+use Rattle.minidump.specs.Dump.{Dump, stream}
 use Rattle.minidump.specs.File.{IsFileDump, IsPathRefusal}
 use Rattle.minidump.specs.Memory.{memories_of_dump}
 use Rattle.minidump.specs.Text.{dump_text}
 use Rattle.mdump.specs.declared.command.Command.{Command}
 use Rattle.mdump.specs.declared.command.Command.TheVariants.{Dir, At}
 use Rattle.mdump.specs.Command.{IsCommand, IsCommandOf}
-use Rattle.mdump.specs.Lines.{IsMemoryAt, memory_line}
+use Rattle.mdump.specs.Lines.{IsAt, Joined, memory_line, module_line}
 
 abbrev pub usage : List ℕ
 usage = codes "usage: mdump dir FILE | at FILE HEXADDRESS | report FILE\n"
@@ -22,17 +29,30 @@ usage = codes "usage: mdump dir FILE | at FILE HEXADDRESS | report FILE\n"
 abbrev pub IsDirectoryText : {F : Type 0} → (F → Option (List ℕ)) → List ℕ → Type 0
 IsDirectoryText remaining text = (dump : Dump) × IsFileDump remaining dump × (text ≡ dump_text dump)
 
--- the line of the region that lies at an address in the memory of a dump
-abbrev pub IsLineOf : Dump → ℕ → List ℕ → Type 0
-IsLineOf dump address text = (found : Option UnifiedRegion) × IsMemoryAt (memories_of_dump dump) address found × (text ≡ memory_line found)
+-- the line of the region that contains an address in the memory of a dump
+abbrev pub IsMemoryLine : Dump → ℕ → List ℕ → Type 0
+IsMemoryLine dump address text =
+    (found : Option UnifiedRegion) × IsAt region_range (option_map unified_regions (memories_of_dump dump)) address found × (text ≡ memory_line found)
+
+-- the modules of a dump, where its list of modules can be read
+abbrev pub modules_of_dump : Dump → Option (List ModuleValue)
+modules_of_dump dump = result_ok (stream (number_of ModuleListStream) module_list dump)
+
+-- the line of the module that contains an address
+abbrev pub IsModuleLine : Dump → ℕ → List ℕ → Type 0
+IsModuleLine dump address text = (found : Option ModuleValue) × IsAt value_range (modules_of_dump dump) address found × (text ≡ module_line found)
+
+-- the lines of what lies at an address
+abbrev pub AreLinesOf : Dump → ℕ → List ℕ → Type 0
+AreLinesOf dump address = Joined (IsMemoryLine dump address) (IsModuleLine dump address)
 
 -- the same of the minidump in a file that was opened
-abbrev pub IsLine : {F : Type 0} → (F → Option (List ℕ)) → ℕ → List ℕ → Type 0
-IsLine remaining address text = (dump : Dump) × IsFileDump remaining dump × IsLineOf dump address text
+abbrev pub AreLines : {F : Type 0} → (F → Option (List ℕ)) → ℕ → List ℕ → Type 0
+AreLines remaining address text = (dump : Dump) × IsFileDump remaining dump × AreLinesOf dump address text
 
 abbrev pub IsTextOf : {F : Type 0} → (F → Option (List ℕ)) → Command → List ℕ → Type 0
 IsTextOf remaining (Dir path) text = IsDirectoryText remaining text
-IsTextOf remaining (At path address) text = IsLine remaining address text
+IsTextOf remaining (At path address) text = AreLines remaining address text
 
 -- the text that words ask for: that of the command that they mean, and of no words the usage
 abbrev pub IsAnswer : {F : Type 0} → (F → Option (List ℕ)) → List (List ℕ) → List ℕ → Type 0

@@ -1,10 +1,11 @@
 -- The lines that the program writes.
-use Rattle.std.specs.Prelude.{◌≡◌, ℕ, List, [], ◌∷◌, codes, Option, Some, None}
+use Rattle.std.specs.Prelude.{◌≡◌, ◌++◌, ℕ, List, [], ◌∷◌, codes, Option, Some, None}
 use Rattle.std.specs.List.{concat}
 use Rattle.minidump_bytes.specs.Piece.{hex}
+use Rattle.minidump_index.specs.declared.range.Range.{Range}
 use Rattle.minidump_index.specs.Lookup.{IsLookedUp}
-use Rattle.minidump_memory.specs.Memory.{region_range}
-use Rattle.minidump_memory.specs.Unified.{UnifiedRegion, UnifiedRegions, unified_regions}
+use Rattle.minidump_memory.specs.Unified.{UnifiedRegion}
+use Rattle.minidump_modules.specs.Module.{ModuleValue}
 
 -- a region of memory, by its first address and its size
 abbrev pub region_line : ℕ → ℕ → List ℕ
@@ -15,7 +16,16 @@ abbrev pub memory_line : Option UnifiedRegion → List ℕ
 memory_line (Some region) = region_line region.base_address region.size
 memory_line None = codes "memory none\n"
 
--- the region that a lookup in the memory of a dump answers, and none of a dump without memory
-abbrev pub IsMemoryAt : Option UnifiedRegions → ℕ → Option UnifiedRegion → Type 0
-IsMemoryAt None address found = found ≡ None
-IsMemoryAt (Some memory) address found = IsLookedUp region_range (unified_regions memory) address found
+-- the module that was found, by its first address, its size and its name, or that there is none
+abbrev pub module_line : Option ModuleValue → List ℕ
+module_line (Some m) = concat (codes "module " ∷ hex m.raw.base_of_image ∷ codes " " ∷ hex m.raw.size_of_image ∷ codes " " ∷ m.name ∷ codes "\n" ∷ [])
+module_line None = codes "module none\n"
+
+-- what a lookup in the list of a dump answers, and none of a dump without the list
+abbrev pub IsAt : {R : Type 0} → (R → Option Range) → Option (List R) → ℕ → Option R → Type 0
+IsAt range (Some regions) address found = IsLookedUp range regions address found
+IsAt range None address found = found ≡ None
+
+-- a line, and then other lines
+abbrev pub Joined : (List ℕ → Type 0) → (List ℕ → Type 0) → List ℕ → Type 0
+Joined IsFirst IsRest text = (first rest : List ℕ) × IsFirst first × IsRest rest × (text ≡ first ++ rest)

@@ -1,8 +1,9 @@
 //! `mdump`, which writes what a minidump holds as text.
 //!
 //! - `mdump dir FILE` writes the header and the directory.
-//! - `mdump at FILE HEXADDRESS` writes the base address and the size of the region of memory that contains
-//!   the address, or `memory none`.
+//! - `mdump at FILE HEXADDRESS` writes two lines: the base address and the size of the region of memory that
+//!   contains the address, or `memory none`; the base address, the size and the name of the module that
+//!   contains it, or `module none`.
 //! - `mdump` alone writes its usage.
 //!
 //! # Errors
@@ -26,7 +27,9 @@
 
 mod address;
 mod command;
+mod list;
 mod memory;
+mod module;
 mod program;
 mod start;
 

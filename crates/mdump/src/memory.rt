@@ -1,9 +1,10 @@
 ghost use Rattle.std.specs.Prelude.{◌≡◌, ◌⊎◌, IfErr, IfOk, string_bytes};
 ghost use Rattle.std.specs.Option.{option_copied, option_map};
-ghost use Rattle.minidump_memory.specs.Unified.{unified_list, unified_region};
+ghost use Rattle.minidump_memory.specs.Memory.{region_range};
+ghost use Rattle.minidump_memory.specs.Unified.{unified_list, unified_region, unified_regions};
 ghost use Rattle.minidump.specs.Seen.{dump_of};
-ghost use Rattle.mdump.specs.Done.{IsLineOf, Writes};
-ghost use Rattle.mdump.specs.Lines.{IsMemoryAt, memory_line, region_line};
+ghost use Rattle.mdump.specs.Done.{IsMemoryLine, Writes};
+ghost use Rattle.mdump.specs.Lines.{IsAt, memory_line, region_line};
 
 use minidump::{Error, Minidump, Told, UnifiedMemory, UnifiedMemoryList};
 use minidump_bytes::{Piece, made};
@@ -18,7 +19,7 @@ pub(crate) fn memory_line<O: Write>(
     address: u64,
     out: &mut Told<O>,
 ) -> Result<(), Error>
-    ensures written { Writes (IsLineOf (dump_of dump.now) address) O.contents out.old out.new result }
+    ensures written { Writes (IsMemoryLine (dump_of dump.now) address) O.contents out.old out.new result }
     ensures refusal { IfErr result (λ e. (e ≡ Error.IoError) ⊎ (e ≡ Error.OutOfMemory)) }
 {
     let memory = dump.get_memory(alloc)?;
@@ -31,7 +32,8 @@ fn memory_at<'s, 'a>(
     memory: Option<&'s UnifiedMemoryList<'a>>,
     address: u64,
 ) -> Option<UnifiedMemory<'s, 'a>>
-    ensures { IsMemoryAt (option_map unified_list (option_copied memory.entry)) address (option_map unified_region result) }
+    ensures { IsAt region_range (option_map unified_regions (option_map unified_list (option_copied memory.entry))) address
+        (option_map unified_region result) }
 {
     memory?.memory_at_address(address)
 }

@@ -1,14 +1,17 @@
-ghost use Rattle.std.specs.Prelude.{◌≡◌, ◌<◌, true, IfErr, IfNone, IfSome, OnErr, length, map, string_bytes};
+ghost use Rattle.std.specs.Prelude.{◌≡◌, ◌<◌, ◌⊎◌, true, IfErr, IfNone, IfSome, OnErr, length, map, string_bytes};
 ghost use Rattle.minidump_bytes.specs.Told.{has_failed};
 ghost use Rattle.minidump_format.specs.Print.{Prints};
 ghost use Rattle.minidump.specs.File.{IsPathRefusal};
+ghost use Rattle.minidump.specs.Seen.{dump_of};
 ghost use Rattle.mdump.specs.Command.{IsCommand};
-ghost use Rattle.mdump.specs.Done.{IsAnswer, IsDirectoryText, IsLine, IsRun, IsTextOf, IsTold, Writes, refusal_line, usage};
+ghost use Rattle.mdump.specs.Done.{AreLines, AreLinesOf, IsAnswer, IsDirectoryText, IsRun, IsTextOf, IsTold, Writes, refusal_line, usage};
 
 use crate::command::Command;
 use crate::memory::memory_line;
+use crate::module::module_line;
 use minidump::{Error, Minidump, Told};
 use minidump_format::put_text;
+use std::alloc::Global;
 use std::io::Write;
 use std::rt::Files;
 
@@ -18,8 +21,8 @@ const USAGE: &str = "usage: mdump dir FILE | at FILE HEXADDRESS | report FILE\n"
 ///
 /// - No arguments: writes the usage to `out`. The status is 0.
 /// - `dir FILE`: writes the header and the directory of the file to `out`. The status is 0.
-/// - `at FILE HEXADDRESS`: writes the region of memory that contains the address to `out`, as a line. The
-///   address is 1 to 16 hexadecimal digits, alone or behind `0x`. The status is 0.
+/// - `at FILE HEXADDRESS`: writes the region of memory that contains the address to `out`, and then the
+///   module, each as a line. The address is 1 to 16 hexadecimal digits, alone or behind `0x`. The status is 0.
 /// - An error: writes its name to `err`. The status is 1. A failure of `out` is the error `IoError`.
 /// - Other arguments: writes the usage to `err`. The status is 2. No file is opened.
 ///
@@ -92,13 +95,27 @@ fn at<R: Files + AllocGlobal, O: Write>(
     address: u64,
     out: &mut Told<O>,
 ) -> Result<(), Error>
-    ensures written { Writes (IsLine R.File.remaining address) O.contents out.old out.new result }
+    ensures written { Writes (AreLines R.File.remaining address) O.contents out.old out.new result }
     ensures refusal { IfErr result (IsPathRefusal R.File.remaining) }
 {
     let alloc = rt.alloc();
     let mut bytes = Vec::new(alloc);
     let dump = Minidump::read_path(rt, alloc, path, &mut bytes)?;
-    memory_line(&dump, alloc, address, out)
+    lines(&dump, alloc, address, out)
+}
+
+// Writes the lines of what lies at the address, one after another.
+fn lines<O: Write>(
+    dump: &Minidump<'_>,
+    alloc: Global,
+    address: u64,
+    out: &mut Told<O>,
+) -> Result<(), Error>
+    ensures written { Writes (AreLinesOf (dump_of dump.now) address) O.contents out.old out.new result }
+    ensures refusal { IfErr result (λ e. (e ≡ Error.IoError) ⊎ (e ≡ Error.OutOfMemory)) }
+{
+    memory_line(dump, alloc, address, out)?;
+    module_line(dump, alloc, address, out)
 }
 
 /// Writes the name of an error to `err`, and returns the status.

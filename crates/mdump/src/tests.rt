@@ -2,8 +2,9 @@ use crate::address::hex_address;
 use crate::memory::region_line;
 use crate::run;
 use crate::start::arguments;
-use minidump::{Endian, Told};
+use minidump::{Endian, MinidumpModule, Told};
 use minidump_synth::SynthMinidump;
+use std::alloc::Global;
 use std::env::{Env, FillError};
 use std::io::{ErrorKind, Write};
 use std::process::Abort;
@@ -11,7 +12,9 @@ use std::rt::Files;
 use std::test::Fail;
 use std::{fs, io};
 
-// The type of the stream that lists memory.
+// The types of the streams that list modules and memory.
+const MODULE_LIST: u32 = 4;
+
 const MEMORY_LIST: u32 = 5;
 
 const USAGE: &str = "usage: mdump dir FILE | at FILE HEXADDRESS | report FILE\n";
@@ -200,7 +203,7 @@ fn answers_at<R: Files + AllocGlobal + Abort>(
 
 #[test]
 fn writes_that_a_dump_without_memory_has_none(rt: HostRuntime) -> Result<(), Fail> {
-    let none = "memory none\n";
+    let none = "memory none\nmodule none\n";
     answers_at(
         &rt,
         "writes_that_a_dump_without_memory_has_none.dmp",
@@ -237,10 +240,10 @@ fn writes_the_first_of_overlapping_regions(rt: HostRuntime) -> Result<(), Fail> 
         "writes_the_first_of_overlapping_regions.dmp",
         &dump.finish()?,
         &[
-            ("0x1a00", "memory 0x1000 0x1000\n"),
-            ("1A00", "memory 0x1000 0x1000\n"),
-            ("2a00", "memory 0x2000 0x1000\n"),
-            ("0x9000", "memory none\n"),
+            ("0x1a00", "memory 0x1000 0x1000\nmodule none\n"),
+            ("1A00", "memory 0x1000 0x1000\nmodule none\n"),
+            ("2a00", "memory 0x2000 0x1000\nmodule none\n"),
+            ("0x9000", "memory none\nmodule none\n"),
         ],
     )
 }
@@ -254,12 +257,59 @@ fn writes_the_region_of_a_64_list(rt: HostRuntime) -> Result<(), Fail> {
         "writes_the_region_of_a_64_list.dmp",
         &dump.finish()?,
         &[
-            ("1233", "memory none\n"),
-            ("1234", "memory 0x1234 0xd\n"),
-            ("1240", "memory 0x1234 0xd\n"),
-            ("1241", "memory none\n"),
+            ("1233", "memory none\nmodule none\n"),
+            ("1234", "memory 0x1234 0xd\nmodule none\n"),
+            ("1240", "memory 0x1234 0xd\nmodule none\n"),
+            ("1241", "memory none\nmodule none\n"),
         ],
     )
+}
+
+// A list of modules, of no memory. The second has the addresses of the first, the third and the fourth share
+// some with it, and the last begins where the first ends.
+fn five_modules(alloc: Global) -> Result<Vec<u8>, Fail> {
+    let mut dump = SynthMinidump::new(alloc, Endian::Little);
+    let mut list = Vec::new(alloc);
+    for (base, size, name) in [
+        (0x1_0000_0000, 0x4000, "module 1"),
+        (0x1_0000_0000, 0x4000, "module 2"),
+        (0x1_0000_0001, 0x4000, "module 3"),
+        (0x1_0000_0001, 0x3000, "module 4"),
+        (0x1_0000_4000, 0x4000, "module 5"),
+    ] {
+        let mut raw = MinidumpModule::new(alloc, base, size, "")?.raw;
+        raw.module_name_rva = dump.add_text16(name);
+        list.push(raw)?;
+    }
+    dump.add_stream(MODULE_LIST, dump.section().list(&list));
+    Ok(dump.finish()?)
+}
+
+#[test]
+fn writes_the_first_of_overlapping_modules(rt: HostRuntime) -> Result<(), Fail> {
+    let path = "writes_the_first_of_overlapping_modules.dmp";
+    let modules = five_modules(rt.alloc())?;
+    answers_at(
+        &rt,
+        path,
+        &modules,
+        &[
+            (
+                "100001000",
+                "memory none\nmodule 0x100000000 0x4000 module 1\n",
+            ),
+            (
+                "0x100005000",
+                "memory none\nmodule 0x100004000 0x4000 module 5\n",
+            ),
+            ("100008000", "memory none\nmodule none\n"),
+        ],
+    )?;
+    // A list of one entry, with no bytes for it.
+    let mut dump = SynthMinidump::new(rt.alloc(), Endian::Little);
+    dump.add_stream(MODULE_LIST, dump.section().u32(1));
+    let none = [("100005000", "memory none\nmodule none\n")];
+    answers_at(&rt, path, &dump.finish()?, &none)
 }
 
 #[test]

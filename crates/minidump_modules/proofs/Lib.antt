@@ -3,7 +3,9 @@ mod FoundLemmas
 mod GuidLemmas
 mod KeptLemmas
 mod ListLemmas
+mod ListedLemmas
 mod NumberLemmas
 mod OrderLemmas
 mod PaddedLemmas
 mod ShownLemmas
+pub mod UnloadedLaws

@@ -74,6 +74,10 @@ identity_of m = record {
 abbrev pub module_identity : MinidumpModule → Identity
 module_identity m = identity_of (module_of m)
 
+-- the addresses of a module as a value
+abbrev pub value_range : ModuleValue → Option Range
+value_range m = range_of m.raw.base_of_image m.raw.size_of_image
+
 -- its addresses
 abbrev pub module_range : MinidumpModule → Option Range
 module_range m = range_of m.raw.base_of_image m.raw.size_of_image

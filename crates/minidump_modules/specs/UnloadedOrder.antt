@@ -1,31 +1,33 @@
 -- Unloaded modules by address. They may overlap: each that has a range is kept.
-use Rattle.std.specs.Prelude.{◌≡◌, ℕ, ◌<◌, ◌&&◌, Bool, List, map, filter, length, Option, All, slice_get, nat_le}
-use Rattle.std.specs.List.{enumerate_from, filter_map}
-use Rattle.std.specs.List.Sorted.{IsPermutation, IsSorted}
-use Rattle.std.specs.Option.{option_map}
-use Rattle.std.specs.Ordering.{nat_cmp, ordering_then}
-use Rattle.std.specs.declared.cmp.Ordering.{Ordering}
-use Rattle.minidump_index.specs.Overlap.{range_cmp}
+use Rattle.std.specs.Prelude.{◌≡◌, ◌↔◌, ℕ, ◌<◌, ◌≤◌, ◌⊎◌, ◌&&◌, Bool, List, map, filter, length, Some, All, AllPairs, Contains, slice_get, nat_le}
+use Rattle.std.specs.List.{filter_map}
+use Rattle.minidump_index.specs.declared.range.Range.{Range}
+use Rattle.minidump_index.specs.Lookup.{HasAddress}
+use Rattle.minidump_index.specs.Overlap.{HasRange, IsBefore}
 use Rattle.minidump_modules.specs.declared.unloaded_module.MinidumpUnloadedModule.{MinidumpUnloadedModule}
 use Rattle.minidump_modules.specs.declared.unloaded_order.Placed.{Placed}
 use Rattle.minidump_modules.specs.UnloadedModule.{unloaded_range}
 
--- the range of a module with its index, if it has one
-abbrev pub placed : ℕ × MinidumpUnloadedModule → Option Placed
-placed p = option_map (λ r. record { range = r; place = p.0 }) (unloaded_range p.1)
-
--- the ranges of modules with their indices
-abbrev pub all_placed : List MinidumpUnloadedModule → List Placed
-all_placed modules = filter_map placed (enumerate_from 0 modules)
+-- each range of a module with its index, once: each stands before each later one
+pub record IsListedBy (StandsBefore : Placed → Placed → Type 0) (modules : List MinidumpUnloadedModule) (order : List Placed) : Type 0 where
+  pub members : (e : Placed) → Contains order e ↔ HasRange (map unloaded_range modules) e.place e.range
+  pub ascending : AllPairs StandsBefore order
 
 -- by start, then by end, then by index
-abbrev pub placed_cmp : Placed → Placed → Ordering
-placed_cmp e f = ordering_then (range_cmp e.range f.range) (nat_cmp e.place f.place)
+abbrev pub Precedes : Placed → Placed → Type 0
+Precedes e f = IsBefore e.range e.place f.range f.place
 
 -- all ranges of modules, in order
-pub record IsOrderOf (modules : List MinidumpUnloadedModule) (order : List Placed) : Type 0 where
-  pub all : IsPermutation (all_placed modules) order
-  pub sorted : IsSorted placed_cmp order
+abbrev pub IsOrderOf : List MinidumpUnloadedModule → List Placed → Type 0
+IsOrderOf = IsListedBy Precedes
+
+-- the same by index alone
+abbrev pub IsByIndex : List MinidumpUnloadedModule → List Placed → Type 0
+IsByIndex = IsListedBy (λ e f. e.place < f.place)
+
+-- each stands before each later one, or is the same
+abbrev pub IsInOrder : List Placed → Type 0
+IsInOrder order = AllPairs (λ e f. Precedes e f ⊎ (e ≡ f)) order
 
 -- each index is one of the list's
 abbrev pub IsInside : {M : Type 0} → List M → List Placed → Type 0
@@ -46,3 +48,25 @@ IsByStart modules given = (order : List Placed) × IsOrderOf modules order × (g
 -- those of them that contain an address
 abbrev pub AreAt : List MinidumpUnloadedModule → ℕ → List MinidumpUnloadedModule → Type 0
 AreAt modules address given = (order : List Placed) × IsOrderOf modules order × (given ≡ modules_of_order modules (filter (has address) order))
+
+-- a module starts before another; or at the same address, and ends no later
+abbrev pub StartsBefore : MinidumpUnloadedModule → MinidumpUnloadedModule → Type 0
+StartsBefore m n =
+    (r s : Range) × (unloaded_range m ≡ Some r) × (unloaded_range n ≡ Some s) × ((r.start < s.start) ⊎ ((r.start ≡ s.start) × (r.end ≤ s.end)))
+
+-- what holds of each list of unloaded modules
+pub record HasUnloadedLaws (modules : List MinidumpUnloadedModule) : Type 0 where
+  -- there is one order by start
+  pub one_order : (given other : List MinidumpUnloadedModule) → IsByStart modules given → IsByStart modules other → given ≡ other
+  -- in it are the modules that have a range, and no others
+  pub ranged : (given : List MinidumpUnloadedModule) (m : MinidumpUnloadedModule) → IsByStart modules given
+      → Contains given m ↔ (Contains modules m × ((r : Range) × (unloaded_range m ≡ Some r)))
+  -- they ascend
+  pub ascending : (given : List MinidumpUnloadedModule) → IsByStart modules given → AllPairs StartsBefore given
+  -- an address has one answer
+  pub one_answer : (address : ℕ) (given other : List MinidumpUnloadedModule) → AreAt modules address given → AreAt modules address other → given ≡ other
+  -- in it are the modules that contain the address, and no others
+  pub found : (address : ℕ) (given : List MinidumpUnloadedModule) (m : MinidumpUnloadedModule) → AreAt modules address given
+      → Contains given m ↔ (Contains modules m × HasAddress unloaded_range address m)
+  -- they ascend
+  pub found_ascend : (address : ℕ) (given : List MinidumpUnloadedModule) → AreAt modules address given → AllPairs StartsBefore given

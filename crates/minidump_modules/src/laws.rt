@@ -1,12 +1,27 @@
 //! Laws of modules, over the definitions that contracts cite.
+ghost use Rattle.std.specs.Prelude.{◌≡◌, ◌↔◌, IsTrue};
 ghost use Rattle.minidump_index.specs.Lookup.{HasRegionLaws};
+ghost use Rattle.minidump_modules.specs.CodeId.{text_of};
 ghost use Rattle.minidump_modules.specs.Module.{module_range};
 ghost use Rattle.minidump_modules.specs.ModuleList.{modules_of};
+ghost use Rattle.minidump_modules.specs.UnloadedOrder.{HasUnloadedLaws};
 
-use crate::MinidumpModuleList;
+use crate::{CodeId, MinidumpModuleList, MinidumpUnloadedModuleList};
 
 /// The laws of a list of modules: how lookups, the order by address and the modules fit together.
 #[tactic(auto, using(minidump_index::proofs::RegionLaws::region_laws))]
 pub fn region_laws()
     ensures { (list : MinidumpModuleList) → HasRegionLaws module_range (modules_of list) }
+{}
+
+/// The laws of a list of unloaded modules: there is one order by start, with exactly the modules that have a
+/// range, and one answer at each address, with exactly those that contain it.
+#[tactic(auto, using(crate::proofs::UnloadedLaws::unloaded_laws))]
+pub fn unloaded_laws()
+    ensures { (list : MinidumpUnloadedModuleList) → HasUnloadedLaws list }
+{}
+
+/// Identifiers of code are equal where their digits are.
+pub fn code_ids_compare_by_their_digits()
+    ensures { (x y : CodeId) → IsTrue (⟦<CodeId as PartialEq>⟧.eq x y) ↔ (text_of x ≡ text_of y) }
 {}

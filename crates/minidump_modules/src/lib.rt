@@ -26,9 +26,10 @@
 //!   of kept modules has binary digits: `module_at_address`, `module_at_address_counted`. The kept ones by
 //!   address, from both ends: `by_addr`. How these fit together: `laws::region_laws`.
 //! - Of unloaded modules all that contain an address are returned, by start, then by end, then by index:
-//!   `modules_at_address`, by `AreAt`; all that have a range: `by_addr`, by `IsByStart`.
+//!   `modules_at_address`, by `AreAt`; all that have a range: `by_addr`, by `IsByStart`. There is one such
+//!   order and one such answer, each with exactly these modules, ascending: `laws::unloaded_laws`.
 //! - A copy is the same module, record or list: each `try_clone`. `==` of `DebugId` holds of equal values
-//!   alone: `Exact`.
+//!   alone: `Exact`; of `CodeId` of equal digits: `laws::code_ids_compare_by_their_digits`.
 //!
 //! What isn't: that a forged count reserves no memory (the contracts show that no `OutOfMemory` is returned
 //! for it). Prints of modules are not there yet.

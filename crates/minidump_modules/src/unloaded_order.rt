@@ -1,7 +1,7 @@
 ghost use Rattle.std.specs.Prelude.{◌≡◌, IfOk};
 ghost use Rattle.std.specs.List.{position};
-ghost use Rattle.std.specs.List.Sorted.{IsPermutation, IsSorted};
-ghost use Rattle.minidump_modules.specs.UnloadedOrder.{IsInside, IsOrderOf, all_placed, has, placed_cmp};
+ghost use Rattle.std.specs.List.Sorted.{IsPermutation};
+ghost use Rattle.minidump_modules.specs.UnloadedOrder.{IsByIndex, IsInOrder, IsInside, IsOrderOf, has};
 
 use crate::MinidumpUnloadedModule;
 use minidump_index::{Range, Region};
@@ -18,8 +18,7 @@ pub struct Placed {
 
 // Collects the modules that have a range, as that range and their index.
 fn all_placed(alloc: Global, modules: &[MinidumpUnloadedModule]) -> Result<Vec<Placed>, AllocError>
-    ensures all { IfOk result (λ v. v.items ≡ all_placed modules.now) }
-    ensures inside { IfOk result (λ v. IsInside modules.now v.items) }
+    ensures { IfOk result (λ v. IsByIndex modules.now v.items) }
 {
     let mut order = Vec::with_capacity(alloc, modules.len())?;
     for (place, module) in modules.iter().enumerate() {
@@ -32,7 +31,7 @@ fn all_placed(alloc: Global, modules: &[MinidumpUnloadedModule]) -> Result<Vec<P
 
 // Sorts ranges by start, then by end, then by index.
 fn sort(order: &mut Vec<Placed>)
-    ensures sorted { IsSorted placed_cmp order.new.items }
+    ensures sorted { IsInOrder order.new.items }
     ensures same { IsPermutation order.old.items order.new.items }
 {
     order.sort_unstable();

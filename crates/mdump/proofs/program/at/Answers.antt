@@ -1,12 +1,12 @@
--- The line of the minidump that was read.
+-- The lines of the minidump that was read.
 use Rattle.minidump.specs.Seen.{dump_of}
-use Rattle.mdump.specs.Done.{IsLine, IsLineOf}
+use Rattle.mdump.specs.Done.{AreLines, AreLinesOf}
 use Rattle.mdump.proofs.PrintLemmas.{path_refusal, writes_wider}
 use Rattle.mdump.proofs.program.at.Goals as goal
 
 pub returns-clause-written : goal.returns-clause-written
-returns-clause-written g c = writes_wider g.O.Write.contents c.args.out.now c.memory_line.new.out (IsLineOf (dump_of c.in_ok-dump.dump) c.args.address) (IsLine g.R.File.Read.remaining c.args.address) c.memory_line.result
-    (λ text line. (dump_of c.in_ok-dump.dump, c.in_ok-dump.ensures, line)) c.memory_line.ensures.written
+returns-clause-written g c = writes_wider g.O.Write.contents c.args.out.now c.lines.new.out (AreLinesOf (dump_of c.in_ok-dump.dump) c.args.address) (AreLines g.R.File.Read.remaining c.args.address) c.lines.result
+    (λ text are. (dump_of c.in_ok-dump.dump, c.in_ok-dump.ensures, are)) c.lines.ensures.written
 
 pub returns-clause-refusal : goal.returns-clause-refusal
-returns-clause-refusal g c = path_refusal g.R.File.Read.remaining c.memory_line.result c.memory_line.ensures.refusal
+returns-clause-refusal g c = path_refusal g.R.File.Read.remaining c.lines.result c.lines.ensures.refusal

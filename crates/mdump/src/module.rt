@@ -1,0 +1,58 @@
+ghost use Rattle.std.specs.Prelude.{◌≡◌, ◌⊎◌, IfErr, IfOk, string_bytes};
+ghost use Rattle.std.specs.Option.{option_copied, option_map};
+ghost use Rattle.minidump_modules.specs.Module.{module_of, value_range};
+ghost use Rattle.minidump_modules.specs.ModuleList.{module_values};
+ghost use Rattle.minidump.specs.Seen.{dump_of};
+ghost use Rattle.mdump.specs.Done.{IsModuleLine, Writes};
+ghost use Rattle.mdump.specs.Lines.{IsAt, module_line};
+
+use crate::list::readable;
+use minidump::{Error, Minidump, MinidumpModule, MinidumpModuleList, Told};
+use minidump_bytes::{Piece, made};
+use minidump_format::put_made;
+use std::alloc::{AllocError, Global};
+use std::io::Write;
+
+// Writes the line of the module that contains the address.
+pub(crate) fn module_line<O: Write>(
+    dump: &Minidump<'_>,
+    alloc: Global,
+    address: u64,
+    out: &mut Told<O>,
+) -> Result<(), Error>
+    ensures written { Writes (IsModuleLine (dump_of dump.now) address) O.contents out.old out.new result }
+    ensures refusal { IfErr result (λ e. (e ≡ Error.IoError) ⊎ (e ≡ Error.OutOfMemory)) }
+{
+    let modules = readable::<MinidumpModuleList>(dump, alloc)?;
+    let found = module_at(modules.as_ref(), address);
+    put_made(out, made_module_line(alloc, found))
+}
+
+// Finds the module that contains the address.
+fn module_at(modules: Option<&MinidumpModuleList>, address: u64) -> Option<&MinidumpModule>
+    ensures { IsAt value_range (option_map module_values (option_copied modules.entry)) address
+        (option_map module_of (option_copied result)) }
+{
+    modules?.module_at_address(address)
+}
+
+// Makes the line of a module, or the line that there is none.
+fn made_module_line(alloc: Global, found: Option<&MinidumpModule>) -> Result<String, AllocError>
+    ensures { IfOk result (λ t. string_bytes t ≡ module_line (option_map module_of (option_copied found.entry))) }
+{
+    match found {
+        Some(module) => made(
+            alloc,
+            &[
+                Piece::Words("module "),
+                Piece::Hex(module.raw.base_of_image),
+                Piece::Words(" "),
+                Piece::Hex(module.raw.size_of_image as u64),
+                Piece::Words(" "),
+                Piece::Words(module.name.as_str()),
+                Piece::Words("\n"),
+            ],
+        ),
+        None => made(alloc, &[Piece::Words("module none\n")]),
+    }
+}
