@@ -47,7 +47,7 @@ impl<'n> CodeNames<'n> {
     pub fn new(
         lists: &'n [(CodeFamily, &'n [(u32, &'n str)])],
     ) -> Result<CodeNames<'n>, CodeNamesError>
-        ensures { MatchResult result (λ names. names ≡ lists_of lists.entry.now) (λ e. IsFirstRefusal lists.entry.now e) }
+        ensures { MatchResult result (λ names. (names ≡ lists_of lists.entry.now) × AreCodeNames lists.entry.now) (λ e. IsFirstRefusal lists.entry.now e) }
     {
         for place in 0..lists.len() {
             let (family, entries) = lists[place];
