@@ -83,11 +83,16 @@ crashpad_of c = record {
   module_list = map module_of c.module_list.items;
 }
 
--- what the bytes of the stream say: a record whose version is not 0, then its dictionary and its MinidumpModuleCrashpadInfoList
+-- the record at the beginning of the stream, whose version is not 0
+unfoldable pub crashpad_record : Endian → List ℕ → Result MINIDUMP_CRASHPAD_INFO Error
+crashpad_record order bytes =
+    and_then (ok_or (record_at crashpad_info order 0 bytes) StreamReadFailure) (λ raw.
+    if raw.version == 0 then Err VersionMismatch else Ok raw)
+
+-- what the bytes of the stream say: its record, then its dictionary and its MinidumpModuleCrashpadInfoList
 unfoldable pub crashpad_in : List ℕ → List ℕ → Endian → Result Crashpad Error
 crashpad_in bytes file order =
-    and_then (ok_or (record_at crashpad_info order 0 bytes) StreamReadFailure) (λ raw.
-    if raw.version == 0 then Err VersionMismatch else
+    and_then (crashpad_record order bytes) (λ raw.
     and_then (text_dictionary order file raw.simple_annotations) (λ simple.
     and_then (tested_list module_link module_in order file raw.module_list) (λ modules.
     Ok (record { raw = raw; simple_annotations = simple; module_list = modules }))))

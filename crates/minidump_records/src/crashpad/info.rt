@@ -1,4 +1,8 @@
 ghost use Rattle.std.specs.Prelude.{◌≡◌, ◌+◌, ◌≤◌};
+ghost use Rattle.minidump_bytes.specs.Source.{bytes_of};
+ghost use Rattle.minidump_bytes.specs.Steps.{after};
+ghost use Rattle.minidump_format.specs.Answer.{Gives};
+ghost use Rattle.minidump_records.specs.CrashpadInfo.{crashpad_record};
 
 use super::MinidumpModuleCrashpadInfo;
 use super::dictionary::read_dictionary;
@@ -16,6 +20,7 @@ use std::collections::BTreeMap;
 /// Crashpad's information on a process and its modules: `MinidumpCrashpadInfo`.
 #[derive(Drop)]
 pub struct MinidumpCrashpadInfo {
+    /// The record at the beginning of the stream.
     pub raw: MINIDUMP_CRASHPAD_INFO,
     /// The texts of the process's dictionary, by key.
     pub simple_annotations: BTreeMap<String, String>,
@@ -23,13 +28,32 @@ pub struct MinidumpCrashpadInfo {
     pub module_list: Vec<MinidumpModuleCrashpadInfo>,
 }
 
+// Reads the record, whose version is not 0.
+#[tactic(auto, unfolding(crate::specs::CrashpadInfo::crashpad_record))]
+fn read_record(
+    bytes: Source<'_>,
+    endian: Endian,
+    steps: &mut Steps,
+) -> Result<MINIDUMP_CRASHPAD_INFO, Error>
+    ensures means { Gives (λ raw. raw) ⊥ result (crashpad_record endian (bytes_of bytes.entry)) }
+    ensures step { steps.new ≡ after steps.old 1 }
+{
+    let raw: MINIDUMP_CRASHPAD_INFO = bytes
+        .record(0, endian, steps)
+        .ok_or(Error::StreamReadFailure)?;
+    if raw.version == 0 {
+        return Err(Error::VersionMismatch);
+    }
+    Ok(raw)
+}
+
 /// Crashpad's `MinidumpCrashpadInfo`: a record, whose version is not 0, then its dictionary and its list of
 /// links to modules.
 impl<'a> MinidumpStream<'a> for MinidumpCrashpadInfo {
-    ghost use Rattle.std.specs.Prelude.{◌+◌, ◌*◌, ◌-◌, ⊤};
+    ghost use Rattle.std.specs.Prelude.{◌+◌, ◌*◌, ◌-◌, IsOk};
     ghost use Rattle.minidump_format.specs.declared.format.stream_type.MINIDUMP_STREAM_TYPE.TheVariants.{CrashpadInfoStream};
     ghost use Rattle.minidump_format.specs.StreamType.{number_of};
-    ghost use Rattle.minidump_records.specs.CrashpadInfo.{Crashpad, crashpad_in, crashpad_of, crashpad_reads};
+    ghost use Rattle.minidump_records.specs.CrashpadInfo.{Crashpad, crashpad_in, crashpad_of, crashpad_reads, crashpad_record};
 
     ghost type_number = { number_of CrashpadInfoStream };
 
@@ -45,7 +69,7 @@ impl<'a> MinidumpStream<'a> for MinidumpCrashpadInfo {
 
     ghost least = { λ bytes order info. crashpad_reads info };
 
-    ghost takes_memory = { λ bytes order. ⊤ };
+    ghost takes_memory = { λ bytes order. IsOk (crashpad_record order bytes) };
 
     fn number_of_type() -> u32 {
         Self::STREAM_TYPE
@@ -60,12 +84,7 @@ impl<'a> MinidumpStream<'a> for MinidumpCrashpadInfo {
         _system_info: Option<&MinidumpSystemInfo>,
         steps: &mut Steps,
     ) -> Result<Self, Error> {
-        let raw: MINIDUMP_CRASHPAD_INFO = bytes
-            .record(0, endian, steps)
-            .ok_or(Error::StreamReadFailure)?;
-        if raw.version == 0 {
-            return Err(Error::VersionMismatch);
-        }
+        let raw = read_record(bytes, endian, steps)?;
         let simple_annotations = read_dictionary::<MINIDUMP_SIMPLE_STRING_DICTIONARY_ENTRY, String>(
             alloc,
             raw.simple_annotations,

@@ -17,6 +17,7 @@ use std::collections::BTreeMap;
 /// Crashpad's information on a module: `MinidumpModuleCrashpadInfo`.
 #[derive(Drop)]
 pub struct MinidumpModuleCrashpadInfo {
+    /// Its record.
     pub raw: MINIDUMP_MODULE_CRASHPAD_INFO,
     /// The index of the module in the module list, as the link has it.
     pub module_index: usize,

@@ -9,14 +9,14 @@ pub returns-in_err-module_list-clause-within : goal.returns-in_err-module_list-c
 returns-in_err-module_list-clause-within c =
     let texts = c.in_ok-simple_annotations.ensures.within in
     let modules = c.in_err-module_list.ensures.within in
-    let one : c.record.new.steps ≤ c.args.steps.now + 1 = omega (arith, c.record.ensures.step) in
-    crashpad_steps c.args.steps.now c.record.new.steps c.read_dictionary.new.steps c.read_list.new.steps texts.0 modules.0 (length (bytes_of c.args.all))
+    let one : c.read_record.new.steps ≤ c.args.steps.now + 1 = omega (arith, c.read_record.ensures.step) in
+    crashpad_steps c.args.steps.now c.read_record.new.steps c.read_dictionary.new.steps c.read_list.new.steps texts.0 modules.0 (length (bytes_of c.args.all))
     (max (length (bytes_of c.args.bytes)) (length (bytes_of c.args.all))) (omega arith) one texts.1 texts.2 modules.1 modules.2
 
 pub returns-clause-within : goal.returns-clause-within
 returns-clause-within c =
     let texts = c.in_ok-simple_annotations.ensures.within in
     let modules = c.in_ok-module_list.ensures.within in
-    let one : c.record.new.steps ≤ c.args.steps.now + 1 = omega (arith, c.record.ensures.step) in
-    crashpad_steps c.args.steps.now c.record.new.steps c.read_dictionary.new.steps c.read_list.new.steps texts.0 modules.0 (length (bytes_of c.args.all))
+    let one : c.read_record.new.steps ≤ c.args.steps.now + 1 = omega (arith, c.read_record.ensures.step) in
+    crashpad_steps c.args.steps.now c.read_record.new.steps c.read_dictionary.new.steps c.read_list.new.steps texts.0 modules.0 (length (bytes_of c.args.all))
     (max (length (bytes_of c.args.bytes)) (length (bytes_of c.args.all))) (omega arith) one texts.1 texts.2 modules.1 modules.2
