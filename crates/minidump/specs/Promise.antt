@@ -6,9 +6,10 @@ use Rattle.std.specs.Prelude.{◌≡◌, ℕ, ◌+◌, ◌-◌, ◌*◌, ◌≤�
 use Rattle.minidump_bytes.specs.declared.endian.Endian.{Endian}
 use Rattle.minidump_format.specs.declared.format.memory.MINIDUMP_MEMORY_DESCRIPTOR.{MINIDUMP_MEMORY_DESCRIPTOR}
 use Rattle.minidump_format.specs.declared.format.memory.MINIDUMP_MEMORY_DESCRIPTOR64.{MINIDUMP_MEMORY_DESCRIPTOR64}
+use Rattle.minidump_format.specs.declared.format.assertion.MINIDUMP_ASSERTION_INFO.{MINIDUMP_ASSERTION_INFO}
 use Rattle.minidump_format.specs.declared.format.thread.MINIDUMP_THREAD_INFO.{MINIDUMP_THREAD_INFO}
 use Rattle.minidump_format.specs.declared.format.stream_type.MINIDUMP_STREAM_TYPE.{MINIDUMP_STREAM_TYPE}
-use Rattle.minidump_format.specs.declared.format.stream_type.MINIDUMP_STREAM_TYPE.TheVariants.{SystemInfoStream, MiscInfoStream, ModuleListStream, MemoryListStream, Memory64ListStream, UnloadedModuleListStream, ThreadInfoListStream, ThreadNamesStream, CrashpadInfoStream, StabilityReportStream}
+use Rattle.minidump_format.specs.declared.format.stream_type.MINIDUMP_STREAM_TYPE.TheVariants.{SystemInfoStream, MiscInfoStream, ModuleListStream, MemoryListStream, Memory64ListStream, UnloadedModuleListStream, ThreadInfoListStream, ThreadNamesStream, CrashpadInfoStream, StabilityReportStream, BreakpadInfoStream, AssertionInfoStream, LinuxCpuInfo, LinuxProcStatus, LinuxLsbRelease, LinuxEnviron, MozMacosBootargsStream, MozLinuxLimits, MozSoftErrors}
 use Rattle.minidump_format.specs.StreamType.{number_of}
 use Rattle.minidump_system.specs.declared.misc_info.RawMiscInfo.{RawMiscInfo}
 use Rattle.minidump_system.specs.MiscInfo.{misc_info_in}
@@ -20,6 +21,12 @@ use Rattle.minidump_modules.specs.Module.{ModuleValue}
 use Rattle.minidump_modules.specs.ModuleList.{module_list}
 use Rattle.minidump_modules.specs.UnloadedModule.{UnloadedValue}
 use Rattle.minidump_modules.specs.UnloadedModuleList.{unloaded_list}
+use Rattle.minidump_records.specs.declared.breakpad_info.MinidumpBreakpadInfo.{MinidumpBreakpadInfo}
+use Rattle.minidump_records.specs.Assertion.{assertion_in}
+use Rattle.minidump_records.specs.BootArgs.{BootArgs, boot_args}
+use Rattle.minidump_records.specs.BreakpadInfo.{breakpad_info_in}
+use Rattle.minidump_records.specs.LinuxTexts.{linux_text}
+use Rattle.minidump_records.specs.SoftErrors.{soft_errors}
 use Rattle.minidump_records.specs.ThreadInfo.{thread_infos}
 use Rattle.minidump_records.specs.ThreadNames.{ThreadName, thread_names}
 use Rattle.minidump_records.specs.CrashpadInfo.{Crashpad, crashpad_in}
@@ -71,6 +78,33 @@ IsThreadInfoList = IsReadAs ThreadInfoListStream (λ bytes file order system. th
 
 abbrev pub IsCrashpadInfo : ℕ → Meaning Crashpad → (ℕ → ℕ) → Type 0
 IsCrashpadInfo = IsReadInSquare CrashpadInfoStream (λ bytes file order system. crashpad_in bytes file order)
+
+abbrev pub IsBreakpadInfo : ℕ → Meaning MinidumpBreakpadInfo → (ℕ → ℕ) → Type 0
+IsBreakpadInfo = IsReadAs BreakpadInfoStream (λ bytes file order system. breakpad_info_in bytes order)
+
+abbrev pub IsAssertion : ℕ → Meaning MINIDUMP_ASSERTION_INFO → (ℕ → ℕ) → Type 0
+IsAssertion = IsReadAs AssertionInfoStream (λ bytes file order system. assertion_in bytes order)
+
+abbrev pub IsMacBootargs : ℕ → Meaning BootArgs → (ℕ → ℕ) → Type 0
+IsMacBootargs = IsReadAs MozMacosBootargsStream (λ bytes file order system. boot_args bytes file order)
+
+abbrev pub IsSoftErrors : ℕ → Meaning (List ℕ) → (ℕ → ℕ) → Type 0
+IsSoftErrors = IsReadAs MozSoftErrors (λ bytes file order system. soft_errors bytes)
+
+abbrev pub IsLinuxCpuInfo : ℕ → Meaning (List ℕ) → (ℕ → ℕ) → Type 0
+IsLinuxCpuInfo = IsReadAs LinuxCpuInfo (λ bytes file order system. linux_text bytes)
+
+abbrev pub IsLinuxProcStatus : ℕ → Meaning (List ℕ) → (ℕ → ℕ) → Type 0
+IsLinuxProcStatus = IsReadAs LinuxProcStatus (λ bytes file order system. linux_text bytes)
+
+abbrev pub IsLinuxLsbRelease : ℕ → Meaning (List ℕ) → (ℕ → ℕ) → Type 0
+IsLinuxLsbRelease = IsReadAs LinuxLsbRelease (λ bytes file order system. linux_text bytes)
+
+abbrev pub IsLinuxEnviron : ℕ → Meaning (List ℕ) → (ℕ → ℕ) → Type 0
+IsLinuxEnviron = IsReadAs LinuxEnviron (λ bytes file order system. linux_text bytes)
+
+abbrev pub IsLinuxProcLimits : ℕ → Meaning (List ℕ) → (ℕ → ℕ) → Type 0
+IsLinuxProcLimits = IsReadAs MozLinuxLimits (λ bytes file order system. linux_text bytes)
 
 abbrev pub IsStabilityReport : ℕ → Meaning Report → (ℕ → ℕ) → Type 0
 IsStabilityReport = IsReadAs StabilityReportStream (λ bytes file order system. stability_report bytes)

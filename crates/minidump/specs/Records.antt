@@ -5,3 +5,10 @@ pub use Rattle.minidump_records.specs.Annotation
 pub use Rattle.minidump_records.specs.CrashpadInfo
 pub use Rattle.minidump_records.specs.Dictionary
 pub use Rattle.minidump_records.specs.Parts
+pub use Rattle.minidump_records.specs.BreakpadInfo
+pub use Rattle.minidump_records.specs.Assertion
+pub use Rattle.minidump_records.specs.BootArgs
+pub use Rattle.minidump_records.specs.SoftErrors
+pub use Rattle.minidump_records.specs.LinuxPairs
+pub use Rattle.minidump_records.specs.LinuxTexts
+pub use Rattle.minidump_records.specs.Alone

@@ -6,7 +6,7 @@ ghost use Rattle.minidump_format.specs.declared.format.header.MINIDUMP_DIRECTORY
 ghost use Rattle.minidump.specs.declared.directory.DecidingEntry.{DecidingEntry};
 ghost use Rattle.minidump.specs.Directory.{deciding, deciding_below, directory};
 ghost use Rattle.minidump.specs.Dump.{Dump, raw_stream, spanned, streams_of};
-ghost use Rattle.minidump.specs.Promise.{IsCrashpadInfo, IsMemory64List, IsMemoryList, IsMiscInfo, IsModuleList, IsStabilityReport, IsSystemInfo, IsThreadInfoList, IsThreadNames, IsUnloadedModuleList};
+ghost use Rattle.minidump.specs.Promise.{IsAssertion, IsBreakpadInfo, IsCrashpadInfo, IsLinuxCpuInfo, IsLinuxEnviron, IsLinuxLsbRelease, IsLinuxProcLimits, IsLinuxProcStatus, IsMacBootargs, IsMemory64List, IsMemoryList, IsMiscInfo, IsModuleList, IsSoftErrors, IsStabilityReport, IsSystemInfo, IsThreadInfoList, IsThreadNames, IsUnloadedModuleList};
 ghost use Rattle.minidump.specs.Streams.{unimplemented_view, unknown_view};
 ghost use Rattle.minidump_bytes.specs.Span.{span};
 
@@ -25,11 +25,16 @@ pub use minidump_modules::laws::region_laws as module_laws;
 use minidump_modules::{MinidumpModuleList, MinidumpUnloadedModuleList};
 pub use minidump_reason::laws::{codes_have_their_listed_names, wide_codes_are_unlisted};
 pub use minidump_records::laws::{
-    an_annotation_need_not_be_the_same_as_itself, dictionaries_have_the_last_values,
-    last_info_of_a_thread_is_found, last_name_of_a_thread_is_kept,
-    thread_infos_depend_on_their_stream_alone,
+    an_annotation_need_not_be_the_same_as_itself, breakpad_info_clones_are_the_same,
+    dictionaries_have_the_last_values, last_info_of_a_thread_is_found,
+    last_name_of_a_thread_is_kept, streams_depend_on_their_bytes_alone,
 };
-use minidump_records::{MinidumpCrashpadInfo, MinidumpThreadInfoList, MinidumpThreadNames};
+use minidump_records::{
+    MinidumpAssertion, MinidumpBreakpadInfo, MinidumpCrashpadInfo, MinidumpLinuxCpuInfo,
+    MinidumpLinuxEnviron, MinidumpLinuxLsbRelease, MinidumpLinuxProcLimits,
+    MinidumpLinuxProcStatus, MinidumpMacBootargs, MinidumpSoftErrors, MinidumpThreadInfoList,
+    MinidumpThreadNames,
+};
 use minidump_stability::StabilityReport;
 pub use minidump_stability::laws::{
     fields_are_what_bytes_spell, report_depends_on_its_stream_alone, report_is_what_its_fields_mean,
@@ -86,6 +91,24 @@ pub fn streams_are_read_as_promised()
         in IsThreadInfoList T.type_number T.meaning T.limit }
     ensures crashpad_info { let T = ⟦<MinidumpCrashpadInfo as MinidumpStream<'static>>⟧
         in IsCrashpadInfo T.type_number T.meaning T.limit }
+    ensures breakpad_info { let T = ⟦<MinidumpBreakpadInfo as MinidumpStream<'static>>⟧
+        in IsBreakpadInfo T.type_number T.meaning T.limit }
+    ensures assertion { let T = ⟦<MinidumpAssertion as MinidumpStream<'static>>⟧
+        in IsAssertion T.type_number T.meaning T.limit }
+    ensures mac_bootargs { let T = ⟦<MinidumpMacBootargs as MinidumpStream<'static>>⟧
+        in IsMacBootargs T.type_number T.meaning T.limit }
+    ensures soft_errors { let T = ⟦<MinidumpSoftErrors<'static> as MinidumpStream<'static>>⟧
+        in IsSoftErrors T.type_number T.meaning T.limit }
+    ensures linux_cpu_info { let T = ⟦<MinidumpLinuxCpuInfo<'static> as MinidumpStream<'static>>⟧
+        in IsLinuxCpuInfo T.type_number T.meaning T.limit }
+    ensures linux_proc_status { let T = ⟦<MinidumpLinuxProcStatus<'static> as MinidumpStream<'static>>⟧
+        in IsLinuxProcStatus T.type_number T.meaning T.limit }
+    ensures linux_lsb_release { let T = ⟦<MinidumpLinuxLsbRelease<'static> as MinidumpStream<'static>>⟧
+        in IsLinuxLsbRelease T.type_number T.meaning T.limit }
+    ensures linux_environ { let T = ⟦<MinidumpLinuxEnviron<'static> as MinidumpStream<'static>>⟧
+        in IsLinuxEnviron T.type_number T.meaning T.limit }
+    ensures linux_proc_limits { let T = ⟦<MinidumpLinuxProcLimits<'static> as MinidumpStream<'static>>⟧
+        in IsLinuxProcLimits T.type_number T.meaning T.limit }
     ensures stability_report { let T = ⟦<StabilityReport as MinidumpStream<'static>>⟧
         in IsStabilityReport T.type_number T.meaning T.limit }
 {}

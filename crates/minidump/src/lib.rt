@@ -2,11 +2,9 @@
 //!
 //! - [`Minidump`] is a dump: `read` takes its bytes, `read_path` a path. `header` and `endian` are its
 //!   fields.
-//! - `get_stream` reads a stream by its type: [`MinidumpSystemInfo`], [`MinidumpMiscInfo`],
-//!   [`MinidumpMemoryList`], [`MinidumpMemory64List`], [`MinidumpModuleList`], [`MinidumpUnloadedModuleList`],
-//!   [`MinidumpThreadNames`], [`MinidumpThreadInfoList`], [`MinidumpCrashpadInfo`], [`StabilityReport`], or a
-//!   caller's own [`MinidumpStream`]. `get_raw_stream` lends the bytes of any stream, `get_memory` the memory of
-//!   the dump by either list.
+//! - `get_stream` reads a stream by its type: each type below that implements [`MinidumpStream`], as
+//!   [`MinidumpSystemInfo`], [`MinidumpModuleList`] or [`MinidumpThreadNames`], or a caller's own.
+//!   `get_raw_stream` lends the bytes of any stream, `get_memory` the memory of the dump by either list.
 //! - [`CrashReason`] is why a process crashed, in the words of the caller's own lists of names.
 //! - [`MinidumpContext`] decodes the registers of a thread from the bytes of its context.
 //! - `all_streams`, `unknown_streams` and `unimplemented_streams` list the streams. `print` writes the
@@ -75,8 +73,10 @@ pub use minidump_modules::{
 };
 pub use minidump_reason::{CodeFamily, CodeNames, CodeNamesError, CrashReason};
 pub use minidump_records::{
-    MinidumpAnnotation, MinidumpCrashpadInfo, MinidumpModuleCrashpadInfo, MinidumpThreadInfo,
-    MinidumpThreadInfoList, MinidumpThreadNames,
+    LinuxPairs, MinidumpAnnotation, MinidumpAssertion, MinidumpBreakpadInfo, MinidumpCrashpadInfo,
+    MinidumpLinuxCpuInfo, MinidumpLinuxEnviron, MinidumpLinuxLsbRelease, MinidumpLinuxProcLimits,
+    MinidumpLinuxProcStatus, MinidumpMacBootargs, MinidumpModuleCrashpadInfo, MinidumpSoftErrors,
+    MinidumpThreadInfo, MinidumpThreadInfoList, MinidumpThreadNames,
 };
 pub use minidump_stability::{
     ProcessState, StabilityReport, SystemMemoryState, process_state, system_memory_state,

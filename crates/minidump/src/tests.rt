@@ -4,6 +4,7 @@ mod memory;
 mod modules;
 mod records;
 mod streams;
+mod texts;
 
 use crate::format::{MINIDUMP_LOCATION_DESCRIPTOR, MINIDUMP_STREAM_TYPE};
 use crate::{Endian, Error, Minidump, Steps, Told, stream_vendor};

@@ -5,3 +5,10 @@ pub mod Annotation
 pub mod CrashpadInfo
 pub mod ThreadNames
 pub mod ThreadInfo
+pub mod BreakpadInfo
+pub mod Assertion
+pub mod BootArgs
+pub mod SoftErrors
+pub mod LinuxPairs
+pub mod LinuxTexts
+pub mod Alone

@@ -1,15 +1,19 @@
 //! Laws of the streams of this crate, over the definitions that their contracts cite.
-ghost use Rattle.std.specs.Prelude.{◌≡◌, ◌≢◌, ◌↔◌, ◌<◌, ◌^◌, ◌++◌, ◌∷◌, ℕ, All, List, Option, Some, []};
-ghost use Rattle.minidump_bytes.specs.declared.endian.Endian.{Endian};
+ghost use Rattle.std.specs.Prelude.{◌≡◌, ◌≢◌, ◌↔◌, ◌<◌, ◌^◌, ◌++◌, ◌∷◌, ℕ, All, List, Some, []};
 ghost use Rattle.minidump_format.specs.declared.format.crashpad.MINIDUMP_ANNOTATION.{MINIDUMP_ANNOTATION};
 ghost use Rattle.minidump_records.specs.declared.thread_info.MinidumpThreadInfo.{MinidumpThreadInfo};
+ghost use Rattle.minidump_records.specs.declared.breakpad_info.MinidumpBreakpadInfo.{MinidumpBreakpadInfo};
+ghost use Rattle.minidump_records.specs.Alone.{DependsOnItsBytesAlone};
 ghost use Rattle.minidump_records.specs.Annotation.{Annotation, AreSame, unsupported, user_defined};
 ghost use Rattle.minidump_records.specs.Dictionary.{IsDictionaryOf, put_all};
 ghost use Rattle.minidump_records.specs.ThreadInfo.{last_info};
 ghost use Rattle.minidump_records.specs.ThreadNames.{ThreadName, last_names, name_at};
-ghost use Rattle.minidump_system.specs.SystemInfo.{System};
 
-use crate::{MinidumpThreadInfo, MinidumpThreadInfoList};
+use crate::{
+    MinidumpAssertion, MinidumpBreakpadInfo, MinidumpLinuxCpuInfo, MinidumpLinuxEnviron,
+    MinidumpLinuxLsbRelease, MinidumpLinuxProcLimits, MinidumpLinuxProcStatus, MinidumpSoftErrors,
+    MinidumpThreadInfo, MinidumpThreadInfoList,
+};
 use minidump_system::MinidumpStream;
 
 /// The entries of a dictionary: the keys ascend by their bytes, and each has the value of its last pair. No
@@ -39,9 +43,21 @@ pub fn last_info_of_a_thread_is_found()
         → last_info (before ++ (i ∷ later)) i.raw.thread_id ≡ Some i }
 {}
 
-/// The information of threads depends on its stream and the byte order alone.
-pub fn thread_infos_depend_on_their_stream_alone()
-    ensures { (bytes all other : List ℕ) (order : Endian) (s t : Option System)
-        → ⟦<MinidumpThreadInfoList as MinidumpStream<'static>>⟧.meaning bytes all order s
-        ≡ ⟦<MinidumpThreadInfoList as MinidumpStream<'static>>⟧.meaning bytes other order t }
+/// These streams depend on their bytes and the byte order alone, not on the rest of the file or the system
+/// information.
+pub fn streams_depend_on_their_bytes_alone()
+    ensures thread_infos { DependsOnItsBytesAlone ⟦<MinidumpThreadInfoList as MinidumpStream<'static>>⟧.meaning }
+    ensures breakpad_info { DependsOnItsBytesAlone ⟦<MinidumpBreakpadInfo as MinidumpStream<'static>>⟧.meaning }
+    ensures assertion { DependsOnItsBytesAlone ⟦<MinidumpAssertion as MinidumpStream<'static>>⟧.meaning }
+    ensures soft_errors { DependsOnItsBytesAlone ⟦<MinidumpSoftErrors<'static> as MinidumpStream<'static>>⟧.meaning }
+    ensures cpu_info { DependsOnItsBytesAlone ⟦<MinidumpLinuxCpuInfo<'static> as MinidumpStream<'static>>⟧.meaning }
+    ensures proc_status { DependsOnItsBytesAlone ⟦<MinidumpLinuxProcStatus<'static> as MinidumpStream<'static>>⟧.meaning }
+    ensures lsb_release { DependsOnItsBytesAlone ⟦<MinidumpLinuxLsbRelease<'static> as MinidumpStream<'static>>⟧.meaning }
+    ensures environ { DependsOnItsBytesAlone ⟦<MinidumpLinuxEnviron<'static> as MinidumpStream<'static>>⟧.meaning }
+    ensures proc_limits { DependsOnItsBytesAlone ⟦<MinidumpLinuxProcLimits<'static> as MinidumpStream<'static>>⟧.meaning }
+{}
+
+/// A clone of Breakpad's information is the same value.
+pub fn breakpad_info_clones_are_the_same()
+    ensures { (x y : MinidumpBreakpadInfo) → ⟦<MinidumpBreakpadInfo as Clone>⟧.is_clone x y → y ≡ x }
 {}

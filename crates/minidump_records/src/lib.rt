@@ -6,12 +6,17 @@
 //! - [`MinidumpThreadInfoList`] has a [`MinidumpThreadInfo`] for each thread.
 //! - [`MinidumpCrashpadInfo`] is Crashpad's information on a process, with a [`MinidumpModuleCrashpadInfo`] for
 //!   each link to a module; a [`MinidumpAnnotation`] is the value of a named annotation.
+//! - [`MinidumpBreakpadInfo`], [`MinidumpAssertion`] and [`MinidumpMacBootargs`] are one record each,
+//!   [`MinidumpSoftErrors`] is one text.
+//! - [`MinidumpLinuxCpuInfo`], [`MinidumpLinuxProcStatus`], [`MinidumpLinuxLsbRelease`], [`MinidumpLinuxEnviron`]
+//!   and [`MinidumpLinuxProcLimits`] are texts that Linux wrote; [`LinuxPairs`] yields the pairs of one.
 //! - [`laws`] has what holds of all this beyond single calls.
 //!
 //! # Errors
 //!
 //! `StreamReadFailure` or `StreamSizeMismatch` where the stream is malformed, and `OutOfMemory` where an
-//! allocation fails. A name that is no text is left out. `VersionMismatch` for Crashpad's information of version 0.
+//! allocation fails. A name that is no text is left out. `VersionMismatch` for Crashpad's information of version 0,
+//! `DataError` for soft errors that are not UTF-8. Linux texts have no error.
 //!
 //! # What is proved
 //!
@@ -20,23 +25,43 @@
 //!   takes at least one step for the count, for each entry and for its name.
 //! - All thread information stays in the order of the file, and the last of an id is found:
 //!   `MinidumpThreadInfoList::read`, by `thread_infos`; `get_thread_info`;
-//!   `laws::last_info_of_a_thread_is_found`, `thread_infos_depend_on_their_stream_alone`.
+//!   `laws::last_info_of_a_thread_is_found`.
 //! - Crashpad's dictionaries, lists and modules are what their locations hold, or the first error in the order of
 //!   the records: `MinidumpCrashpadInfo::read`, by `crashpad_in`; `MinidumpModuleCrashpadInfo::read`, by
 //!   `module_in`. A key has its last value: `laws::dictionaries_have_the_last_values`. A read takes at least one
 //!   step for each record, location, count, entry that is kept and text. Copies of annotations are the same:
 //!   `try_clone`. `same_as` is no equality: `laws::an_annotation_need_not_be_the_same_as_itself`.
+//! - Breakpad's information, an assertion and the boot arguments are their records, with the fields whose flags
+//!   are set, the texts up to a NUL, and the text at the RVA: `breakpad_info_in`, `assertion_in`, `boot_args`;
+//!   `MinidumpAssertion::expression`, `function`, `file`. Soft errors are the stream as UTF-8: `soft_errors`.
+//! - A Linux text is its stream. Its iterator yields exactly the pairs of its lines, or the lines, and ends:
+//!   `iter` of each, by `pairs_of`; `LinuxPairs::next`.
+//! - What depends on its stream and the byte order alone: `laws::streams_depend_on_their_bytes_alone`. Copies
+//!   are the same: `try_clone`, `laws::breakpad_info_clones_are_the_same`.
 //! - Each read takes at most n + 7 steps, of Crashpad's information (n + 8)² - 1: `limit` of each stream.
 //!
 //! What isn't: that a forged count reserves no memory (the contracts show that no `OutOfMemory` is returned
 //! for it).
 #![tactic(auto)]
 
+mod assertion;
+mod boot_args;
+mod breakpad_info;
 mod crashpad;
 pub mod laws;
+mod linux;
+mod soft_errors;
 mod thread_info;
 mod thread_names;
 
+pub use assertion::MinidumpAssertion;
+pub use boot_args::MinidumpMacBootargs;
+pub use breakpad_info::MinidumpBreakpadInfo;
 pub use crashpad::{MinidumpAnnotation, MinidumpCrashpadInfo, MinidumpModuleCrashpadInfo};
+pub use linux::{
+    LinuxPairs, MinidumpLinuxCpuInfo, MinidumpLinuxEnviron, MinidumpLinuxLsbRelease,
+    MinidumpLinuxProcLimits, MinidumpLinuxProcStatus,
+};
+pub use soft_errors::MinidumpSoftErrors;
 pub use thread_info::{MinidumpThreadInfo, MinidumpThreadInfoList};
 pub use thread_names::MinidumpThreadNames;

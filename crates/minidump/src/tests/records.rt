@@ -74,14 +74,18 @@ fn finds_the_last_information_of_a_thread(rt: HostRuntime) -> Result<(), Fail> {
 }
 
 // A dump with a stream of these bytes.
-fn dump_of(alloc: Global, stream_type: u32, stream: &[u8]) -> Result<Vec<u8>, AllocError> {
+pub(super) fn dump_of(
+    alloc: Global,
+    stream_type: u32,
+    stream: &[u8],
+) -> Result<Vec<u8>, AllocError> {
     let mut dump = SynthMinidump::new(alloc, Endian::Little);
     dump.add_stream(stream_type, &stream);
     dump.finish()
 }
 
 // The error of a stream of a dump.
-fn error_of<'a, S: MinidumpStream<'a> + Drop>(
+pub(super) fn error_of<'a, S: MinidumpStream<'a> + Drop>(
     alloc: Global,
     bytes: &'a [u8],
 ) -> Result<Option<Error>, Error> {

@@ -2,8 +2,10 @@ use super::BOTH;
 use crate::format::MINIDUMP_SYSTEM_INFO;
 use crate::system_info::{Cpu, Os};
 use crate::{
-    Endian, Error, Minidump, MinidumpCrashpadInfo, MinidumpMemory64List, MinidumpMemoryList,
-    MinidumpMiscInfo, MinidumpModuleList, MinidumpStream, MinidumpSystemInfo,
+    Endian, Error, Minidump, MinidumpAssertion, MinidumpBreakpadInfo, MinidumpCrashpadInfo,
+    MinidumpLinuxCpuInfo, MinidumpLinuxEnviron, MinidumpLinuxLsbRelease, MinidumpLinuxProcLimits,
+    MinidumpLinuxProcStatus, MinidumpMacBootargs, MinidumpMemory64List, MinidumpMemoryList,
+    MinidumpMiscInfo, MinidumpModuleList, MinidumpSoftErrors, MinidumpStream, MinidumpSystemInfo,
     MinidumpThreadInfoList, MinidumpThreadNames, MinidumpUnloadedModuleList, StabilityReport,
     Steps, Told,
 };
@@ -324,6 +326,15 @@ fn types_of_streams_have_their_numbers(rt: HostRuntime) -> Result<(), Fail> {
     assert!(rt; has_number::<MinidumpThreadInfoList>(17));
     assert!(rt; has_number::<MinidumpThreadNames>(24));
     assert!(rt; has_number::<MinidumpCrashpadInfo>(0x4350_0001));
+    assert!(rt; has_number::<MinidumpBreakpadInfo>(0x4767_0001));
+    assert!(rt; has_number::<MinidumpAssertion>(0x4767_0002));
+    assert!(rt; has_number::<MinidumpLinuxCpuInfo>(0x4767_0003));
+    assert!(rt; has_number::<MinidumpLinuxProcStatus>(0x4767_0004));
+    assert!(rt; has_number::<MinidumpLinuxLsbRelease>(0x4767_0005));
+    assert!(rt; has_number::<MinidumpLinuxEnviron>(0x4767_0007));
+    assert!(rt; has_number::<MinidumpMacBootargs>(0x4d7a_0002));
+    assert!(rt; has_number::<MinidumpLinuxProcLimits>(0x4d7a_0003));
+    assert!(rt; has_number::<MinidumpSoftErrors>(0x4d7a_0004));
     assert!(rt; has_number::<StabilityReport>(STABILITY_REPORT));
     Ok(())
 }

@@ -1,0 +1,18 @@
+-- An assertion that failed: Breakpad's MDRawAssertionInfo.
+use Rattle.std.specs.Prelude.{ℕ, List, Result}
+use Rattle.std.specs.Option.{ok_or}
+use Rattle.minidump_bytes.specs.declared.endian.Endian.{Endian}
+use Rattle.minidump_bytes.specs.Span.{record_at}
+use Rattle.minidump_format.specs.declared.error.Error.{Error}
+use Rattle.minidump_format.specs.declared.error.Error.TheVariants.{StreamReadFailure}
+use Rattle.minidump_format.specs.declared.format.assertion.MINIDUMP_ASSERTION_INFO.{MINIDUMP_ASSERTION_INFO}
+use Rattle.minidump_format.specs.Assertion.{assertion_info}
+use Rattle.minidump_records.specs.declared.assertion.MinidumpAssertion.{MinidumpAssertion}
+
+-- the record of a value
+abbrev pub assertion_of : MinidumpAssertion → MINIDUMP_ASSERTION_INFO
+assertion_of a = a.raw
+
+-- Breakpad's MDRawAssertionInfo: a record
+abbrev pub assertion_in : List ℕ → Endian → Result MINIDUMP_ASSERTION_INFO Error
+assertion_in bytes order = ok_or (record_at assertion_info order 0 bytes) StreamReadFailure

@@ -1,0 +1,25 @@
+-- Texts that Linux wrote, as a dump keeps them: pairs of a key and a value, line by line.
+use Rattle.std.specs.Prelude.{ℕ, ◌-◌, ◌==◌, ◌&&◌, Bool, List, length, slice_index, slice_range, Option, nat_le, if◌then◌else◌}
+use Rattle.std.specs.List.{filter_map}
+use Rattle.std.specs.Option.{option_map}
+use Rattle.minidump_bytes.specs.LinuxOsStr.{cut_first, text_lines, trimmed}
+
+-- a quote at each end, which are two bytes
+abbrev is_quoted : List ℕ → Bool
+is_quoted text = nat_le 2 (length text) && (slice_index text 0 == 34 && slice_index text (length text - 1) == 34)
+
+-- the text without the quotes at its ends, where it has both
+unfoldable pub unquoted : List ℕ → List ℕ
+unquoted text = if is_quoted text then slice_range text 1 (length text - 1) else text
+
+-- a side of a pair: trimmed, and then without quotes
+abbrev pub pair_side : List ℕ → List ℕ
+pair_side text = unquoted (trimmed text)
+
+-- the pair of a line: its sides before and behind the first separator; none where there is no separator
+abbrev pub pair_of : ℕ → List ℕ → Option (List ℕ × List ℕ)
+pair_of separator line = option_map (λ sides. (pair_side sides.0, pair_side sides.1)) (cut_first separator line)
+
+-- the pairs of a text, in the order of its lines
+abbrev pub pairs_of : ℕ → List ℕ → List (List ℕ × List ℕ)
+pairs_of separator text = filter_map (pair_of separator) (text_lines text)

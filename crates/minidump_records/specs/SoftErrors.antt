@@ -1,0 +1,15 @@
+-- Errors that the writer of a dump met and went on after: Mozilla's stream of JSON in UTF-8.
+use Rattle.std.specs.Prelude.{ℕ, List, Result}
+use Rattle.std.specs.Option.{ok_or}
+use Rattle.minidump_bytes.specs.Text8.{utf8_text}
+use Rattle.minidump_format.specs.declared.error.Error.{Error}
+use Rattle.minidump_format.specs.declared.error.Error.TheVariants.{DataError}
+use Rattle.minidump_records.specs.declared.soft_errors.MinidumpSoftErrors.{MinidumpSoftErrors}
+
+-- the text of a value
+abbrev pub soft_errors_of : MinidumpSoftErrors → List ℕ
+soft_errors_of e = e.text.now
+
+-- the stream is one text
+abbrev pub soft_errors : List ℕ → Result (List ℕ) Error
+soft_errors bytes = ok_or (utf8_text bytes) DataError

@@ -1,0 +1,88 @@
+ghost use Rattle.std.specs.Prelude.{◌≡◌, IfOk, IsOkUnless, string_bytes};
+ghost use Rattle.std.specs.Option.{option_map};
+ghost use Rattle.minidump_bytes.specs.Text16.{text_before_nul};
+
+use minidump_bytes::{Endian, Source, Steps, text_before_nul};
+use minidump_format::Error;
+use minidump_format::format::MINIDUMP_ASSERTION_INFO;
+use minidump_system::{MinidumpStream, MinidumpSystemInfo};
+use std::alloc::Global;
+
+/// An assertion that failed, which Breakpad writes.
+#[derive(Drop)]
+pub struct MinidumpAssertion {
+    /// The record of the stream.
+    pub raw: MINIDUMP_ASSERTION_INFO,
+}
+
+/// The texts, each up to its first NUL, or `Ok(None)` if a surrogate lacks its partner before that. The only
+/// error is [`Error::OutOfMemory`].
+impl MinidumpAssertion {
+    /// Returns the assertion.
+    pub fn expression(&self, alloc: Global) -> Result<Option<String>, Error>
+        ensures value { IfOk result (λ text. option_map string_bytes text ≡ text_before_nul self.now.raw.expression) }
+        ensures memory { IsOkUnless result Error.OutOfMemory }
+    {
+        Ok(text_before_nul(alloc, &self.raw.expression)?)
+    }
+
+    /// Returns the function that has the assertion.
+    pub fn function(&self, alloc: Global) -> Result<Option<String>, Error>
+        ensures value { IfOk result (λ text. option_map string_bytes text ≡ text_before_nul self.now.raw.function) }
+        ensures memory { IsOkUnless result Error.OutOfMemory }
+    {
+        Ok(text_before_nul(alloc, &self.raw.function)?)
+    }
+
+    /// Returns the source file that has the assertion.
+    pub fn file(&self, alloc: Global) -> Result<Option<String>, Error>
+        ensures value { IfOk result (λ text. option_map string_bytes text ≡ text_before_nul self.now.raw.file) }
+        ensures memory { IsOkUnless result Error.OutOfMemory }
+    {
+        Ok(text_before_nul(alloc, &self.raw.file)?)
+    }
+}
+
+/// Breakpad's `MDRawAssertionInfo`. `StreamReadFailure` if the stream is shorter than that. Takes no memory.
+impl<'a> MinidumpStream<'a> for MinidumpAssertion {
+    ghost use Rattle.minidump_format.specs.declared.format.assertion.MINIDUMP_ASSERTION_INFO.{MINIDUMP_ASSERTION_INFO};
+    ghost use Rattle.minidump_format.specs.declared.format.stream_type.MINIDUMP_STREAM_TYPE.TheVariants.{AssertionInfoStream};
+    ghost use Rattle.minidump_format.specs.StreamType.{number_of};
+    ghost use Rattle.minidump_records.specs.Assertion.{assertion_in, assertion_of};
+
+    ghost type_number = { number_of AssertionInfoStream };
+
+    const STREAM_TYPE: u32 = 0x4767_0002;
+
+    ghost Value = { MINIDUMP_ASSERTION_INFO };
+
+    ghost view = { assertion_of };
+
+    ghost meaning = { λ bytes all order system. assertion_in bytes order };
+
+    ghost limit = { λ n. 1 };
+
+    ghost least = { λ bytes order info. 1 };
+
+    ghost takes_memory = { λ bytes order. ⊥ };
+
+    fn number_of_type() -> u32
+        ensures { result ≡ number_of AssertionInfoStream }
+    {
+        Self::STREAM_TYPE
+    }
+
+    fn read(
+        _alloc: Global,
+        bytes: Source<'a>,
+        _all: Source<'a>,
+        endian: Endian,
+        _system_info: Option<&MinidumpSystemInfo>,
+        steps: &mut Steps,
+    ) -> Result<Self, Error> {
+        let raw = bytes
+            .record(0, endian, steps)
+            .ok_or(Error::StreamReadFailure)?;
+        Ok(MinidumpAssertion { raw })
+    }
+}

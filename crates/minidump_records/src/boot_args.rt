@@ -1,0 +1,123 @@
+ghost use Rattle.std.specs.Prelude.{◌≡◌, ◌+◌, ◌≤◌, IfOk, IsOkUnless, IfSome, length, nat_le, if◌then◌else◌};
+ghost use Rattle.std.proofs.Common.{rules};
+ghost use Rattle.minidump_bytes.specs.Source.{bytes_of};
+ghost use Rattle.minidump_bytes.specs.Steps.{after};
+ghost use Rattle.minidump_records.specs.BootArgs.{boot_args_of, boot_args_record};
+
+use minidump_bytes::{Endian, Record, Source, Steps, copied};
+use minidump_format::Error;
+use minidump_format::format::MINIDUMP_MAC_BOOTARGS;
+use minidump_system::{MinidumpStream, MinidumpSystemInfo};
+use std::alloc::Global;
+
+/// The arguments that macOS was booted with.
+#[derive(Drop)]
+pub struct MinidumpMacBootargs {
+    /// The record of the stream. In its short form the RVA has 32 bits, and is widened.
+    pub raw: MINIDUMP_MAC_BOOTARGS,
+    /// The arguments, or `None` if no text is at their RVA.
+    pub bootargs: Option<String>,
+}
+
+impl MinidumpMacBootargs {
+    /// Copies the arguments. The only error is [`Error::OutOfMemory`].
+    pub fn try_clone(&self, alloc: Global) -> Result<MinidumpMacBootargs, Error>
+        ensures same { IfOk result (λ copy. boot_args_of copy ≡ boot_args_of self.now) }
+        ensures memory { IsOkUnless result Error.OutOfMemory }
+    {
+        Ok(MinidumpMacBootargs {
+            raw: self.raw,
+            bootargs: copied(alloc, &self.bootargs)?,
+        })
+    }
+}
+
+// The short form of the record.
+#[derive(Clone, Copy)]
+struct ShortBootArgs {
+    stream_type: u32,
+    bootargs: u32,
+}
+
+impl Record for ShortBootArgs {
+    ghost use Rattle.minidump_records.specs.BootArgs.{short_boot_args};
+
+    ghost SIZE = { 8 };
+
+    const SIZE: usize = 8;
+
+    ghost layout = { short_boot_args };
+
+    fn decode(bytes: &[u8], endian: Endian) -> Self {
+        ShortBootArgs {
+            stream_type: endian.u32_at(bytes, 0),
+            bootargs: endian.u32_at(bytes, 4),
+        }
+    }
+
+    ghost fits = { Prim.search rules };
+}
+
+/// Mozilla's `MDRawMacBootargs`, in the form of 12 bytes, or of 8 bytes where the stream is shorter.
+/// `StreamReadFailure` if it is shorter than that too.
+impl<'a> MinidumpStream<'a> for MinidumpMacBootargs {
+    ghost use Rattle.std.specs.Prelude.{◌≤◌, length};
+    ghost use Rattle.minidump_format.specs.declared.format.stream_type.MINIDUMP_STREAM_TYPE.TheVariants.{MozMacosBootargsStream};
+    ghost use Rattle.minidump_format.specs.StreamType.{number_of};
+    ghost use Rattle.minidump_records.specs.BootArgs.{BootArgs, boot_args, boot_args_of, boot_args_reads};
+
+    ghost type_number = { number_of MozMacosBootargsStream };
+
+    const STREAM_TYPE: u32 = 0x4d7a_0002;
+
+    ghost Value = { BootArgs };
+
+    ghost view = { boot_args_of };
+
+    ghost meaning = { λ bytes all order system. boot_args bytes all order };
+
+    ghost limit = { λ n. 3 };
+
+    ghost least = { λ bytes order args. boot_args_reads bytes };
+
+    ghost takes_memory = { λ bytes order. 8 ≤ length bytes };
+
+    fn number_of_type() -> u32
+        ensures { result ≡ number_of MozMacosBootargsStream }
+    {
+        Self::STREAM_TYPE
+    }
+
+    fn read(
+        alloc: Global,
+        bytes: Source<'a>,
+        all: Source<'a>,
+        endian: Endian,
+        _system_info: Option<&MinidumpSystemInfo>,
+        steps: &mut Steps,
+    ) -> Result<Self, Error> {
+        let raw = read_record(bytes, endian, steps).ok_or(Error::StreamReadFailure)?;
+        let bootargs = all.text16(alloc, raw.bootargs, endian, steps)?;
+        Ok(MinidumpMacBootargs { raw, bootargs })
+    }
+}
+
+// Reads the record in the form that the stream holds.
+fn read_record(
+    bytes: Source<'_>,
+    endian: Endian,
+    steps: &mut Steps,
+) -> Option<MINIDUMP_MAC_BOOTARGS>
+    ensures value { result ≡ boot_args_record endian (bytes_of bytes.entry) }
+    ensures held { IfSome result (λ _. 8 ≤ length (bytes_of bytes.entry)) }
+    ensures steps { steps.new ≡ after steps.old (if nat_le 12 (length (bytes_of bytes.entry)) then 1 else 2) }
+{
+    if let Some(raw) = bytes.record(0, endian, steps) {
+        return Some(raw);
+    }
+    let short: ShortBootArgs = bytes.record(0, endian, steps)?;
+    Some(MINIDUMP_MAC_BOOTARGS {
+        stream_type: short.stream_type,
+        bootargs: short.bootargs as u64,
+    })
+}

@@ -1,0 +1,93 @@
+ghost use Rattle.std.specs.Prelude.{◌≡◌};
+ghost use Rattle.minidump_records.specs.BreakpadInfo.{breakpad_of, where_valid};
+
+use minidump_bytes::{Endian, Source, Steps};
+use minidump_format::Error;
+use minidump_format::format::MINIDUMP_BREAKPAD_INFO;
+use minidump_system::{MinidumpStream, MinidumpSystemInfo};
+use std::alloc::Global;
+
+// The flags of `BreakpadInfoValid`, as numbers.
+const DUMP_THREAD_ID: u32 = 0x1;
+
+const REQUESTING_THREAD_ID: u32 = 0x2;
+
+/// The threads that wrote and requested a dump, which Breakpad writes.
+#[derive(Clone, Copy)]
+pub struct MinidumpBreakpadInfo {
+    raw: MINIDUMP_BREAKPAD_INFO,
+    /// The id of the thread that wrote the dump, if it is set.
+    pub dump_thread_id: Option<u32>,
+    /// The id of the thread that requested the dump, if it is set.
+    pub requesting_thread_id: Option<u32>,
+}
+
+/// Breakpad's `MDRawBreakpadInfo`. `StreamReadFailure` if the stream is shorter than that. Takes no memory.
+impl<'a> MinidumpStream<'a> for MinidumpBreakpadInfo {
+    ghost use Rattle.minidump_format.specs.declared.format.stream_type.MINIDUMP_STREAM_TYPE.TheVariants.{BreakpadInfoStream};
+    ghost use Rattle.minidump_format.specs.StreamType.{number_of};
+    ghost use Rattle.minidump_records.specs.declared.breakpad_info.MinidumpBreakpadInfo.{MinidumpBreakpadInfo};
+    ghost use Rattle.minidump_records.specs.BreakpadInfo.{breakpad_info_in};
+
+    ghost type_number = { number_of BreakpadInfoStream };
+
+    const STREAM_TYPE: u32 = 0x4767_0001;
+
+    ghost Value = { MinidumpBreakpadInfo };
+
+    ghost view = { λ info. info };
+
+    ghost meaning = { λ bytes all order system. breakpad_info_in bytes order };
+
+    ghost limit = { λ n. 1 };
+
+    ghost least = { λ bytes order info. 1 };
+
+    ghost takes_memory = { λ bytes order. ⊥ };
+
+    fn number_of_type() -> u32
+        ensures { result ≡ number_of BreakpadInfoStream }
+    {
+        Self::STREAM_TYPE
+    }
+
+    fn read(
+        _alloc: Global,
+        bytes: Source<'a>,
+        _all: Source<'a>,
+        endian: Endian,
+        _system_info: Option<&MinidumpSystemInfo>,
+        steps: &mut Steps,
+    ) -> Result<Self, Error> {
+        let raw = bytes
+            .record(0, endian, steps)
+            .ok_or(Error::StreamReadFailure)?;
+        Ok(info_of(raw))
+    }
+}
+
+// Tells which threads a record names.
+fn info_of(raw: MINIDUMP_BREAKPAD_INFO) -> MinidumpBreakpadInfo
+    ensures { result ≡ breakpad_of raw }
+{
+    MinidumpBreakpadInfo {
+        raw,
+        dump_thread_id: where_valid(raw.validity, DUMP_THREAD_ID, raw.dump_thread_id),
+        requesting_thread_id: where_valid(
+            raw.validity,
+            REQUESTING_THREAD_ID,
+            raw.requesting_thread_id,
+        ),
+    }
+}
+
+// Returns a field if its flag is set.
+fn where_valid(validity: u32, flag: u32, id: u32) -> Option<u32>
+    ensures { result ≡ where_valid validity flag id }
+{
+    if validity & flag == flag {
+        Some(id)
+    } else {
+        None
+    }
+}

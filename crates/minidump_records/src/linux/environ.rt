@@ -1,0 +1,82 @@
+ghost use Rattle.std.specs.Prelude.{◌≡◌, []};
+ghost use Rattle.minidump_records.specs.LinuxPairs.{pairs_of};
+ghost use Rattle.minidump_records.specs.LinuxTexts.{environ_of};
+
+use crate::LinuxPairs;
+use minidump_bytes::{Endian, Source, Steps};
+use minidump_format::Error;
+use minidump_system::{MinidumpStream, MinidumpSystemInfo};
+use std::alloc::Global;
+
+/// The text of `/proc/PID/environ`: a key and a value around an equals sign, each pair up to a NUL.
+#[derive(Drop)]
+pub struct MinidumpLinuxEnviron<'a> {
+    data: &'a [u8],
+}
+
+impl<'a> MinidumpLinuxEnviron<'a> {
+    /// Makes an empty text.
+    pub fn new() -> Self
+        ensures { environ_of result ≡ [] }
+    {
+        MinidumpLinuxEnviron { data: &[] }
+    }
+
+    /// Returns an iterator over the pairs of its lines, cut at the first `=`.
+    pub fn iter(&self) -> LinuxPairs<'a>
+        ensures { result ≡ pairs_of 61 (environ_of self.now) }
+    {
+        LinuxPairs::new(self.data, b'=')
+    }
+
+    /// Returns the bytes of the stream.
+    pub fn raw_bytes(&self) -> &'a [u8]
+        ensures { result.now ≡ environ_of self.now }
+    {
+        self.data
+    }
+}
+
+/// Breakpad's `MD_LINUX_ENVIRON`: the stream is the text, whatever its bytes are. Reads no number of it, takes no memory,
+/// and has no error.
+impl<'a> MinidumpStream<'a> for MinidumpLinuxEnviron<'a> {
+    ghost use Rattle.std.specs.Prelude.{ℕ, List, Ok};
+    ghost use Rattle.minidump_format.specs.declared.format.stream_type.MINIDUMP_STREAM_TYPE.TheVariants.{LinuxEnviron};
+    ghost use Rattle.minidump_format.specs.StreamType.{number_of};
+    ghost use Rattle.minidump_records.specs.LinuxTexts.{environ_of, linux_text};
+
+    ghost type_number = { number_of LinuxEnviron };
+
+    const STREAM_TYPE: u32 = 0x4767_0007;
+
+    ghost Value = { List ℕ };
+
+    ghost view = { environ_of };
+
+    ghost meaning = { λ bytes all order system. linux_text bytes };
+
+    ghost limit = { λ n. 0 };
+
+    ghost least = { λ bytes order text. 0 };
+
+    ghost takes_memory = { λ bytes order. ⊥ };
+
+    fn number_of_type() -> u32
+        ensures { result ≡ number_of LinuxEnviron }
+    {
+        Self::STREAM_TYPE
+    }
+
+    fn read(
+        _alloc: Global,
+        bytes: Source<'a>,
+        _all: Source<'a>,
+        _endian: Endian,
+        _system_info: Option<&MinidumpSystemInfo>,
+        _steps: &mut Steps,
+    ) -> Result<Self, Error> {
+        Ok(MinidumpLinuxEnviron {
+            data: bytes.bytes(),
+        })
+    }
+}

@@ -1,0 +1,82 @@
+ghost use Rattle.std.specs.Prelude.{◌≡◌, []};
+ghost use Rattle.minidump_records.specs.LinuxPairs.{pairs_of};
+ghost use Rattle.minidump_records.specs.LinuxTexts.{lsb_release_of};
+
+use crate::LinuxPairs;
+use minidump_bytes::{Endian, Source, Steps};
+use minidump_format::Error;
+use minidump_system::{MinidumpStream, MinidumpSystemInfo};
+use std::alloc::Global;
+
+/// The text of `/etc/lsb-release`: a key and a value a line, around an equals sign.
+#[derive(Drop)]
+pub struct MinidumpLinuxLsbRelease<'a> {
+    data: &'a [u8],
+}
+
+impl<'a> MinidumpLinuxLsbRelease<'a> {
+    /// Makes an empty text.
+    pub fn new() -> Self
+        ensures { lsb_release_of result ≡ [] }
+    {
+        MinidumpLinuxLsbRelease { data: &[] }
+    }
+
+    /// Returns an iterator over the pairs of its lines, cut at the first `=`.
+    pub fn iter(&self) -> LinuxPairs<'a>
+        ensures { result ≡ pairs_of 61 (lsb_release_of self.now) }
+    {
+        LinuxPairs::new(self.data, b'=')
+    }
+
+    /// Returns the bytes of the stream.
+    pub fn raw_bytes(&self) -> &'a [u8]
+        ensures { result.now ≡ lsb_release_of self.now }
+    {
+        self.data
+    }
+}
+
+/// Breakpad's `MD_LINUX_LSB_RELEASE`: the stream is the text, whatever its bytes are. Reads no number of it, takes no memory,
+/// and has no error.
+impl<'a> MinidumpStream<'a> for MinidumpLinuxLsbRelease<'a> {
+    ghost use Rattle.std.specs.Prelude.{ℕ, List, Ok};
+    ghost use Rattle.minidump_format.specs.declared.format.stream_type.MINIDUMP_STREAM_TYPE.TheVariants.{LinuxLsbRelease};
+    ghost use Rattle.minidump_format.specs.StreamType.{number_of};
+    ghost use Rattle.minidump_records.specs.LinuxTexts.{lsb_release_of, linux_text};
+
+    ghost type_number = { number_of LinuxLsbRelease };
+
+    const STREAM_TYPE: u32 = 0x4767_0005;
+
+    ghost Value = { List ℕ };
+
+    ghost view = { lsb_release_of };
+
+    ghost meaning = { λ bytes all order system. linux_text bytes };
+
+    ghost limit = { λ n. 0 };
+
+    ghost least = { λ bytes order text. 0 };
+
+    ghost takes_memory = { λ bytes order. ⊥ };
+
+    fn number_of_type() -> u32
+        ensures { result ≡ number_of LinuxLsbRelease }
+    {
+        Self::STREAM_TYPE
+    }
+
+    fn read(
+        _alloc: Global,
+        bytes: Source<'a>,
+        _all: Source<'a>,
+        _endian: Endian,
+        _system_info: Option<&MinidumpSystemInfo>,
+        _steps: &mut Steps,
+    ) -> Result<Self, Error> {
+        Ok(MinidumpLinuxLsbRelease {
+            data: bytes.bytes(),
+        })
+    }
+}

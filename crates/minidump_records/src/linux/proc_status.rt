@@ -1,0 +1,82 @@
+ghost use Rattle.std.specs.Prelude.{◌≡◌, []};
+ghost use Rattle.minidump_records.specs.LinuxPairs.{pairs_of};
+ghost use Rattle.minidump_records.specs.LinuxTexts.{proc_status_of};
+
+use crate::LinuxPairs;
+use minidump_bytes::{Endian, Source, Steps};
+use minidump_format::Error;
+use minidump_system::{MinidumpStream, MinidumpSystemInfo};
+use std::alloc::Global;
+
+/// The text of `/proc/PID/status`: a key and a value a line, around a colon.
+#[derive(Drop)]
+pub struct MinidumpLinuxProcStatus<'a> {
+    data: &'a [u8],
+}
+
+impl<'a> MinidumpLinuxProcStatus<'a> {
+    /// Makes an empty text.
+    pub fn new() -> Self
+        ensures { proc_status_of result ≡ [] }
+    {
+        MinidumpLinuxProcStatus { data: &[] }
+    }
+
+    /// Returns an iterator over the pairs of its lines, cut at the first `:`.
+    pub fn iter(&self) -> LinuxPairs<'a>
+        ensures { result ≡ pairs_of 58 (proc_status_of self.now) }
+    {
+        LinuxPairs::new(self.data, b':')
+    }
+
+    /// Returns the bytes of the stream.
+    pub fn raw_bytes(&self) -> &'a [u8]
+        ensures { result.now ≡ proc_status_of self.now }
+    {
+        self.data
+    }
+}
+
+/// Breakpad's `MD_LINUX_PROC_STATUS`: the stream is the text, whatever its bytes are. Reads no number of it, takes no memory,
+/// and has no error.
+impl<'a> MinidumpStream<'a> for MinidumpLinuxProcStatus<'a> {
+    ghost use Rattle.std.specs.Prelude.{ℕ, List, Ok};
+    ghost use Rattle.minidump_format.specs.declared.format.stream_type.MINIDUMP_STREAM_TYPE.TheVariants.{LinuxProcStatus};
+    ghost use Rattle.minidump_format.specs.StreamType.{number_of};
+    ghost use Rattle.minidump_records.specs.LinuxTexts.{proc_status_of, linux_text};
+
+    ghost type_number = { number_of LinuxProcStatus };
+
+    const STREAM_TYPE: u32 = 0x4767_0004;
+
+    ghost Value = { List ℕ };
+
+    ghost view = { proc_status_of };
+
+    ghost meaning = { λ bytes all order system. linux_text bytes };
+
+    ghost limit = { λ n. 0 };
+
+    ghost least = { λ bytes order text. 0 };
+
+    ghost takes_memory = { λ bytes order. ⊥ };
+
+    fn number_of_type() -> u32
+        ensures { result ≡ number_of LinuxProcStatus }
+    {
+        Self::STREAM_TYPE
+    }
+
+    fn read(
+        _alloc: Global,
+        bytes: Source<'a>,
+        _all: Source<'a>,
+        _endian: Endian,
+        _system_info: Option<&MinidumpSystemInfo>,
+        _steps: &mut Steps,
+    ) -> Result<Self, Error> {
+        Ok(MinidumpLinuxProcStatus {
+            data: bytes.bytes(),
+        })
+    }
+}

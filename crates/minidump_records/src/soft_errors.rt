@@ -1,0 +1,74 @@
+ghost use Rattle.std.specs.Prelude.{◌≡◌, []};
+ghost use Rattle.minidump_records.specs.SoftErrors.{soft_errors_of};
+
+use minidump_bytes::{Endian, LinuxOsStr, Source, Steps};
+use minidump_format::Error;
+use minidump_system::{MinidumpStream, MinidumpSystemInfo};
+use std::alloc::Global;
+
+/// The errors that the writer of a dump met and went on after, as a text in JSON.
+#[derive(Drop)]
+pub struct MinidumpSoftErrors<'a> {
+    text: &'a str,
+}
+
+impl<'a> MinidumpSoftErrors<'a> {
+    /// Makes an empty text.
+    pub fn new() -> Self
+        ensures { soft_errors_of result ≡ [] }
+    {
+        MinidumpSoftErrors { text: "" }
+    }
+
+    /// Returns the text, which lives as long as the file.
+    pub fn as_ref(&self) -> &'a str
+        ensures { result.now ≡ soft_errors_of self.now }
+    {
+        self.text
+    }
+}
+
+/// Mozilla's soft errors: the stream is one text in UTF-8, else `DataError`. Reads no number of it, and takes no
+/// memory.
+impl<'a> MinidumpStream<'a> for MinidumpSoftErrors<'a> {
+    ghost use Rattle.std.specs.Prelude.{ℕ, List};
+    ghost use Rattle.minidump_format.specs.declared.format.stream_type.MINIDUMP_STREAM_TYPE.TheVariants.{MozSoftErrors};
+    ghost use Rattle.minidump_format.specs.StreamType.{number_of};
+    ghost use Rattle.minidump_records.specs.SoftErrors.{soft_errors, soft_errors_of};
+
+    ghost type_number = { number_of MozSoftErrors };
+
+    const STREAM_TYPE: u32 = 0x4d7a_0004;
+
+    ghost Value = { List ℕ };
+
+    ghost view = { soft_errors_of };
+
+    ghost meaning = { λ bytes all order system. soft_errors bytes };
+
+    ghost limit = { λ n. 0 };
+
+    ghost least = { λ bytes order text. 0 };
+
+    ghost takes_memory = { λ bytes order. ⊥ };
+
+    fn number_of_type() -> u32
+        ensures { result ≡ number_of MozSoftErrors }
+    {
+        Self::STREAM_TYPE
+    }
+
+    fn read(
+        _alloc: Global,
+        bytes: Source<'a>,
+        _all: Source<'a>,
+        _endian: Endian,
+        _system_info: Option<&MinidumpSystemInfo>,
+        _steps: &mut Steps,
+    ) -> Result<Self, Error> {
+        let text = LinuxOsStr::from_bytes(bytes.bytes())
+            .to_str()
+            .ok_or(Error::DataError)?;
+        Ok(MinidumpSoftErrors { text })
+    }
+}
