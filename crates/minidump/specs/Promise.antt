@@ -9,7 +9,7 @@ use Rattle.minidump_format.specs.declared.format.memory.MINIDUMP_MEMORY_DESCRIPT
 use Rattle.minidump_format.specs.declared.format.assertion.MINIDUMP_ASSERTION_INFO.{MINIDUMP_ASSERTION_INFO}
 use Rattle.minidump_format.specs.declared.format.thread.MINIDUMP_THREAD_INFO.{MINIDUMP_THREAD_INFO}
 use Rattle.minidump_format.specs.declared.format.stream_type.MINIDUMP_STREAM_TYPE.{MINIDUMP_STREAM_TYPE}
-use Rattle.minidump_format.specs.declared.format.stream_type.MINIDUMP_STREAM_TYPE.TheVariants.{SystemInfoStream, MiscInfoStream, ModuleListStream, MemoryListStream, Memory64ListStream, UnloadedModuleListStream, ThreadInfoListStream, ThreadNamesStream, CrashpadInfoStream, StabilityReportStream, BreakpadInfoStream, AssertionInfoStream, LinuxCpuInfo, LinuxProcStatus, LinuxLsbRelease, LinuxEnviron, MozMacosBootargsStream, MozLinuxLimits, MozSoftErrors}
+use Rattle.minidump_format.specs.declared.format.stream_type.MINIDUMP_STREAM_TYPE.TheVariants.{SystemInfoStream, MiscInfoStream, ModuleListStream, MemoryListStream, Memory64ListStream, UnloadedModuleListStream, ThreadInfoListStream, ThreadNamesStream, CrashpadInfoStream, StabilityReportStream, BreakpadInfoStream, AssertionInfoStream, LinuxCpuInfo, LinuxProcStatus, LinuxLsbRelease, LinuxEnviron, MozMacosBootargsStream, MozLinuxLimits, MozSoftErrors, HandleDataStream}
 use Rattle.minidump_format.specs.StreamType.{number_of}
 use Rattle.minidump_system.specs.declared.misc_info.RawMiscInfo.{RawMiscInfo}
 use Rattle.minidump_system.specs.MiscInfo.{misc_info_in}
@@ -27,6 +27,7 @@ use Rattle.minidump_records.specs.BootArgs.{BootArgs, boot_args}
 use Rattle.minidump_records.specs.BreakpadInfo.{breakpad_info_in}
 use Rattle.minidump_records.specs.LinuxTexts.{linux_text}
 use Rattle.minidump_records.specs.SoftErrors.{soft_errors}
+use Rattle.minidump_records.specs.Handles.{Handle, handle_data}
 use Rattle.minidump_records.specs.ThreadInfo.{thread_infos}
 use Rattle.minidump_records.specs.ThreadNames.{ThreadName, thread_names}
 use Rattle.minidump_records.specs.CrashpadInfo.{Crashpad, crashpad_in}
@@ -105,6 +106,9 @@ IsLinuxEnviron = IsReadAs LinuxEnviron (λ bytes file order system. linux_text b
 
 abbrev pub IsLinuxProcLimits : ℕ → Meaning (List ℕ) → (ℕ → ℕ) → Type 0
 IsLinuxProcLimits = IsReadAs MozLinuxLimits (λ bytes file order system. linux_text bytes)
+
+abbrev pub IsHandleData : ℕ → Meaning (List Handle) → (ℕ → ℕ) → Type 0
+IsHandleData = IsReadInSquare HandleDataStream (λ bytes file order system. handle_data bytes file order)
 
 abbrev pub IsStabilityReport : ℕ → Meaning Report → (ℕ → ℕ) → Type 0
 IsStabilityReport = IsReadAs StabilityReportStream (λ bytes file order system. stability_report bytes)

@@ -12,3 +12,5 @@ pub use Rattle.minidump_records.specs.SoftErrors
 pub use Rattle.minidump_records.specs.LinuxPairs
 pub use Rattle.minidump_records.specs.LinuxTexts
 pub use Rattle.minidump_records.specs.Alone
+pub use Rattle.minidump_records.specs.Handles
+pub use Rattle.minidump_records.specs.ObjectChain

@@ -6,7 +6,7 @@ ghost use Rattle.minidump_format.specs.declared.format.header.MINIDUMP_DIRECTORY
 ghost use Rattle.minidump.specs.declared.directory.DecidingEntry.{DecidingEntry};
 ghost use Rattle.minidump.specs.Directory.{deciding, deciding_below, directory};
 ghost use Rattle.minidump.specs.Dump.{Dump, raw_stream, spanned, streams_of};
-ghost use Rattle.minidump.specs.Promise.{IsAssertion, IsBreakpadInfo, IsCrashpadInfo, IsLinuxCpuInfo, IsLinuxEnviron, IsLinuxLsbRelease, IsLinuxProcLimits, IsLinuxProcStatus, IsMacBootargs, IsMemory64List, IsMemoryList, IsMiscInfo, IsModuleList, IsSoftErrors, IsStabilityReport, IsSystemInfo, IsThreadInfoList, IsThreadNames, IsUnloadedModuleList};
+ghost use Rattle.minidump.specs.Promise.{IsAssertion, IsBreakpadInfo, IsCrashpadInfo, IsHandleData, IsLinuxCpuInfo, IsLinuxEnviron, IsLinuxLsbRelease, IsLinuxProcLimits, IsLinuxProcStatus, IsMacBootargs, IsMemory64List, IsMemoryList, IsMiscInfo, IsModuleList, IsSoftErrors, IsStabilityReport, IsSystemInfo, IsThreadInfoList, IsThreadNames, IsUnloadedModuleList};
 ghost use Rattle.minidump.specs.Streams.{unimplemented_view, unknown_view};
 ghost use Rattle.minidump_bytes.specs.Span.{span};
 
@@ -27,11 +27,12 @@ pub use minidump_reason::laws::{codes_have_their_listed_names, wide_codes_are_un
 pub use minidump_records::laws::{
     an_annotation_need_not_be_the_same_as_itself, breakpad_info_clones_are_the_same,
     dictionaries_have_the_last_values, last_info_of_a_thread_is_found,
-    last_name_of_a_thread_is_kept, streams_depend_on_their_bytes_alone,
+    last_name_of_a_thread_is_kept, object_chain_is_one, object_chain_is_the_longest,
+    streams_depend_on_their_bytes_alone,
 };
 use minidump_records::{
-    MinidumpAssertion, MinidumpBreakpadInfo, MinidumpCrashpadInfo, MinidumpLinuxCpuInfo,
-    MinidumpLinuxEnviron, MinidumpLinuxLsbRelease, MinidumpLinuxProcLimits,
+    MinidumpAssertion, MinidumpBreakpadInfo, MinidumpCrashpadInfo, MinidumpHandleDataStream,
+    MinidumpLinuxCpuInfo, MinidumpLinuxEnviron, MinidumpLinuxLsbRelease, MinidumpLinuxProcLimits,
     MinidumpLinuxProcStatus, MinidumpMacBootargs, MinidumpSoftErrors, MinidumpThreadInfoList,
     MinidumpThreadNames,
 };
@@ -109,6 +110,8 @@ pub fn streams_are_read_as_promised()
         in IsLinuxEnviron T.type_number T.meaning T.limit }
     ensures linux_proc_limits { let T = ⟦<MinidumpLinuxProcLimits<'static> as MinidumpStream<'static>>⟧
         in IsLinuxProcLimits T.type_number T.meaning T.limit }
+    ensures handle_data { let T = ⟦<MinidumpHandleDataStream as MinidumpStream<'static>>⟧
+        in IsHandleData T.type_number T.meaning T.limit }
     ensures stability_report { let T = ⟦<StabilityReport as MinidumpStream<'static>>⟧
         in IsStabilityReport T.type_number T.meaning T.limit }
 {}

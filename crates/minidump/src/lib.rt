@@ -74,9 +74,10 @@ pub use minidump_modules::{
 pub use minidump_reason::{CodeFamily, CodeNames, CodeNamesError, CrashReason};
 pub use minidump_records::{
     LinuxPairs, MinidumpAnnotation, MinidumpAssertion, MinidumpBreakpadInfo, MinidumpCrashpadInfo,
+    MinidumpHandleDataStream, MinidumpHandleDescriptor, MinidumpHandleObjectInformation,
     MinidumpLinuxCpuInfo, MinidumpLinuxEnviron, MinidumpLinuxLsbRelease, MinidumpLinuxProcLimits,
     MinidumpLinuxProcStatus, MinidumpMacBootargs, MinidumpModuleCrashpadInfo, MinidumpSoftErrors,
-    MinidumpThreadInfo, MinidumpThreadInfoList, MinidumpThreadNames,
+    MinidumpThreadInfo, MinidumpThreadInfoList, MinidumpThreadNames, RawHandleDescriptor,
 };
 pub use minidump_stability::{
     ProcessState, StabilityReport, SystemMemoryState, process_state, system_memory_state,

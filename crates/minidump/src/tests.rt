@@ -1,5 +1,6 @@
 mod crashpad;
 mod file;
+mod handles;
 mod memory;
 mod modules;
 mod records;

@@ -5,3 +5,6 @@ pub mod CrashpadSteps
 pub mod DictionaryLemmas
 pub mod KeyLemmas
 pub mod NameLemmas
+pub mod ObjectChainLemmas
+pub mod InformationLemmas
+pub mod HandleLemmas

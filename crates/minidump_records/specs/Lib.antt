@@ -12,3 +12,5 @@ pub mod SoftErrors
 pub mod LinuxPairs
 pub mod LinuxTexts
 pub mod Alone
+pub mod ObjectChain
+pub mod Handles

@@ -8,11 +8,15 @@ ghost use Rattle.minidump_records.specs.Annotation.{Annotation, AreSame, unsuppo
 ghost use Rattle.minidump_records.specs.Dictionary.{IsDictionaryOf, put_all};
 ghost use Rattle.minidump_records.specs.ThreadInfo.{last_info};
 ghost use Rattle.minidump_records.specs.ThreadNames.{ThreadName, last_names, name_at};
+ghost use Rattle.minidump_records.specs.declared.handles.information.MinidumpHandleObjectInformation.{MinidumpHandleObjectInformation};
+ghost use Rattle.minidump_records.specs.declared.handles.raw.RawHandleDescriptor.{RawHandleDescriptor};
+ghost use Rattle.minidump_records.specs.ObjectChain.{IsChain, chain_offsets, information_at, next_of};
 
 use crate::{
-    MinidumpAssertion, MinidumpBreakpadInfo, MinidumpLinuxCpuInfo, MinidumpLinuxEnviron,
-    MinidumpLinuxLsbRelease, MinidumpLinuxProcLimits, MinidumpLinuxProcStatus, MinidumpSoftErrors,
-    MinidumpThreadInfo, MinidumpThreadInfoList,
+    MinidumpAssertion, MinidumpBreakpadInfo, MinidumpHandleObjectInformation, MinidumpLinuxCpuInfo,
+    MinidumpLinuxEnviron, MinidumpLinuxLsbRelease, MinidumpLinuxProcLimits,
+    MinidumpLinuxProcStatus, MinidumpSoftErrors, MinidumpThreadInfo, MinidumpThreadInfoList,
+    RawHandleDescriptor,
 };
 use minidump_system::MinidumpStream;
 
@@ -60,4 +64,26 @@ pub fn streams_depend_on_their_bytes_alone()
 /// A clone of Breakpad's information is the same value.
 pub fn breakpad_info_clones_are_the_same()
     ensures { (x y : MinidumpBreakpadInfo) → ⟦<MinidumpBreakpadInfo as Clone>⟧.is_clone x y → y ≡ x }
+{}
+
+/// The pieces of information on an object stand at the longest list of distinct offsets that follow a link,
+/// each named by the piece before it.
+pub fn object_chain_is_the_longest()
+    ensures { (order : Endian) (file : List ℕ) (link : ℕ)
+        → IsChain (information_at order file) next_of link (chain_offsets order file link) }
+{}
+
+/// There is one such list.
+#[tactic(auto, using(crate::proofs::ObjectChainLemmas::chain_is_one))]
+pub fn object_chain_is_one()
+    ensures { (order : Endian) (file : List ℕ) (link : ℕ) (offsets other : List ℕ)
+        → IsChain (information_at order file) next_of link offsets
+        → IsChain (information_at order file) next_of link other → other ≡ offsets }
+{}
+
+/// Clones of a raw descriptor of a handle, and of a piece of information on its object, are equal values.
+pub fn handle_clones_are_the_same()
+    ensures raw { (x y : RawHandleDescriptor) → ⟦<RawHandleDescriptor as Clone>⟧.is_clone x y → y ≡ x }
+    ensures information { (x y : MinidumpHandleObjectInformation)
+        → ⟦<MinidumpHandleObjectInformation as Clone>⟧.is_clone x y → y ≡ x }
 {}

@@ -4,6 +4,8 @@
 //!
 //! - [`MinidumpThreadNames`] has the names of threads by their ids.
 //! - [`MinidumpThreadInfoList`] has a [`MinidumpThreadInfo`] for each thread.
+//! - [`MinidumpHandleDataStream`] has a [`MinidumpHandleDescriptor`] for each open handle, with its names and
+//!   each [`MinidumpHandleObjectInformation`] on its object.
 //! - [`MinidumpCrashpadInfo`] is Crashpad's information on a process, with a [`MinidumpModuleCrashpadInfo`] for
 //!   each link to a module; a [`MinidumpAnnotation`] is the value of a named annotation.
 //! - [`MinidumpBreakpadInfo`], [`MinidumpAssertion`] and [`MinidumpMacBootargs`] are one record each,
@@ -26,6 +28,10 @@
 //! - All thread information stays in the order of the file, and the last of an id is found:
 //!   `MinidumpThreadInfoList::read`, by `thread_infos`; `get_thread_info`;
 //!   `laws::last_info_of_a_thread_is_found`.
+//! - A handle has the names at its RVAs, each absent at 0 and where no text is, and the longest chain of
+//!   distinct pieces of information that its descriptor leads to: `MinidumpHandleDataStream::read`, by
+//!   `handle_data`; `laws::object_chain_is_the_longest`, `object_chain_is_one`. A read takes at least one step
+//!   for the header, each entry, name and piece. Memory runs out only where the entries have a good size.
 //! - Crashpad's dictionaries, lists and modules are what their locations hold, or the first error in the order of
 //!   the records: `MinidumpCrashpadInfo::read`, by `crashpad_in`; `MinidumpModuleCrashpadInfo::read`, by
 //!   `module_in`. A key has its last value: `laws::dictionaries_have_the_last_values`. A read takes at least one
@@ -38,16 +44,18 @@
 //!   `iter` of each, by `pairs_of`; `LinuxPairs::next`.
 //! - What depends on its stream and the byte order alone: `laws::streams_depend_on_their_bytes_alone`. Copies
 //!   are the same: `try_clone`, `laws::breakpad_info_clones_are_the_same`.
-//! - Each read takes at most n + 7 steps, of Crashpad's information (n + 8)² - 1: `limit` of each stream.
+//! - Each read takes at most n + 7 steps, of handles and of Crashpad's information (n + 8)² - 1: `limit` of each
+//!   stream.
 //!
-//! What isn't: that a forged count reserves no memory (the contracts show that no `OutOfMemory` is returned
-//! for it).
+//! What isn't: that a forged count reserves no memory. The contracts show that no `OutOfMemory` is returned
+//! for it, but for Crashpad's lists, which grow entry by entry.
 #![tactic(auto)]
 
 mod assertion;
 mod boot_args;
 mod breakpad_info;
 mod crashpad;
+mod handles;
 pub mod laws;
 mod linux;
 mod soft_errors;
@@ -58,6 +66,10 @@ pub use assertion::MinidumpAssertion;
 pub use boot_args::MinidumpMacBootargs;
 pub use breakpad_info::MinidumpBreakpadInfo;
 pub use crashpad::{MinidumpAnnotation, MinidumpCrashpadInfo, MinidumpModuleCrashpadInfo};
+pub use handles::{
+    MinidumpHandleDataStream, MinidumpHandleDescriptor, MinidumpHandleObjectInformation,
+    RawHandleDescriptor,
+};
 pub use linux::{
     LinuxPairs, MinidumpLinuxCpuInfo, MinidumpLinuxEnviron, MinidumpLinuxLsbRelease,
     MinidumpLinuxProcLimits, MinidumpLinuxProcStatus,
@@ -65,3 +77,6 @@ pub use linux::{
 pub use soft_errors::MinidumpSoftErrors;
 pub use thread_info::{MinidumpThreadInfo, MinidumpThreadInfoList};
 pub use thread_names::MinidumpThreadNames;
+
+#[cfg(test)]
+mod tests;

@@ -3,11 +3,11 @@ use crate::format::MINIDUMP_SYSTEM_INFO;
 use crate::system_info::{Cpu, Os};
 use crate::{
     Endian, Error, Minidump, MinidumpAssertion, MinidumpBreakpadInfo, MinidumpCrashpadInfo,
-    MinidumpLinuxCpuInfo, MinidumpLinuxEnviron, MinidumpLinuxLsbRelease, MinidumpLinuxProcLimits,
-    MinidumpLinuxProcStatus, MinidumpMacBootargs, MinidumpMemory64List, MinidumpMemoryList,
-    MinidumpMiscInfo, MinidumpModuleList, MinidumpSoftErrors, MinidumpStream, MinidumpSystemInfo,
-    MinidumpThreadInfoList, MinidumpThreadNames, MinidumpUnloadedModuleList, StabilityReport,
-    Steps, Told,
+    MinidumpHandleDataStream, MinidumpLinuxCpuInfo, MinidumpLinuxEnviron, MinidumpLinuxLsbRelease,
+    MinidumpLinuxProcLimits, MinidumpLinuxProcStatus, MinidumpMacBootargs, MinidumpMemory64List,
+    MinidumpMemoryList, MinidumpMiscInfo, MinidumpModuleList, MinidumpSoftErrors, MinidumpStream,
+    MinidumpSystemInfo, MinidumpThreadInfoList, MinidumpThreadNames, MinidumpUnloadedModuleList,
+    StabilityReport, Steps, Told,
 };
 use minidump_synth::{Section, SynthMinidump, zeroed};
 use std::alloc::Global;
@@ -321,6 +321,7 @@ fn types_of_streams_have_their_numbers(rt: HostRuntime) -> Result<(), Fail> {
     assert!(rt; has_number::<MinidumpMemoryList>(5));
     assert!(rt; has_number::<MinidumpSystemInfo>(SYSTEM_INFO));
     assert!(rt; has_number::<MinidumpMemory64List>(9));
+    assert!(rt; has_number::<MinidumpHandleDataStream>(12));
     assert!(rt; has_number::<MinidumpUnloadedModuleList>(14));
     assert!(rt; has_number::<MinidumpMiscInfo>(MISC_INFO));
     assert!(rt; has_number::<MinidumpThreadInfoList>(17));

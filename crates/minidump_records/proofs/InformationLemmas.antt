@@ -1,0 +1,90 @@
+-- The pieces of information on an object, as they are read one after another.
+use Rattle.std.proofs.Common.{◌≡◌, ℕ, ◌<◌, ◌≤◌, ◌+◌, List, [], ◌∷◌, ◌++◌, length, arith, refl, ap, sym, ◌∙◌, length-append, Bool, true, false, nat_eq, cond}
+use Rattle.std.specs.Prelude.{Option, Some, None, nat_le, if◌then◌else◌, ◌==◌}
+use Rattle.std.specs.List.{filter_map, list_any}
+use Rattle.std.proofs.lemmas.List.Elements.{filter_map-append}
+use Rattle.std.proofs.lemmas.Bool.Decides.{nat_tests}
+use Rattle.std.specs.Option.{option_and_then}
+use Rattle.std.specs.BTreeMap.{is_at}
+use Rattle.std.specs.Cmp.{unsigned_tied}
+use Rattle.std.specs.Ordering.{nat_cmp}
+use Rattle.minidump_bytes.specs.declared.endian.Endian.{Endian}
+use Rattle.minidump_bytes.specs.Span.{record_at}
+use Rattle.minidump_format.specs.Handle.{object_information}
+use Rattle.minidump_records.specs.declared.handles.information.MinidumpHandleObjectInformation.{MinidumpHandleObjectInformation}
+use Rattle.minidump_records.specs.ObjectChain.{IsChain, chain_offsets, information_at, next_of, object_chain, typed}
+use Rattle.minidump_records.proofs.ObjectChainLemmas.{same_push, Linked, linked_end, linked_met, linked_more, linked_none, linked_short, linked_is_chain}
+
+-- whether a set of offsets has one
+abbrev pub has : List ℕ → ℕ → Bool
+has met q = list_any (is_at (nat_cmp q)) met
+
+-- there is no piece at 0
+pub nonzero : (order : Endian) (file : List ℕ) (place : ℕ) (i : MinidumpHandleObjectInformation) → information_at order file place ≡ Some i → 0 < place
+unfolding information_at
+nonzero order file place i h = by_zero (place == 0) refl h
+  where
+    by_zero : (b : Bool) → (place == 0) ≡ b → (if b then None else option_and_then typed (record_at object_information order place file)) ≡ Some i → 0 < place
+    by_zero true e k = cc
+    by_zero false e k = grind (arith, nat_tests, e)
+
+-- a piece stands within the file
+pub readable : (order : Endian) (file : List ℕ) (place : ℕ) (i : MinidumpHandleObjectInformation) → information_at order file place ≡ Some i → place < length file
+unfolding information_at
+readable order file place i h = by_zero (place == 0) h
+  where
+    by_room : (b : Bool) → nat_le (place + 12) (length file) ≡ b → option_and_then typed (record_at object_information order place file) ≡ Some i → place < length file
+    by_room true e k = grind (arith, nat_tests, e)
+    by_room false e k = (let j = rw e at k in cc)
+
+    by_zero : (b : Bool) → (if b then None else option_and_then typed (record_at object_information order place file)) ≡ Some i → place < length file
+    by_zero true k = cc
+    by_zero false k = by_room (nat_le (place + 12) (length file)) refl k
+
+module _ (order : Endian) (file : List ℕ) where
+  abbrev at : ℕ → Option MinidumpHandleObjectInformation
+  at = information_at order file
+
+  -- the pieces so far, the set of their offsets, and the offset that they lead to
+  pub record Chaining (link place : ℕ) (infos : List MinidumpHandleObjectInformation) (met : List ℕ) : Type 0 where
+    pub done : List ℕ
+    pub linked : Linked at next_of (length file) link place done
+    pub found : infos ≡ filter_map at done
+    pub counted : length infos ≡ length done
+    pub same : 0 < place → (q : ℕ) → has met q ≡ list_any (nat_eq q) done
+
+  pub chaining_none : (link : ℕ) (infos : List MinidumpHandleObjectInformation) (met : List ℕ) → infos ≡ [] → met ≡ [] → Chaining link link infos met
+  chaining_none link infos met e h = record {
+    done = [];
+    linked = linked_none at next_of (length file) link;
+    found = e;
+    counted = rw e refl;
+    same = λ some q. rw h refl;
+  }
+
+  pub chaining_short : (link place : ℕ) (infos : List MinidumpHandleObjectInformation) (met : List ℕ) → Chaining link place infos met → length infos ≤ length file
+  chaining_short link place infos met c = omega (arith, c.counted, linked_short at next_of (length file) link place c.done c.linked)
+
+  pub chaining_more : (link place : ℕ) (infos : List MinidumpHandleObjectInformation) (old new : List ℕ) (i : MinidumpHandleObjectInformation) → at place ≡ Some i
+      → has old place ≡ false → (0 < i.raw.next_info_rva → (q : ℕ) → has new q ≡ cond (is_at (nat_cmp place) q) true (has old q))
+      → Chaining link place infos old → Chaining link i.raw.next_info_rva (infos ++ i ∷ []) new
+  chaining_more link place infos old new i is absent updates c = record {
+    done = c.done ++ place ∷ [];
+    linked = linked_more at next_of (length file) link place c.done i (readable order file place i is) is (sym (c.same (nonzero order file place i is) place) ∙ absent) c.linked;
+    found =
+        let one : filter_map at (place ∷ []) ≡ i ∷ [] = rw is refl in
+        rw (filter_map-append at c.done (place ∷ []), one) (ap (λ l. l ++ i ∷ []) c.found);
+    counted = omega (arith, c.counted, length-append infos (i ∷ []), length-append c.done (place ∷ []));
+    same = λ some q. same_push c.done place q (has new q) (has old q) (updates some q ∙ ap (λ b. cond b true (has old q)) (unsigned_tied place q)) (c.same (nonzero order file place i is) q);
+  }
+
+  pub chaining_end : (link place : ℕ) (infos : List MinidumpHandleObjectInformation) (met : List ℕ) → at place ≡ None → Chaining link place infos met → infos ≡ object_chain order file link
+  unfolding object_chain
+  chaining_end link place infos met h c = c.found ∙ ap (λ l. filter_map at l) (sym (linked_end at next_of (length file) link place c.done h c.linked))
+
+  pub chaining_met : (link place : ℕ) (infos : List MinidumpHandleObjectInformation) (met : List ℕ) → 0 < place → has met place ≡ true → Chaining link place infos met → infos ≡ object_chain order file link
+  unfolding object_chain
+  chaining_met link place infos met some h c = c.found ∙ ap (λ l. filter_map at l) (sym (linked_met at next_of (length file) link place c.done (sym (c.same some place) ∙ h) c.linked))
+
+  pub chain_is_longest : (link : ℕ) → IsChain at next_of link (chain_offsets order file link)
+  chain_is_longest link = linked_is_chain at next_of (length file) (readable order file) link

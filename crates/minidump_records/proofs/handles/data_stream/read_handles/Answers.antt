@@ -1,0 +1,30 @@
+-- One handle more, and the end of the list.
+use Rattle.std.proofs.Common.{◌∙◌, arith, length, map, sym}
+use Rattle.std.proofs.lemmas.List.{map_push}
+use Rattle.std.proofs.lemmas.List.Sums.{sum_by_push}
+use Rattle.minidump_bytes.specs.Source.{bytes_of}
+use Rattle.minidump_bytes.proofs.LeftLemmas.{IsNext, all_given, next_left, one_given}
+use Rattle.minidump_records.specs.Handles.{described, handle_of, handle_reads}
+use Rattle.minidump_records.proofs.HandleLemmas.{mapped_more}
+use Rattle.minidump_records.proofs.handles.data_stream.read_handles.Goals as goal
+
+pub loop-raw-preserved : goal.loop-raw-preserved
+loop-raw-preserved g c =
+    let xs = c.args.raws in
+    let i = length c.loop-raw.yielded in
+    let raw = c.in-Some.raw in
+    let one = c.in_ok-read_handle.field-0 in
+    let next : IsNext xs i raw raw c.next.new.self = next_left xs i raw raw _ (sym c.loop-raw.invariant.left ∙ c.in-Some.ensures.steps) in
+    rw (one_given c.loop-raw.yielded raw) (record {
+      left = next.left;
+      items = rw c.in_ok-push.ensures.items (mapped_more (λ r. described c.args.endian (bytes_of c.args.all) (g.R.Descriptor.raw r)) handle_of xs c.loop-raw.handles.items i raw one
+          next.inside c.loop-raw.invariant.items (rw (next.item, ← c.raw.ensures) c.in_ok-read_handle.ensures.value));
+      within = omega (arith, c.read_handle.ensures.within, c.loop-raw.invariant.within);
+      grows = omega (arith, c.read_handle.ensures.grows, c.loop-raw.invariant.grows);
+      least = rw (c.in_ok-push.ensures.items, map_push, sum_by_push handle_reads (map handle_of c.loop-raw.handles.items) (handle_of one))
+          (omega (arith, c.in_ok-read_handle.ensures.at_least, c.loop-raw.invariant.least));
+    })
+
+pub returns-clause-items : goal.returns-clause-items
+returns-clause-items g c =
+    rw (all_given c.args.raws (length c.loop-raw.yielded) (sym c.loop-raw.invariant.left ∙ c.in-None.ensures.steps.0)) at c.loop-raw.invariant.items

@@ -1,0 +1,111 @@
+-- The open handles of a process: Microsoft's MINIDUMP_HANDLE_DATA_STREAM.
+use Rattle.std.specs.Prelude.{ℕ, ◌+◌, ◌==◌, List, length, Option, Some, None, Result, Ok, Err, map, string_bytes, if◌then◌else◌}
+use Rattle.std.specs.Option.{option_map, unwrap_or}
+use Rattle.minidump_bytes.specs.declared.endian.Endian.{Endian}
+use Rattle.minidump_bytes.specs.Text16.{text16}
+use Rattle.minidump_format.specs.declared.error.Error.{Error}
+use Rattle.minidump_system.specs.declared.framing.HandleEntries.{HandleEntries}
+use Rattle.minidump_system.specs.declared.framing.HandleEntries.TheVariants.{Short, Long}
+use Rattle.minidump_system.specs.Framing.{handle_list}
+use Rattle.minidump_records.specs.declared.handles.data_stream.MinidumpHandleDataStream.{MinidumpHandleDataStream}
+use Rattle.minidump_records.specs.declared.handles.descriptor.MinidumpHandleDescriptor.{MinidumpHandleDescriptor}
+use Rattle.minidump_records.specs.declared.handles.information.MinidumpHandleObjectInformation.{MinidumpHandleObjectInformation}
+use Rattle.minidump_records.specs.declared.handles.raw.RawHandleDescriptor.{RawHandleDescriptor}
+use Rattle.minidump_records.specs.declared.handles.raw.RawHandleDescriptor.TheVariants.{HandleDescriptor, HandleDescriptor2}
+use Rattle.minidump_records.specs.ObjectChain.{object_chain}
+
+-- ---- the fields of MINIDUMP_HANDLE_DESCRIPTOR and of MINIDUMP_HANDLE_DESCRIPTOR_2
+
+abbrev pub handle : RawHandleDescriptor → Option ℕ
+handle (HandleDescriptor raw) = Some raw.handle
+handle (HandleDescriptor2 raw) = Some raw.handle
+
+abbrev pub type_name_rva : RawHandleDescriptor → Option ℕ
+type_name_rva (HandleDescriptor raw) = Some raw.type_name_rva
+type_name_rva (HandleDescriptor2 raw) = Some raw.type_name_rva
+
+abbrev pub object_name_rva : RawHandleDescriptor → Option ℕ
+object_name_rva (HandleDescriptor raw) = Some raw.object_name_rva
+object_name_rva (HandleDescriptor2 raw) = Some raw.object_name_rva
+
+abbrev pub attributes : RawHandleDescriptor → Option ℕ
+attributes (HandleDescriptor raw) = Some raw.attributes
+attributes (HandleDescriptor2 raw) = Some raw.attributes
+
+abbrev pub granted_access : RawHandleDescriptor → Option ℕ
+granted_access (HandleDescriptor raw) = Some raw.granted_access
+granted_access (HandleDescriptor2 raw) = Some raw.granted_access
+
+abbrev pub handle_count : RawHandleDescriptor → Option ℕ
+handle_count (HandleDescriptor raw) = Some raw.handle_count
+handle_count (HandleDescriptor2 raw) = Some raw.handle_count
+
+abbrev pub pointer_count : RawHandleDescriptor → Option ℕ
+pointer_count (HandleDescriptor raw) = Some raw.pointer_count
+pointer_count (HandleDescriptor2 raw) = Some raw.pointer_count
+
+-- the first has no such field
+abbrev pub object_info_rva : RawHandleDescriptor → Option ℕ
+object_info_rva (HandleDescriptor raw) = None
+object_info_rva (HandleDescriptor2 raw) = Some raw.object_info_rva
+
+-- ---- a handle
+
+-- its descriptor, its names in UTF-8, and what is known of its object
+pub record Handle : Type 0 where
+  pub raw : RawHandleDescriptor
+  pub type_name : Option (List ℕ)
+  pub object_name : Option (List ℕ)
+  pub object_infos : List MinidumpHandleObjectInformation
+
+abbrev pub handle_of : MinidumpHandleDescriptor → Handle
+handle_of h = record {
+  raw = h.raw;
+  type_name = option_map string_bytes h.type_name;
+  object_name = option_map string_bytes h.object_name;
+  object_infos = h.object_infos.items;
+}
+
+-- a number of a descriptor, 0 where there is none
+abbrev pub or_zero : Option ℕ → ℕ
+or_zero rva = unwrap_or rva 0
+
+-- the name at an RVA: none at 0, and where no text is
+unfoldable pub name_at : Endian → List ℕ → ℕ → Option (List ℕ)
+name_at order file rva = if rva == 0 then None else text16 order rva file
+
+-- the handle of a descriptor
+abbrev pub described : Endian → List ℕ → RawHandleDescriptor → Handle
+described order file raw = record {
+  raw = raw;
+  type_name = name_at order file (or_zero (type_name_rva raw));
+  object_name = name_at order file (or_zero (object_name_rva raw));
+  object_infos = object_chain order file (or_zero (object_info_rva raw));
+}
+
+-- how much is read for a name
+abbrev pub name_reads : ℕ → ℕ
+name_reads rva = if rva == 0 then 0 else 1
+
+-- and for the names and the object of a handle, at least
+abbrev pub handle_reads : Handle → ℕ
+handle_reads h = name_reads (or_zero (type_name_rva h.raw)) + name_reads (or_zero (object_name_rva h.raw)) + length h.object_infos
+
+-- ---- the stream
+
+-- its handles, in the order of the list
+abbrev pub handles_of : MinidumpHandleDataStream → List Handle
+handles_of s = map handle_of s.handles.items
+
+-- the handles of descriptors of either layout
+abbrev pub all_described : Endian → List ℕ → HandleEntries → List Handle
+all_described order file (Short raws) = map (λ r. described order file (HandleDescriptor r)) raws
+all_described order file (Long raws) = map (λ r. described order file (HandleDescriptor2 r)) raws
+
+abbrev listed : Endian → List ℕ → Result HandleEntries Error → Result (List Handle) Error
+listed order file (Err e) = Err e
+listed order file (Ok list) = Ok (all_described order file list)
+
+-- Microsoft's MINIDUMP_HANDLE_DATA_STREAM: a handle list
+abbrev pub handle_data : List ℕ → List ℕ → Endian → Result (List Handle) Error
+handle_data bytes file order = listed order file (handle_list order bytes)

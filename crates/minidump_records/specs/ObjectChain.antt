@@ -1,0 +1,62 @@
+-- The pieces of information on the object of a handle, each of which names the next: Microsoft's
+-- MINIDUMP_HANDLE_OBJECT_INFORMATION.
+use Rattle.std.specs.Prelude.{◌≡◌, ℕ, zero, suc, ◌≤◌, ◌==◌, List, [], ◌∷◌, ◌++◌, codes, length, false, Option, Some, None, nat_eq, if◌then◌else◌}
+use Rattle.std.specs.Fmt.{digits}
+use Rattle.std.specs.List.{IsDistinct, filter_map, list_any}
+use Rattle.std.specs.Option.{option_and_then, option_map}
+use Rattle.minidump_bytes.specs.declared.endian.Endian.{Endian}
+use Rattle.minidump_bytes.specs.Span.{record_at}
+use Rattle.minidump_format.specs.declared.format.handle.MINIDUMP_HANDLE_OBJECT_INFORMATION.{MINIDUMP_HANDLE_OBJECT_INFORMATION}
+use Rattle.minidump_format.specs.Handle.{information_type_of, object_information}
+use Rattle.minidump_records.specs.declared.handles.information.MinidumpHandleObjectInformation.{MinidumpHandleObjectInformation}
+
+-- a record with its type, which has to be one of 0 to 8
+abbrev pub typed : MINIDUMP_HANDLE_OBJECT_INFORMATION → Option MinidumpHandleObjectInformation
+typed raw = option_map (λ t. record { raw = raw; info_type = t }) (information_type_of raw.info_type)
+
+-- the piece of information at an offset of the file; there is none at 0
+unfoldable pub information_at : Endian → List ℕ → ℕ → Option MinidumpHandleObjectInformation
+information_at order file place =
+    if place == 0 then None else option_and_then typed (record_at object_information order place file)
+
+-- the offset of the next piece, or 0
+abbrev pub next_of : MinidumpHandleObjectInformation → ℕ
+next_of i = i.raw.next_info_rva
+
+module _ {I : Type 0} (at : ℕ → Option I) (next : I → ℕ) where
+  -- offsets at which pieces are, the first the link and each later one named by the one before
+  abbrev pub Follow : ℕ → List ℕ → Type 0
+  Follow link [] = Unit {0}
+  Follow link (p ∷ ps) = (p ≡ link) × (i : I) × (at p ≡ Some i) × Follow (next i) ps
+
+  -- the longest list of such offsets of which none is repeated
+  pub record IsChain (link : ℕ) (chain : List ℕ) : Type 0 where
+    pub follow : Follow link chain
+    pub distinct : IsDistinct nat_eq chain
+    pub longest : (other : List ℕ) → Follow link other → IsDistinct nat_eq other → length other ≤ length chain
+
+  -- an offset, and those behind the piece that is there
+  abbrev pub onward : ℕ → Option I → (I → List ℕ) → List ℕ
+  onward place None more = []
+  onward place (Some i) more = place ∷ more i
+
+  -- the offsets from one on, at most so many, up to the first that was seen or has no piece
+  unfoldable pub linked : ℕ → List ℕ → ℕ → List ℕ
+  linked zero seen place = []
+  linked (suc most) seen place =
+      if list_any (nat_eq place) seen then [] else onward place (at place) (λ i. linked most (seen ++ place ∷ []) (next i))
+
+-- The offsets from a link on. Since they are distinct and in the file, they are no more than its bytes: they are the `IsChain`.
+abbrev pub chain_offsets : Endian → List ℕ → ℕ → List ℕ
+chain_offsets order file link = linked (information_at order file) next_of (length file) [] link
+
+-- the pieces of information that stand at them
+unfoldable pub object_chain : Endian → List ℕ → ℕ → List MinidumpHandleObjectInformation
+object_chain order file link = filter_map (information_at order file) (chain_offsets order file link)
+
+-- the text of a piece of information: its fields
+abbrev pub information_text : MinidumpHandleObjectInformation → List ℕ
+information_text i =
+    codes "{next_info_rva: 0x" ++ (digits 16 false i.raw.next_info_rva
+    ++ (codes ", info_type: " ++ (digits 10 false i.raw.info_type
+    ++ (codes ", size_of_info: " ++ (digits 10 false i.raw.size_of_info ++ codes "}")))))

@@ -1,0 +1,10 @@
+mod chain;
+mod data_stream;
+mod descriptor;
+mod information;
+mod raw;
+
+pub use data_stream::MinidumpHandleDataStream;
+pub use descriptor::MinidumpHandleDescriptor;
+pub use information::MinidumpHandleObjectInformation;
+pub use raw::RawHandleDescriptor;

@@ -1,0 +1,53 @@
+ghost use Rattle.std.specs.Prelude.{◌≡◌, ◌+◌, ◌<◌, ◌≤◌, ℕ, true, not, cond, length, IfOk};
+ghost use Rattle.std.specs.BTreeMap.{is_at};
+ghost use Rattle.std.specs.BTreeSet.{contains};
+ghost use Rattle.std.specs.Ordering.{nat_cmp};
+ghost use Rattle.minidump_bytes.specs.Source.{bytes_of};
+ghost use Rattle.minidump_bytes.specs.Steps.{after};
+ghost use Rattle.minidump_records.specs.ObjectChain.{object_chain};
+
+use super::information::{MinidumpHandleObjectInformation, information_at};
+use minidump_bytes::{Endian, Source, Steps};
+use std::alloc::{AllocError, Global};
+use std::collections::BTreeSet;
+
+// Reads the pieces of information from a link on, each of which names the next, up to an offset that was
+// met before or has no piece. Counts a read for each, and perhaps one where the chain ends.
+pub(super) fn read_chain(
+    alloc: Global,
+    link: u32,
+    all: Source<'_>,
+    endian: Endian,
+    steps: &mut Steps,
+) -> Result<Vec<MinidumpHandleObjectInformation>, AllocError>
+    ensures infos { IfOk result (λ v. v.items ≡ object_chain endian (bytes_of all.entry) link) }
+    ensures within { steps.new ≤ steps.old + length (bytes_of all.entry) + 1 }
+    ensures grows { steps.old ≤ steps.new }
+    ensures at_least { IfOk result (λ v. after steps.old (length v.items) ≤ steps.new) }
+{
+    let mut infos = Vec::new(alloc);
+    let mut met = BTreeSet::new(alloc);
+    let mut place = link;
+    while let Some(info) = information_at(place, all, endian, steps) {
+        let next = info.raw.next_info_rva;
+        if !is_new(&mut met, place, next)? {
+            break;
+        }
+        infos.push(info)?;
+        place = next;
+    }
+    Ok(infos)
+}
+
+// Tells whether an offset was not met before, and keeps it; but it is not kept if no piece follows, so that
+// a chain of one takes no memory for the set.
+fn is_new(met: &mut BTreeSet<u32>, place: u32, next: u32) -> Result<bool, AllocError>
+    ensures new { IfOk result (λ new. new ≡ not (contains nat_cmp met.old place)) }
+    ensures keeps { IfOk result (λ new. 0 < next → (q : ℕ)
+        → contains nat_cmp met.new q ≡ cond (is_at (nat_cmp place) q) true (contains nat_cmp met.old q)) }
+{
+    if next == 0 {
+        return Ok(!met.contains(&place));
+    }
+    Ok(met.insert(place)?)
+}

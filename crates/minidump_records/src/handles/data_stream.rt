@@ -1,0 +1,161 @@
+ghost use Rattle.std.specs.Prelude.{◌≡◌, ◌+◌, ◌*◌, ◌≤◌, [], length, map, IfOk, IsOkUnless};
+ghost use Rattle.std.specs.List.{sum_by};
+ghost use Rattle.std.specs.Slice.Iter.{iter_rest};
+ghost use Rattle.minidump_bytes.specs.Source.{bytes_of};
+ghost use Rattle.minidump_bytes.specs.Steps.{after};
+ghost use Rattle.minidump_format.specs.declared.format.stream_type.MINIDUMP_STREAM_TYPE.TheVariants.{HandleDataStream};
+ghost use Rattle.minidump_format.specs.StreamType.{number_of};
+ghost use Rattle.minidump_records.specs.Handles.{described, handle_of, handle_reads, handles_of};
+
+use super::descriptor::read_handle;
+use super::{MinidumpHandleDescriptor, RawHandleDescriptor};
+use minidump_bytes::{Endian, Entries, Record, Source, Steps};
+use minidump_format::Error;
+use minidump_format::format::{MINIDUMP_HANDLE_DESCRIPTOR, MINIDUMP_HANDLE_DESCRIPTOR_2};
+use minidump_system::framing::{HandleEntries, handle_entries};
+use minidump_system::{MinidumpStream, MinidumpSystemInfo};
+use std::alloc::{AllocError, Global};
+use std::slice;
+
+/// The open handles of a process.
+#[derive(Drop)]
+pub struct MinidumpHandleDataStream {
+    /// The handles, in the order of the stream.
+    pub handles: Vec<MinidumpHandleDescriptor>,
+}
+
+impl MinidumpHandleDataStream {
+    /// Makes an empty list. Takes no memory.
+    pub fn new(alloc: Global) -> MinidumpHandleDataStream
+        ensures { result.handles.items ≡ [] }
+    {
+        MinidumpHandleDataStream {
+            handles: Vec::new(alloc),
+        }
+    }
+
+    /// Makes a list of handles.
+    pub fn from_handles(handles: Vec<MinidumpHandleDescriptor>) -> MinidumpHandleDataStream
+        ensures { result.handles ≡ handles }
+    {
+        MinidumpHandleDataStream { handles }
+    }
+
+    /// Returns an iterator over the handles, in the order of the list.
+    pub fn iter(&self) -> slice::Iter<'_, MinidumpHandleDescriptor>
+        ensures { iter_rest result ≡ self.now.handles.items }
+    {
+        self.handles.iter()
+    }
+
+    /// Copies the list. The only error is [`Error::OutOfMemory`].
+    pub fn try_clone(&self, alloc: Global) -> Result<MinidumpHandleDataStream, Error>
+        ensures same { IfOk result (λ list. handles_of list ≡ handles_of self.now) }
+        ensures memory { IsOkUnless result Error.OutOfMemory }
+    {
+        let mut handles = Vec::with_capacity(alloc, self.handles.len())?;
+        for handle in &self.handles {
+            handles.push(handle.try_clone(alloc)?)?;
+        }
+        Ok(MinidumpHandleDataStream { handles })
+    }
+}
+
+/// Microsoft's `MINIDUMP_HANDLE_DATA_STREAM`: a list of descriptors of 32 or 40 bytes. A name at RVA 0, or
+/// one that is no text, is `None`; descriptors of 40 bytes name information on their objects.
+impl<'a> MinidumpStream<'a> for MinidumpHandleDataStream {
+    ghost use Rattle.std.specs.Prelude.{◌+◌, ◌*◌, ◌-◌, IsOk, List, length};
+    ghost use Rattle.std.specs.List.{sum_by};
+    ghost use Rattle.minidump_format.specs.declared.format.stream_type.MINIDUMP_STREAM_TYPE.TheVariants.{HandleDataStream};
+    ghost use Rattle.minidump_format.specs.StreamType.{number_of};
+    ghost use Rattle.minidump_system.specs.Framing.{handle_list};
+    ghost use Rattle.minidump_records.specs.Handles.{Handle, handle_data, handle_reads, handles_of};
+
+    ghost type_number = { number_of HandleDataStream };
+
+    const STREAM_TYPE: u32 = 12;
+
+    ghost Value = { List Handle };
+
+    ghost view = { handles_of };
+
+    ghost meaning = { λ bytes all order system. handle_data bytes all order };
+
+    ghost limit = { λ n. (n + 8) * (n + 8) - 1 };
+
+    ghost least = { λ bytes order handles. 1 + length handles + sum_by handle_reads handles };
+
+    ghost takes_memory = { λ bytes order. IsOk (handle_list order bytes) };
+
+    fn number_of_type() -> u32
+        ensures { result ≡ number_of HandleDataStream }
+    {
+        Self::STREAM_TYPE
+    }
+
+    fn read(
+        alloc: Global,
+        bytes: Source<'a>,
+        all: Source<'a>,
+        endian: Endian,
+        _system_info: Option<&MinidumpSystemInfo>,
+        steps: &mut Steps,
+    ) -> Result<Self, Error> {
+        let handles = match handle_entries(bytes, endian, steps)? {
+            HandleEntries::Short(raws) => read_handles(alloc, raws, all, endian, steps)?,
+            HandleEntries::Long(raws) => read_handles(alloc, raws, all, endian, steps)?,
+        };
+        Ok(MinidumpHandleDataStream { handles })
+    }
+}
+
+// The layout of a descriptor in a list.
+trait Descriptor: Record {
+    ghost use Rattle.minidump_records.specs.declared.handles.raw.RawHandleDescriptor.{RawHandleDescriptor};
+
+    ghost raw: { Self → RawHandleDescriptor };
+
+    // Names the layout.
+    fn raw(self) -> RawHandleDescriptor
+        ensures { result ≡ raw self };
+}
+
+impl Descriptor for MINIDUMP_HANDLE_DESCRIPTOR {
+    ghost use Rattle.minidump_records.specs.declared.handles.raw.RawHandleDescriptor.TheVariants.{HandleDescriptor};
+
+    ghost raw = { HandleDescriptor };
+
+    fn raw(self) -> RawHandleDescriptor {
+        RawHandleDescriptor::HandleDescriptor(self)
+    }
+}
+
+impl Descriptor for MINIDUMP_HANDLE_DESCRIPTOR_2 {
+    ghost use Rattle.minidump_records.specs.declared.handles.raw.RawHandleDescriptor.TheVariants.{HandleDescriptor2};
+
+    ghost raw = { HandleDescriptor2 };
+
+    fn raw(self) -> RawHandleDescriptor {
+        RawHandleDescriptor::HandleDescriptor2(self)
+    }
+}
+
+// Reads the handles of descriptors.
+fn read_handles<R: Descriptor>(
+    alloc: Global,
+    raws: Entries<'_, R>,
+    all: Source<'_>,
+    endian: Endian,
+    steps: &mut Steps,
+) -> Result<Vec<MinidumpHandleDescriptor>, AllocError>
+    ensures items { IfOk result (λ v. map handle_of v.items ≡ map (λ r. described endian (bytes_of all.entry) (R.raw r)) raws.entry) }
+    ensures within { steps.new ≤ steps.old + length raws.entry * (length (bytes_of all.entry) + 3) }
+    ensures grows { steps.old ≤ steps.new }
+    ensures at_least { IfOk result (λ v. after steps.old (sum_by handle_reads (map handle_of v.items)) ≤ steps.new) }
+{
+    let mut handles = Vec::with_capacity(alloc, raws.len())?;
+    for raw in raws {
+        handles.push(read_handle(alloc, raw.raw(), all, endian, steps)?)?;
+    }
+    Ok(handles)
+}

@@ -1,0 +1,59 @@
+ghost use Rattle.std.specs.Prelude.{◌≡◌, ◌+◌, ◌≤◌, IfSome};
+ghost use Rattle.minidump_bytes.specs.Source.{bytes_of};
+ghost use Rattle.minidump_bytes.specs.Steps.{after};
+ghost use Rattle.minidump_records.specs.ObjectChain.{information_at};
+
+use minidump_bytes::{Endian, Source, Steps};
+use minidump_format::format::{
+    MINIDUMP_HANDLE_OBJECT_INFORMATION, MINIDUMP_HANDLE_OBJECT_INFORMATION_TYPE,
+};
+use std::fmt;
+
+/// The head of a piece of information on the object of a handle.
+#[derive(Clone, Copy)]
+pub struct MinidumpHandleObjectInformation {
+    /// The record in the file.
+    pub raw: MINIDUMP_HANDLE_OBJECT_INFORMATION,
+    /// The type that its number names.
+    pub info_type: MINIDUMP_HANDLE_OBJECT_INFORMATION_TYPE,
+}
+
+/// Formats the fields of the record: the RVA in hexadecimal, the others in decimal.
+impl fmt::Display for MinidumpHandleObjectInformation {
+    ghost use Rattle.std.specs.Prelude.{Some};
+    ghost use Rattle.minidump_records.specs.ObjectChain.{information_text};
+
+    ghost output = { λ information. Some (information_text information) };
+
+    fn fmt<W: fmt::Write>(&self, f: &mut fmt::Formatter<W>) -> fmt::Result {
+        let next = self.raw.next_info_rva;
+        let kind = self.raw.info_type;
+        let size = self.raw.size_of_info;
+        write!(
+            f,
+            "{{next_info_rva: 0x{next:x}, info_type: {kind}, size_of_info: {size}}}"
+        )
+    }
+}
+
+// Reads the piece of information at an offset. Returns `None` at 0, where no record can be read, and where
+// its type is not known.
+#[tactic(auto, unfolding(crate::specs::ObjectChain::information_at))]
+pub(super) fn information_at(
+    place: u32,
+    all: Source<'_>,
+    endian: Endian,
+    steps: &mut Steps,
+) -> Option<MinidumpHandleObjectInformation>
+    ensures value { result ≡ information_at endian (bytes_of all.entry) place }
+    ensures within { steps.new ≤ steps.old + 1 }
+    ensures grows { steps.old ≤ steps.new }
+    ensures begun { IfSome result (λ _. after steps.old 1 ≤ steps.new) }
+{
+    if place == 0 {
+        return None;
+    }
+    let raw: MINIDUMP_HANDLE_OBJECT_INFORMATION = all.record(place as u64, endian, steps)?;
+    let info_type = MINIDUMP_HANDLE_OBJECT_INFORMATION_TYPE::from_u32(raw.info_type)?;
+    Some(MinidumpHandleObjectInformation { raw, info_type })
+}
