@@ -3,3 +3,4 @@ pub mod DirectoryLemmas
 pub mod KeyLemmas
 pub mod LawsLemmas
 pub mod StreamsLemmas
+pub mod ThreadLemmas

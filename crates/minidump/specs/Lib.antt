@@ -20,3 +20,5 @@ pub mod Contexts
 pub mod Modules
 pub mod Reasons
 pub mod Records
+pub mod Thread
+pub mod Exception

@@ -9,7 +9,7 @@ use Rattle.minidump_format.specs.declared.format.memory.MINIDUMP_MEMORY_DESCRIPT
 use Rattle.minidump_format.specs.declared.format.assertion.MINIDUMP_ASSERTION_INFO.{MINIDUMP_ASSERTION_INFO}
 use Rattle.minidump_format.specs.declared.format.thread.MINIDUMP_THREAD_INFO.{MINIDUMP_THREAD_INFO}
 use Rattle.minidump_format.specs.declared.format.stream_type.MINIDUMP_STREAM_TYPE.{MINIDUMP_STREAM_TYPE}
-use Rattle.minidump_format.specs.declared.format.stream_type.MINIDUMP_STREAM_TYPE.TheVariants.{SystemInfoStream, MiscInfoStream, ModuleListStream, MemoryListStream, Memory64ListStream, UnloadedModuleListStream, ThreadInfoListStream, ThreadNamesStream, CrashpadInfoStream, StabilityReportStream, BreakpadInfoStream, AssertionInfoStream, LinuxCpuInfo, LinuxProcStatus, LinuxLsbRelease, LinuxEnviron, MozMacosBootargsStream, MozLinuxLimits, MozSoftErrors, HandleDataStream}
+use Rattle.minidump_format.specs.declared.format.stream_type.MINIDUMP_STREAM_TYPE.TheVariants.{SystemInfoStream, MiscInfoStream, ModuleListStream, MemoryListStream, Memory64ListStream, UnloadedModuleListStream, ThreadInfoListStream, ThreadNamesStream, CrashpadInfoStream, StabilityReportStream, BreakpadInfoStream, AssertionInfoStream, LinuxCpuInfo, LinuxProcStatus, LinuxLsbRelease, LinuxEnviron, MozMacosBootargsStream, MozLinuxLimits, MozSoftErrors, HandleDataStream, ThreadListStream, ExceptionStream}
 use Rattle.minidump_format.specs.StreamType.{number_of}
 use Rattle.minidump_system.specs.declared.misc_info.RawMiscInfo.{RawMiscInfo}
 use Rattle.minidump_system.specs.MiscInfo.{misc_info_in}
@@ -33,6 +33,8 @@ use Rattle.minidump_records.specs.ThreadNames.{ThreadName, thread_names}
 use Rattle.minidump_records.specs.CrashpadInfo.{Crashpad, crashpad_in}
 use Rattle.minidump_stability.specs.StabilityReport.{Report, stability_report}
 use Rattle.minidump.specs.Dump.{Meaning}
+use Rattle.minidump.specs.Exception.{Exception, exception_in}
+use Rattle.minidump.specs.Thread.{Thread, thread_list}
 
 -- a type of stream has this number and this meaning, and a read of it takes at most so many steps, by n, where neither its bytes nor
 -- those of the file are more than n
@@ -109,6 +111,12 @@ IsLinuxProcLimits = IsReadAs MozLinuxLimits (λ bytes file order system. linux_t
 
 abbrev pub IsHandleData : ℕ → Meaning (List Handle) → (ℕ → ℕ) → Type 0
 IsHandleData = IsReadInSquare HandleDataStream (λ bytes file order system. handle_data bytes file order)
+
+abbrev pub IsThreadList : ℕ → Meaning (List Thread) → (ℕ → ℕ) → Type 0
+IsThreadList = IsReadAs ThreadListStream (λ bytes file order system. thread_list bytes file order)
+
+abbrev pub IsException : ℕ → Meaning Exception → (ℕ → ℕ) → Type 0
+IsException = IsReadAs ExceptionStream (λ bytes file order system. exception_in bytes file order)
 
 abbrev pub IsStabilityReport : ℕ → Meaning Report → (ℕ → ℕ) → Type 0
 IsStabilityReport = IsReadAs StabilityReportStream (λ bytes file order system. stability_report bytes)

@@ -1,17 +1,22 @@
 //! Laws of the directory, of the streams and of lists of regions, over the definitions that the contracts of
 //! this crate name. Each is a call that does nothing; its contract says what holds.
-ghost use Rattle.std.specs.Prelude.{◌≡◌, ◌≢◌, ◌<◌, ◌^◌, ◌+◌, ℕ, ◌++◌, ◌∷◌, All, Contains, List, length, map};
+ghost use Rattle.std.specs.Prelude.{◌≡◌, ◌≢◌, ◌<◌, ◌^◌, ◌+◌, ◌↔◌, ℕ, ◌++◌, ◌∷◌, All, Contains, List, length, map};
 ghost use Rattle.std.specs.List.Sorted.{IsStrictlyIncreasing};
 ghost use Rattle.minidump_format.specs.declared.format.header.MINIDUMP_DIRECTORY.{MINIDUMP_DIRECTORY};
 ghost use Rattle.minidump.specs.declared.directory.DecidingEntry.{DecidingEntry};
+ghost use Rattle.minidump.specs.declared.thread.MinidumpThread.{MinidumpThread};
 ghost use Rattle.minidump.specs.Directory.{deciding, deciding_below, directory};
 ghost use Rattle.minidump.specs.Dump.{Dump, raw_stream, spanned, streams_of};
-ghost use Rattle.minidump.specs.Promise.{IsAssertion, IsBreakpadInfo, IsCrashpadInfo, IsHandleData, IsLinuxCpuInfo, IsLinuxEnviron, IsLinuxLsbRelease, IsLinuxProcLimits, IsLinuxProcStatus, IsMacBootargs, IsMemory64List, IsMemoryList, IsMiscInfo, IsModuleList, IsSoftErrors, IsStabilityReport, IsSystemInfo, IsThreadInfoList, IsThreadNames, IsUnloadedModuleList};
+ghost use Rattle.minidump.specs.Promise.{IsAssertion, IsBreakpadInfo, IsCrashpadInfo, IsException, IsHandleData, IsLinuxCpuInfo, IsLinuxEnviron, IsLinuxLsbRelease, IsLinuxProcLimits, IsLinuxProcStatus, IsMacBootargs, IsMemory64List, IsMemoryList, IsMiscInfo, IsModuleList, IsSoftErrors, IsStabilityReport, IsSystemInfo, IsThreadInfoList, IsThreadList, IsThreadNames, IsUnloadedModuleList};
 ghost use Rattle.minidump.specs.Streams.{unimplemented_view, unknown_view};
+ghost use Rattle.minidump.specs.Thread.{last_with};
 ghost use Rattle.minidump_bytes.specs.Span.{span};
 
 use crate::directory::DecidingEntry;
+use crate::exception::MinidumpException;
 use crate::streams::{MinidumpUnimplementedStream, MinidumpUnknownStream};
+use crate::thread::MinidumpThread;
+use crate::thread_list::MinidumpThreadList;
 pub use minidump_index::laws::{
     a_kept_set, an_address_order, one_address_order, one_kept_set, one_region_at_an_address,
     regions_by_address,
@@ -71,6 +76,15 @@ pub fn listed_streams_decide()
         → deciding stream_type (directory d.order d.header d.file) ≡ Some s → Contains (streams_of d) s }
 {}
 
+/// Of the threads with one id the last is found, and none only if no thread has the id.
+pub fn last_thread_is_found()
+    ensures last { (earlier later : List MinidumpThread) (t : MinidumpThread)
+        → All (λ x. x.raw.thread_id ≢ t.raw.thread_id) later
+        → last_with t.raw.thread_id (earlier ++ (t ∷ later)) ≡ Some t }
+    ensures none { (threads : List MinidumpThread) (id : ℕ)
+        → last_with id threads ≡ None ↔ All (λ x. x.raw.thread_id ≢ id) threads }
+{}
+
 /// Each type of stream that is read has this number and this meaning, and takes at most `n + 7` reads;
 /// handles and Crashpad's information take at most `(n + 8)² - 1`.
 pub fn streams_are_read_as_promised()
@@ -112,6 +126,10 @@ pub fn streams_are_read_as_promised()
         in IsLinuxProcLimits T.type_number T.meaning T.limit }
     ensures handle_data { let T = ⟦<MinidumpHandleDataStream as MinidumpStream<'static>>⟧
         in IsHandleData T.type_number T.meaning T.limit }
+    ensures thread_list { let T = ⟦<MinidumpThreadList<'static> as MinidumpStream<'static>>⟧
+        in IsThreadList T.type_number T.meaning T.limit }
+    ensures exception { let T = ⟦<MinidumpException<'static> as MinidumpStream<'static>>⟧
+        in IsException T.type_number T.meaning T.limit }
     ensures stability_report { let T = ⟦<StabilityReport as MinidumpStream<'static>>⟧
         in IsStabilityReport T.type_number T.meaning T.limit }
 {}

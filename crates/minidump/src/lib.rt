@@ -5,6 +5,8 @@
 //! - `get_stream` reads a stream by its type: each type below that implements [`MinidumpStream`], as
 //!   [`MinidumpSystemInfo`], [`MinidumpModuleList`] or [`MinidumpThreadNames`], or a caller's own.
 //!   `get_raw_stream` lends the bytes of any stream, `get_memory` the memory of the dump by either list.
+//! - [`MinidumpThread`] has the context, the stack and the last error of a thread, [`MinidumpException`] the address
+//!   and the reason of the crash.
 //! - [`CrashReason`] is why a process crashed, in the words of the caller's own lists of names.
 //! - [`MinidumpContext`] decodes the registers of a thread from the bytes of its context.
 //! - `all_streams`, `unknown_streams` and `unimplemented_streams` list the streams. `print` writes the
@@ -31,6 +33,11 @@
 //!   `laws::streams_are_read_as_promised`.
 //! - The memory is the 64-bit list, else, where that is missing or malformed, the memory list: `get_memory`,
 //!   by `memories_of_dump`. `OutOfMemory` is no reason to take the other list.
+//! - The threads, in the order of the file, each with the bytes of its context and its stack:
+//!   `laws::streams_are_read_as_promised`, by `thread_list`; the last one of an id: `get_thread`,
+//!   `laws::last_thread_is_found`. A context: `MinidumpThread::context`, `MinidumpException::context`. A stack is
+//!   the thread's own, else a region of the list: `stack_memory`. The last error: `last_error`. The address and
+//!   the reason of a crash: `get_crash_address`, `get_crash_reason`.
 //! - The deciding entries, ascending by type: `all_streams`; `laws::listed_streams_ascend`,
 //!   `listed_streams_decide`. Those without a name, and those that are never read: `unknown_streams`,
 //!   `unimplemented_streams`. The printed text: `print`. Reading a file: `read_path`.
@@ -42,6 +49,7 @@
 mod answer;
 mod directory;
 mod dump;
+mod exception;
 mod file;
 mod header;
 pub mod laws;
@@ -50,8 +58,11 @@ mod print;
 mod stream;
 mod streams;
 mod system;
+mod thread;
+mod thread_list;
 
 pub use dump::Minidump;
+pub use exception::MinidumpException;
 pub use minidump_bytes::{
     Endian, FixedRead, Record, Refused, Source, Steps, Told, WireField, WireValue, probe,
     write_bytes,
@@ -89,6 +100,8 @@ pub use streams::{
     MinidumpImplementedStream, MinidumpUnimplementedStream, MinidumpUnknownStream, Streams,
     UnimplementedStreams, UnknownStreams,
 };
+pub use thread::MinidumpThread;
+pub use thread_list::MinidumpThreadList;
 
 /// Texts of Linux, which need not be UTF-8.
 pub mod strings {

@@ -1,4 +1,5 @@
 mod crashpad;
+mod exception;
 mod file;
 mod handles;
 mod memory;
@@ -6,6 +7,7 @@ mod modules;
 mod records;
 mod streams;
 mod texts;
+mod threads;
 
 use crate::format::{MINIDUMP_LOCATION_DESCRIPTOR, MINIDUMP_STREAM_TYPE};
 use crate::{Endian, Error, Minidump, Steps, Told, stream_vendor};

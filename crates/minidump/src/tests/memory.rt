@@ -1,6 +1,7 @@
+use super::BOTH;
 use crate::format::MINIDUMP_LOCATION_DESCRIPTOR;
 use crate::{
-    Endian, Minidump, MinidumpMemory64List, MinidumpMemoryList, Steps, UnifiedMemory,
+    Endian, Error, Minidump, MinidumpMemory64List, MinidumpMemoryList, Steps, UnifiedMemory,
     UnifiedMemoryList,
 };
 use minidump_synth::SynthMinidump;
@@ -94,9 +95,8 @@ fn takes_the_64_list_before_the_plain_list(rt: HostRuntime) -> Result<(), Fail> 
     Ok(())
 }
 
-#[test]
-fn counts_the_steps_of_the_lists(rt: HostRuntime) -> Result<(), Fail> {
-    let alloc = rt.alloc();
+// A dump with both lists of the first `count` of five regions.
+fn lists_dump(alloc: Global, endian: Endian, count: usize) -> Result<Vec<u8>, Fail> {
     let regions: [(u64, &[u8]); 5] = [
         (0x5000, &[5]),
         (0x3000, &[3, 3]),
@@ -104,28 +104,45 @@ fn counts_the_steps_of_the_lists(rt: HostRuntime) -> Result<(), Fail> {
         (0x4000, &[]),
         (0x2000, &[2]),
     ];
-    for endian in [Endian::Little, Endian::Big] {
-        for count in 0..=5 {
-            let mut dump = SynthMinidump::new(alloc, endian);
-            let mut list = Vec::new(alloc);
-            for (base, bytes) in &regions[..count] {
-                list.push(dump.add_memory(*base, bytes))?;
-            }
-            dump.add_stream(MEMORY_LIST, dump.section().list(&list));
-            dump.add_memory64_list(&regions[..count]);
-            let bytes = dump.finish()?;
-            let most = bytes.len() as u128 + 8;
-            let least = count as u128 + 1;
+    let regions = regions.get(..count).ok_or("regions")?;
+    let mut dump = SynthMinidump::new(alloc, endian);
+    let mut list = Vec::new(alloc);
+    for (base, bytes) in regions {
+        list.push(dump.add_memory(*base, bytes))?;
+    }
+    dump.add_stream(MEMORY_LIST, dump.section().list(&list));
+    dump.add_memory64_list(regions);
+    Ok(dump.finish()?)
+}
+
+// How many reads the memory list takes, and how many regions it has.
+fn plain_list_of(alloc: Global, dump: &Minidump<'_>) -> Result<(u128, usize), Error> {
+    let mut steps = Steps::new();
+    let list: MinidumpMemoryList = dump.get_stream_counted(alloc, &mut steps)?;
+    Ok((steps.count(), list.iter().count()))
+}
+
+fn list_64_of(alloc: Global, dump: &Minidump<'_>) -> Result<(u128, usize), Error> {
+    let mut steps = Steps::new();
+    let list: MinidumpMemory64List = dump.get_stream_counted(alloc, &mut steps)?;
+    Ok((steps.count(), list.iter().count()))
+}
+
+// The stream, the numbers at its head, the entries, and the bytes of the regions. The fourth region has no
+// bytes, and the memory list skips it.
+#[test]
+fn counts_the_steps_of_the_lists(rt: HostRuntime) -> Result<(), Fail> {
+    let alloc = rt.alloc();
+    for endian in BOTH {
+        for (count, plain, long) in [
+            (0, (2, 0), (3, 0)),
+            (3, (8, 3), (9, 3)),
+            (5, (11, 4), (13, 5)),
+        ] {
+            let bytes = lists_dump(alloc, endian, count)?;
             let dump = Minidump::read(alloc, bytes.as_slice())?;
-            let mut steps = Steps::new();
-            let list: MinidumpMemoryList = dump.get_stream_counted(alloc, &mut steps)?;
-            assert!(rt; least <= steps.count() && steps.count() <= most);
-            // The fourth has no bytes, and is skipped.
-            assert_eq!(rt; list.iter().count(), count - count / 4);
-            let mut steps = Steps::new();
-            let list: MinidumpMemory64List = dump.get_stream_counted(alloc, &mut steps)?;
-            assert!(rt; least <= steps.count() && steps.count() <= most);
-            assert_eq!(rt; list.iter().count(), count);
+            assert_eq!(rt; plain_list_of(alloc, &dump)?, plain);
+            assert_eq!(rt; list_64_of(alloc, &dump)?, long);
         }
     }
     Ok(())

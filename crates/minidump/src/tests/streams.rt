@@ -3,10 +3,11 @@ use crate::format::MINIDUMP_SYSTEM_INFO;
 use crate::system_info::{Cpu, Os};
 use crate::{
     Endian, Error, Minidump, MinidumpAssertion, MinidumpBreakpadInfo, MinidumpCrashpadInfo,
-    MinidumpHandleDataStream, MinidumpLinuxCpuInfo, MinidumpLinuxEnviron, MinidumpLinuxLsbRelease,
-    MinidumpLinuxProcLimits, MinidumpLinuxProcStatus, MinidumpMacBootargs, MinidumpMemory64List,
-    MinidumpMemoryList, MinidumpMiscInfo, MinidumpModuleList, MinidumpSoftErrors, MinidumpStream,
-    MinidumpSystemInfo, MinidumpThreadInfoList, MinidumpThreadNames, MinidumpUnloadedModuleList,
+    MinidumpException, MinidumpHandleDataStream, MinidumpLinuxCpuInfo, MinidumpLinuxEnviron,
+    MinidumpLinuxLsbRelease, MinidumpLinuxProcLimits, MinidumpLinuxProcStatus, MinidumpMacBootargs,
+    MinidumpMemory64List, MinidumpMemoryList, MinidumpMiscInfo, MinidumpModuleList,
+    MinidumpSoftErrors, MinidumpStream, MinidumpSystemInfo, MinidumpThreadInfoList,
+    MinidumpThreadList, MinidumpThreadNames, MinidumpUnloadedModuleList, RawMiscInfo,
     StabilityReport, Steps, Told,
 };
 use minidump_synth::{Section, SynthMinidump, zeroed};
@@ -192,36 +193,41 @@ fn add_misc(dump: &mut SynthMinidump, whole: &[u8], length: usize) {
     }
 }
 
+// The process of a misc information of some length, and whether each later layout is there, by a field.
+fn layout_at(alloc: Global, length: usize) -> Result<(Option<u32>, [bool; 4]), Fail> {
+    let bytes = misc_dump(alloc, length, 0xffff_ffff)?;
+    let dump = Minidump::read(alloc, bytes.as_slice())?;
+    let misc: MinidumpMiscInfo = dump.get_stream(alloc)?;
+    Ok((misc.raw.process_id().copied(), later_layouts(&misc.raw)))
+}
+
+fn later_layouts(raw: &RawMiscInfo) -> [bool; 4] {
+    [
+        raw.processor_max_mhz().is_some(),
+        raw.process_integrity_level().is_some(),
+        raw.build_string().is_some(),
+        raw.process_cookie().is_some(),
+    ]
+}
+
 #[test]
 fn chooses_the_layout_by_the_length(rt: HostRuntime) -> Result<(), Fail> {
     let alloc = rt.alloc();
-    for (length, mhz, integrity, build, cookie) in [
-        (24, false, false, false, false),
-        (43, false, false, false, false),
-        (44, true, false, false, false),
-        (231, true, false, false, false),
-        (232, true, true, false, false),
-        (831, true, true, false, false),
-        (832, true, true, true, false),
-        (1363, true, true, true, false),
-        (1364, true, true, true, true),
-        (2000, true, true, true, true),
+    for (length, later) in [
+        (24, [false, false, false, false]),
+        (43, [false, false, false, false]),
+        (44, [true, false, false, false]),
+        (231, [true, false, false, false]),
+        (232, [true, true, false, false]),
+        (831, [true, true, false, false]),
+        (832, [true, true, true, false]),
+        (1363, [true, true, true, false]),
+        (1364, [true, true, true, true]),
+        (2000, [true, true, true, true]),
     ] {
-        let bytes = misc_dump(alloc, length, 0xffff_ffff)?;
-        let dump = Minidump::read(alloc, bytes.as_slice())?;
-        let mut steps = Steps::new();
-        let misc: MinidumpMiscInfo = dump.get_stream_counted(alloc, &mut steps)?;
-        assert!(rt; steps.count() <= bytes.len() as u128 + 8);
-        let raw = &misc.raw;
-        assert_eq!(rt; raw.process_id().copied(), Some(77));
-        assert_eq!(rt; raw.processor_max_mhz().is_some(), mhz, "at {length}");
-        assert_eq!(rt;
-            raw.process_integrity_level().is_some(),
-            integrity,
-            "at {length}"
-        );
-        assert_eq!(rt; raw.build_string().is_some(), build, "at {length}");
-        assert_eq!(rt; raw.process_cookie().is_some(), cookie, "at {length}");
+        let (process_id, there) = layout_at(alloc, length)?;
+        assert_eq!(rt; process_id, Some(77));
+        assert_eq!(rt; there, later, "at {length}");
     }
     let bytes = misc_dump(alloc, 23, 1)?;
     let dump = Minidump::read(alloc, bytes.as_slice())?;
@@ -268,37 +274,25 @@ fn add_xstate(misc: &mut Section) {
     }
 }
 
+// A dump with a misc information of the largest layout, with every flag.
+fn whole_misc_dump(alloc: Global, endian: Endian) -> Result<Vec<u8>, Fail> {
+    let mut dump = SynthMinidump::new(alloc, endian);
+    let mut misc = dump.section();
+    misc.records(&[1364_u32, 0x3f7, 1234, 0xb105_4d2a, 10, 20]);
+    misc.records(&[3000_u32, 2000, 2900, 3, 1, 8192, 0x4d, 0, 2]);
+    add_time_zone(&mut misc);
+    misc.units16("10.0", 260).units16("", 40);
+    add_xstate(&mut misc);
+    misc.u32(4660);
+    dump.add_stream(MISC_INFO, &misc);
+    Ok(dump.finish()?)
+}
+
 #[test]
 fn prints_the_misc_information(rt: HostRuntime) -> Result<(), Fail> {
     let alloc = rt.alloc();
     for endian in BOTH {
-        let mut dump = SynthMinidump::new(alloc, endian);
-        let mut misc = dump.section();
-        for field in [
-            1364,
-            0x3f7,
-            1234,
-            0xb105_4d2a,
-            10,
-            20,
-            3000,
-            2000,
-            2900,
-            3,
-            1,
-            8192,
-            0x4d,
-            0,
-            2,
-        ] {
-            misc.u32(field);
-        }
-        add_time_zone(&mut misc);
-        misc.units16("10.0", 260).units16("", 40);
-        add_xstate(&mut misc);
-        misc.u32(4660);
-        dump.add_stream(MISC_INFO, &misc);
-        let bytes = dump.finish()?;
+        let bytes = whole_misc_dump(alloc, endian)?;
         let dump = Minidump::read(alloc, bytes.as_slice())?;
         let misc: MinidumpMiscInfo = dump.get_stream(alloc)?;
         assert_eq!(rt; misc.process_create_time(), Some(0xb105_4d2a));
@@ -317,8 +311,10 @@ fn has_number<'a, S: MinidumpStream<'a>>(number: u32) -> bool {
 
 #[test]
 fn types_of_streams_have_their_numbers(rt: HostRuntime) -> Result<(), Fail> {
+    assert!(rt; has_number::<MinidumpThreadList>(3));
     assert!(rt; has_number::<MinidumpModuleList>(4));
     assert!(rt; has_number::<MinidumpMemoryList>(5));
+    assert!(rt; has_number::<MinidumpException>(6));
     assert!(rt; has_number::<MinidumpSystemInfo>(SYSTEM_INFO));
     assert!(rt; has_number::<MinidumpMemory64List>(9));
     assert!(rt; has_number::<MinidumpHandleDataStream>(12));

@@ -1,0 +1,56 @@
+-- The last item of a list that passes a test.
+use Rattle.std.proofs.Common.{◌≡◌, ◌≢◌, ℕ, Bool, true, false, cond, List, [], ◌∷◌, ◌++◌, reverse, Option, Some, None, refl, ap, ◌∙◌, arith}
+use Rattle.std.specs.Prelude.{find, ◌==◌, All, ◌↔◌}
+use Rattle.std.specs.Option.{option_or}
+use Rattle.std.proofs.lemmas.Bool.{ne_eqb, eq-eqb}
+use Rattle.std.proofs.lemmas.List.{reverse-append}
+use Rattle.std.proofs.lemmas.List.Elements.{All-cons, All-head, All-tail}
+use Rattle.std.proofs.lemmas.List.Folds.{find-append}
+
+module _ {X : Type 0} (p : X → Bool) where
+  -- it is in the rest, or it is the first
+  last-cons : (x : X) (xs : List X) → find p (reverse (x ∷ xs)) ≡ option_or (find p (reverse xs)) (cond (p x) (Some x) None)
+  last-cons x xs = ap (find p) (reverse-append (x ∷ []) xs) ∙ find-append p (reverse xs) (x ∷ [])
+
+  -- there is none where all fail
+  all_fail : (xs : List X) → All (λ x. p x ≡ false) xs → find p (reverse xs) ≡ None
+  all_fail [] fail = refl
+  all_fail (x ∷ xs) fail =
+      let first : p x ≡ false = All-head (λ y. p y ≡ false) x xs fail in
+      last-cons x xs ∙ rw (all_fail xs (All-tail (λ y. p y ≡ false) x xs fail), first) refl
+
+  fails : (x : X) (b : Bool) → cond b (Some x) None ≡ None → b ≡ false
+  fails x true e = cc
+  fails x false e = refl
+
+  -- and all fail where there is none
+  none_passes : (xs : List X) → find p (reverse xs) ≡ None → All (λ x. p x ≡ false) xs
+  none_passes [] none = λ k d lt. absurd (omega arith)
+  none_passes (x ∷ xs) none = go (find p (reverse xs)) refl (rw (last-cons x xs) at none) (none_passes xs)
+    where
+      go : (o : Option X) → find p (reverse xs) ≡ o → option_or (find p (reverse xs)) (cond (p x) (Some x) None) ≡ None
+          → (find p (reverse xs) ≡ None → All (λ y. p y ≡ false) xs) → All (λ y. p y ≡ false) (x ∷ xs)
+      go (Some y) is e rest = let h : Some y ≡ None = rw is at e in cc
+      go None is e rest = All-cons (λ y. p y ≡ false) x xs (fails x (p x) (rw is at e)) (rest is)
+
+  -- one that passes, before others that fail
+  pub last_passes : (earlier later : List X) (x : X) → p x ≡ true → All (λ y. p y ≡ false) later → find p (reverse (earlier ++ x ∷ later)) ≡ Some x
+  last_passes earlier later x passes fail =
+      ap (find p) (reverse-append earlier (x ∷ later)) ∙ find-append p (reverse (x ∷ later)) (reverse earlier)
+      ∙ rw (last-cons x later, all_fail later fail, passes) refl
+
+module _ {X : Type 0} (key : X → ℕ) where
+  -- the last of a key
+  pub last_of_key : (earlier later : List X) (x : X) → All (λ y. key y ≢ key x) later → find (λ y. key y == key x) (reverse (earlier ++ x ∷ later)) ≡ Some x
+  last_of_key earlier later x others =
+      last_passes (λ y. key y == key x) earlier later x (eq-eqb (key x) (key x) refl) (λ k d lt. ne_eqb _ (key x) (others k d lt))
+
+  differs : (n k : ℕ) → (n == k) ≡ false → n ≢ k
+  differs n k fail same = let equal : (n == k) ≡ true = eq-eqb n k same in cc
+
+  -- none is of a key exactly where all keys are others
+  pub none_of_key : (xs : List X) (k : ℕ) → find (λ y. key y == k) (reverse xs) ≡ None ↔ All (λ y. key y ≢ k) xs
+  none_of_key xs k = (
+    (λ none. λ i d lt. differs _ k (none_passes (λ y. key y == k) xs none i d lt)),
+    (λ others. all_fail (λ y. key y == k) xs (λ i d lt. ne_eqb _ k (others i d lt))),
+  )

@@ -1,0 +1,52 @@
+-- The exception of a minidump: Microsoft's MINIDUMP_EXCEPTION_STREAM, with the address of the crash.
+use Rattle.std.specs.Prelude.{ℕ, ◌%◌, ◌^◌, ◌==◌, ◌||◌, ◌&&◌, nat_le, Bool, false, List, slice_index, Option, Result, Ok, if◌then◌else◌}
+use Rattle.std.specs.Option.{ok_or, option_copied}
+use Rattle.minidump_bytes.specs.declared.endian.Endian.{Endian}
+use Rattle.minidump_bytes.specs.Span.{record_at}
+use Rattle.minidump_format.specs.declared.error.Error.{Error}
+use Rattle.minidump_format.specs.declared.error.Error.TheVariants.{StreamReadFailure}
+use Rattle.minidump_format.specs.declared.format.exception.MINIDUMP_EXCEPTION.{MINIDUMP_EXCEPTION}
+use Rattle.minidump_format.specs.declared.format.exception.MINIDUMP_EXCEPTION_STREAM.{MINIDUMP_EXCEPTION_STREAM}
+use Rattle.minidump_format.specs.Exception.{exception_stream}
+use Rattle.minidump_system.specs.declared.cpu.Cpu.{Cpu}
+use Rattle.minidump_system.specs.declared.cpu.PointerWidth.{PointerWidth}
+use Rattle.minidump_system.specs.declared.cpu.PointerWidth.TheVariants.{Bits32}
+use Rattle.minidump_system.specs.declared.os.Os.{Os}
+use Rattle.minidump_system.specs.declared.os.Os.TheVariants.{Windows}
+use Rattle.minidump_system.specs.Cpu.{width_of}
+use Rattle.minidump_system.specs.Reads.{and_then}
+use Rattle.minidump.specs.declared.exception.MinidumpException.{MinidumpException}
+use Rattle.minidump.specs.Thread.{located}
+
+-- an exception: its record, the id of its thread, the bytes of that thread's context, and their byte order
+pub record Exception : Type 0 where
+  pub raw : MINIDUMP_EXCEPTION_STREAM
+  pub thread_id : ℕ
+  pub context : Option (List ℕ)
+  pub order : Endian
+
+abbrev pub exception_of : MinidumpException → Exception
+exception_of e = record { raw = e.raw; thread_id = e.thread_id; context = option_copied e.context; order = e.endian }
+
+-- the exception of a record: a context whose bytes are not in the file is absent
+abbrev pub exception_at : Endian → List ℕ → MINIDUMP_EXCEPTION_STREAM → Exception
+exception_at order file raw = record { raw = raw; thread_id = raw.thread_id; context = located file raw.thread_context; order = order }
+
+-- Microsoft's MINIDUMP_EXCEPTION_STREAM: one record
+abbrev pub exception_in : List ℕ → List ℕ → Endian → Result Exception Error
+exception_in bytes file order =
+    and_then (ok_or (record_at exception_stream order 0 bytes) StreamReadFailure) (λ raw. Ok (exception_at order file raw))
+
+-- EXCEPTION_ACCESS_VIOLATION and EXCEPTION_IN_PAGE_ERROR of winnt.h, whose second parameter is the address that was accessed
+abbrev has_address : Os → MINIDUMP_EXCEPTION → Bool
+has_address Windows r = (r.exception_code == 0xc0000005 || r.exception_code == 0xc0000006) && nat_le 2 r.number_parameters
+has_address _ r = false
+
+-- an address of this width
+abbrev as_wide : PointerWidth → ℕ → ℕ
+as_wide Bits32 address = address % 2 ^ 32
+as_wide _ address = address
+
+-- the address of a crash: the one that was accessed, else the one at which the exception happened
+abbrev pub crash_address : Os → Cpu → MINIDUMP_EXCEPTION → ℕ
+crash_address os cpu r = as_wide (width_of cpu) (if has_address os r then slice_index r.exception_information 1 else r.exception_address)

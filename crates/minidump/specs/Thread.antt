@@ -1,0 +1,94 @@
+-- The threads of a minidump: Microsoft's MINIDUMP_THREAD_LIST, with the context and the stack of each.
+use Rattle.std.specs.Prelude.{◌≡◌, ℕ, ◌+◌, ◌==◌, List, find, map, reverse, Option, Some, None, Result, Ok, if◌then◌else◌, nat_lt, ◌*◌, ◌^◌}
+use Rattle.std.specs.Option.{option_and_then, option_copied, option_map}
+use Rattle.std.specs.Result.{result_ok}
+use Rattle.minidump_bytes.specs.declared.endian.Endian.{Endian}
+use Rattle.minidump_bytes.specs.Layout.{number_layout}
+use Rattle.minidump_bytes.specs.Span.{span}
+use Rattle.minidump_format.specs.declared.error.Error.{Error}
+use Rattle.minidump_format.specs.declared.format.header.MINIDUMP_LOCATION_DESCRIPTOR.{MINIDUMP_LOCATION_DESCRIPTOR}
+use Rattle.minidump_format.specs.declared.format.memory.MINIDUMP_MEMORY_DESCRIPTOR.{MINIDUMP_MEMORY_DESCRIPTOR}
+use Rattle.minidump_format.specs.declared.format.thread.MINIDUMP_THREAD.{MINIDUMP_THREAD}
+use Rattle.minidump_format.specs.Thread.{thread}
+use Rattle.minidump_context.specs.declared.raw_context.MinidumpRawContext.{MinidumpRawContext}
+use Rattle.minidump_context.specs.Context.{context_in}
+use Rattle.minidump_index.specs.Lookup.{IsLookedUp}
+use Rattle.minidump_memory.specs.Memory.{MemoryRegion, described, memory_of, number_in, region_range, spans_read}
+use Rattle.minidump_memory.specs.Unified.{Memory, UnifiedRegion, UnifiedRegions, of_kind, unified_regions}
+use Rattle.minidump_reason.specs.declared.reason.CrashReason.{CrashReason}
+use Rattle.minidump_reason.specs.Names.{Lists}
+use Rattle.minidump_reason.specs.Reason.{windows_error}
+use Rattle.minidump_system.specs.declared.cpu.Cpu.{Cpu}
+use Rattle.minidump_system.specs.Cpu.{pointer_bytes, width_of}
+use Rattle.minidump_system.specs.Framing.{plain_list}
+use Rattle.minidump_system.specs.Reads.{and_then}
+use Rattle.minidump.specs.declared.thread.MinidumpThread.{MinidumpThread}
+use Rattle.minidump.specs.declared.thread_list.MinidumpThreadList.{MinidumpThreadList}
+
+-- the bytes of a location, where they are in the file
+abbrev pub located : List ℕ → MINIDUMP_LOCATION_DESCRIPTOR → Option (List ℕ)
+located file at = span at.rva (at.rva + at.data_size) file
+
+-- the context that these bytes are on an architecture
+abbrev pub accepted_context : ℕ → Endian → Option (List ℕ) → Option MinidumpRawContext
+accepted_context architecture order bytes = option_and_then (λ b. result_ok (context_in architecture order b)) bytes
+
+-- a thread: its entry, the bytes of its context, its own stack, and their byte order
+pub record Thread : Type 0 where
+  pub raw : MINIDUMP_THREAD
+  pub context : Option (List ℕ)
+  pub stack : Option (MemoryRegion MINIDUMP_MEMORY_DESCRIPTOR)
+  pub order : Endian
+
+abbrev pub thread_of : MinidumpThread → Thread
+thread_of t = record { raw = t.raw; context = option_copied t.context; stack = option_map memory_of t.stack; order = t.endian }
+
+abbrev pub threads_of : MinidumpThreadList → List Thread
+threads_of l = map thread_of l.threads.items
+
+-- the thread of an entry: a context or a stack whose bytes are not in the file is absent, and so is a stack without a place or a size
+abbrev pub thread_at : Endian → List ℕ → MINIDUMP_THREAD → Thread
+thread_at order file raw = record {
+  raw = raw;
+  context = located file raw.thread_context;
+  stack = result_ok (described file order raw.stack);
+  order = order;
+}
+
+-- Microsoft's MINIDUMP_THREAD_LIST: a plain list of entries
+abbrev pub thread_list : List ℕ → List ℕ → Endian → Result (List Thread) Error
+thread_list bytes file order = and_then (plain_list thread order bytes) (λ raws. Ok (map (thread_at order file) raws))
+
+-- how much is read for a thread: its context, and its stack where that has a place and a size
+abbrev pub reads_of : Thread → ℕ
+reads_of t = 1 + spans_read t.raw.stack
+
+-- the last thread of an id
+abbrev pub last_with : ℕ → List MinidumpThread → Option MinidumpThread
+last_with id threads = find (λ t. t.raw.thread_id == id) (reverse threads)
+
+abbrev IsOwnOrListed : Option (MemoryRegion MINIDUMP_MEMORY_DESCRIPTOR) → Type 0 → Option UnifiedRegion → Type 0
+IsOwnOrListed (Some own) listed found = found ≡ Some (of_kind Memory own)
+IsOwnOrListed None listed found = listed
+
+-- a thread's stack: its own, else the region in a list of memory that the start of its stack lies in
+abbrev pub IsStack : Thread → UnifiedRegions → Option UnifiedRegion → Type 0
+IsStack t memory found =
+    IsOwnOrListed t.stack (IsLookedUp region_range (unified_regions memory) t.raw.stack.start_of_memory_range found) found
+
+-- the address of LastErrorValue in winternl.h's TEB, 13 pointers behind its beginning: there is none without a width of pointers, or
+-- beyond the addresses of 64 bits
+abbrev pub last_error_address : Cpu → ℕ → Option ℕ
+last_error_address cpu teb =
+    option_and_then (λ width. if nat_lt (teb + 13 * width) (2 ^ 64) then Some (teb + 13 * width) else None) (pointer_bytes (width_of cpu))
+
+-- the error that a region holds at an address
+abbrev pub error_at : Lists → ℕ → Option UnifiedRegion → Option CrashReason
+error_at names address region =
+    option_map (windows_error names) (option_and_then (λ r. number_in (number_layout 4) r address) region)
+
+-- the error at an address of a list of memory: that of the region that contains the address
+abbrev pub IsErrorIn : Lists → UnifiedRegions → Option ℕ → Option CrashReason → Type 0
+IsErrorIn names memory None found = found ≡ None
+IsErrorIn names memory (Some address) found =
+    (region : Option UnifiedRegion) × IsLookedUp region_range (unified_regions memory) address region × (found ≡ error_at names address region)

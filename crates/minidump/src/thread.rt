@@ -1,0 +1,137 @@
+ghost use Rattle.std.specs.Prelude.{◌≡◌, ◌+◌, IfSome};
+ghost use Rattle.std.specs.Option.{option_copied, option_map};
+ghost use Rattle.minidump_bytes.specs.Source.{bytes_of};
+ghost use Rattle.minidump_bytes.specs.Steps.{after};
+ghost use Rattle.minidump_context.specs.declared.validity.MinidumpContextValidity.TheVariants.{All};
+ghost use Rattle.minidump_memory.specs.Memory.{spans_read};
+ghost use Rattle.minidump_memory.specs.Unified.{unified_list, unified_region};
+ghost use Rattle.minidump.specs.Thread.{IsErrorIn, IsStack, accepted_context, error_at, last_error_address, located, thread_at, thread_of};
+
+use minidump_bytes::{Endian, Source, Steps};
+use minidump_context::MinidumpContext;
+use minidump_format::format::{MINIDUMP_LOCATION_DESCRIPTOR, MINIDUMP_THREAD};
+use minidump_memory::{MinidumpMemory, UnifiedMemory, UnifiedMemoryList};
+use minidump_reason::{CodeNames, CrashReason};
+use minidump_system::{Cpu, MinidumpMiscInfo, MinidumpSystemInfo};
+
+/// A thread, with the bytes of its context and of its stack as they lie in the file.
+#[derive(Drop)]
+pub struct MinidumpThread<'a> {
+    /// The entry in the stream.
+    pub raw: MINIDUMP_THREAD,
+    context: Option<&'a [u8]>,
+    stack: Option<MinidumpMemory<'a>>,
+    endian: Endian,
+}
+
+impl<'a> MinidumpThread<'a> {
+    // Reads the thread of an entry: the span of its context, and that of its stack.
+    pub(crate) fn read(
+        raw: MINIDUMP_THREAD,
+        all: Source<'a>,
+        endian: Endian,
+        steps: &mut Steps,
+    ) -> MinidumpThread<'a>
+        ensures value { thread_of result ≡ thread_at endian (bytes_of all.entry) raw }
+        ensures step { steps.new ≡ after steps.old (1 + spans_read raw.stack) }
+    {
+        MinidumpThread {
+            raw,
+            context: located(&raw.thread_context, all, steps),
+            stack: MinidumpMemory::read_counted(&raw.stack, all, endian, steps).ok(),
+            endian,
+        }
+    }
+
+    /// Decodes the registers of the thread. Returns `None` if the bytes of its context are not in the
+    /// file or [`MinidumpContext::read`] refuses them. Takes no memory.
+    pub fn context(
+        &self,
+        system_info: &MinidumpSystemInfo,
+        misc: Option<&MinidumpMiscInfo>,
+    ) -> Option<MinidumpContext>
+        ensures raw { option_map (λ c. c.raw) result
+            ≡ accepted_context system_info.now.raw.processor_architecture (thread_of self.now).order (thread_of self.now).context }
+        ensures valid { IfSome result (λ c. c.valid ≡ All) }
+    {
+        accepted_context(self.context, self.endian, system_info, misc)
+    }
+
+    /// Returns the memory of the stack: the thread's own, else the kept region of `memory_list` that
+    /// contains the address where the stack begins, or `None` if no kept region does. A stack whose RVA
+    /// or size is 0, or whose bytes are not in the file, is not the thread's own.
+    pub fn stack_memory<'mem>(
+        &'mem self,
+        memory_list: &'mem UnifiedMemoryList<'a>,
+    ) -> Option<UnifiedMemory<'mem, 'a>>
+        ensures { IsStack (thread_of self.now) (unified_list memory_list.now) (option_map unified_region result) }
+    {
+        match &self.stack {
+            Some(stack) => Some(UnifiedMemory::Memory(stack)),
+            None => memory_list.memory_at_address(self.raw.stack.start_of_memory_range),
+        }
+    }
+
+    /// Returns the last error of the thread on Windows: the number at `LastErrorValue` of its thread
+    /// environment block, in the kept region of `memory` that contains the address of that field. Returns
+    /// `None` if the width of a pointer is unknown, the address is 2^64 or more, no kept region contains
+    /// it, or the region doesn't hold all four bytes. The thread's own stack is not looked at. Takes no
+    /// memory.
+    pub fn last_error(
+        &self,
+        cpu: Cpu,
+        memory: &UnifiedMemoryList<'_>,
+        names: &CodeNames<'_>,
+    ) -> Option<CrashReason>
+        ensures { IsErrorIn names.now (unified_list memory.now) (last_error_address cpu self.now.raw.teb) result }
+    {
+        let address = last_error_address(cpu, self.raw.teb)?;
+        error_at(names, address, memory.memory_at_address(address))
+    }
+}
+
+// Returns the address of `LastErrorValue` in a thread environment block: its 14th pointer.
+fn last_error_address(cpu: Cpu, teb: u64) -> Option<u64>
+    ensures { result ≡ last_error_address cpu teb }
+{
+    let width = cpu.pointer_width().size_in_bytes()?;
+    teb.checked_add(13 * width as u64)
+}
+
+// Returns the error that a region holds at an address.
+fn error_at(
+    names: &CodeNames<'_>,
+    address: u64,
+    region: Option<UnifiedMemory<'_, '_>>,
+) -> Option<CrashReason>
+    ensures { result ≡ error_at names.now address (option_map unified_region region.entry) }
+{
+    let code = region?.get_memory_at_address(address)?;
+    Some(CrashReason::from_windows_error(code, names))
+}
+
+// Returns the bytes of a location, or `None` if they are not in the file, and counts the read.
+pub(crate) fn located<'a>(
+    location: &MINIDUMP_LOCATION_DESCRIPTOR,
+    all: Source<'a>,
+    steps: &mut Steps,
+) -> Option<&'a [u8]>
+    ensures value { option_copied result ≡ located (bytes_of all.entry) location.now }
+    ensures step { steps.new ≡ after steps.old 1 }
+{
+    all.span(location.rva as u64, location.data_size as u64, steps)
+}
+
+// Decodes the context that bytes are, or returns `None` if there are none or they are no context.
+pub(crate) fn accepted_context(
+    bytes: Option<&[u8]>,
+    endian: Endian,
+    system_info: &MinidumpSystemInfo,
+    misc: Option<&MinidumpMiscInfo>,
+) -> Option<MinidumpContext>
+    ensures raw { option_map (λ c. c.raw) result
+        ≡ accepted_context system_info.now.raw.processor_architecture endian (option_copied bytes.entry) }
+    ensures valid { IfSome result (λ c. c.valid ≡ All) }
+{
+    MinidumpContext::read(bytes?, endian, system_info, misc).ok()
+}
