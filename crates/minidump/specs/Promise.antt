@@ -9,13 +9,16 @@ use Rattle.minidump_format.specs.declared.format.memory.MINIDUMP_MEMORY_DESCRIPT
 use Rattle.minidump_format.specs.declared.format.assertion.MINIDUMP_ASSERTION_INFO.{MINIDUMP_ASSERTION_INFO}
 use Rattle.minidump_format.specs.declared.format.thread.MINIDUMP_THREAD_INFO.{MINIDUMP_THREAD_INFO}
 use Rattle.minidump_format.specs.declared.format.stream_type.MINIDUMP_STREAM_TYPE.{MINIDUMP_STREAM_TYPE}
-use Rattle.minidump_format.specs.declared.format.stream_type.MINIDUMP_STREAM_TYPE.TheVariants.{SystemInfoStream, MiscInfoStream, ModuleListStream, MemoryListStream, Memory64ListStream, UnloadedModuleListStream, ThreadInfoListStream, ThreadNamesStream, CrashpadInfoStream, StabilityReportStream, BreakpadInfoStream, AssertionInfoStream, LinuxCpuInfo, LinuxProcStatus, LinuxLsbRelease, LinuxEnviron, MozMacosBootargsStream, MozLinuxLimits, MozSoftErrors, HandleDataStream, ThreadListStream, ExceptionStream}
+use Rattle.minidump_format.specs.declared.format.stream_type.MINIDUMP_STREAM_TYPE.TheVariants.{SystemInfoStream, MiscInfoStream, ModuleListStream, MemoryListStream, Memory64ListStream, UnloadedModuleListStream, ThreadInfoListStream, ThreadNamesStream, CrashpadInfoStream, StabilityReportStream, BreakpadInfoStream, AssertionInfoStream, LinuxCpuInfo, LinuxProcStatus, LinuxLsbRelease, LinuxEnviron, MozMacosBootargsStream, MozLinuxLimits, MozSoftErrors, HandleDataStream, ThreadListStream, ExceptionStream, MemoryInfoListStream, LinuxMaps}
 use Rattle.minidump_format.specs.StreamType.{number_of}
 use Rattle.minidump_system.specs.declared.misc_info.RawMiscInfo.{RawMiscInfo}
 use Rattle.minidump_system.specs.MiscInfo.{misc_info_in}
 use Rattle.minidump_system.specs.SystemInfo.{System, system_in}
+use Rattle.minidump_memory.specs.LinuxMaps.{linux_maps}
+use Rattle.minidump_memory.specs.MapLine.{MapRegion}
 use Rattle.minidump_memory.specs.Memory.{MemoryRegion}
 use Rattle.minidump_memory.specs.Memory64List.{memory_list_64}
+use Rattle.minidump_memory.specs.MemoryInfo.{MemoryInfo, memory_info_list}
 use Rattle.minidump_memory.specs.MemoryList.{memory_list}
 use Rattle.minidump_modules.specs.Module.{ModuleValue}
 use Rattle.minidump_modules.specs.ModuleList.{module_list}
@@ -117,6 +120,12 @@ IsThreadList = IsReadAs ThreadListStream (λ bytes file order system. thread_lis
 
 abbrev pub IsException : ℕ → Meaning Exception → (ℕ → ℕ) → Type 0
 IsException = IsReadAs ExceptionStream (λ bytes file order system. exception_in bytes file order)
+
+abbrev pub IsMemoryInfoList : ℕ → Meaning (List MemoryInfo) → (ℕ → ℕ) → Type 0
+IsMemoryInfoList = IsReadAs MemoryInfoListStream (λ bytes file order system. memory_info_list bytes order)
+
+abbrev pub IsLinuxMaps : ℕ → Meaning (List MapRegion) → (ℕ → ℕ) → Type 0
+IsLinuxMaps = IsReadAs LinuxMaps (λ bytes file order system. linux_maps bytes)
 
 abbrev pub IsStabilityReport : ℕ → Meaning Report → (ℕ → ℕ) → Type 0
 IsStabilityReport = IsReadAs StabilityReportStream (λ bytes file order system. stability_report bytes)

@@ -7,7 +7,7 @@ ghost use Rattle.minidump.specs.declared.directory.DecidingEntry.{DecidingEntry}
 ghost use Rattle.minidump.specs.declared.thread.MinidumpThread.{MinidumpThread};
 ghost use Rattle.minidump.specs.Directory.{deciding, deciding_below, directory};
 ghost use Rattle.minidump.specs.Dump.{Dump, raw_stream, spanned, streams_of};
-ghost use Rattle.minidump.specs.Promise.{IsAssertion, IsBreakpadInfo, IsCrashpadInfo, IsException, IsHandleData, IsLinuxCpuInfo, IsLinuxEnviron, IsLinuxLsbRelease, IsLinuxProcLimits, IsLinuxProcStatus, IsMacBootargs, IsMemory64List, IsMemoryList, IsMiscInfo, IsModuleList, IsSoftErrors, IsStabilityReport, IsSystemInfo, IsThreadInfoList, IsThreadList, IsThreadNames, IsUnloadedModuleList};
+ghost use Rattle.minidump.specs.Promise.{IsAssertion, IsBreakpadInfo, IsCrashpadInfo, IsException, IsHandleData, IsLinuxCpuInfo, IsLinuxEnviron, IsLinuxLsbRelease, IsLinuxMaps, IsLinuxProcLimits, IsLinuxProcStatus, IsMacBootargs, IsMemory64List, IsMemoryInfoList, IsMemoryList, IsMiscInfo, IsModuleList, IsSoftErrors, IsStabilityReport, IsSystemInfo, IsThreadInfoList, IsThreadList, IsThreadNames, IsUnloadedModuleList};
 ghost use Rattle.minidump.specs.Streams.{unimplemented_view, unknown_view};
 ghost use Rattle.minidump.specs.Thread.{last_with};
 ghost use Rattle.minidump_bytes.specs.Span.{span};
@@ -22,10 +22,15 @@ pub use minidump_index::laws::{
     regions_by_address,
 };
 pub use minidump_memory::laws::{
-    region_laws, the_unified_list_answers_as_the_64_list_it_holds,
+    information_depends_on_its_stream_alone, map_lines_are_the_grammar, region_laws,
+    the_unified_information_answers_as_the_list_it_holds,
+    the_unified_information_answers_as_the_maps_it_holds,
+    the_unified_list_answers_as_the_64_list_it_holds,
     the_unified_list_answers_as_the_list_it_holds,
 };
-use minidump_memory::{MinidumpMemory64List, MinidumpMemoryList};
+use minidump_memory::{
+    MinidumpLinuxMaps, MinidumpMemory64List, MinidumpMemoryInfoList, MinidumpMemoryList,
+};
 pub use minidump_modules::laws::region_laws as module_laws;
 use minidump_modules::{MinidumpModuleList, MinidumpUnloadedModuleList};
 pub use minidump_reason::laws::{codes_have_their_listed_names, wide_codes_are_unlisted};
@@ -130,6 +135,10 @@ pub fn streams_are_read_as_promised()
         in IsThreadList T.type_number T.meaning T.limit }
     ensures exception { let T = ⟦<MinidumpException<'static> as MinidumpStream<'static>>⟧
         in IsException T.type_number T.meaning T.limit }
+    ensures memory_info_list { let T = ⟦<MinidumpMemoryInfoList<'static> as MinidumpStream<'static>>⟧
+        in IsMemoryInfoList T.type_number T.meaning T.limit }
+    ensures linux_maps { let T = ⟦<MinidumpLinuxMaps<'static> as MinidumpStream<'static>>⟧
+        in IsLinuxMaps T.type_number T.meaning T.limit }
     ensures stability_report { let T = ⟦<StabilityReport as MinidumpStream<'static>>⟧
         in IsStabilityReport T.type_number T.meaning T.limit }
 {}

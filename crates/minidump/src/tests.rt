@@ -2,6 +2,7 @@ mod crashpad;
 mod exception;
 mod file;
 mod handles;
+mod information;
 mod memory;
 mod modules;
 mod records;

@@ -1,3 +1,7 @@
 -- The lemmas of this crate.
 pub mod PlacedLemmas
 pub mod UnifiedLemmas
+pub mod MapTextLemmas
+pub mod MapLinesLemmas
+pub mod GrammarLemmas
+pub mod MapsAlike

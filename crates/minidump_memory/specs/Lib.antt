@@ -4,3 +4,9 @@ pub mod MemoryList
 pub mod Memory64List
 pub mod Unified
 pub mod UnifiedIter
+pub mod MemoryInfo
+pub mod MapLine
+pub mod MapParts
+pub mod LinuxMaps
+pub mod UnifiedInfo
+pub mod UnifiedInfoIter

@@ -1,5 +1,5 @@
 -- The memory of a minidump: Microsoft's MINIDUMP_MEMORY_LIST.
-use Rattle.std.specs.Prelude.{ℕ, ◌+◌, List, map, Result, Ok, Err}
+use Rattle.std.specs.Prelude.{ℕ, List, map, Result, Ok, Err}
 use Rattle.std.specs.List.{filter_map, sum_by}
 use Rattle.std.specs.Result.{result_ok}
 use Rattle.minidump_bytes.specs.declared.endian.Endian.{Endian}

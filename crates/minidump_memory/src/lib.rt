@@ -1,47 +1,70 @@
-//! The regions of memory that a minidump holds, and lookups in them by address.
+//! The regions of memory that a minidump holds or knows of, and lookups in them by address.
 //!
 //! - [`MinidumpMemoryList`] is the memory list, [`MinidumpMemory64List`] the 64-bit list of a full dump.
 //!   Both are a [`MinidumpMemoryListBase`].
 //! - [`MinidumpMemory`] and [`MinidumpMemory64`] are their regions, with the bytes as they lie in the file.
 //! - [`UnifiedMemoryList`] and [`UnifiedMemory`] are a list, or a region, of either kind.
+//! - [`MinidumpMemoryInfoList`] is what Windows knows of the regions of a process, [`MinidumpLinuxMaps`] what
+//!   Linux knows: a [`MinidumpLinuxMapInfo`] for each line of `/proc/PID/maps`. [`UnifiedMemoryInfoList`] is
+//!   either of them. Their regions say whether they may be read, written to or run.
 //!
 //! # Errors
 //!
 //! Reading a list returns `StreamReadFailure` or `StreamSizeMismatch` where the stream is malformed, and
 //! `OutOfMemory` where an allocation fails. In a memory list a descriptor without an RVA, without a size, or
-//! with bytes outside the file is skipped; in a 64-bit list bytes outside the file refuse the whole list.
+//! with bytes outside the file is skipped; in a 64-bit list bytes outside the file refuse the whole list. One
+//! line that is none refuses all maps.
 //!
 //! # What is proved
 //!
 //! - Each list has the regions that the format assigns to its stream, in its order, or returns the error
-//!   that it assigns, in at most n + 7 reads and at least one for each number, entry and region:
-//!   `MinidumpStream::read` of both lists, by `memory_list` and `memory_list_64`. One region by its
-//!   descriptor: `MinidumpMemory::read`, `read_counted`, by `described`.
+//!   that it assigns, in at most n + 7 reads and at least one for each number, entry, line and region:
+//!   `MinidumpStream::read` of the four lists, by `memory_list`, `memory_list_64`, `memory_info_list` and
+//!   `linux_maps`. One region by its descriptor: `MinidumpMemory::read`, `read_counted`, by `described`.
 //! - A lookup returns the kept region that contains the address, in at most as many comparisons as the
-//!   number of kept regions has binary digits: `memory_at_address`, `memory_at_address_counted`. All regions
-//!   in the list's order: `iter`. The kept ones by address, from both ends: `by_addr`. How these fit
-//!   together: `laws::region_laws`.
+//!   number of kept regions has binary digits: `memory_at_address`, `memory_info_at_address`, and their
+//!   counted forms. All regions in the list's order: `iter`. The kept ones by address, from both ends:
+//!   `by_addr`. How these fit together: `laws::region_laws`.
 //! - A number in a region is the one at the address's distance from the base, where the region holds all of
 //!   it: `get_memory_at_address`, by `number_in`.
-//! - The unified list answers as the list that it holds: `UnifiedMemoryList`, `UnifiedMemory`;
-//!   `laws::the_unified_list_answers_as_the_list_it_holds`,
-//!   `the_unified_list_answers_as_the_64_list_it_holds`. A clone is the same region:
-//!   `laws::clones_are_the_same`.
+//! - A line is that of a region exactly where the grammar of the map says so: `MinidumpLinuxMapInfo::from_line`
+//!   by `map_line`, and `laws::map_lines_are_the_grammar` by `IsMapLine`.
+//! - Which regions may be read, written to or run: `is_readable`, `is_writable`, `is_executable`, by the
+//!   protection's numbers or by the letters of the line.
+//! - The unified lists answer as the list that they hold: `UnifiedMemoryList`, `UnifiedMemoryInfoList`;
+//!   `laws::the_unified_list_answers_as_the_list_it_holds`, `the_unified_list_answers_as_the_64_list_it_holds`,
+//!   `the_unified_information_answers_as_the_list_it_holds`,
+//!   `the_unified_information_answers_as_the_maps_it_holds`. Information and maps depend on their stream alone:
+//!   `laws::information_depends_on_its_stream_alone`. A clone is the same value, and values compare by what they
+//!   hold: `laws::clones_are_the_same`, `information_compares_and_copies_exactly`,
+//!   `maps_compare_by_what_their_lines_say`.
 //!
 //! What isn't: that a forged count reserves no memory (the contracts show that no `OutOfMemory` is returned
 //! for it), and that a region's bytes are the file's own memory and outlive the list, which tests show.
-//! Permissions and prints of memory are not there yet.
+//! Prints of memory are not there yet.
 #![tactic(auto)]
 
 pub mod laws;
+mod linux_maps;
+mod map_info;
+mod map_line;
+mod map_text;
 mod memory;
 mod memory64_list;
+mod memory_info;
 mod memory_list;
 mod unified;
+mod unified_info;
 
+pub use linux_maps::MinidumpLinuxMaps;
+pub use map_info::{MMPermissions, MMapPath, MemoryMap, MinidumpLinuxMapInfo};
 pub use memory::{MinidumpMemory, MinidumpMemory64, MinidumpMemoryBase};
+pub use memory_info::{MinidumpMemoryInfo, MinidumpMemoryInfoList};
 pub use memory_list::{MinidumpMemory64List, MinidumpMemoryList, MinidumpMemoryListBase};
 pub use unified::{UnifiedMemory, UnifiedMemoryByAddress, UnifiedMemoryIter, UnifiedMemoryList};
+pub use unified_info::{
+    UnifiedMemoryInfo, UnifiedMemoryInfoByAddress, UnifiedMemoryInfoIter, UnifiedMemoryInfoList,
+};
 
 #[cfg(test)]
 mod tests;

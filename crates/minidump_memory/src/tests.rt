@@ -1,5 +1,7 @@
 mod framing;
+mod information;
 mod kept;
+mod map_lines;
 mod numbers;
 mod regions;
 

@@ -4,11 +4,11 @@ use crate::system_info::{Cpu, Os};
 use crate::{
     Endian, Error, Minidump, MinidumpAssertion, MinidumpBreakpadInfo, MinidumpCrashpadInfo,
     MinidumpException, MinidumpHandleDataStream, MinidumpLinuxCpuInfo, MinidumpLinuxEnviron,
-    MinidumpLinuxLsbRelease, MinidumpLinuxProcLimits, MinidumpLinuxProcStatus, MinidumpMacBootargs,
-    MinidumpMemory64List, MinidumpMemoryList, MinidumpMiscInfo, MinidumpModuleList,
-    MinidumpSoftErrors, MinidumpStream, MinidumpSystemInfo, MinidumpThreadInfoList,
-    MinidumpThreadList, MinidumpThreadNames, MinidumpUnloadedModuleList, RawMiscInfo,
-    StabilityReport, Steps, Told,
+    MinidumpLinuxLsbRelease, MinidumpLinuxMaps, MinidumpLinuxProcLimits, MinidumpLinuxProcStatus,
+    MinidumpMacBootargs, MinidumpMemory64List, MinidumpMemoryInfoList, MinidumpMemoryList,
+    MinidumpMiscInfo, MinidumpModuleList, MinidumpSoftErrors, MinidumpStream, MinidumpSystemInfo,
+    MinidumpThreadInfoList, MinidumpThreadList, MinidumpThreadNames, MinidumpUnloadedModuleList,
+    RawMiscInfo, StabilityReport, Steps, Told,
 };
 use minidump_synth::{Section, SynthMinidump, zeroed};
 use std::alloc::Global;
@@ -17,6 +17,10 @@ use std::test::Fail;
 const SYSTEM_INFO: u32 = 7;
 
 const MISC_INFO: u32 = 15;
+
+const MEMORY_INFO_LIST: u32 = 16;
+
+const LINUX_MAPS: u32 = 0x4767_0009;
 
 const STABILITY_REPORT: u32 = 0x4b6b_0002;
 

@@ -22,22 +22,33 @@ fn described(base: u64, rva: u32, data_size: u32) -> MINIDUMP_MEMORY_DESCRIPTOR 
     }
 }
 
+// The error of a region at a place of the file.
+fn refusal(rva: u32, data_size: u32) -> Option<Error> {
+    let desc = described(0x1000, rva, data_size);
+    MinidumpMemory::read(&desc, &FILE, Endian::Little).err()
+}
+
+#[test]
+fn refuses_a_region_whose_bytes_are_not_in_the_file(rt: HostRuntime) -> Result<(), Fail> {
+    for (rva, data_size) in [(0, 2), (0, 0), (5, 0), (9, 0)] {
+        assert_eq!(rt;
+            refusal(rva, data_size),
+            Some(Error::MemoryReadFailure),
+            "at {rva}"
+        );
+    }
+    for (rva, data_size) in [(5, 4), (8, 1), (9, 1), (u32::MAX, u32::MAX)] {
+        assert_eq!(rt;
+            refusal(rva, data_size),
+            Some(Error::StreamReadFailure),
+            "at {rva}"
+        );
+    }
+    Ok(())
+}
+
 #[test]
 fn reads_a_region_where_its_bytes_are_in_the_file(rt: HostRuntime) -> Result<(), Fail> {
-    for (rva, data_size, refusal) in [
-        (0, 2, Error::MemoryReadFailure),
-        (0, 0, Error::MemoryReadFailure),
-        (5, 0, Error::MemoryReadFailure),
-        (9, 0, Error::MemoryReadFailure),
-        (5, 4, Error::StreamReadFailure),
-        (8, 1, Error::StreamReadFailure),
-        (9, 1, Error::StreamReadFailure),
-        (u32::MAX, u32::MAX, Error::StreamReadFailure),
-    ] {
-        let desc = described(0x1000, rva, data_size);
-        let answer = MinidumpMemory::read(&desc, &FILE, Endian::Little);
-        assert_eq!(rt; answer.err(), Some(refusal), "at {rva}");
-    }
     for endian in BOTH {
         let desc = described(0x1000, 5, 3);
         let region = MinidumpMemory::read(&desc, &FILE, endian)?;
@@ -71,28 +82,32 @@ fn skips_regions_without_bytes_in_the_file(rt: HostRuntime) -> Result<(), Fail> 
     Ok(())
 }
 
-// The bytes of a region are the file's own.
+// The bytes at an address of a list that is let go of.
+fn bytes_at<'a>(list: MinidumpMemoryList<'a>, address: u64) -> Option<&'a [u8]> {
+    let list = UnifiedMemoryList::Memory(list);
+    let region = list.memory_at_address(address)?;
+    Some(region.bytes())
+}
+
+fn long_bytes_at<'a>(list: MinidumpMemory64List<'a>, address: u64) -> Option<&'a [u8]> {
+    Some(list.memory_at_address(address)?.bytes)
+}
+
+// The bytes of a region are the file's own. They begin behind the header of the one file, and at the second
+// byte of the other.
 #[test]
 fn bytes_outlive_their_list(rt: HostRuntime) -> Result<(), Fail> {
     let alloc = rt.alloc();
     let regions: [(u64, &[u8]); 2] = [(0x1000, &[0xa0, 0xa1]), (0x2000, &[0xb0, 0xb1, 0xb2])];
     let plain = Listed::plain(alloc, Endian::Little, &regions)?;
+    let first = bytes_at(plain.read(alloc)?, 0x1001);
+    assert_eq!(rt; first, plain.file.get(32..34));
+    let second = bytes_at(plain.read(alloc)?, 0x2000);
+    assert_eq!(rt; second, plain.file.get(34..37));
     let long = Listed::long(alloc, Endian::Little, &regions)?;
-    let [first, second, third] = {
-        let list: MinidumpMemoryList = plain.read(alloc)?;
-        let first = list.memory_at_address(0x1001).ok_or("a region")?.bytes;
-        let list = UnifiedMemoryList::Memory(list);
-        let second = list.memory_at_address(0x2000).ok_or("a region")?.bytes();
-        let list = UnifiedMemoryList::Memory64(long.read(alloc)?);
-        let third = list.memory_at_address(0x2002).ok_or("a region")?.bytes();
-        [first, second, third]
-    };
-    // The bytes of memory begin behind the header of the one file, and at the second byte of the other.
-    assert_eq!(rt; Some(first), plain.file.get(32..34));
-    assert_eq!(rt; Some(second), plain.file.get(34..37));
-    assert_eq!(rt; Some(third), long.file.get(3..6));
-    assert_eq!(rt; first, [0xa0, 0xa1].as_slice());
-    assert_eq!(rt; third, [0xb0, 0xb1, 0xb2].as_slice());
+    let third = long_bytes_at(long.read(alloc)?, 0x2002);
+    assert_eq!(rt; third, long.file.get(3..6));
+    assert_eq!(rt; third, Some([0xb0, 0xb1, 0xb2].as_slice()));
     Ok(())
 }
 

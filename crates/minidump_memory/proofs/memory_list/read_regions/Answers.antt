@@ -1,5 +1,5 @@
 -- One descriptor more: its region is kept, or it is skipped.
-use Rattle.std.proofs.Common.{arith, length, take, get_or, sym, ◌∙◌, ◌≤◌, ◌≡◌, true, false}
+use Rattle.std.proofs.Common.{arith, length, sym, ◌∙◌, ◌≤◌, true, false}
 use Rattle.std.specs.Prelude.{Bool, ◌==◌, ◌||◌, if◌then◌else◌}
 use Rattle.std.proofs.lemmas.List.Sums.{sum_by_more}
 use Rattle.std.specs.Result.{result_ok}

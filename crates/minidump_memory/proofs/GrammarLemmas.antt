@@ -1,0 +1,227 @@
+-- A line of the map means what its grammar says.
+use Rattle.std.proofs.Common.{◌≡◌, ◌≢◌, ◌↔◌, ℕ, ◌+◌, ◌^◌, ◌<◌, Bool, true, false, List, [], ◌∷◌, ◌++◌, length, Option, Some, None, refl, ap, sym, ◌∙◌, subst}
+use Rattle.std.specs.Prelude.{◌==◌, ◌&&◌, ◌||◌, nat_lt, if◌then◌else◌, slice_index}
+use Rattle.std.specs.List.{list_any}
+use Rattle.std.specs.Option.{option_map}
+use Rattle.std.specs.Str.{IsUtf8, is_utf8, trim}
+use Rattle.std.specs.Str.Parse.{digits_value}
+use Rattle.std.proofs.lemmas.Bool.{eq-eqb, eqb-true, lt-ltb, ltb-true, ne_eqb}
+use Rattle.std.proofs.lemmas.Str.{IsUtf8-from_is_utf8, is_utf8-from_IsUtf8}
+use Rattle.std.specs.List.{position_or_len}
+use Rattle.std.proofs.Common.{add-one, drop, one-add, take}
+use Rattle.minidump_bytes.specs.LinuxOsStr.{cut_first}
+use Rattle.minidump_bytes.specs.Text8.{utf8_text}
+use Rattle.minidump_memory.specs.MapLine.{AreFields, AreTwo, IsCut, IsMapLine, IsNumber, Lacks, MapPath, MapRegion, all_digits, and_then, fields_in, is_capital, map_line, number, path_in, permissions, two_numbers}
+use Rattle.minidump_memory.proofs.MapTextLemmas.{both, digits_hold, digits_true}
+
+-- ---- chains
+some_same : {A : Type 0} (x y : A) → Some x ≡ Some y → x ≡ y
+some_same x y h = cc
+
+pub given : {A B : Type 0} (o : Option A) (f : A → Option B) (y : B) → and_then o f ≡ Some y → (x : A) × (o ≡ Some x) × (f x ≡ Some y)
+given None f y h = absurd (let k : None ≡ Some y = h in cc)
+given (Some x) f y h = (x, refl, h)
+
+-- ---- numbers
+test_by : (t : Bool) (v n : ℕ) → (if t then Some v else None) ≡ Some n → (t ≡ true) × (v ≡ n)
+test_by true v n h = (refl, cc)
+test_by false v n h = absurd (let k : None ≡ Some n = h in cc)
+
+pub number_spells : (base bits : ℕ) (ds : List ℕ) (n : ℕ) → number base bits ds ≡ Some n → IsNumber base bits ds n
+unfolding number
+number_spells base bits ds n h =
+    let t = test_by (nat_lt 0 (length ds) && all_digits base ds && nat_lt (digits_value base ds) (2 ^ bits)) (digits_value base ds) n h in
+    let p = both (nat_lt 0 (length ds) && all_digits base ds) (nat_lt (digits_value base ds) (2 ^ bits)) t.0 in
+    let q = both (nat_lt 0 (length ds)) (all_digits base ds) p.0 in
+    record { numeral = (ltb-true _ _ q.0, digits_true base ds q.1); value = t.1; fits = subst (λ m. m < 2 ^ bits) t.1 (ltb-true _ _ p.1) }
+
+pub spelled_number : (base bits : ℕ) (ds : List ℕ) (n : ℕ) → IsNumber base bits ds n → number base bits ds ≡ Some n
+unfolding number
+spelled_number base bits ds n h =
+    let fits : digits_value base ds < 2 ^ bits = subst (λ m. m < 2 ^ bits) (sym h.value) h.fits in
+    rw (lt-ltb 0 (length ds) h.numeral.0, digits_hold base ds h.numeral.1, lt-ltb _ _ fits, h.value) refl
+
+-- ---- cuts
+abbrev chosen : Bool → ℕ → List ℕ → Option (List ℕ × List ℕ) → Option (List ℕ × List ℕ)
+chosen t b bs o = if t then Some ([], bs) else option_map (λ p. (b ∷ p.0, p.1)) o
+
+cut_by : (t : Bool) (o : Option (List ℕ × List ℕ)) (byte b : ℕ) (bs front back : List ℕ) → (b == byte) ≡ t → ((f g : List ℕ) → o ≡ Some (f, g) → IsCut byte bs f g)
+    → chosen t b bs o ≡ Some (front, back) → IsCut byte (b ∷ bs) front back
+cut_by true o byte b bs front back is more h =
+    let e = some_same {A = List ℕ × List ℕ} ([], bs) (front, back) h in
+    let f : [] ≡ front = ap (λ r. r.0) e in
+    let g : bs ≡ back = ap (λ r. r.1) e in
+    let same : b ≡ byte = eqb-true _ _ is in
+    rw (← f, ← g, same) (record { joined = refl; lacks = tt })
+cut_by false None byte b bs front back is more h = absurd (let k : None ≡ Some (front, back) = h in cc)
+cut_by false (Some (f, g)) byte b bs front back is more h =
+    let e = some_same {A = List ℕ × List ℕ} (b ∷ f, g) (front, back) h in
+    let p : b ∷ f ≡ front = ap (λ r. r.0) e in
+    let q : g ≡ back = ap (λ r. r.1) e in
+    let rest = more f g refl in
+    rw (← p, ← q) (record { joined = ap (λ l. b ∷ l) rest.joined; lacks = ((λ e. let clash : true ≡ false = sym (eq-eqb b byte e) ∙ is in cc), rest.lacks) })
+
+shifted : (b : ℕ) (bs : List ℕ) (k : ℕ) → (take (1 + k) (b ∷ bs) ≡ b ∷ take k bs) × (drop (1 + k + 1) (b ∷ bs) ≡ drop (k + 1) bs)
+shifted b bs k = (rw one-add refl, rw (one-add, add-one, add-one) refl)
+
+later : (t : Bool) (byte b : ℕ) (bs : List ℕ) → list_any (λ c. c == byte) bs ≡ t → (b == byte) ≡ false
+    → cut_first byte (b ∷ bs) ≡ option_map (λ p. (b ∷ p.0, p.1)) (cut_first byte bs)
+later true byte b bs there is =
+    let k = position_or_len (λ c. c == byte) bs in
+    rw (is, there, (shifted b bs k).0, (shifted b bs k).1) refl
+later false byte b bs there is = rw (is, there) refl
+
+cut_step_by : (t : Bool) (byte b : ℕ) (bs : List ℕ) → (b == byte) ≡ t → cut_first byte (b ∷ bs) ≡ chosen t b bs (cut_first byte bs)
+cut_step_by true byte b bs is = rw is refl
+cut_step_by false byte b bs is = later (list_any (λ c. c == byte) bs) byte b bs refl is
+
+-- where the first byte is the one that is sought, the rest is behind it; else it goes to the front part
+cut_step : (byte b : ℕ) (bs : List ℕ) → cut_first byte (b ∷ bs) ≡ chosen (b == byte) b bs (cut_first byte bs)
+cut_step byte b bs = cut_step_by (b == byte) byte b bs refl
+
+pub cut_is : (byte : ℕ) (bytes front back : List ℕ) → cut_first byte bytes ≡ Some (front, back) → IsCut byte bytes front back
+cut_is byte [] front back h = absurd (let k : None ≡ Some (front, back) = h in cc)
+cut_is byte (b ∷ bs) front back h = cut_by (b == byte) (cut_first byte bs) byte b bs front back refl (λ f g e. cut_is byte bs f g e) (sym (cut_step byte b bs) ∙ h)
+
+cut_at : (byte : ℕ) (front back : List ℕ) → Lacks byte front → cut_first byte (front ++ byte ∷ back) ≡ Some (front, back)
+cut_at byte [] back h = rw (cut_step byte byte back, eq-eqb byte byte refl) refl
+cut_at byte (b ∷ front) back h = rw (cut_step byte b (front ++ byte ∷ back), ne_eqb b byte h.0, cut_at byte front back h.1) refl
+
+pub is_cut : (byte : ℕ) (bytes front back : List ℕ) → IsCut byte bytes front back → cut_first byte bytes ≡ Some (front, back)
+is_cut byte bytes front back h = rw h.joined (cut_at byte front back h.lacks)
+
+-- ---- two numbers
+two_by : (byte bits : ℕ) (bytes first last : List ℕ) (m n : ℕ) (pair : ℕ × ℕ) → cut_first byte bytes ≡ Some (first, last) → number 16 bits first ≡ Some m → number 16 bits last ≡ Some n
+    → Some (m, n) ≡ Some pair → AreTwo byte bits bytes pair
+two_by byte bits bytes first last m n pair is a b h =
+    let same : (m, n) ≡ pair = cc in
+    rw (← same) (record { first = first; last = last; cut = cut_is byte bytes first last is; first_is = number_spells 16 bits first m a; last_is = number_spells 16 bits last n b })
+
+pub two_spell : (byte bits : ℕ) (bytes : List ℕ) (pair : ℕ × ℕ) → two_numbers byte bits bytes ≡ Some pair → AreTwo byte bits bytes pair
+unfolding two_numbers
+two_spell byte bits bytes pair h =
+    let p = given (cut_first byte bytes) _ pair h in
+    let m = given (number 16 bits p.0.0) _ pair p.2 in
+    let n = given (number 16 bits p.0.1) _ pair m.2 in
+    two_by byte bits bytes p.0.0 p.0.1 m.0 n.0 pair p.1 m.1 n.1 n.2
+
+pub spelled_two : (byte bits : ℕ) (bytes : List ℕ) (pair : ℕ × ℕ) → AreTwo byte bits bytes pair → two_numbers byte bits bytes ≡ Some pair
+unfolding two_numbers
+spelled_two byte bits bytes pair h =
+    rw (is_cut byte bytes h.first h.last h.cut, spelled_number 16 bits h.first pair.0 h.first_is, spelled_number 16 bits h.last pair.1 h.last_is) refl
+
+-- ---- fields
+abbrev made : ℕ × ℕ → List ℕ → ℕ → ℕ × ℕ → ℕ → MapPath → MapRegion
+made address perms offset dev inode kind = record { address = address; perms = permissions perms; offset = offset; dev = dev; inode = inode; pathname = kind }
+
+fields_by : (line : List ℕ) (range perms offset dev inode : List ℕ × List ℕ) (address : ℕ × ℕ) (place : ℕ) (device : ℕ × ℕ) (node : ℕ) (kind : MapPath) (m : MapRegion)
+    → cut_first 32 line ≡ Some range → cut_first 32 range.1 ≡ Some perms → cut_first 32 perms.1 ≡ Some offset → cut_first 32 offset.1 ≡ Some dev → cut_first 32 dev.1 ≡ Some inode
+    → two_numbers 45 64 range.0 ≡ Some address → number 16 64 offset.0 ≡ Some place → two_numbers 58 32 dev.0 ≡ Some device → number 10 64 inode.0 ≡ Some node → path_in (trim inode.1) ≡ Some kind
+    → Some (made address perms.0 place device node kind) ≡ Some m → AreFields line m
+fields_by line range perms offset dev inode address place device node kind m a b c d e f g h i j k =
+    let same : made address perms.0 place device node kind ≡ m = cc in
+    rw (← same) (record {
+      range = range.0;
+      after_range = range.1;
+      cut_range = cut_is 32 line range.0 range.1 a;
+      perms = perms.0;
+      after_perms = perms.1;
+      cut_perms = cut_is 32 range.1 perms.0 perms.1 b;
+      offset = offset.0;
+      after_offset = offset.1;
+      cut_offset = cut_is 32 perms.1 offset.0 offset.1 c;
+      dev = dev.0;
+      after_dev = dev.1;
+      cut_dev = cut_is 32 offset.1 dev.0 dev.1 d;
+      inode = inode.0;
+      path = inode.1;
+      cut_inode = cut_is 32 dev.1 inode.0 inode.1 e;
+      range_is = two_spell 45 64 range.0 address f;
+      perms_are = refl;
+      offset_is = number_spells 16 64 offset.0 place g;
+      dev_is = two_spell 58 32 dev.0 device h;
+      inode_is = number_spells 10 64 inode.0 node i;
+      path_is = j;
+    })
+
+pub fields_spell : (line : List ℕ) (m : MapRegion) → fields_in line ≡ Some m → AreFields line m
+unfolding fields_in
+fields_spell line m h =
+    let range = given (cut_first 32 line) _ m h in
+    let perms = given (cut_first 32 range.0.1) _ m range.2 in
+    let offset = given (cut_first 32 perms.0.1) _ m perms.2 in
+    let dev = given (cut_first 32 offset.0.1) _ m offset.2 in
+    let inode = given (cut_first 32 dev.0.1) _ m dev.2 in
+    let address = given (two_numbers 45 64 range.0.0) _ m inode.2 in
+    let place = given (number 16 64 offset.0.0) _ m address.2 in
+    let device = given (two_numbers 58 32 dev.0.0) _ m place.2 in
+    let node = given (number 10 64 inode.0.0) _ m device.2 in
+    let kind = given (path_in (trim inode.0.1)) _ m node.2 in
+    fields_by line range.0 perms.0 offset.0 dev.0 inode.0 address.0 place.0 device.0 node.0 kind.0 m range.1 perms.1 offset.1 dev.1 inode.1 address.1 place.1 device.1 node.1 kind.1 kind.2
+
+pub spelled_fields : (line : List ℕ) (m : MapRegion) → AreFields line m → fields_in line ≡ Some m
+unfolding fields_in
+spelled_fields line m h =
+    rw (
+      is_cut 32 line h.range h.after_range h.cut_range,
+      is_cut 32 h.after_range h.perms h.after_perms h.cut_perms,
+      is_cut 32 h.after_perms h.offset h.after_offset h.cut_offset,
+      is_cut 32 h.after_offset h.dev h.after_dev h.cut_dev,
+      is_cut 32 h.after_dev h.inode h.path h.cut_inode,
+      spelled_two 45 64 h.range m.address h.range_is,
+      spelled_number 16 64 h.offset m.offset h.offset_is,
+      spelled_two 58 32 h.dev m.dev h.dev_is,
+      spelled_number 10 64 h.inode m.inode h.inode_is,
+      h.path_is,
+      h.perms_are,
+    ) refl
+
+-- ---- lines
+utf8_by : (t : Bool) (bytes text : List ℕ) → (if t then Some bytes else None) ≡ Some text → (t ≡ true) × (bytes ≡ text)
+utf8_by true bytes text h = (refl, cc)
+utf8_by false bytes text h = absurd (let k : None ≡ Some text = h in cc)
+
+utf8_is : (bytes text : List ℕ) → utf8_text bytes ≡ Some text → IsUtf8 bytes × (bytes ≡ text)
+unfolding utf8_text
+utf8_is bytes text h = let t = utf8_by (is_utf8 bytes) bytes text h in (IsUtf8-from_is_utf8 bytes t.0, t.1)
+
+is_utf8_text : (bytes : List ℕ) → IsUtf8 bytes → utf8_text bytes ≡ Some bytes
+unfolding utf8_text
+is_utf8_text bytes h = rw (is_utf8-from_IsUtf8 bytes h) refl
+
+feed_by : (b : ℕ) (bs : List ℕ) (t : Bool) → (b == 10) ≡ t → (t || list_any (λ x. x == 10) bs) ≡ false → (b ≢ 10) × (list_any (λ x. x == 10) bs ≡ false)
+feed_by b bs true is h = absurd cc
+feed_by b bs false is h = ((λ e. let clash : true ≡ false = sym (eq-eqb b 10 e) ∙ is in cc), h)
+
+lacks_feed : (bytes : List ℕ) → list_any (λ b. b == 10) bytes ≡ false → Lacks 10 bytes
+lacks_feed [] h = tt
+lacks_feed (b ∷ bs) h = let p = feed_by b bs (b == 10) refl h in (p.0, lacks_feed bs p.1)
+
+feed_lacks : (bytes : List ℕ) → Lacks 10 bytes → list_any (λ b. b == 10) bytes ≡ false
+feed_lacks [] h = refl
+feed_lacks (b ∷ bs) h = rw (ne_eqb b 10 h.0) (feed_lacks bs h.1)
+
+line_by : (s t : Bool) (o : Option MapRegion) (m : MapRegion) → (if s then None else (if t then None else o)) ≡ Some m → (s ≡ false) × (t ≡ false) × (o ≡ Some m)
+line_by true t o m h = absurd (let k : None ≡ Some m = h in cc)
+line_by false true o m h = absurd (let k : None ≡ Some m = h in cc)
+line_by false false o m h = (refl, refl, h)
+
+line_spells : (line : List ℕ) (m : MapRegion) → map_line line ≡ Some m → IsMapLine line m
+unfolding map_line
+line_spells line m h =
+    let text = given (utf8_text line) _ m h in
+    let whole = utf8_is line text.0 text.1 in
+    let parts = line_by (list_any (λ b. b == 10) text.0) (is_capital (slice_index text.0 0)) (fields_in text.0) m text.2 in
+    record {
+      utf8 = whole.0;
+      no_feed = rw whole.1 (lacks_feed text.0 parts.0);
+      no_capital = rw whole.1 parts.1;
+      fields = rw whole.1 (fields_spell text.0 m parts.2);
+    }
+
+spelled_line : (line : List ℕ) (m : MapRegion) → IsMapLine line m → map_line line ≡ Some m
+unfolding map_line
+spelled_line line m h = rw (is_utf8_text line h.utf8, feed_lacks line h.no_feed, h.no_capital) (spelled_fields line m h.fields)
+
+pub lines_are_the_grammar : (line : List ℕ) (m : MapRegion) → (map_line line ≡ Some m) ↔ IsMapLine line m
+lines_are_the_grammar line m = (line_spells line m, spelled_line line m)

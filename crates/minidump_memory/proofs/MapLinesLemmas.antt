@@ -1,0 +1,109 @@
+-- The lines of the map that a loop goes through.
+use Rattle.std.proofs.Common.{◌≡◌, ℕ, ◌+◌, ◌<◌, ◌≤◌, Bool, true, false, List, [], ◌∷◌, ◌++◌, length, take, drop, Option, Some, None, Ok, Err, append_assoc, add-one, one-add, arith, refl, sym, ◌∙◌}
+use Rattle.std.specs.Prelude.{◌==◌, nat_lt, if◌then◌else◌}
+use Rattle.std.specs.List.{after_first, before_first, position_or_len}
+use Rattle.std.proofs.lemmas.Bool.{ltb-true, ltb-false}
+use Rattle.std.proofs.lemmas.List.{append-nil, drop-drop, length-drop, length-take}
+use Rattle.std.proofs.lemmas.List.Folds.{length-prefix_len}
+use Rattle.minidump_bytes.specs.Line.{line_at}
+use Rattle.minidump_memory.specs.MapLine.{MapRegion, and_then, map_line}
+use Rattle.minidump_memory.specs.LinuxMaps.{all_some, lines_of, linux_maps}
+use Rattle.minidump_format.specs.declared.error.Error.TheVariants.{StreamReadFailure}
+
+-- ---- the first line
+shifted : (b : ℕ) (bs : List ℕ) (k : ℕ) → (take (1 + k) (b ∷ bs) ≡ b ∷ take k bs) × (drop (1 + k + 1) (b ∷ bs) ≡ drop (k + 1) bs)
+shifted b bs k = (rw one-add refl, rw (one-add, add-one, add-one) refl)
+
+first_by : (t : Bool) (b : ℕ) (bs : List ℕ) → (b == 10) ≡ t → (0 < length bs → lines_of bs ≡ before_first (λ b. b == 10) bs ∷ lines_of (after_first (λ b. b == 10) bs))
+    → lines_of (b ∷ bs) ≡ before_first (λ b. b == 10) (b ∷ bs) ∷ lines_of (after_first (λ b. b == 10) (b ∷ bs))
+unfolding lines_of
+first_by true b bs is more = rw is refl
+first_by false b [] is more = rw is refl
+first_by false b (c ∷ cs) is more =
+    let k = position_or_len (λ b. b == 10) (c ∷ cs) in
+    rw (is, more (omega arith), (shifted b (c ∷ cs) k).0, (shifted b (c ∷ cs) k).1) refl
+
+pub first_line : (bytes : List ℕ) → 0 < length bytes → lines_of bytes ≡ before_first (λ b. b == 10) bytes ∷ lines_of (after_first (λ b. b == 10) bytes)
+first_line [] some = absurd (omega (arith, some))
+first_line (b ∷ bs) some = first_by (b == 10) b bs refl (first_line bs)
+
+-- ---- what a read of a line says
+line_by : (t : Bool) (place : ℕ) (bytes line : List ℕ) → nat_lt place (length bytes) ≡ t → Some line ≡ (if t then Some (before_first (λ b. b == 10) (drop place bytes)) else None)
+    → (place < length bytes) × (line ≡ before_first (λ b. b == 10) (drop place bytes))
+line_by true place bytes line is e = (ltb-true _ _ is, cc)
+line_by false place bytes line is e = absurd cc
+
+pub line_is : (place : ℕ) (bytes line : List ℕ) → Some line ≡ line_at place bytes → (place < length bytes) × (line ≡ before_first (λ b. b == 10) (drop place bytes))
+line_is place bytes line e = line_by (nat_lt place (length bytes)) place bytes line refl e
+
+none_by : (t : Bool) (place : ℕ) (bytes : List ℕ) → nat_lt place (length bytes) ≡ t → None ≡ (if t then Some (before_first (λ b. b == 10) (drop place bytes)) else None) → length bytes ≤ place
+none_by true place bytes is e = absurd cc
+none_by false place bytes is e = ltb-false _ _ is
+
+pub line_none : (place : ℕ) (bytes : List ℕ) → None ≡ line_at place bytes → length bytes ≤ place
+line_none place bytes e = none_by (nat_lt place (length bytes)) place bytes refl e
+
+pub line_fits : (place : ℕ) (bytes line : List ℕ) → Some line ≡ line_at place bytes → place + length line ≤ length bytes
+line_fits place bytes line e =
+    let p = line_is place bytes line e in
+    let long : length line ≤ length (drop place bytes) = rw p.1 (omega (arith, length-take (position_or_len (λ b. b == 10) (drop place bytes)) (drop place bytes))) in
+    omega (arith, long, p.0, length-drop place bytes)
+
+next_place : (place : ℕ) (bytes line : List ℕ) → line ≡ before_first (λ b. b == 10) (drop place bytes) → after_first (λ b. b == 10) (drop place bytes) ≡ drop (place + (length line + 1)) bytes
+next_place place bytes line e =
+    let same : length line ≡ position_or_len (λ b. b == 10) (drop place bytes) = rw e (length-prefix_len _ (drop place bytes)) in
+    rw same (drop-drop (position_or_len (λ b. b == 10) (drop place bytes) + 1) place bytes)
+
+none_long : (xs : List ℕ) → length xs ≤ 0 → xs ≡ []
+none_long [] h = refl
+none_long (x ∷ xs) h = absurd (omega (arith, h))
+
+nothing_left : (place : ℕ) (bytes : List ℕ) → length bytes ≤ place → drop place bytes ≡ []
+nothing_left place bytes h = none_long (drop place bytes) (omega (arith, length-drop place bytes))
+
+whole : (o : Option (List MapRegion)) → o ≡ and_then o (λ ys. Some ([] ++ ys))
+whole None = refl
+whole (Some ys) = refl
+
+-- ---- the lines so far and the rest
+heads : (l : List ℕ) (ls : List (List ℕ)) (m : MapRegion) → map_line l ≡ Some m → all_some map_line (l ∷ ls) ≡ and_then (all_some map_line ls) (λ ys. Some (m ∷ ys))
+unfolding all_some
+heads l ls m h = rw h refl
+
+heads_none : (l : List ℕ) (ls : List (List ℕ)) → map_line l ≡ None → all_some map_line (l ∷ ls) ≡ None
+unfolding all_some
+heads_none l ls h = rw h refl
+
+moved : (o : Option (List MapRegion)) (done : List MapRegion) (m : MapRegion) → and_then (and_then o (λ ys. Some (m ∷ ys))) (λ ys. Some (done ++ ys)) ≡ and_then o (λ ys. Some ((done ++ m ∷ []) ++ ys))
+moved None done m = refl
+moved (Some ys) done m = rw append_assoc refl
+
+-- the maps of the lines before a place are these, and those from it on follow
+abbrev pub Rest : List ℕ → ℕ → List MapRegion → Type 0
+Rest bytes place done = all_some map_line (lines_of bytes) ≡ and_then (all_some map_line (lines_of (drop place bytes))) (λ ys. Some (done ++ ys))
+
+module _ (bytes : List ℕ) (place : ℕ) (done : List MapRegion) (so_far : Rest bytes place done) where
+  pub rest_more : (line : List ℕ) (m : MapRegion) → Some line ≡ line_at place bytes → Some m ≡ map_line line → Rest bytes (place + (length line + 1)) (done ++ m ∷ [])
+  rest_more line m e means =
+      let p = line_is place bytes line e in
+      let some : 0 < length (drop place bytes) = omega (arith, p.0, length-drop place bytes) in
+      so_far ∙ rw (first_line (drop place bytes) some, ← p.1, heads line (lines_of (after_first (λ b. b == 10) (drop place bytes))) m (sym means), next_place place bytes line p.1)
+      (moved (all_some map_line (lines_of (drop (place + (length line + 1)) bytes))) done m)
+
+  pub rest_none : (line : List ℕ) → Some line ≡ line_at place bytes → None ≡ map_line line → linux_maps bytes ≡ Err StreamReadFailure
+  unfolding linux_maps
+  rest_none line e means =
+      let p = line_is place bytes line e in
+      let some : 0 < length (drop place bytes) = omega (arith, p.0, length-drop place bytes) in
+      let one : all_some map_line (lines_of (drop place bytes)) ≡ None =
+      rw (first_line (drop place bytes) some, ← p.1) (heads_none line (lines_of (after_first (λ b. b == 10) (drop place bytes))) (sym means)) in
+      rw (so_far, one) refl
+
+  pub rest_end : None ≡ line_at place bytes → linux_maps bytes ≡ Ok done
+  unfolding linux_maps all_some lines_of
+  rest_end e =
+      let past : drop place bytes ≡ [] = nothing_left place bytes (line_none place bytes e) in
+      rw (so_far, past, append-nil) refl
+
+pub rest_start : (bytes : List ℕ) → Rest bytes 0 []
+rest_start bytes = whole (all_some map_line (lines_of bytes))

@@ -1,0 +1,78 @@
+-- The regions of Breakpad's MD_LINUX_MAPS stream: the lines of Linux's /proc/PID/maps.
+use Rattle.std.specs.Prelude.{ℕ, ◌-◌, ◌==◌, List, [], ◌∷◌, codes, map, Option, Some, Result, if◌then◌else◌, string_bytes}
+use Rattle.std.specs.Option.{ok_or}
+use Rattle.minidump_format.specs.declared.error.Error.{Error}
+use Rattle.minidump_format.specs.declared.error.Error.TheVariants.{StreamReadFailure}
+use Rattle.minidump_index.specs.declared.range.Range.{Range}
+use Rattle.minidump_index.specs.Overlap.{range_of}
+use Rattle.minidump_memory.specs.declared.linux_maps.MinidumpLinuxMaps.{MinidumpLinuxMaps}
+use Rattle.minidump_memory.specs.declared.map_info.MMapPath.{MMapPath}
+use Rattle.minidump_memory.specs.declared.map_info.MMapPath.TheVariants as owned
+use Rattle.minidump_memory.specs.declared.map_info.MemoryMap.{MemoryMap}
+use Rattle.minidump_memory.specs.declared.map_info.MinidumpLinuxMapInfo.{MinidumpLinuxMapInfo}
+use Rattle.minidump_memory.specs.MapLine.{MapPath, MapRegion, Path, Other, Heap, Stack, Vdso, Vvar, Vsyscall, Rollup, Anonymous, TStack, Vsys, and_then, map_line}
+
+-- the permissions that letters of a line stand for
+unfoldable pub map_permissions : List (List ℕ × ℕ)
+map_permissions =
+    (codes "NONE", 0) ∷
+    (codes "READ", 1) ∷
+    (codes "WRITE", 2) ∷
+    (codes "EXECUTE", 4) ∷
+    (codes "SHARED", 8) ∷
+    (codes "PRIVATE", 16) ∷
+    []
+
+-- a path without its place in memory
+abbrev pub path_of : MMapPath → MapPath
+path_of (owned.Path text) = Path (string_bytes text)
+path_of owned.Heap = Heap
+path_of owned.Stack = Stack
+path_of (owned.TStack n) = TStack n
+path_of owned.Vdso = Vdso
+path_of owned.Vvar = Vvar
+path_of owned.Vsyscall = Vsyscall
+path_of owned.Rollup = Rollup
+path_of owned.Anonymous = Anonymous
+path_of (owned.Vsys n) = Vsys n
+path_of (owned.Other text) = Other (string_bytes text)
+
+-- the region of a map
+abbrev pub map_of : MemoryMap → MapRegion
+map_of m = record { address = m.address; perms = m.perms.0; offset = m.offset; dev = m.dev; inode = m.inode; pathname = path_of m.pathname }
+
+abbrev pub map_info_of : MinidumpLinuxMapInfo → MapRegion
+map_info_of m = map_of m.map
+
+-- its addresses: first to last - 1, where first is below last; else none
+abbrev pub region_range : MapRegion → Option Range
+region_range m = range_of m.address.0 (m.address.1 - m.address.0)
+
+abbrev pub map_range : MinidumpLinuxMapInfo → Option Range
+map_range m = region_range (map_info_of m)
+
+-- the regions of a list, in its order
+abbrev pub maps_of : MinidumpLinuxMaps → List MinidumpLinuxMapInfo
+maps_of l = l.regions
+
+-- the same, without their places in memory
+abbrev pub map_regions : MinidumpLinuxMaps → List MapRegion
+map_regions l = map map_info_of (maps_of l)
+
+abbrev pub onto : ℕ → List (List ℕ) → List (List ℕ)
+onto b [] = (b ∷ []) ∷ []
+onto b (l ∷ ls) = (b ∷ l) ∷ ls
+
+-- the lines of bytes: a line feed ends one, and the last may end with the bytes
+unfoldable pub lines_of : List ℕ → List (List ℕ)
+lines_of [] = []
+lines_of (b ∷ bs) = if b == 10 then [] ∷ lines_of bs else onto b (lines_of bs)
+
+-- the values of all, where each has one
+unfoldable pub all_some : {X Y : Type 0} → (X → Option Y) → List X → Option (List Y)
+all_some f [] = Some []
+all_some f (x ∷ xs) = and_then (f x) (λ y. and_then (all_some f xs) (λ ys. Some (y ∷ ys)))
+
+-- Breakpad's MD_LINUX_MAPS: the regions of the lines, where each line is one
+unfoldable pub linux_maps : List ℕ → Result (List MapRegion) Error
+linux_maps bytes = ok_or (all_some map_line (lines_of bytes)) StreamReadFailure

@@ -1,0 +1,176 @@
+-- A line of /proc/PID/maps, as Linux's proc_pid_maps(5) has it: `first-last perms offset major:minor inode pathname`.
+use Rattle.std.specs.Prelude.{◌≡◌, ◌≢◌, ℕ, ◌+◌, ◌-◌, ◌^◌, ◌<◌, Bool, true, false, ◌&&◌, List, [], ◌∷◌, ◌++◌, length, codes, slice_index, slice_range, Option, Some, None, ◌==◌, nat_le, nat_lt, if◌then◌else◌}
+use Rattle.std.specs.Char.{digit_value}
+use Rattle.std.specs.List.{AllByRecursion, list_any}
+use Rattle.std.specs.Option.{option_and_then, option_map}
+use Rattle.std.specs.Str.{IsUtf8, bytes_eq, trim}
+use Rattle.std.specs.Str.Parse.{IsNumeral, digits_value}
+use Rattle.minidump_bytes.specs.LinuxOsStr.{behind, cut_first}
+use Rattle.minidump_bytes.specs.Text8.{utf8_text}
+
+-- what a part gives is handed to the next one
+abbrev pub and_then : {A B : Type 0} → Option A → (A → Option B) → Option B
+and_then found next = option_and_then next found
+
+abbrev pub all_digits : ℕ → List ℕ → Bool
+all_digits base [] = true
+all_digits base (c ∷ cs) = nat_lt (digit_value c) base && all_digits base cs
+
+-- the number of so many bits that one digit or more write, without a sign
+unfoldable pub number : ℕ → ℕ → List ℕ → Option ℕ
+number base bits digits =
+    if nat_lt 0 (length digits) && all_digits base digits && nat_lt (digits_value base digits) (2 ^ bits)
+    then Some (digits_value base digits) else None
+
+-- two hexadecimal numbers with a byte between them
+unfoldable pub two_numbers : ℕ → ℕ → List ℕ → Option (ℕ × ℕ)
+two_numbers byte bits bytes =
+    and_then (cut_first byte bytes) (λ p. and_then (number 16 bits p.0) (λ m. and_then (number 16 bits p.1) (λ n. Some (m, n))))
+
+abbrev bit_if : List ℕ → ℕ → ℕ → ℕ
+bit_if letters letter bit = if list_any (λ b. b == letter) letters then bit else 0
+
+-- the permissions of a field with the letters r, w, x, s and p: 1, 2, 4, 8 and 16; other bytes say nothing
+unfoldable pub permissions : List ℕ → ℕ
+permissions letters = bit_if letters 114 1 + bit_if letters 119 2 + bit_if letters 120 4 + bit_if letters 115 8 + bit_if letters 112 16
+
+-- what is mapped
+pub data MapPath : Type 0 where
+  Path Other : List ℕ → MapPath
+  Heap Stack Vdso Vvar Vsyscall Rollup Anonymous : MapPath
+  TStack Vsys : ℕ → MapPath
+
+-- the pseudo-paths with a name of their own
+unfoldable pub named : List ℕ → Option MapPath
+named text =
+    if bytes_eq text (codes "[heap]") then Some Heap else (
+    if bytes_eq text (codes "[stack]") then Some Stack else (
+    if bytes_eq text (codes "[vdso]") then Some Vdso else (
+    if bytes_eq text (codes "[vvar]") then Some Vvar else (
+    if bytes_eq text (codes "[vsyscall]") then Some Vsyscall else (
+    if bytes_eq text (codes "[rollup]") then Some Rollup else None)))))
+
+-- the stack of a thread, by what follows `[stack:`: a decimal number of 32 bits and a bracket
+unfoldable pub thread_stack : List ℕ → Option ℕ
+thread_stack rest = and_then (cut_first 93 rest) (λ p. if length p.1 == 0 then number 10 32 p.0 else None)
+
+-- what stands between brackets
+unfoldable pub in_brackets : List ℕ → Option (List ℕ)
+in_brackets text =
+    if nat_le 2 (length text) && (slice_index text 0 == 91) && (slice_index text (length text - 1) == 93)
+    then Some (slice_range text 1 (length text - 1)) else None
+
+-- the segment of System V's shared memory: `/SYSV` and eight hexadecimal digits
+unfoldable pub shared_segment : List ℕ → Option ℕ
+shared_segment text = and_then (behind (codes "/SYSV") text) (λ digits. if length digits == 8 then number 16 32 digits else None)
+
+abbrev pub by_segment : List ℕ → Option ℕ → Option MapPath
+by_segment text (Some n) = Some (Vsys n)
+by_segment text None = Some (Path text)
+
+abbrev pub by_brackets : List ℕ → Option (List ℕ) → Option MapPath
+by_brackets text (Some inside) = Some (Other inside)
+by_brackets text None = by_segment text (shared_segment text)
+
+abbrev pub by_stack : List ℕ → Option (List ℕ) → Option MapPath
+by_stack text (Some rest) = option_map TStack (thread_stack rest)
+by_stack text None = by_brackets text (in_brackets text)
+
+abbrev pub by_name : List ℕ → Option MapPath → Option MapPath
+by_name text (Some path) = Some path
+by_name text None = by_stack text (behind (codes "[stack:") text)
+
+-- what a text without white space at its ends names; none where `[stack:` begins it and no good number and bracket end it
+unfoldable pub path_in : List ℕ → Option MapPath
+path_in text = if length text == 0 then Some Anonymous else by_name text (named text)
+
+-- a mapped region, as its line has it
+pub record MapRegion : Type 0 where
+  pub address : ℕ × ℕ
+  pub perms : ℕ
+  pub offset : ℕ
+  pub dev : ℕ × ℕ
+  pub inode : ℕ
+  pub pathname : MapPath
+
+-- the region of six fields, cut at the first five spaces
+unfoldable pub fields_in : List ℕ → Option MapRegion
+fields_in line =
+    and_then (cut_first 32 line) (λ range.
+    and_then (cut_first 32 range.1) (λ perms.
+    and_then (cut_first 32 perms.1) (λ offset.
+    and_then (cut_first 32 offset.1) (λ dev.
+    and_then (cut_first 32 dev.1) (λ inode.
+    and_then (two_numbers 45 64 range.0) (λ address.
+    and_then (number 16 64 offset.0) (λ place.
+    and_then (two_numbers 58 32 dev.0) (λ device.
+    and_then (number 10 64 inode.0) (λ node.
+    and_then (path_in (trim inode.1)) (λ path.
+    Some (record { address = address; perms = permissions perms.0; offset = place; dev = device; inode = node; pathname = path })))))))))))
+
+-- whether a byte is one of A to Z
+abbrev pub is_capital : ℕ → Bool
+is_capital b = nat_le 65 b && nat_le b 90
+
+-- the region of a line: UTF-8 without a line feed, whose first byte is none of A to Z
+unfoldable pub map_line : List ℕ → Option MapRegion
+map_line line =
+    and_then (utf8_text line) (λ text.
+    if list_any (λ b. b == 10) text then None else (if is_capital (slice_index text 0) then None else fields_in text))
+
+-- ---- the same as a grammar
+
+-- one digit or more, without a sign, of a number of so many bits
+pub record IsNumber (base bits : ℕ) (digits : List ℕ) (n : ℕ) : Type 0 where
+  pub numeral : IsNumeral base digits
+  pub value : digits_value base digits ≡ n
+  pub fits : n < 2 ^ bits
+
+-- no such byte is among these
+abbrev pub Lacks : ℕ → List ℕ → Type 0
+Lacks byte bytes = AllByRecursion (λ b. b ≢ byte) bytes
+
+-- bytes are cut at the first such byte
+pub record IsCut (byte : ℕ) (bytes front back : List ℕ) : Type 0 where
+  pub joined : bytes ≡ front ++ byte ∷ back
+  pub lacks : Lacks byte front
+
+-- two hexadecimal numbers with a byte between them
+pub record AreTwo (byte bits : ℕ) (bytes : List ℕ) (pair : ℕ × ℕ) : Type 0 where
+  pub first : List ℕ
+  pub last : List ℕ
+  pub cut : IsCut byte bytes first last
+  pub first_is : IsNumber 16 bits first pair.0
+  pub last_is : IsNumber 16 bits last pair.1
+
+-- six fields joined by spaces, the first five without a space: `first-last`, the permissions, the offset, `major:minor`, the inode
+-- and the path
+pub record AreFields (line : List ℕ) (m : MapRegion) : Type 0 where
+  pub range : List ℕ
+  pub after_range : List ℕ
+  pub cut_range : IsCut 32 line range after_range
+  pub perms : List ℕ
+  pub after_perms : List ℕ
+  pub cut_perms : IsCut 32 after_range perms after_perms
+  pub offset : List ℕ
+  pub after_offset : List ℕ
+  pub cut_offset : IsCut 32 after_perms offset after_offset
+  pub dev : List ℕ
+  pub after_dev : List ℕ
+  pub cut_dev : IsCut 32 after_offset dev after_dev
+  pub inode : List ℕ
+  pub path : List ℕ
+  pub cut_inode : IsCut 32 after_dev inode path
+  pub range_is : AreTwo 45 64 range m.address
+  pub perms_are : permissions perms ≡ m.perms
+  pub offset_is : IsNumber 16 64 offset m.offset
+  pub dev_is : AreTwo 58 32 dev m.dev
+  pub inode_is : IsNumber 10 64 inode m.inode
+  pub path_is : path_in (trim path) ≡ Some m.pathname
+
+-- a line is that of a region: UTF-8 without a line feed, whose first byte is none of A to Z, and its fields are the region's
+pub record IsMapLine (line : List ℕ) (m : MapRegion) : Type 0 where
+  pub utf8 : IsUtf8 line
+  pub no_feed : Lacks 10 line
+  pub no_capital : is_capital (slice_index line 0) ≡ false
+  pub fields : AreFields line m

@@ -1,0 +1,74 @@
+-- Information on regions of memory of either kind of list.
+use Rattle.std.specs.Prelude.{Bool, List, map, Option, Some, None}
+use Rattle.minidump_format.specs.Flags.{has_flag}
+use Rattle.minidump_index.specs.declared.range.Range.{Range}
+use Rattle.minidump_memory.specs.declared.linux_maps.MinidumpLinuxMaps.{MinidumpLinuxMaps}
+use Rattle.minidump_memory.specs.declared.memory_info.MinidumpMemoryInfoList.{MinidumpMemoryInfoList}
+use Rattle.minidump_memory.specs.declared.unified_info.UnifiedMemoryInfo.{UnifiedMemoryInfo}
+use Rattle.minidump_memory.specs.declared.unified_info.UnifiedMemoryInfo.TheVariants as region
+use Rattle.minidump_memory.specs.declared.unified_info.UnifiedMemoryInfoList.{UnifiedMemoryInfoList}
+use Rattle.minidump_memory.specs.declared.unified_info.UnifiedMemoryInfoList.TheVariants as list
+use Rattle.minidump_memory.specs.LinuxMaps.{map_info_of, map_regions, region_range}
+use Rattle.minidump_memory.specs.MapLine.{MapRegion}
+use Rattle.minidump_memory.specs.MemoryInfo.{MemoryInfo, info_of, info_range, info_values, page_is_executable, page_is_readable, page_is_writable}
+
+-- what is of an MD_LINUX_MAPS stream, or of a MINIDUMP_MEMORY_INFO_LIST
+pub data UnifiedInfo (A B : Type 0) : Type 0 where
+  OfMaps : (of_maps : A) → UnifiedInfo A B
+  OfInfo : (of_info : B) → UnifiedInfo A B
+
+-- a region of either kind
+abbrev pub InfoRegion : Type 0
+InfoRegion = UnifiedInfo MapRegion MemoryInfo
+
+-- the regions of a list of either kind
+abbrev pub InfoRegions : Type 0
+InfoRegions = UnifiedInfo (List MapRegion) (List MemoryInfo)
+
+-- the same regions as one list
+abbrev pub info_regions : InfoRegions → List InfoRegion
+info_regions (OfMaps regions) = map OfMaps regions
+info_regions (OfInfo regions) = map OfInfo regions
+
+-- the region that is referred to
+abbrev pub info_region : UnifiedMemoryInfo → InfoRegion
+info_region (region.Map m) = OfMaps (map_info_of m.now)
+info_region (region.Info m) = OfInfo (info_of m.now)
+
+-- the regions of the list that is held
+abbrev pub info_list : UnifiedMemoryInfoList → InfoRegions
+info_list (list.Maps l) = OfMaps (map_regions l)
+info_list (list.Info l) = OfInfo (info_values l)
+
+-- the addresses of a region
+abbrev pub info_region_range : InfoRegion → Option Range
+info_region_range (OfMaps m) = region_range m
+info_region_range (OfInfo m) = info_range m
+
+-- the access that a region allows: by the letters of its line, or by its protection
+abbrev pub region_is_readable : InfoRegion → Bool
+region_is_readable (OfMaps m) = has_flag m.perms 1
+region_is_readable (OfInfo m) = page_is_readable m.protection
+
+abbrev pub region_is_writable : InfoRegion → Bool
+region_is_writable (OfMaps m) = has_flag m.perms 2
+region_is_writable (OfInfo m) = page_is_writable m.protection
+
+abbrev pub region_is_executable : InfoRegion → Bool
+region_is_executable (OfMaps m) = has_flag m.perms 4
+region_is_executable (OfInfo m) = page_is_executable m.protection
+
+-- the list that is held, of two that may be there: the information before the maps
+abbrev pub held : Option MinidumpMemoryInfoList → Option MinidumpLinuxMaps → Option UnifiedMemoryInfoList
+held (Some info) maps = Some (list.Info info)
+held None (Some maps) = Some (list.Maps maps)
+held None None = None
+
+-- the list of maps, and of information, where one of its kind is held
+abbrev pub held_maps : UnifiedMemoryInfoList → Option MinidumpLinuxMaps
+held_maps (list.Maps l) = Some l
+held_maps (list.Info l) = None
+
+abbrev pub held_info : UnifiedMemoryInfoList → Option MinidumpMemoryInfoList
+held_info (list.Maps l) = None
+held_info (list.Info l) = Some l
