@@ -1,6 +1,7 @@
 -- How the count of binary digits falls where a number is halved.
-use Rattle.std.proofs.Common.{◌≡◌, ℕ, zero, suc, ◌<◌, ◌≤◌, ◌+◌, ◌/◌, arith, refl, ap, sym, ◌∙◌}
+use Rattle.std.proofs.Common.{◌≡◌, ℕ, zero, suc, ◌<◌, ◌≤◌, ◌+◌, ◌*◌, ◌^◌, ◌/◌, arith, refl, ap, sym, ◌∙◌}
 use Rattle.std.proofs.lemmas.Bool.Decides.{nat_tests}
+use Rattle.std.proofs.lemmas.Nat.{pow-add}
 use Rattle.minidump_index.specs.Digits.{digits, digits_among}
 
 at_zero : (n : ℕ) → digits_among n 0 ≡ 0
@@ -41,3 +42,31 @@ digits-rises m n h = omega (arith, enough m n m (omega arith) h, rises n m n h (
 -- one probe halves what is left
 pub one_probe : (n m : ℕ) → 0 < n → m ≤ n / 2 → 1 + digits m ≤ digits n
 one_probe n m h k = omega (arith, digits-half n h, digits-rises m (n / 2) k)
+
+-- ---- between powers of two
+twice : (n : ℕ) → 2 ^ (1 + n) ≡ 2 * 2 ^ n
+twice n = pow-add 2 1 n
+
+above : (n k : ℕ) → k ≤ n → k < 2 ^ digits k
+above n zero h = rw digits-zero (omega arith)
+above zero (suc k) h = absurd (omega arith)
+above (suc n) (suc k) h =
+    let half = digits-half (suc k) (omega arith) in
+    let more = above n (suc k / 2) (omega arith) in
+    rw half (omega (arith, more, twice (digits (suc k / 2))))
+
+pub digits-above : (k : ℕ) → k < 2 ^ digits k
+digits-above k = above k k (omega arith)
+
+below : (n k : ℕ) → k ≤ n → 0 < k → 2 ^ digits k ≤ 2 * k
+below n zero h p = absurd (omega arith)
+below zero (suc k) h p = absurd (omega arith)
+below (suc n) (suc zero) h p = let half = digits-half 1 (omega arith) in let none = digits-zero in rw (half, none) (omega arith)
+below (suc n) (suc (suc k)) h p =
+    let half = digits-half (suc (suc k)) (omega arith) in
+    let more = below n (suc (suc k) / 2) (omega arith) (omega arith) in
+    rw half (omega (arith, more, twice (digits (suc (suc k) / 2))))
+
+-- no more than twice the number
+pub digits-below : (k : ℕ) → 0 < k → 2 ^ digits k ≤ 2 * k
+digits-below k h = below k k (omega arith) h

@@ -2,7 +2,7 @@
 pub mod Apart
 pub mod DigitsLemmas
 pub mod Exists
-pub mod Find
+pub mod Listed
 pub mod Looked
 pub mod Members
 pub mod One
@@ -12,4 +12,6 @@ pub mod RegionLaws
 pub mod RegionsLemmas
 pub mod Same
 pub mod Sizes
+pub mod TreeLemmas
 pub mod Views
+pub mod WalkLemmas

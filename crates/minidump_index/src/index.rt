@@ -1,11 +1,13 @@
-ghost use Rattle.std.specs.Prelude.{◌≡◌, ◌+◌, ◌<◌, ◌≤◌, Some, IfOk, IfErr, IfSome, MatchBool, All, Any, [], length, map, List, Option};
+ghost use Rattle.std.specs.Prelude.{◌≡◌, ◌+◌, ◌-◌, ◌^◌, ◌<◌, ◌≤◌, ℕ, Some, IfOk, IfErr, IfSome, IsTrue, MatchBool, All, Any, MatchOption, [], ◌∷◌, ◌++◌, length, map, List, Option};
 ghost use Rattle.std.specs.Iterator.{YieldsFirst, YieldsLast, UpTo, at_most, item_count};
 ghost use Rattle.std.specs.Iterator.SizeHint.{IsWithinCount};
 ghost use Rattle.std.specs.List.Sorted.{IsPermutation};
 ghost use Rattle.minidump_bytes.specs.Steps.{after};
 ghost use Rattle.minidump_index.specs.declared.range.Range.{Range};
+ghost use Rattle.minidump_index.specs.declared.index.Entry.{Entry};
 ghost use Rattle.minidump_index.specs.Digits.{digits};
 ghost use Rattle.minidump_index.specs.Kept.{places, IsIndexOf, HoldsRanged, IsFound, IsAscending, IsInOrder, KeepsApart};
+ghost use Rattle.minidump_index.specs.Tree.{IsSearchTree, place_at, walk, walk_from};
 
 use crate::{Range, Region};
 use minidump_bytes::{Steps, probe};
@@ -23,22 +25,24 @@ pub struct Entry {
     pub place: usize,
 }
 
-/// The kept ranges of a list, ascending by address, each with its index in the list.
+/// The kept ranges of a list, each with its index in the list. They are a complete binary tree in level
+/// order: the children of place `i` are at `2 * i + 1` and `2 * i + 2`, and the walk in order ascends by
+/// address.
 #[derive(Drop)]
 pub struct AddressIndex {
-    kept: Vec<Entry>,
+    tree: Vec<Entry>,
 }
 
 impl Model for AddressIndex {
     ghost use Rattle.std.specs.Prelude.{List};
     ghost use Rattle.minidump_index.specs.declared.index.Entry.{Entry};
-    ghost use Rattle.minidump_index.specs.Kept.{IsAscending};
+    ghost use Rattle.minidump_index.specs.Tree.{walk, IsSearchTree};
 
     ghost Value = { List Entry };
 
-    ghost view = { λ s. s.kept.items };
+    ghost view = { λ s. walk s.tree.items };
 
-    ghost invariant = { λ s. IsAscending s.kept.items };
+    ghost invariant = { λ s. IsSearchTree s.tree.items };
 }
 
 // Collects the regions that have a range, as that range and their index.
@@ -97,13 +101,79 @@ fn keep_apart(entries: &mut Vec<Entry>)
     drop_overlaps(entries);
 }
 
+// Returns one more than the number of places of a full tree with as many levels as a complete tree of
+// `len` entries.
+fn full(len: usize) -> usize
+    requires { len < 2 ^ 63 }
+    ensures { result ≡ 2 ^ digits len }
+{
+    1 << (usize::BITS - len.leading_zeros())
+}
+
+// Returns the place of number `k`, counted from 1, in the walk of a full tree.
+fn place_at(total: usize, k: usize) -> usize
+    requires starts { 0 < k }
+    requires within { k < total }
+    requires bound { total ≤ 2 ^ 63 }
+    ensures { result ≡ place_at total k }
+{
+    ((total + k) >> k.trailing_zeros() >> 1) - 1
+}
+
+// Puts the regions of a list into a tree of as many entries, if each has a range that starts behind the end
+// of the one before it. Returns false if not; the tree then has some of their entries.
+fn put_regions<R: Region>(tree: &mut Vec<Entry>, regions: &[R]) -> bool
+    requires { length tree.old.items ≡ length regions.now }
+    ensures whole { length tree.new.items ≡ length tree.old.items }
+    ensures all { IsTrue result → IsIndexOf (map R.range regions.now) (walk tree.new.items) }
+    ensures tree { IsTrue result → IsSearchTree tree.new.items }
+{
+    let len = tree.len();
+    let total = full(len);
+    let mut rank = 0;
+    let mut end = 0;
+    for k in 1..total {
+        let place = place_at(total, k);
+        if place < len {
+            let Some(range) = regions[rank].memory_range() else {
+                return false;
+            };
+            if rank > 0 && range.start <= end {
+                return false;
+            }
+            tree[place] = Entry { range, place: rank };
+            end = range.end;
+            rank += 1;
+        }
+    }
+    true
+}
+
+// Puts ascending entries into a tree of as many.
+fn put_entries(tree: &mut Vec<Entry>, entries: &[Entry])
+    requires { length tree.old.items ≡ length entries.now }
+    ensures whole { length tree.new.items ≡ length tree.old.items }
+    ensures walk { walk tree.new.items ≡ entries.now }
+{
+    let len = tree.len();
+    let total = full(len);
+    let mut rank = 0;
+    for k in 1..total {
+        let place = place_at(total, k);
+        if place < len {
+            tree[place] = entries[rank];
+            rank += 1;
+        }
+    }
+}
+
 impl AddressIndex {
     // Makes the index of no ranges.
     pub(crate) fn empty(alloc: Global) -> AddressIndex
         ensures { result ≡ [] }
     {
         AddressIndex {
-            kept: Vec::new(alloc),
+            tree: Vec::new(alloc),
         }
     }
 
@@ -123,9 +193,18 @@ impl AddressIndex {
     ) -> Result<AddressIndex, AllocError>
         ensures { IfOk result (λ index. IsIndexOf (map R.range regions.now) index) }
     {
-        let mut kept = ranged(alloc, regions)?;
-        keep_apart(&mut kept);
-        Ok(AddressIndex { kept })
+        let none = Entry {
+            range: Range::new(0, 0),
+            place: 0,
+        };
+        let mut tree = vec![in alloc; none; regions.len()]?;
+        if !put_regions(&mut tree, regions) {
+            let mut kept = ranged(alloc, regions)?;
+            keep_apart(&mut kept);
+            tree.resize(kept.len(), none)?;
+            put_entries(&mut tree, &kept);
+        }
+        Ok(AddressIndex { tree })
     }
 
     /// Returns the number of kept ranges.
@@ -133,7 +212,7 @@ impl AddressIndex {
         ensures count { result ≡ length self.now }
         ensures ascending { IsAscending self.now }
     {
-        self.kept.len()
+        self.tree.len()
     }
 
     /// Returns an iterator over the kept ranges, ascending by address. It yields their indices in the
@@ -141,8 +220,14 @@ impl AddressIndex {
     pub fn by_addr(&self) -> ByAddress<'_>
         ensures { result ≡ places self.now }
     {
+        let left = self.tree.len();
+        let total = full(left);
         ByAddress {
-            entries: self.kept.as_slice(),
+            tree: self.tree.as_slice(),
+            total,
+            first: 1,
+            count: total - 1,
+            left,
         }
     }
 
@@ -157,28 +242,16 @@ impl AddressIndex {
         ensures grows { steps.old ≤ steps.new }
         ensures compared { 0 < length self.now → after steps.old 1 ≤ steps.new }
     {
-        // No branch depends on the addresses: one that is guessed wrongly costs more than a comparison.
-        let mut low = 0;
-        let mut size = self.kept.len();
-        let mut found = usize::MAX;
-        while size > 0 {
-            let half = size / 2;
-            let middle = low + half;
-            let entry = self.kept[middle];
-            let order = probe(entry.range.start, entry.range.end, address, steps);
-            found = if order == Ordering::Equal {
-                middle
-            } else {
-                found
+        let mut place = 0;
+        while place < self.tree.len() {
+            let entry = self.tree[place];
+            place = match probe(entry.range.start, entry.range.end, address, steps) {
+                Ordering::Less => 2 * place + 1,
+                Ordering::Equal => return Some(entry.place),
+                Ordering::Greater => 2 * place + 2,
             };
-            low = if order != Ordering::Less {
-                low + (size - half)
-            } else {
-                low
-            };
-            size = half;
         }
-        Some(self.kept.get(found)?.place)
+        None
     }
 }
 
@@ -186,16 +259,64 @@ impl AddressIndex {
 /// list.
 #[derive(Debug, Drop)]
 pub struct ByAddress<'a> {
-    entries: &'a [Entry],
+    tree: &'a [Entry],
+    // One more than the number of places of a full tree with as many levels.
+    total: usize,
+    // Of the walk of that full tree, counted from 1: the first place that is left, and how many are.
+    first: usize,
+    count: usize,
+    // How many of those places have an entry.
+    left: usize,
 }
 
 impl<'a> Model for ByAddress<'a> {
     ghost use Rattle.std.specs.Prelude.{List, ℕ};
     ghost use Rattle.minidump_index.specs.Kept.{places};
+    ghost use Rattle.minidump_index.specs.Tree.{walk_from, IsPart};
 
     ghost Value = { List ℕ };
 
-    ghost view = { λ s. places s.entries.now };
+    ghost view = { λ s. places (walk_from s.tree.now s.total s.first s.count) };
+
+    ghost invariant = { λ s. IsPart s.tree.now s.total s.first s.count s.left };
+}
+
+// Finds the first entry among so many places of the walk. Returns its index in the list, and the number of
+// the place behind it.
+fn first_of(tree: &[Entry], total: usize, first: usize, count: usize) -> Option<(usize, usize)>
+    requires starts { 0 < first }
+    requires within { first + count ≤ total }
+    requires bound { total ≤ 2 ^ 63 }
+    ensures { MatchOption result (walk_from tree.now total first count ≡ [])
+        (λ r. (e : Entry) × (r.0 ≡ e.place) × (first < r.1) × (r.1 ≤ first + count)
+        × (walk_from tree.now total first count ≡ e ∷ walk_from tree.now total r.1 (first + count - r.1))) }
+{
+    for k in first..first + count {
+        if let Some(entry) = tree.get(place_at(total, k)) {
+            return Some((entry.place, k + 1));
+        }
+    }
+    None
+}
+
+// Finds the last entry among so many places of the walk. Returns its index in the list, and how many places
+// come before it.
+fn last_of(tree: &[Entry], total: usize, first: usize, count: usize) -> Option<(usize, usize)>
+    requires starts { 0 < first }
+    requires within { first + count ≤ total }
+    requires bound { total ≤ 2 ^ 63 }
+    ensures { MatchOption result (walk_from tree.now total first count ≡ [])
+        (λ r. (e : Entry) × (r.0 ≡ e.place) × (r.1 < count)
+        × (walk_from tree.now total first count ≡ walk_from tree.now total first r.1 ++ (e ∷ []))) }
+{
+    let mut before = count;
+    while before > 0 {
+        before -= 1;
+        if let Some(entry) = tree.get(place_at(total, first + before)) {
+            return Some((entry.place, before));
+        }
+    }
+    None
 }
 
 impl<'a> Iterator for ByAddress<'a> {
@@ -206,9 +327,11 @@ impl<'a> Iterator for ByAddress<'a> {
     ghost remaining = { item_count (λ rest. rest) };
 
     fn next(&mut self) -> Option<usize> {
-        let (first, rest) = self.entries.split_first()?;
-        self.entries = rest;
-        Some(first.place)
+        let (place, first) = first_of(self.tree, self.total, self.first, self.count)?;
+        self.count -= first - self.first;
+        self.first = first;
+        self.left -= 1;
+        Some(place)
     }
 
     fn size_hint(&self) -> (usize, Option<usize>)
@@ -216,7 +339,7 @@ impl<'a> Iterator for ByAddress<'a> {
         ensures upper { IfSome result.1 (UpTo (at_most (length self.now))) }
         ensures exact { result ≡ (length self.now, Some (length self.now)) }
     {
-        (self.entries.len(), Some(self.entries.len()))
+        (self.left, Some(self.left))
     }
 }
 
@@ -224,14 +347,18 @@ impl<'a> DoubleEndedIterator for ByAddress<'a> {
     ghost next_back_gives = { YieldsLast (λ rest. rest) };
 
     fn next_back(&mut self) -> Option<usize> {
-        let (last, rest) = self.entries.split_last()?;
-        self.entries = rest;
-        Some(last.place)
+        let (place, count) = last_of(self.tree, self.total, self.first, self.count)?;
+        self.count = count;
+        self.left -= 1;
+        Some(place)
     }
 }
 
 impl<'a> ExactSizeIterator for ByAddress<'a> {
     fn len(&self) -> usize {
-        self.entries.len()
+        self.left
     }
 }
+
+#[cfg(test)]
+mod tests;
