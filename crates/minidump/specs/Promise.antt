@@ -9,7 +9,7 @@ use Rattle.minidump_format.specs.declared.format.memory.MINIDUMP_MEMORY_DESCRIPT
 use Rattle.minidump_format.specs.declared.format.assertion.MINIDUMP_ASSERTION_INFO.{MINIDUMP_ASSERTION_INFO}
 use Rattle.minidump_format.specs.declared.format.thread.MINIDUMP_THREAD_INFO.{MINIDUMP_THREAD_INFO}
 use Rattle.minidump_format.specs.declared.format.stream_type.MINIDUMP_STREAM_TYPE.{MINIDUMP_STREAM_TYPE}
-use Rattle.minidump_format.specs.declared.format.stream_type.MINIDUMP_STREAM_TYPE.TheVariants.{SystemInfoStream, MiscInfoStream, ModuleListStream, MemoryListStream, Memory64ListStream, UnloadedModuleListStream, ThreadInfoListStream, ThreadNamesStream, CrashpadInfoStream, StabilityReportStream, BreakpadInfoStream, AssertionInfoStream, LinuxCpuInfo, LinuxProcStatus, LinuxLsbRelease, LinuxEnviron, MozMacosBootargsStream, MozLinuxLimits, MozSoftErrors, HandleDataStream, ThreadListStream, ExceptionStream, MemoryInfoListStream, LinuxMaps}
+use Rattle.minidump_format.specs.declared.format.stream_type.MINIDUMP_STREAM_TYPE.TheVariants.{SystemInfoStream, MiscInfoStream, ModuleListStream, MemoryListStream, Memory64ListStream, UnloadedModuleListStream, ThreadInfoListStream, ThreadNamesStream, CrashpadInfoStream, StabilityReportStream, BreakpadInfoStream, AssertionInfoStream, LinuxCpuInfo, LinuxProcStatus, LinuxLsbRelease, LinuxEnviron, MozMacosBootargsStream, MozLinuxLimits, MozSoftErrors, HandleDataStream, ThreadListStream, ExceptionStream, MemoryInfoListStream, LinuxMaps, MozMacosCrashInfoStream}
 use Rattle.minidump_format.specs.StreamType.{number_of}
 use Rattle.minidump_system.specs.declared.misc_info.RawMiscInfo.{RawMiscInfo}
 use Rattle.minidump_system.specs.MiscInfo.{misc_info_in}
@@ -34,6 +34,8 @@ use Rattle.minidump_records.specs.Handles.{Handle, handle_data}
 use Rattle.minidump_records.specs.ThreadInfo.{thread_infos}
 use Rattle.minidump_records.specs.ThreadNames.{ThreadName, thread_names}
 use Rattle.minidump_records.specs.CrashpadInfo.{Crashpad, crashpad_in}
+use Rattle.minidump_records.specs.MacRecord.{MacRecord}
+use Rattle.minidump_records.specs.MacCrashInfo.{mac_crash_info_in}
 use Rattle.minidump_stability.specs.StabilityReport.{Report, stability_report}
 use Rattle.minidump.specs.Dump.{Meaning}
 use Rattle.minidump.specs.Exception.{Exception, exception_in}
@@ -126,6 +128,9 @@ IsMemoryInfoList = IsReadAs MemoryInfoListStream (λ bytes file order system. me
 
 abbrev pub IsLinuxMaps : ℕ → Meaning (List MapRegion) → (ℕ → ℕ) → Type 0
 IsLinuxMaps = IsReadAs LinuxMaps (λ bytes file order system. linux_maps bytes)
+
+abbrev pub IsMacCrashInfo : ℕ → Meaning (List MacRecord) → (ℕ → ℕ) → Type 0
+IsMacCrashInfo = IsReadAs MozMacosCrashInfoStream (λ bytes file order system. mac_crash_info_in bytes file order)
 
 abbrev pub IsStabilityReport : ℕ → Meaning Report → (ℕ → ℕ) → Type 0
 IsStabilityReport = IsReadAs StabilityReportStream (λ bytes file order system. stability_report bytes)

@@ -14,3 +14,5 @@ pub use Rattle.minidump_records.specs.LinuxTexts
 pub use Rattle.minidump_records.specs.Alone
 pub use Rattle.minidump_records.specs.Handles
 pub use Rattle.minidump_records.specs.ObjectChain
+pub use Rattle.minidump_records.specs.MacRecord
+pub use Rattle.minidump_records.specs.MacCrashInfo

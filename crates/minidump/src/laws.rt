@@ -7,7 +7,7 @@ ghost use Rattle.minidump.specs.declared.directory.DecidingEntry.{DecidingEntry}
 ghost use Rattle.minidump.specs.declared.thread.MinidumpThread.{MinidumpThread};
 ghost use Rattle.minidump.specs.Directory.{deciding, deciding_below, directory};
 ghost use Rattle.minidump.specs.Dump.{Dump, raw_stream, spanned, streams_of};
-ghost use Rattle.minidump.specs.Promise.{IsAssertion, IsBreakpadInfo, IsCrashpadInfo, IsException, IsHandleData, IsLinuxCpuInfo, IsLinuxEnviron, IsLinuxLsbRelease, IsLinuxMaps, IsLinuxProcLimits, IsLinuxProcStatus, IsMacBootargs, IsMemory64List, IsMemoryInfoList, IsMemoryList, IsMiscInfo, IsModuleList, IsSoftErrors, IsStabilityReport, IsSystemInfo, IsThreadInfoList, IsThreadList, IsThreadNames, IsUnloadedModuleList};
+ghost use Rattle.minidump.specs.Promise.{IsAssertion, IsBreakpadInfo, IsCrashpadInfo, IsException, IsHandleData, IsLinuxCpuInfo, IsLinuxEnviron, IsLinuxLsbRelease, IsLinuxMaps, IsLinuxProcLimits, IsLinuxProcStatus, IsMacBootargs, IsMacCrashInfo, IsMemory64List, IsMemoryInfoList, IsMemoryList, IsMiscInfo, IsModuleList, IsSoftErrors, IsStabilityReport, IsSystemInfo, IsThreadInfoList, IsThreadList, IsThreadNames, IsUnloadedModuleList};
 ghost use Rattle.minidump.specs.Streams.{unimplemented_view, unknown_view};
 ghost use Rattle.minidump.specs.Thread.{last_with};
 ghost use Rattle.minidump_bytes.specs.Span.{span};
@@ -43,8 +43,8 @@ pub use minidump_records::laws::{
 use minidump_records::{
     MinidumpAssertion, MinidumpBreakpadInfo, MinidumpCrashpadInfo, MinidumpHandleDataStream,
     MinidumpLinuxCpuInfo, MinidumpLinuxEnviron, MinidumpLinuxLsbRelease, MinidumpLinuxProcLimits,
-    MinidumpLinuxProcStatus, MinidumpMacBootargs, MinidumpSoftErrors, MinidumpThreadInfoList,
-    MinidumpThreadNames,
+    MinidumpLinuxProcStatus, MinidumpMacBootargs, MinidumpMacCrashInfo, MinidumpSoftErrors,
+    MinidumpThreadInfoList, MinidumpThreadNames,
 };
 use minidump_stability::StabilityReport;
 pub use minidump_stability::laws::{
@@ -139,6 +139,8 @@ pub fn streams_are_read_as_promised()
         in IsMemoryInfoList T.type_number T.meaning T.limit }
     ensures linux_maps { let T = ⟦<MinidumpLinuxMaps<'static> as MinidumpStream<'static>>⟧
         in IsLinuxMaps T.type_number T.meaning T.limit }
+    ensures mac_crash_info { let T = ⟦<MinidumpMacCrashInfo as MinidumpStream<'static>>⟧
+        in IsMacCrashInfo T.type_number T.meaning T.limit }
     ensures stability_report { let T = ⟦<StabilityReport as MinidumpStream<'static>>⟧
         in IsStabilityReport T.type_number T.meaning T.limit }
 {}

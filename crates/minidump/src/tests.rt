@@ -3,6 +3,7 @@ mod exception;
 mod file;
 mod handles;
 mod information;
+mod mac;
 mod memory;
 mod modules;
 mod records;

@@ -8,3 +8,4 @@ pub mod NameLemmas
 pub mod ObjectChainLemmas
 pub mod InformationLemmas
 pub mod HandleLemmas
+pub mod MacLemmas

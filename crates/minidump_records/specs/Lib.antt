@@ -14,3 +14,5 @@ pub mod LinuxTexts
 pub mod Alone
 pub mod ObjectChain
 pub mod Handles
+pub mod MacRecord
+pub mod MacCrashInfo

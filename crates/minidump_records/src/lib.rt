@@ -12,13 +12,16 @@
 //!   [`MinidumpSoftErrors`] is one text.
 //! - [`MinidumpLinuxCpuInfo`], [`MinidumpLinuxProcStatus`], [`MinidumpLinuxLsbRelease`], [`MinidumpLinuxEnviron`]
 //!   and [`MinidumpLinuxProcLimits`] are texts that Linux wrote; [`LinuxPairs`] yields the pairs of one.
+//! - [`MinidumpMacCrashInfo`] is what the modules of a process said of a crash on macOS, each [`RawMacCrashInfo`]
+//!   by its version.
 //! - [`laws`] has what holds of all this beyond single calls.
 //!
 //! # Errors
 //!
 //! `StreamReadFailure` or `StreamSizeMismatch` where the stream is malformed, and `OutOfMemory` where an
-//! allocation fails. A name that is no text is left out. `VersionMismatch` for Crashpad's information of version 0,
-//! `DataError` for soft errors that are not UTF-8. Linux texts have no error.
+//! allocation fails. A name that is no text is left out. `VersionMismatch` for Crashpad's information of version 0
+//! and for a record of macOS that has another version than the one before it, `DataError` for soft errors that are
+//! not UTF-8. Linux texts have no error.
 //!
 //! # What is proved
 //!
@@ -40,6 +43,10 @@
 //! - Breakpad's information, an assertion and the boot arguments are their records, with the fields whose flags
 //!   are set, the texts up to a NUL, and the text at the RVA: `breakpad_info_in`, `assertion_in`, `boot_args`;
 //!   `MinidumpAssertion::expression`, `function`, `file`. Soft errors are the stream as UTF-8: `soft_errors`.
+//! - The records of macOS are those at the first 20 locations, each by its version and with its texts within its
+//!   bytes, but for version 0: `MinidumpMacCrashInfo::read`, by `mac_crash_info_in`. A read takes at least one step
+//!   for the stream, for the bytes and the head of each record, and for the fixed part and each text from version 4
+//!   on. Numbers that are 0 and empty texts are absent: the accessors of `RawMacCrashInfo`.
 //! - A Linux text is its stream. Its iterator yields exactly the pairs of its lines, or the lines, and ends:
 //!   `iter` of each, by `pairs_of`; `LinuxPairs::next`.
 //! - What depends on its stream and the byte order alone: `laws::streams_depend_on_their_bytes_alone`. Copies
@@ -58,6 +65,7 @@ mod crashpad;
 mod handles;
 pub mod laws;
 mod linux;
+mod mac_crash_info;
 mod soft_errors;
 mod thread_info;
 mod thread_names;
@@ -74,6 +82,7 @@ pub use linux::{
     LinuxPairs, MinidumpLinuxCpuInfo, MinidumpLinuxEnviron, MinidumpLinuxLsbRelease,
     MinidumpLinuxProcLimits, MinidumpLinuxProcStatus,
 };
+pub use mac_crash_info::{MinidumpMacCrashInfo, RawMacCrashInfo};
 pub use soft_errors::MinidumpSoftErrors;
 pub use thread_info::{MinidumpThreadInfo, MinidumpThreadInfoList};
 pub use thread_names::MinidumpThreadNames;

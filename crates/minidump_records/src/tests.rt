@@ -1,4 +1,5 @@
 mod handles;
+mod mac_crash_info;
 
 use minidump_bytes::{Endian, Source, Steps};
 use minidump_format::Error;

@@ -5,10 +5,10 @@ use crate::{
     Endian, Error, Minidump, MinidumpAssertion, MinidumpBreakpadInfo, MinidumpCrashpadInfo,
     MinidumpException, MinidumpHandleDataStream, MinidumpLinuxCpuInfo, MinidumpLinuxEnviron,
     MinidumpLinuxLsbRelease, MinidumpLinuxMaps, MinidumpLinuxProcLimits, MinidumpLinuxProcStatus,
-    MinidumpMacBootargs, MinidumpMemory64List, MinidumpMemoryInfoList, MinidumpMemoryList,
-    MinidumpMiscInfo, MinidumpModuleList, MinidumpSoftErrors, MinidumpStream, MinidumpSystemInfo,
-    MinidumpThreadInfoList, MinidumpThreadList, MinidumpThreadNames, MinidumpUnloadedModuleList,
-    RawMiscInfo, StabilityReport, Steps, Told,
+    MinidumpMacBootargs, MinidumpMacCrashInfo, MinidumpMemory64List, MinidumpMemoryInfoList,
+    MinidumpMemoryList, MinidumpMiscInfo, MinidumpModuleList, MinidumpSoftErrors, MinidumpStream,
+    MinidumpSystemInfo, MinidumpThreadInfoList, MinidumpThreadList, MinidumpThreadNames,
+    MinidumpUnloadedModuleList, RawMiscInfo, StabilityReport, Steps, Told,
 };
 use minidump_synth::{Section, SynthMinidump, zeroed};
 use std::alloc::Global;
@@ -336,6 +336,7 @@ fn types_of_streams_have_their_numbers(rt: HostRuntime) -> Result<(), Fail> {
     assert!(rt; has_number::<MinidumpMacBootargs>(0x4d7a_0002));
     assert!(rt; has_number::<MinidumpLinuxProcLimits>(0x4d7a_0003));
     assert!(rt; has_number::<MinidumpSoftErrors>(0x4d7a_0004));
+    assert!(rt; has_number::<MinidumpMacCrashInfo>(0x4d7a_0001));
     assert!(rt; has_number::<StabilityReport>(STABILITY_REPORT));
     Ok(())
 }

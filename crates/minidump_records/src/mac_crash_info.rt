@@ -1,0 +1,124 @@
+ghost use Rattle.std.specs.Prelude.{◌≡◌, ◌+◌, ◌*◌, ◌≤◌, ⊤, None, length, map, IfOk, IsOkUnless};
+ghost use Rattle.std.specs.List.{sum_by};
+ghost use Rattle.minidump_bytes.specs.Source.{bytes_of};
+ghost use Rattle.minidump_bytes.specs.Steps.{after};
+ghost use Rattle.minidump_format.specs.Answer.{Gives};
+ghost use Rattle.minidump_format.specs.declared.format.stream_type.MINIDUMP_STREAM_TYPE.TheVariants.{MozMacosCrashInfoStream};
+ghost use Rattle.minidump_format.specs.StreamType.{number_of};
+ghost use Rattle.minidump_records.specs.MacRecord.{mac_record_of, record_reads};
+ghost use Rattle.minidump_records.specs.MacCrashInfo.{located_records, mac_records_of};
+
+mod raw;
+mod record;
+
+use minidump_bytes::{Endian, Source, Steps};
+use minidump_format::Error;
+use minidump_format::format::{MINIDUMP_LOCATION_DESCRIPTOR, MINIDUMP_MAC_CRASH_INFO};
+use minidump_system::{MinidumpStream, MinidumpSystemInfo};
+pub use raw::RawMacCrashInfo;
+use record::{Versioned, read_located};
+use std::alloc::Global;
+
+/// The crash information of macOS: what the modules of the process said of the crash.
+#[derive(Drop)]
+pub struct MinidumpMacCrashInfo {
+    /// The records, but for those of version 0.
+    pub raw: Vec<RawMacCrashInfo>,
+}
+
+impl MinidumpMacCrashInfo {
+    /// Copies the information. The only error is [`Error::OutOfMemory`].
+    pub fn try_clone(&self, alloc: Global) -> Result<MinidumpMacCrashInfo, Error>
+        ensures same { IfOk result (λ copy. mac_records_of copy ≡ mac_records_of self.now) }
+        ensures memory { IsOkUnless result Error.OutOfMemory }
+    {
+        let mut raw = Vec::with_capacity(alloc, self.raw.len())?;
+        for record in &self.raw {
+            raw.push(record.try_clone(alloc)?)?;
+        }
+        Ok(MinidumpMacCrashInfo { raw })
+    }
+}
+
+/// Mozilla's `MDRawMacCrashInfo`: the first 20 records of those that it counts. All have one version; those of
+/// version 0 are left out.
+///
+/// The errors: `StreamReadFailure` if the stream has no 172 bytes, and if the bytes of a record, its fixed part
+/// or one of its texts is missing; `VersionMismatch` if a record has another version than the one before it.
+impl<'a> MinidumpStream<'a> for MinidumpMacCrashInfo {
+    ghost use Rattle.std.specs.Prelude.{◌+◌, ◌*◌, List, IsSome};
+    ghost use Rattle.std.specs.List.{sum_by};
+    ghost use Rattle.minidump_bytes.specs.Span.{record_at};
+    ghost use Rattle.minidump_format.specs.declared.format.stream_type.MINIDUMP_STREAM_TYPE.TheVariants.{MozMacosCrashInfoStream};
+    ghost use Rattle.minidump_format.specs.Mac.{mac_crash_info};
+    ghost use Rattle.minidump_format.specs.StreamType.{number_of};
+    ghost use Rattle.minidump_records.specs.MacRecord.{MacRecord, record_reads};
+    ghost use Rattle.minidump_records.specs.MacCrashInfo.{count_of_records, mac_crash_info_in, mac_records_of};
+
+    ghost type_number = { number_of MozMacosCrashInfoStream };
+
+    const STREAM_TYPE: u32 = 0x4d7a_0001;
+
+    ghost Value = { List MacRecord };
+
+    ghost view = { mac_records_of };
+
+    ghost meaning = { λ bytes all order system. mac_crash_info_in bytes all order };
+
+    ghost limit = { λ n. n + 7 };
+
+    ghost least = { λ bytes order records. 1 + 2 * count_of_records order bytes + sum_by record_reads records };
+
+    ghost takes_memory = { λ bytes order. IsSome (record_at mac_crash_info order 0 bytes) };
+
+    fn number_of_type() -> u32
+        ensures { result ≡ number_of MozMacosCrashInfoStream }
+    {
+        Self::STREAM_TYPE
+    }
+
+    fn read(
+        alloc: Global,
+        bytes: Source<'a>,
+        all: Source<'a>,
+        endian: Endian,
+        _system_info: Option<&MinidumpSystemInfo>,
+        steps: &mut Steps,
+    ) -> Result<Self, Error> {
+        let info: MINIDUMP_MAC_CRASH_INFO = bytes
+            .record(0, endian, steps)
+            .ok_or(Error::StreamReadFailure)?;
+        let count = (info.record_count as usize).min(20);
+        let start = info.record_start_size;
+        let raw = read_records(alloc, &info.records[..count], start, all, endian, steps)?;
+        Ok(MinidumpMacCrashInfo { raw })
+    }
+}
+
+// Reads the records at locations, whose texts begin at `start`.
+fn read_records(
+    alloc: Global,
+    locations: &[MINIDUMP_LOCATION_DESCRIPTOR],
+    start: u32,
+    all: Source<'_>,
+    endian: Endian,
+    steps: &mut Steps,
+) -> Result<Vec<RawMacCrashInfo>, Error>
+    ensures means { Gives (λ v. map mac_record_of v.items) ⊤ result (located_records endian (bytes_of all.entry) start None locations.now) }
+    ensures within { steps.new ≤ steps.old + 8 * length locations.now }
+    ensures grows { steps.old ≤ steps.new }
+    ensures at_least { IfOk result (λ v. after steps.old (2 * length locations.now + sum_by record_reads (map mac_record_of v.items)) ≤ steps.new) }
+{
+    let mut records = Vec::with_capacity(alloc, locations.len())?;
+    let mut before = None;
+    for location in locations {
+        let Versioned { version, record } = read_located(
+            alloc, location, start, before, all, endian, steps,
+        )?;
+        before = Some(version);
+        if let Some(record) = record {
+            records.push(record)?;
+        }
+    }
+    Ok(records)
+}
