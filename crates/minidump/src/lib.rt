@@ -63,109 +63,50 @@ mod thread_list;
 
 pub use dump::Minidump;
 pub use exception::MinidumpException;
-pub use minidump_bytes::Endian;
-pub use minidump_bytes::FixedRead;
-pub use minidump_bytes::Record;
-pub use minidump_bytes::Refused;
-pub use minidump_bytes::Source;
-pub use minidump_bytes::Steps;
-pub use minidump_bytes::Told;
-pub use minidump_bytes::WireField;
-pub use minidump_bytes::WireValue;
-pub use minidump_bytes::probe;
-pub use minidump_bytes::write_bytes;
-pub use minidump_context::ContextError;
-pub use minidump_context::ContextRegisters;
-pub use minidump_context::CpuContext;
-pub use minidump_context::CpuRegisterNames;
-pub use minidump_context::CpuRegisters;
-pub use minidump_context::MinidumpContext;
-pub use minidump_context::MinidumpContextValidity;
-pub use minidump_context::MinidumpRawContext;
-pub use minidump_context::RegisterNumber;
-pub use minidump_format::Error;
-pub use minidump_format::format;
-pub use minidump_format::stream_vendor;
-pub use minidump_index::AddressIndex;
-pub use minidump_index::ByAddress;
-pub use minidump_index::Range;
-pub use minidump_index::Region;
-pub use minidump_index::RegionsByAddress;
-pub use minidump_memory::MMPermissions;
-pub use minidump_memory::MMapPath;
-pub use minidump_memory::MemoryMap;
-pub use minidump_memory::MinidumpLinuxMapInfo;
-pub use minidump_memory::MinidumpLinuxMaps;
-pub use minidump_memory::MinidumpMemory;
-pub use minidump_memory::MinidumpMemory64;
-pub use minidump_memory::MinidumpMemory64List;
-pub use minidump_memory::MinidumpMemoryBase;
-pub use minidump_memory::MinidumpMemoryInfo;
-pub use minidump_memory::MinidumpMemoryInfoList;
-pub use minidump_memory::MinidumpMemoryList;
-pub use minidump_memory::MinidumpMemoryListBase;
-pub use minidump_memory::UnifiedMemory;
-pub use minidump_memory::UnifiedMemoryByAddress;
-pub use minidump_memory::UnifiedMemoryInfo;
-pub use minidump_memory::UnifiedMemoryInfoByAddress;
-pub use minidump_memory::UnifiedMemoryInfoIter;
-pub use minidump_memory::UnifiedMemoryInfoList;
-pub use minidump_memory::UnifiedMemoryIter;
-pub use minidump_memory::UnifiedMemoryList;
-pub use minidump_modules::CodeId;
-pub use minidump_modules::CodeView;
-pub use minidump_modules::DebugId;
-pub use minidump_modules::MinidumpModule;
-pub use minidump_modules::MinidumpModuleList;
-pub use minidump_modules::MinidumpUnloadedModule;
-pub use minidump_modules::MinidumpUnloadedModuleList;
-pub use minidump_modules::Module;
-pub use minidump_modules::ModulesAtAddress;
-pub use minidump_modules::UnloadedModulesByAddress;
-pub use minidump_reason::CodeFamily;
-pub use minidump_reason::CodeNames;
-pub use minidump_reason::CodeNamesError;
-pub use minidump_reason::CrashReason;
-pub use minidump_records::LinuxPairs;
-pub use minidump_records::MinidumpAnnotation;
-pub use minidump_records::MinidumpAssertion;
-pub use minidump_records::MinidumpBreakpadInfo;
-pub use minidump_records::MinidumpCrashpadInfo;
-pub use minidump_records::MinidumpHandleDataStream;
-pub use minidump_records::MinidumpHandleDescriptor;
-pub use minidump_records::MinidumpHandleObjectInformation;
-pub use minidump_records::MinidumpLinuxCpuInfo;
-pub use minidump_records::MinidumpLinuxEnviron;
-pub use minidump_records::MinidumpLinuxLsbRelease;
-pub use minidump_records::MinidumpLinuxProcLimits;
-pub use minidump_records::MinidumpLinuxProcStatus;
-pub use minidump_records::MinidumpMacBootargs;
-pub use minidump_records::MinidumpMacCrashInfo;
-pub use minidump_records::MinidumpModuleCrashpadInfo;
-pub use minidump_records::MinidumpSoftErrors;
-pub use minidump_records::MinidumpThreadInfo;
-pub use minidump_records::MinidumpThreadInfoList;
-pub use minidump_records::MinidumpThreadNames;
-pub use minidump_records::RawHandleDescriptor;
-pub use minidump_records::RawMacCrashInfo;
-pub use minidump_stability::ProcessState;
-pub use minidump_stability::StabilityReport;
-pub use minidump_stability::SystemMemoryState;
-pub use minidump_stability::process_state;
-pub use minidump_stability::system_memory_state;
-pub use minidump_system::MinidumpMiscInfo;
-pub use minidump_system::MinidumpStream;
-pub use minidump_system::MinidumpSystemInfo;
-pub use minidump_system::RawMiscInfo;
-pub use minidump_system::date_text;
-pub use streams::MinidumpImplementedStream;
-pub use streams::MinidumpUnimplementedStream;
-pub use streams::MinidumpUnknownStream;
-pub use streams::Streams;
-pub use streams::UnimplementedStreams;
-pub use streams::UnknownStreams;
+pub use streams::{
+    MinidumpImplementedStream, MinidumpUnimplementedStream, MinidumpUnknownStream, Streams,
+    UnimplementedStreams, UnknownStreams,
+};
 pub use thread::MinidumpThread;
 pub use thread_list::MinidumpThreadList;
+
+// What the crates below have.
+pub use minidump_bytes::{
+    Endian, FixedRead, Record, Refused, Source, Steps, Told, WireField, WireValue, probe,
+    write_bytes,
+};
+pub use minidump_context::{
+    ContextError, ContextRegisters, CpuContext, CpuRegisterNames, CpuRegisters, MinidumpContext,
+    MinidumpContextValidity, MinidumpRawContext, RegisterNumber,
+};
+pub use minidump_format::{Error, format, stream_vendor};
+pub use minidump_index::{AddressIndex, ByAddress, Range, Region, RegionsByAddress};
+pub use minidump_memory::{
+    MMPermissions, MMapPath, MemoryMap, MinidumpLinuxMapInfo, MinidumpLinuxMaps, MinidumpMemory,
+    MinidumpMemory64, MinidumpMemory64List, MinidumpMemoryBase, MinidumpMemoryInfo,
+    MinidumpMemoryInfoList, MinidumpMemoryList, MinidumpMemoryListBase, UnifiedMemory,
+    UnifiedMemoryByAddress, UnifiedMemoryInfo, UnifiedMemoryInfoByAddress, UnifiedMemoryInfoIter,
+    UnifiedMemoryInfoList, UnifiedMemoryIter, UnifiedMemoryList,
+};
+pub use minidump_modules::{
+    CodeId, CodeView, DebugId, MinidumpModule, MinidumpModuleList, MinidumpUnloadedModule,
+    MinidumpUnloadedModuleList, Module, ModulesAtAddress, UnloadedModulesByAddress,
+};
+pub use minidump_reason::{CodeFamily, CodeNames, CodeNamesError, CrashReason};
+pub use minidump_records::{
+    LinuxPairs, MinidumpAnnotation, MinidumpAssertion, MinidumpBreakpadInfo, MinidumpCrashpadInfo,
+    MinidumpHandleDataStream, MinidumpHandleDescriptor, MinidumpHandleObjectInformation,
+    MinidumpLinuxCpuInfo, MinidumpLinuxEnviron, MinidumpLinuxLsbRelease, MinidumpLinuxProcLimits,
+    MinidumpLinuxProcStatus, MinidumpMacBootargs, MinidumpMacCrashInfo, MinidumpModuleCrashpadInfo,
+    MinidumpSoftErrors, MinidumpThreadInfo, MinidumpThreadInfoList, MinidumpThreadNames,
+    RawHandleDescriptor, RawMacCrashInfo,
+};
+pub use minidump_stability::{
+    ProcessState, StabilityReport, SystemMemoryState, process_state, system_memory_state,
+};
+pub use minidump_system::{
+    MinidumpMiscInfo, MinidumpStream, MinidumpSystemInfo, RawMiscInfo, date_text,
+};
 
 /// Texts of Linux, which need not be UTF-8.
 pub mod strings {
