@@ -1,6 +1,6 @@
 -- A list whose regions all have a range and ascend: its entries as they stand.
-use Rattle.std.proofs.Common.{◌≡◌, ℕ, zero, suc, ◌<◌, ◌≤◌, ◌+◌, ◌-◌, ◌^◌, List, [], ◌∷◌, length, get_or, arith, slice_get, slice_set, subst, sym, ap, refl, inl, inr, ◌∙◌}
-use Rattle.std.specs.Prelude.{Option, Some, None, Contains}
+use Rattle.std.proofs.Common.{◌≡◌, ℕ, zero, suc, ◌<◌, ◌≤◌, ◌+◌, ◌^◌, List, [], ◌∷◌, length, get_or, arith, slice_get, slice_set, subst, sym, ap, refl, inl, inr, ◌∙◌}
+use Rattle.std.specs.Prelude.{Option, Some, None}
 use Rattle.std.proofs.lemmas.List.{length-set}
 use Rattle.std.proofs.lemmas.List.Sorted.{IsPermutation-refl}
 use Rattle.std.proofs.lemmas.Option.{get_or_from_slice_get}
@@ -8,7 +8,7 @@ use Rattle.std.proofs.lemmas.Bool.{cases_lt}
 use Rattle.minidump_index.specs.declared.range.Range.{Range}
 use Rattle.minidump_index.specs.declared.index.Entry.{Entry}
 use Rattle.minidump_index.specs.Overlap.{HasRange, from_to}
-use Rattle.minidump_index.specs.Kept.{HoldsRanged, IsAscending, IsIndexOf, KeepsApart}
+use Rattle.minidump_index.specs.Kept.{HoldsRanged, IsAscending, IsIndexOf}
 use Rattle.minidump_index.specs.Digits.{digits}
 use Rattle.minidump_index.specs.Tree.{IsSearchTree, place_at, walk}
 use Rattle.minidump_index.proofs.Ranged.{entry, in_list, one_range}

@@ -1,14 +1,12 @@
 -- A lookup below one place of the tree.
-use Rattle.std.proofs.Common.{◌≡◌, ℕ, zero, suc, ◌<◌, ◌≤◌, ◌+◌, ◌-◌, ◌*◌, ◌^◌, ◌/◌, ◌⊎◌, List, [], ◌∷◌, ◌++◌, length, get_or, arith, slice_get, subst, sym, ap, refl, inl, inr, ◌∙◌, length-append}
-use Rattle.std.specs.Prelude.{Option, Some, None, Contains, AllPairs}
+use Rattle.std.proofs.Common.{◌≡◌, ℕ, zero, suc, ◌<◌, ◌≤◌, ◌+◌, ◌*◌, ◌^◌, List, [], ◌∷◌, ◌++◌, length, get_or, arith, subst, sym, ap, refl, inl, inr, length-append}
+use Rattle.std.specs.Prelude.{Option, Some, None, Contains}
 use Rattle.std.specs.Option.{option_to_list}
 use Rattle.std.proofs.lemmas.List.{get_or_append_left}
 use Rattle.std.proofs.lemmas.List.Elements.{Contains-append_left, Contains-append_right, Contains-append_cases}
 use Rattle.std.proofs.lemmas.Option.{slice_get_past, slice_get_read}
 use Rattle.std.proofs.lemmas.Nat.{mul-le}
 use Rattle.std.proofs.Math.Nat.{mul_assoc}
-use Rattle.minidump_bytes.specs.Steps.{after}
-use Rattle.minidump_index.specs.declared.range.Range.{Range}
 use Rattle.minidump_index.specs.declared.index.Entry.{Entry}
 use Rattle.minidump_index.specs.Overlap.{IsIn}
 use Rattle.minidump_index.specs.Kept.{IsAscending, IsFound}

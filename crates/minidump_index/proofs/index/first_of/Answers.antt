@@ -1,9 +1,9 @@
 -- The first place that the tree has gives the first entry.
-use Rattle.std.proofs.Common.{arith, ◌≡◌, ℕ, ◌<◌, ◌≤◌, ◌+◌, ◌-◌, ◌∙◌, refl, subst, slice_get, length}
+use Rattle.std.proofs.Common.{arith, ◌≡◌, ℕ, ◌≤◌, ◌+◌, ◌-◌, ◌∙◌, refl, subst, slice_get, length}
 use Rattle.std.specs.Prelude.{Some, None}
 use Rattle.std.proofs.lemmas.Grind.{common_steps}
 use Rattle.std.proofs.lemmas.Option.{slice_get_past, slice_get_read}
-use Rattle.minidump_index.specs.Tree.{place_at, walk_from}
+use Rattle.minidump_index.specs.Tree.{place_at}
 use Rattle.minidump_index.proofs.WalkLemmas.{walk_skips, walk_gives, walk_none}
 use Rattle.minidump_index.proofs.index.first_of.Goals as goal
 

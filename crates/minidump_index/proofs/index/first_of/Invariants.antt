@@ -1,5 +1,5 @@
 -- The places that were passed have no entry.
-use Rattle.std.proofs.Common.{◌≡◌, ℕ, ◌<◌, ◌≤◌, ◌+◌, ◌-◌, length}
+use Rattle.std.proofs.Common.{◌≡◌, ◌+◌, ◌-◌}
 use Rattle.minidump_index.specs.Tree.{walk_from}
 use Rattle.minidump_index.proofs.index.first_of.Given as goal
 

@@ -1,9 +1,9 @@
 -- The last place that the tree has gives the last entry.
-use Rattle.std.proofs.Common.{arith, ◌≡◌, ℕ, ◌<◌, ◌≤◌, ◌+◌, ◌-◌, ◌∙◌, refl, subst, slice_get, length}
+use Rattle.std.proofs.Common.{arith, ◌≡◌, ℕ, ◌≤◌, ◌+◌, ◌-◌, ◌∙◌, refl, subst, slice_get, length}
 use Rattle.std.specs.Prelude.{Some, None}
 use Rattle.std.proofs.lemmas.Grind.{common_steps}
 use Rattle.std.proofs.lemmas.Option.{slice_get_past, slice_get_read}
-use Rattle.minidump_index.specs.Tree.{place_at, walk_from}
+use Rattle.minidump_index.specs.Tree.{place_at}
 use Rattle.minidump_index.proofs.WalkLemmas.{walk_ends_by, walk_ends_past, walk_none}
 use Rattle.minidump_index.proofs.index.last_of.Goals as goal
 

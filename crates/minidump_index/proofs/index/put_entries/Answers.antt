@@ -1,10 +1,8 @@
 -- Each place of the walk that the tree has takes the next entry.
-use Rattle.std.proofs.Common.{rules, arith, ◌≡◌, ℕ, suc, ◌<◌, ◌≤◌, ◌+◌, ◌-◌, ◌^◌, ◌∙◌, refl, sym, ap, subst, slice_get, slice_set, length}
+use Rattle.std.proofs.Common.{rules, arith, ◌≡◌, ℕ, suc, ◌<◌, ◌+◌, ◌^◌, ◌∙◌, refl, sym, ap, subst, slice_get, length}
 use Rattle.std.specs.Prelude.{Some}
 use Rattle.std.proofs.lemmas.List.{length-set}
 use Rattle.std.proofs.lemmas.Option.{slice_get_read}
-use Rattle.minidump_index.specs.Digits.{digits}
-use Rattle.minidump_index.specs.Tree.{place_at}
 use Rattle.minidump_index.proofs.WalkLemmas.{filled_start, filled_put, filled_skip, filled_all, rank_at, ranks_at, total-few, total_of}
 use Rattle.minidump_index.proofs.index.put_entries.Goals as goal
 use Rattle.minidump_index.proofs.index.put_entries.Goals.{then-place-len, else-place-len}

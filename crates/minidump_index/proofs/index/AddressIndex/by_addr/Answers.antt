@@ -1,11 +1,10 @@
 -- The numbers of the walk give it whole.
-use Rattle.std.proofs.Common.{arith, ◌≡◌, ◌<◌, ◌≤◌, ◌+◌, ◌-◌, ◌^◌, ◌∙◌, refl, sym, ap, length}
+use Rattle.std.proofs.Common.{arith, ◌≡◌, ◌<◌, ◌^◌, ◌∙◌, sym, ap, length}
 use Rattle.std.specs.Prelude.{List}
 use Rattle.std.proofs.lemmas.Nat.{pow_pos}
 use Rattle.minidump_index.specs.declared.index.Entry.{Entry}
 use Rattle.minidump_index.specs.Digits.{digits}
 use Rattle.minidump_index.specs.Kept.{places}
-use Rattle.minidump_index.specs.Tree.{walk_from, walk}
 use Rattle.minidump_index.proofs.WalkLemmas.{walk-numbers, total-few, digits-few}
 use Rattle.minidump_index.proofs.index.AddressIndex.by_addr.Goals as goal
 

@@ -1,5 +1,5 @@
 -- Each probe goes one level down, and what it leaves out has not the address.
-use Rattle.std.proofs.Common.{arith, ◌<◌, length}
+use Rattle.std.proofs.Common.{arith}
 use Rattle.minidump_index.proofs.TreeLemmas.{descent_start, descent_left, descent_right, descent_found, descent_within, descent_none}
 use Rattle.minidump_index.proofs.index.AddressIndex.find.Goals as goal
 
