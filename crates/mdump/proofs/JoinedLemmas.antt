@@ -52,3 +52,7 @@ module _ {D : Type 0} (contents : D → Option (List ℕ)) (First Rest : List �
 pub a_line : {R : Type 0} (range : R → Option Range) (list : Option (List R)) (address : ℕ) (line : Option R → List ℕ)
     → (text : List ℕ) × ((found : Option R) × IsAt range list address found × (text ≡ line found))
 a_line range list address line = let f = a_found range list address in (line f.0, (f.0, f.1, refl))
+
+-- a line and another one
+pub both_lines : (First Rest : List ℕ → Type 0) → (text : List ℕ) × First text → (text : List ℕ) × Rest text → (text : List ℕ) × Joined First Rest text
+both_lines First Rest (xs, first) (ys, rest) = (xs ++ ys, (xs, ys, first, rest, refl))

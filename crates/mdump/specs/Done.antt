@@ -1,5 +1,5 @@
 -- What the program writes.
-use Rattle.std.specs.Prelude.{◌≡◌, ◌↔◌, ◌⊎◌, ℕ, ◌<◌, ◌≤◌, ◌++◌, List, [], codes, length, true, Option, Result, Ok, Err}
+use Rattle.std.specs.Prelude.{◌≡◌, ◌↔◌, ◌⊎◌, ℕ, ◌<◌, ◌≤◌, ◌++◌, List, [], codes, length, true, Option, Some, None, Result, Ok, Err}
 use Rattle.std.specs.Option.{option_map}
 use Rattle.std.specs.Result.{result_ok}
 use Rattle.minidump_bytes.specs.declared.told.Told.{Told}
@@ -7,10 +7,14 @@ use Rattle.minidump_bytes.specs.Told.{PutsAll, PutsBeginning, has_failed}
 use Rattle.minidump_format.specs.declared.error.Error.{Error}
 use Rattle.minidump_format.specs.declared.error.Error.TheVariants.{OutOfMemory}
 use Rattle.minidump_format.specs.Error.{refusal_name}
-use Rattle.minidump_format.specs.declared.format.stream_type.MINIDUMP_STREAM_TYPE.TheVariants.{ModuleListStream}
+use Rattle.minidump_format.specs.declared.format.stream_type.MINIDUMP_STREAM_TYPE.TheVariants.{LinuxMaps, MemoryInfoListStream, ModuleListStream}
 use Rattle.minidump_format.specs.StreamType.{number_of}
 use Rattle.minidump_memory.specs.Memory.{region_range}
 use Rattle.minidump_memory.specs.Unified.{UnifiedRegion, unified_regions}
+use Rattle.minidump_memory.specs.LinuxMaps.{linux_maps}
+use Rattle.minidump_memory.specs.MapLine.{MapRegion}
+use Rattle.minidump_memory.specs.MemoryInfo.{MemoryInfo, memory_info_list}
+use Rattle.minidump_memory.specs.UnifiedInfo.{InfoRegion, InfoRegions, OfInfo, OfMaps, info_region_range, info_regions}
 use Rattle.minidump_modules.specs.Module.{ModuleValue, value_range}
 use Rattle.minidump_modules.specs.ModuleList.{module_list}
 use Rattle.minidump.specs.Dump.{Dump, stream}
@@ -20,7 +24,7 @@ use Rattle.minidump.specs.Text.{dump_text}
 use Rattle.mdump.specs.declared.command.Command.{Command}
 use Rattle.mdump.specs.declared.command.Command.TheVariants.{Dir, At}
 use Rattle.mdump.specs.Command.{IsCommand, IsCommandOf}
-use Rattle.mdump.specs.Lines.{IsAt, Joined, memory_line, module_line}
+use Rattle.mdump.specs.Lines.{IsAt, Joined, info_line, memory_line, module_line}
 
 abbrev pub usage : List ℕ
 usage = codes "usage: mdump dir FILE | at FILE HEXADDRESS | report FILE\n"
@@ -42,9 +46,27 @@ modules_of_dump dump = result_ok (stream (number_of ModuleListStream) module_lis
 abbrev pub IsModuleLine : Dump → ℕ → List ℕ → Type 0
 IsModuleLine dump address text = (found : Option ModuleValue) × IsAt value_range (modules_of_dump dump) address found × (text ≡ module_line found)
 
--- the lines of what lies at an address
+-- the memory information of a dump, where it can be read; else its map lines, where they can be
+abbrev pub information_of : Option (List MemoryInfo) → Option (List MapRegion) → Option InfoRegions
+information_of (Some info) maps = Some (OfInfo info)
+information_of None maps = option_map OfMaps maps
+
+abbrev pub info_of_dump : Dump → Option InfoRegions
+info_of_dump dump = information_of (result_ok (stream (number_of MemoryInfoListStream) (λ bytes file order system. memory_info_list bytes order) dump))
+    (result_ok (stream (number_of LinuxMaps) (λ bytes file order system. linux_maps bytes) dump))
+
+-- the line of the region, by the information on memory, that contains an address
+abbrev pub IsInfoLine : Dump → ℕ → List ℕ → Type 0
+IsInfoLine dump address text =
+    (found : Option InfoRegion) × IsAt info_region_range (option_map info_regions (info_of_dump dump)) address found × (text ≡ info_line found)
+
+-- the lines of what lies at an address, behind that of the memory
+abbrev pub AreLastLines : Dump → ℕ → List ℕ → Type 0
+AreLastLines dump address = Joined (IsModuleLine dump address) (IsInfoLine dump address)
+
+-- all of them
 abbrev pub AreLinesOf : Dump → ℕ → List ℕ → Type 0
-AreLinesOf dump address = Joined (IsMemoryLine dump address) (IsModuleLine dump address)
+AreLinesOf dump address = Joined (IsMemoryLine dump address) (AreLastLines dump address)
 
 -- the same of the minidump in a file that was opened
 abbrev pub AreLines : {F : Type 0} → (F → Option (List ℕ)) → ℕ → List ℕ → Type 0

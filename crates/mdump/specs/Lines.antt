@@ -1,10 +1,12 @@
 -- The lines that the program writes.
 use Rattle.std.specs.Prelude.{◌≡◌, ◌++◌, ℕ, List, [], ◌∷◌, codes, Option, Some, None}
 use Rattle.std.specs.List.{concat}
+use Rattle.std.specs.Option.{option_and_then}
 use Rattle.minidump_bytes.specs.Piece.{hex}
 use Rattle.minidump_index.specs.declared.range.Range.{Range}
 use Rattle.minidump_index.specs.Lookup.{IsLookedUp}
 use Rattle.minidump_memory.specs.Unified.{UnifiedRegion}
+use Rattle.minidump_memory.specs.UnifiedInfo.{InfoRegion, info_region_range}
 use Rattle.minidump_modules.specs.Module.{ModuleValue}
 
 -- a region of memory, by its first address and its size
@@ -20,6 +22,15 @@ memory_line None = codes "memory none\n"
 abbrev pub module_line : Option ModuleValue → List ℕ
 module_line (Some m) = concat (codes "module " ∷ hex m.raw.base_of_image ∷ codes " " ∷ hex m.raw.size_of_image ∷ codes " " ∷ m.name ∷ codes "\n" ∷ [])
 module_line None = codes "module none\n"
+
+-- the first and the last address of a region that has some, or that there is none
+abbrev pub range_line : Option Range → List ℕ
+range_line (Some range) = concat (codes "info " ∷ hex range.start ∷ codes " " ∷ hex range.end ∷ codes "\n" ∷ [])
+range_line None = codes "info none\n"
+
+-- the region of the information on memory that was found
+abbrev pub info_line : Option InfoRegion → List ℕ
+info_line found = range_line (option_and_then info_region_range found)
 
 -- what a lookup in the list of a dump answers, and none of a dump without the list
 abbrev pub IsAt : {R : Type 0} → (R → Option Range) → Option (List R) → ℕ → Option R → Type 0

@@ -1,9 +1,10 @@
 //! `mdump`, which writes what a minidump holds as text.
 //!
 //! - `mdump dir FILE` writes the header and the directory.
-//! - `mdump at FILE HEXADDRESS` writes two lines: the base address and the size of the region of memory that
+//! - `mdump at FILE HEXADDRESS` writes three lines: the base address and the size of the region of memory that
 //!   contains the address, or `memory none`; the base address, the size and the name of the module that
-//!   contains it, or `module none`.
+//!   contains it, or `module none`; the first and the last address of the region that contains it by the
+//!   memory information, or by the maps of a dump without that, or `info none`.
 //! - `mdump` alone writes its usage.
 //!
 //! # Errors
@@ -27,6 +28,7 @@
 
 mod address;
 mod command;
+mod info;
 mod list;
 mod memory;
 mod module;

@@ -4,9 +4,10 @@ ghost use Rattle.minidump_format.specs.Print.{Prints};
 ghost use Rattle.minidump.specs.File.{IsPathRefusal};
 ghost use Rattle.minidump.specs.Seen.{dump_of};
 ghost use Rattle.mdump.specs.Command.{IsCommand};
-ghost use Rattle.mdump.specs.Done.{AreLines, AreLinesOf, IsAnswer, IsDirectoryText, IsRun, IsTextOf, IsTold, Writes, refusal_line, usage};
+ghost use Rattle.mdump.specs.Done.{AreLastLines, AreLines, AreLinesOf, IsAnswer, IsDirectoryText, IsRun, IsTextOf, IsTold, Writes, refusal_line, usage};
 
 use crate::command::Command;
+use crate::info::info_line;
 use crate::memory::memory_line;
 use crate::module::module_line;
 use minidump::{Error, Minidump, Told};
@@ -21,8 +22,9 @@ const USAGE: &str = "usage: mdump dir FILE | at FILE HEXADDRESS | report FILE\n"
 ///
 /// - No arguments: writes the usage to `out`. The status is 0.
 /// - `dir FILE`: writes the header and the directory of the file to `out`. The status is 0.
-/// - `at FILE HEXADDRESS`: writes the region of memory that contains the address to `out`, and then the
-///   module, each as a line. The address is 1 to 16 hexadecimal digits, alone or behind `0x`. The status is 0.
+/// - `at FILE HEXADDRESS`: writes the region of memory that contains the address to `out`, then the module,
+///   and then the region by the memory information or the maps, each as a line. The address is 1 to 16
+///   hexadecimal digits, alone or behind `0x`. The status is 0.
 /// - An error: writes its name to `err`. The status is 1. A failure of `out` is the error `IoError`.
 /// - Other arguments: writes the usage to `err`. The status is 2. No file is opened.
 ///
@@ -115,7 +117,21 @@ fn lines<O: Write>(
     ensures refusal { IfErr result (λ e. (e ≡ Error.IoError) ⊎ (e ≡ Error.OutOfMemory)) }
 {
     memory_line(dump, alloc, address, out)?;
-    module_line(dump, alloc, address, out)
+    last_lines(dump, alloc, address, out)
+}
+
+// Writes the lines behind that of the memory.
+fn last_lines<O: Write>(
+    dump: &Minidump<'_>,
+    alloc: Global,
+    address: u64,
+    out: &mut Told<O>,
+) -> Result<(), Error>
+    ensures written { Writes (AreLastLines (dump_of dump.now) address) O.contents out.old out.new result }
+    ensures refusal { IfErr result (λ e. (e ≡ Error.IoError) ⊎ (e ≡ Error.OutOfMemory)) }
+{
+    module_line(dump, alloc, address, out)?;
+    info_line(dump, alloc, address, out)
 }
 
 /// Writes the name of an error to `err`, and returns the status.

@@ -2,8 +2,9 @@ use crate::address::hex_address;
 use crate::memory::region_line;
 use crate::run;
 use crate::start::arguments;
+use minidump::format::MINIDUMP_MEMORY_INFO;
 use minidump::{Endian, MinidumpModule, Told};
-use minidump_synth::SynthMinidump;
+use minidump_synth::{Section, SynthMinidump, zeroed};
 use std::alloc::Global;
 use std::env::{Env, FillError};
 use std::io::{ErrorKind, Write};
@@ -12,10 +13,14 @@ use std::rt::Files;
 use std::test::Fail;
 use std::{fs, io};
 
-// The types of the streams that list modules and memory.
+// The types of the streams that list modules, memory, information on it, and map lines.
 const MODULE_LIST: u32 = 4;
 
 const MEMORY_LIST: u32 = 5;
+
+const MEMORY_INFO_LIST: u32 = 16;
+
+const LINUX_MAPS: u32 = 0x4767_0009;
 
 const USAGE: &str = "usage: mdump dir FILE | at FILE HEXADDRESS | report FILE\n";
 
@@ -203,7 +208,7 @@ fn answers_at<R: Files + AllocGlobal + Abort>(
 
 #[test]
 fn writes_that_a_dump_without_memory_has_none(rt: HostRuntime) -> Result<(), Fail> {
-    let none = "memory none\nmodule none\n";
+    let none = "memory none\nmodule none\ninfo none\n";
     answers_at(
         &rt,
         "writes_that_a_dump_without_memory_has_none.dmp",
@@ -240,10 +245,10 @@ fn writes_the_first_of_overlapping_regions(rt: HostRuntime) -> Result<(), Fail> 
         "writes_the_first_of_overlapping_regions.dmp",
         &dump.finish()?,
         &[
-            ("0x1a00", "memory 0x1000 0x1000\nmodule none\n"),
-            ("1A00", "memory 0x1000 0x1000\nmodule none\n"),
-            ("2a00", "memory 0x2000 0x1000\nmodule none\n"),
-            ("0x9000", "memory none\nmodule none\n"),
+            ("0x1a00", "memory 0x1000 0x1000\nmodule none\ninfo none\n"),
+            ("1A00", "memory 0x1000 0x1000\nmodule none\ninfo none\n"),
+            ("2a00", "memory 0x2000 0x1000\nmodule none\ninfo none\n"),
+            ("0x9000", "memory none\nmodule none\ninfo none\n"),
         ],
     )
 }
@@ -257,10 +262,10 @@ fn writes_the_region_of_a_64_list(rt: HostRuntime) -> Result<(), Fail> {
         "writes_the_region_of_a_64_list.dmp",
         &dump.finish()?,
         &[
-            ("1233", "memory none\nmodule none\n"),
-            ("1234", "memory 0x1234 0xd\nmodule none\n"),
-            ("1240", "memory 0x1234 0xd\nmodule none\n"),
-            ("1241", "memory none\nmodule none\n"),
+            ("1233", "memory none\nmodule none\ninfo none\n"),
+            ("1234", "memory 0x1234 0xd\nmodule none\ninfo none\n"),
+            ("1240", "memory 0x1234 0xd\nmodule none\ninfo none\n"),
+            ("1241", "memory none\nmodule none\ninfo none\n"),
         ],
     )
 }
@@ -296,20 +301,53 @@ fn writes_the_first_of_overlapping_modules(rt: HostRuntime) -> Result<(), Fail> 
         &[
             (
                 "100001000",
-                "memory none\nmodule 0x100000000 0x4000 module 1\n",
+                "memory none\nmodule 0x100000000 0x4000 module 1\ninfo none\n",
             ),
             (
                 "0x100005000",
-                "memory none\nmodule 0x100004000 0x4000 module 5\n",
+                "memory none\nmodule 0x100004000 0x4000 module 5\ninfo none\n",
             ),
-            ("100008000", "memory none\nmodule none\n"),
+            ("100008000", "memory none\nmodule none\ninfo none\n"),
         ],
     )?;
     // A list of one entry, with no bytes for it.
     let mut dump = SynthMinidump::new(rt.alloc(), Endian::Little);
     dump.add_stream(MODULE_LIST, dump.section().u32(1));
-    let none = [("100005000", "memory none\nmodule none\n")];
+    let none = [("100005000", "memory none\nmodule none\ninfo none\n")];
     answers_at(&rt, path, &dump.finish()?, &none)
+}
+
+const THREE_LINES: &[u8] =
+    b"10a00-10b00 r-xp 0 fd:05 1 \n10b00-10c00 rw-p 0 fd:05 2 \n10c00-10d00 r--p 0 fd:05 3 \n";
+
+// A dump with these map lines, and with a memory information of these bytes.
+fn information_dump(alloc: Global, information: &[u8]) -> Result<Vec<u8>, Fail> {
+    let mut dump = SynthMinidump::new(alloc, Endian::Little);
+    dump.add_stream(LINUX_MAPS, &THREE_LINES);
+    dump.add_stream(MEMORY_INFO_LIST, &information);
+    Ok(dump.finish()?)
+}
+
+#[test]
+fn writes_the_region_of_the_memory_information_or_of_the_maps(rt: HostRuntime) -> Result<(), Fail> {
+    let alloc = rt.alloc();
+    let path = "writes_the_region_of_the_memory_information_or_of_the_maps.dmp";
+    // A list with no header has no information.
+    let maps = information_dump(alloc, &[0; 11])?;
+    let found = "memory none\nmodule none\ninfo 0x10b00 0x10bff\n";
+    let none = "memory none\nmodule none\ninfo none\n";
+    answers_at(&rt, path, &maps, &[("10b00", found), ("10d00", none)])?;
+    let entry = MINIDUMP_MEMORY_INFO {
+        base_address: 0x10b80,
+        region_size: 0x10,
+        ..zeroed()
+    };
+    let list = Section::new(alloc, Endian::Little)
+        .extended_list(12, &[entry])
+        .finish()?;
+    let both = information_dump(alloc, &list)?;
+    let found = "memory none\nmodule none\ninfo 0x10b80 0x10b8f\n";
+    answers_at(&rt, path, &both, &[("10b80", found), ("10b00", none)])
 }
 
 #[test]

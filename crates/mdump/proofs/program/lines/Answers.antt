@@ -1,19 +1,25 @@
 -- The lines, one after another.
 use Rattle.minidump.specs.Seen.{dump_of}
+use Rattle.std.specs.Option.{option_map}
+use Rattle.minidump_memory.specs.UnifiedInfo.{info_region_range, info_regions}
 use Rattle.minidump_modules.specs.Module.{value_range}
-use Rattle.mdump.specs.Done.{IsMemoryLine, IsModuleLine, modules_of_dump}
-use Rattle.mdump.specs.Lines.{module_line}
-use Rattle.mdump.proofs.JoinedLemmas.{a_line, cut, joined}
+use Rattle.mdump.specs.Done.{AreLastLines, IsInfoLine, IsMemoryLine, IsModuleLine, info_of_dump, modules_of_dump}
+use Rattle.mdump.specs.Lines.{info_line, module_line}
+use Rattle.mdump.proofs.JoinedLemmas.{a_line, both_lines, cut, joined}
 use Rattle.mdump.proofs.program.lines.Goals as goal
 
 pub returns-in_err-memory_line-clause-written : goal.returns-in_err-memory_line-clause-written
 returns-in_err-memory_line-clause-written g c =
     let dump = dump_of c.args.dump.now in
-    cut g.O.Write.contents (IsMemoryLine dump c.args.address) (IsModuleLine dump c.args.address) c.args.out.now c.memory_line.new.out c.from_residual.result _ c.from_residual.ensures.1
-    (a_line value_range (modules_of_dump dump) c.args.address module_line) c.in_err-memory_line.ensures.written
+    let a_module = a_line value_range (modules_of_dump dump) c.args.address module_line in
+    let info = a_line info_region_range (option_map info_regions (info_of_dump dump)) c.args.address info_line in
+    cut g.O.Write.contents (IsMemoryLine dump c.args.address) (AreLastLines dump c.args.address) c.args.out.now c.memory_line.new.out c.from_residual.result _ c.from_residual.ensures.1
+    (both_lines (IsModuleLine dump c.args.address) (IsInfoLine dump c.args.address) a_module info) c.in_err-memory_line.ensures.written
 
 pub returns-clause-written : goal.returns-clause-written
 returns-clause-written g c =
     let dump = dump_of c.args.dump.now in
-    joined g.O.Write.contents (IsMemoryLine dump c.args.address) (IsModuleLine dump c.args.address) c.args.out.now c.memory_line.new.out c.module_line.new.out c.module_line.result
-    (a_line value_range (modules_of_dump dump) c.args.address module_line) c.in_ok-memory_line.ensures.written c.module_line.ensures.written
+    let a_module = a_line value_range (modules_of_dump dump) c.args.address module_line in
+    let info = a_line info_region_range (option_map info_regions (info_of_dump dump)) c.args.address info_line in
+    joined g.O.Write.contents (IsMemoryLine dump c.args.address) (AreLastLines dump c.args.address) c.args.out.now c.memory_line.new.out c.last_lines.new.out c.last_lines.result
+    (both_lines (IsModuleLine dump c.args.address) (IsInfoLine dump c.args.address) a_module info) c.in_ok-memory_line.ensures.written c.last_lines.ensures.written

@@ -1,0 +1,85 @@
+ghost use Rattle.std.specs.Prelude.{◌≡◌, ◌⊎◌, IfErr, IfOk, string_bytes};
+ghost use Rattle.std.specs.Option.{option_and_then, option_copied, option_map};
+ghost use Rattle.minidump_memory.specs.UnifiedInfo.{info_list, info_region, info_region_range, info_regions};
+ghost use Rattle.minidump.specs.Seen.{dump_of};
+ghost use Rattle.mdump.specs.Done.{IsInfoLine, Writes, info_of_dump};
+ghost use Rattle.mdump.specs.Lines.{IsAt, info_line};
+
+use crate::list::readable;
+use minidump::{
+    Error, Minidump, MinidumpLinuxMaps, MinidumpMemoryInfoList, Range, Told, UnifiedMemoryInfo,
+    UnifiedMemoryInfoList,
+};
+use minidump_bytes::{Piece, made};
+use minidump_format::put_made;
+use std::alloc::{AllocError, Global};
+use std::io::Write;
+
+// Writes the line of the region, by the information on memory, that contains the address.
+pub(crate) fn info_line<O: Write>(
+    dump: &Minidump<'_>,
+    alloc: Global,
+    address: u64,
+    out: &mut Told<O>,
+) -> Result<(), Error>
+    ensures written { Writes (IsInfoLine (dump_of dump.now) address) O.contents out.old out.new result }
+    ensures refusal { IfErr result (λ e. (e ≡ Error.IoError) ⊎ (e ≡ Error.OutOfMemory)) }
+{
+    let infos = information(dump, alloc)?;
+    let found = info_at(infos.as_ref(), address);
+    put_made(out, made_info_line(alloc, found))
+}
+
+// Reads the memory information of a dump, or its maps where that is missing or malformed.
+fn information<'a>(
+    dump: &Minidump<'a>,
+    alloc: Global,
+) -> Result<Option<UnifiedMemoryInfoList<'a>>, Error>
+    ensures list { IfOk result (λ list. option_map info_list list ≡ info_of_dump (dump_of dump.now)) }
+    ensures memory { IfErr result (λ e. e ≡ Error.OutOfMemory) }
+{
+    match readable::<MinidumpMemoryInfoList>(dump, alloc)? {
+        Some(info) => Ok(Some(UnifiedMemoryInfoList::Info(info))),
+        None => Ok(readable::<MinidumpLinuxMaps>(dump, alloc)?.map(UnifiedMemoryInfoList::Maps)),
+    }
+}
+
+// Finds the region that contains the address.
+fn info_at<'s, 'a>(
+    infos: Option<&'s UnifiedMemoryInfoList<'a>>,
+    address: u64,
+) -> Option<UnifiedMemoryInfo<'s, 'a>>
+    ensures { IsAt info_region_range (option_map info_regions (option_map info_list (option_copied infos.entry))) address
+        (option_map info_region result) }
+{
+    infos?.memory_info_at_address(address)
+}
+
+// Makes the line of a region, or the line that there is none.
+fn made_info_line(
+    alloc: Global,
+    found: Option<UnifiedMemoryInfo<'_, '_>>,
+) -> Result<String, AllocError>
+    ensures { IfOk result (λ t. string_bytes t ≡ info_line (option_map info_region found.entry)) }
+{
+    match range_of(found) {
+        Some(range) => made(
+            alloc,
+            &[
+                Piece::Words("info "),
+                Piece::Hex(range.start),
+                Piece::Words(" "),
+                Piece::Hex(range.end),
+                Piece::Words("\n"),
+            ],
+        ),
+        None => made(alloc, &[Piece::Words("info none\n")]),
+    }
+}
+
+// Returns the range of a region.
+fn range_of(found: Option<UnifiedMemoryInfo<'_, '_>>) -> Option<Range>
+    ensures { result ≡ option_and_then info_region_range (option_map info_region found.entry) }
+{
+    found?.memory_range()
+}
