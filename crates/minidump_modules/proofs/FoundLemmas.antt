@@ -1,12 +1,13 @@
 -- The modules at indices, one after another, and the first of them that passes a test.
-use Rattle.std.proofs.Common.{◌≡◌, ℕ, suc, ◌+◌, ◌<◌, ◌≤◌, Bool, false, List, [], ◌∷◌, ◌++◌, length, get_or, take, drop, map, refl, ap, sym, ◌∙◌, arith}
-use Rattle.std.specs.Prelude.{Some, None, filter}
-use Rattle.std.specs.List.{position, position_or_len}
+use Rattle.std.proofs.Common.{◌≡◌, ℕ, suc, ◌+◌, ◌<◌, ◌≤◌, Bool, false, List, [], ◌∷◌, ◌++◌, length, get_or, take, drop, map, refl, ap, sym, ◌∙◌, arith, inl, inr}
+use Rattle.std.specs.Prelude.{Option, Some, None, filter}
+use Rattle.std.specs.List.{cons_option, position, position_or_len}
 use Rattle.std.proofs.lemmas.Grind.{common_steps}
 use Rattle.std.proofs.lemmas.List.{get_or-take, length-take, take-append-drop}
 use Rattle.std.proofs.lemmas.List.Elements.{filter-append, filter_more}
 use Rattle.std.proofs.lemmas.List.Quantifiers.{position-Some}
 use Rattle.std.proofs.lemmas.List.Sums.{fails_before_first}
+use Rattle.std.proofs.lemmas.Option.{slice_get_cases}
 use Rattle.minidump_index.proofs.RegionsLemmas.{fewer_after_first, first_region}
 use Rattle.minidump_modules.specs.declared.unloaded_order.Placed.{Placed}
 use Rattle.minidump_modules.specs.UnloadedOrder.{IsInside, modules_of_order}
@@ -49,3 +50,11 @@ module _ {M : Type 0} (modules : List M) where
 
   pub rest_inside : (e : Placed) (all rest : List Placed) → all ≡ e ∷ rest → IsInside modules all → IsInside modules rest
   rest_inside e all rest is h = λ k d lt. (rw is at h) (suc k) d (omega (arith, lt))
+
+  -- as many modules as indices
+  pub length-modules : (order : List Placed) → IsInside modules order → length (modules_of_order modules order) ≡ length order
+  length-modules [] h = refl
+  length-modules (e ∷ es) h = elim (slice_get_cases modules e.place).1 [
+    | inl found ↦ ap (λ (o : Option M). length (cons_option o (modules_of_order modules es))) found.2 ∙ ap suc (length-modules es (rest_inside e (e ∷ es) es refl h))
+    | inr none ↦ absurd (let lt = first_inside e (e ∷ es) es refl h in omega (arith, lt, none.0))
+  ]

@@ -1,5 +1,6 @@
-ghost use Rattle.std.specs.Prelude.{◌≡◌, filter};
-ghost use Rattle.std.specs.Iterator.{YieldsFirstRef, item_count};
+ghost use Rattle.std.specs.Prelude.{◌≡◌, IfSome, Some, filter, length};
+ghost use Rattle.std.specs.Iterator.{UpTo, YieldsFirstRef, at_most, item_count};
+ghost use Rattle.std.specs.Iterator.SizeHint.{IsWithinCount};
 ghost use Rattle.minidump_modules.specs.UnloadedOrder.{IsInside, has, modules_of_order};
 
 use crate::MinidumpUnloadedModule;
@@ -50,6 +51,14 @@ impl<'a> Iterator for UnloadedModulesByAddress<'a> {
         self.order = rest;
         let modules = self.modules;
         Some(&modules[first.place])
+    }
+
+    fn size_hint(&self) -> (usize, Option<usize>)
+        ensures lower { IsWithinCount result.0 (at_most (length self.now)) }
+        ensures upper { IfSome result.1 (UpTo (at_most (length self.now))) }
+        ensures exact { result ≡ (length self.now, Some (length self.now)) }
+    {
+        (self.order.len(), Some(self.order.len()))
     }
 }
 
