@@ -17,12 +17,17 @@ use crate::exception::MinidumpException;
 use crate::streams::{MinidumpUnimplementedStream, MinidumpUnknownStream};
 use crate::thread::MinidumpThread;
 use crate::thread_list::MinidumpThreadList;
+pub use minidump_context::laws::{
+    a_change_is_seen_under_all_names, any_name_makes_a_register_valid, names_name_their_registers,
+    nothing_else_is_changed, registers_stand_at_their_places, sets_are_equal_by_their_names,
+};
 pub use minidump_index::laws::{
     a_kept_set, an_address_order, one_address_order, one_kept_set, one_region_at_an_address,
     regions_by_address,
 };
 pub use minidump_memory::laws::{
-    information_depends_on_its_stream_alone, map_lines_are_the_grammar, region_laws,
+    information_compares_and_copies_exactly, information_depends_on_its_stream_alone,
+    map_lines_are_the_grammar, maps_compare_by_what_their_lines_say, region_laws,
     the_unified_information_answers_as_the_list_it_holds,
     the_unified_information_answers_as_the_maps_it_holds,
     the_unified_list_answers_as_the_64_list_it_holds,
@@ -31,12 +36,17 @@ pub use minidump_memory::laws::{
 use minidump_memory::{
     MinidumpLinuxMaps, MinidumpMemory64List, MinidumpMemoryInfoList, MinidumpMemoryList,
 };
-pub use minidump_modules::laws::region_laws as module_laws;
+pub use minidump_modules::laws::{
+    code_ids_compare_by_their_digits, region_laws as module_laws, unloaded_laws,
+};
 use minidump_modules::{MinidumpModuleList, MinidumpUnloadedModuleList};
-pub use minidump_reason::laws::{codes_have_their_listed_names, wide_codes_are_unlisted};
+pub use minidump_reason::laws::{
+    codes_have_their_listed_names, errors_compare_and_copy_exactly,
+    reasons_compare_and_copy_exactly, wide_codes_are_unlisted,
+};
 pub use minidump_records::laws::{
     an_annotation_need_not_be_the_same_as_itself, breakpad_info_clones_are_the_same,
-    dictionaries_have_the_last_values, last_info_of_a_thread_is_found,
+    dictionaries_have_the_last_values, handle_clones_are_the_same, last_info_of_a_thread_is_found,
     last_name_of_a_thread_is_kept, object_chain_is_one, object_chain_is_the_longest,
     streams_depend_on_their_bytes_alone,
 };

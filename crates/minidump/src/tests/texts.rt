@@ -151,6 +151,7 @@ fn cuts_the_environment_into_pairs(rt: HostRuntime) -> Result<(), Fail> {
     for (text, want) in [
         (&b"A=1\0B=\"2\"\0"[..], &b"A|1;B|2;"[..]),
         (&b"A=\""[..], &b"A|\";"[..]),
+        (&b"A=\"x"[..], &b"A|\"x;"[..]),
         (&b" A =\t\" x \" \n"[..], &b"A| x ;"[..]),
         (&b"=a=b\nnone\n\xff=\"\""[..], &b"|a=b;\xff|;"[..]),
         (&b""[..], &b""[..]),

@@ -90,6 +90,7 @@ fn the_last_field_says_what_is_mapped(rt: HostRuntime) -> Result<(), Fail> {
         ("[vsyscall]", "vsyscall", 0, ""),
         ("[rollup]", "rollup", 0, ""),
         ("[stack:007]", "thread", 7, ""),
+        ("[stack:1234567]", "thread", 1234567, ""),
         ("[stack:4294967295]", "thread", 0xffff_ffff, ""),
         ("/SYSV0000002a", "segment", 42, ""),
         ("/SYSV2a", "path", 0, "/SYSV2a"),
