@@ -166,28 +166,34 @@ fn sized(alloc: Global, rva: u64, sizes: &[u64]) -> Result<Vec<u8>, Error> {
     Ok(stream.finish()?)
 }
 
+// How many regions such a list has, or its error.
+fn count_of(alloc: Global, rva: u64, sizes: &[u64]) -> Result<Result<usize, Error>, Fail> {
+    let stream = sized(alloc, rva, sizes)?;
+    Ok(long(alloc, stream.as_slice(), &FILE).map(|list| list.iter().count()))
+}
+
 #[test]
 fn the_bytes_of_a_64_list_are_in_the_file(rt: HostRuntime) -> Result<(), Fail> {
-    let alloc = rt.alloc();
-    let at_the_end = sized(alloc, 8, &[0])?;
-    let list = long(alloc, at_the_end.as_slice(), &FILE)?;
-    assert_eq!(rt; list.iter().count(), 1);
-    assert!(rt; list.iter().all(|region| region.memory_range().is_none()));
+    let cases: [(u64, &[u64], Result<usize, Error>); 7] = [
+        (8, &[0], Ok(1)),
+        (1, &[3, 4], Ok(2)),
+        (9, &[0], Err(Error::StreamReadFailure)),
+        (u64::MAX, &[0], Err(Error::StreamReadFailure)),
+        (1, &[3, 5], Err(Error::StreamReadFailure)),
+        (1, &[8, 0], Err(Error::StreamReadFailure)),
+        (1, &[3, u64::MAX], Err(Error::StreamReadFailure)),
+    ];
+    for (rva, sizes, want) in cases {
+        assert!(rt; count_of(rt.alloc(), rva, sizes)? == want, "at {rva}");
+    }
+    Ok(())
+}
+
+#[test]
+fn a_region_of_no_size_is_listed_and_found_nowhere(rt: HostRuntime) -> Result<(), Fail> {
+    let stream = sized(rt.alloc(), 8, &[0])?;
+    let list = long(rt.alloc(), stream.as_slice(), &FILE)?;
     assert!(rt; list.memory_at_address(0x1000).is_none());
     assert!(rt; list.by_addr().next().is_none());
-    let whole = sized(alloc, 1, &[3, 4])?;
-    let list = long(alloc, whole.as_slice(), &FILE)?;
-    assert_eq!(rt; list.iter().count(), 2);
-    let cases: [(u64, &[u64]); 5] = [
-        (9, &[0]),
-        (u64::MAX, &[0]),
-        (1, &[3, 5]),
-        (1, &[8, 0]),
-        (1, &[3, u64::MAX]),
-    ];
-    for (rva, sizes) in cases {
-        let refused = long(alloc, &sized(alloc, rva, sizes)?, &FILE).err();
-        assert_eq!(rt; refused, Some(Error::StreamReadFailure), "at {rva}");
-    }
     Ok(())
 }
