@@ -76,7 +76,7 @@ abbrev pub IsStack : Thread → UnifiedRegions → Option UnifiedRegion → Type
 IsStack t memory found =
     IsOwnOrListed t.stack (IsLookedUp region_range (unified_regions memory) t.raw.stack.start_of_memory_range found) found
 
--- the address of LastErrorValue in winternl.h's TEB, 13 pointers behind its beginning: there is none without a width of pointers, or
+-- the address of LastErrorValue in Windows' thread environment block, 13 pointers behind its beginning: none without a width of pointers, or
 -- beyond the addresses of 64 bits
 abbrev pub last_error_address : Cpu → ℕ → Option ℕ
 last_error_address cpu teb =

@@ -90,7 +90,7 @@ impl<'a> MinidumpThread<'a> {
     }
 }
 
-// Returns the address of `LastErrorValue` in a thread environment block: its 14th pointer.
+// Returns the address of `LastErrorValue` in a thread environment block, 13 pointers behind its beginning.
 fn last_error_address(cpu: Cpu, teb: u64) -> Option<u64>
     ensures { result ≡ last_error_address cpu teb }
 {

@@ -37,8 +37,8 @@ impl<'a> MinidumpLinuxEnviron<'a> {
     }
 }
 
-/// Breakpad's `MD_LINUX_ENVIRON`: the stream is the text, whatever its bytes are. Reads no number of it, takes no memory,
-/// and has no error.
+/// Breakpad's `MD_LINUX_ENVIRON`: the stream is the text, whatever its bytes are. Reads no number of it,
+/// takes no memory, and has no error.
 impl<'a> MinidumpStream<'a> for MinidumpLinuxEnviron<'a> {
     ghost use Rattle.std.specs.Prelude.{ℕ, List, Ok};
     ghost use Rattle.minidump_format.specs.declared.format.stream_type.MINIDUMP_STREAM_TYPE.TheVariants.{LinuxEnviron};

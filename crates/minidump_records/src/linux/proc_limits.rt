@@ -36,8 +36,8 @@ impl<'a> MinidumpLinuxProcLimits<'a> {
     }
 }
 
-/// Mozilla's `MozLinuxLimits`: the stream is the text, whatever its bytes are. Reads no number of it, takes no memory,
-/// and has no error.
+/// Mozilla's `MozLinuxLimits`: the stream is the text, whatever its bytes are. Reads no number of it, takes
+/// no memory, and has no error.
 impl<'a> MinidumpStream<'a> for MinidumpLinuxProcLimits<'a> {
     ghost use Rattle.std.specs.Prelude.{ℕ, List, Ok};
     ghost use Rattle.minidump_format.specs.declared.format.stream_type.MINIDUMP_STREAM_TYPE.TheVariants.{MozLinuxLimits};

@@ -37,8 +37,8 @@ impl<'a> MinidumpLinuxProcStatus<'a> {
     }
 }
 
-/// Breakpad's `MD_LINUX_PROC_STATUS`: the stream is the text, whatever its bytes are. Reads no number of it, takes no memory,
-/// and has no error.
+/// Breakpad's `MD_LINUX_PROC_STATUS`: the stream is the text, whatever its bytes are. Reads no number of
+/// it, takes no memory, and has no error.
 impl<'a> MinidumpStream<'a> for MinidumpLinuxProcStatus<'a> {
     ghost use Rattle.std.specs.Prelude.{ℕ, List, Ok};
     ghost use Rattle.minidump_format.specs.declared.format.stream_type.MINIDUMP_STREAM_TYPE.TheVariants.{LinuxProcStatus};
