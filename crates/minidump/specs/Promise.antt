@@ -1,7 +1,7 @@
 -- The promise of this library. A file is a minidump, or has an error, by `dump_in` of Dump.antt; a stream is a value, or has an error,
 -- by `stream` there and by what its type means. Reading a file of n bytes takes `least_reads` at least and n + 8 at most; a stream takes
--- one for its span and n + 7 more at most; handles and Crashpad's information take (n + 8)² - 1 more at most. A list of regions answers by `HasRegionLaws` of minidump_index. Each type of stream that is
--- read has a line here.
+-- one for its span and n + 7 more at most, or (n + 8)² - 1 more where it is handles or Crashpad's information. A list of regions answers
+-- by `HasRegionLaws` of minidump_index. Each type of stream that is read has a line here.
 use Rattle.std.specs.Prelude.{◌≡◌, ℕ, ◌+◌, ◌-◌, ◌*◌, ◌≤◌, List, Option}
 use Rattle.minidump_bytes.specs.declared.endian.Endian.{Endian}
 use Rattle.minidump_format.specs.declared.format.memory.MINIDUMP_MEMORY_DESCRIPTOR.{MINIDUMP_MEMORY_DESCRIPTOR}
