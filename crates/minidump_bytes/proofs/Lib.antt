@@ -2,6 +2,7 @@
 pub mod LeftLemmas
 pub mod ListLemmas
 pub mod EntryLemmas
+pub mod DigitLemmas
 pub mod HexLemmas
 pub mod LinuxTextLemmas
 pub mod NumberLemmas

@@ -1,5 +1,6 @@
 -- What the contracts of this crate cite.
 pub mod Number
+pub mod Digits
 pub mod Layout
 pub mod Exact
 pub mod Span

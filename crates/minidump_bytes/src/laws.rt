@@ -1,6 +1,8 @@
 //! Laws over the definitions that the contracts of this crate cite.
-ghost use Rattle.std.specs.Prelude.{◌≡◌, ◌↔◌, ◌+◌, ◌==◌, ◌<◌, ◌^◌, ℕ, All, IsTrue, List, MatchOption, Some, length};
-ghost use Rattle.std.specs.List.{count_by, join_with_byte};
+ghost use Rattle.std.specs.Prelude.{◌≡◌, ◌↔◌, ◌+◌, ◌==◌, ◌<◌, ◌^◌, ℕ, All, IsTrue, List, MatchOption, None, Some, codes, length, map};
+ghost use Rattle.std.specs.Char.{digit_value};
+ghost use Rattle.std.specs.List.{count_by, join_with_byte, range_with_len};
+ghost use Rattle.minidump_bytes.specs.Digits.{IsNumber, number_of_digits};
 ghost use Rattle.minidump_bytes.specs.LinuxOsStr.{split_parts, string_of, text_of};
 ghost use Rattle.minidump_bytes.specs.declared.linux_os_str.LinuxOsStr as lent;
 ghost use Rattle.minidump_bytes.specs.declared.linux_os_str.LinuxOsString as owned;
@@ -65,4 +67,25 @@ pub fn linux_texts_compare_by_their_bytes()
 pub fn parts_make_the_text()
     ensures joined { (b : ℕ) (text : List ℕ) → join_with_byte b (split_parts b text) ≡ text }
     ensures count { (b : ℕ) (text : List ℕ) → length (split_parts b text) ≡ count_by (λ c. c == b) text + 1 }
+{}
+
+/// Digits write a number exactly where there is one or more, each is a digit of the base, and the number
+/// has so many bits.
+#[tactic(auto, using(crate::proofs::DigitLemmas::number_spells, crate::proofs::DigitLemmas::spelled_number))]
+pub fn number_is_what_digits_write()
+    ensures { (base bits : ℕ) (digits : List ℕ) (n : ℕ)
+        → (number_of_digits base bits digits ≡ Some n) ↔ IsNumber base bits digits n }
+{}
+
+/// The digits stand for their numbers, the first for the highest power of the base.
+#[tactic(auto, unfolding(crate::specs::Digits::number_of_digits))]
+pub fn digits_have_their_numbers()
+    ensures lower { map digit_value (codes "0123456789abcdef") ≡ range_with_len 0 16 }
+    ensures upper { map digit_value (codes "ABCDEF") ≡ range_with_len 10 6 }
+    ensures hexadecimal { number_of_digits 16 32 (codes "0fF10") ≡ Some 65296 }
+    ensures decimal { number_of_digits 10 32 (codes "65296") ≡ Some 65296 }
+    ensures no_letter { number_of_digits 10 32 (codes "6529a") ≡ None }
+    ensures no_sign { number_of_digits 10 32 (codes "+65296") ≡ None }
+    ensures no_digit { number_of_digits 16 32 (codes "") ≡ None }
+    ensures too_large { number_of_digits 16 32 (codes "100000000") ≡ None }
 {}

@@ -7,7 +7,7 @@
 //!   [`Endian`] is the byte order, [`WireField`] a field of a Protocol Buffers message.
 //! - [`LinuxOsStr`] and [`LinuxOsString`] are bytes that Linux wrote as text.
 //! - [`Told`] wraps a reader or a writer. [`Piece`], [`made`] and [`push_pieces`] make text.
-//! - [`probe`] compares an address with a range. [`Exact`] is a type with an honest `==` and `clone`.
+//! - [`number_64`] and [`number_32`] read digits. [`probe`] compares an address with a range. [`Exact`] is a type with an honest `==` and `clone`.
 //!
 //! # Errors
 //!
@@ -25,6 +25,8 @@
 //!   `characters_of_a_text_are_one`. A line ends at the next line feed: `Source::line`.
 //! - A wire field is the one that the bytes spell, in the long spellings too: `Source::wire_field`;
 //!   `laws::field_is_what_bytes_spell`, `field_at_a_place_is_one`, `fields_of_bytes_are_one`.
+//! - A number is the one that decimal or hexadecimal digits write: `number_64`, `number_32`, by
+//!   `laws::number_is_what_digits_write` and `digits_have_their_numbers`.
 //! - Linux texts are cut and trimmed by their definitions: the calls of `LinuxOsStr`;
 //!   `laws::linux_texts_compare_by_their_bytes`, `parts_make_the_text`.
 //! - A writer took all of the bytes, or a beginning and has failed; a reader's answer is its next bytes;
@@ -37,6 +39,7 @@
 mod array;
 mod compare;
 mod copies;
+mod digits;
 mod endian;
 mod entries;
 mod exact;
@@ -58,6 +61,7 @@ mod wire;
 pub use array::array_at;
 pub use compare::probe;
 pub use copies::copied;
+pub use digits::{number_32, number_64};
 pub use endian::Endian;
 pub use entries::Entries;
 pub use exact::Exact;
