@@ -5,6 +5,7 @@ pub mod Cpu
 pub mod CpuInfo
 pub mod OsParts
 pub mod SystemInfo
+pub mod Meaning
 pub mod MiscInfo
 pub mod Framing
 pub mod Reads

@@ -1,7 +1,6 @@
 //! Laws of the streams of this crate, over the definitions that their contracts cite.
-ghost use Rattle.std.specs.Prelude.{◌≡◌, ℕ, List, Option};
-ghost use Rattle.minidump_bytes.specs.declared.endian.Endian.{Endian};
-ghost use Rattle.minidump_system.specs.SystemInfo.{System};
+ghost use Rattle.std.specs.Prelude.{◌≡◌};
+ghost use Rattle.minidump_system.specs.Meaning.{DependsOnItsBytesAlone};
 ghost use Rattle.minidump_system.specs.declared.misc_info.MinidumpMiscInfo.{MinidumpMiscInfo};
 ghost use Rattle.minidump_system.specs.declared.misc_info.RawMiscInfo.{RawMiscInfo};
 
@@ -10,9 +9,7 @@ use crate::{MinidumpMiscInfo, MinidumpStream, RawMiscInfo};
 /// The misc information depends on its stream and the byte order alone, not on the rest of the file or
 /// the system information.
 pub fn misc_info_depends_on_its_stream_alone()
-    ensures { (bytes all other : List ℕ) (order : Endian) (s t : Option System)
-        → ⟦<MinidumpMiscInfo as MinidumpStream<'static>>⟧.meaning bytes all order s
-        ≡ ⟦<MinidumpMiscInfo as MinidumpStream<'static>>⟧.meaning bytes other order t }
+    ensures { DependsOnItsBytesAlone ⟦<MinidumpMiscInfo as MinidumpStream<'static>>⟧.meaning }
 {}
 
 /// Clones of a misc information are equal values.
