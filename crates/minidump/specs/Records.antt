@@ -3,6 +3,7 @@ pub use Rattle.minidump_records.specs.ThreadNames
 pub use Rattle.minidump_records.specs.ThreadInfo
 pub use Rattle.minidump_records.specs.Annotation
 pub use Rattle.minidump_records.specs.CrashpadInfo
+pub use Rattle.minidump_records.specs.LastValues
 pub use Rattle.minidump_records.specs.Dictionary
 pub use Rattle.minidump_records.specs.Parts
 pub use Rattle.minidump_records.specs.BreakpadInfo

@@ -1,6 +1,6 @@
 -- The pieces of information on an object, as they are read one after another.
-use Rattle.std.proofs.Common.{◌≡◌, ℕ, ◌<◌, ◌≤◌, ◌+◌, List, [], ◌∷◌, ◌++◌, length, arith, refl, ap, sym, ◌∙◌, length-append, Bool, true, false, nat_eq, cond}
-use Rattle.std.specs.Prelude.{Option, Some, None, nat_le, if◌then◌else◌, ◌==◌}
+use Rattle.std.proofs.Common.{◌≡◌, ℕ, ◌<◌, ◌≤◌, List, [], ◌∷◌, ◌++◌, length, arith, refl, ap, sym, ◌∙◌, length-append, Bool, true, false, nat_eq, cond}
+use Rattle.std.specs.Prelude.{Option, Some, None, if◌then◌else◌, ◌==◌}
 use Rattle.std.specs.List.{filter_map, list_any}
 use Rattle.std.proofs.lemmas.List.Elements.{filter_map-append}
 use Rattle.std.proofs.lemmas.Bool.Decides.{nat_tests}
@@ -12,8 +12,10 @@ use Rattle.minidump_bytes.specs.declared.endian.Endian.{Endian}
 use Rattle.minidump_bytes.specs.Span.{record_at}
 use Rattle.minidump_format.specs.Handle.{object_information}
 use Rattle.minidump_records.specs.declared.handles.information.MinidumpHandleObjectInformation.{MinidumpHandleObjectInformation}
-use Rattle.minidump_records.specs.ObjectChain.{IsChain, chain_offsets, information_at, next_of, object_chain, typed}
-use Rattle.minidump_records.proofs.ObjectChainLemmas.{same_push, Linked, linked_end, linked_met, linked_more, linked_none, linked_short, linked_is_chain}
+use Rattle.minidump_records.specs.Handles.{chain_offsets, object_chain}
+use Rattle.minidump_records.specs.ObjectChain.{IsChain, information_at, next_of, typed}
+use Rattle.minidump_records.specs.OneChain.{Leading, leading_end, leading_more, leading_none, leading_short, one_object_chain, readable}
+use Rattle.minidump_records.proofs.ObjectChainLemmas.{same_push}
 
 -- whether a set of offsets has one
 abbrev pub has : List ℕ → ℕ → Bool
@@ -28,19 +30,6 @@ nonzero order file place i h = by_zero (place == 0) refl h
     by_zero true e k = cc
     by_zero false e k = grind (arith, nat_tests, e)
 
--- a piece stands within the file
-pub readable : (order : Endian) (file : List ℕ) (place : ℕ) (i : MinidumpHandleObjectInformation) → information_at order file place ≡ Some i → place < length file
-unfolding information_at
-readable order file place i h = by_zero (place == 0) h
-  where
-    by_room : (b : Bool) → nat_le (place + 12) (length file) ≡ b → option_and_then typed (record_at object_information order place file) ≡ Some i → place < length file
-    by_room true e k = grind (arith, nat_tests, e)
-    by_room false e k = (let j = rw e at k in cc)
-
-    by_zero : (b : Bool) → (if b then None else option_and_then typed (record_at object_information order place file)) ≡ Some i → place < length file
-    by_zero true k = cc
-    by_zero false k = by_room (nat_le (place + 12) (length file)) refl k
-
 module _ (order : Endian) (file : List ℕ) where
   abbrev at : ℕ → Option MinidumpHandleObjectInformation
   at = information_at order file
@@ -48,7 +37,7 @@ module _ (order : Endian) (file : List ℕ) where
   -- the pieces so far, the set of their offsets, and the offset that they lead to
   pub record Chaining (link place : ℕ) (infos : List MinidumpHandleObjectInformation) (met : List ℕ) : Type 0 where
     pub done : List ℕ
-    pub linked : Linked at next_of (length file) link place done
+    pub leading : Leading at next_of (length file) link place done
     pub found : infos ≡ filter_map at done
     pub counted : length infos ≡ length done
     pub same : 0 < place → (q : ℕ) → has met q ≡ list_any (nat_eq q) done
@@ -56,21 +45,21 @@ module _ (order : Endian) (file : List ℕ) where
   pub chaining_none : (link : ℕ) (infos : List MinidumpHandleObjectInformation) (met : List ℕ) → infos ≡ [] → met ≡ [] → Chaining link link infos met
   chaining_none link infos met e h = record {
     done = [];
-    linked = linked_none at next_of (length file) link;
+    leading = leading_none at next_of (length file) link;
     found = e;
     counted = rw e refl;
     same = λ some q. rw h refl;
   }
 
   pub chaining_short : (link place : ℕ) (infos : List MinidumpHandleObjectInformation) (met : List ℕ) → Chaining link place infos met → length infos ≤ length file
-  chaining_short link place infos met c = omega (arith, c.counted, linked_short at next_of (length file) link place c.done c.linked)
+  chaining_short link place infos met c = omega (arith, c.counted, leading_short at next_of (length file) link place c.done c.leading)
 
   pub chaining_more : (link place : ℕ) (infos : List MinidumpHandleObjectInformation) (old new : List ℕ) (i : MinidumpHandleObjectInformation) → at place ≡ Some i
       → has old place ≡ false → (0 < i.raw.next_info_rva → (q : ℕ) → has new q ≡ cond (is_at (nat_cmp place) q) true (has old q))
       → Chaining link place infos old → Chaining link i.raw.next_info_rva (infos ++ i ∷ []) new
   chaining_more link place infos old new i is absent updates c = record {
     done = c.done ++ place ∷ [];
-    linked = linked_more at next_of (length file) link place c.done i (readable order file place i is) is (sym (c.same (nonzero order file place i is) place) ∙ absent) c.linked;
+    leading = leading_more at next_of (length file) link place c.done i (readable order file place i is) is (sym (c.same (nonzero order file place i is) place) ∙ absent) c.leading;
     found =
         let one : filter_map at (place ∷ []) ≡ i ∷ [] = rw is refl in
         rw (filter_map-append at c.done (place ∷ []), one) (ap (λ l. l ++ i ∷ []) c.found);
@@ -78,13 +67,18 @@ module _ (order : Endian) (file : List ℕ) where
     same = λ some q. same_push c.done place q (has new q) (has old q) (updates some q ∙ ap (λ b. cond b true (has old q)) (unsigned_tied place q)) (c.same (nonzero order file place i is) q);
   }
 
+  -- where no new piece is, these are all
+  ended : (link place : ℕ) (infos : List MinidumpHandleObjectInformation) (met : List ℕ) (c : Chaining link place infos met)
+      → ((i : MinidumpHandleObjectInformation) → at place ≡ Some i → list_any (nat_eq place) c.done ≡ false → ⊥) → infos ≡ object_chain order file link
+  unfolding object_chain chain_offsets
+  ended link place infos met c none = c.found ∙ ap (λ l. filter_map at l) ((one_object_chain order file link).only c.done (leading_end at next_of (length file) link place c.done none c.leading))
+
   pub chaining_end : (link place : ℕ) (infos : List MinidumpHandleObjectInformation) (met : List ℕ) → at place ≡ None → Chaining link place infos met → infos ≡ object_chain order file link
-  unfolding object_chain
-  chaining_end link place infos met h c = c.found ∙ ap (λ l. filter_map at l) (sym (linked_end at next_of (length file) link place c.done h c.linked))
+  chaining_end link place infos met h c = ended link place infos met c (λ i is new. (let k : None ≡ Some i = sym h ∙ is in cc))
 
   pub chaining_met : (link place : ℕ) (infos : List MinidumpHandleObjectInformation) (met : List ℕ) → 0 < place → has met place ≡ true → Chaining link place infos met → infos ≡ object_chain order file link
-  unfolding object_chain
-  chaining_met link place infos met some h c = c.found ∙ ap (λ l. filter_map at l) (sym (linked_met at next_of (length file) link place c.done (sym (c.same some place) ∙ h) c.linked))
+  chaining_met link place infos met some h c = ended link place infos met c (λ i is new. (let k : true ≡ false = sym h ∙ c.same some place ∙ new in cc))
 
   pub chain_is_longest : (link : ℕ) → IsChain at next_of link (chain_offsets order file link)
-  chain_is_longest link = linked_is_chain at next_of (length file) (readable order file) link
+  unfolding chain_offsets
+  chain_is_longest link = (one_object_chain order file link).is

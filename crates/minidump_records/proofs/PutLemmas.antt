@@ -1,39 +1,14 @@
 -- Maps that a loop puts together, pair by pair.
-use Rattle.std.proofs.Common.{◌≡◌, ◌≤◌, ◌+◌, ℕ, Ordering, Less, Equal, Greater, List, [], ◌∷◌, ◌++◌, map, refl, ap, sym, arith, ◌∙◌}
+use Rattle.std.proofs.Common.{◌≡◌, ◌≤◌, ◌+◌, ℕ, Ordering, Less, Equal, Greater, List, [], ◌∷◌, ◌++◌, map, refl, ap, arith}
 use Rattle.std.specs.BTreeMap.{insert_entry}
 use Rattle.std.specs.Cmp.Lexicographic.{slice_cmp}
 use Rattle.std.specs.List.{sum_by}
 use Rattle.std.specs.Ordering.{match_ordering, nat_cmp}
-use Rattle.std.proofs.lemmas.List.Sums.{sum_by-cons}
-use Rattle.minidump_records.specs.Dictionary.{put_all}
+use Rattle.std.proofs.lemmas.List.Sums.{sum_by-cons, sum_by_push}
+use Rattle.minidump_records.specs.LastValues.{IsDictionaryOf}
+use Rattle.minidump_records.specs.OneDictionary.{dictionary_more}
 
--- one pair more
-pub put_more : {V : Type 0} (es xs : List (List ℕ × V)) (x : List ℕ × V) → put_all es (xs ++ x ∷ []) ≡ insert_entry (slice_cmp nat_cmp) (put_all es xs) x.0 x.1
-put_more es [] x = refl
-put_more es (y ∷ xs) x = put_more (insert_entry (slice_cmp nat_cmp) es y.0 y.1) xs x
-
--- what is put beside others is seen as what is put beside their views
-module _ {K V W : Type 0} (cmp : K → K → Ordering) (key : K → List ℕ) (view : V → W) (same : (j k : K) → cmp j k ≡ slice_cmp nat_cmp (key j) (key k)) where
-  abbrev seen : K × V → List ℕ × W
-  seen e = (key e.0, view e.1)
-
-  here : (o : Ordering) (e : K × V) (es : List (K × V)) (k : K) (v : V) → map seen (insert_entry cmp es k v) ≡ insert_entry (slice_cmp nat_cmp) (map seen es) (key k) (view v)
-      → map seen (match_ordering o ((k, v) ∷ e ∷ es) ((e.0, v) ∷ es) (e ∷ insert_entry cmp es k v))
-      ≡ match_ordering o ((key k, view v) ∷ seen e ∷ map seen es) ((key e.0, view v) ∷ map seen es) (seen e ∷ insert_entry (slice_cmp nat_cmp) (map seen es) (key k) (view v))
-  here Less e es k v rest = refl
-  here Equal e es k v rest = refl
-  here Greater e es k v rest = ap (λ l. seen e ∷ l) rest
-
-  pub insert_seen : (es : List (K × V)) (k : K) (v : V) → map seen (insert_entry cmp es k v) ≡ insert_entry (slice_cmp nat_cmp) (map seen es) (key k) (view v)
-  insert_seen [] k v = refl
-  insert_seen (e ∷ es) k v = rw (← same k e.0) (here (cmp k e.0) e es k v (insert_seen es k v))
-
-  -- one pair more goes in
-  pub put_seen : (es : List (K × V)) (xs : List (List ℕ × W)) (k : K) (v : V) → map seen es ≡ put_all [] xs
-      → map seen (insert_entry cmp es k v) ≡ put_all [] (xs ++ (key k, view v) ∷ [])
-  put_seen es xs k v so_far = insert_seen es k v ∙ ap (λ l. insert_entry (slice_cmp nat_cmp) l (key k) (view v)) so_far ∙ sym (put_more [] xs (key k, view v))
-
--- a map weighs no more than the pairs that were put into it, where a weight is that of the value
+-- one pair more adds no more than its weight, where a weight is that of the value
 module _ {V : Type 0} (weight : V → ℕ) where
   abbrev weighed : List ℕ × V → ℕ
   weighed e = weight e.1
@@ -58,12 +33,28 @@ module _ {V : Type 0} (weight : V → ℕ) where
       let q : sum_by weighed ((k, v) ∷ []) ≤ sum_by weighed [] + weight v = omega (arith, p) in q
   insert_weighs (e ∷ es) k v = by_order (slice_cmp nat_cmp k e.0) e es (insert_entry (slice_cmp nat_cmp) es k v) k v (insert_weighs es k v)
 
-  weighs_beside : (es pairs : List (List ℕ × V)) → sum_by weighed (put_all es pairs) ≤ sum_by weighed es + sum_by weighed pairs
-  weighs_beside es [] = omega arith
-  weighs_beside es (p ∷ ps) =
-      let r : sum_by weighed (p ∷ ps) ≡ weight p.1 + sum_by weighed ps = sum_by-cons weighed p ps in
-      let w : sum_by weighed (put_all (insert_entry (slice_cmp nat_cmp) es p.0 p.1) ps) ≤ sum_by weighed es + sum_by weighed (p ∷ ps)
-      = omega (arith, r, weighs_beside (insert_entry (slice_cmp nat_cmp) es p.0 p.1) ps, insert_weighs es p.0 p.1) in w
+-- what is put beside others is seen as what is put beside their views
+module _ {K V W : Type 0} (cmp : K → K → Ordering) (key : K → List ℕ) (view : V → W) (same : (j k : K) → cmp j k ≡ slice_cmp nat_cmp (key j) (key k)) where
+  abbrev seen : K × V → List ℕ × W
+  seen e = (key e.0, view e.1)
 
-  pub put_weighs : (pairs : List (List ℕ × V)) → sum_by weighed (put_all [] pairs) ≤ sum_by weighed pairs
-  put_weighs pairs = omega (arith, weighs_beside [] pairs)
+  here : (o : Ordering) (e : K × V) (es : List (K × V)) (k : K) (v : V) → map seen (insert_entry cmp es k v) ≡ insert_entry (slice_cmp nat_cmp) (map seen es) (key k) (view v)
+      → map seen (match_ordering o ((k, v) ∷ e ∷ es) ((e.0, v) ∷ es) (e ∷ insert_entry cmp es k v))
+      ≡ match_ordering o ((key k, view v) ∷ seen e ∷ map seen es) ((key e.0, view v) ∷ map seen es) (seen e ∷ insert_entry (slice_cmp nat_cmp) (map seen es) (key k) (view v))
+  here Less e es k v rest = refl
+  here Equal e es k v rest = refl
+  here Greater e es k v rest = ap (λ l. seen e ∷ l) rest
+
+  pub insert_seen : (es : List (K × V)) (k : K) (v : V) → map seen (insert_entry cmp es k v) ≡ insert_entry (slice_cmp nat_cmp) (map seen es) (key k) (view v)
+  insert_seen [] k v = refl
+  insert_seen (e ∷ es) k v = rw (← same k e.0) (here (cmp k e.0) e es k v (insert_seen es k v))
+
+  -- one pair more goes in
+  pub put_seen : (es : List (K × V)) (xs : List (List ℕ × W)) (k : K) (v : V) → IsDictionaryOf xs (map seen es) → IsDictionaryOf (xs ++ (key k, view v) ∷ []) (map seen (insert_entry cmp es k v))
+  put_seen es xs k v d = rw (insert_seen es k v) (dictionary_more xs (map seen es) (key k, view v) d)
+
+  -- it adds no more than its weight, where a weight is that of the value
+  pub put_weighs : (weight : W → ℕ) (es : List (K × V)) (xs : List (List ℕ × W)) (k : K) (v : V) → sum_by (λ e. weight e.1) (map seen es) ≤ sum_by (λ e. weight e.1) xs
+      → sum_by (λ e. weight e.1) (map seen (insert_entry cmp es k v)) ≤ sum_by (λ e. weight e.1) (xs ++ (key k, view v) ∷ [])
+  put_weighs weight es xs k v le =
+      rw (insert_seen es k v, sum_by_push (λ e. weight e.1) xs (key k, view v)) (omega (arith, le, insert_weighs weight (map seen es) (key k) (view v)))

@@ -1,12 +1,7 @@
 -- Texts of a file and dictionaries: Crashpad's MinidumpUTF8String with its NUL, MinidumpSimpleStringDictionary and MinidumpAnnotationList.
-use Rattle.std.specs.Prelude.{◌≡◌, ℕ, List, [], ◌∷◌, map, Option, Some, None, Result, Ok, string_bytes, String, if◌then◌else◌}
-use Rattle.std.specs.BTreeMap.{insert_entry, is_at}
-use Rattle.std.specs.Cmp.Lexicographic.{slice_cmp}
+use Rattle.std.specs.Prelude.{ℕ, List, map, Result, Ok, string_bytes, String}
 use Rattle.std.specs.Global.{Global}
-use Rattle.std.specs.List.Sorted.{IsStrictlySortedBy}
-use Rattle.std.specs.Map.{keys_of, lookup}
-use Rattle.std.specs.Option.{ok_or, option_or}
-use Rattle.std.specs.Ordering.{nat_cmp}
+use Rattle.std.specs.Option.{ok_or}
 use Rattle.minidump_bytes.specs.declared.endian.Endian.{Endian}
 use Rattle.minidump_bytes.specs.Layout.{Layout}
 use Rattle.minidump_bytes.specs.Text8.{text8_nul}
@@ -15,6 +10,7 @@ use Rattle.minidump_format.specs.declared.error.Error.TheVariants.{StreamReadFai
 use Rattle.minidump_format.specs.declared.format.header.MINIDUMP_LOCATION_DESCRIPTOR.{MINIDUMP_LOCATION_DESCRIPTOR}
 use Rattle.minidump_system.specs.Reads.{and_then}
 use Rattle.minidump_records.specs.declared.crashpad.dictionary.Keyed.{Keyed}
+use Rattle.minidump_records.specs.OneDictionary.{one_dictionary}
 use Rattle.minidump_records.specs.Parts.{untested_list}
 
 -- the text at an RVA, which has a NUL behind it
@@ -32,22 +28,11 @@ pair_of view p = (string_bytes p.key, view p.value)
 abbrev pub entries_of : {V W : Type 0} → (V → W) → List (String Global × V) → List (List ℕ × W)
 entries_of view es = map (λ e. (string_bytes e.0, view e.1)) es
 
--- pairs put into a map one after another: the value of a key that is there is replaced
-abbrev pub put_all : {V : Type 0} → List (List ℕ × V) → List (List ℕ × V) → List (List ℕ × V)
-put_all es [] = es
-put_all es (p ∷ more) = put_all (insert_entry (slice_cmp nat_cmp) es p.0 p.1) more
-
--- the value of the last pair that has a key
-abbrev pub last_value : {V : Type 0} → List ℕ → List (List ℕ × V) → Option V
-last_value key [] = None
-last_value key (p ∷ ps) = option_or (last_value key ps) (if is_at (slice_cmp nat_cmp key) p.0 then Some p.1 else None)
-
--- the keys ascend by their bytes, and each has its last value
-pub record IsDictionaryOf {V : Type 0} (pairs es : List (List ℕ × V)) : Type 0 where
-  pub ascending : IsStrictlySortedBy (slice_cmp nat_cmp) (keys_of es)
-  pub last : (key : List ℕ) → lookup (is_at (slice_cmp nat_cmp key)) es ≡ last_value key pairs
+-- the dictionary of pairs: the one list that is `IsDictionaryOf` of LastValues.antt
+unfoldable pub dictionary_of : {V : Type 0} → List (List ℕ × V) → List (List ℕ × V)
+dictionary_of pairs = (one_dictionary pairs).the
 
 -- the dictionary at a location
 unfoldable pub dictionary : {R V : Type 0} → Layout R → (R → ℕ) → (Endian → List ℕ → R → Result V Error) → Endian → List ℕ → MINIDUMP_LOCATION_DESCRIPTOR
     → Result (List (List ℕ × V)) Error
-dictionary layout key value order file l = and_then (untested_list layout (keyed key value) order file l) (λ pairs. Ok (put_all [] pairs))
+dictionary layout key value order file l = and_then (untested_list layout (keyed key value) order file l) (λ pairs. Ok (dictionary_of pairs))

@@ -1,5 +1,6 @@
 -- The open handles of a process: Microsoft's MINIDUMP_HANDLE_DATA_STREAM.
 use Rattle.std.specs.Prelude.{ℕ, ◌+◌, ◌==◌, List, length, Option, Some, None, Result, Ok, Err, map, string_bytes, if◌then◌else◌}
+use Rattle.std.specs.List.{filter_map}
 use Rattle.std.specs.Option.{option_map, unwrap_or}
 use Rattle.minidump_bytes.specs.declared.endian.Endian.{Endian}
 use Rattle.minidump_bytes.specs.Text16.{text16}
@@ -12,7 +13,8 @@ use Rattle.minidump_records.specs.declared.handles.descriptor.MinidumpHandleDesc
 use Rattle.minidump_records.specs.declared.handles.information.MinidumpHandleObjectInformation.{MinidumpHandleObjectInformation}
 use Rattle.minidump_records.specs.declared.handles.raw.RawHandleDescriptor.{RawHandleDescriptor}
 use Rattle.minidump_records.specs.declared.handles.raw.RawHandleDescriptor.TheVariants.{HandleDescriptor, HandleDescriptor2}
-use Rattle.minidump_records.specs.ObjectChain.{object_chain}
+use Rattle.minidump_records.specs.ObjectChain.{information_at}
+use Rattle.minidump_records.specs.OneChain.{one_object_chain}
 
 -- ---- the fields of MINIDUMP_HANDLE_DESCRIPTOR and of MINIDUMP_HANDLE_DESCRIPTOR_2
 
@@ -73,6 +75,14 @@ or_zero rva = unwrap_or rva 0
 -- the name at an RVA: none at 0, and where no text is
 unfoldable pub name_at : Endian → List ℕ → ℕ → Option (List ℕ)
 name_at order file rva = if rva == 0 then None else text16 order rva file
+
+-- the offsets of the object chain from a link: the one list that is `IsChain` of ObjectChain.antt
+unfoldable pub chain_offsets : Endian → List ℕ → ℕ → List ℕ
+chain_offsets order file link = (one_object_chain order file link).the
+
+-- the pieces of information that stand at them
+unfoldable pub object_chain : Endian → List ℕ → ℕ → List MinidumpHandleObjectInformation
+object_chain order file link = filter_map (information_at order file) (chain_offsets order file link)
 
 -- the handle of a descriptor
 abbrev pub described : Endian → List ℕ → RawHandleDescriptor → Handle

@@ -1,5 +1,8 @@
 -- What the contracts of this crate cite.
 pub mod Parts
+pub mod ExactlyOne
+pub mod LastValues
+pub mod OneDictionary
 pub mod Dictionary
 pub mod Annotation
 pub mod CrashpadInfo
@@ -13,6 +16,7 @@ pub mod LinuxPairs
 pub mod LinuxTexts
 pub mod Alone
 pub mod ObjectChain
+pub mod OneChain
 pub mod Handles
 pub mod MacRecord
 pub mod MacCrashInfo

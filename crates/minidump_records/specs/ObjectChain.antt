@@ -1,8 +1,8 @@
 -- The pieces of information on the object of a handle, each of which names the next: Microsoft's
 -- MINIDUMP_HANDLE_OBJECT_INFORMATION.
-use Rattle.std.specs.Prelude.{◌≡◌, ℕ, zero, suc, ◌≤◌, ◌==◌, List, [], ◌∷◌, ◌++◌, codes, length, false, Option, Some, None, nat_eq, if◌then◌else◌}
+use Rattle.std.specs.Prelude.{◌≡◌, ℕ, ◌≤◌, ◌==◌, List, [], ◌∷◌, ◌++◌, codes, length, false, Option, Some, None, nat_eq, if◌then◌else◌}
 use Rattle.std.specs.Fmt.{digits}
-use Rattle.std.specs.List.{IsDistinct, filter_map, list_any}
+use Rattle.std.specs.List.{IsDistinct}
 use Rattle.std.specs.Option.{option_and_then, option_map}
 use Rattle.minidump_bytes.specs.declared.endian.Endian.{Endian}
 use Rattle.minidump_bytes.specs.Span.{record_at}
@@ -34,25 +34,6 @@ module _ {I : Type 0} (at : ℕ → Option I) (next : I → ℕ) where
     pub follow : Follow link chain
     pub distinct : IsDistinct nat_eq chain
     pub longest : (other : List ℕ) → Follow link other → IsDistinct nat_eq other → length other ≤ length chain
-
-  -- an offset, and those behind the piece that is there
-  abbrev pub onward : ℕ → Option I → (I → List ℕ) → List ℕ
-  onward place None more = []
-  onward place (Some i) more = place ∷ more i
-
-  -- the offsets from one on, at most so many, up to the first that was seen or has no piece
-  unfoldable pub linked : ℕ → List ℕ → ℕ → List ℕ
-  linked zero seen place = []
-  linked (suc most) seen place =
-      if list_any (nat_eq place) seen then [] else onward place (at place) (λ i. linked most (seen ++ place ∷ []) (next i))
-
--- The offsets from a link on. Since they are distinct and in the file, they are no more than its bytes: they are the `IsChain`.
-abbrev pub chain_offsets : Endian → List ℕ → ℕ → List ℕ
-chain_offsets order file link = linked (information_at order file) next_of (length file) [] link
-
--- the pieces of information that stand at them
-unfoldable pub object_chain : Endian → List ℕ → ℕ → List MinidumpHandleObjectInformation
-object_chain order file link = filter_map (information_at order file) (chain_offsets order file link)
 
 -- the text of a piece of information: its fields
 abbrev pub information_text : MinidumpHandleObjectInformation → List ℕ

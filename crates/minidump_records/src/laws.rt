@@ -1,17 +1,20 @@
 //! Laws of the streams of this crate, over the definitions that their contracts cite.
-ghost use Rattle.std.specs.Prelude.{◌≡◌, ◌≢◌, ◌↔◌, ◌<◌, ◌^◌, ◌++◌, ◌∷◌, ℕ, All, List, Some, []};
+ghost use Rattle.std.specs.Prelude.{◌≡◌, ◌≢◌, ◌↔◌, ◌<◌, ◌^◌, ◌++◌, ◌∷◌, ℕ, All, List, Some};
+ghost use Rattle.std.specs.List.{filter_map};
 ghost use Rattle.minidump_bytes.specs.declared.endian.Endian.{Endian};
 ghost use Rattle.minidump_format.specs.declared.format.crashpad.MINIDUMP_ANNOTATION.{MINIDUMP_ANNOTATION};
 ghost use Rattle.minidump_records.specs.declared.thread_info.MinidumpThreadInfo.{MinidumpThreadInfo};
 ghost use Rattle.minidump_records.specs.declared.breakpad_info.MinidumpBreakpadInfo.{MinidumpBreakpadInfo};
 ghost use Rattle.minidump_records.specs.Alone.{DependsOnItsBytesAlone};
 ghost use Rattle.minidump_records.specs.Annotation.{Annotation, AreSame, unsupported, user_defined};
-ghost use Rattle.minidump_records.specs.Dictionary.{IsDictionaryOf, put_all};
+ghost use Rattle.minidump_records.specs.Dictionary.{dictionary_of};
+ghost use Rattle.minidump_records.specs.Handles.{chain_offsets, object_chain};
+ghost use Rattle.minidump_records.specs.LastValues.{IsDictionaryOf};
 ghost use Rattle.minidump_records.specs.ThreadInfo.{last_info};
 ghost use Rattle.minidump_records.specs.ThreadNames.{ThreadName, last_names, name_at};
 ghost use Rattle.minidump_records.specs.declared.handles.information.MinidumpHandleObjectInformation.{MinidumpHandleObjectInformation};
 ghost use Rattle.minidump_records.specs.declared.handles.raw.RawHandleDescriptor.{RawHandleDescriptor};
-ghost use Rattle.minidump_records.specs.ObjectChain.{IsChain, chain_offsets, information_at, next_of};
+ghost use Rattle.minidump_records.specs.ObjectChain.{IsChain, information_at, next_of};
 
 use crate::{
     MinidumpAssertion, MinidumpBreakpadInfo, MinidumpHandleObjectInformation, MinidumpLinuxCpuInfo,
@@ -24,8 +27,8 @@ use minidump_system::MinidumpStream;
 /// The entries of a dictionary: the keys ascend by their bytes, and each has the value of its last pair. No
 /// other list of entries has this.
 pub fn dictionaries_have_the_last_values()
-    ensures texts { (pairs es : List (List ℕ × List ℕ)) → IsDictionaryOf pairs es ↔ (es ≡ put_all [] pairs) }
-    ensures annotations { (pairs es : List (List ℕ × Annotation)) → IsDictionaryOf pairs es ↔ (es ≡ put_all [] pairs) }
+    ensures texts { (pairs es : List (List ℕ × List ℕ)) → IsDictionaryOf pairs es ↔ (es ≡ dictionary_of pairs) }
+    ensures annotations { (pairs es : List (List ℕ × Annotation)) → IsDictionaryOf pairs es ↔ (es ≡ dictionary_of pairs) }
 {}
 
 /// `same_as` is no equality: an annotation whose value is not read is not the same as itself.
@@ -69,13 +72,16 @@ pub fn breakpad_info_clones_are_the_same()
 
 /// The pieces of information on an object stand at the longest list of distinct offsets that follow a link,
 /// each named by the piece before it.
+#[tactic(auto, unfolding(crate::specs::Handles::object_chain))]
 pub fn object_chain_is_the_longest()
-    ensures { (order : Endian) (file : List ℕ) (link : ℕ)
+    ensures offsets { (order : Endian) (file : List ℕ) (link : ℕ)
         → IsChain (information_at order file) next_of link (chain_offsets order file link) }
+    ensures pieces { (order : Endian) (file : List ℕ) (link : ℕ)
+        → object_chain order file link ≡ filter_map (information_at order file) (chain_offsets order file link) }
 {}
 
 /// There is one such list.
-#[tactic(auto, using(crate::proofs::ObjectChainLemmas::chain_is_one))]
+#[tactic(auto, using(crate::specs::OneChain::chain_is_one))]
 pub fn object_chain_is_one()
     ensures { (order : Endian) (file : List ℕ) (link : ℕ) (offsets other : List ℕ)
         → IsChain (information_at order file) next_of link offsets

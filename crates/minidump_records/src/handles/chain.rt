@@ -4,7 +4,7 @@ ghost use Rattle.std.specs.BTreeSet.{contains};
 ghost use Rattle.std.specs.Ordering.{nat_cmp};
 ghost use Rattle.minidump_bytes.specs.Source.{bytes_of};
 ghost use Rattle.minidump_bytes.specs.Steps.{after};
-ghost use Rattle.minidump_records.specs.ObjectChain.{object_chain};
+ghost use Rattle.minidump_records.specs.Handles.{object_chain};
 
 use super::information::{MinidumpHandleObjectInformation, information_at};
 use minidump_bytes::{Endian, Source, Steps};
