@@ -1,4 +1,5 @@
 -- The lemmas of this crate.
+mod FieldLemmas
 mod FoundLemmas
 mod GuidLemmas
 mod KeptLemmas

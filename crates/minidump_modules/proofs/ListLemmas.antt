@@ -1,7 +1,7 @@
 -- Lists that a loop makes item by item, up to the first refusal.
 use Rattle.std.proofs.Common.{◌≡◌, ℕ, ◌+◌, ◌-◌, ◌<◌, ◌≤◌, true, false, List, [], ◌∷◌, ◌++◌, length, get_or, take, drop, map, replicate, Result, Ok, Err, refl, ap, sym, ◌∙◌, arith, append-nil, inl, inr}
-use Rattle.std.specs.Prelude.{⊤, Bool, filter, min, nat_lt}
-use Rattle.std.proofs.lemmas.Bool.{cases_lt, le-ltb}
+use Rattle.std.specs.Prelude.{⊤, Bool, filter, min}
+use Rattle.std.proofs.lemmas.Bool.{cases_lt}
 use Rattle.std.proofs.lemmas.List.{drop-replicate, take-append-drop, take_all, take_more, map_push}
 use Rattle.std.proofs.lemmas.List.Elements.{filter-append, filter_more}
 use Rattle.std.proofs.lemmas.Result.{err_from_is_err_and}
@@ -11,10 +11,6 @@ use Rattle.std.specs.Result.{IsErrAnd}
 use Rattle.minidump_format.specs.declared.error.Error.{Error}
 use Rattle.minidump_format.specs.declared.error.Error.TheVariants.{OutOfMemory}
 use Rattle.minidump_format.specs.Answer.{Gives, Refuses}
-use Rattle.minidump_bytes.specs.declared.endian.Endian.{Endian}
-use Rattle.minidump_bytes.specs.Number.{number_at}
-use Rattle.minidump_format.specs.declared.format.guid.GUID.{GUID}
-use Rattle.minidump_modules.specs.CodeView.{pdb70, pdb70_guid, pdb70_in}
 use Rattle.minidump_modules.specs.Identity.{padded}
 use Rattle.minidump_system.specs.Reads.{all_ok, and_then}
 
@@ -113,20 +109,6 @@ padded_is id len e = rw (drop-replicate {X = ℕ} len 16 0) (elim (cases_lt (len
       rw (full, none) refl
 ])
 
-pub pdb70_is : (order : Endian) (bytes : List ℕ) (s : ℕ) (g : GUID) (a : ℕ) (name : List ℕ) → 24 ≤ length bytes
-    → s ≡ number_at order 4 0 bytes → g ≡ pdb70_guid order bytes → a ≡ number_at order 4 20 bytes → name ≡ drop 24 bytes → pdb70_in order bytes ≡ Ok (pdb70 s g a name)
-unfolding pdb70_in
-pdb70_is order bytes s g a name low es eg ea en =
-    let test : nat_lt (length bytes) 24 ≡ false = le-ltb _ _ low in
-    rw (test, es, eg, ea, en) refl
-
-module _ {R : Type 0} (p : R → Bool) (size : R → ℕ) where
-  -- the sum over the kept of one item more, where it is kept
-  pub sum_kept : (xs : List R) (i : ℕ) (d : R) → i < length xs → p (get_or xs i d) ≡ true
-      → sum_by size (filter p (take (i + 1) xs)) ≡ sum_by size (filter p (take i xs)) + size (get_or xs i d)
-  sum_kept xs i d lt is = rw (filter_more p xs i d lt, is, sum_by-append size (filter p (take i xs)) (get_or xs i d ∷ [])) (omega arith)
-
-  -- and where it is skipped
-  pub sum_skipped : (xs : List R) (i : ℕ) (d : R) → i < length xs → p (get_or xs i d) ≡ false
-      → sum_by size (filter p (take (i + 1) xs)) ≡ sum_by size (filter p (take i xs))
-  sum_skipped xs i d lt is = rw (filter_more p xs i d lt, is, append-nil) refl
+-- the sum over values of one more
+pub sum_pushed : {V M : Type 0} (size : V → ℕ) (view : M → V) (ms : List M) (m : M) → sum_by size (map view (ms ++ m ∷ [])) ≡ sum_by size (map view ms) + size (view m)
+sum_pushed size view ms m = rw (map_push view ms m, sum_by-append size (map view ms) (view m ∷ [])) (omega arith)

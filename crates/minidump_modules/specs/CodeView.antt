@@ -69,9 +69,17 @@ code_view_at order place file =
     if place.data_size == 0 then Ok None else
     and_then (ok_or (span place.rva (place.rva + place.data_size) file) CodeViewReadFailure) (λ bytes. and_then (code_view order bytes) (λ view. Ok (Some view)))
 
--- how many spans are read for it
-abbrev pub views_read : MINIDUMP_LOCATION_DESCRIPTOR → ℕ
-views_read place = if place.data_size == 0 then 0 else 1
+-- how much is read of a record: its signature, and each of its fields; those of an unknown kind are all of its bytes
+abbrev pub record_reads : View → ℕ
+record_reads (pdb70 s g age name) = 4
+record_reads (pdb20 s offset signature age name) = 5
+record_reads (elf s id) = 2
+record_reads (unknown bytes) = 2
+
+-- how much is read at a location: the span of the record, and the record
+abbrev pub view_reads : Option View → ℕ
+view_reads None = 0
+view_reads (Some view) = 1 + record_reads view
 
 -- the bytes before the first NUL as a text, with U+FFFD for what is not UTF-8
 unfoldable pub lossy_name : List ℕ → List ℕ

@@ -11,7 +11,7 @@ use Rattle.minidump_index.specs.declared.range.Range.{Range}
 use Rattle.minidump_index.specs.Overlap.{range_of}
 use Rattle.minidump_system.specs.declared.os.Os.{Os}
 use Rattle.minidump_modules.specs.declared.module.MinidumpModule.{MinidumpModule}
-use Rattle.minidump_modules.specs.CodeView.{View, code_view_at, view_of, views_read}
+use Rattle.minidump_modules.specs.CodeView.{View, code_view_at, view_of, view_reads}
 use Rattle.minidump_modules.specs.Identity.{Identity, code_identifier, debug_file, debug_identifier}
 use Rattle.minidump_system.specs.Reads.{and_then}
 use Rattle.minidump_modules.specs.Version.{version_of}
@@ -89,9 +89,9 @@ read_module order os file raw =
     and_then (code_view_at order raw.cv_record file) (λ view.
     Ok (record { raw = raw; name = name; view = view; order = order; os = os })))
 
--- how much is read for it: its name, and its CodeView record where it has one
-abbrev pub module_reads : MINIDUMP_MODULE → ℕ
-module_reads raw = 1 + views_read raw.cv_record
+-- how much is read for a module: its name, and its CodeView record where it has one
+abbrev pub module_reads : ModuleValue → ℕ
+module_reads m = 1 + view_reads m.view
 
 -- an entry with addresses
 unfoldable pub has_range : MINIDUMP_MODULE → Bool

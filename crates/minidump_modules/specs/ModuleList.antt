@@ -1,5 +1,5 @@
 -- The modules of a dump: Microsoft's MINIDUMP_MODULE_LIST.
-use Rattle.std.specs.Prelude.{ℕ, List, filter, map, Option, Result, Ok, Err}
+use Rattle.std.specs.Prelude.{ℕ, List, filter, map, Option, Result}
 use Rattle.std.specs.List.{sum_by}
 use Rattle.std.specs.Option.{option_map}
 use Rattle.minidump_bytes.specs.declared.endian.Endian.{Endian}
@@ -30,14 +30,6 @@ modules_in order os file raws = all_ok (read_module order os file) (filter has_r
 abbrev pub module_list : List ℕ → List ℕ → Endian → Option System → Result (List ModuleValue) Error
 module_list bytes file order system = and_then (plain_list module_entry order bytes) (modules_in order (option_map (λ s. s.os) system) file)
 
--- how much is read for the modules of entries
-abbrev pub modules_read : List MINIDUMP_MODULE → ℕ
-modules_read raws = sum_by module_reads (filter has_range raws)
-
-abbrev reads_in : Result (List MINIDUMP_MODULE) Error → ℕ
-reads_in (Err e) = 0
-reads_in (Ok raws) = modules_read raws
-
--- and for those of a list
-abbrev pub reads_of_list : Endian → List ℕ → ℕ
-reads_of_list order bytes = reads_in (plain_list module_entry order bytes)
+-- how much is read for modules
+abbrev pub modules_read : List ModuleValue → ℕ
+modules_read modules = sum_by module_reads modules

@@ -1,12 +1,14 @@
-ghost use Rattle.std.specs.Prelude.{◌≡◌, ◌+◌, ◌≤◌, ◌<◌, ◌==◌, ⊤, IfOk, IsOkUnless, length, string_bytes};
+ghost use Rattle.std.specs.Prelude.{◌≡◌, ◌↔◌, ◌+◌, ◌≤◌, ◌==◌, ⊤, Ok, IfErr, IfOk, IsOk, IsOkUnless, drop, length, string_bytes};
 ghost use Rattle.std.specs.List.{before_first, position};
 ghost use Rattle.std.specs.Option.{option_map};
+ghost use Rattle.minidump_bytes.specs.Number.{number_at};
 ghost use Rattle.minidump_bytes.specs.Source.{bytes_of};
 ghost use Rattle.minidump_bytes.specs.Steps.{after};
 ghost use Rattle.minidump_format.specs.Answer.{Gives};
-ghost use Rattle.minidump_modules.specs.CodeView.{code_view, code_view_at, lossy_name, pdb20_in, pdb70_guid, pdb70_in, view_of, views_read};
+ghost use Rattle.minidump_format.specs.declared.error.Error.TheVariants.{CodeViewReadFailure};
+ghost use Rattle.minidump_modules.specs.CodeView.{code_view, code_view_at, lossy_name, pdb20_in, pdb70_in, record_reads, view_of, view_reads};
 
-use minidump_bytes::{Endian, Record, Source, Steps};
+use minidump_bytes::{Endian, Source, Steps};
 use minidump_format::Error;
 use minidump_format::format::{
     CV_INFO_ELF, CV_INFO_PDB20, CV_INFO_PDB70, CvSignature, GUID, MINIDUMP_LOCATION_DESCRIPTOR,
@@ -52,65 +54,6 @@ impl CodeView {
     }
 }
 
-// Decodes the record that bytes are.
-#[tactic(auto, unfolding(crate::specs::CodeView::code_view))]
-fn read_code_view(alloc: Global, bytes: &[u8], endian: Endian) -> Result<CodeView, Error>
-    ensures { Gives view_of ⊤ result (code_view endian bytes.now) }
-{
-    if bytes.len() < 4 {
-        return Err(Error::CodeViewReadFailure);
-    }
-    let cv_signature = endian.u32_at(bytes, 0);
-    match CvSignature::from_u32(cv_signature) {
-        Some(CvSignature::Pdb70) => read_pdb70(alloc, bytes, endian),
-        Some(CvSignature::Pdb20) => read_pdb20(alloc, bytes, endian),
-        Some(CvSignature::Elf) => Ok(CodeView::Elf(CV_INFO_ELF {
-            cv_signature,
-            build_id: Vec::from_slice(alloc, &bytes[4..])?,
-        })),
-        None => Ok(CodeView::Unknown(Vec::from_slice(alloc, bytes)?)),
-    }
-}
-
-#[tactic(auto, unfolding(crate::specs::CodeView::pdb70_in))]
-fn read_pdb70(alloc: Global, bytes: &[u8], endian: Endian) -> Result<CodeView, Error>
-    ensures { Gives view_of ⊤ result (pdb70_in endian bytes.now) }
-{
-    if bytes.len() < 24 {
-        return Err(Error::CodeViewReadFailure);
-    }
-    Ok(CodeView::Pdb70(CV_INFO_PDB70 {
-        cv_signature: endian.u32_at(bytes, 0),
-        signature: pdb70_guid(bytes, endian),
-        age: endian.u32_at(bytes, 20),
-        pdb_file_name: Vec::from_slice(alloc, &bytes[24..])?,
-    }))
-}
-
-#[tactic(auto, unfolding(crate::specs::CodeView::pdb70_guid))]
-fn pdb70_guid(bytes: &[u8], endian: Endian) -> GUID
-    requires { 20 ≤ length bytes.now }
-    ensures { result ≡ pdb70_guid endian bytes.now }
-{
-    GUID::decode(&bytes[4..20], endian)
-}
-
-#[tactic(auto, unfolding(crate::specs::CodeView::pdb20_in))]
-fn read_pdb20(alloc: Global, bytes: &[u8], endian: Endian) -> Result<CodeView, Error>
-    ensures { Gives view_of ⊤ result (pdb20_in endian bytes.now) }
-{
-    if bytes.len() < 16 {
-        return Err(Error::CodeViewReadFailure);
-    }
-    Ok(CodeView::Pdb20(CV_INFO_PDB20 {
-        cv_signature: endian.u32_at(bytes, 0),
-        cv_offset: endian.u32_at(bytes, 4),
-        signature: endian.u32_at(bytes, 8),
-        age: endian.u32_at(bytes, 12),
-        pdb_file_name: Vec::from_slice(alloc, &bytes[16..])?,
-    }))
-}
-
 // Reads the record at a location, or returns `None` if that has no size.
 #[tactic(auto, unfolding(crate::specs::CodeView::code_view_at))]
 pub(crate) fn code_view_at(
@@ -121,7 +64,9 @@ pub(crate) fn code_view_at(
     steps: &mut Steps,
 ) -> Result<Option<CodeView>, Error>
     ensures means { Gives (option_map view_of) ⊤ result (code_view_at endian place.now (bytes_of all.entry)) }
-    ensures step { steps.new ≡ after steps.old (views_read place.now) }
+    ensures within { steps.new ≤ steps.old + 6 }
+    ensures grows { steps.old ≤ steps.new }
+    ensures steps { IfOk result (λ view. steps.new ≡ after steps.old (view_reads (option_map view_of view))) }
 {
     if place.data_size == 0 {
         return Ok(None);
@@ -129,7 +74,130 @@ pub(crate) fn code_view_at(
     let bytes = all
         .span(place.rva as u64, place.data_size as u64, steps)
         .ok_or(Error::CodeViewReadFailure)?;
-    Ok(Some(read_code_view(alloc, bytes, endian)?))
+    Ok(Some(read_code_view(alloc, Source::new(bytes), endian, steps)?))
+}
+
+// Reads the record that bytes are: its signature, and then each of its fields.
+#[tactic(auto, unfolding(crate::specs::CodeView::code_view))]
+fn read_code_view(
+    alloc: Global,
+    bytes: Source<'_>,
+    endian: Endian,
+    steps: &mut Steps,
+) -> Result<CodeView, Error>
+    ensures means { Gives view_of ⊤ result (code_view endian (bytes_of bytes.entry)) }
+    ensures within { steps.new ≤ steps.old + 5 }
+    ensures grows { steps.old ≤ steps.new }
+    ensures steps { IfOk result (λ view. steps.new ≡ after steps.old (record_reads (view_of view))) }
+{
+    let cv_signature = number(bytes, 0, endian, steps)?;
+    match CvSignature::from_u32(cv_signature) {
+        Some(CvSignature::Pdb70) => {
+            let record = read_pdb70(alloc, cv_signature, bytes, endian, steps)?;
+            Ok(CodeView::Pdb70(record))
+        }
+        Some(CvSignature::Pdb20) => {
+            let record = read_pdb20(alloc, cv_signature, bytes, endian, steps)?;
+            Ok(CodeView::Pdb20(record))
+        }
+        Some(CvSignature::Elf) => {
+            let build_id = bytes_behind(alloc, 4, bytes, steps)?;
+            Ok(CodeView::Elf(CV_INFO_ELF {
+                cv_signature,
+                build_id,
+            }))
+        }
+        None => {
+            let all = bytes_behind(alloc, 0, bytes, steps)?;
+            Ok(CodeView::Unknown(all))
+        }
+    }
+}
+
+// Reads what `RSDS` has behind its signature.
+#[tactic(auto, unfolding(crate::specs::CodeView::pdb70_in, crate::specs::CodeView::pdb70_guid))]
+fn read_pdb70(
+    alloc: Global,
+    cv_signature: u32,
+    bytes: Source<'_>,
+    endian: Endian,
+    steps: &mut Steps,
+) -> Result<CV_INFO_PDB70, Error>
+    requires { cv_signature ≡ number_at endian 4 0 (bytes_of bytes) }
+    ensures means { Gives (λ r. view_of (CodeView.Pdb70 r)) ⊤ result (pdb70_in endian (bytes_of bytes.entry)) }
+    ensures within { steps.new ≤ steps.old + 3 }
+    ensures grows { steps.old ≤ steps.new }
+    ensures steps { IfOk result (λ _. steps.new ≡ after steps.old 3) }
+{
+    let signature: GUID = bytes
+        .record(4, endian, steps)
+        .ok_or(Error::CodeViewReadFailure)?;
+    let age = number(bytes, 20, endian, steps)?;
+    let pdb_file_name = bytes_behind(alloc, 24, bytes, steps)?;
+    Ok(CV_INFO_PDB70 {
+        cv_signature,
+        signature,
+        age,
+        pdb_file_name,
+    })
+}
+
+// Reads what `NB10` has behind its signature.
+#[tactic(auto, unfolding(crate::specs::CodeView::pdb20_in))]
+fn read_pdb20(
+    alloc: Global,
+    cv_signature: u32,
+    bytes: Source<'_>,
+    endian: Endian,
+    steps: &mut Steps,
+) -> Result<CV_INFO_PDB20, Error>
+    requires { cv_signature ≡ number_at endian 4 0 (bytes_of bytes) }
+    ensures means { Gives (λ r. view_of (CodeView.Pdb20 r)) ⊤ result (pdb20_in endian (bytes_of bytes.entry)) }
+    ensures within { steps.new ≤ steps.old + 4 }
+    ensures grows { steps.old ≤ steps.new }
+    ensures steps { IfOk result (λ _. steps.new ≡ after steps.old 4) }
+{
+    let cv_offset = number(bytes, 4, endian, steps)?;
+    let signature = number(bytes, 8, endian, steps)?;
+    let age = number(bytes, 12, endian, steps)?;
+    let pdb_file_name = bytes_behind(alloc, 16, bytes, steps)?;
+    Ok(CV_INFO_PDB20 {
+        cv_signature,
+        cv_offset,
+        signature,
+        age,
+        pdb_file_name,
+    })
+}
+
+// Reads the 32-bit number at an offset of a record.
+#[tactic(auto, using(crate::proofs::FieldLemmas::number_inside))]
+fn number(bytes: Source<'_>, place: u64, endian: Endian, steps: &mut Steps) -> Result<u32, Error>
+    ensures value { IfOk result (λ n. n ≡ number_at endian 4 place (bytes_of bytes.entry)) }
+    ensures inside { IsOk result ↔ (place + 4 ≤ length (bytes_of bytes.entry)) }
+    ensures error { IfErr result (λ e. e ≡ CodeViewReadFailure) }
+    ensures step { steps.new ≡ after steps.old 1 }
+{
+    bytes
+        .record(place, endian, steps)
+        .ok_or(Error::CodeViewReadFailure)
+}
+
+// Reads the bytes from an offset of a record to its end.
+fn bytes_behind(
+    alloc: Global,
+    place: u64,
+    bytes: Source<'_>,
+    steps: &mut Steps,
+) -> Result<Vec<u8>, Error>
+    requires { place ≤ length (bytes_of bytes) }
+    ensures means { Gives (λ v. v.items) ⊤ result (Ok (drop place (bytes_of bytes.entry))) }
+    ensures step { steps.new ≡ after steps.old 1 }
+{
+    let rest = bytes
+        .span(place, bytes.len() as u64 - place, steps)
+        .ok_or(Error::CodeViewReadFailure)?;
+    Ok(Vec::from_slice(alloc, rest)?)
 }
 
 // Makes a text of the bytes before the first NUL, with U+FFFD for what is not UTF-8.

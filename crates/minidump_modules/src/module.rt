@@ -76,7 +76,7 @@ impl MinidumpModule {
         )
     }
 
-    // Reads as `read` does, and counts a read for the name and one for the CodeView record.
+    // Reads as `read` does, and counts the reads of the name and of the CodeView record.
     #[tactic(auto, unfolding(crate::specs::Module::read_module))]
     pub(crate) fn read_counted(
         alloc: Global,
@@ -87,9 +87,9 @@ impl MinidumpModule {
         steps: &mut Steps,
     ) -> Result<MinidumpModule, Error>
         ensures means { Gives module_of ⊤ result (read_module endian os (bytes_of all.entry) raw.now) }
-        ensures within { steps.new ≤ steps.old + 2 }
+        ensures within { steps.new ≤ steps.old + 7 }
         ensures grows { steps.old ≤ steps.new }
-        ensures steps { IfOk result (λ _. steps.new ≡ after steps.old (module_reads raw.now)) }
+        ensures steps { IfOk result (λ m. steps.new ≡ after steps.old (module_reads (module_of m))) }
     {
         let name = name_at(alloc, raw.module_name_rva, all, endian, steps)?;
         let codeview_info = code_view_at(alloc, &raw.cv_record, all, endian, steps)?;

@@ -112,7 +112,7 @@ impl<'a> MinidumpStream<'a> for MinidumpModuleList {
     ghost use Rattle.minidump_format.specs.StreamType.{number_of};
     ghost use Rattle.minidump_system.specs.Framing.{count_of, plain_list};
     ghost use Rattle.minidump_modules.specs.Module.{ModuleValue};
-    ghost use Rattle.minidump_modules.specs.ModuleList.{module_list, module_values, reads_of_list};
+    ghost use Rattle.minidump_modules.specs.ModuleList.{module_list, module_values, modules_read};
 
     ghost type_number = { number_of ModuleListStream };
 
@@ -126,7 +126,7 @@ impl<'a> MinidumpStream<'a> for MinidumpModuleList {
 
     ghost limit = { λ n. n + 7 };
 
-    ghost least = { λ bytes order modules. 1 + count_of order bytes + reads_of_list order bytes };
+    ghost least = { λ bytes order modules. 1 + count_of order bytes + modules_read modules };
 
     ghost takes_memory = { λ bytes order. IsOk (plain_list module_entry order bytes) };
 
@@ -161,9 +161,9 @@ fn read_modules(
     steps: &mut Steps,
 ) -> Result<Vec<MinidumpModule>, Error>
     ensures means { Gives (λ v. map module_of v.items) ⊤ result (modules_in endian os (bytes_of all.entry) raws.entry) }
-    ensures within { steps.new ≤ steps.old + 2 * length raws.entry }
+    ensures within { steps.new ≤ steps.old + 7 * length raws.entry }
     ensures grows { steps.old ≤ steps.new }
-    ensures steps { IfOk result (λ _. steps.new ≡ after steps.old (modules_read raws.entry)) }
+    ensures steps { IfOk result (λ v. steps.new ≡ after steps.old (modules_read (map module_of v.items))) }
 {
     let mut modules = Vec::with_capacity(alloc, raws.len())?;
     for raw in raws {

@@ -3,7 +3,7 @@ use Rattle.std.proofs.Common.{◌≡◌, ◌∙◌, arith, length, sym, get_or, 
 use Rattle.minidump_bytes.specs.Source.{bytes_of}
 use Rattle.minidump_modules.specs.Module.{has_range, module_of, module_reads, read_module}
 use Rattle.minidump_bytes.proofs.LeftLemmas.{IsNext, all_given, next_left, one_given}
-use Rattle.minidump_modules.proofs.ListLemmas.{gives_exit, ok_more, ok_none, ok_refused, ok_skip, sum_kept, sum_skipped}
+use Rattle.minidump_modules.proofs.ListLemmas.{gives_exit, ok_more, ok_none, ok_refused, ok_skip, sum_pushed}
 use Rattle.minidump_modules.proofs.module_list.read_modules.Goals as goal
 
 pub loop-raw-init : goal.loop-raw-init
@@ -12,7 +12,7 @@ loop-raw-init c = record {
   modules = rw c.in_ok-modules.ensures.items (ok_none (read_module c.args.endian c.args.os (bytes_of c.args.all)) has_range module_of);
   within = omega arith;
   grows = omega arith;
-  counted = omega arith;
+  counted = rw c.in_ok-modules.ensures.items (omega arith);
 }
 
 pub returns-in_err-read_counted-clause-means : goal.returns-in_err-read_counted-clause-means
@@ -38,7 +38,7 @@ loop-raw-preserved-in_ok-push c =
       modules = rw c.in_ok-push.ensures.items (ok_more read has_range module_of xs i raw c.loop-raw.modules.items _ next.inside is c.loop-raw.invariant.modules (rw next.item c.in_ok-read_counted.ensures.means));
       within = omega (arith, c.read_counted.ensures.within, c.loop-raw.invariant.within);
       grows = omega (arith, c.read_counted.ensures.grows, c.loop-raw.invariant.grows);
-      counted = rw (sum_kept has_range module_reads xs i raw next.inside is, next.item) (omega (arith, c.in_ok-read_counted.ensures.steps, c.loop-raw.invariant.counted));
+      counted = rw (c.in_ok-push.ensures.items, sum_pushed module_reads module_of c.loop-raw.modules.items) (omega (arith, c.in_ok-read_counted.ensures.steps, c.loop-raw.invariant.counted));
     })
 
 pub loop-raw-preserved : goal.loop-raw-preserved
@@ -54,13 +54,9 @@ loop-raw-preserved c =
       modules = ok_skip read has_range module_of xs i raw c.loop-raw.modules.items next.inside is c.loop-raw.invariant.modules;
       within = omega (arith, c.loop-raw.invariant.within);
       grows = omega (arith, c.loop-raw.invariant.grows);
-      counted = rw (sum_skipped has_range module_reads xs i raw next.inside is) c.loop-raw.invariant.counted;
+      counted = c.loop-raw.invariant.counted;
     })
 
 pub returns-clause-means : goal.returns-clause-means
 returns-clause-means c =
     rw (all_given c.args.raws (length c.loop-raw.yielded) (sym c.loop-raw.invariant.left ∙ c.in-None.ensures.steps.0)) at c.loop-raw.invariant.modules
-
-pub returns-clause-steps : goal.returns-clause-steps
-returns-clause-steps c =
-    rw (all_given c.args.raws (length c.loop-raw.yielded) (sym c.loop-raw.invariant.left ∙ c.in-None.ensures.steps.0)) at c.loop-raw.invariant.counted
