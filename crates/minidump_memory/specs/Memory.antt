@@ -1,5 +1,6 @@
 -- Regions of memory as values: the region of Microsoft's MINIDUMP_MEMORY_DESCRIPTOR, its addresses, a number in it.
 use Rattle.std.specs.Prelude.{ℕ, ◌+◌, ◌-◌, List, Option, Some, None, Result, Ok, Err, nat_le, ◌==◌, ◌||◌, if◌then◌else◌}
+use Rattle.std.specs.Option.{ok_or}
 use Rattle.minidump_bytes.specs.declared.endian.Endian.{Endian}
 use Rattle.minidump_bytes.specs.Layout.{Layout}
 use Rattle.minidump_bytes.specs.Span.{record_at, span}
@@ -8,6 +9,7 @@ use Rattle.minidump_format.specs.declared.error.Error.TheVariants.{MemoryReadFai
 use Rattle.minidump_format.specs.declared.format.memory.MINIDUMP_MEMORY_DESCRIPTOR.{MINIDUMP_MEMORY_DESCRIPTOR}
 use Rattle.minidump_index.specs.declared.range.Range.{Range}
 use Rattle.minidump_index.specs.Overlap.{range_of}
+use Rattle.minidump_system.specs.Reads.{and_then}
 use Rattle.minidump_memory.specs.declared.memory.MinidumpMemoryBase.{MinidumpMemoryBase}
 
 -- a region: its descriptor, its first address, how many bytes it has, the bytes and their order
@@ -35,17 +37,13 @@ abbrev pub number_in : {D T : Type 0} → Layout T → MemoryRegion D → ℕ �
 number_in layout m address =
     if nat_le m.base_address address then record_at layout m.endian (address - m.base_address) m.bytes else None
 
-abbrev with_bytes : MINIDUMP_MEMORY_DESCRIPTOR → Endian → Option (List ℕ) → Result (MemoryRegion MINIDUMP_MEMORY_DESCRIPTOR) Error
-with_bytes d order None = Err StreamReadFailure
-with_bytes d order (Some bytes) =
-    Ok (record { desc = d; base_address = d.start_of_memory_range; size = d.memory.data_size; bytes = bytes; endian = order })
-
 -- Microsoft's MINIDUMP_MEMORY_DESCRIPTOR: the region of a descriptor, whose bytes are the span of its location. A location with no
 -- place or no size has none.
 abbrev pub described : List ℕ → Endian → MINIDUMP_MEMORY_DESCRIPTOR → Result (MemoryRegion MINIDUMP_MEMORY_DESCRIPTOR) Error
 described file order d =
     if d.memory.rva == 0 || d.memory.data_size == 0 then Err MemoryReadFailure else
-    with_bytes d order (span d.memory.rva (d.memory.rva + d.memory.data_size) file)
+    and_then (ok_or (span d.memory.rva (d.memory.rva + d.memory.data_size) file) StreamReadFailure) (λ bytes.
+    Ok (record { desc = d; base_address = d.start_of_memory_range; size = d.memory.data_size; bytes = bytes; endian = order }))
 
 -- how many spans are read for it: none where there is no place or no size
 abbrev pub spans_read : MINIDUMP_MEMORY_DESCRIPTOR → ℕ

@@ -7,6 +7,7 @@ use Rattle.minidump_format.specs.declared.error.Error.TheVariants.{StreamReadFai
 use Rattle.minidump_format.specs.declared.format.memory.MINIDUMP_MEMORY_DESCRIPTOR64.{MINIDUMP_MEMORY_DESCRIPTOR64}
 use Rattle.minidump_format.specs.Memory.{memory_descriptor_64}
 use Rattle.minidump_system.specs.Framing.{List64, list_64}
+use Rattle.minidump_system.specs.Reads.{and_then}
 use Rattle.minidump_memory.specs.Memory.{MemoryRegion}
 
 -- where the bytes of the region of an index begin: those of the regions before it lie between the list's place and there
@@ -29,10 +30,6 @@ is_inside file l = length l.items == 0 || nat_le (place_64 l (length l.items)) (
 abbrev pub regions_64 : List ℕ → Endian → List64 MINIDUMP_MEMORY_DESCRIPTOR64 → Result (List (MemoryRegion MINIDUMP_MEMORY_DESCRIPTOR64)) Error
 regions_64 file order l = if is_inside file l then Ok (all_placed file order l) else Err StreamReadFailure
 
-abbrev regions_in_64 : List ℕ → Endian → Result (List64 MINIDUMP_MEMORY_DESCRIPTOR64) Error → Result (List (MemoryRegion MINIDUMP_MEMORY_DESCRIPTOR64)) Error
-regions_in_64 file order (Err e) = Err e
-regions_in_64 file order (Ok l) = regions_64 file order l
-
 -- Microsoft's MINIDUMP_MEMORY64_LIST: a 64 list of descriptors
 abbrev pub memory_list_64 : List ℕ → List ℕ → Endian → Result (List (MemoryRegion MINIDUMP_MEMORY_DESCRIPTOR64)) Error
-memory_list_64 bytes file order = regions_in_64 file order (list_64 memory_descriptor_64 order bytes)
+memory_list_64 bytes file order = and_then (list_64 memory_descriptor_64 order bytes) (regions_64 file order)

@@ -7,6 +7,7 @@ use Rattle.minidump_format.specs.declared.error.Error.{Error}
 use Rattle.minidump_format.specs.declared.format.memory.MINIDUMP_MEMORY_DESCRIPTOR.{MINIDUMP_MEMORY_DESCRIPTOR}
 use Rattle.minidump_format.specs.Memory.{memory_descriptor}
 use Rattle.minidump_system.specs.Framing.{plain_list}
+use Rattle.minidump_system.specs.Reads.{and_then}
 use Rattle.minidump_memory.specs.declared.memory.MinidumpMemoryBase.{MinidumpMemoryBase}
 use Rattle.minidump_memory.specs.declared.memory_list.MinidumpMemoryListBase.{MinidumpMemoryListBase}
 use Rattle.minidump_memory.specs.Memory.{MemoryRegion, described, memory_of, spans_read}
@@ -23,13 +24,9 @@ memories_of l = map memory_of (regions_of l)
 abbrev pub all_described : List ℕ → Endian → List MINIDUMP_MEMORY_DESCRIPTOR → List (MemoryRegion MINIDUMP_MEMORY_DESCRIPTOR)
 all_described file order ds = filter_map (λ d. result_ok (described file order d)) ds
 
-abbrev regions_in : List ℕ → Endian → Result (List MINIDUMP_MEMORY_DESCRIPTOR) Error → Result (List (MemoryRegion MINIDUMP_MEMORY_DESCRIPTOR)) Error
-regions_in file order (Err e) = Err e
-regions_in file order (Ok ds) = Ok (all_described file order ds)
-
 -- Microsoft's MINIDUMP_MEMORY_LIST: a plain list of descriptors
 abbrev pub memory_list : List ℕ → List ℕ → Endian → Result (List (MemoryRegion MINIDUMP_MEMORY_DESCRIPTOR)) Error
-memory_list bytes file order = regions_in file order (plain_list memory_descriptor order bytes)
+memory_list bytes file order = and_then (plain_list memory_descriptor order bytes) (λ ds. Ok (all_described file order ds))
 
 abbrev spans_in : Result (List MINIDUMP_MEMORY_DESCRIPTOR) Error → ℕ
 spans_in (Err e) = 0
