@@ -1,13 +1,15 @@
 -- The lines of the map that a loop goes through.
-use Rattle.std.proofs.Common.{◌≡◌, ℕ, ◌+◌, ◌<◌, ◌≤◌, Bool, true, false, List, [], ◌∷◌, ◌++◌, length, take, drop, Option, Some, None, Ok, Err, append_assoc, add-one, one-add, arith, refl, sym, ◌∙◌}
-use Rattle.std.specs.Prelude.{◌==◌, nat_lt, if◌then◌else◌}
+use Rattle.std.proofs.Common.{◌≡◌, ℕ, ◌+◌, ◌<◌, ◌≤◌, Bool, true, false, List, [], ◌∷◌, ◌++◌, length, take, drop, Option, Some, None, Result, Ok, Err, zero, suc, append_assoc, add-one, one-add, arith, refl, sym, ◌∙◌}
+use Rattle.std.specs.Prelude.{◌==◌, IsSome, nat_lt, if◌then◌else◌}
 use Rattle.std.specs.List.{after_first, before_first, position_or_len}
 use Rattle.std.proofs.lemmas.Bool.{ltb-true, ltb-false}
 use Rattle.std.proofs.lemmas.List.{append-nil, drop-drop, length-drop, length-take}
 use Rattle.std.proofs.lemmas.List.Folds.{length-prefix_len}
 use Rattle.minidump_bytes.specs.Line.{line_at}
-use Rattle.minidump_memory.specs.MapLine.{MapRegion, and_then, map_line}
-use Rattle.minidump_memory.specs.LinuxMaps.{all_some, lines_of, linux_maps}
+use Rattle.minidump_system.specs.Reads.{all_ok, and_then}
+use Rattle.minidump_memory.specs.MapLine.{MapRegion, map_line}
+use Rattle.minidump_memory.specs.LinuxMaps.{BeginsWithRegion, line_region, lines_of, linux_maps}
+use Rattle.minidump_format.specs.declared.error.Error.{Error}
 use Rattle.minidump_format.specs.declared.error.Error.TheVariants.{StreamReadFailure}
 
 -- ---- the first line
@@ -61,26 +63,26 @@ none_long (x ∷ xs) h = absurd (omega (arith, h))
 nothing_left : (place : ℕ) (bytes : List ℕ) → length bytes ≤ place → drop place bytes ≡ []
 nothing_left place bytes h = none_long (drop place bytes) (omega (arith, length-drop place bytes))
 
-whole : (o : Option (List MapRegion)) → o ≡ and_then o (λ ys. Some ([] ++ ys))
-whole None = refl
-whole (Some ys) = refl
+whole : (r : Result (List MapRegion) Error) → r ≡ and_then r (λ ys. Ok ([] ++ ys))
+whole (Err e) = refl
+whole (Ok ys) = refl
 
 -- ---- the lines so far and the rest
-heads : (l : List ℕ) (ls : List (List ℕ)) (m : MapRegion) → map_line l ≡ Some m → all_some map_line (l ∷ ls) ≡ and_then (all_some map_line ls) (λ ys. Some (m ∷ ys))
-unfolding all_some
+heads : (l : List ℕ) (ls : List (List ℕ)) (m : MapRegion) → map_line l ≡ Some m → all_ok line_region (l ∷ ls) ≡ and_then (all_ok line_region ls) (λ ys. Ok (m ∷ ys))
+unfolding all_ok
 heads l ls m h = rw h refl
 
-heads_none : (l : List ℕ) (ls : List (List ℕ)) → map_line l ≡ None → all_some map_line (l ∷ ls) ≡ None
-unfolding all_some
+heads_none : (l : List ℕ) (ls : List (List ℕ)) → map_line l ≡ None → all_ok line_region (l ∷ ls) ≡ Err StreamReadFailure
+unfolding all_ok
 heads_none l ls h = rw h refl
 
-moved : (o : Option (List MapRegion)) (done : List MapRegion) (m : MapRegion) → and_then (and_then o (λ ys. Some (m ∷ ys))) (λ ys. Some (done ++ ys)) ≡ and_then o (λ ys. Some ((done ++ m ∷ []) ++ ys))
-moved None done m = refl
-moved (Some ys) done m = rw append_assoc refl
+moved : (r : Result (List MapRegion) Error) (done : List MapRegion) (m : MapRegion) → and_then (and_then r (λ ys. Ok (m ∷ ys))) (λ ys. Ok (done ++ ys)) ≡ and_then r (λ ys. Ok ((done ++ m ∷ []) ++ ys))
+moved (Err e) done m = refl
+moved (Ok ys) done m = rw append_assoc refl
 
 -- the maps of the lines before a place are these, and those from it on follow
 abbrev pub Rest : List ℕ → ℕ → List MapRegion → Type 0
-Rest bytes place done = all_some map_line (lines_of bytes) ≡ and_then (all_some map_line (lines_of (drop place bytes))) (λ ys. Some (done ++ ys))
+Rest bytes place done = all_ok line_region (lines_of bytes) ≡ and_then (all_ok line_region (lines_of (drop place bytes))) (λ ys. Ok (done ++ ys))
 
 module _ (bytes : List ℕ) (place : ℕ) (done : List MapRegion) (so_far : Rest bytes place done) where
   pub rest_more : (line : List ℕ) (m : MapRegion) → Some line ≡ line_at place bytes → Some m ≡ map_line line → Rest bytes (place + (length line + 1)) (done ++ m ∷ [])
@@ -88,22 +90,30 @@ module _ (bytes : List ℕ) (place : ℕ) (done : List MapRegion) (so_far : Rest
       let p = line_is place bytes line e in
       let some : 0 < length (drop place bytes) = omega (arith, p.0, length-drop place bytes) in
       so_far ∙ rw (first_line (drop place bytes) some, ← p.1, heads line (lines_of (after_first (λ b. b == 10) (drop place bytes))) m (sym means), next_place place bytes line p.1)
-      (moved (all_some map_line (lines_of (drop (place + (length line + 1)) bytes))) done m)
+      (moved (all_ok line_region (lines_of (drop (place + (length line + 1)) bytes))) done m)
 
   pub rest_none : (line : List ℕ) → Some line ≡ line_at place bytes → None ≡ map_line line → linux_maps bytes ≡ Err StreamReadFailure
   unfolding linux_maps
   rest_none line e means =
       let p = line_is place bytes line e in
       let some : 0 < length (drop place bytes) = omega (arith, p.0, length-drop place bytes) in
-      let one : all_some map_line (lines_of (drop place bytes)) ≡ None =
+      let one : all_ok line_region (lines_of (drop place bytes)) ≡ Err StreamReadFailure =
       rw (first_line (drop place bytes) some, ← p.1) (heads_none line (lines_of (after_first (λ b. b == 10) (drop place bytes))) (sym means)) in
       rw (so_far, one) refl
 
   pub rest_end : None ≡ line_at place bytes → linux_maps bytes ≡ Ok done
-  unfolding linux_maps all_some lines_of
+  unfolding linux_maps all_ok lines_of
   rest_end e =
       let past : drop place bytes ≡ [] = nothing_left place bytes (line_none place bytes e) in
       rw (so_far, past, append-nil) refl
 
 pub rest_start : (bytes : List ℕ) → Rest bytes 0 []
-rest_start bytes = whole (all_some map_line (lines_of bytes))
+rest_start bytes = whole (all_ok line_region (lines_of bytes))
+
+-- ---- where memory is taken
+pub is_region : (o : Option MapRegion) (m : MapRegion) → Some m ≡ o → IsSome o
+is_region o m e = rw (← e) refl
+
+pub begins_with : (place : ℕ) (bytes line : List ℕ) → (0 < place → BeginsWithRegion bytes) → Some line ≡ line_at place bytes → IsSome (map_line line) → BeginsWithRegion bytes
+begins_with zero bytes line so_far e is = rw (← e) is
+begins_with (suc n) bytes line so_far e is = so_far (omega arith)

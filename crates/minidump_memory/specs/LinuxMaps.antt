@@ -1,16 +1,18 @@
 -- The regions of Breakpad's MD_LINUX_MAPS stream: the lines of Linux's /proc/PID/maps.
-use Rattle.std.specs.Prelude.{ℕ, ◌-◌, ◌==◌, List, [], ◌∷◌, codes, map, Option, Some, Result, if◌then◌else◌, string_bytes}
-use Rattle.std.specs.Option.{ok_or}
+use Rattle.std.specs.Prelude.{ℕ, ◌-◌, ◌==◌, List, [], ◌∷◌, codes, map, Option, Result, IsSome, if◌then◌else◌, string_bytes}
+use Rattle.std.specs.Option.{ok_or, option_and_then}
+use Rattle.minidump_bytes.specs.Line.{line_at}
 use Rattle.minidump_format.specs.declared.error.Error.{Error}
 use Rattle.minidump_format.specs.declared.error.Error.TheVariants.{StreamReadFailure}
 use Rattle.minidump_index.specs.declared.range.Range.{Range}
 use Rattle.minidump_index.specs.Overlap.{range_of}
+use Rattle.minidump_system.specs.Reads.{all_ok}
 use Rattle.minidump_memory.specs.declared.linux_maps.MinidumpLinuxMaps.{MinidumpLinuxMaps}
 use Rattle.minidump_memory.specs.declared.map_info.MMapPath.{MMapPath}
 use Rattle.minidump_memory.specs.declared.map_info.MMapPath.TheVariants as owned
 use Rattle.minidump_memory.specs.declared.map_info.MemoryMap.{MemoryMap}
 use Rattle.minidump_memory.specs.declared.map_info.MinidumpLinuxMapInfo.{MinidumpLinuxMapInfo}
-use Rattle.minidump_memory.specs.MapLine.{MapPath, MapRegion, Path, Other, Heap, Stack, Vdso, Vvar, Vsyscall, Rollup, Anonymous, TStack, Vsys, and_then, map_line}
+use Rattle.minidump_memory.specs.MapLine.{MapPath, MapRegion, Path, Other, Heap, Stack, Vdso, Vvar, Vsyscall, Rollup, Anonymous, TStack, Vsys, map_line}
 
 -- the permissions that letters of a line stand for
 unfoldable pub map_permissions : List (List ℕ × ℕ)
@@ -68,11 +70,14 @@ unfoldable pub lines_of : List ℕ → List (List ℕ)
 lines_of [] = []
 lines_of (b ∷ bs) = if b == 10 then [] ∷ lines_of bs else onto b (lines_of bs)
 
--- the values of all, where each has one
-unfoldable pub all_some : {X Y : Type 0} → (X → Option Y) → List X → Option (List Y)
-all_some f [] = Some []
-all_some f (x ∷ xs) = and_then (f x) (λ y. and_then (all_some f xs) (λ ys. Some (y ∷ ys)))
+-- the region of a line of the stream, which refuses the stream where it is none
+abbrev pub line_region : List ℕ → Result MapRegion Error
+line_region line = ok_or (map_line line) StreamReadFailure
 
 -- Breakpad's MD_LINUX_MAPS: the regions of the lines, where each line is one
 unfoldable pub linux_maps : List ℕ → Result (List MapRegion) Error
-linux_maps bytes = ok_or (all_some map_line (lines_of bytes)) StreamReadFailure
+linux_maps bytes = all_ok line_region (lines_of bytes)
+
+-- the first line is that of a region: without it no memory is taken
+abbrev pub BeginsWithRegion : List ℕ → Type 0
+BeginsWithRegion bytes = IsSome (option_and_then map_line (line_at 0 bytes))

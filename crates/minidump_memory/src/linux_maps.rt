@@ -1,4 +1,4 @@
-ghost use Rattle.std.specs.Prelude.{◌≡◌, ◌+◌, ◌≤◌, ⊤, [], length, map, IfOk, IsOkUnless};
+ghost use Rattle.std.specs.Prelude.{◌≡◌, ◌+◌, ◌≤◌, ◌<◌, [], length, map, IfOk, IsOkUnless};
 ghost use Rattle.std.specs.Option.{option_copied};
 ghost use Rattle.std.specs.Slice.Iter.{iter_rest};
 ghost use Rattle.minidump_bytes.specs.Source.{bytes_of};
@@ -7,7 +7,7 @@ ghost use Rattle.minidump_format.specs.Answer.{Gives};
 ghost use Rattle.minidump_format.specs.declared.format.stream_type.MINIDUMP_STREAM_TYPE.TheVariants.{LinuxMaps};
 ghost use Rattle.minidump_format.specs.StreamType.{number_of};
 ghost use Rattle.minidump_index.specs.Lookup.{IsByAddress, IsCountedLookup, IsLookedUp};
-ghost use Rattle.minidump_memory.specs.LinuxMaps.{linux_maps, map_info_of, map_range, map_regions, maps_of};
+ghost use Rattle.minidump_memory.specs.LinuxMaps.{BeginsWithRegion, linux_maps, map_info_of, map_range, map_regions, maps_of};
 
 use crate::MinidumpLinuxMapInfo;
 use minidump_bytes::{Endian, Source, Steps};
@@ -102,10 +102,10 @@ impl<'a> MinidumpLinuxMaps<'a> {
 
 /// Breakpad's `MD_LINUX_MAPS`: the lines of `/proc/PID/maps`. A line that is none refuses the stream.
 impl<'a> MinidumpStream<'a> for MinidumpLinuxMaps<'a> {
-    ghost use Rattle.std.specs.Prelude.{◌+◌, List, length, ⊤};
+    ghost use Rattle.std.specs.Prelude.{◌+◌, List, length};
     ghost use Rattle.minidump_format.specs.declared.format.stream_type.MINIDUMP_STREAM_TYPE.TheVariants.{LinuxMaps};
     ghost use Rattle.minidump_format.specs.StreamType.{number_of};
-    ghost use Rattle.minidump_memory.specs.LinuxMaps.{linux_maps, map_regions};
+    ghost use Rattle.minidump_memory.specs.LinuxMaps.{BeginsWithRegion, linux_maps, map_regions};
     ghost use Rattle.minidump_memory.specs.MapLine.{MapRegion};
 
     ghost type_number = { number_of LinuxMaps };
@@ -122,7 +122,7 @@ impl<'a> MinidumpStream<'a> for MinidumpLinuxMaps<'a> {
 
     ghost least = { λ bytes order regions. 1 + length regions };
 
-    ghost takes_memory = { λ bytes order. ⊤ };
+    ghost takes_memory = { λ bytes order. BeginsWithRegion bytes };
 
     fn number_of_type() -> u32
         ensures { result ≡ number_of LinuxMaps }
@@ -139,6 +139,9 @@ impl<'a> MinidumpStream<'a> for MinidumpLinuxMaps<'a> {
         steps: &mut Steps,
     ) -> Result<Self, Error> {
         let regions = read_regions(alloc, bytes, steps)?;
+        if regions.is_empty() {
+            return Ok(MinidumpLinuxMaps::new(alloc));
+        }
         MinidumpLinuxMaps::from_regions(alloc, regions)
     }
 }
@@ -149,7 +152,8 @@ fn read_regions<'a>(
     bytes: Source<'_>,
     steps: &mut Steps,
 ) -> Result<Vec<MinidumpLinuxMapInfo<'a>>, Error>
-    ensures means { Gives (λ v. map map_info_of v.items) ⊤ result (linux_maps (bytes_of bytes.entry)) }
+    ensures means { Gives (λ v. map map_info_of v.items) (BeginsWithRegion (bytes_of bytes.entry)) result (linux_maps (bytes_of bytes.entry)) }
+    ensures first { IfOk result (λ v. 0 < length v.items → BeginsWithRegion (bytes_of bytes.entry)) }
     ensures within { steps.new ≤ steps.old + length (bytes_of bytes.entry) + 2 }
     ensures grows { steps.old ≤ steps.new }
     ensures counted { IfOk result (λ v. steps.new ≡ after steps.old (1 + length v.items)) }

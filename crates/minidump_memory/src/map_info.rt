@@ -1,4 +1,4 @@
-ghost use Rattle.std.specs.Prelude.{⊤, ◌≡◌, IfOk, IsOkUnless};
+ghost use Rattle.std.specs.Prelude.{⊤, ◌≡◌, IfErr, IfOk, IsOkUnless, IsSome};
 ghost use Rattle.std.specs.Option.{option_map};
 ghost use Rattle.minidump_format.specs.Flags.{has_flag};
 ghost use Rattle.minidump_memory.specs.LinuxMaps.{map_info_of, map_permissions, map_range, path_of};
@@ -150,10 +150,11 @@ pub struct MinidumpLinuxMapInfo<'a> {
 
 impl<'a> MinidumpLinuxMapInfo<'a> {
     /// Reads the region of a line, which has no line feed. Returns `None` if the bytes are no line of the
-    /// map. The only error is [`Error::OutOfMemory`].
+    /// map. The only error is [`Error::OutOfMemory`], and of a line alone.
     pub fn from_line(alloc: Global, bytes: &[u8]) -> Result<Option<Self>, Error>
         ensures region { IfOk result (λ region. option_map map_info_of region ≡ map_line bytes.now) }
         ensures memory { IsOkUnless result Error.OutOfMemory }
+        ensures of_line { IfErr result (λ _. IsSome (map_line bytes.now)) }
     {
         let Some(line) = map_line(bytes) else {
             return Ok(None);

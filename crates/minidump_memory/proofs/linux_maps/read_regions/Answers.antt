@@ -3,7 +3,7 @@ use Rattle.std.proofs.Common.{map, arith}
 use Rattle.std.proofs.lemmas.List.{map_push}
 use Rattle.minidump_bytes.specs.Source.{bytes_of}
 use Rattle.minidump_memory.specs.LinuxMaps.{map_info_of}
-use Rattle.minidump_memory.proofs.MapLinesLemmas.{rest_start, rest_more, rest_none, rest_end, line_fits}
+use Rattle.minidump_memory.proofs.MapLinesLemmas.{rest_start, rest_more, rest_none, rest_end, line_fits, begins_with, is_region}
 use Rattle.minidump_memory.proofs.linux_maps.read_regions.Goals as goal
 
 pub loop-line-init : goal.loop-line-init
@@ -12,6 +12,7 @@ loop-line-init c = record {
   counted = rw c.new-regions.ensures.items (omega arith);
   enough = rw c.new-regions.ensures.items (omega arith);
   within = omega arith;
+  first = λ some. absurd (omega (arith, some));
 }
 
 pub loop-line-preserved : goal.loop-line-preserved
@@ -23,6 +24,7 @@ loop-line-preserved c =
       counted = omega (arith, c.in_ok-push.ensures.len, c.loop-line.invariant.counted, c.line.ensures.step);
       enough = omega (arith, c.in_ok-push.ensures.len, c.loop-line.invariant.enough);
       within = omega (arith, fits);
+      first = λ some. begins_with c.loop-line.place (bytes_of c.args.bytes) c.in-Some.line.now c.loop-line.invariant.first c.in-Some.ensures.value (is_region _ _ (rw c.in-Some-2.is at c.in_ok-region.ensures.region));
     }
 
 pub returns-in_default-2-clause-means : goal.returns-in_default-2-clause-means
