@@ -12,7 +12,7 @@ mod texts;
 mod threads;
 
 use crate::format::{MINIDUMP_LOCATION_DESCRIPTOR, MINIDUMP_STREAM_TYPE};
-use crate::{Endian, Error, Minidump, Steps, Told, stream_vendor};
+use crate::{Endian, Error, Minidump, MinidumpStream, Steps, Told, stream_vendor};
 use minidump_synth::{FailsAt, OneByte, SynthMinidump, TakesNone};
 use std::alloc::{AllocError, Global};
 use std::io::Write;
@@ -91,6 +91,43 @@ Streams:
 
 fn refusal(alloc: Global, bytes: &[u8]) -> Option<Error> {
     Minidump::read(alloc, bytes).err()
+}
+
+// A dump with a stream of these bytes.
+fn dump_of(alloc: Global, stream_type: u32, stream: &[u8]) -> Result<Vec<u8>, AllocError> {
+    let mut dump = SynthMinidump::new(alloc, Endian::Little);
+    dump.add_stream(stream_type, &stream);
+    dump.finish()
+}
+
+// The stream of a dump.
+fn stream_of<'a, S: MinidumpStream<'a>>(alloc: Global, bytes: &'a [u8]) -> Result<S, Error> {
+    Minidump::read(alloc, bytes)?.get_stream(alloc)
+}
+
+// The same, with the reads that it takes.
+fn counted_stream_of<'a, S: MinidumpStream<'a>>(
+    alloc: Global,
+    bytes: &'a [u8],
+) -> Result<(S, u128), Error> {
+    let dump = Minidump::read(alloc, bytes)?;
+    let mut steps = Steps::new();
+    let stream = dump.get_stream_counted(alloc, &mut steps)?;
+    Ok((stream, steps.count()))
+}
+
+// The error of a stream of a dump.
+fn error_of<'a, S: MinidumpStream<'a> + Drop>(alloc: Global, bytes: &'a [u8]) -> Option<Error> {
+    stream_of::<S>(alloc, bytes).err()
+}
+
+// How many streams of a dump have a type that is never read.
+fn unimplemented_in(alloc: Global, bytes: &[u8]) -> Result<usize, Error> {
+    Ok(
+        Minidump::read(alloc, bytes)?
+            .unimplemented_streams()
+            .count(),
+    )
 }
 
 #[test]
@@ -190,56 +227,108 @@ fn reads_entries_where_they_are(rt: HostRuntime) -> Result<(), Fail> {
 }
 
 #[test]
-fn lists_the_deciding_entries(rt: HostRuntime) -> Result<(), Fail> {
-    let alloc = rt.alloc();
-    let bytes = five(alloc)?;
-    let dump = Minidump::read(alloc, &bytes)?;
-    let want: &[u8] = &[0xa2, 0xa3];
-    assert_eq!(rt; dump.get_raw_stream(0x1122_3344)?, want);
-    // A span of no bytes at the end of the file.
-    assert_eq!(rt; dump.get_raw_stream(7)?.len(), 0);
-    assert_eq!(rt;
-        dump.get_raw_stream(0x1122_3345),
-        Err(Error::StreamReadFailure)
-    );
+fn finds_the_bytes_of_the_deciding_entries(rt: HostRuntime) -> Result<(), Fail> {
+    let bytes = five(rt.alloc())?;
+    let dump = Minidump::read(rt.alloc(), &bytes)?;
+    let last: &[u8] = &[0xa2, 0xa3];
+    // The second is a span of no bytes at the end of the file.
+    for (stream_type, want) in [
+        (0x1122_3344, Ok(last)),
+        (7, Ok(&[])),
+        (0x1122_3345, Err(Error::StreamReadFailure)),
+    ] {
+        assert_eq!(rt; dump.get_raw_stream(stream_type), want, "of {stream_type}");
+    }
+    Ok(())
+}
 
-    let mut all = dump.all_streams();
-    for (stream_type, rva) in [
+// The type and the RVA of each deciding entry.
+fn listed(alloc: Global, bytes: &[u8]) -> Result<Vec<(u32, u32)>, Error> {
+    let dump = Minidump::read(alloc, bytes)?;
+    let mut all = Vec::new(alloc);
+    for entry in dump.all_streams() {
+        all.push((entry.stream_type, entry.location.rva))?;
+    }
+    Ok(all)
+}
+
+// The type, the location and the vendor of each stream without a name.
+fn unknown(
+    alloc: Global,
+    bytes: &[u8],
+) -> Result<Vec<(u32, MINIDUMP_LOCATION_DESCRIPTOR, &'static str)>, Error> {
+    let dump = Minidump::read(alloc, bytes)?;
+    let mut all = Vec::new(alloc);
+    for stream in dump.unknown_streams() {
+        let copy = stream.clone()?;
+        all.push((copy.stream_type, copy.location, copy.vendor))?;
+    }
+    Ok(all)
+}
+
+// The same of each stream that is never read.
+fn unimplemented(
+    alloc: Global,
+    bytes: &[u8],
+) -> Result<
+    Vec<
+        (
+            MINIDUMP_STREAM_TYPE,
+            MINIDUMP_LOCATION_DESCRIPTOR,
+            &'static str,
+        ),
+    >,
+    Error,
+> {
+    let dump = Minidump::read(alloc, bytes)?;
+    let mut all = Vec::new(alloc);
+    for stream in dump.unimplemented_streams() {
+        let copy = stream.clone()?;
+        all.push((copy.stream_type, copy.location, copy.vendor))?;
+    }
+    Ok(all)
+}
+
+fn location(data_size: u32, rva: u32) -> MINIDUMP_LOCATION_DESCRIPTOR {
+    MINIDUMP_LOCATION_DESCRIPTOR { data_size, rva }
+}
+
+#[test]
+fn lists_the_deciding_entries(rt: HostRuntime) -> Result<(), Fail> {
+    let bytes = five(rt.alloc())?;
+    let want = [
         (7, 0x60),
         (0x1122_3344, 0x22),
         (0x1122_3345, 0x5d),
         (0x4767_0006, 0x20),
-    ] {
-        let entry = all.next().ok_or("an entry")?;
-        assert_eq!(rt; entry.stream_type, stream_type);
-        assert_eq!(rt; entry.location.rva, rva, "of {stream_type}");
-    }
-    assert!(rt; all.next().is_none());
+    ];
+    assert_eq!(rt; listed(rt.alloc(), &bytes)?.as_slice(), want.as_slice());
+    Ok(())
+}
 
-    let mut unknown = dump.unknown_streams();
-    for (stream_type, data_size, rva) in [(0x1122_3344, 2, 0x22), (0x1122_3345, 4, 0x5d)] {
-        let stream = unknown.next().ok_or("an unknown stream")?.clone()?;
-        assert_eq!(rt; stream.stream_type, stream_type);
-        assert_eq!(rt;
-            stream.location,
-            MINIDUMP_LOCATION_DESCRIPTOR { data_size, rva }
-        );
-        assert_eq!(rt; stream.vendor, "Unknown Extension");
-    }
-    assert!(rt; unknown.next().is_none());
+#[test]
+fn lists_the_unknown_streams(rt: HostRuntime) -> Result<(), Fail> {
+    let bytes = five(rt.alloc())?;
+    let want = [
+        (0x1122_3344, location(2, 0x22), "Unknown Extension"),
+        (0x1122_3345, location(4, 0x5d), "Unknown Extension"),
+    ];
+    assert_eq!(rt; unknown(rt.alloc(), &bytes)?.as_slice(), want.as_slice());
+    Ok(())
+}
 
-    let mut unimplemented = dump.unimplemented_streams();
-    let stream = unimplemented.next().ok_or("a stream")?.clone()?;
-    assert_eq!(rt; stream.stream_type, MINIDUMP_STREAM_TYPE::LinuxCmdLine);
+#[test]
+fn lists_the_unimplemented_streams(rt: HostRuntime) -> Result<(), Fail> {
+    let bytes = five(rt.alloc())?;
+    let want = [(
+        MINIDUMP_STREAM_TYPE::LinuxCmdLine,
+        location(2, 0x20),
+        "Google Extension",
+    )];
     assert_eq!(rt;
-        stream.location,
-        MINIDUMP_LOCATION_DESCRIPTOR {
-            data_size: 2,
-            rva: 0x20
-        }
+        unimplemented(rt.alloc(), &bytes)?.as_slice(),
+        want.as_slice()
     );
-    assert_eq!(rt; stream.vendor, "Google Extension");
-    assert!(rt; unimplemented.next().is_none());
     Ok(())
 }
 

@@ -1,6 +1,6 @@
-use super::BOTH;
+use super::{BOTH, counted_stream_of, error_of, unimplemented_in};
 use crate::format::{MINIDUMP_CRASHPAD_INFO, MINIDUMP_SIMPLE_STRING_DICTIONARY_ENTRY};
-use crate::{Endian, Error, Minidump, MinidumpCrashpadInfo, Steps};
+use crate::{Endian, Error, MinidumpCrashpadInfo};
 use minidump_synth::{SynthMinidump, zeroed};
 use std::alloc::{AllocError, Global};
 use std::test::Fail;
@@ -22,24 +22,32 @@ fn crashpad_dump(alloc: Global, endian: Endian, version: u32) -> Result<Vec<u8>,
     dump.finish()
 }
 
+// What the process says of `k`.
+fn annotation(info: &MinidumpCrashpadInfo) -> Option<&str> {
+    Some(info.simple_annotations.get("k")?.as_str())
+}
+
 #[test]
 fn reads_the_crashpad_information(rt: HostRuntime) -> Result<(), Fail> {
     let alloc = rt.alloc();
     for endian in BOTH {
         let bytes = crashpad_dump(alloc, endian, 1)?;
-        let dump = Minidump::read(alloc, bytes.as_slice())?;
-        assert!(rt; dump.unimplemented_streams().next().is_none());
-        let mut steps = Steps::new();
-        let info: MinidumpCrashpadInfo = dump.get_stream_counted(alloc, &mut steps)?;
-        let found = info.simple_annotations.get("k").ok_or("an annotation")?;
-        assert_eq!(rt; found.as_str(), "k");
-        assert_eq!(rt; info.module_list.len(), 0);
+        let (info, steps): (MinidumpCrashpadInfo, u128) = counted_stream_of(alloc, &bytes)?;
         // the stream, its record, a span and a count, an entry, its key and its value, and a span
-        assert_eq!(rt; steps.count(), 8);
-        let bytes = crashpad_dump(alloc, endian, 0)?;
-        let dump = Minidump::read(alloc, bytes.as_slice())?;
-        let refused = dump.get_stream::<MinidumpCrashpadInfo>(alloc);
-        assert_eq!(rt; refused.err(), Some(Error::VersionMismatch));
+        assert_eq!(rt; steps, 8);
+        assert_eq!(rt; annotation(&info), Some("k"));
+        assert_eq!(rt; info.module_list.len(), 0);
+        assert_eq!(rt; unimplemented_in(alloc, &bytes), Ok(0));
+    }
+    Ok(())
+}
+
+#[test]
+fn version_0_of_the_crashpad_information_is_an_error(rt: HostRuntime) -> Result<(), Fail> {
+    for endian in BOTH {
+        let bytes = crashpad_dump(rt.alloc(), endian, 0)?;
+        let error = error_of::<MinidumpCrashpadInfo>(rt.alloc(), &bytes);
+        assert_eq!(rt; error, Some(Error::VersionMismatch));
     }
     Ok(())
 }

@@ -1,53 +1,59 @@
-use super::BOTH;
+use super::{BOTH, counted_stream_of, dump_of, error_of, unimplemented_in};
 use crate::format::MINIDUMP_HANDLE_DESCRIPTOR_2;
-use crate::{Endian, Error, Minidump, MinidumpHandleDataStream, Steps};
+use crate::{Endian, Error, MinidumpHandleDataStream, MinidumpHandleDescriptor};
 use minidump_synth::{SynthMinidump, zeroed};
+use std::alloc::{AllocError, Global};
 use std::test::Fail;
+
+// A dump of one handle, whose object has information of one piece, which is its own next one.
+fn handle_dump(alloc: Global, endian: Endian) -> Result<Vec<u8>, AllocError> {
+    let mut dump = SynthMinidump::new(alloc, endian);
+    let rva = dump.rva();
+    let mut piece = dump.section();
+    piece.u32(rva).u32(6).u32(12);
+    let raw = MINIDUMP_HANDLE_DESCRIPTOR_2 {
+        handle: 0x1c,
+        object_info_rva: dump.add(&piece),
+        type_name_rva: dump.add_text16("Event"),
+        ..zeroed()
+    };
+    let mut list = dump.section();
+    list.extended_list(12, &[raw]);
+    dump.add_stream(12, &list);
+    dump.finish()
+}
+
+// The name of a handle's type, and of how many pieces the information on its object is.
+fn known(handle: &MinidumpHandleDescriptor) -> (Option<&str>, usize) {
+    (
+        handle.type_name.as_ref().map(|t| t.as_str()),
+        handle.object_infos.len(),
+    )
+}
 
 #[test]
 fn reads_handles_and_what_is_known_of_their_objects(rt: HostRuntime) -> Result<(), Fail> {
     let alloc = rt.alloc();
     for endian in BOTH {
-        let mut dump = SynthMinidump::new(alloc, endian);
-        let rva = dump.rva();
-        let mut piece = dump.section();
-        piece.u32(rva).u32(6).u32(12);
-        let raw = MINIDUMP_HANDLE_DESCRIPTOR_2 {
-            handle: 0x1c,
-            object_info_rva: dump.add(&piece),
-            type_name_rva: dump.add_text16("Event"),
-            ..zeroed()
-        };
-        let mut list = dump.section();
-        list.extended_list(12, &[raw]);
-        dump.add_stream(12, &list);
-        let bytes = dump.finish()?;
-        let dump = Minidump::read(alloc, bytes.as_slice())?;
-        assert!(rt; dump.unimplemented_streams().next().is_none());
-        let mut steps = Steps::new();
-        let handles: MinidumpHandleDataStream = dump.get_stream_counted(alloc, &mut steps)?;
-        let handle = handles.iter().next().ok_or("a handle")?;
-        assert_eq!(rt;
-            handle.type_name.as_ref().map(|t| t.as_str()),
-            Some("Event")
-        );
-        assert_eq!(rt; handle.object_infos.len(), 1);
+        let bytes = handle_dump(alloc, endian)?;
+        let (handles, steps): (MinidumpHandleDataStream, u128) = counted_stream_of(alloc, &bytes)?;
         // the span, the header, an entry, a name, and the piece twice
-        assert_eq!(rt; steps.count(), 6);
+        assert_eq!(rt; steps, 6);
+        let first = handles.iter().next().map(known);
+        assert_eq!(rt; first, Some((Some("Event"), 1)));
+        assert_eq!(rt; unimplemented_in(alloc, &bytes), Ok(0));
     }
     Ok(())
 }
 
 #[test]
 fn handles_of_another_size_are_an_error(rt: HostRuntime) -> Result<(), Fail> {
-    let alloc = rt.alloc();
-    let mut dump = SynthMinidump::new(alloc, Endian::Little);
-    let mut list = dump.section();
-    list.u32(12).u32(36).u32(1).zeros(36);
-    dump.add_stream(12, &list);
-    let bytes = dump.finish()?;
-    let dump = Minidump::read(alloc, bytes.as_slice())?;
-    let handles = dump.get_stream::<MinidumpHandleDataStream>(alloc);
-    assert_eq!(rt; handles.err(), Some(Error::StreamReadFailure));
+    let mut list = [0; 48];
+    list[0] = 12;
+    list[4] = 36;
+    list[8] = 1;
+    let bytes = dump_of(rt.alloc(), 12, &list)?;
+    let error = error_of::<MinidumpHandleDataStream>(rt.alloc(), &bytes);
+    assert_eq!(rt; error, Some(Error::StreamReadFailure));
     Ok(())
 }

@@ -1,7 +1,7 @@
-use super::BOTH;
+use super::{BOTH, error_of, stream_of};
 use crate::format::MINIDUMP_UNLOADED_MODULE;
 use crate::{
-    Endian, Error, Minidump, MinidumpModule, MinidumpModuleList, MinidumpUnloadedModuleList, Module,
+    CodeId, Endian, Error, MinidumpModule, MinidumpModuleList, MinidumpUnloadedModuleList, Module,
 };
 use minidump_synth::SynthMinidump;
 use std::alloc::Global;
@@ -31,41 +31,44 @@ fn modules_dump(alloc: Global, endian: Endian, view: &[u8]) -> Result<Vec<u8>, E
 
 #[test]
 fn reads_modules(rt: HostRuntime) -> Result<(), Fail> {
-    let alloc = rt.alloc();
     for endian in BOTH {
-        let bytes = modules_dump(alloc, endian, &[])?;
-        let dump = Minidump::read(alloc, bytes.as_slice())?;
-        let modules: MinidumpModuleList = dump.get_stream(alloc)?;
-        let found = modules
-            .module_at_address(0x4000_0fff)
-            .map(|m| m.name.as_str());
-        assert_eq!(rt; found, Some("app.exe"));
+        let bytes = modules_dump(rt.alloc(), endian, &[])?;
+        let modules: MinidumpModuleList = stream_of(rt.alloc(), &bytes)?;
+        let found = modules.module_at_address(0x4000_0fff);
+        assert_eq!(rt; found.map(|m| m.name.as_str()), Some("app.exe"));
     }
     Ok(())
 }
 
+// The name of the first module that was at an address, and its identifier.
+fn first_unloaded(
+    alloc: Global,
+    bytes: &[u8],
+    address: u64,
+) -> Result<(String, Option<CodeId>), Fail> {
+    let unloaded: MinidumpUnloadedModuleList = stream_of(alloc, bytes)?;
+    let gone = unloaded
+        .modules_at_address(address)
+        .next()
+        .ok_or("an unloaded module")?;
+    Ok((gone.name.clone()?, gone.code_identifier(alloc)?))
+}
+
 #[test]
 fn reads_unloaded_modules(rt: HostRuntime) -> Result<(), Fail> {
-    let alloc = rt.alloc();
     for endian in BOTH {
-        let bytes = modules_dump(alloc, endian, &[])?;
-        let dump = Minidump::read(alloc, bytes.as_slice())?;
-        let unloaded: MinidumpUnloadedModuleList = dump.get_stream(alloc)?;
-        let mut there = unloaded.modules_at_address(0x5000_0000);
-        let gone = there.next().ok_or("an unloaded module")?;
-        assert_eq!(rt; gone.name.as_str(), "gone.dll");
-        let code_id = gone.code_identifier(alloc)?.ok_or("a code identifier")?;
-        assert_eq!(rt; code_id.as_str(), "4ab01a2b1000");
+        let bytes = modules_dump(rt.alloc(), endian, &[])?;
+        let (name, code_id) = first_unloaded(rt.alloc(), &bytes, 0x5000_0000)?;
+        assert_eq!(rt; name.as_str(), "gone.dll");
+        assert_eq!(rt; code_id.as_ref().map(|c| c.as_str()), Some("4ab01a2b1000"));
     }
     Ok(())
 }
 
 #[test]
 fn a_cut_codeview_record_is_an_error(rt: HostRuntime) -> Result<(), Fail> {
-    let alloc = rt.alloc();
-    let bytes = modules_dump(alloc, Endian::Little, &[0x52, 0x53])?;
-    let dump = Minidump::read(alloc, bytes.as_slice())?;
-    let modules = dump.get_stream::<MinidumpModuleList>(alloc);
-    assert_eq!(rt; modules.err(), Some(Error::CodeViewReadFailure));
+    let bytes = modules_dump(rt.alloc(), Endian::Little, &[0x52, 0x53])?;
+    let error = error_of::<MinidumpModuleList>(rt.alloc(), &bytes);
+    assert_eq!(rt; error, Some(Error::CodeViewReadFailure));
     Ok(())
 }

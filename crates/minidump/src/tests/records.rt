@@ -1,8 +1,6 @@
-use super::BOTH;
+use super::{BOTH, counted_stream_of, dump_of, error_of, stream_of};
 use crate::format::{MINIDUMP_THREAD_INFO, MINIDUMP_THREAD_NAME};
-use crate::{
-    Endian, Error, Minidump, MinidumpStream, MinidumpThreadInfoList, MinidumpThreadNames, Steps,
-};
+use crate::{Endian, Error, MinidumpThreadInfoList, MinidumpThreadNames};
 use minidump_synth::{SynthMinidump, zeroed};
 use std::alloc::{AllocError, Global};
 use std::test::Fail;
@@ -34,11 +32,9 @@ fn names_threads(rt: HostRuntime) -> Result<(), Fail> {
     let alloc = rt.alloc();
     for endian in BOTH {
         let bytes = names_dump(alloc, endian)?;
-        let dump = Minidump::read(alloc, bytes.as_slice())?;
-        let mut steps = Steps::new();
-        let names: MinidumpThreadNames = dump.get_stream_counted(alloc, &mut steps)?;
+        let (names, steps): (MinidumpThreadNames, u128) = counted_stream_of(alloc, &bytes)?;
         // the span of the stream, the count, four entries and their names
-        assert_eq!(rt; steps.count(), 10);
+        assert_eq!(rt; steps, 10);
         let copy = names.try_clone(alloc)?;
         for (id, want) in [(17, Some("MyCoolThread")), (123, None), (0, None)] {
             assert_eq!(rt; names.get_name(id), want, "of {id}");
@@ -48,74 +44,60 @@ fn names_threads(rt: HostRuntime) -> Result<(), Fail> {
     Ok(())
 }
 
+// Two entries of one thread.
+fn infos() -> [MINIDUMP_THREAD_INFO; 2] {
+    let mut infos = [zeroed::<MINIDUMP_THREAD_INFO>(); 2];
+    infos[0].thread_id = 0x1234;
+    infos[0].exit_status = 1;
+    infos[1].thread_id = 0x1234;
+    infos[1].exit_status = 2;
+    infos
+}
+
+fn infos_dump(alloc: Global, endian: Endian) -> Result<Vec<u8>, AllocError> {
+    let mut dump = SynthMinidump::new(alloc, endian);
+    let mut list = dump.section();
+    list.extended_list(16, &infos());
+    dump.add_stream(THREAD_INFO_LIST, &list);
+    dump.finish()
+}
+
 #[test]
 fn finds_the_last_information_of_a_thread(rt: HostRuntime) -> Result<(), Fail> {
-    let alloc = rt.alloc();
     for endian in BOTH {
-        let mut infos = [zeroed::<MINIDUMP_THREAD_INFO>(); 2];
-        infos[0].thread_id = 0x1234;
-        infos[0].exit_status = 1;
-        infos[1].thread_id = 0x1234;
-        infos[1].exit_status = 2;
-        let mut dump = SynthMinidump::new(alloc, endian);
-        let mut list = dump.section();
-        list.extended_list(16, &infos);
-        dump.add_stream(THREAD_INFO_LIST, &list);
-        let bytes = dump.finish()?;
-        let dump = Minidump::read(alloc, bytes.as_slice())?;
-        let list: MinidumpThreadInfoList = dump.get_stream(alloc)?;
+        let bytes = infos_dump(rt.alloc(), endian)?;
+        let list: MinidumpThreadInfoList = stream_of(rt.alloc(), &bytes)?;
         assert_eq!(rt; list.thread_infos.len(), 2);
-        assert_eq!(rt; list.thread_infos[0].raw, infos[0]);
-        let found = list.get_thread_info(0x1234).ok_or("a thread")?;
-        assert_eq!(rt; found.raw, infos[1]);
+        assert_eq!(rt; list.thread_infos[0].raw, infos()[0]);
+        let found = list.get_thread_info(0x1234);
+        assert_eq!(rt; found.map(|i| i.raw), Some(infos()[1]));
         assert!(rt; list.get_thread_info(0x1235).is_none());
     }
     Ok(())
 }
 
-// A dump with a stream of these bytes.
-pub(super) fn dump_of(
-    alloc: Global,
-    stream_type: u32,
-    stream: &[u8],
-) -> Result<Vec<u8>, AllocError> {
-    let mut dump = SynthMinidump::new(alloc, Endian::Little);
-    dump.add_stream(stream_type, &stream);
-    dump.finish()
-}
-
-// The error of a stream of a dump.
-pub(super) fn error_of<'a, S: MinidumpStream<'a> + Drop>(
-    alloc: Global,
-    bytes: &'a [u8],
-) -> Result<Option<Error>, Error> {
-    let dump = Minidump::read(alloc, bytes)?;
-    Ok(dump.get_stream::<S>(alloc).err())
+#[test]
+fn refuses_malformed_names_of_threads(rt: HostRuntime) -> Result<(), Fail> {
+    let mismatch = Error::StreamSizeMismatch {
+        expected: 16,
+        actual: 5,
+    };
+    for (stream, error) in [
+        (&[0, 0, 0][..], Error::StreamReadFailure),
+        (&[1, 0, 0, 0, 17][..], mismatch),
+    ] {
+        let bytes = dump_of(rt.alloc(), THREAD_NAMES, stream)?;
+        let found = error_of::<MinidumpThreadNames>(rt.alloc(), &bytes);
+        assert_eq!(rt; found, Some(error));
+    }
+    Ok(())
 }
 
 #[test]
-fn refuses_malformed_lists_of_threads(rt: HostRuntime) -> Result<(), Fail> {
-    let alloc = rt.alloc();
-    for (stream, error) in [
-        (&[0, 0, 0][..], Error::StreamReadFailure),
-        (
-            &[1, 0, 0, 0, 17][..],
-            Error::StreamSizeMismatch {
-                expected: 16,
-                actual: 5,
-            },
-        ),
-    ] {
-        let bytes = dump_of(alloc, THREAD_NAMES, stream)?;
-        let names = error_of::<MinidumpThreadNames>(alloc, &bytes)?;
-        assert_eq!(rt; names, Some(error));
-    }
-    let bytes = dump_of(
-        alloc,
-        THREAD_INFO_LIST,
-        &[12, 0, 0, 0, 63, 0, 0, 0, 0, 0, 0, 0],
-    )?;
-    let infos = error_of::<MinidumpThreadInfoList>(alloc, &bytes)?;
-    assert_eq!(rt; infos, Some(Error::StreamReadFailure));
+fn refuses_malformed_information_on_threads(rt: HostRuntime) -> Result<(), Fail> {
+    let stream = [12, 0, 0, 0, 63, 0, 0, 0, 0, 0, 0, 0];
+    let bytes = dump_of(rt.alloc(), THREAD_INFO_LIST, &stream)?;
+    let error = error_of::<MinidumpThreadInfoList>(rt.alloc(), &bytes);
+    assert_eq!(rt; error, Some(Error::StreamReadFailure));
     Ok(())
 }

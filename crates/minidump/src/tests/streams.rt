@@ -1,17 +1,17 @@
-use super::BOTH;
+use super::{BOTH, counted_stream_of, dump_of, error_of, stream_of};
 use crate::format::MINIDUMP_SYSTEM_INFO;
 use crate::system_info::{Cpu, Os};
 use crate::{
-    Endian, Error, Minidump, MinidumpAssertion, MinidumpBreakpadInfo, MinidumpCrashpadInfo,
+    Endian, Error, MinidumpAssertion, MinidumpBreakpadInfo, MinidumpCrashpadInfo,
     MinidumpException, MinidumpHandleDataStream, MinidumpLinuxCpuInfo, MinidumpLinuxEnviron,
     MinidumpLinuxLsbRelease, MinidumpLinuxMaps, MinidumpLinuxProcLimits, MinidumpLinuxProcStatus,
     MinidumpMacBootargs, MinidumpMacCrashInfo, MinidumpMemory64List, MinidumpMemoryInfoList,
     MinidumpMemoryList, MinidumpMiscInfo, MinidumpModuleList, MinidumpSoftErrors, MinidumpStream,
     MinidumpSystemInfo, MinidumpThreadInfoList, MinidumpThreadList, MinidumpThreadNames,
-    MinidumpUnloadedModuleList, RawMiscInfo, StabilityReport, Steps, Told,
+    MinidumpUnloadedModuleList, RawMiscInfo, StabilityReport, Told,
 };
 use minidump_synth::{Section, SynthMinidump, zeroed};
-use std::alloc::Global;
+use std::alloc::{AllocError, Global};
 use std::test::Fail;
 
 const SYSTEM_INFO: u32 = 7;
@@ -126,29 +126,56 @@ fn system_dump(alloc: Global, endian: Endian, csd: &str) -> Result<Vec<u8>, Fail
     Ok(dump.finish()?)
 }
 
+// What a system information says: its service pack and its processor in words.
+fn words(system: &MinidumpSystemInfo) -> (Option<&str>, Option<&str>) {
+    (system.csd_version(), system.cpu_info())
+}
+
 #[test]
 fn reads_the_system_information(rt: HostRuntime) -> Result<(), Fail> {
     let alloc = rt.alloc();
+    let want = (Some("Service Pack 1"), Some("family 6 model 13 stepping 8"));
     for endian in BOTH {
         let bytes = system_dump(alloc, endian, "Service Pack 1")?;
-        let dump = Minidump::read(alloc, bytes.as_slice())?;
-        let mut steps = Steps::new();
-        let system: MinidumpSystemInfo = dump.get_stream_counted(alloc, &mut steps)?;
-        assert!(rt; steps.count() <= 8);
-        assert_eq!(rt; system.os, Os::Windows);
-        assert_eq!(rt; system.cpu, Cpu::X86_64);
+        let (system, steps): (MinidumpSystemInfo, u128) = counted_stream_of(alloc, &bytes)?;
+        assert!(rt; steps <= 8);
+        assert_eq!(rt; (system.os, system.cpu), (Os::Windows, Cpu::X86_64));
         assert_eq!(rt; system.raw.build_number, 19041);
-        assert_eq!(rt; system.csd_version(), Some("Service Pack 1"));
-        assert_eq!(rt; system.cpu_info(), Some("family 6 model 13 stepping 8"));
+        assert_eq!(rt; words(&system), want);
         let copy = system.try_clone(alloc)?;
         assert_eq!(rt; copy.raw, system.raw);
-        assert_eq!(rt; copy.csd_version(), Some("Service Pack 1"));
-        let (version, build) = copy.os_parts(alloc)?;
+        assert_eq!(rt; words(&copy), want);
+    }
+    Ok(())
+}
+
+#[test]
+fn tells_the_version_and_the_build(rt: HostRuntime) -> Result<(), Fail> {
+    let alloc = rt.alloc();
+    for endian in BOTH {
+        let bytes = system_dump(alloc, endian, "Service Pack 1")?;
+        let system: MinidumpSystemInfo = stream_of(alloc, &bytes)?;
+        let (version, build) = system.os_parts(alloc)?;
         assert_eq!(rt; version.as_str(), "10.0.19041");
         assert_eq!(rt; build.as_ref().map(|t| t.as_str()), Some("Service Pack 1"));
-        let mut f = Told::new(Vec::new(alloc));
-        system.print(alloc, &mut f)?;
-        assert_eq!(rt; f.into_device().as_slice(), SYSTEM_TEXT.as_bytes());
+    }
+    Ok(())
+}
+
+// The printed text of a dump's system information.
+fn system_text(alloc: Global, bytes: &[u8]) -> Result<Vec<u8>, Error> {
+    let system: MinidumpSystemInfo = stream_of(alloc, bytes)?;
+    let mut f = Told::new(Vec::new(alloc));
+    system.print(alloc, &mut f)?;
+    Ok(f.into_device())
+}
+
+#[test]
+fn prints_the_system_information(rt: HostRuntime) -> Result<(), Fail> {
+    for endian in BOTH {
+        let bytes = system_dump(rt.alloc(), endian, "Service Pack 1")?;
+        let text = system_text(rt.alloc(), &bytes)?;
+        assert_eq!(rt; text.as_slice(), SYSTEM_TEXT.as_bytes());
     }
     Ok(())
 }
@@ -160,24 +187,20 @@ fn has_no_service_pack_at_the_beginning(rt: HostRuntime) -> Result<(), Fail> {
     let mut dump = SynthMinidump::new(alloc, Endian::Little);
     dump.add_stream(SYSTEM_INFO, &windows());
     let bytes = dump.finish()?;
-    let dump = Minidump::read(alloc, bytes.as_slice())?;
-    let system: MinidumpSystemInfo = dump.get_stream(alloc)?;
+    let system: MinidumpSystemInfo = stream_of(alloc, &bytes)?;
     assert_eq!(rt; system.csd_version(), None);
-    assert_eq!(rt; system.os_parts(alloc)?.1.is_none(), true);
+    assert!(rt; system.os_parts(alloc)?.1.is_none());
     Ok(())
 }
 
 #[test]
 fn keeps_a_dump_whose_system_is_refused(rt: HostRuntime) -> Result<(), Fail> {
     let alloc = rt.alloc();
-    let mut dump = SynthMinidump::new(alloc, Endian::Little);
-    dump.add_stream(SYSTEM_INFO, &[0u8; 55]);
-    let bytes = dump.finish()?;
-    let dump = Minidump::read(alloc, bytes.as_slice())?;
-    let system: Result<MinidumpSystemInfo, Error> = dump.get_stream(alloc);
-    assert_eq!(rt; system.err(), Some(Error::StreamReadFailure));
-    let misc: Result<MinidumpMiscInfo, Error> = dump.get_stream(alloc);
-    assert_eq!(rt; misc.err(), Some(Error::StreamNotFound));
+    let bytes = dump_of(alloc, SYSTEM_INFO, &[0; 55])?;
+    let system = error_of::<MinidumpSystemInfo>(alloc, &bytes);
+    assert_eq!(rt; system, Some(Error::StreamReadFailure));
+    let misc = error_of::<MinidumpMiscInfo>(alloc, &bytes);
+    assert_eq!(rt; misc, Some(Error::StreamNotFound));
     Ok(())
 }
 
@@ -200,8 +223,7 @@ fn add_misc(dump: &mut SynthMinidump, whole: &[u8], length: usize) {
 // The process of a misc information of some length, and whether each later layout is there, by a field.
 fn layout_at(alloc: Global, length: usize) -> Result<(Option<u32>, [bool; 4]), Fail> {
     let bytes = misc_dump(alloc, length, 0xffff_ffff)?;
-    let dump = Minidump::read(alloc, bytes.as_slice())?;
-    let misc: MinidumpMiscInfo = dump.get_stream(alloc)?;
+    let misc: MinidumpMiscInfo = stream_of(alloc, &bytes)?;
     Ok((misc.raw.process_id().copied(), later_layouts(&misc.raw)))
 }
 
@@ -234,24 +256,28 @@ fn chooses_the_layout_by_the_length(rt: HostRuntime) -> Result<(), Fail> {
         assert_eq!(rt; there, later, "at {length}");
     }
     let bytes = misc_dump(alloc, 23, 1)?;
-    let dump = Minidump::read(alloc, bytes.as_slice())?;
-    let misc: Result<MinidumpMiscInfo, Error> = dump.get_stream(alloc);
-    assert_eq!(rt; misc.err(), Some(Error::StreamReadFailure));
+    let error = error_of::<MinidumpMiscInfo>(alloc, &bytes);
+    assert_eq!(rt; error, Some(Error::StreamReadFailure));
     Ok(())
+}
+
+// The printed text of a dump's misc information.
+fn misc_text(alloc: Global, bytes: &[u8]) -> Result<Vec<u8>, Error> {
+    let misc: MinidumpMiscInfo = stream_of(alloc, bytes)?;
+    let mut f = Told::new(Vec::new(alloc));
+    misc.print(alloc, &mut f)?;
+    Ok(f.into_device())
 }
 
 #[test]
 fn shows_absent_fields(rt: HostRuntime) -> Result<(), Fail> {
-    let alloc = rt.alloc();
-    let bytes = misc_dump(alloc, 24, 1)?;
-    let dump = Minidump::read(alloc, bytes.as_slice())?;
-    let misc: MinidumpMiscInfo = dump.get_stream(alloc)?;
+    let bytes = misc_dump(rt.alloc(), 24, 1)?;
+    let misc: MinidumpMiscInfo = stream_of(rt.alloc(), &bytes)?;
     assert_eq!(rt; misc.raw.process_id().copied(), Some(77));
     assert_eq!(rt; misc.process_create_time(), None);
     assert!(rt; misc.raw.processor_max_mhz().is_none());
-    let mut f = Told::new(Vec::new(alloc));
-    misc.print(alloc, &mut f)?;
-    assert_eq!(rt; f.into_device().as_slice(), SHORT_MISC_TEXT.as_bytes());
+    let text = misc_text(rt.alloc(), &bytes)?;
+    assert_eq!(rt; text.as_slice(), SHORT_MISC_TEXT.as_bytes());
     Ok(())
 }
 
@@ -294,16 +320,12 @@ fn whole_misc_dump(alloc: Global, endian: Endian) -> Result<Vec<u8>, Fail> {
 
 #[test]
 fn prints_the_misc_information(rt: HostRuntime) -> Result<(), Fail> {
-    let alloc = rt.alloc();
     for endian in BOTH {
-        let bytes = whole_misc_dump(alloc, endian)?;
-        let dump = Minidump::read(alloc, bytes.as_slice())?;
-        let misc: MinidumpMiscInfo = dump.get_stream(alloc)?;
+        let bytes = whole_misc_dump(rt.alloc(), endian)?;
+        let misc: MinidumpMiscInfo = stream_of(rt.alloc(), &bytes)?;
         assert_eq!(rt; misc.process_create_time(), Some(0xb105_4d2a));
-        let mut f = Told::new(Vec::new(alloc));
-        misc.print(alloc, &mut f)?;
-        let text = String::from_utf8(f.into_device()).map_err(|_| "no text")?;
-        assert_eq!(rt; text.as_str(), MISC_TEXT);
+        let text = misc_text(rt.alloc(), &bytes)?;
+        assert_eq!(rt; text.as_slice(), MISC_TEXT.as_bytes());
     }
     Ok(())
 }
@@ -341,33 +363,33 @@ fn types_of_streams_have_their_numbers(rt: HostRuntime) -> Result<(), Fail> {
     Ok(())
 }
 
-// A report whose nested message is cut off inside a field, and one of one process, by its id.
+fn report_dump(alloc: Global, endian: Endian, report: &[u8]) -> Result<Vec<u8>, AllocError> {
+    let mut dump = SynthMinidump::new(alloc, endian);
+    dump.add_stream(STABILITY_REPORT, &report);
+    dump.finish()
+}
+
+// One process, by its id.
 #[test]
 fn reads_the_stability_report(rt: HostRuntime) -> Result<(), Fail> {
-    let alloc = rt.alloc();
     for endian in BOTH {
-        let mut dump = SynthMinidump::new(alloc, endian);
-        dump.add_stream(
-            STABILITY_REPORT,
-            &[0x12, 0x04, 0x18, 0xec, 0x76, 0x22, 0x00],
-        );
-        let bytes = dump.finish()?;
-        let dump = Minidump::read(alloc, bytes.as_slice())?;
-        assert!(rt;
-            matches!(
-                dump.get_stream::<StabilityReport>(alloc),
-                Err(Error::DataError)
-            )
-        );
-        let mut dump = SynthMinidump::new(alloc, endian);
-        dump.add_stream(STABILITY_REPORT, &[0x12, 0x03, 0x18, 0xec, 0x76]);
-        let bytes = dump.finish()?;
-        let dump = Minidump::read(alloc, bytes.as_slice())?;
-        let mut steps = Steps::new();
-        let report: StabilityReport = dump.get_stream_counted(alloc, &mut steps)?;
-        assert_eq!(rt; steps.count(), 3);
+        let bytes = report_dump(rt.alloc(), endian, &[0x12, 0x03, 0x18, 0xec, 0x76])?;
+        let (report, steps): (StabilityReport, u128) = counted_stream_of(rt.alloc(), &bytes)?;
+        assert_eq!(rt; steps, 3);
         assert_eq!(rt; report.process_states.len(), 1);
         assert_eq!(rt; report.process_states[0].process_id, Some(15212));
+    }
+    Ok(())
+}
+
+// The nested message is cut off inside a field.
+#[test]
+fn a_cut_stability_report_is_an_error(rt: HostRuntime) -> Result<(), Fail> {
+    for endian in BOTH {
+        let report = [0x12, 0x04, 0x18, 0xec, 0x76, 0x22, 0x00];
+        let bytes = report_dump(rt.alloc(), endian, &report)?;
+        let error = error_of::<StabilityReport>(rt.alloc(), &bytes);
+        assert_eq!(rt; error, Some(Error::DataError));
     }
     Ok(())
 }
