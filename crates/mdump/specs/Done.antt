@@ -5,7 +5,7 @@ use Rattle.std.specs.Result.{result_ok}
 use Rattle.minidump_bytes.specs.declared.told.Told.{Told}
 use Rattle.minidump_bytes.specs.Told.{PutsAll, PutsBeginning, has_failed}
 use Rattle.minidump_format.specs.declared.error.Error.{Error}
-use Rattle.minidump_format.specs.declared.error.Error.TheVariants.{OutOfMemory}
+use Rattle.minidump_format.specs.declared.error.Error.TheVariants.{IoError, OutOfMemory}
 use Rattle.minidump_format.specs.Error.{refusal_name}
 use Rattle.minidump_format.specs.declared.format.stream_type.MINIDUMP_STREAM_TYPE.TheVariants.{LinuxMaps, MemoryInfoListStream, ModuleListStream}
 use Rattle.minidump_format.specs.StreamType.{number_of}
@@ -93,6 +93,14 @@ abbrev pub Writes : {D : Type 0} → (List ℕ → Type 0) → (D → Option (Li
 Writes IsText contents old new (Ok _) = TookAll IsText contents old new
 Writes IsText contents old new (Err _) = TookBeginning IsText contents old new
 
+-- an error behind the read of the file: the output failed, or memory ran out
+abbrev pub IsOutputRefusal : {D : Type 0} → Told D → Error → Type 0
+IsOutputRefusal new e = ((e ≡ IoError) × (has_failed new ≡ true)) ⊎ (e ≡ OutOfMemory)
+
+-- behind an error the output is as it was, unless it failed or memory ran out
+abbrev pub AccountsFor : {D : Type 0} → Told D → Told D → Error → Type 0
+AccountsFor old new e = (new ≡ old) ⊎ IsOutputRefusal new e
+
 -- the device took a text whole; or it has failed, and took a beginning of it
 abbrev pub IsTold : {D : Type 0} → (D → Option (List ℕ)) → Told D → Told D → List ℕ → Type 0
 IsTold contents old new text = PutsAll contents old new text ⊎ (PutsBeginning contents old new text × (has_failed new ≡ true))
@@ -102,13 +110,14 @@ abbrev pub refusal_line : Error → List ℕ
 refusal_line e = refusal_name e ++ codes "\n"
 
 -- What a run of the program with these words wrote, by its status. 0: the output took what the words ask for. 1: there was a refusal,
--- whose name the errors took. 2: the words are no command, and the errors took the usage.
+-- whose name the errors took; the output is as it was, unless it failed or memory ran out. 2: the words are no command, and the errors took the usage.
 pub record IsRun {F O E : Type 0} (files : F → Option (List ℕ)) (output : O → Option (List ℕ)) (errors : E → Option (List ℕ))
     (words : List (List ℕ)) (out_old out_new : Told O) (err_old err_new : Told E) (status : ℕ) : Type 0 where
   pub known : status ≤ 2
   pub done : status ≡ 0 → TookAll (IsAnswer files words) output out_old out_new × (err_new ≡ err_old)
   pub refused : status ≡ 1
-      → TookBeginning (IsAnswer files words) output out_old out_new × ((e : Error) × IsPathRefusal files e × IsTold errors err_old err_new (refusal_line e))
+      → TookBeginning (IsAnswer files words) output out_old out_new
+      × ((e : Error) × IsPathRefusal files e × AccountsFor out_old out_new e × IsTold errors err_old err_new (refusal_line e))
   -- of no words only a failure of the output is refused
   pub shown : length words ≡ 0 → status ≡ 1 → has_failed out_new ≡ true
   pub usage : status ≡ 2 → (out_new ≡ out_old) × IsTold errors err_old err_new usage

@@ -2,7 +2,7 @@ ghost use Rattle.std.specs.Prelude.{◌≡◌, ◌⊎◌, IfErr, IfOk, string_by
 ghost use Rattle.std.specs.Option.{option_and_then, option_copied, option_map};
 ghost use Rattle.minidump_memory.specs.UnifiedInfo.{info_list, info_region, info_region_range, info_regions};
 ghost use Rattle.minidump.specs.Seen.{dump_of};
-ghost use Rattle.mdump.specs.Done.{IsInfoLine, Writes, info_of_dump};
+ghost use Rattle.mdump.specs.Done.{IsInfoLine, IsOutputRefusal, Writes, info_of_dump};
 ghost use Rattle.mdump.specs.Lines.{IsAt, info_line};
 
 use crate::list::readable;
@@ -23,7 +23,7 @@ pub(crate) fn info_line<O: Write>(
     out: &mut Told<O>,
 ) -> Result<(), Error>
     ensures written { Writes (IsInfoLine (dump_of dump.now) address) O.contents out.old out.new result }
-    ensures refusal { IfErr result (λ e. (e ≡ Error.IoError) ⊎ (e ≡ Error.OutOfMemory)) }
+    ensures refusal { IfErr result (IsOutputRefusal out.new) }
 {
     let infos = information(dump, alloc)?;
     let found = info_at(infos.as_ref(), address);

@@ -3,7 +3,7 @@ ghost use Rattle.std.specs.Option.{option_copied, option_map};
 ghost use Rattle.minidump_memory.specs.Memory.{region_range};
 ghost use Rattle.minidump_memory.specs.Unified.{unified_list, unified_region, unified_regions};
 ghost use Rattle.minidump.specs.Seen.{dump_of};
-ghost use Rattle.mdump.specs.Done.{IsMemoryLine, Writes};
+ghost use Rattle.mdump.specs.Done.{IsMemoryLine, IsOutputRefusal, Writes};
 ghost use Rattle.mdump.specs.Lines.{IsAt, memory_line, region_line};
 
 use minidump::{Error, Minidump, Told, UnifiedMemory, UnifiedMemoryList};
@@ -20,7 +20,7 @@ pub(crate) fn memory_line<O: Write>(
     out: &mut Told<O>,
 ) -> Result<(), Error>
     ensures written { Writes (IsMemoryLine (dump_of dump.now) address) O.contents out.old out.new result }
-    ensures refusal { IfErr result (λ e. (e ≡ Error.IoError) ⊎ (e ≡ Error.OutOfMemory)) }
+    ensures refusal { IfErr result (IsOutputRefusal out.new) }
 {
     let memory = dump.get_memory(alloc)?;
     let found = memory_at(memory.as_ref(), address);

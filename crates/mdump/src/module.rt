@@ -3,7 +3,7 @@ ghost use Rattle.std.specs.Option.{option_copied, option_map};
 ghost use Rattle.minidump_modules.specs.Module.{module_of, value_range};
 ghost use Rattle.minidump_modules.specs.ModuleList.{module_values};
 ghost use Rattle.minidump.specs.Seen.{dump_of};
-ghost use Rattle.mdump.specs.Done.{IsModuleLine, Writes};
+ghost use Rattle.mdump.specs.Done.{IsModuleLine, IsOutputRefusal, Writes};
 ghost use Rattle.mdump.specs.Lines.{IsAt, module_line};
 
 use crate::list::readable;
@@ -21,7 +21,7 @@ pub(crate) fn module_line<O: Write>(
     out: &mut Told<O>,
 ) -> Result<(), Error>
     ensures written { Writes (IsModuleLine (dump_of dump.now) address) O.contents out.old out.new result }
-    ensures refusal { IfErr result (λ e. (e ≡ Error.IoError) ⊎ (e ≡ Error.OutOfMemory)) }
+    ensures refusal { IfErr result (IsOutputRefusal out.new) }
 {
     let modules = readable::<MinidumpModuleList>(dump, alloc)?;
     let found = module_at(modules.as_ref(), address);

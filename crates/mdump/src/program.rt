@@ -4,7 +4,7 @@ ghost use Rattle.minidump_format.specs.Print.{Prints};
 ghost use Rattle.minidump.specs.File.{IsPathRefusal};
 ghost use Rattle.minidump.specs.Seen.{dump_of};
 ghost use Rattle.mdump.specs.Command.{IsCommand};
-ghost use Rattle.mdump.specs.Done.{AreLastLines, AreLines, AreLinesOf, IsAnswer, IsDirectoryText, IsRun, IsTextOf, IsTold, Writes, refusal_line, usage};
+ghost use Rattle.mdump.specs.Done.{AccountsFor, AreLastLines, AreLines, AreLinesOf, IsAnswer, IsDirectoryText, IsOutputRefusal, IsRun, IsTextOf, IsTold, Writes, refusal_line, usage};
 
 use crate::command::Command;
 use crate::info::info_line;
@@ -54,6 +54,7 @@ fn answered<R: Files + AllocGlobal, O: Write>(
 ) -> Option<Result<(), Error>>
     ensures written { IfSome result (Writes (IsAnswer R.File.remaining (map string_bytes words.now)) O.contents out.old out.new) }
     ensures refusal { IfSome result (λ r. IfErr r (IsPathRefusal R.File.remaining)) }
+    ensures accounted { IfSome result (λ r. IfErr r (AccountsFor out.old out.new)) }
     ensures shown { length words.now ≡ 0 → IfSome result (λ r. OnErr r (has_failed out.new ≡ true)) }
     ensures asked { IfSome result
         (λ _. (0 < length words.now) → ¬ (IsCommand (map string_bytes words.now)) → ⊥) }
@@ -74,6 +75,7 @@ fn obey<R: Files + AllocGlobal, O: Write>(
 ) -> Result<(), Error>
     ensures written { Writes (IsTextOf R.File.remaining command.entry) O.contents out.old out.new result }
     ensures refusal { IfErr result (IsPathRefusal R.File.remaining) }
+    ensures accounted { IfErr result (AccountsFor out.old out.new) }
 {
     match command {
         Command::Dir(path) => dir(rt, path, out),
@@ -84,6 +86,7 @@ fn obey<R: Files + AllocGlobal, O: Write>(
 fn dir<R: Files + AllocGlobal, O: Write>(rt: &R, path: &str, out: &mut Told<O>) -> Result<(), Error>
     ensures written { Writes (IsDirectoryText R.File.remaining) O.contents out.old out.new result }
     ensures refusal { IfErr result (IsPathRefusal R.File.remaining) }
+    ensures accounted { IfErr result (AccountsFor out.old out.new) }
 {
     let alloc = rt.alloc();
     let mut bytes = Vec::new(alloc);
@@ -99,6 +102,7 @@ fn at<R: Files + AllocGlobal, O: Write>(
 ) -> Result<(), Error>
     ensures written { Writes (AreLines R.File.remaining address) O.contents out.old out.new result }
     ensures refusal { IfErr result (IsPathRefusal R.File.remaining) }
+    ensures accounted { IfErr result (AccountsFor out.old out.new) }
 {
     let alloc = rt.alloc();
     let mut bytes = Vec::new(alloc);
@@ -114,7 +118,7 @@ fn lines<O: Write>(
     out: &mut Told<O>,
 ) -> Result<(), Error>
     ensures written { Writes (AreLinesOf (dump_of dump.now) address) O.contents out.old out.new result }
-    ensures refusal { IfErr result (λ e. (e ≡ Error.IoError) ⊎ (e ≡ Error.OutOfMemory)) }
+    ensures refusal { IfErr result (IsOutputRefusal out.new) }
 {
     memory_line(dump, alloc, address, out)?;
     last_lines(dump, alloc, address, out)
@@ -128,7 +132,7 @@ fn last_lines<O: Write>(
     out: &mut Told<O>,
 ) -> Result<(), Error>
     ensures written { Writes (AreLastLines (dump_of dump.now) address) O.contents out.old out.new result }
-    ensures refusal { IfErr result (λ e. (e ≡ Error.IoError) ⊎ (e ≡ Error.OutOfMemory)) }
+    ensures refusal { IfErr result (IsOutputRefusal out.new) }
 {
     module_line(dump, alloc, address, out)?;
     info_line(dump, alloc, address, out)
