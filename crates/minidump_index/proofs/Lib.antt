@@ -1,4 +1,5 @@
 -- The lemmas of this crate.
+pub mod Answered
 pub mod Apart
 pub mod DigitsLemmas
 pub mod Exists
