@@ -12,7 +12,6 @@ pub use Rattle.minidump_records.specs.BootArgs
 pub use Rattle.minidump_records.specs.SoftErrors
 pub use Rattle.minidump_records.specs.LinuxPairs
 pub use Rattle.minidump_records.specs.LinuxTexts
-pub use Rattle.minidump_records.specs.Alone
 pub use Rattle.minidump_records.specs.Handles
 pub use Rattle.minidump_records.specs.ObjectChain
 pub use Rattle.minidump_records.specs.MacRecord

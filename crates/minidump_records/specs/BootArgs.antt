@@ -1,6 +1,6 @@
 -- The arguments of macOS's boot: Mozilla's MDRawMacBootargs.
-use Rattle.std.specs.Prelude.{ℕ, List, length, Option, Some, None, Result, Ok, Err, nat_le, if◌then◌else◌, string_bytes}
-use Rattle.std.specs.Option.{option_map}
+use Rattle.std.specs.Prelude.{ℕ, List, length, Option, Result, Ok, nat_le, if◌then◌else◌, string_bytes}
+use Rattle.std.specs.Option.{ok_or, option_map, option_or}
 use Rattle.minidump_bytes.specs.declared.endian.Endian.{Endian}
 use Rattle.minidump_bytes.specs.Layout.{Layout}
 use Rattle.minidump_bytes.specs.Number.{number_at}
@@ -10,6 +10,7 @@ use Rattle.minidump_format.specs.declared.error.Error.{Error}
 use Rattle.minidump_format.specs.declared.error.Error.TheVariants.{StreamReadFailure}
 use Rattle.minidump_format.specs.declared.format.mac.MINIDUMP_MAC_BOOTARGS.{MINIDUMP_MAC_BOOTARGS}
 use Rattle.minidump_format.specs.Mac.{mac_boot_args}
+use Rattle.minidump_system.specs.Reads.{and_then}
 use Rattle.minidump_records.specs.declared.boot_args.MinidumpMacBootargs.{MinidumpMacBootargs}
 use Rattle.minidump_records.specs.declared.boot_args.ShortBootArgs.{ShortBootArgs}
 
@@ -34,21 +35,14 @@ short_boot_args = record {
 abbrev widened : ShortBootArgs → MINIDUMP_MAC_BOOTARGS
 widened short = record { stream_type = short.stream_type; bootargs = short.bootargs }
 
-abbrev in_either_form : Option MINIDUMP_MAC_BOOTARGS → Option ShortBootArgs → Option MINIDUMP_MAC_BOOTARGS
-in_either_form (Some raw) short = Some raw
-in_either_form None short = option_map widened short
-
 -- the record: the long form where the bytes hold it, else the short form
 abbrev pub boot_args_record : Endian → List ℕ → Option MINIDUMP_MAC_BOOTARGS
-boot_args_record order bytes = in_either_form (record_at mac_boot_args order 0 bytes) (record_at short_boot_args order 0 bytes)
-
-abbrev with_text : Endian → List ℕ → Option MINIDUMP_MAC_BOOTARGS → Result BootArgs Error
-with_text order file None = Err StreamReadFailure
-with_text order file (Some raw) = Ok (record { raw = raw; text = text16 order raw.bootargs file })
+boot_args_record order bytes = option_or (record_at mac_boot_args order 0 bytes) (option_map widened (record_at short_boot_args order 0 bytes))
 
 -- Mozilla's MDRawMacBootargs: a record, and the text at its RVA, which may be none
 abbrev pub boot_args : List ℕ → List ℕ → Endian → Result BootArgs Error
-boot_args bytes file order = with_text order file (boot_args_record order bytes)
+boot_args bytes file order =
+    and_then (ok_or (boot_args_record order bytes) StreamReadFailure) (λ raw. Ok (record { raw = raw; text = text16 order raw.bootargs file }))
 
 -- how much is read: the long form, then the short one where that isn't there, and the text
 abbrev pub boot_args_reads : List ℕ → ℕ

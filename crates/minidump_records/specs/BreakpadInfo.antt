@@ -1,11 +1,13 @@
 -- Which threads wrote a dump and asked for it: Breakpad's MDRawBreakpadInfo.
-use Rattle.std.specs.Prelude.{ℕ, ◌==◌, List, Option, Some, None, Result, Ok, Err, bit_and, if◌then◌else◌}
+use Rattle.std.specs.Prelude.{ℕ, ◌==◌, List, Option, Some, None, Result, Ok, bit_and, if◌then◌else◌}
+use Rattle.std.specs.Option.{ok_or}
 use Rattle.minidump_bytes.specs.declared.endian.Endian.{Endian}
 use Rattle.minidump_bytes.specs.Span.{record_at}
 use Rattle.minidump_format.specs.declared.error.Error.{Error}
 use Rattle.minidump_format.specs.declared.error.Error.TheVariants.{StreamReadFailure}
 use Rattle.minidump_format.specs.declared.format.breakpad.MINIDUMP_BREAKPAD_INFO.{MINIDUMP_BREAKPAD_INFO}
 use Rattle.minidump_format.specs.Breakpad.{breakpad_info}
+use Rattle.minidump_system.specs.Reads.{and_then}
 use Rattle.minidump_records.specs.declared.breakpad_info.MinidumpBreakpadInfo.{MinidumpBreakpadInfo}
 
 -- a field, where its flag is set
@@ -20,10 +22,6 @@ breakpad_of raw = record {
   requesting_thread_id = where_valid raw.validity 2 raw.requesting_thread_id;
 }
 
-abbrev where_read : Option MINIDUMP_BREAKPAD_INFO → Result MinidumpBreakpadInfo Error
-where_read None = Err StreamReadFailure
-where_read (Some raw) = Ok (breakpad_of raw)
-
 -- Breakpad's MDRawBreakpadInfo: a record
 abbrev pub breakpad_info_in : List ℕ → Endian → Result MinidumpBreakpadInfo Error
-breakpad_info_in bytes order = where_read (record_at breakpad_info order 0 bytes)
+breakpad_info_in bytes order = and_then (ok_or (record_at breakpad_info order 0 bytes) StreamReadFailure) (λ raw. Ok (breakpad_of raw))

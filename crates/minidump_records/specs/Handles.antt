@@ -1,5 +1,5 @@
 -- The open handles of a process: Microsoft's MINIDUMP_HANDLE_DATA_STREAM.
-use Rattle.std.specs.Prelude.{ℕ, ◌+◌, ◌==◌, List, length, Option, Some, None, Result, Ok, Err, map, string_bytes, if◌then◌else◌}
+use Rattle.std.specs.Prelude.{ℕ, ◌+◌, ◌==◌, List, length, Option, Some, None, Result, Ok, map, string_bytes, if◌then◌else◌}
 use Rattle.std.specs.List.{filter_map}
 use Rattle.std.specs.Option.{option_map, unwrap_or}
 use Rattle.minidump_bytes.specs.declared.endian.Endian.{Endian}
@@ -8,6 +8,7 @@ use Rattle.minidump_format.specs.declared.error.Error.{Error}
 use Rattle.minidump_system.specs.declared.framing.HandleEntries.{HandleEntries}
 use Rattle.minidump_system.specs.declared.framing.HandleEntries.TheVariants.{Short, Long}
 use Rattle.minidump_system.specs.Framing.{handle_list}
+use Rattle.minidump_system.specs.Reads.{and_then}
 use Rattle.minidump_records.specs.declared.handles.data_stream.MinidumpHandleDataStream.{MinidumpHandleDataStream}
 use Rattle.minidump_records.specs.declared.handles.descriptor.MinidumpHandleDescriptor.{MinidumpHandleDescriptor}
 use Rattle.minidump_records.specs.declared.handles.information.MinidumpHandleObjectInformation.{MinidumpHandleObjectInformation}
@@ -112,10 +113,6 @@ abbrev pub all_described : Endian → List ℕ → HandleEntries → List Handle
 all_described order file (Short raws) = map (λ r. described order file (HandleDescriptor r)) raws
 all_described order file (Long raws) = map (λ r. described order file (HandleDescriptor2 r)) raws
 
-abbrev listed : Endian → List ℕ → Result HandleEntries Error → Result (List Handle) Error
-listed order file (Err e) = Err e
-listed order file (Ok list) = Ok (all_described order file list)
-
 -- Microsoft's MINIDUMP_HANDLE_DATA_STREAM: a handle list
 abbrev pub handle_data : List ℕ → List ℕ → Endian → Result (List Handle) Error
-handle_data bytes file order = listed order file (handle_list order bytes)
+handle_data bytes file order = and_then (handle_list order bytes) (λ list. Ok (all_described order file list))

@@ -14,7 +14,6 @@ pub mod BootArgs
 pub mod SoftErrors
 pub mod LinuxPairs
 pub mod LinuxTexts
-pub mod Alone
 pub mod ObjectChain
 pub mod OneChain
 pub mod Handles

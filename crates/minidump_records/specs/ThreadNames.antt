@@ -1,5 +1,5 @@
 -- The names of threads: Microsoft's MINIDUMP_THREAD_NAME_LIST.
-use Rattle.std.specs.Prelude.{ℕ, ◌^◌, ◌==◌, List, map, reverse, Option, Result, Ok, Err, string_bytes}
+use Rattle.std.specs.Prelude.{ℕ, ◌^◌, ◌==◌, List, map, reverse, Option, Result, Ok, string_bytes}
 use Rattle.std.specs.List.{filter_map, range_with_len}
 use Rattle.std.specs.Map.{lookup}
 use Rattle.std.specs.Option.{option_map}
@@ -9,6 +9,7 @@ use Rattle.minidump_format.specs.declared.error.Error.{Error}
 use Rattle.minidump_format.specs.declared.format.thread.MINIDUMP_THREAD_NAME.{MINIDUMP_THREAD_NAME}
 use Rattle.minidump_format.specs.Thread.{thread_name}
 use Rattle.minidump_system.specs.Framing.{plain_list}
+use Rattle.minidump_system.specs.Reads.{and_then}
 use Rattle.minidump_records.specs.declared.thread_names.MinidumpThreadNames.{MinidumpThreadNames}
 
 -- the id of a thread and its name, in UTF-8
@@ -31,14 +32,9 @@ last_name names id = lookup (λ t. t == id) (reverse names)
 unfoldable pub last_names : ℕ → List ThreadName → List ThreadName
 last_names limit names = filter_map (λ id. option_map (λ name. (id, name)) (last_name names id)) (range_with_len 0 limit)
 
--- the names of entries, of which one that is no text does not count
-abbrev pub names_in : Endian → List ℕ → Result (List MINIDUMP_THREAD_NAME) Error → Result (List ThreadName) Error
-names_in order file (Err e) = Err e
-names_in order file (Ok raws) = Ok (last_names (2 ^ 32) (filter_map (named order file) raws))
-
--- Microsoft's MINIDUMP_THREAD_NAME_LIST: a plain list of entries
+-- Microsoft's MINIDUMP_THREAD_NAME_LIST: a plain list of entries, of which one whose name is no text does not count
 abbrev pub thread_names : List ℕ → List ℕ → Endian → Result (List ThreadName) Error
-thread_names bytes file order = names_in order file (plain_list thread_name order bytes)
+thread_names bytes file order = and_then (plain_list thread_name order bytes) (λ raws. Ok (last_names (2 ^ 32) (filter_map (named order file) raws)))
 
 -- the name of a thread, of several the first
 abbrev pub name_at : List ThreadName → ℕ → Option (List ℕ)

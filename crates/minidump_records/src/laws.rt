@@ -3,9 +3,9 @@ ghost use Rattle.std.specs.Prelude.{◌≡◌, ◌≢◌, ◌↔◌, ◌<◌, �
 ghost use Rattle.std.specs.List.{filter_map};
 ghost use Rattle.minidump_bytes.specs.declared.endian.Endian.{Endian};
 ghost use Rattle.minidump_format.specs.declared.format.crashpad.MINIDUMP_ANNOTATION.{MINIDUMP_ANNOTATION};
+ghost use Rattle.minidump_system.specs.Meaning.{DependsOnItsBytesAlone};
 ghost use Rattle.minidump_records.specs.declared.thread_info.MinidumpThreadInfo.{MinidumpThreadInfo};
 ghost use Rattle.minidump_records.specs.declared.breakpad_info.MinidumpBreakpadInfo.{MinidumpBreakpadInfo};
-ghost use Rattle.minidump_records.specs.Alone.{DependsOnItsBytesAlone};
 ghost use Rattle.minidump_records.specs.Annotation.{Annotation, AreSame, unsupported, user_defined};
 ghost use Rattle.minidump_records.specs.Dictionary.{dictionary_of};
 ghost use Rattle.minidump_records.specs.Handles.{chain_offsets, object_chain};
