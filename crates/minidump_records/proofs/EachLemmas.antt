@@ -34,13 +34,13 @@ each-refused read i n vs e lt before one =
     rw so at (stays read (suc i) (n - suc i) e here)
 
 -- a refusal of a part is that of the whole, where the part's refusal is the whole's
-refused : {A B : Type 0} (e : Error) (part : Result A Error) (whole : Result B Error) → (part ≡ Err e → whole ≡ Err e) → Refuses ⊤ e part → Refuses ⊤ e whole
-refused OutOfMemory part whole rule h = h
-refused e part whole rule h = rule h
+refused : {A B : Type 0} (memory : Type 0) (e : Error) (part : Result A Error) (whole : Result B Error) → (part ≡ Err e → whole ≡ Err e) → Refuses memory e part → Refuses ⊤ e whole
+refused memory OutOfMemory part whole rule h = tt
+refused memory e part whole rule h = rule h
 
-pub gives_exit : {X A B : Type 0} (view : X → B) (r : Result X Error) (e : Error) (part : Result A Error) (whole : Result B Error) → IsErrAnd r (λ y. y ≡ e) → Refuses ⊤ e part
+pub gives_exit : {X A B : Type 0} (memory : Type 0) (view : X → B) (r : Result X Error) (e : Error) (part : Result A Error) (whole : Result B Error) → IsErrAnd r (λ y. y ≡ e) → Refuses memory e part
     → (part ≡ Err e → whole ≡ Err e) → Gives view ⊤ r whole
-gives_exit view r e part whole exit refusal rule = let p = err_from_is_err_and r exit in rw (p.1, p.2) (refused e part whole rule refusal)
+gives_exit memory view r e part whole exit refusal rule = let p = err_from_is_err_and r exit in rw (p.1, p.2) (refused memory e part whole rule refusal)
 
 refuses : {B : Type 0} (e : Error) (whole : Result B Error) → whole ≡ Err e → Refuses ⊤ e whole
 refuses OutOfMemory whole h = tt

@@ -1,5 +1,5 @@
 -- Crashpad's MinidumpCrashpadInfo and MinidumpModuleCrashpadInfo: what they know of a process and of its modules.
-use Rattle.std.specs.Prelude.{ℕ, ◌+◌, ◌==◌, List, Result, Ok, Err, map, string_bytes, if◌then◌else◌}
+use Rattle.std.specs.Prelude.{ℕ, ◌+◌, ◌==◌, IsSome, List, Result, Ok, Err, map, string_bytes, if◌then◌else◌}
 use Rattle.std.specs.List.{sum_by}
 use Rattle.std.specs.Option.{ok_or}
 use Rattle.minidump_bytes.specs.declared.endian.Endian.{Endian}
@@ -47,6 +47,10 @@ module_of m = record {
   simple_annotations = entries_of string_bytes m.simple_annotations.entries;
   annotation_objects = entries_of annotation_of m.annotation_objects.entries;
 }
+
+-- a link names a record in the file: without it no memory is taken
+abbrev pub HasModule : Endian → List ℕ → MINIDUMP_MODULE_CRASHPAD_INFO_LINK → Type 0
+HasModule order file link = IsSome (record_at module_crashpad_info order link.location.rva file)
 
 -- the information that a link names: its record, then its lists in the record's order
 unfoldable pub module_in : Endian → List ℕ → MINIDUMP_MODULE_CRASHPAD_INFO_LINK → Result Module Error

@@ -1,5 +1,5 @@
 -- Texts of a file and dictionaries: Crashpad's MinidumpUTF8String with its NUL, MinidumpSimpleStringDictionary and MinidumpAnnotationList.
-use Rattle.std.specs.Prelude.{ℕ, List, map, Result, Ok, string_bytes, String}
+use Rattle.std.specs.Prelude.{ℕ, IsOk, List, map, Result, Ok, string_bytes, String}
 use Rattle.std.specs.Global.{Global}
 use Rattle.std.specs.Option.{ok_or}
 use Rattle.minidump_bytes.specs.declared.endian.Endian.{Endian}
@@ -16,6 +16,10 @@ use Rattle.minidump_records.specs.Parts.{untested_list}
 -- the text at an RVA, which has a NUL behind it
 abbrev pub text_in : Endian → List ℕ → ℕ → Result (List ℕ) Error
 text_in order file rva = ok_or (text8_nul order rva file) StreamReadFailure
+
+-- an RVA has a text: without it no memory is taken
+abbrev pub HasText : Endian → List ℕ → ℕ → Type 0
+HasText order file rva = IsOk (text_in order file rva)
 
 -- a key and its value, by the entry that names both
 abbrev pub keyed : {E V : Type 0} → (E → ℕ) → (Endian → List ℕ → E → Result V Error) → Endian → List ℕ → E → Result (List ℕ × V) Error

@@ -90,13 +90,15 @@ pub(crate) struct Keyed<V> {
 
 impl<E, V: Valued<E>> Part<E> for Keyed<V> {
     ghost use Rattle.std.specs.Prelude.{ℕ, ◌+◌, List};
-    ghost use Rattle.minidump_records.specs.Dictionary.{keyed, pair_of};
+    ghost use Rattle.minidump_records.specs.Dictionary.{HasText, keyed, pair_of};
 
     ghost Value = { List ℕ × V.Value };
 
     ghost view = { pair_of V.view };
 
     ghost part = { keyed V.key V.part };
+
+    ghost memory = { λ order file e. HasText order file (V.key e) };
 
     ghost limit = { λ n. 2 };
 

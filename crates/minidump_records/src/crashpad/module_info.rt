@@ -1,6 +1,5 @@
-ghost use Rattle.std.specs.Prelude.{⊤};
 ghost use Rattle.minidump_format.specs.Answer.{Gives};
-ghost use Rattle.minidump_records.specs.CrashpadInfo.{module_in, module_of};
+ghost use Rattle.minidump_records.specs.CrashpadInfo.{HasModule, module_in, module_of};
 
 use super::MinidumpAnnotation;
 use super::dictionary::read_dictionary;
@@ -36,14 +35,14 @@ impl MinidumpModuleCrashpadInfo {
     ///
     /// Returns `StreamReadFailure` if a record, a location, a text or an entry is not in the file,
     /// `StreamSizeMismatch` if the list of texts counts more bytes of entries than the file has, and
-    /// `OutOfMemory` if an allocation fails.
+    /// `OutOfMemory` if an allocation fails; none is made before the record is read.
     pub fn read(
         alloc: Global,
         link: MINIDUMP_MODULE_CRASHPAD_INFO_LINK,
         all: &[u8],
         endian: Endian,
     ) -> Result<MinidumpModuleCrashpadInfo, Error>
-        ensures { Gives module_of ⊤ result (module_in endian all.now link) }
+        ensures { Gives module_of (HasModule endian all.now link) result (module_in endian all.now link) }
     {
         MinidumpModuleCrashpadInfo::read_part(
             alloc,
@@ -58,13 +57,15 @@ impl MinidumpModuleCrashpadInfo {
 /// A link of the list of modules names the information on one.
 impl Part<MINIDUMP_MODULE_CRASHPAD_INFO_LINK> for MinidumpModuleCrashpadInfo {
     ghost use Rattle.std.specs.Prelude.{◌+◌, ◌*◌};
-    ghost use Rattle.minidump_records.specs.CrashpadInfo.{Module, module_in, module_of, module_reads};
+    ghost use Rattle.minidump_records.specs.CrashpadInfo.{HasModule, Module, module_in, module_of, module_reads};
 
     ghost Value = { Module };
 
     ghost view = { module_of };
 
     ghost part = { module_in };
+
+    ghost memory = { HasModule };
 
     ghost limit = { λ n. 3 * n + 10 };
 

@@ -21,6 +21,9 @@ pub(crate) trait Part<E>: Sized {
     // the value or the error, by the byte order, the file's bytes and the entry
     ghost part: { Endian → List ℕ → E → Result Value Error };
 
+    // where a read may run out of memory, by the same
+    ghost memory: { Endian → List ℕ → E → Type 0 };
+
     // the most reads, by the file's length
     ghost limit: { ℕ → ℕ };
 
@@ -35,7 +38,7 @@ pub(crate) trait Part<E>: Sized {
         endian: Endian,
         steps: &mut Steps,
     ) -> Result<Self, Error>
-        ensures means { Gives view ⊤ result (part endian (bytes_of all.entry) entry.now) }
+        ensures means { Gives view (memory endian (bytes_of all.entry) entry.now) result (part endian (bytes_of all.entry) entry.now) }
         ensures within { steps.new ≤ steps.old + limit (length (bytes_of all.entry)) }
         ensures grows { steps.old ≤ steps.new }
         ensures at_least { IfOk result (λ p. after steps.old (least (view p)) ≤ steps.new) };

@@ -1,8 +1,8 @@
-ghost use Rattle.std.specs.Prelude.{◌+◌, ◌≤◌, ⊤, IfOk, string_bytes};
+ghost use Rattle.std.specs.Prelude.{◌+◌, ◌≤◌, IfOk, string_bytes};
 ghost use Rattle.minidump_bytes.specs.Source.{bytes_of};
 ghost use Rattle.minidump_bytes.specs.Steps.{after};
 ghost use Rattle.minidump_format.specs.Answer.{Gives};
-ghost use Rattle.minidump_records.specs.Dictionary.{text_in};
+ghost use Rattle.minidump_records.specs.Dictionary.{HasText, text_in};
 
 use super::part::Part;
 use minidump_bytes::{Endian, Source, Steps};
@@ -17,7 +17,7 @@ pub(crate) fn read_text(
     endian: Endian,
     steps: &mut Steps,
 ) -> Result<String, Error>
-    ensures means { Gives string_bytes ⊤ result (text_in endian (bytes_of all.entry) rva) }
+    ensures means { Gives string_bytes (HasText endian (bytes_of all.entry) rva) result (text_in endian (bytes_of all.entry) rva) }
     ensures within { steps.new ≤ steps.old + 1 }
     ensures begun { after steps.old 1 ≤ steps.new }
 {
@@ -30,13 +30,15 @@ pub(crate) fn read_text(
 /// An entry of a list of texts is the RVA of one.
 impl Part<u32> for String {
     ghost use Rattle.std.specs.Prelude.{ℕ, List, string_bytes};
-    ghost use Rattle.minidump_records.specs.Dictionary.{text_in};
+    ghost use Rattle.minidump_records.specs.Dictionary.{HasText, text_in};
 
     ghost Value = { List ℕ };
 
     ghost view = { string_bytes };
 
     ghost part = { text_in };
+
+    ghost memory = { HasText };
 
     ghost limit = { λ n. 1 };
 

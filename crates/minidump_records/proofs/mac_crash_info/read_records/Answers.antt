@@ -11,7 +11,7 @@ use Rattle.minidump_records.proofs.mac_crash_info.read_records.Goals.{in-Some+in
 
 pub returns-in_err-version-clause-means : goal.returns-in_err-version-clause-means
 returns-in_err-version-clause-means c =
-    gives_exit _ _ _ _ _ c.from_residual-in_err-version.ensures.1 c.in_err-version.ensures.means
+    gives_exit _ _ _ _ _ _ c.from_residual-in_err-version.ensures.1 c.in_err-version.ensures.means
     (λ h. left_refused c.args.endian (bytes_of c.args.all) c.args.start _ _ _ c.args.locations.now c.loop-location.location-index _ _ c.loop-location-test.true h c.loop-location.invariant.whole)
 
 pub loop-location-preserved : goal.loop-location-preserved

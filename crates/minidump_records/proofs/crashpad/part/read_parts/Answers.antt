@@ -29,7 +29,7 @@ returns-in_err-part-clause-means g c =
     let read = part_at g.E.Record.layout g.P.Part.part c.args.endian (bytes_of c.args.all) (bytes_of c.args.bytes) in
     let size : c.SIZE.result ≡ g.E.Record.layout.size = c.SIZE.ensures ∙ g.met.E.Record.fits.same in
     let entry = rw (c.record.ensures.value, size) at c.in_ok-entry.ensures.ok_part in
-    gives_exit _ _ _ _ _ c.from_residual-in_err-part.ensures.1 c.in_err-part.ensures.means
+    gives_exit _ _ _ _ _ _ c.from_residual-in_err-part.ensures.1 c.in_err-part.ensures.means
     (λ h. each-refused read c.loop-i.i c.args.count _ _ c.loop-i-test.true c.loop-i.invariant.parts
     (at_entry g.E.Record.layout g.P.Part.part c.args.endian (bytes_of c.args.all) (bytes_of c.args.bytes) c.loop-i.i _ _ entry h))
 
