@@ -1,18 +1,18 @@
 -- A line of the map means what its grammar says.
-use Rattle.std.proofs.Common.{◌≡◌, ◌≢◌, ◌↔◌, ℕ, ◌+◌, ◌^◌, ◌<◌, Bool, true, false, List, [], ◌∷◌, ◌++◌, length, Option, Some, None, refl, ap, sym, ◌∙◌, subst}
-use Rattle.std.specs.Prelude.{◌==◌, ◌&&◌, ◌||◌, nat_lt, if◌then◌else◌, slice_index}
+use Rattle.std.proofs.Common.{◌≡◌, ◌≢◌, ◌↔◌, ℕ, ◌+◌, Bool, true, false, List, [], ◌∷◌, ◌++◌, Option, Some, None, refl, ap, sym, ◌∙◌}
+use Rattle.std.specs.Prelude.{◌==◌, ◌||◌, if◌then◌else◌, slice_index}
 use Rattle.std.specs.List.{list_any}
 use Rattle.std.specs.Option.{option_map}
 use Rattle.std.specs.Str.{IsUtf8, is_utf8, trim}
-use Rattle.std.specs.Str.Parse.{digits_value}
-use Rattle.std.proofs.lemmas.Bool.{eq-eqb, eqb-true, lt-ltb, ltb-true, ne_eqb}
+use Rattle.std.proofs.lemmas.Bool.{eq-eqb, eqb-true, ne_eqb}
 use Rattle.std.proofs.lemmas.Str.{IsUtf8-from_is_utf8, is_utf8-from_IsUtf8}
 use Rattle.std.specs.List.{position_or_len}
 use Rattle.std.proofs.Common.{add-one, drop, one-add, take}
+use Rattle.minidump_bytes.proofs.DigitLemmas.{number_spells, spelled_number}
+use Rattle.minidump_bytes.specs.Digits.{number_of_digits}
 use Rattle.minidump_bytes.specs.LinuxOsStr.{cut_first}
 use Rattle.minidump_bytes.specs.Text8.{utf8_text}
-use Rattle.minidump_memory.specs.MapLine.{AreFields, AreTwo, IsCut, IsMapLine, IsNumber, Lacks, MapPath, MapRegion, all_digits, and_then, fields_in, is_capital, map_line, number, path_in, permissions, two_numbers}
-use Rattle.minidump_memory.proofs.MapTextLemmas.{both, digits_hold, digits_true}
+use Rattle.minidump_memory.specs.MapLine.{AreFields, AreTwo, IsCut, IsMapLine, Lacks, MapPath, MapRegion, and_then, fields_in, is_capital, map_line, path_in, permissions, two_numbers}
 
 -- ---- chains
 some_same : {A : Type 0} (x y : A) → Some x ≡ Some y → x ≡ y
@@ -21,25 +21,6 @@ some_same x y h = cc
 pub given : {A B : Type 0} (o : Option A) (f : A → Option B) (y : B) → and_then o f ≡ Some y → (x : A) × (o ≡ Some x) × (f x ≡ Some y)
 given None f y h = absurd (let k : None ≡ Some y = h in cc)
 given (Some x) f y h = (x, refl, h)
-
--- ---- numbers
-test_by : (t : Bool) (v n : ℕ) → (if t then Some v else None) ≡ Some n → (t ≡ true) × (v ≡ n)
-test_by true v n h = (refl, cc)
-test_by false v n h = absurd (let k : None ≡ Some n = h in cc)
-
-pub number_spells : (base bits : ℕ) (ds : List ℕ) (n : ℕ) → number base bits ds ≡ Some n → IsNumber base bits ds n
-unfolding number
-number_spells base bits ds n h =
-    let t = test_by (nat_lt 0 (length ds) && all_digits base ds && nat_lt (digits_value base ds) (2 ^ bits)) (digits_value base ds) n h in
-    let p = both (nat_lt 0 (length ds) && all_digits base ds) (nat_lt (digits_value base ds) (2 ^ bits)) t.0 in
-    let q = both (nat_lt 0 (length ds)) (all_digits base ds) p.0 in
-    record { numeral = (ltb-true _ _ q.0, digits_true base ds q.1); value = t.1; fits = subst (λ m. m < 2 ^ bits) t.1 (ltb-true _ _ p.1) }
-
-pub spelled_number : (base bits : ℕ) (ds : List ℕ) (n : ℕ) → IsNumber base bits ds n → number base bits ds ≡ Some n
-unfolding number
-spelled_number base bits ds n h =
-    let fits : digits_value base ds < 2 ^ bits = subst (λ m. m < 2 ^ bits) (sym h.value) h.fits in
-    rw (lt-ltb 0 (length ds) h.numeral.0, digits_hold base ds h.numeral.1, lt-ltb _ _ fits, h.value) refl
 
 -- ---- cuts
 abbrev chosen : Bool → ℕ → List ℕ → Option (List ℕ × List ℕ) → Option (List ℕ × List ℕ)
@@ -91,7 +72,7 @@ pub is_cut : (byte : ℕ) (bytes front back : List ℕ) → IsCut byte bytes fro
 is_cut byte bytes front back h = rw h.joined (cut_at byte front back h.lacks)
 
 -- ---- two numbers
-two_by : (byte bits : ℕ) (bytes first last : List ℕ) (m n : ℕ) (pair : ℕ × ℕ) → cut_first byte bytes ≡ Some (first, last) → number 16 bits first ≡ Some m → number 16 bits last ≡ Some n
+two_by : (byte bits : ℕ) (bytes first last : List ℕ) (m n : ℕ) (pair : ℕ × ℕ) → cut_first byte bytes ≡ Some (first, last) → number_of_digits 16 bits first ≡ Some m → number_of_digits 16 bits last ≡ Some n
     → Some (m, n) ≡ Some pair → AreTwo byte bits bytes pair
 two_by byte bits bytes first last m n pair is a b h =
     let same : (m, n) ≡ pair = cc in
@@ -101,8 +82,8 @@ pub two_spell : (byte bits : ℕ) (bytes : List ℕ) (pair : ℕ × ℕ) → two
 unfolding two_numbers
 two_spell byte bits bytes pair h =
     let p = given (cut_first byte bytes) _ pair h in
-    let m = given (number 16 bits p.0.0) _ pair p.2 in
-    let n = given (number 16 bits p.0.1) _ pair m.2 in
+    let m = given (number_of_digits 16 bits p.0.0) _ pair p.2 in
+    let n = given (number_of_digits 16 bits p.0.1) _ pair m.2 in
     two_by byte bits bytes p.0.0 p.0.1 m.0 n.0 pair p.1 m.1 n.1 n.2
 
 pub spelled_two : (byte bits : ℕ) (bytes : List ℕ) (pair : ℕ × ℕ) → AreTwo byte bits bytes pair → two_numbers byte bits bytes ≡ Some pair
@@ -116,7 +97,7 @@ made address perms offset dev inode kind = record { address = address; perms = p
 
 fields_by : (line : List ℕ) (range perms offset dev inode : List ℕ × List ℕ) (address : ℕ × ℕ) (place : ℕ) (device : ℕ × ℕ) (node : ℕ) (kind : MapPath) (m : MapRegion)
     → cut_first 32 line ≡ Some range → cut_first 32 range.1 ≡ Some perms → cut_first 32 perms.1 ≡ Some offset → cut_first 32 offset.1 ≡ Some dev → cut_first 32 dev.1 ≡ Some inode
-    → two_numbers 45 64 range.0 ≡ Some address → number 16 64 offset.0 ≡ Some place → two_numbers 58 32 dev.0 ≡ Some device → number 10 64 inode.0 ≡ Some node → path_in (trim inode.1) ≡ Some kind
+    → two_numbers 45 64 range.0 ≡ Some address → number_of_digits 16 64 offset.0 ≡ Some place → two_numbers 58 32 dev.0 ≡ Some device → number_of_digits 10 64 inode.0 ≡ Some node → path_in (trim inode.1) ≡ Some kind
     → Some (made address perms.0 place device node kind) ≡ Some m → AreFields line m
 fields_by line range perms offset dev inode address place device node kind m a b c d e f g h i j k =
     let same : made address perms.0 place device node kind ≡ m = cc in
@@ -153,9 +134,9 @@ fields_spell line m h =
     let dev = given (cut_first 32 offset.0.1) _ m offset.2 in
     let inode = given (cut_first 32 dev.0.1) _ m dev.2 in
     let address = given (two_numbers 45 64 range.0.0) _ m inode.2 in
-    let place = given (number 16 64 offset.0.0) _ m address.2 in
+    let place = given (number_of_digits 16 64 offset.0.0) _ m address.2 in
     let device = given (two_numbers 58 32 dev.0.0) _ m place.2 in
-    let node = given (number 10 64 inode.0.0) _ m device.2 in
+    let node = given (number_of_digits 10 64 inode.0.0) _ m device.2 in
     let kind = given (path_in (trim inode.0.1)) _ m node.2 in
     fields_by line range.0 perms.0 offset.0 dev.0 inode.0 address.0 place.0 device.0 node.0 kind.0 m range.1 perms.1 offset.1 dev.1 inode.1 address.1 place.1 device.1 node.1 kind.1 kind.2
 

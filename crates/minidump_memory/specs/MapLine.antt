@@ -1,10 +1,9 @@
 -- A line of /proc/PID/maps, as Linux's proc_pid_maps(5) has it: `first-last perms offset major:minor inode pathname`.
-use Rattle.std.specs.Prelude.{◌≡◌, ◌≢◌, ℕ, ◌+◌, ◌-◌, ◌^◌, ◌<◌, Bool, true, false, ◌&&◌, List, [], ◌∷◌, ◌++◌, length, codes, slice_index, slice_range, Option, Some, None, ◌==◌, nat_le, nat_lt, if◌then◌else◌}
-use Rattle.std.specs.Char.{digit_value}
+use Rattle.std.specs.Prelude.{◌≡◌, ◌≢◌, ℕ, ◌+◌, ◌-◌, Bool, false, ◌&&◌, List, ◌∷◌, ◌++◌, length, codes, slice_index, slice_range, Option, Some, None, ◌==◌, nat_le, if◌then◌else◌}
 use Rattle.std.specs.List.{AllByRecursion, list_any}
 use Rattle.std.specs.Option.{option_and_then, option_map}
 use Rattle.std.specs.Str.{IsUtf8, bytes_eq, trim}
-use Rattle.std.specs.Str.Parse.{IsNumeral, digits_value}
+use Rattle.minidump_bytes.specs.Digits.{IsNumber, number_of_digits}
 use Rattle.minidump_bytes.specs.LinuxOsStr.{behind, cut_first}
 use Rattle.minidump_bytes.specs.Text8.{utf8_text}
 
@@ -12,20 +11,10 @@ use Rattle.minidump_bytes.specs.Text8.{utf8_text}
 abbrev pub and_then : {A B : Type 0} → Option A → (A → Option B) → Option B
 and_then found next = option_and_then next found
 
-abbrev pub all_digits : ℕ → List ℕ → Bool
-all_digits base [] = true
-all_digits base (c ∷ cs) = nat_lt (digit_value c) base && all_digits base cs
-
--- the number of so many bits that one digit or more write, without a sign
-unfoldable pub number : ℕ → ℕ → List ℕ → Option ℕ
-number base bits digits =
-    if nat_lt 0 (length digits) && all_digits base digits && nat_lt (digits_value base digits) (2 ^ bits)
-    then Some (digits_value base digits) else None
-
 -- two hexadecimal numbers with a byte between them
 unfoldable pub two_numbers : ℕ → ℕ → List ℕ → Option (ℕ × ℕ)
 two_numbers byte bits bytes =
-    and_then (cut_first byte bytes) (λ p. and_then (number 16 bits p.0) (λ m. and_then (number 16 bits p.1) (λ n. Some (m, n))))
+    and_then (cut_first byte bytes) (λ p. and_then (number_of_digits 16 bits p.0) (λ m. and_then (number_of_digits 16 bits p.1) (λ n. Some (m, n))))
 
 abbrev bit_if : List ℕ → ℕ → ℕ → ℕ
 bit_if letters letter bit = if list_any (λ b. b == letter) letters then bit else 0
@@ -52,7 +41,7 @@ named text =
 
 -- the stack of a thread, by what follows `[stack:`: a decimal number of 32 bits and a bracket
 unfoldable pub thread_stack : List ℕ → Option ℕ
-thread_stack rest = and_then (cut_first 93 rest) (λ p. if length p.1 == 0 then number 10 32 p.0 else None)
+thread_stack rest = and_then (cut_first 93 rest) (λ p. if length p.1 == 0 then number_of_digits 10 32 p.0 else None)
 
 -- what stands between brackets
 unfoldable pub in_brackets : List ℕ → Option (List ℕ)
@@ -62,7 +51,7 @@ in_brackets text =
 
 -- the segment of System V's shared memory: `/SYSV` and eight hexadecimal digits
 unfoldable pub shared_segment : List ℕ → Option ℕ
-shared_segment text = and_then (behind (codes "/SYSV") text) (λ digits. if length digits == 8 then number 16 32 digits else None)
+shared_segment text = and_then (behind (codes "/SYSV") text) (λ digits. if length digits == 8 then number_of_digits 16 32 digits else None)
 
 abbrev pub by_segment : List ℕ → Option ℕ → Option MapPath
 by_segment text (Some n) = Some (Vsys n)
@@ -102,9 +91,9 @@ fields_in line =
     and_then (cut_first 32 offset.1) (λ dev.
     and_then (cut_first 32 dev.1) (λ inode.
     and_then (two_numbers 45 64 range.0) (λ address.
-    and_then (number 16 64 offset.0) (λ place.
+    and_then (number_of_digits 16 64 offset.0) (λ place.
     and_then (two_numbers 58 32 dev.0) (λ device.
-    and_then (number 10 64 inode.0) (λ node.
+    and_then (number_of_digits 10 64 inode.0) (λ node.
     and_then (path_in (trim inode.1)) (λ path.
     Some (record { address = address; perms = permissions perms.0; offset = place; dev = device; inode = node; pathname = path })))))))))))
 
@@ -119,12 +108,6 @@ map_line line =
     if list_any (λ b. b == 10) text then None else (if is_capital (slice_index text 0) then None else fields_in text))
 
 -- ---- the same as a grammar
-
--- one digit or more, without a sign, of a number of so many bits
-pub record IsNumber (base bits : ℕ) (digits : List ℕ) (n : ℕ) : Type 0 where
-  pub numeral : IsNumeral base digits
-  pub value : digits_value base digits ≡ n
-  pub fits : n < 2 ^ bits
 
 -- no such byte is among these
 abbrev pub Lacks : ℕ → List ℕ → Type 0

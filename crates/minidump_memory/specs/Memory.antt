@@ -1,5 +1,5 @@
 -- Regions of memory as values: the region of Microsoft's MINIDUMP_MEMORY_DESCRIPTOR, its addresses, a number in it.
-use Rattle.std.specs.Prelude.{ℕ, ◌+◌, ◌-◌, List, Option, Some, None, Result, Ok, Err, nat_le, ◌==◌, ◌||◌, if◌then◌else◌}
+use Rattle.std.specs.Prelude.{ℕ, ◌+◌, ◌-◌, List, Option, None, Result, Ok, Err, nat_le, ◌==◌, ◌||◌, if◌then◌else◌}
 use Rattle.std.specs.Option.{ok_or}
 use Rattle.minidump_bytes.specs.declared.endian.Endian.{Endian}
 use Rattle.minidump_bytes.specs.Layout.{Layout}

@@ -5,9 +5,9 @@ ghost use Rattle.minidump_bytes.specs.Text8.{utf8_text};
 ghost use Rattle.minidump_memory.specs.MapLine.{fields_in, is_capital, map_line, named, path_in, shared_segment, thread_stack};
 ghost use Rattle.minidump_memory.specs.MapParts.{lent_path, line_of};
 
-use crate::map_text::{after, cut, in_brackets, number_32, number_64, permissions, two_32, two_64};
+use crate::map_text::{after, cut, in_brackets, permissions, two_32, two_64};
 use memchr::memchr;
-use minidump_bytes::LinuxOsStr;
+use minidump_bytes::{LinuxOsStr, number_32, number_64};
 
 // What is mapped, by a text of the line.
 #[derive(Clone, Copy)]

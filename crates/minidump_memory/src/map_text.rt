@@ -1,10 +1,11 @@
-ghost use Rattle.std.specs.Prelude.{◌≡◌, ◌<◌, ◌≤◌};
+ghost use Rattle.std.specs.Prelude.{◌≡◌, ◌<◌};
 ghost use Rattle.std.specs.Option.{option_copied, option_map};
 ghost use Rattle.minidump_bytes.specs.LinuxOsStr.{behind, cut_first};
-ghost use Rattle.minidump_memory.specs.MapLine.{in_brackets, number, permissions, two_numbers};
+ghost use Rattle.minidump_memory.specs.MapLine.{in_brackets, permissions, two_numbers};
 ghost use Rattle.minidump_memory.specs.MapParts.{texts_of};
 
 use memchr::memchr;
+use minidump_bytes::{number_32, number_64};
 
 // The parts before and behind the first such byte.
 pub(crate) fn cut(text: &str, byte: u8) -> Option<(&str, &str)>
@@ -13,37 +14,6 @@ pub(crate) fn cut(text: &str, byte: u8) -> Option<(&str, &str)>
 {
     let at = memchr(byte, text.as_bytes())?;
     Some((&text[..at], &text[at + 1..]))
-}
-
-// The number of 64 bits that digits write.
-pub(crate) fn number_64(digits: &[u8], base: u32) -> Option<u64>
-    requires low { 2 ≤ base }
-    requires high { base ≤ 16 }
-    ensures { result ≡ number base 64 digits.now }
-{
-    if digits.is_empty() {
-        return None;
-    }
-    let mut value: u64 = 0;
-    for byte in digits {
-        let digit = (*byte as char).to_digit(base)?;
-        value = value.checked_mul(base as u64)?.checked_add(digit as u64)?;
-    }
-    Some(value)
-}
-
-// The number of 32 bits that digits write.
-pub(crate) fn number_32(digits: &[u8], base: u32) -> Option<u32>
-    requires low { 2 ≤ base }
-    requires high { base ≤ 16 }
-    ensures { result ≡ number base 32 digits.now }
-{
-    let value = number_64(digits, base)?;
-    if value < 1 << 32 {
-        Some(value as u32)
-    } else {
-        None
-    }
 }
 
 // Two hexadecimal numbers of 64 bits with a byte between them.

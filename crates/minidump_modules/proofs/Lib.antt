@@ -1,12 +1,13 @@
 -- The lemmas of this crate.
+mod BreakpadLemmas
 mod FieldLemmas
 mod FoundLemmas
 mod GuidLemmas
 mod KeptLemmas
 mod ListLemmas
 mod ListedLemmas
-mod NumberLemmas
 mod OrderLemmas
 mod PaddedLemmas
+mod RestLemmas
 mod ShownLemmas
 pub mod UnloadedLaws

@@ -1,10 +1,9 @@
 -- Debug identifiers, as Breakpad has them: a GUID, or the time stamp of a Pdb20, with an appendix.
-use Rattle.std.specs.Prelude.{ℕ, ◌-◌, ◌++◌, ◌==◌, ◌&&◌, List, [], codes, length, take, drop, replicate, true, false, Option, Some, None, nat_le, nat_lt, if◌then◌else◌, Bool, ◌∷◌, ◌^◌}
-use Rattle.std.specs.Char.{digit_value}
+use Rattle.std.specs.Prelude.{ℕ, ◌-◌, ◌++◌, ◌==◌, ◌&&◌, List, [], codes, length, take, drop, replicate, true, false, Option, None, nat_le, if◌then◌else◌}
 use Rattle.std.specs.Fmt.{digits}
 use Rattle.std.specs.Int.{to_be_bytes, w16, w32}
 use Rattle.std.specs.Option.{option_and_then, option_map}
-use Rattle.std.specs.Str.Parse.{digits_value}
+use Rattle.minidump_bytes.specs.Digits.{number_of_digits}
 use Rattle.uuid.specs.Text.{hyphenated_text, lower, parsed_simple}
 use Rattle.minidump_format.specs.declared.format.guid.GUID.{GUID}
 use Rattle.minidump_modules.specs.declared.debug_id.DebugId.{DebugId}
@@ -21,15 +20,6 @@ by_guid bytes appendix = record { kind = Guid bytes appendix }
 abbrev pub by_stamp : ℕ → ℕ → DebugId
 by_stamp stamp age = record { kind = Stamp stamp age }
 
-abbrev pub all_digits : ℕ → List ℕ → Bool
-all_digits base [] = true
-all_digits base (c ∷ cs) = nat_lt (digit_value c) base && all_digits base cs
-
--- the number of so many bits that one digit or more write
-unfoldable pub number : ℕ → ℕ → List ℕ → Option ℕ
-number base bits digits =
-    if nat_lt 0 (length digits) && all_digits base digits && nat_lt (digits_value base digits) (2 ^ bits) then Some (digits_value base digits) else None
-
 -- the bytes that 32 hexadecimal digits write
 unfoldable pub sixteen_bytes : List ℕ → Option (List ℕ)
 sixteen_bytes digits = parsed_simple digits
@@ -38,7 +28,7 @@ sixteen_bytes digits = parsed_simple digits
 abbrev pub from_breakpad : List ℕ → Option DebugId
 from_breakpad text =
     if nat_le 33 (length text) && nat_le (length text) 40
-    then option_and_then (λ uuid. option_map (by_guid uuid) (number 16 32 (drop 32 text))) (sixteen_bytes (take 32 text))
+    then option_and_then (λ uuid. option_map (by_guid uuid) (number_of_digits 16 32 (drop 32 text))) (sixteen_bytes (take 32 text))
     else None
 
 -- an appendix behind a hyphen, where it is not 0

@@ -1,8 +1,8 @@
 ghost use Rattle.std.proofs.Common.{rules};
-ghost use Rattle.std.specs.Prelude.{◌≡◌, ◌≤◌, ◌<◌, All, length};
-ghost use Rattle.minidump_modules.specs.DebugId.{by_guid, by_stamp, from_breakpad, guid_bytes, number, sixteen_bytes};
+ghost use Rattle.std.specs.Prelude.{◌≡◌, ◌<◌, All, length};
+ghost use Rattle.minidump_modules.specs.DebugId.{by_guid, by_stamp, from_breakpad, guid_bytes, sixteen_bytes};
 
-use minidump_bytes::Exact;
+use minidump_bytes::{Exact, number_32};
 use minidump_format::format::GUID;
 use std::fmt;
 use uuid::Uuid;
@@ -31,7 +31,7 @@ impl DebugId {
             return None;
         }
         let uuid = sixteen_bytes(&bytes[..32])?;
-        let appendix = hex_number(&bytes[32..])?;
+        let appendix = number_32(&bytes[32..], 16)?;
         Some(DebugId::from_parts(uuid, appendix))
     }
 
@@ -117,19 +117,4 @@ fn sixteen_bytes(digits: &[u8]) -> Option<Uuid>
     ensures { result ≡ sixteen_bytes digits.now }
 {
     Uuid::try_parse_ascii(digits).ok()
-}
-
-// Reads the number of at most eight digits.
-fn hex_number(digits: &[u8]) -> Option<u32>
-    requires { length digits.now ≤ 8 }
-    ensures { result ≡ number 16 32 digits.now }
-{
-    if digits.is_empty() {
-        return None;
-    }
-    let mut value = 0;
-    for byte in digits {
-        value = value * 16 + (*byte as char).to_digit(16)?;
-    }
-    Some(value)
 }

@@ -2,7 +2,7 @@
 use Rattle.std.proofs.Common.{refl, ◌∙◌, ◌≡◌}
 use Rattle.uuid.specs.Text.{parsed, parsed_simple}
 use Rattle.minidump_modules.specs.DebugId.{sixteen_bytes}
-use Rattle.minidump_modules.proofs.NumberLemmas.{parsed_ok}
+use Rattle.minidump_modules.proofs.BreakpadLemmas.{parsed_ok}
 use Rattle.minidump_modules.proofs.debug_id.sixteen_bytes.Goals as goal
 
 pub returns : goal.returns

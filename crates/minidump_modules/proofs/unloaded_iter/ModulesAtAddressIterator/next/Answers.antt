@@ -3,7 +3,7 @@ use Rattle.std.proofs.Common.{◌≡◌, ◌∙◌, ◌+◌, ◌∷◌, ap, drop
 use Rattle.std.specs.Prelude.{filter}
 use Rattle.minidump_modules.specs.UnloadedOrder.{has, modules_of_order}
 use Rattle.minidump_modules.proofs.FoundLemmas.{fewer, first_module, first_passes, none_passes}
-use Rattle.minidump_modules.proofs.NumberLemmas.{rest_all}
+use Rattle.minidump_modules.proofs.RestLemmas.{rest_all}
 use Rattle.std.proofs.lemmas.List.Quantifiers.{position-Some}
 use Rattle.minidump_modules.proofs.unloaded_iter.ModulesAtAddressIterator.next.Goals as goal
 

@@ -1,0 +1,6 @@
+-- What stands behind a place of a list, as a slice of it is spelled.
+use Rattle.std.proofs.Common.{◌≡◌, ℕ, ◌-◌, List, length, arith, take, drop}
+use Rattle.std.proofs.lemmas.List.{length-drop, take_all}
+
+pub rest_all : {X : Type 0} (n : ℕ) (xs : List X) → take (length xs - n) (drop n xs) ≡ drop n xs
+rest_all n xs = take_all (length xs - n) (drop n xs) (rw (length-drop) (omega arith))
