@@ -159,31 +159,37 @@ fn reads_no_entry_of_a_forged_count(rt: HostRuntime) -> Result<(), Fail> {
     Ok(())
 }
 
+// The first entry, how many are left behind it, and the next three.
+fn taken(mut entries: Entries<'_, u32>) -> (Option<u32>, (usize, Option<usize>), [Option<u32>; 3]) {
+    let first = entries.next();
+    let left = entries.size_hint();
+    (
+        first,
+        left,
+        [entries.next(), entries.next(), entries.next()],
+    )
+}
+
 #[test]
 fn gives_entries_one_by_one(rt: HostRuntime) -> Result<(), Fail> {
     let bytes = [2, 0, 0, 0, 9, 0, 0, 0, 5, 0, 0, 0];
     let mut steps = Steps::new();
-    let mut entries: Entries<'_, u32> = plain_entries(
-        Source::new(&bytes),
-        Endian::Little,
-        &mut steps,
-    )?;
-    assert_eq!(rt; steps.count(), 3);
-    assert_eq!(rt; entries.len(), 2);
-    assert_eq!(rt; entries.next(), Some(9));
-    assert_eq!(rt; entries.size_hint(), (1, Some(1)));
-    assert_eq!(rt; entries.next(), Some(5));
-    assert_eq!(rt; entries.next(), None);
-    assert_eq!(rt; entries.next(), None);
+    let entries: Entries<'_, u32> = plain_entries(Source::new(&bytes), Endian::Little, &mut steps)?;
+    assert_eq!(rt; (steps.count(), entries.len()), (3, 2));
+    assert_eq!(rt;
+        taken(entries),
+        (Some(9), (1, Some(1)), [Some(5), None, None])
+    );
     Ok(())
 }
 
 // The three numbers of a header, in little-endian order.
 fn header(size_of_header: u32, size_of_entry: u32, count: u32) -> [u8; 12] {
-    let [a, b, c, d] = size_of_header.to_le_bytes();
-    let [e, f, g, h] = size_of_entry.to_le_bytes();
-    let [i, j, k, l] = count.to_le_bytes();
-    [a, b, c, d, e, f, g, h, i, j, k, l]
+    let mut bytes = [0; 12];
+    bytes[..4].copy_from_slice(&size_of_header.to_le_bytes());
+    bytes[4..8].copy_from_slice(&size_of_entry.to_le_bytes());
+    bytes[8..].copy_from_slice(&count.to_le_bytes());
+    bytes
 }
 
 #[test]
@@ -263,9 +269,7 @@ fn handles(alloc: Global, bytes: &[u8]) -> Result<(bool, Vec<u64>), Error> {
 fn handles_have_32_or_40_bytes(rt: HostRuntime) -> Result<(), Fail> {
     let alloc = rt.alloc();
     let mut bytes = [0; 84];
-    for (place, byte) in header(4, 32, 2).into_iter().enumerate() {
-        bytes[place] = byte;
-    }
+    bytes[..12].copy_from_slice(&header(4, 32, 2));
     let (is_long, values) = handles(alloc, &bytes)?;
     assert!(rt; !is_long);
     assert_eq!(rt; values.as_slice(), [0x2_0000_0020, 0].as_slice());

@@ -83,31 +83,31 @@ fn shows_system_times(rt: HostRuntime) -> Result<(), Fail> {
     Ok(())
 }
 
+// The name and the long name of a system.
+fn names_of(alloc: Global, os: Os) -> Result<String, Fail> {
+    let long_name = os.long_name(alloc)?;
+    Ok(format!(in alloc; "{os}, {long_name}")?)
+}
+
 #[test]
 fn names_systems(rt: HostRuntime) -> Result<(), Fail> {
     let alloc = rt.alloc();
-    for (id, os, name, long_name) in [
-        (1, Os::Windows, "windows", "Windows NT"),
-        (2, Os::Windows, "windows", "Windows NT"),
-        (0x8101, Os::MacOs, "mac", "Mac OS X"),
-        (0x8102, Os::Ios, "ios", "iOS"),
-        (0x8201, Os::Linux, "linux", "Linux"),
-        (0x8202, Os::Solaris, "solaris", "Solaris"),
-        (0x8203, Os::Android, "android", "Android"),
-        (0x8204, Os::Ps3, "ps3", "PS3"),
-        (0x8205, Os::NaCl, "nacl", "NaCl"),
-        (0, Os::Unknown(0), "unknown", "0x000000"),
-        (3, Os::Unknown(3), "unknown", "0x000003"),
-        (
-            0x12ab_34cd,
-            Os::Unknown(0x12ab_34cd),
-            "unknown",
-            "0x12ab34cd",
-        ),
+    for (id, os, names) in [
+        (1, Os::Windows, "windows, Windows NT"),
+        (2, Os::Windows, "windows, Windows NT"),
+        (0x8101, Os::MacOs, "mac, Mac OS X"),
+        (0x8102, Os::Ios, "ios, iOS"),
+        (0x8201, Os::Linux, "linux, Linux"),
+        (0x8202, Os::Solaris, "solaris, Solaris"),
+        (0x8203, Os::Android, "android, Android"),
+        (0x8204, Os::Ps3, "ps3, PS3"),
+        (0x8205, Os::NaCl, "nacl, NaCl"),
+        (0, Os::Unknown(0), "unknown, 0x000000"),
+        (3, Os::Unknown(3), "unknown, 0x000003"),
+        (0x12ab_34cd, Os::Unknown(0x12ab_34cd), "unknown, 0x12ab34cd"),
     ] {
         assert_eq!(rt; Os::from_platform_id(id), os);
-        assert_eq!(rt; os.long_name(alloc)?.as_str(), long_name);
-        assert_eq!(rt; format!(in alloc; "{os}")?.as_str(), name);
+        assert_eq!(rt; names_of(alloc, os)?.as_str(), names);
     }
     Ok(())
 }
@@ -130,8 +130,8 @@ fn names_processors(rt: HostRuntime) -> Result<(), Fail> {
         (2, Cpu::Unknown(2), "unknown", None),
         (77, Cpu::Unknown(77), "unknown", None),
     ] {
-        assert_eq!(rt; Cpu::from_processor_architecture(number), cpu);
-        assert_eq!(rt; cpu.pointer_width().size_in_bytes(), size);
+        let found = Cpu::from_processor_architecture(number);
+        assert_eq!(rt; (found, found.pointer_width().size_in_bytes()), (cpu, size));
         assert_eq!(rt; format!(in alloc; "{cpu}")?.as_str(), name);
     }
     assert_eq!(rt; Cpu::Unknown(77).pointer_width(), PointerWidth::Unknown);
@@ -141,26 +141,23 @@ fn names_processors(rt: HostRuntime) -> Result<(), Fail> {
 #[test]
 fn describes_x86(rt: HostRuntime) -> Result<(), Fail> {
     let alloc = rt.alloc();
-    let little = *b"GenuineIntel............";
-    let big = *b"uneGIeniletn............";
-    for (bytes, endian) in [(little, Endian::Little), (big, Endian::Big)] {
-        let info = made_cpu_info(alloc, Cpu::X86, 6, 0x0d08, &bytes, endian)?;
-        assert_eq!(rt;
-            info.as_deref(),
-            Some("GenuineIntel family 6 model 13 stepping 8")
-        );
+    let little = b"GenuineIntel............";
+    let big = b"uneGIeniletn............";
+    let accents = b"\xe9enuineIntel............";
+    let named = Some("GenuineIntel family 6 model 13 stepping 8");
+    let accented = Some("éenuineIntel family 6 model 13 stepping 8");
+    let family = Some("family 6 model 158 stepping 10");
+    for (cpu, revision, bytes, endian, text) in [
+        (Cpu::X86, 0x0d08, little, Endian::Little, named),
+        (Cpu::X86, 0x0d08, big, Endian::Big, named),
+        (Cpu::X86, 0x0d08, accents, Endian::Little, accented),
+        (Cpu::X86_64, 0x9e0a, little, Endian::Little, family),
+        (Cpu::Arm64, 0, little, Endian::Little, None),
+        (Cpu::Unknown(77), 0, little, Endian::Little, None),
+    ] {
+        let info = made_cpu_info(alloc, cpu, 6, revision, bytes, endian)?;
+        assert_eq!(rt; info.as_deref(), text);
     }
-    let mut accents = little;
-    accents[0] = 0xe9;
-    let info = made_cpu_info(alloc, Cpu::X86, 6, 0x0d08, &accents, Endian::Little)?;
-    assert_eq!(rt;
-        info.as_deref(),
-        Some("éenuineIntel family 6 model 13 stepping 8")
-    );
-    let info = made_cpu_info(alloc, Cpu::X86_64, 6, 0x9e0a, &little, Endian::Little)?;
-    assert_eq!(rt; info.as_deref(), Some("family 6 model 158 stepping 10"));
-    assert!(rt; made_cpu_info(alloc, Cpu::Arm64, 8, 0, &little, Endian::Little)?.is_none());
-    assert!(rt; made_cpu_info(alloc, Cpu::Unknown(77), 8, 0, &little, Endian::Little)?.is_none());
     Ok(())
 }
 
@@ -241,30 +238,30 @@ fn names_arm_vendors_and_parts(rt: HostRuntime) -> Result<(), Fail> {
 #[test]
 fn names_arm_features(rt: HostRuntime) -> Result<(), Fail> {
     let alloc = rt.alloc();
-    for (bit, text) in [
-        (0, "ARMv7 features: swp"),
-        (1, "ARMv7 features: half"),
-        (2, "ARMv7 features: thumb"),
-        (3, "ARMv7 features: 26bit"),
-        (4, "ARMv7 features: fastmult"),
-        (5, "ARMv7 features: fpa"),
-        (6, "ARMv7 features: vfpv2"),
-        (7, "ARMv7 features: edsp"),
-        (8, "ARMv7 features: java"),
-        (9, "ARMv7 features: iwmmxt"),
-        (10, "ARMv7 features: crunch"),
-        (11, "ARMv7 features: thumbee"),
-        (12, "ARMv7 features: neon"),
-        (13, "ARMv7 features: vfpv3"),
-        (14, "ARMv7 features: vfpv3d16"),
-        (15, "ARMv7 features: tls"),
-        (16, "ARMv7 features: vfpv4"),
-        (17, "ARMv7 features: idiva"),
-        (18, "ARMv7 features: idivt"),
-        (19, "ARMv7"),
-        (31, "ARMv7"),
+    for (elf_hwcaps, text) in [
+        (0x1, "ARMv7 features: swp"),
+        (0x2, "ARMv7 features: half"),
+        (0x4, "ARMv7 features: thumb"),
+        (0x8, "ARMv7 features: 26bit"),
+        (0x10, "ARMv7 features: fastmult"),
+        (0x20, "ARMv7 features: fpa"),
+        (0x40, "ARMv7 features: vfpv2"),
+        (0x80, "ARMv7 features: edsp"),
+        (0x100, "ARMv7 features: java"),
+        (0x200, "ARMv7 features: iwmmxt"),
+        (0x400, "ARMv7 features: crunch"),
+        (0x800, "ARMv7 features: thumbee"),
+        (0x1000, "ARMv7 features: neon"),
+        (0x2000, "ARMv7 features: vfpv3"),
+        (0x4000, "ARMv7 features: vfpv3d16"),
+        (0x8000, "ARMv7 features: tls"),
+        (0x10000, "ARMv7 features: vfpv4"),
+        (0x20000, "ARMv7 features: idiva"),
+        (0x40000, "ARMv7 features: idivt"),
+        (0x80000, "ARMv7"),
+        (0x80000000, "ARMv7"),
     ] {
-        assert_eq!(rt; arm_info(alloc, 0, 1 << bit)?.as_deref(), Some(text));
+        assert_eq!(rt; arm_info(alloc, 0, elf_hwcaps)?.as_deref(), Some(text));
     }
     Ok(())
 }

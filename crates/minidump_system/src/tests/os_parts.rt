@@ -1,5 +1,17 @@
 use crate::os_parts::os_parts;
+use std::alloc::Global;
 use std::test::Fail;
+
+// The version and the build of a system, by the three numbers of its version.
+fn parts(
+    alloc: Global,
+    numbers: (u32, u32, u32),
+    platform_id: u32,
+    csd_version: Option<&str>,
+) -> Result<(String, Option<String>), Fail> {
+    let (major, minor, number) = numbers;
+    Ok(os_parts(alloc, major, minor, number, platform_id, csd_version)?)
+}
 
 #[test]
 fn names_systems(rt: HostRuntime) -> Result<(), Fail> {
@@ -63,10 +75,8 @@ fn names_systems(rt: HostRuntime) -> Result<(), Fail> {
             Some("Linux 5.0.0 build1 x86_64"),
         ),
     ] {
-        let (major, minor, number) = numbers;
-        let answer = os_parts(alloc, major, minor, number, platform_id, csd)?;
-        assert_eq!(rt; answer.0.as_str(), version);
-        assert_eq!(rt; answer.1.as_deref(), build);
+        let (found, of_build) = parts(alloc, numbers, platform_id, csd)?;
+        assert_eq!(rt; (found.as_str(), of_build.as_deref()), (version, build));
     }
     Ok(())
 }
