@@ -13,13 +13,18 @@ use Rattle.minidump_bytes.specs.Span.{record_at}
 use Rattle.minidump_format.specs.Handle.{object_information}
 use Rattle.minidump_records.specs.declared.handles.information.MinidumpHandleObjectInformation.{MinidumpHandleObjectInformation}
 use Rattle.minidump_records.specs.Handles.{chain_offsets, object_chain}
-use Rattle.minidump_records.specs.ObjectChain.{IsChain, information_at, next_of, typed}
+use Rattle.minidump_records.specs.ObjectChain.{IsChain, information_at, last_link, next_of, typed}
 use Rattle.minidump_records.specs.OneChain.{Leading, leading_end, leading_more, leading_none, leading_short, one_object_chain, readable}
 use Rattle.minidump_records.proofs.ObjectChainLemmas.{same_push}
 
 -- whether a set of offsets has one
 abbrev pub has : List ℕ → ℕ → Bool
 has met q = list_any (is_at (nat_cmp q)) met
+
+-- the link of the last piece of one more
+pub last_link-push : (link : ℕ) (infos : List MinidumpHandleObjectInformation) (i : MinidumpHandleObjectInformation) → last_link link (infos ++ i ∷ []) ≡ i.raw.next_info_rva
+last_link-push link [] i = refl
+last_link-push link (j ∷ js) i = last_link-push j.raw.next_info_rva js i
 
 -- there is no piece at 0
 pub nonzero : (order : Endian) (file : List ℕ) (place : ℕ) (i : MinidumpHandleObjectInformation) → information_at order file place ≡ Some i → 0 < place

@@ -1,5 +1,5 @@
 -- The open handles of a process: Microsoft's MINIDUMP_HANDLE_DATA_STREAM.
-use Rattle.std.specs.Prelude.{ℕ, ◌+◌, ◌==◌, List, length, Option, Some, None, Result, Ok, map, string_bytes, if◌then◌else◌}
+use Rattle.std.specs.Prelude.{ℕ, ◌+◌, ◌==◌, List, Option, Some, None, Result, Ok, map, string_bytes, if◌then◌else◌}
 use Rattle.std.specs.List.{filter_map}
 use Rattle.std.specs.Option.{option_map, unwrap_or}
 use Rattle.minidump_bytes.specs.declared.endian.Endian.{Endian}
@@ -14,7 +14,7 @@ use Rattle.minidump_records.specs.declared.handles.descriptor.MinidumpHandleDesc
 use Rattle.minidump_records.specs.declared.handles.information.MinidumpHandleObjectInformation.{MinidumpHandleObjectInformation}
 use Rattle.minidump_records.specs.declared.handles.raw.RawHandleDescriptor.{RawHandleDescriptor}
 use Rattle.minidump_records.specs.declared.handles.raw.RawHandleDescriptor.TheVariants.{HandleDescriptor, HandleDescriptor2}
-use Rattle.minidump_records.specs.ObjectChain.{information_at}
+use Rattle.minidump_records.specs.ObjectChain.{chain_reads, information_at, reads_at}
 use Rattle.minidump_records.specs.OneChain.{one_object_chain}
 
 -- ---- the fields of MINIDUMP_HANDLE_DESCRIPTOR and of MINIDUMP_HANDLE_DESCRIPTOR_2
@@ -94,13 +94,9 @@ described order file raw = record {
   object_infos = object_chain order file (or_zero (object_info_rva raw));
 }
 
--- how much is read for a name
-abbrev pub name_reads : ℕ → ℕ
-name_reads rva = if rva == 0 then 0 else 1
-
--- and for the names and the object of a handle, at least
+-- and for the names and the object of a handle
 abbrev pub handle_reads : Handle → ℕ
-handle_reads h = name_reads (or_zero (type_name_rva h.raw)) + name_reads (or_zero (object_name_rva h.raw)) + length h.object_infos
+handle_reads h = reads_at (or_zero (type_name_rva h.raw)) + reads_at (or_zero (object_name_rva h.raw)) + chain_reads (or_zero (object_info_rva h.raw)) h.object_infos
 
 -- ---- the stream
 

@@ -1,6 +1,6 @@
 -- The pieces of information on the object of a handle, each of which names the next: Microsoft's
 -- MINIDUMP_HANDLE_OBJECT_INFORMATION.
-use Rattle.std.specs.Prelude.{◌≡◌, ℕ, ◌≤◌, ◌==◌, List, [], ◌∷◌, ◌++◌, codes, length, false, Option, Some, None, nat_eq, if◌then◌else◌}
+use Rattle.std.specs.Prelude.{◌≡◌, ℕ, ◌+◌, ◌≤◌, ◌==◌, List, [], ◌∷◌, ◌++◌, codes, length, false, Option, Some, None, nat_eq, if◌then◌else◌}
 use Rattle.std.specs.Fmt.{digits}
 use Rattle.std.specs.List.{IsDistinct}
 use Rattle.std.specs.Option.{option_and_then, option_map}
@@ -34,6 +34,19 @@ module _ {I : Type 0} (at : ℕ → Option I) (next : I → ℕ) where
     pub follow : Follow link chain
     pub distinct : IsDistinct nat_eq chain
     pub longest : (other : List ℕ) → Follow link other → IsDistinct nat_eq other → length other ≤ length chain
+
+-- how much is read at an RVA: nothing at 0
+abbrev pub reads_at : ℕ → ℕ
+reads_at rva = if rva == 0 then 0 else 1
+
+-- the link at which a chain ends: that of its last piece
+abbrev pub last_link : ℕ → List MinidumpHandleObjectInformation → ℕ
+last_link link [] = link
+last_link link (i ∷ is) = last_link (next_of i) is
+
+-- how much is read for the pieces behind a link: each, and what is no new piece, where the last link is not 0
+abbrev pub chain_reads : ℕ → List MinidumpHandleObjectInformation → ℕ
+chain_reads link infos = length infos + reads_at (last_link link infos)
 
 -- the text of a piece of information: its fields
 abbrev pub information_text : MinidumpHandleObjectInformation → List ℕ

@@ -34,7 +34,8 @@
 //! - A handle has the names at its RVAs, each absent at 0 and where no text is, and the longest chain of
 //!   distinct pieces of information that its descriptor leads to: `MinidumpHandleDataStream::read`, by
 //!   `handle_data`; `laws::object_chain_is_the_longest`, `object_chain_is_one`. A read takes at least one step
-//!   for the header, each entry, name and piece. Memory runs out only where the entries have a good size.
+//!   for the header, each entry, name and piece, and for what ends a chain at another RVA than 0. Memory runs
+//!   out only where the entries have a good size.
 //! - Crashpad's dictionaries, lists and modules are what their locations hold, or the first error in the order of
 //!   the records: `MinidumpCrashpadInfo::read`, by `crashpad_in`; `MinidumpModuleCrashpadInfo::read`, by
 //!   `module_in`. A key has its last value: `laws::dictionaries_have_the_last_values`. A read takes at least one

@@ -5,6 +5,7 @@ ghost use Rattle.std.specs.Ordering.{nat_cmp};
 ghost use Rattle.minidump_bytes.specs.Source.{bytes_of};
 ghost use Rattle.minidump_bytes.specs.Steps.{after};
 ghost use Rattle.minidump_records.specs.Handles.{object_chain};
+ghost use Rattle.minidump_records.specs.ObjectChain.{chain_reads};
 
 use super::information::{MinidumpHandleObjectInformation, information_at};
 use minidump_bytes::{Endian, Source, Steps};
@@ -12,7 +13,7 @@ use std::alloc::{AllocError, Global};
 use std::collections::BTreeSet;
 
 // Reads the pieces of information from a link on, each of which names the next, up to an offset that was
-// met before or has no piece. Counts a read for each, and perhaps one where the chain ends.
+// met before or has no piece. Counts a read for each, and one where the chain ends at another RVA than 0.
 pub(super) fn read_chain(
     alloc: Global,
     link: u32,
@@ -23,7 +24,7 @@ pub(super) fn read_chain(
     ensures infos { IfOk result (λ v. v.items ≡ object_chain endian (bytes_of all.entry) link) }
     ensures within { steps.new ≤ steps.old + length (bytes_of all.entry) + 1 }
     ensures grows { steps.old ≤ steps.new }
-    ensures at_least { IfOk result (λ v. after steps.old (length v.items) ≤ steps.new) }
+    ensures at_least { IfOk result (λ v. after steps.old (chain_reads link v.items) ≤ steps.new) }
 {
     let mut infos = Vec::new(alloc);
     let mut met = BTreeSet::new(alloc);

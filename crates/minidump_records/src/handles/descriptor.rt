@@ -2,7 +2,8 @@ ghost use Rattle.std.specs.Prelude.{◌≡◌, ◌+◌, ◌≤◌, length, strin
 ghost use Rattle.std.specs.Option.{option_copied, option_map};
 ghost use Rattle.minidump_bytes.specs.Source.{bytes_of};
 ghost use Rattle.minidump_bytes.specs.Steps.{after};
-ghost use Rattle.minidump_records.specs.Handles.{described, handle_of, handle_reads, name_at, name_reads, or_zero};
+ghost use Rattle.minidump_records.specs.Handles.{described, handle_of, handle_reads, name_at, or_zero};
+ghost use Rattle.minidump_records.specs.ObjectChain.{reads_at};
 
 use super::chain::read_chain;
 use super::{MinidumpHandleObjectInformation, RawHandleDescriptor};
@@ -74,7 +75,7 @@ fn name_at(
     steps: &mut Steps,
 ) -> Result<Option<String>, AllocError>
     ensures value { IfOk result (λ text. option_map string_bytes text ≡ name_at endian (bytes_of all.entry) (or_zero (option_copied rva.entry))) }
-    ensures step { steps.new ≡ after steps.old (name_reads (or_zero (option_copied rva.entry))) }
+    ensures step { steps.new ≡ after steps.old (reads_at (or_zero (option_copied rva.entry))) }
 {
     let rva = rva.copied().unwrap_or(0);
     if rva == 0 {

@@ -1,7 +1,7 @@
 ghost use Rattle.std.specs.Prelude.{◌≡◌, ◌+◌, ◌≤◌, IfSome};
 ghost use Rattle.minidump_bytes.specs.Source.{bytes_of};
 ghost use Rattle.minidump_bytes.specs.Steps.{after};
-ghost use Rattle.minidump_records.specs.ObjectChain.{information_at};
+ghost use Rattle.minidump_records.specs.ObjectChain.{information_at, reads_at};
 
 use minidump_bytes::{Endian, Source, Steps};
 use minidump_format::format::{
@@ -49,6 +49,7 @@ pub(super) fn information_at(
     ensures within { steps.new ≤ steps.old + 1 }
     ensures grows { steps.old ≤ steps.new }
     ensures begun { IfSome result (λ _. after steps.old 1 ≤ steps.new) }
+    ensures step { steps.new ≡ after steps.old (reads_at place) }
 {
     if place == 0 {
         return None;

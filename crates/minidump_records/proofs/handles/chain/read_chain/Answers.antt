@@ -1,11 +1,11 @@
 -- One piece of information more: it is new and kept, or the chain ends.
-use Rattle.std.proofs.Common.{arith, sym, ◌≡◌, ◌∷◌, [], length-append, false, Some}
+use Rattle.std.proofs.Common.{arith, refl, sym, ◌≡◌, ◌∷◌, [], length-append, false, Some}
 use Rattle.std.specs.BTreeSet.{contains}
 use Rattle.std.specs.Ordering.{nat_cmp}
 use Rattle.minidump_bytes.specs.Source.{bytes_of}
 use Rattle.minidump_records.specs.ObjectChain.{information_at}
 use Rattle.minidump_records.proofs.ObjectChainLemmas.{was_absent, was_there}
-use Rattle.minidump_records.proofs.InformationLemmas.{chaining_end, chaining_met, chaining_more, chaining_none, chaining_short, nonzero}
+use Rattle.minidump_records.proofs.InformationLemmas.{chaining_end, chaining_met, chaining_more, chaining_none, chaining_short, last_link-push, nonzero}
 use Rattle.minidump_records.proofs.handles.chain.read_chain.Goals as goal
 use Rattle.minidump_records.proofs.handles.chain.read_chain.Goals.{in-Some+in_ok-is_new+then-not-branch, in_default}
 
@@ -14,6 +14,7 @@ loop-info-init c = record {
   chaining = chaining_none _ _ _ _ _ c.new-infos.ensures.items c.new-met.ensures.empty;
   within = omega arith;
   grows = omega arith;
+  last = rw c.new-infos.ensures.items refl;
   least = rw c.new-infos.ensures.items (omega arith);
 }
 
@@ -41,6 +42,7 @@ loop-info-preserved c =
       chaining = rw c.in_ok-push.ensures.items (chaining_more _ _ _ _ _ _ _ _ is absent c.in_ok-is_new.ensures.keeps c.loop-info.invariant.chaining);
       within = rw c.in_ok-push.ensures.items (omega (arith, c.information_at.ensures.within, c.loop-info.invariant.within, length-append c.loop-info.infos.items (c.in-Some.info ∷ [])));
       grows = omega (arith, c.information_at.ensures.grows, c.loop-info.invariant.grows);
+      last = rw c.in_ok-push.ensures.items (sym (last_link-push c.args.link c.loop-info.infos.items c.in-Some.info));
       least = rw c.in_ok-push.ensures.items (omega (arith, c.in-Some.ensures.begun, c.loop-info.invariant.least, length-append c.loop-info.infos.items (c.in-Some.info ∷ [])));
     }
 
@@ -53,3 +55,6 @@ returns-clause-infos c = elim c.match-information_at.branch [
 pub returns-clause-within : goal.returns-clause-within
 returns-clause-within c =
     let short = chaining_short _ _ _ _ _ _ c.loop-info.invariant.chaining in omega (arith, short, c.information_at.ensures.within, c.loop-info.invariant.within)
+
+pub returns-clause-at_least : goal.returns-clause-at_least
+returns-clause-at_least c = rw (← c.loop-info.invariant.last) (omega (arith, c.information_at.ensures.step, c.loop-info.invariant.least))

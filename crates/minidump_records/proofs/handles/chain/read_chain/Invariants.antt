@@ -1,7 +1,8 @@
 -- The pieces so far are the first of the chain, each with a read; there are no more than the file has bytes.
-use Rattle.std.proofs.Common.{◌+◌, ◌-◌, ◌≤◌, length}
+use Rattle.std.proofs.Common.{◌≡◌, ◌+◌, ◌-◌, ◌≤◌, length}
 use Rattle.minidump_bytes.specs.Source.{bytes_of}
 use Rattle.minidump_bytes.specs.Steps.{after}
+use Rattle.minidump_records.specs.ObjectChain.{last_link}
 use Rattle.minidump_records.proofs.InformationLemmas.{Chaining}
 use Rattle.minidump_records.proofs.handles.chain.read_chain.Given as goal
 
@@ -10,6 +11,7 @@ invariant-loop-info l = record {
   chaining : Chaining l.endian (bytes_of l.all) l.link l.place l.infos.items l.met.keys;
   within : l.steps ≤ l.fn.steps + length l.infos.items;
   grows : l.fn.steps ≤ l.steps;
+  last : l.place ≡ last_link l.link l.infos.items;
   least : after l.fn.steps (length l.infos.items) ≤ l.steps;
 }
 
