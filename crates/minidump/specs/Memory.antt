@@ -10,7 +10,7 @@ use Rattle.minidump_system.specs.Framing.{list_64, plain_list}
 use Rattle.minidump_memory.specs.Memory.{MemoryRegion}
 use Rattle.minidump_memory.specs.Unified.{Memory, Memory64, UnifiedRegions}
 use Rattle.minidump.specs.Dump.{Dump, raw_stream, stream}
-use Rattle.minidump.specs.Promise.{memory_list_in, memory64_list_in}
+use Rattle.minidump.specs.Promise.{memory_list_stream, memory64_list_stream}
 
 -- the 64 list, else the plain list where that one is missing or refused, else none
 abbrev first_accepted : Result (List (MemoryRegion MINIDUMP_MEMORY_DESCRIPTOR64)) Error → Result (List (MemoryRegion MINIDUMP_MEMORY_DESCRIPTOR)) Error → Option UnifiedRegions
@@ -20,7 +20,7 @@ first_accepted (Err _) (Err _) = None
 
 abbrev pub memories_of_dump : Dump → Option UnifiedRegions
 memories_of_dump d =
-    first_accepted (stream (number_of Memory64ListStream) memory64_list_in d) (stream (number_of MemoryListStream) memory_list_in d)
+    first_accepted (stream (number_of Memory64ListStream) memory64_list_stream.meaning d) (stream (number_of MemoryListStream) memory_list_stream.meaning d)
 
 -- one of the two lists has the length that its count asks for, so that it takes memory
 abbrev pub TakesMemory : Dump → Type 0

@@ -7,7 +7,7 @@ ghost use Rattle.minidump.specs.declared.directory.DecidingEntry.{DecidingEntry}
 ghost use Rattle.minidump.specs.declared.thread.MinidumpThread.{MinidumpThread};
 ghost use Rattle.minidump.specs.Directory.{deciding, deciding_below, directory};
 ghost use Rattle.minidump.specs.Dump.{Dump, raw_stream, spanned, streams_of};
-ghost use Rattle.minidump.specs.Promise.{IsAssertion, IsBreakpadInfo, IsCrashpadInfo, IsException, IsHandleData, IsLinuxCpuInfo, IsLinuxEnviron, IsLinuxLsbRelease, IsLinuxMaps, IsLinuxProcLimits, IsLinuxProcStatus, IsMacBootargs, IsMacCrashInfo, IsMemory64List, IsMemoryInfoList, IsMemoryList, IsMiscInfo, IsModuleList, IsSoftErrors, IsStabilityReport, IsSystemInfo, IsThreadInfoList, IsThreadList, IsThreadNames, IsUnloadedModuleList};
+ghost use Rattle.minidump.specs.Promise.{IsReadAs, assertion_stream, breakpad_info_stream, crashpad_info_stream, exception_stream, handle_data_stream, linux_cpu_info_stream, linux_environ_stream, linux_lsb_release_stream, linux_maps_stream, linux_proc_limits_stream, linux_proc_status_stream, mac_bootargs_stream, mac_crash_info_stream, memory64_list_stream, memory_info_list_stream, memory_list_stream, misc_info_stream, module_list_stream, soft_errors_stream, stability_report_stream, system_info_stream, thread_info_list_stream, thread_list_stream, thread_names_stream, unloaded_module_list_stream};
 ghost use Rattle.minidump.specs.Streams.{unimplemented_view, unknown_view};
 ghost use Rattle.minidump.specs.Thread.{last_with};
 ghost use Rattle.minidump_bytes.specs.Span.{span};
@@ -100,59 +100,60 @@ pub fn last_thread_is_found()
         → last_with id threads ≡ None ↔ All (λ x. x.raw.thread_id ≢ id) threads }
 {}
 
-/// Each type of stream that is read has this number and this meaning, and takes at most `n + 7` reads;
-/// handles and Crashpad's information take at most `(n + 8)² - 1`.
+/// Each type of stream that is read keeps what is promised of it: its number, its meaning, at most `n + 7`
+/// reads, or `(n + 8)² - 1` of handles and Crashpad's information, the fewest reads, and where it may take
+/// memory.
 pub fn streams_are_read_as_promised()
     ensures system_info { let T = ⟦<MinidumpSystemInfo as MinidumpStream<'static>>⟧
-        in IsSystemInfo T.type_number T.meaning T.limit }
+        in IsReadAs system_info_stream T.type_number T.meaning T.limit T.least T.takes_memory }
     ensures misc_info { let T = ⟦<MinidumpMiscInfo as MinidumpStream<'static>>⟧
-        in IsMiscInfo T.type_number T.meaning T.limit }
+        in IsReadAs misc_info_stream T.type_number T.meaning T.limit T.least T.takes_memory }
     ensures memory_list { let T = ⟦<MinidumpMemoryList<'static> as MinidumpStream<'static>>⟧
-        in IsMemoryList T.type_number T.meaning T.limit }
+        in IsReadAs memory_list_stream T.type_number T.meaning T.limit T.least T.takes_memory }
     ensures memory64_list { let T = ⟦<MinidumpMemory64List<'static> as MinidumpStream<'static>>⟧
-        in IsMemory64List T.type_number T.meaning T.limit }
+        in IsReadAs memory64_list_stream T.type_number T.meaning T.limit T.least T.takes_memory }
     ensures module_list { let T = ⟦<MinidumpModuleList as MinidumpStream<'static>>⟧
-        in IsModuleList T.type_number T.meaning T.limit }
+        in IsReadAs module_list_stream T.type_number T.meaning T.limit T.least T.takes_memory }
     ensures unloaded_module_list { let T = ⟦<MinidumpUnloadedModuleList as MinidumpStream<'static>>⟧
-        in IsUnloadedModuleList T.type_number T.meaning T.limit }
+        in IsReadAs unloaded_module_list_stream T.type_number T.meaning T.limit T.least T.takes_memory }
     ensures thread_names { let T = ⟦<MinidumpThreadNames as MinidumpStream<'static>>⟧
-        in IsThreadNames T.type_number T.meaning T.limit }
+        in IsReadAs thread_names_stream T.type_number T.meaning T.limit T.least T.takes_memory }
     ensures thread_info_list { let T = ⟦<MinidumpThreadInfoList as MinidumpStream<'static>>⟧
-        in IsThreadInfoList T.type_number T.meaning T.limit }
+        in IsReadAs thread_info_list_stream T.type_number T.meaning T.limit T.least T.takes_memory }
     ensures crashpad_info { let T = ⟦<MinidumpCrashpadInfo as MinidumpStream<'static>>⟧
-        in IsCrashpadInfo T.type_number T.meaning T.limit }
+        in IsReadAs crashpad_info_stream T.type_number T.meaning T.limit T.least T.takes_memory }
     ensures breakpad_info { let T = ⟦<MinidumpBreakpadInfo as MinidumpStream<'static>>⟧
-        in IsBreakpadInfo T.type_number T.meaning T.limit }
+        in IsReadAs breakpad_info_stream T.type_number T.meaning T.limit T.least T.takes_memory }
     ensures assertion { let T = ⟦<MinidumpAssertion as MinidumpStream<'static>>⟧
-        in IsAssertion T.type_number T.meaning T.limit }
+        in IsReadAs assertion_stream T.type_number T.meaning T.limit T.least T.takes_memory }
     ensures mac_bootargs { let T = ⟦<MinidumpMacBootargs as MinidumpStream<'static>>⟧
-        in IsMacBootargs T.type_number T.meaning T.limit }
+        in IsReadAs mac_bootargs_stream T.type_number T.meaning T.limit T.least T.takes_memory }
     ensures soft_errors { let T = ⟦<MinidumpSoftErrors<'static> as MinidumpStream<'static>>⟧
-        in IsSoftErrors T.type_number T.meaning T.limit }
+        in IsReadAs soft_errors_stream T.type_number T.meaning T.limit T.least T.takes_memory }
     ensures linux_cpu_info { let T = ⟦<MinidumpLinuxCpuInfo<'static> as MinidumpStream<'static>>⟧
-        in IsLinuxCpuInfo T.type_number T.meaning T.limit }
+        in IsReadAs linux_cpu_info_stream T.type_number T.meaning T.limit T.least T.takes_memory }
     ensures linux_proc_status { let T = ⟦<MinidumpLinuxProcStatus<'static> as MinidumpStream<'static>>⟧
-        in IsLinuxProcStatus T.type_number T.meaning T.limit }
+        in IsReadAs linux_proc_status_stream T.type_number T.meaning T.limit T.least T.takes_memory }
     ensures linux_lsb_release { let T = ⟦<MinidumpLinuxLsbRelease<'static> as MinidumpStream<'static>>⟧
-        in IsLinuxLsbRelease T.type_number T.meaning T.limit }
+        in IsReadAs linux_lsb_release_stream T.type_number T.meaning T.limit T.least T.takes_memory }
     ensures linux_environ { let T = ⟦<MinidumpLinuxEnviron<'static> as MinidumpStream<'static>>⟧
-        in IsLinuxEnviron T.type_number T.meaning T.limit }
+        in IsReadAs linux_environ_stream T.type_number T.meaning T.limit T.least T.takes_memory }
     ensures linux_proc_limits { let T = ⟦<MinidumpLinuxProcLimits<'static> as MinidumpStream<'static>>⟧
-        in IsLinuxProcLimits T.type_number T.meaning T.limit }
+        in IsReadAs linux_proc_limits_stream T.type_number T.meaning T.limit T.least T.takes_memory }
     ensures handle_data { let T = ⟦<MinidumpHandleDataStream as MinidumpStream<'static>>⟧
-        in IsHandleData T.type_number T.meaning T.limit }
+        in IsReadAs handle_data_stream T.type_number T.meaning T.limit T.least T.takes_memory }
     ensures thread_list { let T = ⟦<MinidumpThreadList<'static> as MinidumpStream<'static>>⟧
-        in IsThreadList T.type_number T.meaning T.limit }
+        in IsReadAs thread_list_stream T.type_number T.meaning T.limit T.least T.takes_memory }
     ensures exception { let T = ⟦<MinidumpException<'static> as MinidumpStream<'static>>⟧
-        in IsException T.type_number T.meaning T.limit }
+        in IsReadAs exception_stream T.type_number T.meaning T.limit T.least T.takes_memory }
     ensures memory_info_list { let T = ⟦<MinidumpMemoryInfoList<'static> as MinidumpStream<'static>>⟧
-        in IsMemoryInfoList T.type_number T.meaning T.limit }
+        in IsReadAs memory_info_list_stream T.type_number T.meaning T.limit T.least T.takes_memory }
     ensures linux_maps { let T = ⟦<MinidumpLinuxMaps<'static> as MinidumpStream<'static>>⟧
-        in IsLinuxMaps T.type_number T.meaning T.limit }
+        in IsReadAs linux_maps_stream T.type_number T.meaning T.limit T.least T.takes_memory }
     ensures mac_crash_info { let T = ⟦<MinidumpMacCrashInfo as MinidumpStream<'static>>⟧
-        in IsMacCrashInfo T.type_number T.meaning T.limit }
+        in IsReadAs mac_crash_info_stream T.type_number T.meaning T.limit T.least T.takes_memory }
     ensures stability_report { let T = ⟦<StabilityReport as MinidumpStream<'static>>⟧
-        in IsStabilityReport T.type_number T.meaning T.limit }
+        in IsReadAs stability_report_stream T.type_number T.meaning T.limit T.least T.takes_memory }
 {}
 
 /// Clones of a deciding entry, of an unknown stream and of an unimplemented one are equal values.
