@@ -1,11 +1,13 @@
 -- The last item of a list that passes a test.
-use Rattle.std.proofs.Common.{◌≡◌, ◌≢◌, ℕ, Bool, true, false, cond, List, [], ◌∷◌, ◌++◌, reverse, Option, Some, None, refl, ap, ◌∙◌, arith}
+use Rattle.std.proofs.Common.{◌≡◌, ◌≢◌, ℕ, Bool, true, false, cond, List, [], ◌∷◌, ◌++◌, reverse, Option, Some, None, refl, ap, sym, ◌∙◌, arith}
 use Rattle.std.specs.Prelude.{find, ◌==◌, All, ◌↔◌}
 use Rattle.std.specs.Option.{option_or}
-use Rattle.std.proofs.lemmas.Bool.{ne_eqb, eq-eqb}
+use Rattle.std.proofs.lemmas.Bool.{eqb-true, ne_eqb, eq-eqb}
 use Rattle.std.proofs.lemmas.List.{reverse-append}
 use Rattle.std.proofs.lemmas.List.Elements.{All-cons, All-head, All-tail}
 use Rattle.std.proofs.lemmas.List.Folds.{find-append}
+use Rattle.minidump.specs.declared.thread.MinidumpThread.{MinidumpThread}
+use Rattle.minidump.specs.Thread.{IsLastWith}
 
 module _ {X : Type 0} (p : X → Bool) where
   -- it is in the rest, or it is the first
@@ -54,3 +56,30 @@ module _ {X : Type 0} (key : X → ℕ) where
     (λ none. λ i d lt. differs _ k (none_passes (λ y. key y == k) xs none i d lt)),
     (λ others. all_fail (λ y. key y == k) xs (λ i d lt. ne_eqb _ k (others i d lt))),
   )
+
+-- the last thread of an id is what a search from the end finds
+pub last_is_found : (id : ℕ) (threads : List MinidumpThread) (last : Option MinidumpThread) → IsLastWith id threads last
+    → last ≡ find (λ t. t.raw.thread_id == id) (reverse threads)
+last_is_found id threads None others = sym ((none_of_key (λ t. t.raw.thread_id) threads id).1 others)
+last_is_found id threads (Some t) (earlier, later, split, own, others) =
+    rw (split, ← own) (sym (last_of_key (λ x. x.raw.thread_id) earlier later t (λ k d lt. rw own (others k d lt))))
+
+earlier_too : (id : ℕ) (x : MinidumpThread) (xs : List MinidumpThread) (t : MinidumpThread) → IsLastWith id xs (Some t) → IsLastWith id (x ∷ xs) (Some t)
+earlier_too id x xs t (earlier, later, split, own, others) = (x ∷ earlier, later, ap (λ l. x ∷ l) split, own, others)
+
+first_or_none : (id : ℕ) (x : MinidumpThread) (xs : List MinidumpThread) (b : Bool) → (x.raw.thread_id == id) ≡ b
+    → All (λ t. t.raw.thread_id ≢ id) xs → IsLastWith id (x ∷ xs) (cond b (Some x) None)
+first_or_none id x xs true own others = ([], xs, refl, eqb-true x.raw.thread_id id own, others)
+first_or_none id x xs false other others =
+    All-cons (λ t. t.raw.thread_id ≢ id) x xs (differs {X = MinidumpThread} (λ t. t.raw.thread_id) x.raw.thread_id id other) others
+
+-- and what a search from the end finds is the last
+pub found_is_last : (id : ℕ) (threads : List MinidumpThread) → IsLastWith id threads (find (λ t. t.raw.thread_id == id) (reverse threads))
+found_is_last id [] = λ k d lt. absurd (omega arith)
+found_is_last id (x ∷ xs) =
+    rw (last-cons (λ t. t.raw.thread_id == id) x xs) (go (find (λ t. t.raw.thread_id == id) (reverse xs)) (found_is_last id xs))
+  where
+    go : (found : Option MinidumpThread) → IsLastWith id xs found
+        → IsLastWith id (x ∷ xs) (option_or found (cond (x.raw.thread_id == id) (Some x) None))
+    go (Some t) rest = earlier_too id x xs t rest
+    go None others = first_or_none id x xs (x.raw.thread_id == id) refl others

@@ -1,5 +1,5 @@
 -- The threads of a minidump: Microsoft's MINIDUMP_THREAD_LIST, with the context and the stack of each.
-use Rattle.std.specs.Prelude.{◌≡◌, ℕ, ◌+◌, ◌==◌, List, find, map, reverse, Option, Some, None, Result, Ok, if◌then◌else◌, nat_lt, ◌*◌, ◌^◌}
+use Rattle.std.specs.Prelude.{◌≡◌, ◌≢◌, ℕ, ◌+◌, All, List, ◌∷◌, ◌++◌, map, Option, Some, None, Result, Ok, if◌then◌else◌, nat_lt, ◌*◌, ◌^◌}
 use Rattle.std.specs.Option.{option_and_then, option_copied, option_map}
 use Rattle.std.specs.Result.{result_ok}
 use Rattle.minidump_bytes.specs.declared.endian.Endian.{Endian}
@@ -63,9 +63,11 @@ thread_list bytes file order = and_then (plain_list thread order bytes) (λ raws
 abbrev pub reads_of : Thread → ℕ
 reads_of t = 1 + spans_read t.raw.stack
 
--- the last thread of an id
-abbrev pub last_with : ℕ → List MinidumpThread → Option MinidumpThread
-last_with id threads = find (λ t. t.raw.thread_id == id) (reverse threads)
+-- the last thread of an id: it has the id, and none behind it has. There is none only where no thread has the id
+abbrev pub IsLastWith : ℕ → List MinidumpThread → Option MinidumpThread → Type 0
+IsLastWith id threads None = All (λ t. t.raw.thread_id ≢ id) threads
+IsLastWith id threads (Some last) =
+    (earlier later : List MinidumpThread) × (threads ≡ earlier ++ (last ∷ later)) × (last.raw.thread_id ≡ id) × All (λ t. t.raw.thread_id ≢ id) later
 
 abbrev IsOwnOrListed : Option (MemoryRegion MINIDUMP_MEMORY_DESCRIPTOR) → Type 0 → Option UnifiedRegion → Type 0
 IsOwnOrListed (Some own) listed found = found ≡ Some (of_kind Memory own)

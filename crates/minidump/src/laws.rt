@@ -1,6 +1,6 @@
 //! Laws of the directory, of the streams and of lists of regions, over the definitions that the contracts of
 //! this crate name. Each is a call that does nothing; its contract says what holds.
-ghost use Rattle.std.specs.Prelude.{◌≡◌, ◌≢◌, ◌<◌, ◌^◌, ◌+◌, ◌↔◌, ℕ, ◌++◌, ◌∷◌, All, Contains, List, length, map};
+ghost use Rattle.std.specs.Prelude.{◌≡◌, ◌≢◌, ◌<◌, ◌^◌, ◌+◌, ℕ, ◌++◌, ◌∷◌, All, Contains, List, length, map, Option};
 ghost use Rattle.std.specs.List.Sorted.{IsStrictlyIncreasing};
 ghost use Rattle.minidump_format.specs.declared.format.header.MINIDUMP_DIRECTORY.{MINIDUMP_DIRECTORY};
 ghost use Rattle.minidump.specs.declared.directory.DecidingEntry.{DecidingEntry};
@@ -9,7 +9,7 @@ ghost use Rattle.minidump.specs.Directory.{deciding, deciding_below, directory};
 ghost use Rattle.minidump.specs.Dump.{Dump, raw_stream, spanned, streams_of};
 ghost use Rattle.minidump.specs.Promise.{IsReadAs, assertion_stream, breakpad_info_stream, crashpad_info_stream, exception_stream, handle_data_stream, linux_cpu_info_stream, linux_environ_stream, linux_lsb_release_stream, linux_maps_stream, linux_proc_limits_stream, linux_proc_status_stream, mac_bootargs_stream, mac_crash_info_stream, memory64_list_stream, memory_info_list_stream, memory_list_stream, misc_info_stream, module_list_stream, soft_errors_stream, stability_report_stream, system_info_stream, thread_info_list_stream, thread_list_stream, thread_names_stream, unloaded_module_list_stream};
 ghost use Rattle.minidump.specs.Streams.{unimplemented_view, unknown_view};
-ghost use Rattle.minidump.specs.Thread.{last_with};
+ghost use Rattle.minidump.specs.Thread.{IsLastWith};
 ghost use Rattle.minidump_bytes.specs.Span.{span};
 
 use crate::directory::DecidingEntry;
@@ -91,13 +91,10 @@ pub fn listed_streams_decide()
         → deciding stream_type (directory d.order d.header d.file) ≡ Some s → Contains (streams_of d) s }
 {}
 
-/// Of the threads with one id the last is found, and none only if no thread has the id.
-pub fn last_thread_is_found()
-    ensures last { (earlier later : List MinidumpThread) (t : MinidumpThread)
-        → All (λ x. x.raw.thread_id ≢ t.raw.thread_id) later
-        → last_with t.raw.thread_id (earlier ++ (t ∷ later)) ≡ Some t }
-    ensures none { (threads : List MinidumpThread) (id : ℕ)
-        → last_with id threads ≡ None ↔ All (λ x. x.raw.thread_id ≢ id) threads }
+/// One thread, or none, is the last of an id: it is the one before others that all have other ids.
+pub fn one_last_thread()
+    ensures { (id : ℕ) (threads : List MinidumpThread) (one other : Option MinidumpThread)
+        → IsLastWith id threads one → IsLastWith id threads other → one ≡ other }
 {}
 
 /// Each type of stream that is read keeps what is promised of it: its number, its meaning, at most `n + 7`

@@ -1,11 +1,11 @@
-ghost use Rattle.std.specs.Prelude.{◌≡◌, ◌+◌, ◌*◌, ◌≤◌, IfOk, length, map};
+ghost use Rattle.std.specs.Prelude.{◌≡◌, ◌==◌, ◌+◌, ◌*◌, ◌≤◌, IfOk, find, length, map, reverse};
 ghost use Rattle.std.specs.List.{sum_by};
 ghost use Rattle.std.specs.Option.{option_copied};
 ghost use Rattle.minidump_bytes.specs.Source.{bytes_of};
 ghost use Rattle.minidump_bytes.specs.Steps.{after};
 ghost use Rattle.minidump_format.specs.declared.format.stream_type.MINIDUMP_STREAM_TYPE.TheVariants.{ThreadListStream};
 ghost use Rattle.minidump_format.specs.StreamType.{number_of};
-ghost use Rattle.minidump.specs.Thread.{last_with, reads_of, thread_at, thread_of};
+ghost use Rattle.minidump.specs.Thread.{IsLastWith, reads_of, thread_at, thread_of};
 
 use crate::MinidumpThread;
 use minidump_bytes::{Endian, Entries, Source, Steps};
@@ -26,7 +26,14 @@ impl<'a> MinidumpThreadList<'a> {
     /// Returns the last thread with an id, or `None` if no thread has it. It compares ids from the end of
     /// the list on.
     pub fn get_thread(&self, id: u32) -> Option<&MinidumpThread<'a>>
-        ensures { option_copied result ≡ last_with id self.now.threads.items }
+        ensures { IsLastWith id self.now.threads.items (option_copied result) }
+    {
+        self.first_from_the_end(id)
+    }
+
+    // Returns the first thread with an id, from the end of the list on.
+    fn first_from_the_end(&self, id: u32) -> Option<&MinidumpThread<'a>>
+        ensures { option_copied result ≡ find (λ t. t.raw.thread_id == id) (reverse self.now.threads.items) }
     {
         self.threads.iter().rev().find(|t| t.raw.thread_id == id)
     }
