@@ -1,11 +1,11 @@
 -- Lines that are written one after another.
-use Rattle.std.specs.Prelude.{◌≡◌, ℕ, List, ◌++◌, Option, Result, Ok, Err, IsErrAnd}
+use Rattle.std.specs.Prelude.{◌≡◌, ℕ, List, ◌++◌, Option, Result, Ok, Err, IfErr, IsErrAnd}
 use Rattle.std.proofs.Common.{inl, inr, refl, ap, sym, ◌∙◌, append_assoc, subst}
 use Rattle.std.proofs.KnownBytes.{Appends-trans}
 use Rattle.minidump_bytes.specs.declared.told.Told.{Told}
 use Rattle.minidump_bytes.specs.Told.{PutsAll, PutsBeginning}
 use Rattle.minidump_format.specs.declared.error.Error.{Error}
-use Rattle.mdump.specs.Done.{TookAll, TookBeginning, Writes}
+use Rattle.mdump.specs.Done.{IsOutputRefusal, TookAll, TookBeginning, Writes}
 use Rattle.minidump_index.specs.declared.range.Range.{Range}
 use Rattle.mdump.specs.Lines.{IsAt, Joined}
 use Rattle.mdump.proofs.LookupLemmas.{a_found}
@@ -56,3 +56,10 @@ a_line range list address line = let f = a_found range list address in (line f.0
 -- a line and another one
 pub both_lines : (First Rest : List ℕ → Type 0) → (text : List ℕ) × First text → (text : List ℕ) × Rest text → (text : List ℕ) × Joined First Rest text
 both_lines First Rest (xs, first) (ys, rest) = (xs ++ ys, (xs, ys, first, rest, refl))
+
+-- a refusal behind a text that went out whole
+pub refused_behind : {D : Type 0} (IsText : List ℕ → Type 0) (contents : D → Option (List ℕ)) (a b c : Told D) (r : Result (Unit {0}) Error) → TookAll IsText contents a b
+    → IfErr r (IsOutputRefusal b c) → IfErr r (IsOutputRefusal a c)
+refused_behind IsText contents a b c (Ok u) took is = tt
+refused_behind IsText contents a b c (Err e) (text, is_text, all) (inl (same, is)) = inr (rw (same, is, all.alive) refl)
+refused_behind IsText contents a b c (Err e) took (inr is) = inr is

@@ -7,6 +7,7 @@ use Rattle.minidump_bytes.specs.Told.{PutsAll, PutsBeginning, has_failed}
 use Rattle.minidump_format.specs.declared.error.Error.{Error}
 use Rattle.minidump_format.specs.declared.error.Error.TheVariants.{IoError, OutOfMemory}
 use Rattle.minidump_format.specs.Error.{refusal_name}
+use Rattle.minidump_format.specs.Print.{out_of_memory}
 use Rattle.minidump_format.specs.declared.format.stream_type.MINIDUMP_STREAM_TYPE.TheVariants.{LinuxMaps, MemoryInfoListStream, ModuleListStream}
 use Rattle.minidump_format.specs.StreamType.{number_of}
 use Rattle.minidump_memory.specs.Memory.{region_range}
@@ -93,13 +94,13 @@ abbrev pub Writes : {D : Type 0} → (List ℕ → Type 0) → (D → Option (Li
 Writes IsText contents old new (Ok _) = TookAll IsText contents old new
 Writes IsText contents old new (Err _) = TookBeginning IsText contents old new
 
--- an error behind the read of the file: the output failed, or memory ran out
-abbrev pub IsOutputRefusal : {D : Type 0} → Told D → Error → Type 0
-IsOutputRefusal new e = ((e ≡ IoError) × (has_failed new ≡ true)) ⊎ (e ≡ OutOfMemory)
+-- an error behind the read of the file: memory ran out before anything was written, or it is that of a print
+abbrev pub IsOutputRefusal : {D : Type 0} → Told D → Told D → Error → Type 0
+IsOutputRefusal old new e = ((new ≡ old) × (e ≡ OutOfMemory)) ⊎ (e ≡ out_of_memory new)
 
--- behind an error the output is as it was, unless it failed or memory ran out
+-- behind an error the output is as it was; or the error is IoError where the output has failed, and else OutOfMemory
 abbrev pub AccountsFor : {D : Type 0} → Told D → Told D → Error → Type 0
-AccountsFor old new e = (new ≡ old) ⊎ IsOutputRefusal new e
+AccountsFor old new e = (new ≡ old) ⊎ (e ≡ out_of_memory new)
 
 -- the device took a text whole; or it has failed, and took a beginning of it
 abbrev pub IsTold : {D : Type 0} → (D → Option (List ℕ)) → Told D → Told D → List ℕ → Type 0
@@ -110,7 +111,7 @@ abbrev pub refusal_line : Error → List ℕ
 refusal_line e = refusal_name e ++ codes "\n"
 
 -- What a run of the program with these words wrote, by its status. 0: the output took what the words ask for. 1: there was a refusal,
--- whose name the errors took; the output is as it was, unless it failed or memory ran out. 2: the words are no command, and the errors took the usage.
+-- whose name the errors took; the output is as it was, unless it failed, which is IoError, or memory ran out. 2: the words are no command, and the errors took the usage.
 pub record IsRun {F O E : Type 0} (files : F → Option (List ℕ)) (output : O → Option (List ℕ)) (errors : E → Option (List ℕ))
     (words : List (List ℕ)) (out_old out_new : Told O) (err_old err_new : Told E) (status : ℕ) : Type 0 where
   pub known : status ≤ 2
@@ -119,7 +120,7 @@ pub record IsRun {F O E : Type 0} (files : F → Option (List ℕ)) (output : O 
       → TookBeginning (IsAnswer files words) output out_old out_new
       × ((e : Error) × IsPathRefusal files e × AccountsFor out_old out_new e × IsTold errors err_old err_new (refusal_line e))
   -- of no words only a failure of the output is refused
-  pub shown : length words ≡ 0 → status ≡ 1 → has_failed out_new ≡ true
+  pub shown : length words ≡ 0 → status ≡ 1 → (has_failed out_new ≡ true) × IsTold errors err_old err_new (refusal_line IoError)
   pub usage : status ≡ 2 → (out_new ≡ out_old) × IsTold errors err_old err_new usage
   pub bad : status ≡ 2 ↔ ((0 < length words) × ¬ (IsCommand words))
 

@@ -23,7 +23,7 @@ pub(crate) fn info_line<O: Write>(
     out: &mut Told<O>,
 ) -> Result<(), Error>
     ensures written { Writes (IsInfoLine (dump_of dump.now) address) O.contents out.old out.new result }
-    ensures refusal { IfErr result (IsOutputRefusal out.new) }
+    ensures refusal { IfErr result (IsOutputRefusal out.old out.new) }
 {
     let infos = information(dump, alloc)?;
     let found = info_at(infos.as_ref(), address);

@@ -20,7 +20,7 @@ pub(crate) fn memory_line<O: Write>(
     out: &mut Told<O>,
 ) -> Result<(), Error>
     ensures written { Writes (IsMemoryLine (dump_of dump.now) address) O.contents out.old out.new result }
-    ensures refusal { IfErr result (IsOutputRefusal out.new) }
+    ensures refusal { IfErr result (IsOutputRefusal out.old out.new) }
 {
     let memory = dump.get_memory(alloc)?;
     let found = memory_at(memory.as_ref(), address);

@@ -21,7 +21,7 @@ pub(crate) fn module_line<O: Write>(
     out: &mut Told<O>,
 ) -> Result<(), Error>
     ensures written { Writes (IsModuleLine (dump_of dump.now) address) O.contents out.old out.new result }
-    ensures refusal { IfErr result (IsOutputRefusal out.new) }
+    ensures refusal { IfErr result (IsOutputRefusal out.old out.new) }
 {
     let modules = readable::<MinidumpModuleList>(dump, alloc)?;
     let found = module_at(modules.as_ref(), address);

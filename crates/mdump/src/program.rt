@@ -55,7 +55,7 @@ fn answered<R: Files + AllocGlobal, O: Write>(
     ensures written { IfSome result (Writes (IsAnswer R.File.remaining (map string_bytes words.now)) O.contents out.old out.new) }
     ensures refusal { IfSome result (λ r. IfErr r (IsPathRefusal R.File.remaining)) }
     ensures accounted { IfSome result (λ r. IfErr r (AccountsFor out.old out.new)) }
-    ensures shown { length words.now ≡ 0 → IfSome result (λ r. OnErr r (has_failed out.new ≡ true)) }
+    ensures shown { length words.now ≡ 0 → IfSome result (λ r. IfErr r (λ e. (e ≡ Error.IoError) × (has_failed out.new ≡ true))) }
     ensures asked { IfSome result
         (λ _. (0 < length words.now) → ¬ (IsCommand (map string_bytes words.now)) → ⊥) }
     ensures none { IfNone result ((0 < length words.now) × ¬ (IsCommand (map string_bytes words.now))
@@ -118,7 +118,7 @@ fn lines<O: Write>(
     out: &mut Told<O>,
 ) -> Result<(), Error>
     ensures written { Writes (AreLinesOf (dump_of dump.now) address) O.contents out.old out.new result }
-    ensures refusal { IfErr result (IsOutputRefusal out.new) }
+    ensures refusal { IfErr result (IsOutputRefusal out.old out.new) }
 {
     memory_line(dump, alloc, address, out)?;
     last_lines(dump, alloc, address, out)
@@ -132,7 +132,7 @@ fn last_lines<O: Write>(
     out: &mut Told<O>,
 ) -> Result<(), Error>
     ensures written { Writes (AreLastLines (dump_of dump.now) address) O.contents out.old out.new result }
-    ensures refusal { IfErr result (IsOutputRefusal out.new) }
+    ensures refusal { IfErr result (IsOutputRefusal out.old out.new) }
 {
     module_line(dump, alloc, address, out)?;
     info_line(dump, alloc, address, out)

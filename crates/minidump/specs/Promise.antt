@@ -1,6 +1,6 @@
 -- The promise of this library. A file is a minidump, or has an error, by `dump_in` of Dump.antt; a stream is a value, or has an error,
--- by `stream` there and by what its type means. Reading a file of n bytes takes `least_reads` at least and n + 8 at most; a stream takes
--- one for its span and n + 7 more at most, or (n + 8)² - 1 more where it is handles or Crashpad's information. A list of regions answers
+-- by `stream` there and by what its type means. Reading a file of n bytes takes n + 8 reads at most, and `least_reads` at least where it is a
+-- minidump; a stream takes one for its span and n + 7 more at most, or (n + 8)² - 1 more where it is handles or Crashpad's information. A list of regions answers
 -- by `HasRegionLaws` of minidump_index. Each type of stream that is read has a table here.
 use Rattle.std.specs.Prelude.{◌≡◌, ℕ, ◌+◌, ◌-◌, ◌*◌, ◌≤◌, List, length, Option, IsOk, IsSome, ⊤}
 use Rattle.std.specs.List.{sum_by}
@@ -78,7 +78,7 @@ abbrev pub system_info_stream : Promised System
 system_info_stream = record {
   stream_type = SystemInfoStream;
   meaning = system_in;
-  most = linear;
+  most = λ n. 7;
   fewest = λ bytes order system. 0;
   memory = λ bytes order. ⊤;
 }
@@ -204,7 +204,7 @@ abbrev pub breakpad_info_stream : Promised MinidumpBreakpadInfo
 breakpad_info_stream = record {
   stream_type = BreakpadInfoStream;
   meaning = λ bytes file order system. breakpad_info_in bytes order;
-  most = linear;
+  most = λ n. 1;
   fewest = λ bytes order info. 1;
   memory = λ bytes order. ⊥;
 }
@@ -213,7 +213,7 @@ abbrev pub assertion_stream : Promised MINIDUMP_ASSERTION_INFO
 assertion_stream = record {
   stream_type = AssertionInfoStream;
   meaning = λ bytes file order system. assertion_in bytes order;
-  most = linear;
+  most = λ n. 1;
   fewest = λ bytes order info. 1;
   memory = λ bytes order. ⊥;
 }
@@ -231,7 +231,7 @@ abbrev pub mac_bootargs_stream : Promised BootArgs
 mac_bootargs_stream = record {
   stream_type = MozMacosBootargsStream;
   meaning = λ bytes file order system. boot_args bytes file order;
-  most = linear;
+  most = λ n. 3;
   fewest = λ bytes order args. boot_args_reads bytes;
   memory = λ bytes order. 8 ≤ length bytes;
 }
@@ -240,7 +240,7 @@ abbrev pub soft_errors_stream : Promised (List ℕ)
 soft_errors_stream = record {
   stream_type = MozSoftErrors;
   meaning = λ bytes file order system. soft_errors bytes;
-  most = linear;
+  most = λ n. 0;
   fewest = λ bytes order text. 0;
   memory = λ bytes order. ⊥;
 }
@@ -250,7 +250,7 @@ abbrev linux_stream : MINIDUMP_STREAM_TYPE → Promised (List ℕ)
 linux_stream stream_type = record {
   stream_type = stream_type;
   meaning = λ bytes file order system. linux_text bytes;
-  most = linear;
+  most = λ n. 0;
   fewest = λ bytes order text. 0;
   memory = λ bytes order. ⊥;
 }

@@ -91,7 +91,7 @@ pub fn listed_streams_decide()
         → deciding stream_type (directory d.order d.header d.file) ≡ Some s → Contains (streams_of d) s }
 {}
 
-/// One thread, or none, is the last of an id: it is the one before others that all have other ids.
+/// One thread, or none, is the last of an id: it has the id, and none behind it has.
 pub fn one_last_thread()
     ensures { (id : ℕ) (threads : List MinidumpThread) (one other : Option MinidumpThread)
         → IsLastWith id threads one → IsLastWith id threads other → one ≡ other }

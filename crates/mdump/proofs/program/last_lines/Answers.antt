@@ -4,7 +4,7 @@ use Rattle.std.specs.Option.{option_map}
 use Rattle.minidump_memory.specs.UnifiedInfo.{info_region_range, info_regions}
 use Rattle.mdump.specs.Done.{IsInfoLine, IsModuleLine, info_of_dump}
 use Rattle.mdump.specs.Lines.{info_line}
-use Rattle.mdump.proofs.JoinedLemmas.{a_line, cut, joined}
+use Rattle.mdump.proofs.JoinedLemmas.{a_line, cut, joined, refused_behind}
 use Rattle.mdump.proofs.program.last_lines.Goals as goal
 
 pub returns-in_err-module_line-clause-written : goal.returns-in_err-module_line-clause-written
@@ -18,3 +18,6 @@ returns-clause-written g c =
     let dump = dump_of c.args.dump.now in
     joined g.O.Write.contents (IsModuleLine dump c.args.address) (IsInfoLine dump c.args.address) c.args.out.now c.module_line.new.out c.info_line.new.out c.info_line.result
     (a_line info_region_range (option_map info_regions (info_of_dump dump)) c.args.address info_line) c.in_ok-module_line.ensures.written c.info_line.ensures.written
+
+pub returns-clause-refusal : goal.returns-clause-refusal
+returns-clause-refusal g c = refused_behind (IsModuleLine (dump_of c.args.dump.now) c.args.address) g.O.Write.contents c.args.out.now c.module_line.new.out c.info_line.new.out c.info_line.result c.in_ok-module_line.ensures.written c.info_line.ensures.refusal

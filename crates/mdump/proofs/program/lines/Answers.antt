@@ -5,7 +5,7 @@ use Rattle.minidump_memory.specs.UnifiedInfo.{info_region_range, info_regions}
 use Rattle.minidump_modules.specs.Module.{value_range}
 use Rattle.mdump.specs.Done.{AreLastLines, IsInfoLine, IsMemoryLine, IsModuleLine, info_of_dump, modules_of_dump}
 use Rattle.mdump.specs.Lines.{info_line, module_line}
-use Rattle.mdump.proofs.JoinedLemmas.{a_line, both_lines, cut, joined}
+use Rattle.mdump.proofs.JoinedLemmas.{a_line, both_lines, cut, joined, refused_behind}
 use Rattle.mdump.proofs.program.lines.Goals as goal
 
 pub returns-in_err-memory_line-clause-written : goal.returns-in_err-memory_line-clause-written
@@ -23,3 +23,6 @@ returns-clause-written g c =
     let info = a_line info_region_range (option_map info_regions (info_of_dump dump)) c.args.address info_line in
     joined g.O.Write.contents (IsMemoryLine dump c.args.address) (AreLastLines dump c.args.address) c.args.out.now c.memory_line.new.out c.last_lines.new.out c.last_lines.result
     (both_lines (IsModuleLine dump c.args.address) (IsInfoLine dump c.args.address) a_module info) c.in_ok-memory_line.ensures.written c.last_lines.ensures.written
+
+pub returns-clause-refusal : goal.returns-clause-refusal
+returns-clause-refusal g c = refused_behind (IsMemoryLine (dump_of c.args.dump.now) c.args.address) g.O.Write.contents c.args.out.now c.memory_line.new.out c.last_lines.new.out c.last_lines.result c.in_ok-memory_line.ensures.written c.last_lines.ensures.refusal
