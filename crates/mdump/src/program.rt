@@ -1,4 +1,4 @@
-ghost use Rattle.std.specs.Prelude.{◌≡◌, ◌<◌, ◌⊎◌, true, IfErr, IfNone, IfSome, OnErr, length, map, string_bytes};
+ghost use Rattle.std.specs.Prelude.{◌≡◌, ◌<◌, ◌⊎◌, true, IfErr, IfNone, IfSome, length, map, string_bytes};
 ghost use Rattle.minidump_bytes.specs.Told.{has_failed};
 ghost use Rattle.minidump_format.specs.Print.{Prints};
 ghost use Rattle.minidump.specs.File.{IsPathRefusal};

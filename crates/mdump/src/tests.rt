@@ -386,9 +386,14 @@ fn reports_a_full_output(rt: HostRuntime) -> Result<(), Fail> {
         String::from_str(alloc, "dir")?,
         String::from_str(alloc, path)?,
     ];
-    for count in [0, 2] {
+    let at = [
+        String::from_str(alloc, "at")?,
+        String::from_str(alloc, path)?,
+        String::from_str(alloc, "0")?,
+    ];
+    for asked in [&words[..0], &words[..], &at[..]] {
         let mut err = Told::new(Vec::new(alloc));
-        let status = run(&rt, &words[..count], &mut Told::new(Full), &mut err);
+        let status = run(&rt, asked, &mut Told::new(Full), &mut err);
         assert_eq!(rt; status, 1);
         assert_eq!(rt; err.into_device().as_slice(), b"IoError\n".as_slice());
     }
