@@ -121,13 +121,11 @@ fn error_of<'a, S: MinidumpStream<'a> + Drop>(alloc: Global, bytes: &'a [u8]) ->
     stream_of::<S>(alloc, bytes).err()
 }
 
-// How many streams of a dump have a type that is never read.
-fn unimplemented_in(alloc: Global, bytes: &[u8]) -> Result<usize, Error> {
-    Ok(
-        Minidump::read(alloc, bytes)?
-            .unimplemented_streams()
-            .count(),
-    )
+// Tells whether a stream of a dump has a type that is never read.
+fn has_unimplemented(alloc: Global, bytes: &[u8]) -> Result<bool, Error> {
+    let dump = Minidump::read(alloc, bytes)?;
+    let mut unimplemented = dump.unimplemented_streams();
+    Ok(unimplemented.next().is_some())
 }
 
 #[test]

@@ -1,4 +1,4 @@
-use super::{BOTH, counted_stream_of, error_of, unimplemented_in};
+use super::{BOTH, counted_stream_of, error_of, has_unimplemented};
 use crate::format::{MINIDUMP_CRASHPAD_INFO, MINIDUMP_SIMPLE_STRING_DICTIONARY_ENTRY};
 use crate::{Endian, Error, MinidumpCrashpadInfo};
 use minidump_synth::{SynthMinidump, zeroed};
@@ -37,7 +37,7 @@ fn reads_the_crashpad_information(rt: HostRuntime) -> Result<(), Fail> {
         assert_eq!(rt; steps, 8);
         assert_eq!(rt; annotation(&info), Some("k"));
         assert_eq!(rt; info.module_list.len(), 0);
-        assert_eq!(rt; unimplemented_in(alloc, &bytes), Ok(0));
+        assert_eq!(rt; has_unimplemented(alloc, &bytes), Ok(false));
     }
     Ok(())
 }

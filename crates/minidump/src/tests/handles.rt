@@ -1,4 +1,4 @@
-use super::{BOTH, counted_stream_of, dump_of, error_of, unimplemented_in};
+use super::{BOTH, counted_stream_of, dump_of, error_of, has_unimplemented};
 use crate::format::MINIDUMP_HANDLE_DESCRIPTOR_2;
 use crate::{Endian, Error, MinidumpHandleDataStream, MinidumpHandleDescriptor};
 use minidump_synth::{SynthMinidump, zeroed};
@@ -41,7 +41,7 @@ fn reads_handles_and_what_is_known_of_their_objects(rt: HostRuntime) -> Result<(
         assert_eq!(rt; steps, 6);
         let first = handles.iter().next().map(known);
         assert_eq!(rt; first, Some((Some("Event"), 1)));
-        assert_eq!(rt; unimplemented_in(alloc, &bytes), Ok(0));
+        assert_eq!(rt; has_unimplemented(alloc, &bytes), Ok(false));
     }
     Ok(())
 }

@@ -1,4 +1,4 @@
-use super::{BOTH, error_of, stream_of, unimplemented_in};
+use super::{BOTH, error_of, has_unimplemented, stream_of};
 use crate::format::MINIDUMP_MEMORY_INFO;
 use crate::{
     Endian, Error, MinidumpLinuxMaps, MinidumpMemoryInfoList, UnifiedMemoryInfo,
@@ -38,7 +38,7 @@ fn reads_memory_information_and_maps(rt: HostRuntime) -> Result<(), Fail> {
     let alloc = rt.alloc();
     for endian in BOTH {
         let bytes = information_dump(alloc, endian, b"10a00-10b00 -w- 0 fd:05 1 [heap]\n")?;
-        assert_eq!(rt; unimplemented_in(alloc, &bytes), Ok(0));
+        assert_eq!(rt; has_unimplemented(alloc, &bytes), Ok(false));
         let info: MinidumpMemoryInfoList = stream_of(alloc, &bytes)?;
         let maps: MinidumpLinuxMaps = stream_of(alloc, &bytes)?;
         assert_eq!(rt; maps.memory_map_count(), 1);

@@ -1,4 +1,4 @@
-use super::{BOTH, counted_stream_of, unimplemented_in};
+use super::{BOTH, counted_stream_of, has_unimplemented};
 use crate::format::MINIDUMP_MAC_CRASH_INFO;
 use crate::{Endian, MinidumpMacCrashInfo, RawMacCrashInfo};
 use minidump_synth::{SynthMinidump, zeroed};
@@ -31,7 +31,7 @@ fn reads_the_crash_information_of_macos(rt: HostRuntime) -> Result<(), Fail> {
         // the stream's span and its record, and the eight of the record
         assert_eq!(rt; steps, 10);
         assert_eq!(rt; info.raw.first().map(seen), Some((Some(7), Some("b"))));
-        assert_eq!(rt; unimplemented_in(alloc, &bytes), Ok(0));
+        assert_eq!(rt; has_unimplemented(alloc, &bytes), Ok(false));
     }
     Ok(())
 }
