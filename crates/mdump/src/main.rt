@@ -16,6 +16,7 @@
 //!
 //! - The status is 0, 1 or 2, and 2 exactly where the arguments are no command. At 0 the output took the
 //!   text that they ask for; at 1 a beginning of it, or nothing; at 2 nothing: `run`, by `IsRun`.
+//! - At 1 the output is as it was, unless the error is `IoError` and the output has failed, or `OutOfMemory`.
 //! - Standard error took the name of one error at 1, the usage at 2, and nothing at 0; only its own failure
 //!   cuts it short. `MissingHeader`, `HeaderMismatch`, `VersionMismatch` and `MissingDirectory` are the
 //!   error of the bytes of a file that was opened.
@@ -23,7 +24,8 @@
 //! - The status and the texts of a run from the arguments of the process: `started`.
 //!
 //! What isn't: which file a path opens, and whether it is `FileNotFound`, `IoError` or `OutOfMemory` that is
-//! named, which tests show; and, but by review, that `main` passes on its arguments and its devices.
+//! named, which tests show; what files and standard output hold, since the standard library tells none of their
+//! bytes; and, but by review, that `main` passes on its arguments and its devices.
 #![tactic(auto)]
 
 mod address;

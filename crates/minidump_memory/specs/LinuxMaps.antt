@@ -78,6 +78,6 @@ line_region line = ok_or (map_line line) StreamReadFailure
 unfoldable pub linux_maps : List ℕ → Result (List MapRegion) Error
 linux_maps bytes = all_ok line_region (lines_of bytes)
 
--- the first line is that of a region: without it no memory is taken
+-- the first line is that of a region: without it there is no `OutOfMemory`
 abbrev pub BeginsWithRegion : List ℕ → Type 0
 BeginsWithRegion bytes = IsSome (option_and_then map_line (line_at 0 bytes))

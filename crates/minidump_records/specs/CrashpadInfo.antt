@@ -48,7 +48,7 @@ module_of m = record {
   annotation_objects = entries_of annotation_of m.annotation_objects.entries;
 }
 
--- a link names a record in the file: without it no memory is taken
+-- a link names a record in the file: without it there is no `OutOfMemory`
 abbrev pub HasModule : Endian → List ℕ → MINIDUMP_MODULE_CRASHPAD_INFO_LINK → Type 0
 HasModule order file link = IsSome (record_at module_crashpad_info order link.location.rva file)
 
@@ -67,7 +67,7 @@ module_in order file link =
       annotation_objects = objects;
     })))))
 
--- its reads, by what there is: its record and its lists; for a text its entry too, for a value its entry and its key
+-- its fewest reads, by what there is: its record and its lists; for a text its entry too, for a value its entry and its key
 abbrev pub module_reads : Module → ℕ
 module_reads m = 1
     + (opened_reads m.raw.list_annotations + sum_by (λ text. 2) m.list_annotations)
@@ -101,7 +101,7 @@ crashpad_in bytes file order =
     and_then (tested_list module_link module_in order file raw.module_list) (λ modules.
     Ok (record { raw = raw; simple_annotations = simple; module_list = modules }))))
 
--- its reads, by what there is: its record, its dictionary, and a link with its module for each module
+-- its fewest reads, by what there is: its record, its dictionary, and a link with its module for each module
 abbrev pub crashpad_reads : Crashpad → ℕ
 crashpad_reads c = 1
     + (opened_reads c.raw.simple_annotations + sum_by (λ e. 3) c.simple_annotations)

@@ -17,7 +17,7 @@ use Rattle.minidump_records.specs.Parts.{untested_list}
 abbrev pub text_in : Endian → List ℕ → ℕ → Result (List ℕ) Error
 text_in order file rva = ok_or (text8_nul order rva file) StreamReadFailure
 
--- an RVA has a text: without it no memory is taken
+-- an RVA has a text: without it there is no `OutOfMemory`
 abbrev pub HasText : Endian → List ℕ → ℕ → Type 0
 HasText order file rva = IsOk (text_in order file rva)
 

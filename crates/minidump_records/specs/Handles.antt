@@ -94,7 +94,7 @@ described order file raw = record {
   object_infos = object_chain order file (or_zero (object_info_rva raw));
 }
 
--- and for the names and the object of a handle
+-- how much is read for the names and the object of a handle
 abbrev pub handle_reads : Handle → ℕ
 handle_reads h = reads_at (or_zero (type_name_rva h.raw)) + reads_at (or_zero (object_name_rva h.raw)) + chain_reads (or_zero (object_info_rva h.raw)) h.object_infos
 

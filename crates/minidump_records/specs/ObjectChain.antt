@@ -44,7 +44,7 @@ abbrev pub last_link : ℕ → List MinidumpHandleObjectInformation → ℕ
 last_link link [] = link
 last_link link (i ∷ is) = last_link (next_of i) is
 
--- how much is read for the pieces behind a link: each, and what is no new piece, where the last link is not 0
+-- how much is read for the pieces behind a link: each, and the place where the chain ends, where that is not 0
 abbrev pub chain_reads : ℕ → List MinidumpHandleObjectInformation → ℕ
 chain_reads link infos = length infos + reads_at (last_link link infos)
 

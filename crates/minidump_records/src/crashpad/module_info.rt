@@ -35,7 +35,7 @@ impl MinidumpModuleCrashpadInfo {
     ///
     /// Returns `StreamReadFailure` if a record, a location, a text or an entry is not in the file,
     /// `StreamSizeMismatch` if the list of texts counts more bytes of entries than the file has, and
-    /// `OutOfMemory` if an allocation fails; none is made before the record is read.
+    /// `OutOfMemory` if an allocation fails, and only where the record is in the file.
     pub fn read(
         alloc: Global,
         link: MINIDUMP_MODULE_CRASHPAD_INFO_LINK,
