@@ -1,7 +1,7 @@
 ghost use Rattle.std.specs.Prelude.{◌≡◌, IfErr, IfOk};
 ghost use Rattle.std.specs.Option.{option_map};
 ghost use Rattle.std.specs.Result.{result_ok};
-ghost use Rattle.minidump.specs.Dump.{stream};
+ghost use Rattle.minidump.specs.Dump.{stream_of};
 ghost use Rattle.minidump.specs.Seen.{dump_of};
 
 use minidump::{Error, Minidump, MinidumpStream};
@@ -14,7 +14,7 @@ pub(crate) fn readable<'a, S: MinidumpStream<'a>>(
     alloc: Global,
 ) -> Result<Option<S>, Error>
     ensures means { IfOk result
-        (λ list. option_map S.view list ≡ result_ok (stream S.type_number S.meaning (dump_of dump.now))) }
+        (λ list. option_map S.spec.value list ≡ result_ok (stream_of S.spec (dump_of dump.now))) }
     ensures memory { IfErr result (λ e. e ≡ Error.OutOfMemory) }
 {
     match dump.get_stream::<S>(alloc) {

@@ -1,13 +1,13 @@
 -- The last item of a list that passes a test.
-use Rattle.std.proofs.Common.{◌≡◌, ◌≢◌, ℕ, Bool, true, false, cond, List, [], ◌∷◌, ◌++◌, reverse, Option, Some, None, refl, ap, sym, ◌∙◌, arith}
+use Rattle.std.proofs.Common.{◌≡◌, ◌≢◌, ℕ, Bool, true, false, cond, List, [], ◌∷◌, ◌++◌, map, reverse, Option, Some, None, refl, ap, sym, ◌∙◌, arith}
 use Rattle.std.specs.Prelude.{find, ◌==◌, All, ◌↔◌}
-use Rattle.std.specs.Option.{option_or}
+use Rattle.std.specs.Option.{option_map, option_or}
 use Rattle.std.proofs.lemmas.Bool.{eqb-true, ne_eqb, eq-eqb}
-use Rattle.std.proofs.lemmas.List.{reverse-append}
-use Rattle.std.proofs.lemmas.List.Elements.{All-cons, All-head, All-tail}
+use Rattle.std.proofs.lemmas.List.{map-append, reverse-append}
+use Rattle.std.proofs.lemmas.List.Elements.{All-cons, All-head, All-map, All-tail}
 use Rattle.std.proofs.lemmas.List.Folds.{find-append}
 use Rattle.minidump.specs.declared.thread.MinidumpThread.{MinidumpThread}
-use Rattle.minidump.specs.Thread.{IsLastWith}
+use Rattle.minidump.specs.Thread.{IsLastThread, IsLastWith, Thread, thread_of}
 
 module _ {X : Type 0} (p : X → Bool) where
   -- it is in the rest, or it is the first
@@ -83,3 +83,22 @@ found_is_last id (x ∷ xs) =
         → IsLastWith id (x ∷ xs) (option_or found (cond (x.raw.thread_id == id) (Some x) None))
     go (Some t) rest = earlier_too id x xs t rest
     go None others = first_or_none id x xs (x.raw.thread_id == id) refl others
+
+-- the last thread of an id is the last one as a value
+pub last_as_value : (id : ℕ) (threads : List MinidumpThread) (last : Option MinidumpThread) → IsLastWith id threads last
+    → IsLastThread id (map thread_of threads) (option_map thread_of last)
+last_as_value id threads None others = All-map (λ (t : Thread). t.raw.thread_id ≢ id) thread_of threads others
+last_as_value id threads (Some t) (earlier, later, split, own, others) = (
+  map thread_of earlier,
+  map thread_of later,
+  ap (map thread_of) split ∙ map-append thread_of earlier (t ∷ later),
+  own,
+  All-map (λ (t : Thread). t.raw.thread_id ≢ id) thread_of later others,
+)
+
+-- the last thread of an id, as a value, is what a search from the end finds
+pub last_value_is_found : (id : ℕ) (threads : List Thread) (last : Option Thread) → IsLastThread id threads last
+    → last ≡ find (λ t. t.raw.thread_id == id) (reverse threads)
+last_value_is_found id threads None others = sym ((none_of_key (λ t. t.raw.thread_id) threads id).1 others)
+last_value_is_found id threads (Some t) (earlier, later, split, own, others) =
+    rw (split, ← own) (sym (last_of_key (λ x. x.raw.thread_id) earlier later t (λ k d lt. rw own (others k d lt))))

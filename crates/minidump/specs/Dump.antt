@@ -8,6 +8,8 @@ use Rattle.minidump_format.specs.declared.error.Error.TheVariants.{MissingDirect
 use Rattle.minidump_format.specs.declared.format.header.MINIDUMP_HEADER.{MINIDUMP_HEADER}
 use Rattle.minidump_format.specs.declared.format.stream_type.MINIDUMP_STREAM_TYPE.TheVariants.{SystemInfoStream}
 use Rattle.minidump_format.specs.StreamType.{number_of}
+use Rattle.minidump_format.specs.Answer.{Gives}
+use Rattle.minidump_system.specs.StreamSpec.{Meaning, StreamSpec}
 use Rattle.minidump_system.specs.SystemInfo.{System, system_in}
 use Rattle.minidump.specs.declared.directory.DecidingEntry.{DecidingEntry}
 use Rattle.minidump.specs.Header.{header_of}
@@ -47,11 +49,6 @@ located file (Some d) = let at = d.entry.location in spanned (span at.rva (at.rv
 abbrev pub raw_stream : ℕ → Dump → Result (List ℕ) Error
 raw_stream stream_type d = located d.file (deciding stream_type (directory d.order d.header d.file))
 
--- what a type of stream means: the value or the refusal that the format assigns to a stream's bytes, the bytes of its file,
--- their byte order and the system information, where there is one
-abbrev pub Meaning : Type 0 → Type 0
-Meaning V = List ℕ → List ℕ → Endian → Option System → Result V Error
-
 abbrev meant : {V : Type 0} → Meaning V → Dump → Option System → Result (List ℕ) Error → Result V Error
 meant meaning d system (Ok bytes) = meaning bytes d.file d.order system
 meant meaning d system (Err e) = Err e
@@ -81,3 +78,15 @@ least_reads d = 1 + d.header.stream_count + system_reads d
 -- the stream of a type, with the dump's system information
 abbrev pub stream : {V : Type 0} → ℕ → Meaning V → Dump → Result V Error
 stream stream_type meaning d = stream_with (system_info_of d) stream_type meaning d
+
+-- the stream of a table
+abbrev pub stream_of : {S V : Type 0} → StreamSpec S V → Dump → Result V Error
+stream_of spec d = stream (number_of spec.stream_type) spec.meaning d
+
+-- where it may run out of memory
+abbrev pub memory_of : {S V : Type 0} → StreamSpec S V → Dump → Type 0
+memory_of spec d = IsOkAnd (raw_stream (number_of spec.stream_type) d) (λ b. spec.memory b d.order)
+
+-- a result is the stream of a table or its error; or memory ran out where it may
+abbrev pub IsStreamOf : {S V : Type 0} → StreamSpec S V → Dump → Result S Error → Type 0
+IsStreamOf spec d result = Gives spec.value (memory_of spec d) result (stream_of spec d)

@@ -1,4 +1,6 @@
 -- The exception of a minidump: Microsoft's MINIDUMP_EXCEPTION_STREAM, with the address of the crash.
+use Rattle.minidump_format.specs.declared.format.stream_type.MINIDUMP_STREAM_TYPE.TheVariants.{ExceptionStream}
+use Rattle.minidump_system.specs.StreamSpec.{StreamSpec, linear}
 use Rattle.std.specs.Prelude.{ℕ, ◌%◌, ◌^◌, ◌==◌, ◌||◌, ◌&&◌, nat_le, Bool, false, List, slice_index, Option, Result, Ok, if◌then◌else◌}
 use Rattle.std.specs.Option.{ok_or, option_copied}
 use Rattle.minidump_bytes.specs.declared.endian.Endian.{Endian}
@@ -7,7 +9,7 @@ use Rattle.minidump_format.specs.declared.error.Error.{Error}
 use Rattle.minidump_format.specs.declared.error.Error.TheVariants.{StreamReadFailure}
 use Rattle.minidump_format.specs.declared.format.exception.MINIDUMP_EXCEPTION.{MINIDUMP_EXCEPTION}
 use Rattle.minidump_format.specs.declared.format.exception.MINIDUMP_EXCEPTION_STREAM.{MINIDUMP_EXCEPTION_STREAM}
-use Rattle.minidump_format.specs.Exception.{exception_stream}
+use Rattle.minidump_format.specs.Exception.{exception_stream as exception_layout}
 use Rattle.minidump_system.specs.declared.cpu.Cpu.{Cpu}
 use Rattle.minidump_system.specs.declared.cpu.PointerWidth.{PointerWidth}
 use Rattle.minidump_system.specs.declared.cpu.PointerWidth.TheVariants.{Bits32}
@@ -35,7 +37,7 @@ exception_at order file raw = record { raw = raw; thread_id = raw.thread_id; con
 -- Microsoft's MINIDUMP_EXCEPTION_STREAM: one record
 abbrev pub exception_in : List ℕ → List ℕ → Endian → Result Exception Error
 exception_in bytes file order =
-    and_then (ok_or (record_at exception_stream order 0 bytes) StreamReadFailure) (λ raw. Ok (exception_at order file raw))
+    and_then (ok_or (record_at exception_layout order 0 bytes) StreamReadFailure) (λ raw. Ok (exception_at order file raw))
 
 -- EXCEPTION_ACCESS_VIOLATION and EXCEPTION_IN_PAGE_ERROR of winnt.h, whose second parameter is the address that was accessed
 abbrev has_address : Os → MINIDUMP_EXCEPTION → Bool
@@ -50,3 +52,14 @@ as_wide _ address = address
 -- the address of a crash: the one that was accessed, else the one at which the exception happened
 abbrev pub crash_address : Os → Cpu → MINIDUMP_EXCEPTION → ℕ
 crash_address os cpu r = as_wide (width_of cpu) (if has_address os r then slice_index r.exception_information 1 else r.exception_address)
+
+-- the stream of type ExceptionStream
+abbrev pub exception_stream : StreamSpec MinidumpException Exception
+exception_stream = record {
+  stream_type = ExceptionStream;
+  value = exception_of;
+  meaning = λ bytes file order system. exception_in bytes file order;
+  most = linear;
+  fewest = λ bytes order exception. 2;
+  memory = λ bytes order. ⊥;
+}

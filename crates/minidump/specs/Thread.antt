@@ -1,4 +1,8 @@
 -- The threads of a minidump: Microsoft's MINIDUMP_THREAD_LIST, with the context and the stack of each.
+use Rattle.minidump_format.specs.declared.format.stream_type.MINIDUMP_STREAM_TYPE.TheVariants.{ThreadListStream}
+use Rattle.minidump_system.specs.StreamSpec.{StreamSpec, linear}
+use Rattle.std.specs.List.{sum_by}
+use Rattle.std.specs.Prelude.{IsOk, length}
 use Rattle.std.specs.Prelude.{◌≡◌, ◌≢◌, ℕ, ◌+◌, All, List, ◌∷◌, ◌++◌, map, Option, Some, None, Result, Ok, if◌then◌else◌, nat_lt, ◌*◌, ◌^◌}
 use Rattle.std.specs.Option.{option_and_then, option_copied, option_map}
 use Rattle.std.specs.Result.{result_ok}
@@ -59,6 +63,12 @@ thread_at order file raw = record {
 abbrev pub thread_list : List ℕ → List ℕ → Endian → Result (List Thread) Error
 thread_list bytes file order = and_then (plain_list thread order bytes) (λ raws. Ok (map (thread_at order file) raws))
 
+-- the same of threads as values
+abbrev pub IsLastThread : ℕ → List Thread → Option Thread → Type 0
+IsLastThread id threads None = All (λ t. t.raw.thread_id ≢ id) threads
+IsLastThread id threads (Some last) =
+    (earlier later : List Thread) × (threads ≡ earlier ++ (last ∷ later)) × (last.raw.thread_id ≡ id) × All (λ t. t.raw.thread_id ≢ id) later
+
 -- how much is read for a thread: its context, and its stack where that has a place and a size
 abbrev pub reads_of : Thread → ℕ
 reads_of t = 1 + spans_read t.raw.stack
@@ -94,3 +104,14 @@ abbrev pub IsErrorIn : Lists → UnifiedRegions → Option ℕ → Option CrashR
 IsErrorIn names memory None found = found ≡ None
 IsErrorIn names memory (Some address) found =
     (region : Option UnifiedRegion) × IsLookedUp region_range (unified_regions memory) address region × (found ≡ error_at names address region)
+
+-- the stream of type ThreadListStream
+abbrev pub thread_list_stream : StreamSpec MinidumpThreadList (List Thread)
+thread_list_stream = record {
+  stream_type = ThreadListStream;
+  value = threads_of;
+  meaning = λ bytes file order system. thread_list bytes file order;
+  most = linear;
+  fewest = λ bytes order threads. 1 + length threads + sum_by reads_of threads;
+  memory = λ bytes order. IsOk (plain_list thread order bytes);
+}

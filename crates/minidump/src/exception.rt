@@ -1,7 +1,7 @@
 ghost use Rattle.std.specs.Prelude.{◌≡◌, IfSome};
 ghost use Rattle.std.specs.Option.{option_map};
 ghost use Rattle.minidump_context.specs.declared.validity.MinidumpContextValidity.TheVariants.{All};
-ghost use Rattle.minidump_format.specs.declared.format.stream_type.MINIDUMP_STREAM_TYPE.TheVariants.{ExceptionStream};
+ghost use Rattle.minidump.specs.Exception.{exception_stream};
 ghost use Rattle.minidump_format.specs.StreamType.{number_of};
 ghost use Rattle.minidump_reason.specs.Reason.{crash_reason};
 ghost use Rattle.minidump.specs.Exception.{crash_address, exception_of};
@@ -88,29 +88,17 @@ impl<'a> MinidumpException<'a> {
 /// Microsoft's `MINIDUMP_EXCEPTION_STREAM`: one record. Its context is not decoded. The only error is
 /// `StreamReadFailure`, if the stream has too few bytes.
 impl<'a> MinidumpStream<'a> for MinidumpException<'a> {
-    ghost use Rattle.std.specs.Prelude.{◌+◌};
-    ghost use Rattle.minidump_format.specs.declared.format.stream_type.MINIDUMP_STREAM_TYPE.TheVariants.{ExceptionStream};
-    ghost use Rattle.minidump_format.specs.StreamType.{number_of};
-    ghost use Rattle.minidump.specs.Exception.{Exception, exception_in, exception_of};
-
-    ghost type_number = { number_of ExceptionStream };
-
-    const STREAM_TYPE: u32 = 6;
+    ghost use Rattle.minidump.specs.Exception.{Exception};
+    ghost use Rattle.minidump.specs.Exception.{exception_stream};
 
     ghost Value = { Exception };
 
-    ghost view = { exception_of };
+    ghost spec = { exception_stream };
 
-    ghost meaning = { λ bytes all order system. exception_in bytes all order };
-
-    ghost limit = { λ n. n + 7 };
-
-    ghost least = { λ bytes order exception. 2 };
-
-    ghost takes_memory = { λ bytes order. ⊥ };
+    const STREAM_TYPE: u32 = 6;
 
     fn number_of_type() -> u32
-        ensures { result ≡ number_of ExceptionStream }
+        ensures { result ≡ number_of exception_stream.stream_type }
     {
         Self::STREAM_TYPE
     }

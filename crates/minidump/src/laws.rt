@@ -6,11 +6,15 @@ ghost use Rattle.minidump_format.specs.declared.format.header.MINIDUMP_DIRECTORY
 ghost use Rattle.minidump.specs.declared.directory.DecidingEntry.{DecidingEntry};
 ghost use Rattle.minidump.specs.declared.thread.MinidumpThread.{MinidumpThread};
 ghost use Rattle.minidump.specs.Directory.{deciding, deciding_below, directory};
-ghost use Rattle.minidump.specs.Dump.{Dump, raw_stream, spanned, streams_of};
-ghost use Rattle.minidump.specs.Promise.{IsReadAs, assertion_stream, breakpad_info_stream, crashpad_info_stream, exception_stream, handle_data_stream, linux_cpu_info_stream, linux_environ_stream, linux_lsb_release_stream, linux_maps_stream, linux_proc_limits_stream, linux_proc_status_stream, mac_bootargs_stream, mac_crash_info_stream, memory64_list_stream, memory_info_list_stream, memory_list_stream, misc_info_stream, module_list_stream, soft_errors_stream, stability_report_stream, system_info_stream, thread_info_list_stream, thread_list_stream, thread_names_stream, unloaded_module_list_stream};
+ghost use Rattle.minidump.specs.Dump.{Dump, raw_stream, spanned, stream, streams_of, system_info_of};
+ghost use Rattle.minidump_format.specs.StreamType.{number_of};
+ghost use Rattle.minidump_format.specs.declared.format.stream_type.MINIDUMP_STREAM_TYPE.TheVariants.{SystemInfoStream};
+ghost use Rattle.std.specs.Result.{result_ok};
+ghost use Rattle.minidump.specs.Promise.{assertion_stream, breakpad_info_stream, crashpad_info_stream, exception_stream, handle_data_stream, linux_cpu_info_stream, linux_environ_stream, linux_lsb_release_stream, linux_maps_stream, linux_proc_limits_stream, linux_proc_status_stream, mac_bootargs_stream, mac_crash_info_stream, memory64_list_stream, memory_info_list_stream, memory_list_stream, misc_info_stream, module_list_stream, soft_errors_stream, stability_report_stream, system_info_stream, thread_info_list_stream, thread_list_stream, thread_names_stream, unloaded_module_list_stream};
 ghost use Rattle.minidump.specs.Streams.{unimplemented_view, unknown_view};
-ghost use Rattle.minidump.specs.Thread.{IsLastWith};
+ghost use Rattle.minidump.specs.Thread.{IsLastThread, IsLastWith, Thread};
 ghost use Rattle.minidump_bytes.specs.Span.{span};
+ghost use Rattle.minidump_system.specs.StreamSpec.{IsSame};
 
 use crate::directory::DecidingEntry;
 use crate::exception::MinidumpException;
@@ -93,64 +97,46 @@ pub fn listed_streams_decide()
 
 /// One thread, or none, is the last of an id: it has the id, and none behind it has.
 pub fn one_last_thread()
-    ensures { (id : ℕ) (threads : List MinidumpThread) (one other : Option MinidumpThread)
+    ensures last { (id : ℕ) (threads : List MinidumpThread) (one other : Option MinidumpThread)
         → IsLastWith id threads one → IsLastWith id threads other → one ≡ other }
+    ensures value { (id : ℕ) (threads : List Thread) (one other : Option Thread)
+        → IsLastThread id threads one → IsLastThread id threads other → one ≡ other }
+{}
+
+/// The system information is read as the dump has it: its stream, where that parses.
+pub fn system_information_is_the_dumps()
+    ensures { (d : Dump) → result_ok (stream (number_of SystemInfoStream) system_info_stream.meaning d) ≡ system_info_of d }
 {}
 
 /// Each type of stream that is read keeps what is promised of it: its number, its meaning, at most `n + 7`
 /// reads, or `(n + 8)² - 1` of handles and Crashpad's information, the fewest reads, and where it may take
 /// memory.
 pub fn streams_are_read_as_promised()
-    ensures system_info { let T = ⟦<MinidumpSystemInfo as MinidumpStream<'static>>⟧
-        in IsReadAs system_info_stream T.type_number T.meaning T.limit T.least T.takes_memory }
-    ensures misc_info { let T = ⟦<MinidumpMiscInfo as MinidumpStream<'static>>⟧
-        in IsReadAs misc_info_stream T.type_number T.meaning T.limit T.least T.takes_memory }
-    ensures memory_list { let T = ⟦<MinidumpMemoryList<'static> as MinidumpStream<'static>>⟧
-        in IsReadAs memory_list_stream T.type_number T.meaning T.limit T.least T.takes_memory }
-    ensures memory64_list { let T = ⟦<MinidumpMemory64List<'static> as MinidumpStream<'static>>⟧
-        in IsReadAs memory64_list_stream T.type_number T.meaning T.limit T.least T.takes_memory }
-    ensures module_list { let T = ⟦<MinidumpModuleList as MinidumpStream<'static>>⟧
-        in IsReadAs module_list_stream T.type_number T.meaning T.limit T.least T.takes_memory }
-    ensures unloaded_module_list { let T = ⟦<MinidumpUnloadedModuleList as MinidumpStream<'static>>⟧
-        in IsReadAs unloaded_module_list_stream T.type_number T.meaning T.limit T.least T.takes_memory }
-    ensures thread_names { let T = ⟦<MinidumpThreadNames as MinidumpStream<'static>>⟧
-        in IsReadAs thread_names_stream T.type_number T.meaning T.limit T.least T.takes_memory }
-    ensures thread_info_list { let T = ⟦<MinidumpThreadInfoList as MinidumpStream<'static>>⟧
-        in IsReadAs thread_info_list_stream T.type_number T.meaning T.limit T.least T.takes_memory }
-    ensures crashpad_info { let T = ⟦<MinidumpCrashpadInfo as MinidumpStream<'static>>⟧
-        in IsReadAs crashpad_info_stream T.type_number T.meaning T.limit T.least T.takes_memory }
-    ensures breakpad_info { let T = ⟦<MinidumpBreakpadInfo as MinidumpStream<'static>>⟧
-        in IsReadAs breakpad_info_stream T.type_number T.meaning T.limit T.least T.takes_memory }
-    ensures assertion { let T = ⟦<MinidumpAssertion as MinidumpStream<'static>>⟧
-        in IsReadAs assertion_stream T.type_number T.meaning T.limit T.least T.takes_memory }
-    ensures mac_bootargs { let T = ⟦<MinidumpMacBootargs as MinidumpStream<'static>>⟧
-        in IsReadAs mac_bootargs_stream T.type_number T.meaning T.limit T.least T.takes_memory }
-    ensures soft_errors { let T = ⟦<MinidumpSoftErrors<'static> as MinidumpStream<'static>>⟧
-        in IsReadAs soft_errors_stream T.type_number T.meaning T.limit T.least T.takes_memory }
-    ensures linux_cpu_info { let T = ⟦<MinidumpLinuxCpuInfo<'static> as MinidumpStream<'static>>⟧
-        in IsReadAs linux_cpu_info_stream T.type_number T.meaning T.limit T.least T.takes_memory }
-    ensures linux_proc_status { let T = ⟦<MinidumpLinuxProcStatus<'static> as MinidumpStream<'static>>⟧
-        in IsReadAs linux_proc_status_stream T.type_number T.meaning T.limit T.least T.takes_memory }
-    ensures linux_lsb_release { let T = ⟦<MinidumpLinuxLsbRelease<'static> as MinidumpStream<'static>>⟧
-        in IsReadAs linux_lsb_release_stream T.type_number T.meaning T.limit T.least T.takes_memory }
-    ensures linux_environ { let T = ⟦<MinidumpLinuxEnviron<'static> as MinidumpStream<'static>>⟧
-        in IsReadAs linux_environ_stream T.type_number T.meaning T.limit T.least T.takes_memory }
-    ensures linux_proc_limits { let T = ⟦<MinidumpLinuxProcLimits<'static> as MinidumpStream<'static>>⟧
-        in IsReadAs linux_proc_limits_stream T.type_number T.meaning T.limit T.least T.takes_memory }
-    ensures handle_data { let T = ⟦<MinidumpHandleDataStream as MinidumpStream<'static>>⟧
-        in IsReadAs handle_data_stream T.type_number T.meaning T.limit T.least T.takes_memory }
-    ensures thread_list { let T = ⟦<MinidumpThreadList<'static> as MinidumpStream<'static>>⟧
-        in IsReadAs thread_list_stream T.type_number T.meaning T.limit T.least T.takes_memory }
-    ensures exception { let T = ⟦<MinidumpException<'static> as MinidumpStream<'static>>⟧
-        in IsReadAs exception_stream T.type_number T.meaning T.limit T.least T.takes_memory }
-    ensures memory_info_list { let T = ⟦<MinidumpMemoryInfoList<'static> as MinidumpStream<'static>>⟧
-        in IsReadAs memory_info_list_stream T.type_number T.meaning T.limit T.least T.takes_memory }
-    ensures linux_maps { let T = ⟦<MinidumpLinuxMaps<'static> as MinidumpStream<'static>>⟧
-        in IsReadAs linux_maps_stream T.type_number T.meaning T.limit T.least T.takes_memory }
-    ensures mac_crash_info { let T = ⟦<MinidumpMacCrashInfo as MinidumpStream<'static>>⟧
-        in IsReadAs mac_crash_info_stream T.type_number T.meaning T.limit T.least T.takes_memory }
-    ensures stability_report { let T = ⟦<StabilityReport as MinidumpStream<'static>>⟧
-        in IsReadAs stability_report_stream T.type_number T.meaning T.limit T.least T.takes_memory }
+    ensures system_info { IsSame ⟦<MinidumpSystemInfo as MinidumpStream<'static>>⟧.spec system_info_stream }
+    ensures misc_info { IsSame ⟦<MinidumpMiscInfo as MinidumpStream<'static>>⟧.spec misc_info_stream }
+    ensures memory_list { IsSame ⟦<MinidumpMemoryList<'static> as MinidumpStream<'static>>⟧.spec memory_list_stream }
+    ensures memory64_list { IsSame ⟦<MinidumpMemory64List<'static> as MinidumpStream<'static>>⟧.spec memory64_list_stream }
+    ensures module_list { IsSame ⟦<MinidumpModuleList as MinidumpStream<'static>>⟧.spec module_list_stream }
+    ensures unloaded_module_list { IsSame ⟦<MinidumpUnloadedModuleList as MinidumpStream<'static>>⟧.spec unloaded_module_list_stream }
+    ensures thread_names { IsSame ⟦<MinidumpThreadNames as MinidumpStream<'static>>⟧.spec thread_names_stream }
+    ensures thread_info_list { IsSame ⟦<MinidumpThreadInfoList as MinidumpStream<'static>>⟧.spec thread_info_list_stream }
+    ensures crashpad_info { IsSame ⟦<MinidumpCrashpadInfo as MinidumpStream<'static>>⟧.spec crashpad_info_stream }
+    ensures breakpad_info { IsSame ⟦<MinidumpBreakpadInfo as MinidumpStream<'static>>⟧.spec breakpad_info_stream }
+    ensures assertion { IsSame ⟦<MinidumpAssertion as MinidumpStream<'static>>⟧.spec assertion_stream }
+    ensures mac_bootargs { IsSame ⟦<MinidumpMacBootargs as MinidumpStream<'static>>⟧.spec mac_bootargs_stream }
+    ensures soft_errors { IsSame ⟦<MinidumpSoftErrors<'static> as MinidumpStream<'static>>⟧.spec soft_errors_stream }
+    ensures linux_cpu_info { IsSame ⟦<MinidumpLinuxCpuInfo<'static> as MinidumpStream<'static>>⟧.spec linux_cpu_info_stream }
+    ensures linux_proc_status { IsSame ⟦<MinidumpLinuxProcStatus<'static> as MinidumpStream<'static>>⟧.spec linux_proc_status_stream }
+    ensures linux_lsb_release { IsSame ⟦<MinidumpLinuxLsbRelease<'static> as MinidumpStream<'static>>⟧.spec linux_lsb_release_stream }
+    ensures linux_environ { IsSame ⟦<MinidumpLinuxEnviron<'static> as MinidumpStream<'static>>⟧.spec linux_environ_stream }
+    ensures linux_proc_limits { IsSame ⟦<MinidumpLinuxProcLimits<'static> as MinidumpStream<'static>>⟧.spec linux_proc_limits_stream }
+    ensures handle_data { IsSame ⟦<MinidumpHandleDataStream as MinidumpStream<'static>>⟧.spec handle_data_stream }
+    ensures thread_list { IsSame ⟦<MinidumpThreadList<'static> as MinidumpStream<'static>>⟧.spec thread_list_stream }
+    ensures exception { IsSame ⟦<MinidumpException<'static> as MinidumpStream<'static>>⟧.spec exception_stream }
+    ensures memory_info_list { IsSame ⟦<MinidumpMemoryInfoList<'static> as MinidumpStream<'static>>⟧.spec memory_info_list_stream }
+    ensures linux_maps { IsSame ⟦<MinidumpLinuxMaps<'static> as MinidumpStream<'static>>⟧.spec linux_maps_stream }
+    ensures mac_crash_info { IsSame ⟦<MinidumpMacCrashInfo as MinidumpStream<'static>>⟧.spec mac_crash_info_stream }
+    ensures stability_report { IsSame ⟦<StabilityReport as MinidumpStream<'static>>⟧.spec stability_report_stream }
 {}
 
 /// Clones of a deciding entry, of an unknown stream and of an unimplemented one are equal values.

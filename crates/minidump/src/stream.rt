@@ -1,7 +1,8 @@
-ghost use Rattle.std.specs.Prelude.{◌≡◌, ◌≢◌, ◌+◌, ◌≤◌, length, IfOk, IsOkAnd};
+ghost use Rattle.std.specs.Prelude.{◌≡◌, ◌≢◌, ◌+◌, ◌≤◌, length, IfOk};
 ghost use Rattle.minidump_bytes.specs.Steps.{after};
 ghost use Rattle.minidump_format.specs.Answer.{Gives};
-ghost use Rattle.minidump.specs.Dump.{raw_stream, stream};
+ghost use Rattle.minidump_format.specs.StreamType.{number_of};
+ghost use Rattle.minidump.specs.Dump.{IsStreamOf, raw_stream};
 ghost use Rattle.minidump.specs.Seen.{dump_of};
 
 use crate::Minidump;
@@ -40,8 +41,7 @@ impl<'a> Minidump<'a> {
     /// `StreamNotFound` and `StreamReadFailure` as [`Minidump::get_raw_stream`] does, else the errors of
     /// the type.
     pub fn get_stream<S: MinidumpStream<'a>>(&self, alloc: Global) -> Result<S, Error>
-        ensures { Gives S.view (IsOkAnd (raw_stream S.type_number (dump_of self.now)) (λ b. S.takes_memory b (dump_of self.now).order)) result
-            (stream S.type_number S.meaning (dump_of self.now)) }
+        ensures { IsStreamOf S.spec (dump_of self.now) result }
     {
         self.get_stream_counted(alloc, &mut Steps::new())
     }
@@ -53,14 +53,13 @@ impl<'a> Minidump<'a> {
         alloc: Global,
         steps: &mut Steps,
     ) -> Result<S, Error>
-        ensures means { Gives S.view (IsOkAnd (raw_stream S.type_number (dump_of self.now)) (λ b. S.takes_memory b (dump_of self.now).order)) result
-            (stream S.type_number S.meaning (dump_of self.now)) }
-        ensures within { steps.new ≤ steps.old + S.limit (length (dump_of self.now).file) + 1 }
+        ensures means { IsStreamOf S.spec (dump_of self.now) result }
+        ensures within { steps.new ≤ steps.old + S.spec.most (length (dump_of self.now).file) + 1 }
         ensures grows { steps.old ≤ steps.new }
-        ensures counted { raw_stream S.type_number (dump_of self.now) ≢ Err Error.StreamNotFound
+        ensures counted { raw_stream (number_of S.spec.stream_type) (dump_of self.now) ≢ Err Error.StreamNotFound
             → after steps.old 1 ≤ steps.new }
-        ensures at_least { IfOk result (λ x. IfOk (raw_stream S.type_number (dump_of self.now))
-            (λ b. after steps.old (1 + S.least b (dump_of self.now).order (S.view x)) ≤ steps.new)) }
+        ensures at_least { IfOk result (λ x. IfOk (raw_stream (number_of S.spec.stream_type) (dump_of self.now))
+            (λ b. after steps.old (1 + S.spec.fewest b (dump_of self.now).order (S.spec.value x)) ≤ steps.new)) }
     {
         let bytes = Source::new(self.raw_stream(S::number_of_type(), steps)?);
         S::read(

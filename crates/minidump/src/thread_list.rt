@@ -1,11 +1,11 @@
 ghost use Rattle.std.specs.Prelude.{◌≡◌, ◌==◌, ◌+◌, ◌*◌, ◌≤◌, IfOk, find, length, map, reverse};
 ghost use Rattle.std.specs.List.{sum_by};
-ghost use Rattle.std.specs.Option.{option_copied};
+ghost use Rattle.std.specs.Option.{option_copied, option_map};
 ghost use Rattle.minidump_bytes.specs.Source.{bytes_of};
 ghost use Rattle.minidump_bytes.specs.Steps.{after};
-ghost use Rattle.minidump_format.specs.declared.format.stream_type.MINIDUMP_STREAM_TYPE.TheVariants.{ThreadListStream};
+ghost use Rattle.minidump.specs.Thread.{thread_list_stream};
 ghost use Rattle.minidump_format.specs.StreamType.{number_of};
-ghost use Rattle.minidump.specs.Thread.{IsLastWith, reads_of, thread_at, thread_of};
+ghost use Rattle.minidump.specs.Thread.{IsLastThread, IsLastWith, reads_of, thread_at, thread_of, threads_of};
 
 use crate::MinidumpThread;
 use minidump_bytes::{Endian, Entries, Source, Steps};
@@ -26,7 +26,8 @@ impl<'a> MinidumpThreadList<'a> {
     /// Returns the last thread with an id, or `None` if no thread has it. It compares ids from the end of
     /// the list on.
     pub fn get_thread(&self, id: u32) -> Option<&MinidumpThread<'a>>
-        ensures { IsLastWith id self.now.threads.items (option_copied result) }
+        ensures last { IsLastWith id self.now.threads.items (option_copied result) }
+        ensures value { IsLastThread id (threads_of self.now) (option_map thread_of (option_copied result)) }
     {
         self.first_from_the_end(id)
     }
@@ -41,32 +42,18 @@ impl<'a> MinidumpThreadList<'a> {
 
 /// Microsoft's `MINIDUMP_THREAD_LIST`: a plain list of entries. No context is decoded.
 impl<'a> MinidumpStream<'a> for MinidumpThreadList<'a> {
-    ghost use Rattle.std.specs.Prelude.{◌+◌, List, IsOk, length};
-    ghost use Rattle.std.specs.List.{sum_by};
-    ghost use Rattle.minidump_format.specs.declared.format.stream_type.MINIDUMP_STREAM_TYPE.TheVariants.{ThreadListStream};
-    ghost use Rattle.minidump_format.specs.StreamType.{number_of};
-    ghost use Rattle.minidump_format.specs.Thread.{thread};
-    ghost use Rattle.minidump_system.specs.Framing.{plain_list};
-    ghost use Rattle.minidump.specs.Thread.{Thread, reads_of, thread_list, threads_of};
-
-    ghost type_number = { number_of ThreadListStream };
-
-    const STREAM_TYPE: u32 = 3;
+    ghost use Rattle.std.specs.Prelude.{List};
+    ghost use Rattle.minidump.specs.Thread.{Thread};
+    ghost use Rattle.minidump.specs.Thread.{thread_list_stream};
 
     ghost Value = { List Thread };
 
-    ghost view = { threads_of };
+    ghost spec = { thread_list_stream };
 
-    ghost meaning = { λ bytes all order system. thread_list bytes all order };
-
-    ghost limit = { λ n. n + 7 };
-
-    ghost least = { λ bytes order threads. 1 + length threads + sum_by reads_of threads };
-
-    ghost takes_memory = { λ bytes order. IsOk (plain_list thread order bytes) };
+    const STREAM_TYPE: u32 = 3;
 
     fn number_of_type() -> u32
-        ensures { result ≡ number_of ThreadListStream }
+        ensures { result ≡ number_of thread_list_stream.stream_type }
     {
         Self::STREAM_TYPE
     }

@@ -10,7 +10,12 @@ ghost use Rattle.minidump_bytes.specs.Text16.{IsTextOf, IsUtf16, utf16_text};
 ghost use Rattle.minidump_bytes.specs.Text8.{IsText8, SpellsUtf8, utf8_text};
 ghost use Rattle.minidump_bytes.specs.Wire.{Field, IsFieldAt, SpellsFields, field_at};
 
-use crate::{LinuxOsStr, LinuxOsString};
+ghost use Rattle.minidump_bytes.specs.declared.source.Source.{Source};
+ghost use Rattle.minidump_bytes.specs.declared.wire.WireField.{WireField};
+ghost use Rattle.minidump_bytes.specs.declared.wire.WireValue.{WireValue};
+ghost use Rattle.minidump_bytes.specs.declared.piece.Piece.{Piece};
+
+use crate::{LinuxOsStr, LinuxOsString, Piece, Source, WireField, WireValue};
 
 /// Code units have a text exactly where they are the UTF-16 encoding of some characters. The text is the
 /// UTF-8 encoding of these.
@@ -60,6 +65,14 @@ pub fn linux_texts_compare_by_their_bytes()
     ensures copied { (one other : lent.LinuxOsStr) → ⟦<LinuxOsStr<'static> as Clone>⟧.is_clone one other → other ≡ one }
     ensures owned { (one other : owned.LinuxOsString)
         → IsTrue (⟦<LinuxOsString as PartialEq>⟧.eq one other) ↔ (string_of one ≡ string_of other) }
+{}
+
+/// Clones of a source, a wire field, its value and a piece are the same.
+pub fn clones_are_the_same()
+    ensures source { (x y : Source) → ⟦<Source<'static> as Clone>⟧.is_clone x y → y ≡ x }
+    ensures field { (x y : WireField) → ⟦<WireField<'static> as Clone>⟧.is_clone x y → y ≡ x }
+    ensures value { (x y : WireValue) → ⟦<WireValue<'static> as Clone>⟧.is_clone x y → y ≡ x }
+    ensures piece { (x y : Piece) → ⟦<Piece<'static> as Clone>⟧.is_clone x y → y ≡ x }
 {}
 
 /// The parts of a text, joined by the separator, are the text. There is one part more than there are

@@ -1,4 +1,7 @@
 -- The regions of Breakpad's MD_LINUX_MAPS stream: the lines of Linux's /proc/PID/maps.
+use Rattle.minidump_format.specs.declared.format.stream_type.MINIDUMP_STREAM_TYPE.TheVariants.{LinuxMaps}
+use Rattle.minidump_system.specs.StreamSpec.{StreamSpec, linear}
+use Rattle.std.specs.Prelude.{length, ◌+◌}
 use Rattle.std.specs.Prelude.{ℕ, ◌-◌, ◌==◌, List, [], ◌∷◌, codes, map, Option, Result, IsSome, if◌then◌else◌, string_bytes}
 use Rattle.std.specs.Option.{ok_or, option_and_then}
 use Rattle.minidump_bytes.specs.Line.{line_at}
@@ -81,3 +84,14 @@ linux_maps bytes = all_ok line_region (lines_of bytes)
 -- the first line is that of a region: without it there is no `OutOfMemory`
 abbrev pub BeginsWithRegion : List ℕ → Type 0
 BeginsWithRegion bytes = IsSome (option_and_then map_line (line_at 0 bytes))
+
+-- the stream of type LinuxMaps
+abbrev pub linux_maps_stream : StreamSpec MinidumpLinuxMaps (List MapRegion)
+linux_maps_stream = record {
+  stream_type = LinuxMaps;
+  value = map_regions;
+  meaning = λ bytes file order system. linux_maps bytes;
+  most = linear;
+  fewest = λ bytes order regions. 1 + length regions;
+  memory = λ bytes order. BeginsWithRegion bytes;
+}

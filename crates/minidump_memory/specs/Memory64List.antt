@@ -1,4 +1,10 @@
 -- The memory of a full dump: Microsoft's MINIDUMP_MEMORY64_LIST.
+use Rattle.minidump_format.specs.declared.format.stream_type.MINIDUMP_STREAM_TYPE.TheVariants.{Memory64ListStream}
+use Rattle.minidump_memory.specs.MemoryList.{memories_of}
+use Rattle.minidump_memory.specs.declared.memory_list.MinidumpMemoryListBase.{MinidumpMemoryListBase}
+use Rattle.minidump_system.specs.Framing.{count_64_of}
+use Rattle.minidump_system.specs.StreamSpec.{StreamSpec, linear}
+use Rattle.std.specs.Prelude.{IsOk, ◌*◌}
 use Rattle.std.specs.Prelude.{ℕ, ◌+◌, List, length, take, map, slice_range, Result, Ok, Err, nat_le, ◌==◌, ◌||◌, Bool, if◌then◌else◌}
 use Rattle.std.specs.List.{enumerate_from, sum_by}
 use Rattle.minidump_bytes.specs.declared.endian.Endian.{Endian}
@@ -33,3 +39,14 @@ regions_64 file order l = if is_inside file l then Ok (all_placed file order l) 
 -- Microsoft's MINIDUMP_MEMORY64_LIST: a 64 list of descriptors
 abbrev pub memory_list_64 : List ℕ → List ℕ → Endian → Result (List (MemoryRegion MINIDUMP_MEMORY_DESCRIPTOR64)) Error
 memory_list_64 bytes file order = and_then (list_64 memory_descriptor_64 order bytes) (regions_64 file order)
+
+-- the stream of type Memory64ListStream
+abbrev pub memory64_list_stream : StreamSpec (MinidumpMemoryListBase MINIDUMP_MEMORY_DESCRIPTOR64) (List (MemoryRegion MINIDUMP_MEMORY_DESCRIPTOR64))
+memory64_list_stream = record {
+  stream_type = Memory64ListStream;
+  value = memories_of;
+  meaning = λ bytes file order system. memory_list_64 bytes file order;
+  most = linear;
+  fewest = λ bytes order regions. 2 + 2 * count_64_of order bytes;
+  memory = λ bytes order. IsOk (list_64 memory_descriptor_64 order bytes);
+}

@@ -1,4 +1,8 @@
 -- Information on regions of memory: Microsoft's MINIDUMP_MEMORY_INFO_LIST, and the access that winnt.h's PAGE_ numbers allow.
+use Rattle.minidump_format.specs.declared.format.stream_type.MINIDUMP_STREAM_TYPE.TheVariants.{MemoryInfoListStream}
+use Rattle.minidump_system.specs.Framing.{list_header_of}
+use Rattle.minidump_system.specs.StreamSpec.{StreamSpec, linear}
+use Rattle.std.specs.Prelude.{IsOk, ◌+◌}
 use Rattle.std.specs.Prelude.{ℕ, Bool, ◌||◌, List, map, bit_and, Option, Result, Ok}
 use Rattle.bitflags.specs.Sets.{known_bits}
 use Rattle.minidump_bytes.specs.declared.endian.Endian.{Endian}
@@ -70,3 +74,14 @@ info_values l = map info_of (infos_of l)
 -- Microsoft's MINIDUMP_MEMORY_INFO_LIST: an extended list of entries
 abbrev pub memory_info_list : List ℕ → Endian → Result (List MemoryInfo) Error
 memory_info_list bytes order = and_then (extended_list memory_info order bytes) (λ raws. Ok (map info_in raws))
+
+-- the stream of type MemoryInfoListStream
+abbrev pub memory_info_list_stream : StreamSpec MinidumpMemoryInfoList (List MemoryInfo)
+memory_info_list_stream = record {
+  stream_type = MemoryInfoListStream;
+  value = info_values;
+  meaning = λ bytes file order system. memory_info_list bytes order;
+  most = linear;
+  fewest = λ bytes order infos. 1 + (list_header_of order bytes).number_of_entries;
+  memory = λ bytes order. IsOk (extended_list memory_info order bytes);
+}

@@ -1,4 +1,8 @@
 -- The memory of a minidump: Microsoft's MINIDUMP_MEMORY_LIST.
+use Rattle.minidump_format.specs.declared.format.stream_type.MINIDUMP_STREAM_TYPE.TheVariants.{MemoryListStream}
+use Rattle.minidump_system.specs.Framing.{count_of}
+use Rattle.minidump_system.specs.StreamSpec.{StreamSpec, linear}
+use Rattle.std.specs.Prelude.{IsOk, ◌+◌}
 use Rattle.std.specs.Prelude.{ℕ, List, map, Result, Ok, Err}
 use Rattle.std.specs.List.{filter_map, sum_by}
 use Rattle.std.specs.Result.{result_ok}
@@ -35,3 +39,14 @@ spans_in (Ok ds) = sum_by spans_read ds
 -- how many spans are read for the regions of a list
 abbrev pub spans_of_list : Endian → List ℕ → ℕ
 spans_of_list order bytes = spans_in (plain_list memory_descriptor order bytes)
+
+-- the stream of type MemoryListStream
+abbrev pub memory_list_stream : StreamSpec (MinidumpMemoryListBase MINIDUMP_MEMORY_DESCRIPTOR) (List (MemoryRegion MINIDUMP_MEMORY_DESCRIPTOR))
+memory_list_stream = record {
+  stream_type = MemoryListStream;
+  value = memories_of;
+  meaning = λ bytes file order system. memory_list bytes file order;
+  most = linear;
+  fewest = λ bytes order regions. 1 + count_of order bytes + spans_of_list order bytes;
+  memory = λ bytes order. IsOk (plain_list memory_descriptor order bytes);
+}

@@ -106,11 +106,11 @@ pub fn map_lines_are_the_grammar()
 /// the maps not on that either.
 pub fn information_depends_on_its_stream_alone()
     ensures information { (bytes all other : List ℕ) (order : Endian) (s t : Option System)
-        → ⟦<MinidumpMemoryInfoList<'static> as MinidumpStream<'static>>⟧.meaning bytes all order s
-        ≡ ⟦<MinidumpMemoryInfoList<'static> as MinidumpStream<'static>>⟧.meaning bytes other order t }
+        → ⟦<MinidumpMemoryInfoList<'static> as MinidumpStream<'static>>⟧.spec.meaning bytes all order s
+        ≡ ⟦<MinidumpMemoryInfoList<'static> as MinidumpStream<'static>>⟧.spec.meaning bytes other order t }
     ensures maps { (bytes all other : List ℕ) (order another : Endian) (s t : Option System)
-        → ⟦<MinidumpLinuxMaps<'static> as MinidumpStream<'static>>⟧.meaning bytes all order s
-        ≡ ⟦<MinidumpLinuxMaps<'static> as MinidumpStream<'static>>⟧.meaning bytes other another t }
+        → ⟦<MinidumpLinuxMaps<'static> as MinidumpStream<'static>>⟧.spec.meaning bytes all order s
+        ≡ ⟦<MinidumpLinuxMaps<'static> as MinidumpStream<'static>>⟧.spec.meaning bytes other another t }
 {}
 
 /// Permissions equal the same permissions alone, and a clone of them is the same. So it is of information on

@@ -4,7 +4,7 @@ ghost use Rattle.std.specs.Slice.Iter.{iter_rest};
 ghost use Rattle.minidump_bytes.specs.Source.{bytes_of};
 ghost use Rattle.minidump_bytes.specs.Steps.{after};
 ghost use Rattle.minidump_format.specs.Answer.{Gives};
-ghost use Rattle.minidump_format.specs.declared.format.stream_type.MINIDUMP_STREAM_TYPE.TheVariants.{LinuxMaps};
+ghost use Rattle.minidump_memory.specs.LinuxMaps.{linux_maps_stream};
 ghost use Rattle.minidump_format.specs.StreamType.{number_of};
 ghost use Rattle.minidump_index.specs.Lookup.{IsByAddress, IsCountedLookup, IsLookedUp};
 ghost use Rattle.minidump_memory.specs.LinuxMaps.{BeginsWithRegion, linux_maps, map_info_of, map_range, map_regions, maps_of};
@@ -102,30 +102,18 @@ impl<'a> MinidumpLinuxMaps<'a> {
 
 /// Breakpad's `MD_LINUX_MAPS`: the lines of `/proc/PID/maps`. A line that is none refuses the stream.
 impl<'a> MinidumpStream<'a> for MinidumpLinuxMaps<'a> {
-    ghost use Rattle.std.specs.Prelude.{◌+◌, List, length};
-    ghost use Rattle.minidump_format.specs.declared.format.stream_type.MINIDUMP_STREAM_TYPE.TheVariants.{LinuxMaps};
-    ghost use Rattle.minidump_format.specs.StreamType.{number_of};
-    ghost use Rattle.minidump_memory.specs.LinuxMaps.{BeginsWithRegion, linux_maps, map_regions};
+    ghost use Rattle.std.specs.Prelude.{List};
     ghost use Rattle.minidump_memory.specs.MapLine.{MapRegion};
-
-    ghost type_number = { number_of LinuxMaps };
-
-    const STREAM_TYPE: u32 = 0x4767_0009;
+    ghost use Rattle.minidump_memory.specs.LinuxMaps.{linux_maps_stream};
 
     ghost Value = { List MapRegion };
 
-    ghost view = { map_regions };
+    ghost spec = { linux_maps_stream };
 
-    ghost meaning = { λ bytes all order system. linux_maps bytes };
-
-    ghost limit = { λ n. n + 7 };
-
-    ghost least = { λ bytes order regions. 1 + length regions };
-
-    ghost takes_memory = { λ bytes order. BeginsWithRegion bytes };
+    const STREAM_TYPE: u32 = 0x4767_0009;
 
     fn number_of_type() -> u32
-        ensures { result ≡ number_of LinuxMaps }
+        ensures { result ≡ number_of linux_maps_stream.stream_type }
     {
         Self::STREAM_TYPE
     }

@@ -1,7 +1,7 @@
 ghost use Rattle.std.specs.Prelude.{◌≡◌, ◌+◌, ◌≤◌, ◌<◌, ⊤, map, length, IfNone, IfOk, IfSome};
 ghost use Rattle.minidump_bytes.specs.Source.{bytes_of};
 ghost use Rattle.minidump_bytes.specs.Steps.{after};
-ghost use Rattle.minidump_format.specs.declared.format.stream_type.MINIDUMP_STREAM_TYPE.TheVariants.{Memory64ListStream};
+ghost use Rattle.minidump_memory.specs.Memory64List.{memory64_list_stream};
 ghost use Rattle.minidump_format.specs.Answer.{Gives};
 ghost use Rattle.minidump_format.specs.StreamType.{number_of};
 ghost use Rattle.minidump_memory.specs.Memory.{memory_of};
@@ -18,34 +18,19 @@ use std::alloc::Global;
 /// Microsoft's `MINIDUMP_MEMORY64_LIST`: a 64-bit list of descriptors, whose bytes lie one behind another
 /// from the list's RVA on. Returns `StreamReadFailure` if some of them are not in the file.
 impl<'a> MinidumpStream<'a> for MinidumpMemoryListBase<'a, MINIDUMP_MEMORY_DESCRIPTOR64> {
-    ghost use Rattle.std.specs.Prelude.{◌+◌, ◌*◌, List, IsOk};
-    ghost use Rattle.minidump_format.specs.declared.format.memory.MINIDUMP_MEMORY_DESCRIPTOR64.{MINIDUMP_MEMORY_DESCRIPTOR64};
-    ghost use Rattle.minidump_format.specs.declared.format.stream_type.MINIDUMP_STREAM_TYPE.TheVariants.{Memory64ListStream};
-    ghost use Rattle.minidump_format.specs.StreamType.{number_of};
-    ghost use Rattle.minidump_system.specs.Framing.{count_64_of, list_64};
-    ghost use Rattle.minidump_format.specs.Memory.{memory_descriptor_64};
+    ghost use Rattle.std.specs.Prelude.{List};
     ghost use Rattle.minidump_memory.specs.Memory.{MemoryRegion};
-    ghost use Rattle.minidump_memory.specs.Memory64List.{memory_list_64};
-    ghost use Rattle.minidump_memory.specs.MemoryList.{memories_of};
-
-    ghost type_number = { number_of Memory64ListStream };
-
-    const STREAM_TYPE: u32 = 9;
+    ghost use Rattle.minidump_format.specs.declared.format.memory.MINIDUMP_MEMORY_DESCRIPTOR64.{MINIDUMP_MEMORY_DESCRIPTOR64};
+    ghost use Rattle.minidump_memory.specs.Memory64List.{memory64_list_stream};
 
     ghost Value = { List (MemoryRegion MINIDUMP_MEMORY_DESCRIPTOR64) };
 
-    ghost view = { memories_of };
+    ghost spec = { memory64_list_stream };
 
-    ghost meaning = { λ bytes all order system. memory_list_64 bytes all order };
-
-    ghost limit = { λ n. n + 7 };
-
-    ghost least = { λ bytes order regions. 2 + 2 * count_64_of order bytes };
-
-    ghost takes_memory = { λ bytes order. IsOk (list_64 memory_descriptor_64 order bytes) };
+    const STREAM_TYPE: u32 = 9;
 
     fn number_of_type() -> u32
-        ensures { result ≡ number_of Memory64ListStream }
+        ensures { result ≡ number_of memory64_list_stream.stream_type }
     {
         Self::STREAM_TYPE
     }

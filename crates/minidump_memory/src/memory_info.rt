@@ -1,7 +1,7 @@
 ghost use Rattle.std.specs.Prelude.{◌≡◌, ◌+◌, ◌≤◌, [], length, map, IfOk, IsOkUnless};
 ghost use Rattle.std.specs.Option.{option_copied};
 ghost use Rattle.std.specs.Slice.Iter.{iter_rest};
-ghost use Rattle.minidump_format.specs.declared.format.stream_type.MINIDUMP_STREAM_TYPE.TheVariants.{MemoryInfoListStream};
+ghost use Rattle.minidump_memory.specs.MemoryInfo.{memory_info_list_stream};
 ghost use Rattle.minidump_format.specs.StreamType.{number_of};
 ghost use Rattle.minidump_index.specs.Lookup.{IsByAddress, IsCountedLookup, IsLookedUp};
 ghost use Rattle.minidump_memory.specs.MemoryInfo.{info_in, info_of, infos_of, memory_info_range, page_is_executable, page_is_readable, page_is_writable};
@@ -188,31 +188,18 @@ impl<'a> MinidumpMemoryInfoList<'a> {
 
 /// Microsoft's `MINIDUMP_MEMORY_INFO_LIST`: an extended list of entries.
 impl<'a> MinidumpStream<'a> for MinidumpMemoryInfoList<'a> {
-    ghost use Rattle.std.specs.Prelude.{◌+◌, List, IsOk};
-    ghost use Rattle.minidump_format.specs.declared.format.stream_type.MINIDUMP_STREAM_TYPE.TheVariants.{MemoryInfoListStream};
-    ghost use Rattle.minidump_format.specs.MemoryInfo.{memory_info};
-    ghost use Rattle.minidump_format.specs.StreamType.{number_of};
-    ghost use Rattle.minidump_system.specs.Framing.{extended_list, list_header_of};
-    ghost use Rattle.minidump_memory.specs.MemoryInfo.{MemoryInfo, info_values, memory_info_list};
-
-    ghost type_number = { number_of MemoryInfoListStream };
-
-    const STREAM_TYPE: u32 = 16;
+    ghost use Rattle.std.specs.Prelude.{List};
+    ghost use Rattle.minidump_memory.specs.MemoryInfo.{MemoryInfo};
+    ghost use Rattle.minidump_memory.specs.MemoryInfo.{memory_info_list_stream};
 
     ghost Value = { List MemoryInfo };
 
-    ghost view = { info_values };
+    ghost spec = { memory_info_list_stream };
 
-    ghost meaning = { λ bytes all order system. memory_info_list bytes order };
-
-    ghost limit = { λ n. n + 7 };
-
-    ghost least = { λ bytes order infos. 1 + (list_header_of order bytes).number_of_entries };
-
-    ghost takes_memory = { λ bytes order. IsOk (extended_list memory_info order bytes) };
+    const STREAM_TYPE: u32 = 16;
 
     fn number_of_type() -> u32
-        ensures { result ≡ number_of MemoryInfoListStream }
+        ensures { result ≡ number_of memory_info_list_stream.stream_type }
     {
         Self::STREAM_TYPE
     }

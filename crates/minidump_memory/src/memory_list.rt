@@ -5,7 +5,7 @@ ghost use Rattle.std.specs.Result.{result_ok};
 ghost use Rattle.std.specs.Slice.Iter.{iter_rest};
 ghost use Rattle.minidump_bytes.specs.Source.{bytes_of};
 ghost use Rattle.minidump_bytes.specs.Steps.{after};
-ghost use Rattle.minidump_format.specs.declared.format.stream_type.MINIDUMP_STREAM_TYPE.TheVariants.{MemoryListStream};
+ghost use Rattle.minidump_memory.specs.MemoryList.{memory_list_stream};
 ghost use Rattle.minidump_format.specs.StreamType.{number_of};
 ghost use Rattle.minidump_index.specs.Lookup.{IsByAddress, IsCountedLookup, IsLookedUp};
 ghost use Rattle.minidump_memory.specs.Memory.{described, memory_of, memory_range, spans_read};
@@ -97,33 +97,19 @@ impl<'a, D: Drop> MinidumpMemoryListBase<'a, D> {
 /// Microsoft's `MINIDUMP_MEMORY_LIST`: a plain list of descriptors. One whose RVA or size is 0, or whose
 /// bytes are not in the file, is skipped.
 impl<'a> MinidumpStream<'a> for MinidumpMemoryListBase<'a, MINIDUMP_MEMORY_DESCRIPTOR> {
-    ghost use Rattle.std.specs.Prelude.{◌+◌, List, IsOk};
-    ghost use Rattle.minidump_format.specs.declared.format.memory.MINIDUMP_MEMORY_DESCRIPTOR.{MINIDUMP_MEMORY_DESCRIPTOR};
-    ghost use Rattle.minidump_format.specs.declared.format.stream_type.MINIDUMP_STREAM_TYPE.TheVariants.{MemoryListStream};
-    ghost use Rattle.minidump_format.specs.StreamType.{number_of};
-    ghost use Rattle.minidump_system.specs.Framing.{count_of, plain_list};
-    ghost use Rattle.minidump_format.specs.Memory.{memory_descriptor};
+    ghost use Rattle.std.specs.Prelude.{List};
     ghost use Rattle.minidump_memory.specs.Memory.{MemoryRegion};
-    ghost use Rattle.minidump_memory.specs.MemoryList.{memories_of, memory_list, spans_of_list};
-
-    ghost type_number = { number_of MemoryListStream };
-
-    const STREAM_TYPE: u32 = 5;
+    ghost use Rattle.minidump_format.specs.declared.format.memory.MINIDUMP_MEMORY_DESCRIPTOR.{MINIDUMP_MEMORY_DESCRIPTOR};
+    ghost use Rattle.minidump_memory.specs.MemoryList.{memory_list_stream};
 
     ghost Value = { List (MemoryRegion MINIDUMP_MEMORY_DESCRIPTOR) };
 
-    ghost view = { memories_of };
+    ghost spec = { memory_list_stream };
 
-    ghost meaning = { λ bytes all order system. memory_list bytes all order };
-
-    ghost limit = { λ n. n + 7 };
-
-    ghost least = { λ bytes order regions. 1 + count_of order bytes + spans_of_list order bytes };
-
-    ghost takes_memory = { λ bytes order. IsOk (plain_list memory_descriptor order bytes) };
+    const STREAM_TYPE: u32 = 5;
 
     fn number_of_type() -> u32
-        ensures { result ≡ number_of MemoryListStream }
+        ensures { result ≡ number_of memory_list_stream.stream_type }
     {
         Self::STREAM_TYPE
     }

@@ -1,4 +1,8 @@
 -- The modules of a dump: Microsoft's MINIDUMP_MODULE_LIST.
+use Rattle.minidump_format.specs.declared.format.stream_type.MINIDUMP_STREAM_TYPE.TheVariants.{ModuleListStream}
+use Rattle.minidump_system.specs.Framing.{count_of}
+use Rattle.minidump_system.specs.StreamSpec.{StreamSpec, linear}
+use Rattle.std.specs.Prelude.{IsOk, ◌+◌}
 use Rattle.std.specs.Prelude.{ℕ, List, filter, map, Option, Result}
 use Rattle.std.specs.List.{sum_by}
 use Rattle.std.specs.Option.{option_map}
@@ -33,3 +37,14 @@ module_list bytes file order system = and_then (plain_list module_entry order by
 -- how much is read for modules
 abbrev pub modules_read : List ModuleValue → ℕ
 modules_read modules = sum_by module_reads modules
+
+-- the stream of type ModuleListStream
+abbrev pub module_list_stream : StreamSpec MinidumpModuleList (List ModuleValue)
+module_list_stream = record {
+  stream_type = ModuleListStream;
+  value = module_values;
+  meaning = module_list;
+  most = linear;
+  fewest = λ bytes order modules. 1 + count_of order bytes + modules_read modules;
+  memory = λ bytes order. IsOk (plain_list module_entry order bytes);
+}

@@ -1,4 +1,9 @@
 -- The unloaded modules of a dump: Microsoft's MINIDUMP_UNLOADED_MODULE_LIST.
+use Rattle.minidump_format.specs.declared.format.stream_type.MINIDUMP_STREAM_TYPE.TheVariants.{UnloadedModuleListStream}
+use Rattle.minidump_modules.specs.declared.unloaded_module_list.MinidumpUnloadedModuleList.{MinidumpUnloadedModuleList}
+use Rattle.minidump_system.specs.Framing.{list_header_of}
+use Rattle.minidump_system.specs.StreamSpec.{StreamSpec, linear}
+use Rattle.std.specs.Prelude.{IsOk, ◌*◌, ◌+◌}
 use Rattle.std.specs.Prelude.{ℕ, List, map, Result}
 use Rattle.minidump_bytes.specs.declared.endian.Endian.{Endian}
 use Rattle.minidump_format.specs.declared.error.Error.{Error}
@@ -15,3 +20,14 @@ unloaded_values modules = map unloaded_of modules
 -- Microsoft's MINIDUMP_UNLOADED_MODULE_LIST: an extended list of entries
 abbrev pub unloaded_list : List ℕ → List ℕ → Endian → Result (List UnloadedValue) Error
 unloaded_list bytes file order = and_then (extended_list unloaded_module_entry order bytes) (all_ok (listed_unloaded order file))
+
+-- the stream of type UnloadedModuleListStream
+abbrev pub unloaded_module_list_stream : StreamSpec MinidumpUnloadedModuleList (List UnloadedValue)
+unloaded_module_list_stream = record {
+  stream_type = UnloadedModuleListStream;
+  value = unloaded_values;
+  meaning = λ bytes file order system. unloaded_list bytes file order;
+  most = linear;
+  fewest = λ bytes order modules. 1 + 2 * (list_header_of order bytes).number_of_entries;
+  memory = λ bytes order. IsOk (extended_list unloaded_module_entry order bytes);
+}

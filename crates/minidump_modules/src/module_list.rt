@@ -4,10 +4,9 @@ ghost use Rattle.std.specs.Option.{option_copied, option_map};
 ghost use Rattle.minidump_bytes.specs.Source.{bytes_of};
 ghost use Rattle.minidump_bytes.specs.Steps.{after};
 ghost use Rattle.minidump_format.specs.Answer.{Gives};
-ghost use Rattle.minidump_format.specs.declared.format.stream_type.MINIDUMP_STREAM_TYPE.TheVariants.{ModuleListStream};
 ghost use Rattle.minidump_format.specs.StreamType.{number_of};
 ghost use Rattle.minidump_index.specs.Lookup.{IsByAddress, IsCountedLookup, IsLookedUp};
-ghost use Rattle.minidump_modules.specs.Module.{has_range, module_of, module_range};
+ghost use Rattle.minidump_modules.specs.Module.{has_range, module_of, module_range, value_range};
 ghost use Rattle.minidump_modules.specs.ModuleList.{module_values, modules_in, modules_of, modules_read};
 
 use crate::MinidumpModule;
@@ -62,7 +61,8 @@ impl MinidumpModuleList {
 
     /// Returns the kept module that contains `address`, or `None` if no kept module does.
     pub fn module_at_address(&self, address: u64) -> Option<&MinidumpModule>
-        ensures { IsLookedUp module_range (modules_of self.now) address (option_copied result) }
+        ensures found { IsLookedUp module_range (modules_of self.now) address (option_copied result) }
+        ensures value { IsLookedUp value_range (module_values self.now) address (option_map module_of (option_copied result)) }
     {
         self.module_at_address_counted(address, &mut Steps::new())
     }
@@ -106,33 +106,17 @@ impl MinidumpModuleList {
 /// Microsoft's `MINIDUMP_MODULE_LIST`: a plain list of entries. One without addresses is skipped, with its
 /// name and its CodeView record unread.
 impl<'a> MinidumpStream<'a> for MinidumpModuleList {
-    ghost use Rattle.std.specs.Prelude.{◌+◌, List, IsOk};
-    ghost use Rattle.minidump_format.specs.declared.format.stream_type.MINIDUMP_STREAM_TYPE.TheVariants.{ModuleListStream};
-    ghost use Rattle.minidump_format.specs.Module.{module_entry};
-    ghost use Rattle.minidump_format.specs.StreamType.{number_of};
-    ghost use Rattle.minidump_system.specs.Framing.{count_of, plain_list};
+    ghost use Rattle.std.specs.Prelude.{List};
     ghost use Rattle.minidump_modules.specs.Module.{ModuleValue};
-    ghost use Rattle.minidump_modules.specs.ModuleList.{module_list, module_values, modules_read};
-
-    ghost type_number = { number_of ModuleListStream };
-
-    const STREAM_TYPE: u32 = 4;
+    ghost use Rattle.minidump_modules.specs.ModuleList.{module_list_stream};
 
     ghost Value = { List ModuleValue };
 
-    ghost view = { module_values };
+    ghost spec = { module_list_stream };
 
-    ghost meaning = { module_list };
+    const STREAM_TYPE: u32 = 4;
 
-    ghost limit = { λ n. n + 7 };
-
-    ghost least = { λ bytes order modules. 1 + count_of order bytes + modules_read modules };
-
-    ghost takes_memory = { λ bytes order. IsOk (plain_list module_entry order bytes) };
-
-    fn number_of_type() -> u32
-        ensures { result ≡ number_of ModuleListStream }
-    {
+    fn number_of_type() -> u32 {
         Self::STREAM_TYPE
     }
 

@@ -3,7 +3,6 @@ ghost use Rattle.std.specs.Slice.Iter.{iter_rest};
 ghost use Rattle.minidump_bytes.specs.Source.{bytes_of};
 ghost use Rattle.minidump_bytes.specs.Steps.{after};
 ghost use Rattle.minidump_format.specs.Answer.{Gives};
-ghost use Rattle.minidump_format.specs.declared.format.stream_type.MINIDUMP_STREAM_TYPE.TheVariants.{UnloadedModuleListStream};
 ghost use Rattle.minidump_format.specs.StreamType.{number_of};
 ghost use Rattle.minidump_system.specs.Reads.{all_ok};
 ghost use Rattle.minidump_modules.specs.UnloadedModule.{listed_unloaded, unloaded_of};
@@ -99,33 +98,17 @@ impl MinidumpUnloadedModuleList {
 /// Microsoft's `MINIDUMP_UNLOADED_MODULE_LIST`: an extended list of entries. One without addresses refuses
 /// the list with `ModuleReadFailure`, one with a malformed name with `DataError`.
 impl<'a> MinidumpStream<'a> for MinidumpUnloadedModuleList {
-    ghost use Rattle.std.specs.Prelude.{◌+◌, ◌*◌, List, IsOk, length};
-    ghost use Rattle.minidump_format.specs.declared.format.stream_type.MINIDUMP_STREAM_TYPE.TheVariants.{UnloadedModuleListStream};
-    ghost use Rattle.minidump_format.specs.Module.{unloaded_module_entry};
-    ghost use Rattle.minidump_format.specs.StreamType.{number_of};
-    ghost use Rattle.minidump_system.specs.Framing.{extended_list, list_header_of};
+    ghost use Rattle.std.specs.Prelude.{List};
     ghost use Rattle.minidump_modules.specs.UnloadedModule.{UnloadedValue};
-    ghost use Rattle.minidump_modules.specs.UnloadedModuleList.{unloaded_list, unloaded_values};
-
-    ghost type_number = { number_of UnloadedModuleListStream };
-
-    const STREAM_TYPE: u32 = 14;
+    ghost use Rattle.minidump_modules.specs.UnloadedModuleList.{unloaded_module_list_stream};
 
     ghost Value = { List UnloadedValue };
 
-    ghost view = { unloaded_values };
+    ghost spec = { unloaded_module_list_stream };
 
-    ghost meaning = { λ bytes all order system. unloaded_list bytes all order };
+    const STREAM_TYPE: u32 = 14;
 
-    ghost limit = { λ n. n + 7 };
-
-    ghost least = { λ bytes order modules. 1 + 2 * (list_header_of order bytes).number_of_entries };
-
-    ghost takes_memory = { λ bytes order. IsOk (extended_list unloaded_module_entry order bytes) };
-
-    fn number_of_type() -> u32
-        ensures { result ≡ number_of UnloadedModuleListStream }
-    {
+    fn number_of_type() -> u32 {
         Self::STREAM_TYPE
     }
 

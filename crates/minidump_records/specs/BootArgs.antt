@@ -1,4 +1,7 @@
 -- The arguments of macOS's boot: Mozilla's MDRawMacBootargs.
+use Rattle.minidump_format.specs.declared.format.stream_type.MINIDUMP_STREAM_TYPE.TheVariants.{MozMacosBootargsStream}
+use Rattle.minidump_system.specs.StreamSpec.{StreamSpec}
+use Rattle.std.specs.Prelude.{◌≤◌}
 use Rattle.std.specs.Prelude.{ℕ, List, length, Option, Result, Ok, nat_le, if◌then◌else◌, string_bytes}
 use Rattle.std.specs.Option.{ok_or, option_map, option_or}
 use Rattle.minidump_bytes.specs.declared.endian.Endian.{Endian}
@@ -47,3 +50,14 @@ boot_args bytes file order =
 -- how much is read: the long form, then the short one where that isn't there, and the text
 abbrev pub boot_args_reads : List ℕ → ℕ
 boot_args_reads bytes = if nat_le 12 (length bytes) then 2 else 3
+
+-- the stream of type MozMacosBootargsStream
+abbrev pub mac_bootargs_stream : StreamSpec MinidumpMacBootargs BootArgs
+mac_bootargs_stream = record {
+  stream_type = MozMacosBootargsStream;
+  value = boot_args_of;
+  meaning = λ bytes file order system. boot_args bytes file order;
+  most = λ n. 3;
+  fewest = λ bytes order args. boot_args_reads bytes;
+  memory = λ bytes order. 8 ≤ length bytes;
+}

@@ -1,4 +1,7 @@
 -- Crashpad's MinidumpCrashpadInfo and MinidumpModuleCrashpadInfo: what they know of a process and of its modules.
+use Rattle.minidump_format.specs.declared.format.stream_type.MINIDUMP_STREAM_TYPE.TheVariants.{CrashpadInfoStream}
+use Rattle.minidump_system.specs.StreamSpec.{StreamSpec, square}
+use Rattle.std.specs.Prelude.{IsOk}
 use Rattle.std.specs.Prelude.{ℕ, ◌+◌, ◌==◌, IsSome, List, Result, Ok, Err, map, string_bytes, if◌then◌else◌}
 use Rattle.std.specs.List.{sum_by}
 use Rattle.std.specs.Option.{ok_or}
@@ -106,3 +109,14 @@ abbrev pub crashpad_reads : Crashpad → ℕ
 crashpad_reads c = 1
     + (opened_reads c.raw.simple_annotations + sum_by (λ e. 3) c.simple_annotations)
     + (opened_reads c.raw.module_list + sum_by (λ m. 1 + module_reads m) c.module_list)
+
+-- the stream of type CrashpadInfoStream
+abbrev pub crashpad_info_stream : StreamSpec MinidumpCrashpadInfo Crashpad
+crashpad_info_stream = record {
+  stream_type = CrashpadInfoStream;
+  value = crashpad_of;
+  meaning = λ bytes file order system. crashpad_in bytes file order;
+  most = square;
+  fewest = λ bytes order info. crashpad_reads info;
+  memory = λ bytes order. IsOk (crashpad_record order bytes);
+}

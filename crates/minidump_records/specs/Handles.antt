@@ -1,4 +1,8 @@
 -- The open handles of a process: Microsoft's MINIDUMP_HANDLE_DATA_STREAM.
+use Rattle.minidump_format.specs.declared.format.stream_type.MINIDUMP_STREAM_TYPE.TheVariants.{HandleDataStream}
+use Rattle.minidump_system.specs.StreamSpec.{StreamSpec, square}
+use Rattle.std.specs.List.{sum_by}
+use Rattle.std.specs.Prelude.{IsOk, length}
 use Rattle.std.specs.Prelude.{ℕ, ◌+◌, ◌==◌, List, Option, Some, None, Result, Ok, map, string_bytes, if◌then◌else◌}
 use Rattle.std.specs.List.{filter_map}
 use Rattle.std.specs.Option.{option_map, unwrap_or}
@@ -112,3 +116,14 @@ all_described order file (Long raws) = map (λ r. described order file (HandleDe
 -- Microsoft's MINIDUMP_HANDLE_DATA_STREAM: a handle list
 abbrev pub handle_data : List ℕ → List ℕ → Endian → Result (List Handle) Error
 handle_data bytes file order = and_then (handle_list order bytes) (λ list. Ok (all_described order file list))
+
+-- the stream of type HandleDataStream
+abbrev pub handle_data_stream : StreamSpec MinidumpHandleDataStream (List Handle)
+handle_data_stream = record {
+  stream_type = HandleDataStream;
+  value = handles_of;
+  meaning = λ bytes file order system. handle_data bytes file order;
+  most = square;
+  fewest = λ bytes order handles. 1 + length handles + sum_by handle_reads handles;
+  memory = λ bytes order. IsOk (handle_list order bytes);
+}

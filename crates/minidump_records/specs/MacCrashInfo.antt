@@ -1,4 +1,9 @@
 -- The crash information of macOS: Mozilla's MDRawMacCrashInfo.
+use Rattle.minidump_format.specs.declared.format.stream_type.MINIDUMP_STREAM_TYPE.TheVariants.{MozMacosCrashInfoStream}
+use Rattle.minidump_records.specs.MacRecord.{record_reads}
+use Rattle.minidump_system.specs.StreamSpec.{StreamSpec, linear}
+use Rattle.std.specs.List.{sum_by}
+use Rattle.std.specs.Prelude.{IsSome, ◌*◌}
 use Rattle.std.specs.Prelude.{ℕ, ◌+◌, ◌==◌, List, [], ◌∷◌, map, min, take, Option, Some, None, Result, Ok, Err, slice_range, if◌then◌else◌}
 use Rattle.std.specs.Option.{ok_or}
 use Rattle.minidump_bytes.specs.declared.endian.Endian.{Endian}
@@ -68,3 +73,14 @@ mac_crash_info_in bytes file order =
 -- how many records are read
 abbrev pub count_of_records : Endian → List ℕ → ℕ
 count_of_records order bytes = min (number_at order 4 4 (slice_range bytes 0 172)) 20
+
+-- the stream of type MozMacosCrashInfoStream
+abbrev pub mac_crash_info_stream : StreamSpec MinidumpMacCrashInfo (List MacRecord)
+mac_crash_info_stream = record {
+  stream_type = MozMacosCrashInfoStream;
+  value = mac_records_of;
+  meaning = λ bytes file order system. mac_crash_info_in bytes file order;
+  most = linear;
+  fewest = λ bytes order records. 1 + 2 * count_of_records order bytes + sum_by record_reads records;
+  memory = λ bytes order. IsSome (record_at mac_crash_info order 0 bytes);
+}

@@ -1,4 +1,8 @@
 -- The state of threads: Microsoft's MINIDUMP_THREAD_INFO_LIST.
+use Rattle.minidump_format.specs.declared.format.stream_type.MINIDUMP_STREAM_TYPE.TheVariants.{ThreadInfoListStream}
+use Rattle.minidump_system.specs.Framing.{list_header_of}
+use Rattle.minidump_system.specs.StreamSpec.{StreamSpec, linear}
+use Rattle.std.specs.Prelude.{IsOk, ◌+◌}
 use Rattle.std.specs.Prelude.{ℕ, ◌==◌, List, find, map, reverse, Option, Result}
 use Rattle.minidump_bytes.specs.declared.endian.Endian.{Endian}
 use Rattle.minidump_format.specs.declared.error.Error.{Error}
@@ -19,3 +23,14 @@ thread_infos bytes order = extended_list thread_info order bytes
 -- the last information of a thread
 abbrev pub last_info : List MinidumpThreadInfo → ℕ → Option MinidumpThreadInfo
 last_info infos id = find (λ i. i.raw.thread_id == id) (reverse infos)
+
+-- the stream of type ThreadInfoListStream
+abbrev pub thread_info_list_stream : StreamSpec MinidumpThreadInfoList (List MINIDUMP_THREAD_INFO)
+thread_info_list_stream = record {
+  stream_type = ThreadInfoListStream;
+  value = infos_of;
+  meaning = λ bytes file order system. thread_infos bytes order;
+  most = linear;
+  fewest = λ bytes order infos. 1 + (list_header_of order bytes).number_of_entries;
+  memory = λ bytes order. IsOk (extended_list thread_info order bytes);
+}

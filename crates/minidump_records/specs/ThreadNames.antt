@@ -1,4 +1,8 @@
 -- The names of threads: Microsoft's MINIDUMP_THREAD_NAME_LIST.
+use Rattle.minidump_format.specs.declared.format.stream_type.MINIDUMP_STREAM_TYPE.TheVariants.{ThreadNamesStream}
+use Rattle.minidump_system.specs.Framing.{count_of}
+use Rattle.minidump_system.specs.StreamSpec.{StreamSpec, linear}
+use Rattle.std.specs.Prelude.{IsOk, ◌*◌, ◌+◌}
 use Rattle.std.specs.Prelude.{ℕ, ◌^◌, ◌==◌, List, map, reverse, Option, Result, Ok, string_bytes}
 use Rattle.std.specs.List.{filter_map, range_with_len}
 use Rattle.std.specs.Map.{lookup}
@@ -39,3 +43,14 @@ thread_names bytes file order = and_then (plain_list thread_name order bytes) (�
 -- the name of a thread, of several the first
 abbrev pub name_at : List ThreadName → ℕ → Option (List ℕ)
 name_at names id = lookup (λ t. t == id) names
+
+-- the stream of type ThreadNamesStream
+abbrev pub thread_names_stream : StreamSpec MinidumpThreadNames (List ThreadName)
+thread_names_stream = record {
+  stream_type = ThreadNamesStream;
+  value = names_of;
+  meaning = λ bytes file order system. thread_names bytes file order;
+  most = linear;
+  fewest = λ bytes order names. 1 + 2 * count_of order bytes;
+  memory = λ bytes order. IsOk (plain_list thread_name order bytes);
+}

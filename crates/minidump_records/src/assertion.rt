@@ -46,29 +46,15 @@ impl MinidumpAssertion {
 /// Breakpad's `MDRawAssertionInfo`. `StreamReadFailure` if the stream is shorter than that. Takes no memory.
 impl<'a> MinidumpStream<'a> for MinidumpAssertion {
     ghost use Rattle.minidump_format.specs.declared.format.assertion.MINIDUMP_ASSERTION_INFO.{MINIDUMP_ASSERTION_INFO};
-    ghost use Rattle.minidump_format.specs.declared.format.stream_type.MINIDUMP_STREAM_TYPE.TheVariants.{AssertionInfoStream};
-    ghost use Rattle.minidump_format.specs.StreamType.{number_of};
-    ghost use Rattle.minidump_records.specs.Assertion.{assertion_in, assertion_of};
-
-    ghost type_number = { number_of AssertionInfoStream };
-
-    const STREAM_TYPE: u32 = 0x4767_0002;
+    ghost use Rattle.minidump_records.specs.Assertion.{assertion_stream};
 
     ghost Value = { MINIDUMP_ASSERTION_INFO };
 
-    ghost view = { assertion_of };
+    ghost spec = { assertion_stream };
 
-    ghost meaning = { λ bytes all order system. assertion_in bytes order };
+    const STREAM_TYPE: u32 = 0x4767_0002;
 
-    ghost limit = { λ n. 1 };
-
-    ghost least = { λ bytes order info. 1 };
-
-    ghost takes_memory = { λ bytes order. ⊥ };
-
-    fn number_of_type() -> u32
-        ensures { result ≡ number_of AssertionInfoStream }
-    {
+    fn number_of_type() -> u32 {
         Self::STREAM_TYPE
     }
 

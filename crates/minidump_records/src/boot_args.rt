@@ -61,30 +61,16 @@ impl Record for ShortBootArgs {
 /// Mozilla's `MDRawMacBootargs`, in the form of 12 bytes, or of 8 bytes where the stream is shorter.
 /// `StreamReadFailure` if it is shorter than that too.
 impl<'a> MinidumpStream<'a> for MinidumpMacBootargs {
-    ghost use Rattle.std.specs.Prelude.{◌≤◌, length};
-    ghost use Rattle.minidump_format.specs.declared.format.stream_type.MINIDUMP_STREAM_TYPE.TheVariants.{MozMacosBootargsStream};
-    ghost use Rattle.minidump_format.specs.StreamType.{number_of};
-    ghost use Rattle.minidump_records.specs.BootArgs.{BootArgs, boot_args, boot_args_of, boot_args_reads};
-
-    ghost type_number = { number_of MozMacosBootargsStream };
-
-    const STREAM_TYPE: u32 = 0x4d7a_0002;
+    ghost use Rattle.minidump_records.specs.BootArgs.{BootArgs};
+    ghost use Rattle.minidump_records.specs.BootArgs.{mac_bootargs_stream};
 
     ghost Value = { BootArgs };
 
-    ghost view = { boot_args_of };
+    ghost spec = { mac_bootargs_stream };
 
-    ghost meaning = { λ bytes all order system. boot_args bytes all order };
+    const STREAM_TYPE: u32 = 0x4d7a_0002;
 
-    ghost limit = { λ n. 3 };
-
-    ghost least = { λ bytes order args. boot_args_reads bytes };
-
-    ghost takes_memory = { λ bytes order. 8 ≤ length bytes };
-
-    fn number_of_type() -> u32
-        ensures { result ≡ number_of MozMacosBootargsStream }
-    {
+    fn number_of_type() -> u32 {
         Self::STREAM_TYPE
     }
 

@@ -24,30 +24,16 @@ pub struct MinidumpBreakpadInfo {
 
 /// Breakpad's `MDRawBreakpadInfo`. `StreamReadFailure` if the stream is shorter than that. Takes no memory.
 impl<'a> MinidumpStream<'a> for MinidumpBreakpadInfo {
-    ghost use Rattle.minidump_format.specs.declared.format.stream_type.MINIDUMP_STREAM_TYPE.TheVariants.{BreakpadInfoStream};
-    ghost use Rattle.minidump_format.specs.StreamType.{number_of};
     ghost use Rattle.minidump_records.specs.declared.breakpad_info.MinidumpBreakpadInfo.{MinidumpBreakpadInfo};
-    ghost use Rattle.minidump_records.specs.BreakpadInfo.{breakpad_info_in};
-
-    ghost type_number = { number_of BreakpadInfoStream };
-
-    const STREAM_TYPE: u32 = 0x4767_0001;
+    ghost use Rattle.minidump_records.specs.BreakpadInfo.{breakpad_info_stream};
 
     ghost Value = { MinidumpBreakpadInfo };
 
-    ghost view = { λ info. info };
+    ghost spec = { breakpad_info_stream };
 
-    ghost meaning = { λ bytes all order system. breakpad_info_in bytes order };
+    const STREAM_TYPE: u32 = 0x4767_0001;
 
-    ghost limit = { λ n. 1 };
-
-    ghost least = { λ bytes order info. 1 };
-
-    ghost takes_memory = { λ bytes order. ⊥ };
-
-    fn number_of_type() -> u32
-        ensures { result ≡ number_of BreakpadInfoStream }
-    {
+    fn number_of_type() -> u32 {
         Self::STREAM_TYPE
     }
 

@@ -54,15 +54,15 @@ pub fn last_info_of_a_thread_is_found()
 /// These streams depend on their bytes and the byte order alone, not on the rest of the file or the system
 /// information.
 pub fn streams_depend_on_their_bytes_alone()
-    ensures thread_infos { DependsOnItsBytesAlone ⟦<MinidumpThreadInfoList as MinidumpStream<'static>>⟧.meaning }
-    ensures breakpad_info { DependsOnItsBytesAlone ⟦<MinidumpBreakpadInfo as MinidumpStream<'static>>⟧.meaning }
-    ensures assertion { DependsOnItsBytesAlone ⟦<MinidumpAssertion as MinidumpStream<'static>>⟧.meaning }
-    ensures soft_errors { DependsOnItsBytesAlone ⟦<MinidumpSoftErrors<'static> as MinidumpStream<'static>>⟧.meaning }
-    ensures cpu_info { DependsOnItsBytesAlone ⟦<MinidumpLinuxCpuInfo<'static> as MinidumpStream<'static>>⟧.meaning }
-    ensures proc_status { DependsOnItsBytesAlone ⟦<MinidumpLinuxProcStatus<'static> as MinidumpStream<'static>>⟧.meaning }
-    ensures lsb_release { DependsOnItsBytesAlone ⟦<MinidumpLinuxLsbRelease<'static> as MinidumpStream<'static>>⟧.meaning }
-    ensures environ { DependsOnItsBytesAlone ⟦<MinidumpLinuxEnviron<'static> as MinidumpStream<'static>>⟧.meaning }
-    ensures proc_limits { DependsOnItsBytesAlone ⟦<MinidumpLinuxProcLimits<'static> as MinidumpStream<'static>>⟧.meaning }
+    ensures thread_infos { DependsOnItsBytesAlone ⟦<MinidumpThreadInfoList as MinidumpStream<'static>>⟧.spec.meaning }
+    ensures breakpad_info { DependsOnItsBytesAlone ⟦<MinidumpBreakpadInfo as MinidumpStream<'static>>⟧.spec.meaning }
+    ensures assertion { DependsOnItsBytesAlone ⟦<MinidumpAssertion as MinidumpStream<'static>>⟧.spec.meaning }
+    ensures soft_errors { DependsOnItsBytesAlone ⟦<MinidumpSoftErrors<'static> as MinidumpStream<'static>>⟧.spec.meaning }
+    ensures cpu_info { DependsOnItsBytesAlone ⟦<MinidumpLinuxCpuInfo<'static> as MinidumpStream<'static>>⟧.spec.meaning }
+    ensures proc_status { DependsOnItsBytesAlone ⟦<MinidumpLinuxProcStatus<'static> as MinidumpStream<'static>>⟧.spec.meaning }
+    ensures lsb_release { DependsOnItsBytesAlone ⟦<MinidumpLinuxLsbRelease<'static> as MinidumpStream<'static>>⟧.spec.meaning }
+    ensures environ { DependsOnItsBytesAlone ⟦<MinidumpLinuxEnviron<'static> as MinidumpStream<'static>>⟧.spec.meaning }
+    ensures proc_limits { DependsOnItsBytesAlone ⟦<MinidumpLinuxProcLimits<'static> as MinidumpStream<'static>>⟧.spec.meaning }
 {}
 
 /// A clone of Breakpad's information is the same value.

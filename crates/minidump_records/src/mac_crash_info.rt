@@ -3,7 +3,6 @@ ghost use Rattle.std.specs.List.{sum_by};
 ghost use Rattle.minidump_bytes.specs.Source.{bytes_of};
 ghost use Rattle.minidump_bytes.specs.Steps.{after};
 ghost use Rattle.minidump_format.specs.Answer.{Gives};
-ghost use Rattle.minidump_format.specs.declared.format.stream_type.MINIDUMP_STREAM_TYPE.TheVariants.{MozMacosCrashInfoStream};
 ghost use Rattle.minidump_format.specs.StreamType.{number_of};
 ghost use Rattle.minidump_records.specs.MacRecord.{mac_record_of, record_reads};
 ghost use Rattle.minidump_records.specs.MacCrashInfo.{located_records, mac_records_of};
@@ -46,34 +45,17 @@ impl MinidumpMacCrashInfo {
 /// The errors: `StreamReadFailure` if the stream has no 172 bytes, and if the bytes of a record, its fixed part
 /// or one of its texts is missing; `VersionMismatch` if a record has another version than the one before it.
 impl<'a> MinidumpStream<'a> for MinidumpMacCrashInfo {
-    ghost use Rattle.std.specs.Prelude.{◌+◌, ◌*◌, List, IsSome};
-    ghost use Rattle.std.specs.List.{sum_by};
-    ghost use Rattle.minidump_bytes.specs.Span.{record_at};
-    ghost use Rattle.minidump_format.specs.declared.format.stream_type.MINIDUMP_STREAM_TYPE.TheVariants.{MozMacosCrashInfoStream};
-    ghost use Rattle.minidump_format.specs.Mac.{mac_crash_info};
-    ghost use Rattle.minidump_format.specs.StreamType.{number_of};
-    ghost use Rattle.minidump_records.specs.MacRecord.{MacRecord, record_reads};
-    ghost use Rattle.minidump_records.specs.MacCrashInfo.{count_of_records, mac_crash_info_in, mac_records_of};
-
-    ghost type_number = { number_of MozMacosCrashInfoStream };
-
-    const STREAM_TYPE: u32 = 0x4d7a_0001;
+    ghost use Rattle.std.specs.Prelude.{List};
+    ghost use Rattle.minidump_records.specs.MacRecord.{MacRecord};
+    ghost use Rattle.minidump_records.specs.MacCrashInfo.{mac_crash_info_stream};
 
     ghost Value = { List MacRecord };
 
-    ghost view = { mac_records_of };
+    ghost spec = { mac_crash_info_stream };
 
-    ghost meaning = { λ bytes all order system. mac_crash_info_in bytes all order };
+    const STREAM_TYPE: u32 = 0x4d7a_0001;
 
-    ghost limit = { λ n. n + 7 };
-
-    ghost least = { λ bytes order records. 1 + 2 * count_of_records order bytes + sum_by record_reads records };
-
-    ghost takes_memory = { λ bytes order. IsSome (record_at mac_crash_info order 0 bytes) };
-
-    fn number_of_type() -> u32
-        ensures { result ≡ number_of MozMacosCrashInfoStream }
-    {
+    fn number_of_type() -> u32 {
         Self::STREAM_TYPE
     }
 

@@ -1,3 +1,5 @@
+ghost use Rattle.minidump_records.specs.SoftErrors.{soft_errors_stream};
+ghost use Rattle.minidump_format.specs.StreamType.{number_of};
 ghost use Rattle.std.specs.Prelude.{◌≡◌, []};
 ghost use Rattle.minidump_records.specs.SoftErrors.{soft_errors_of};
 
@@ -31,29 +33,18 @@ impl<'a> MinidumpSoftErrors<'a> {
 /// Mozilla's soft errors: the stream is one text in UTF-8, else `DataError`. Reads no number of it, and takes no
 /// memory.
 impl<'a> MinidumpStream<'a> for MinidumpSoftErrors<'a> {
-    ghost use Rattle.std.specs.Prelude.{ℕ, List};
-    ghost use Rattle.minidump_format.specs.declared.format.stream_type.MINIDUMP_STREAM_TYPE.TheVariants.{MozSoftErrors};
-    ghost use Rattle.minidump_format.specs.StreamType.{number_of};
-    ghost use Rattle.minidump_records.specs.SoftErrors.{soft_errors, soft_errors_of};
-
-    ghost type_number = { number_of MozSoftErrors };
-
-    const STREAM_TYPE: u32 = 0x4d7a_0004;
+    ghost use Rattle.std.specs.Prelude.{List};
+    ghost use Rattle.std.specs.Prelude.{ℕ};
+    ghost use Rattle.minidump_records.specs.SoftErrors.{soft_errors_stream};
 
     ghost Value = { List ℕ };
 
-    ghost view = { soft_errors_of };
+    ghost spec = { soft_errors_stream };
 
-    ghost meaning = { λ bytes all order system. soft_errors bytes };
-
-    ghost limit = { λ n. 0 };
-
-    ghost least = { λ bytes order text. 0 };
-
-    ghost takes_memory = { λ bytes order. ⊥ };
+    const STREAM_TYPE: u32 = 0x4d7a_0004;
 
     fn number_of_type() -> u32
-        ensures { result ≡ number_of MozSoftErrors }
+        ensures { result ≡ number_of soft_errors_stream.stream_type }
     {
         Self::STREAM_TYPE
     }

@@ -44,33 +44,17 @@ impl MinidumpThreadInfoList {
 
 /// Microsoft's `MINIDUMP_THREAD_INFO_LIST`: an extended list of entries.
 impl<'a> MinidumpStream<'a> for MinidumpThreadInfoList {
-    ghost use Rattle.std.specs.Prelude.{◌+◌, List, IsOk};
-    ghost use Rattle.minidump_format.specs.declared.format.stream_type.MINIDUMP_STREAM_TYPE.TheVariants.{ThreadInfoListStream};
+    ghost use Rattle.std.specs.Prelude.{List};
     ghost use Rattle.minidump_format.specs.declared.format.thread.MINIDUMP_THREAD_INFO.{MINIDUMP_THREAD_INFO};
-    ghost use Rattle.minidump_format.specs.StreamType.{number_of};
-    ghost use Rattle.minidump_format.specs.Thread.{thread_info};
-    ghost use Rattle.minidump_system.specs.Framing.{extended_list, list_header_of};
-    ghost use Rattle.minidump_records.specs.ThreadInfo.{infos_of, thread_infos};
-
-    ghost type_number = { number_of ThreadInfoListStream };
-
-    const STREAM_TYPE: u32 = 17;
+    ghost use Rattle.minidump_records.specs.ThreadInfo.{thread_info_list_stream};
 
     ghost Value = { List MINIDUMP_THREAD_INFO };
 
-    ghost view = { infos_of };
+    ghost spec = { thread_info_list_stream };
 
-    ghost meaning = { λ bytes all order system. thread_infos bytes order };
+    const STREAM_TYPE: u32 = 17;
 
-    ghost limit = { λ n. n + 7 };
-
-    ghost least = { λ bytes order infos. 1 + (list_header_of order bytes).number_of_entries };
-
-    ghost takes_memory = { λ bytes order. IsOk (extended_list thread_info order bytes) };
-
-    fn number_of_type() -> u32
-        ensures { result ≡ number_of ThreadInfoListStream }
-    {
+    fn number_of_type() -> u32 {
         Self::STREAM_TYPE
     }
 

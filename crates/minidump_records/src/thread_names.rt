@@ -54,32 +54,17 @@ impl MinidumpThreadNames {
 /// Microsoft's `MINIDUMP_THREAD_NAME_LIST`: a plain list of entries. One whose name is no text is skipped; of
 /// several names of one thread the last is kept.
 impl<'a> MinidumpStream<'a> for MinidumpThreadNames {
-    ghost use Rattle.std.specs.Prelude.{◌+◌, ◌*◌, List, IsOk};
-    ghost use Rattle.minidump_format.specs.declared.format.stream_type.MINIDUMP_STREAM_TYPE.TheVariants.{ThreadNamesStream};
-    ghost use Rattle.minidump_format.specs.StreamType.{number_of};
-    ghost use Rattle.minidump_format.specs.Thread.{thread_name};
-    ghost use Rattle.minidump_system.specs.Framing.{count_of, plain_list};
-    ghost use Rattle.minidump_records.specs.ThreadNames.{ThreadName, names_of, thread_names};
-
-    ghost type_number = { number_of ThreadNamesStream };
-
-    const STREAM_TYPE: u32 = 24;
+    ghost use Rattle.std.specs.Prelude.{List};
+    ghost use Rattle.minidump_records.specs.ThreadNames.{ThreadName};
+    ghost use Rattle.minidump_records.specs.ThreadNames.{thread_names_stream};
 
     ghost Value = { List ThreadName };
 
-    ghost view = { names_of };
+    ghost spec = { thread_names_stream };
 
-    ghost meaning = { λ bytes all order system. thread_names bytes all order };
+    const STREAM_TYPE: u32 = 24;
 
-    ghost limit = { λ n. n + 7 };
-
-    ghost least = { λ bytes order names. 1 + 2 * count_of order bytes };
-
-    ghost takes_memory = { λ bytes order. IsOk (plain_list thread_name order bytes) };
-
-    fn number_of_type() -> u32
-        ensures { result ≡ number_of ThreadNamesStream }
-    {
+    fn number_of_type() -> u32 {
         Self::STREAM_TYPE
     }
 

@@ -6,7 +6,7 @@ use Rattle.std.proofs.lemmas.Bool.Decides.{nat_tests}
 use Rattle.std.proofs.lemmas.List.Sums.{sum_by-cons}
 use Rattle.std.proofs.lemmas.Result.{err_from_is_err_and}
 use Rattle.std.specs.Result.{IsErrAnd}
-use Rattle.std.specs.Prelude.{⊤}
+use Rattle.std.specs.Prelude.{⊤, IfErr, IsSome}
 use Rattle.minidump_bytes.specs.Wire.{Field, field_at}
 use Rattle.minidump_format.specs.Answer.{Gives, Refuses}
 use Rattle.minidump_format.specs.declared.error.Error.{Error}
@@ -132,6 +132,23 @@ none_seen seen None o d e s h = (sym s, (let k : e ≡ d = cc in sym k))
 
 pub some_seen : {A B : Type 0} (seen : A → B) (r : Option A) (o : Option B) (x : A) → option_map seen r ≡ o → r ≡ Some x → o ≡ Some (seen x)
 some_seen seen r o x s h = sym (rw h at s)
+
+-- memory may run out only where a field was read
+pub first_there : {A : Type 0} (seen : ℕ → Option A) (place : ℕ) (x : A) → seen place ≡ Some x → (0 < place → IsSome (seen 0)) → IsSome (seen 0)
+first_there seen zero x is before = rw is refl
+first_there seen (suc place) x is before = before (omega arith)
+
+pub memory_held : {X : Type 0} (P : Type 0) (r : Result X Error) → P → IfErr r (λ e. e ≡ OutOfMemory → P)
+memory_held P (Ok x) p = tt
+memory_held P (Err e) p = λ h. p
+
+pub memory_none : {X : Type 0} (P : Type 0) (r : Result X Error) (e : Error) → IsErrAnd r (λ y. y ≡ e) → DataError ≡ e → IfErr r (λ y. y ≡ OutOfMemory → P)
+memory_none P r e exit is = let p = err_from_is_err_and r exit in rw (p.1, p.2, ← is) (λ h. (let k : DataError ≡ OutOfMemory = h in cc))
+
+pub gives_where : {X V : Type 0} (view : X → V) (memory : Type 0) (r : Result X Error) (a : Result V Error) → Gives view ⊤ r a → IfErr r (λ e. e ≡ OutOfMemory → memory) → Gives view memory r a
+gives_where view memory (Ok x) a h m = h
+gives_where view memory (Err OutOfMemory) a h m = m refl
+gives_where view memory (Err e) a h m = h
 
 pub is_there : {A : Type 0} (o : Option A) (d : Error) (x : A) → ok_or o d ≡ Ok x → o ≡ Some x
 is_there (Some a) d x h = (let k : a ≡ x = cc in ap Some k)

@@ -1,8 +1,10 @@
 -- The messages of Chromium's stability_report.proto: each field by its number, other fields are skipped.
-use Rattle.std.specs.Prelude.{ℕ, ◌+◌, List, [], Option, None, Result, unwrap_or}
+use Rattle.std.specs.Prelude.{ℕ, ◌+◌, List, [], Option, None, Result, unwrap_or, IsSome}
 use Rattle.std.specs.Option.{ok_or, option_and_then, option_map}
-use Rattle.minidump_bytes.specs.Wire.{Field}
+use Rattle.minidump_bytes.specs.Wire.{Field, field_at}
 use Rattle.minidump_format.specs.declared.error.Error.{Error}
+use Rattle.minidump_format.specs.declared.format.stream_type.MINIDUMP_STREAM_TYPE.TheVariants.{StabilityReportStream}
+use Rattle.minidump_system.specs.StreamSpec.{StreamSpec, linear}
 use Rattle.minidump_format.specs.declared.error.Error.TheVariants.{DataError}
 use Rattle.minidump_stability.specs.declared.process_state.FileSystemState.{FileSystemState}
 use Rattle.minidump_stability.specs.declared.process_state.MemoryState.{MemoryState}
@@ -94,3 +96,14 @@ report_fields f = within 2 process_state_fields f + within 7 system_memory_state
 -- all fields of a stream, those of nested messages among them
 abbrev pub fields_of_report : List ℕ → ℕ
 fields_of_report bytes = counted report_fields (unwrap_or (fields_in bytes) [])
+
+-- the stream of type StabilityReportStream
+abbrev pub stability_report_stream : StreamSpec StabilityReport Report
+stability_report_stream = record {
+  stream_type = StabilityReportStream;
+  value = report_of;
+  meaning = λ bytes file order system. stability_report bytes;
+  most = linear;
+  fewest = λ bytes order report. fields_of_report bytes;
+  memory = λ bytes order. IsSome (field_at 0 bytes);
+}

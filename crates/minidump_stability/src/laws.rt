@@ -27,8 +27,8 @@ pub fn report_is_what_its_fields_mean()
 /// The report depends on the bytes of its stream alone.
 pub fn report_depends_on_its_stream_alone()
     ensures { (bytes all other : List ℕ) (order another : Endian) (s t : Option System)
-        → ⟦<StabilityReport as MinidumpStream<'static>>⟧.meaning bytes all order s
-        ≡ ⟦<StabilityReport as MinidumpStream<'static>>⟧.meaning bytes other another t }
+        → ⟦<StabilityReport as MinidumpStream<'static>>⟧.spec.meaning bytes all order s
+        ≡ ⟦<StabilityReport as MinidumpStream<'static>>⟧.spec.meaning bytes other another t }
 {}
 
 /// A state of a process equals the same state alone, and a clone of it is the same state.

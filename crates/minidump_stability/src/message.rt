@@ -1,7 +1,7 @@
-ghost use Rattle.std.specs.Prelude.{◌≡◌, ◌+◌, ◌≤◌, ⊤, ℕ, [], Option, length, unwrap_or, IfOk};
+ghost use Rattle.std.specs.Prelude.{◌≡◌, ◌+◌, ◌≤◌, ⊤, ℕ, [], Option, length, unwrap_or, IfErr, IfOk, IsSome};
 ghost use Rattle.std.specs.Option.{ok_or, option_map};
 ghost use Rattle.minidump_bytes.specs.Steps.{after};
-ghost use Rattle.minidump_bytes.specs.Wire.{Field, field_of, payload_of, room};
+ghost use Rattle.minidump_bytes.specs.Wire.{Field, field_at, field_of, payload_of, room};
 ghost use Rattle.minidump_format.specs.declared.error.Error.TheVariants.{DataError};
 ghost use Rattle.minidump_format.specs.Answer.{Gives};
 ghost use Rattle.minidump_stability.specs.Fields.{count_in, counted, fields_in, int64_in, uint32_in};
@@ -51,6 +51,7 @@ pub fn merge<M: Message + Drop>(
     ensures grows { steps.old ≤ steps.new }
     ensures counted { IfOk result
         (λ _. steps.new ≡ after steps.old (counted M.inside (unwrap_or (fields_in bytes.now) []))) }
+    ensures memory { IfErr result (λ e. e ≡ Error.OutOfMemory → IsSome (field_at 0 bytes.now)) }
 {
     let source = Source::new(bytes);
     let mut message = old;

@@ -181,30 +181,15 @@ impl Message for StabilityReport {
 }
 
 impl<'a> MinidumpStream<'a> for StabilityReport {
-    ghost use Rattle.std.specs.Prelude.{◌+◌, ⊤};
-    ghost use Rattle.minidump_format.specs.declared.format.stream_type.MINIDUMP_STREAM_TYPE.TheVariants.{StabilityReportStream};
-    ghost use Rattle.minidump_format.specs.StreamType.{number_of};
-    ghost use Rattle.minidump_stability.specs.StabilityReport.{Report, fields_of_report, report_of, stability_report};
-
-    ghost type_number = { number_of StabilityReportStream };
-
-    const STREAM_TYPE: u32 = 0x4b6b_0002;
+    ghost use Rattle.minidump_stability.specs.StabilityReport.{Report, stability_report_stream};
 
     ghost Value = { Report };
 
-    ghost view = { report_of };
+    ghost spec = { stability_report_stream };
 
-    ghost meaning = { λ bytes all order system. stability_report bytes };
+    const STREAM_TYPE: u32 = 0x4b6b_0002;
 
-    ghost limit = { λ n. n + 7 };
-
-    ghost least = { λ bytes order report. fields_of_report bytes };
-
-    ghost takes_memory = { λ bytes order. ⊤ };
-
-    fn number_of_type() -> u32
-        ensures { result ≡ number_of StabilityReportStream }
-    {
+    fn number_of_type() -> u32 {
         Self::STREAM_TYPE
     }
 

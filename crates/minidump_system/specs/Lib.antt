@@ -4,6 +4,8 @@ pub mod Os
 pub mod Cpu
 pub mod CpuInfo
 pub mod OsParts
+pub mod System
+pub mod StreamSpec
 pub mod SystemInfo
 pub mod Meaning
 pub mod MiscInfo

@@ -1,5 +1,7 @@
 -- The misc information: Microsoft's MINIDUMP_MISC_INFO to MINIDUMP_MISC_INFO_5. A layout has the fields of the one before
 -- it and more.
+use Rattle.minidump_system.specs.StreamSpec.{StreamSpec, linear}
+use Rattle.minidump_format.specs.declared.format.stream_type.MINIDUMP_STREAM_TYPE.TheVariants.{MiscInfoStream}
 use Rattle.std.specs.Prelude.{ℕ, List, Option, Some, None, Result, Ok, Err, if◌then◌else◌, ℤ, [], ◌∷◌, ◌++◌, codes}
 use Rattle.std.specs.Option.{option_map, option_or}
 use Rattle.std.specs.List.{concat, flat_map}
@@ -52,6 +54,17 @@ misc_info_in bytes order = or_refused (largest_layout order bytes)
 
 abbrev pub raw_of : MinidumpMiscInfo → RawMiscInfo
 raw_of m = m.raw
+
+-- the stream of type MiscInfoStream
+abbrev pub misc_info_stream : StreamSpec MinidumpMiscInfo RawMiscInfo
+misc_info_stream = record {
+  stream_type = MiscInfoStream;
+  value = raw_of;
+  meaning = λ bytes file order system. misc_info_in bytes order;
+  most = linear;
+  fewest = λ bytes order raw. 1;
+  memory = λ bytes order. ⊥;
+}
 
 -- a field, where its flag is set
 abbrev pub where_set : {X : Type 0} → ℕ → ℕ → X → Option X

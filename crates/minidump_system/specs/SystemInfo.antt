@@ -1,5 +1,5 @@
 -- The system information: Microsoft's MINIDUMP_SYSTEM_INFO.
-use Rattle.std.specs.Prelude.{ℕ, List, [], ◌∷◌, ◌++◌, codes, Option, Some, None, Result, Ok, Err, string_bytes, unwrap_or}
+use Rattle.std.specs.Prelude.{ℕ, List, [], ◌∷◌, ◌++◌, codes, Option, Some, None, Result, Ok, Err, string_bytes, unwrap_or, ⊤}
 use Rattle.std.specs.Fmt.{decimal}
 use Rattle.std.specs.List.{concat}
 use Rattle.std.specs.Option.{option_map}
@@ -10,21 +10,14 @@ use Rattle.minidump_bytes.specs.Text16.{text16}
 use Rattle.minidump_format.specs.declared.error.Error.{Error}
 use Rattle.minidump_format.specs.declared.error.Error.TheVariants.{StreamReadFailure}
 use Rattle.minidump_format.specs.declared.format.system.MINIDUMP_SYSTEM_INFO.{MINIDUMP_SYSTEM_INFO}
+use Rattle.minidump_format.specs.declared.format.stream_type.MINIDUMP_STREAM_TYPE.TheVariants.{SystemInfoStream}
 use Rattle.minidump_format.specs.System.{system_info}
-use Rattle.minidump_system.specs.declared.os.Os.{Os}
-use Rattle.minidump_system.specs.declared.cpu.Cpu.{Cpu}
 use Rattle.minidump_system.specs.declared.system_info.MinidumpSystemInfo.{MinidumpSystemInfo}
+pub use Rattle.minidump_system.specs.System.{System}
+use Rattle.minidump_system.specs.StreamSpec.{StreamSpec}
 use Rattle.minidump_system.specs.Os.{os_of}
 use Rattle.minidump_system.specs.Cpu.{cpu_of}
 use Rattle.minidump_system.specs.CpuInfo.{cpu_info_text}
-
--- a system information without its addresses: the record, what its numbers name, and its texts
-pub record System : Type 0 where
-  pub raw : MINIDUMP_SYSTEM_INFO
-  pub os : Os
-  pub cpu : Cpu
-  pub csd_version : Option (List ℕ)
-  pub cpu_info : Option (List ℕ)
 
 abbrev pub system_of : MinidumpSystemInfo → System
 system_of s = record {
@@ -54,6 +47,17 @@ system_read bytes all order = with_record all order (record_at system_info order
 abbrev pub system_in : List ℕ → List ℕ → Endian → Option System → Result System Error
 system_in bytes all order (Some system) = Ok system
 system_in bytes all order None = system_read bytes all order
+
+-- the stream of type SystemInfoStream
+abbrev pub system_info_stream : StreamSpec MinidumpSystemInfo System
+system_info_stream = record {
+  stream_type = SystemInfoStream;
+  value = system_of;
+  meaning = system_in;
+  most = λ n. 7;
+  fewest = λ bytes order system. 0;
+  memory = λ bytes order. ⊤;
+}
 
 -- the printed text, line by line: the numbers of the record
 unfoldable pub numbers_text : MINIDUMP_SYSTEM_INFO → List ℕ

@@ -9,7 +9,7 @@ use crate::{MinidumpMiscInfo, MinidumpStream, RawMiscInfo};
 /// The misc information depends on its stream and the byte order alone, not on the rest of the file or
 /// the system information.
 pub fn misc_info_depends_on_its_stream_alone()
-    ensures { DependsOnItsBytesAlone ⟦<MinidumpMiscInfo as MinidumpStream<'static>>⟧.meaning }
+    ensures { DependsOnItsBytesAlone ⟦<MinidumpMiscInfo as MinidumpStream<'static>>⟧.spec.meaning }
 {}
 
 /// Clones of a misc information are equal values.

@@ -363,27 +363,14 @@ impl MinidumpMiscInfo {
 }
 
 impl<'a> MinidumpStream<'a> for MinidumpMiscInfo {
-    ghost use Rattle.minidump_system.specs.MiscInfo.{misc_info_in, raw_of};
+    ghost use Rattle.minidump_system.specs.MiscInfo.{misc_info_stream};
     ghost use Rattle.minidump_system.specs.declared.misc_info.RawMiscInfo.{RawMiscInfo};
-    ghost use Rattle.minidump_format.specs.StreamType.{number_of};
-    ghost use Rattle.minidump_format.specs.declared.format.stream_type.MINIDUMP_STREAM_TYPE.TheVariants.{MiscInfoStream};
-    ghost use Rattle.std.specs.Prelude.{◌+◌};
-
-    ghost type_number = { number_of MiscInfoStream };
-
-    const STREAM_TYPE: u32 = 15;
 
     ghost Value = { RawMiscInfo };
 
-    ghost view = { raw_of };
+    ghost spec = { misc_info_stream };
 
-    ghost meaning = { λ bytes all order system. misc_info_in bytes order };
-
-    ghost limit = { λ n. n + 7 };
-
-    ghost least = { λ bytes order raw. 1 };
-
-    ghost takes_memory = { λ bytes order. ⊥ };
+    const STREAM_TYPE: u32 = 15;
 
     fn number_of_type() -> u32 {
         Self::STREAM_TYPE

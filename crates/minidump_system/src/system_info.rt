@@ -126,26 +126,13 @@ impl MinidumpSystemInfo {
 }
 
 impl<'a> MinidumpStream<'a> for MinidumpSystemInfo {
-    ghost use Rattle.std.specs.Prelude.{⊤};
-    ghost use Rattle.minidump_format.specs.StreamType.{number_of};
-    ghost use Rattle.minidump_format.specs.declared.format.stream_type.MINIDUMP_STREAM_TYPE.TheVariants.{SystemInfoStream};
-    ghost use Rattle.minidump_system.specs.SystemInfo.{System, system_in};
-
-    ghost type_number = { number_of SystemInfoStream };
-
-    const STREAM_TYPE: u32 = 7;
+    ghost use Rattle.minidump_system.specs.SystemInfo.{System, system_info_stream};
 
     ghost Value = { System };
 
-    ghost view = { system_of };
+    ghost spec = { system_info_stream };
 
-    ghost meaning = { system_in };
-
-    ghost limit = { λ n. 7 };
-
-    ghost least = { λ bytes order system. 0 };
-
-    ghost takes_memory = { λ bytes order. ⊤ };
+    const STREAM_TYPE: u32 = 7;
 
     fn number_of_type() -> u32 {
         Self::STREAM_TYPE

@@ -50,26 +50,14 @@ fn read_record(
 /// Crashpad's `MinidumpCrashpadInfo`: a record, whose version is not 0, then its dictionary and its list of
 /// links to modules.
 impl<'a> MinidumpStream<'a> for MinidumpCrashpadInfo {
-    ghost use Rattle.std.specs.Prelude.{◌+◌, ◌*◌, ◌-◌, IsOk};
-    ghost use Rattle.minidump_format.specs.declared.format.stream_type.MINIDUMP_STREAM_TYPE.TheVariants.{CrashpadInfoStream};
-    ghost use Rattle.minidump_format.specs.StreamType.{number_of};
-    ghost use Rattle.minidump_records.specs.CrashpadInfo.{Crashpad, crashpad_in, crashpad_of, crashpad_reads, crashpad_record};
-
-    ghost type_number = { number_of CrashpadInfoStream };
-
-    const STREAM_TYPE: u32 = 0x4350_0001;
+    ghost use Rattle.minidump_records.specs.CrashpadInfo.{Crashpad};
+    ghost use Rattle.minidump_records.specs.CrashpadInfo.{crashpad_info_stream};
 
     ghost Value = { Crashpad };
 
-    ghost view = { crashpad_of };
+    ghost spec = { crashpad_info_stream };
 
-    ghost meaning = { λ bytes all order system. crashpad_in bytes all order };
-
-    ghost limit = { λ n. (n + 8) * (n + 8) - 1 };
-
-    ghost least = { λ bytes order info. crashpad_reads info };
-
-    ghost takes_memory = { λ bytes order. IsOk (crashpad_record order bytes) };
+    const STREAM_TYPE: u32 = 0x4350_0001;
 
     fn number_of_type() -> u32 {
         Self::STREAM_TYPE

@@ -3,7 +3,6 @@ ghost use Rattle.std.specs.List.{sum_by};
 ghost use Rattle.std.specs.Slice.Iter.{iter_rest};
 ghost use Rattle.minidump_bytes.specs.Source.{bytes_of};
 ghost use Rattle.minidump_bytes.specs.Steps.{after};
-ghost use Rattle.minidump_format.specs.declared.format.stream_type.MINIDUMP_STREAM_TYPE.TheVariants.{HandleDataStream};
 ghost use Rattle.minidump_format.specs.StreamType.{number_of};
 ghost use Rattle.minidump_records.specs.Handles.{described, handle_of, handle_reads, handles_of};
 
@@ -64,32 +63,17 @@ impl MinidumpHandleDataStream {
 /// Microsoft's `MINIDUMP_HANDLE_DATA_STREAM`: a list of descriptors of 32 or 40 bytes. A name at RVA 0, or
 /// one that is no text, is `None`; descriptors of 40 bytes name information on their objects.
 impl<'a> MinidumpStream<'a> for MinidumpHandleDataStream {
-    ghost use Rattle.std.specs.Prelude.{◌+◌, ◌*◌, ◌-◌, IsOk, List, length};
-    ghost use Rattle.std.specs.List.{sum_by};
-    ghost use Rattle.minidump_format.specs.declared.format.stream_type.MINIDUMP_STREAM_TYPE.TheVariants.{HandleDataStream};
-    ghost use Rattle.minidump_format.specs.StreamType.{number_of};
-    ghost use Rattle.minidump_system.specs.Framing.{handle_list};
-    ghost use Rattle.minidump_records.specs.Handles.{Handle, handle_data, handle_reads, handles_of};
-
-    ghost type_number = { number_of HandleDataStream };
-
-    const STREAM_TYPE: u32 = 12;
+    ghost use Rattle.std.specs.Prelude.{List};
+    ghost use Rattle.minidump_records.specs.Handles.{Handle};
+    ghost use Rattle.minidump_records.specs.Handles.{handle_data_stream};
 
     ghost Value = { List Handle };
 
-    ghost view = { handles_of };
+    ghost spec = { handle_data_stream };
 
-    ghost meaning = { λ bytes all order system. handle_data bytes all order };
+    const STREAM_TYPE: u32 = 12;
 
-    ghost limit = { λ n. (n + 8) * (n + 8) - 1 };
-
-    ghost least = { λ bytes order handles. 1 + length handles + sum_by handle_reads handles };
-
-    ghost takes_memory = { λ bytes order. IsOk (handle_list order bytes) };
-
-    fn number_of_type() -> u32
-        ensures { result ≡ number_of HandleDataStream }
-    {
+    fn number_of_type() -> u32 {
         Self::STREAM_TYPE
     }
 

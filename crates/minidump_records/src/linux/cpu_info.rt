@@ -1,3 +1,5 @@
+ghost use Rattle.minidump_records.specs.LinuxTexts.{linux_cpu_info_stream};
+ghost use Rattle.minidump_format.specs.StreamType.{number_of};
 ghost use Rattle.std.specs.Prelude.{◌≡◌, []};
 ghost use Rattle.minidump_records.specs.LinuxPairs.{pairs_of};
 ghost use Rattle.minidump_records.specs.LinuxTexts.{cpu_info_of};
@@ -40,29 +42,18 @@ impl<'a> MinidumpLinuxCpuInfo<'a> {
 /// Breakpad's `MD_LINUX_CPU_INFO`: the stream is the text, whatever its bytes are. Reads no number of it,
 /// takes no memory, and has no error.
 impl<'a> MinidumpStream<'a> for MinidumpLinuxCpuInfo<'a> {
-    ghost use Rattle.std.specs.Prelude.{ℕ, List, Ok};
-    ghost use Rattle.minidump_format.specs.declared.format.stream_type.MINIDUMP_STREAM_TYPE.TheVariants.{LinuxCpuInfo};
-    ghost use Rattle.minidump_format.specs.StreamType.{number_of};
-    ghost use Rattle.minidump_records.specs.LinuxTexts.{cpu_info_of, linux_text};
-
-    ghost type_number = { number_of LinuxCpuInfo };
-
-    const STREAM_TYPE: u32 = 0x4767_0003;
+    ghost use Rattle.std.specs.Prelude.{List};
+    ghost use Rattle.std.specs.Prelude.{ℕ};
+    ghost use Rattle.minidump_records.specs.LinuxTexts.{linux_cpu_info_stream};
 
     ghost Value = { List ℕ };
 
-    ghost view = { cpu_info_of };
+    ghost spec = { linux_cpu_info_stream };
 
-    ghost meaning = { λ bytes all order system. linux_text bytes };
-
-    ghost limit = { λ n. 0 };
-
-    ghost least = { λ bytes order text. 0 };
-
-    ghost takes_memory = { λ bytes order. ⊥ };
+    const STREAM_TYPE: u32 = 0x4767_0003;
 
     fn number_of_type() -> u32
-        ensures { result ≡ number_of LinuxCpuInfo }
+        ensures { result ≡ number_of linux_cpu_info_stream.stream_type }
     {
         Self::STREAM_TYPE
     }

@@ -1,3 +1,5 @@
+ghost use Rattle.minidump_records.specs.LinuxTexts.{linux_proc_limits_stream};
+ghost use Rattle.minidump_format.specs.StreamType.{number_of};
 ghost use Rattle.std.specs.Prelude.{◌≡◌, []};
 ghost use Rattle.minidump_bytes.specs.LinuxOsStr.{text_lines};
 ghost use Rattle.minidump_records.specs.LinuxTexts.{proc_limits_of};
@@ -39,29 +41,18 @@ impl<'a> MinidumpLinuxProcLimits<'a> {
 /// Mozilla's `MozLinuxLimits`: the stream is the text, whatever its bytes are. Reads no number of it, takes
 /// no memory, and has no error.
 impl<'a> MinidumpStream<'a> for MinidumpLinuxProcLimits<'a> {
-    ghost use Rattle.std.specs.Prelude.{ℕ, List, Ok};
-    ghost use Rattle.minidump_format.specs.declared.format.stream_type.MINIDUMP_STREAM_TYPE.TheVariants.{MozLinuxLimits};
-    ghost use Rattle.minidump_format.specs.StreamType.{number_of};
-    ghost use Rattle.minidump_records.specs.LinuxTexts.{proc_limits_of, linux_text};
-
-    ghost type_number = { number_of MozLinuxLimits };
-
-    const STREAM_TYPE: u32 = 0x4d7a_0003;
+    ghost use Rattle.std.specs.Prelude.{List};
+    ghost use Rattle.std.specs.Prelude.{ℕ};
+    ghost use Rattle.minidump_records.specs.LinuxTexts.{linux_proc_limits_stream};
 
     ghost Value = { List ℕ };
 
-    ghost view = { proc_limits_of };
+    ghost spec = { linux_proc_limits_stream };
 
-    ghost meaning = { λ bytes all order system. linux_text bytes };
-
-    ghost limit = { λ n. 0 };
-
-    ghost least = { λ bytes order text. 0 };
-
-    ghost takes_memory = { λ bytes order. ⊥ };
+    const STREAM_TYPE: u32 = 0x4d7a_0003;
 
     fn number_of_type() -> u32
-        ensures { result ≡ number_of MozLinuxLimits }
+        ensures { result ≡ number_of linux_proc_limits_stream.stream_type }
     {
         Self::STREAM_TYPE
     }

@@ -5,7 +5,7 @@ use Rattle.std.specs.Option.{ok_or}
 use Rattle.minidump_format.specs.declared.error.Error.TheVariants.{DataError}
 use Rattle.minidump_bytes.specs.Source.{bytes_of}
 use Rattle.minidump_bytes.specs.Wire.{field_at, field_of}
-use Rattle.minidump_stability.proofs.MergeLemmas.{counting_end, counting_more, counting_none, gives_none, gives_refused, is_there, merging_end, merging_more, merging_none, merging_refused, merging_stuck, none_seen, some_seen}
+use Rattle.minidump_stability.proofs.MergeLemmas.{counting_end, counting_more, counting_none, first_there, memory_held, memory_none, gives_none, gives_refused, is_there, merging_end, merging_more, merging_none, merging_refused, merging_stuck, none_seen, some_seen}
 use Rattle.minidump_stability.proofs.message.merge.Goals as goal
 
 pub loop-place-init : goal.loop-place-init
@@ -13,6 +13,7 @@ loop-place-init g c = record {
   merging = merging_none g.M.Message.put c.args.bytes.now (g.M.Message.view c.args.old);
   within = omega arith;
   grows = omega arith;
+  first = λ h. absurd (omega (arith, h));
   counted = (0, counting_none g.M.Message.inside c.args.bytes.now, omega arith);
 }
 
@@ -30,6 +31,16 @@ returns-in_err-message-clause-means g c =
     gives_refused _ _ _ _ _ c.from_residual-in_err-message.ensures.1 c.in_err-message.ensures.means
     (λ h. merging_refused g.M.Message.put _ c.args.bytes.now c.loop-place.place c.in_ok-field.next (field_of c.in_ok-field.field) _ (omega (arith, size)) is h c.loop-place.invariant.merging)
 
+pub returns-in_err-field-clause-memory : goal.returns-in_err-field-clause-memory
+returns-in_err-field-clause-memory g c =
+    let none = none_seen _ c.wire_field.result _ _ _ (rw c.new-source.ensures at c.wire_field.ensures.value) c.in_err-field.ensures.value in
+    memory_none _ _ _ c.from_residual.ensures.1 none.1
+
+pub returns-in_err-message-clause-memory : goal.returns-in_err-message-clause-memory
+returns-in_err-message-clause-memory g c =
+    let is : field_at c.loop-place.place c.args.bytes.now ≡ Some (field_of c.in_ok-field.field, c.in_ok-field.next) = some_seen _ c.wire_field.result _ (c.in_ok-field.field, c.in_ok-field.next) (rw c.new-source.ensures at c.wire_field.ensures.value) c.in_ok-field.ensures.ok_part in
+    memory_held _ _ (first_there (λ p. field_at p c.args.bytes.now) c.loop-place.place _ is c.loop-place.invariant.first)
+
 pub loop-place-preserved : goal.loop-place-preserved
 loop-place-preserved g c =
     let is : field_at c.loop-place.place c.args.bytes.now ≡ Some (field_of c.in_ok-field.field, c.in_ok-field.next) = some_seen _ c.wire_field.result _ (c.in_ok-field.field, c.in_ok-field.next) (rw c.new-source.ensures at c.wire_field.ensures.value) c.in_ok-field.ensures.ok_part in
@@ -38,6 +49,7 @@ loop-place-preserved g c =
       merging = merging_more g.M.Message.put _ c.args.bytes.now c.loop-place.place c.in_ok-field.next (field_of c.in_ok-field.field) _ _ (omega (arith, inside.0)) inside.1 is (is_there _ _ _ c.in_ok-message.ensures.means) c.loop-place.invariant.merging;
       within = omega (arith, inside.0, c.put.ensures.within, c.wire_field.ensures.step, c.loop-place.invariant.within);
       grows = omega (arith, c.put.ensures.grows, c.wire_field.ensures.step, c.loop-place.invariant.grows);
+      first = λ h. first_there (λ p. field_at p c.args.bytes.now) c.loop-place.place _ is c.loop-place.invariant.first;
       counted = (
         c.loop-place.invariant.counted.0 + (1 + g.M.Message.inside (field_of c.in_ok-field.field)),
         counting_more g.M.Message.inside c.args.bytes.now c.loop-place.place c.in_ok-field.next _ (field_of c.in_ok-field.field) (omega (arith, inside.0)) inside.1 is c.loop-place.invariant.counted.1,

@@ -1,5 +1,7 @@
 -- How far a message is read.
-use Rattle.std.proofs.Common.{◌≡◌, ℕ, ◌+◌, ◌-◌, ◌≤◌, length}
+use Rattle.std.proofs.Common.{◌≡◌, ℕ, ◌+◌, ◌-◌, ◌<◌, ◌≤◌, length}
+use Rattle.std.specs.Prelude.{IsSome}
+use Rattle.minidump_bytes.specs.Wire.{field_at}
 use Rattle.minidump_bytes.specs.Steps.{after}
 use Rattle.minidump_stability.specs.Rows.{merged_bytes}
 use Rattle.minidump_stability.proofs.MergeLemmas.{Counting, Merging}
@@ -10,6 +12,7 @@ invariant-loop-place g l = record {
   merging : Merging g.M.Message.put (merged_bytes g.M.Message.put l.bytes (g.M.Message.view l.fn.old)) l.bytes l.place (g.M.Message.view l.message);
   within : l.steps ≤ l.fn.steps + l.place;
   grows : l.fn.steps ≤ l.steps;
+  first : 0 < l.place → IsSome (field_at 0 l.bytes);
   counted : (done : ℕ) × Counting g.M.Message.inside l.bytes l.place done × (l.steps ≡ after l.fn.steps done);
 }
 
