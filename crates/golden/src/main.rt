@@ -1,0 +1,32 @@
+//! `golden FILE..`, which writes what the library reads of sample dumps.
+//!
+//! For each file it writes a line `== FILE`, and then the error of a file that is no dump, or:
+//!
+//! - the header, the directory and the list of the streams, as `Minidump::print` does;
+//! - for each type of stream that the dump has, its print, if the type has one, and else a line with the name
+//!   of the type and `ok`; or the name of the type and the error, with its numbers.
+//!
+//! The gate runs it on the files of `data/` that `args` lists, and compares what it writes with `stdout`.
+#![tactic(auto)]
+
+mod streams;
+
+use anyhow::Result;
+use minidump::{Minidump, Told};
+use std::{env, fs};
+
+fn main(rt: HostRuntime) -> Result<()> {
+    let words: Vec<String> = env::args(&rt)?.collect(rt.alloc())?;
+    for path in words.iter().skip(1) {
+        let bytes = fs::read(&rt, path.as_str())?;
+        println!(rt; "== {}", path.as_str())?;
+        match Minidump::read(rt.alloc(), &bytes) {
+            Ok(dump) => {
+                dump.print(rt.alloc(), &mut Told::new(rt.stdout()))?;
+                streams::print_all(&rt, &dump)?;
+            }
+            Err(error) => println!(rt; "{error:?}")?,
+        }
+    }
+    Ok(())
+}
