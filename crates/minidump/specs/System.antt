@@ -8,4 +8,6 @@ pub use Rattle.minidump_system.specs.MiscInfo
 pub use Rattle.minidump_system.specs.Os
 pub use Rattle.minidump_system.specs.OsParts
 pub use Rattle.minidump_system.specs.Reads
+pub use Rattle.minidump_system.specs.StreamSpec
+pub use Rattle.minidump_system.specs.System
 pub use Rattle.minidump_system.specs.SystemInfo

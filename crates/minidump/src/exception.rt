@@ -1,10 +1,10 @@
 ghost use Rattle.std.specs.Prelude.{◌≡◌, IfSome};
-ghost use Rattle.std.specs.Option.{option_map};
+ghost use Rattle.std.specs.Option.{option_copied, option_map};
 ghost use Rattle.minidump_context.specs.declared.validity.MinidumpContextValidity.TheVariants.{All};
 ghost use Rattle.minidump.specs.Exception.{exception_stream};
 ghost use Rattle.minidump_format.specs.StreamType.{number_of};
 ghost use Rattle.minidump_reason.specs.Reason.{crash_reason};
-ghost use Rattle.minidump.specs.Exception.{crash_address, exception_of};
+ghost use Rattle.minidump.specs.Exception.{crash_address};
 ghost use Rattle.minidump.specs.Thread.{accepted_context};
 
 use crate::thread::{accepted_context, located};
@@ -34,6 +34,20 @@ pub struct MinidumpException<'a> {
 }
 
 impl<'a> MinidumpException<'a> {
+    /// Returns the bytes of the context as they lie in the file, or `None` if they are not in it.
+    pub fn context_bytes(&self) -> Option<&'a [u8]>
+        ensures { option_copied result ≡ (exception_stream.value self.now).context }
+    {
+        self.context
+    }
+
+    /// Returns the byte order of the dump, in which the context is.
+    pub fn endian(&self) -> Endian
+        ensures { result ≡ (exception_stream.value self.now).order }
+    {
+        self.endian
+    }
+
     /// Decodes the registers of the thread at the exception. Returns `None` if the bytes of the context
     /// are not in the file or [`MinidumpContext::read`] refuses them. Takes no memory.
     pub fn context(
@@ -42,7 +56,7 @@ impl<'a> MinidumpException<'a> {
         misc: Option<&MinidumpMiscInfo>,
     ) -> Option<MinidumpContext>
         ensures raw { option_map (λ c. c.raw) result
-            ≡ accepted_context system_info.now.raw.processor_architecture (exception_of self.now).order (exception_of self.now).context }
+            ≡ accepted_context system_info.now.raw.processor_architecture (exception_stream.value self.now).order (exception_stream.value self.now).context }
         ensures valid { IfSome result (λ c. c.valid ≡ All) }
     {
         accepted_context(self.context, self.endian, system_info, misc)

@@ -1,6 +1,6 @@
 //! Laws of the directory, of the streams and of lists of regions, over the definitions that the contracts of
 //! this crate name. Each is a call that does nothing; its contract says what holds.
-ghost use Rattle.std.specs.Prelude.{◌≡◌, ◌≢◌, ◌<◌, ◌^◌, ◌+◌, ℕ, ◌++◌, ◌∷◌, All, Contains, List, length, map, Option};
+ghost use Rattle.std.specs.Prelude.{◌≡◌, ◌≢◌, ◌<◌, ◌^◌, ◌+◌, ℕ, ◌++◌, ◌∷◌, All, Contains, List, length, map, Option, Some};
 ghost use Rattle.std.specs.List.Sorted.{IsStrictlyIncreasing};
 ghost use Rattle.minidump_format.specs.declared.format.header.MINIDUMP_DIRECTORY.{MINIDUMP_DIRECTORY};
 ghost use Rattle.minidump.specs.declared.directory.DecidingEntry.{DecidingEntry};
@@ -14,6 +14,12 @@ ghost use Rattle.minidump.specs.Promise.{assertion_stream, breakpad_info_stream,
 ghost use Rattle.minidump.specs.Streams.{unimplemented_view, unknown_view};
 ghost use Rattle.minidump.specs.Thread.{IsLastThread, IsLastWith, Thread};
 ghost use Rattle.minidump_bytes.specs.Span.{span};
+ghost use Rattle.minidump_format.specs.Guid.{guid_text};
+ghost use Rattle.minidump_modules.specs.CodeId.{text_of};
+ghost use Rattle.minidump_modules.specs.DebugId.{debug_id_text};
+ghost use Rattle.minidump_records.specs.ObjectChain.{information_text};
+ghost use Rattle.minidump_system.specs.Cpu.{cpu_name};
+ghost use Rattle.minidump_system.specs.Os.{os_name};
 ghost use Rattle.minidump_system.specs.StreamSpec.{IsSame};
 
 use crate::directory::DecidingEntry;
@@ -22,9 +28,11 @@ use crate::streams::{MinidumpUnimplementedStream, MinidumpUnknownStream};
 use crate::thread::MinidumpThread;
 use crate::thread_list::MinidumpThreadList;
 pub use minidump_context::laws::{
-    a_change_is_seen_under_all_names, any_name_makes_a_register_valid, names_name_their_registers,
-    nothing_else_is_changed, registers_stand_at_their_places, sets_are_equal_by_their_names,
+    a_change_is_seen_under_all_names, any_name_makes_a_register_valid, contexts_are_as_defined,
+    names_name_their_registers, nothing_else_is_changed, registers_stand_at_their_places,
+    sets_are_equal_by_their_names,
 };
+use minidump_format::format::GUID;
 pub use minidump_index::laws::{
     a_kept_set, an_address_order, one_address_order, one_kept_set, one_region_at_an_address,
     regions_by_address,
@@ -41,9 +49,10 @@ use minidump_memory::{
     MinidumpLinuxMaps, MinidumpMemory64List, MinidumpMemoryInfoList, MinidumpMemoryList,
 };
 pub use minidump_modules::laws::{
-    code_ids_compare_by_their_digits, region_laws as module_laws, unloaded_laws,
+    code_ids_compare_by_their_digits, modules_are_identified_as_defined,
+    region_laws as module_laws, unloaded_laws,
 };
-use minidump_modules::{MinidumpModuleList, MinidumpUnloadedModuleList};
+use minidump_modules::{CodeId, DebugId, MinidumpModuleList, MinidumpUnloadedModuleList};
 pub use minidump_reason::laws::{
     codes_have_their_listed_names, errors_compare_and_copy_exactly,
     reasons_compare_and_copy_exactly, wide_codes_are_unlisted,
@@ -56,16 +65,17 @@ pub use minidump_records::laws::{
 };
 use minidump_records::{
     MinidumpAssertion, MinidumpBreakpadInfo, MinidumpCrashpadInfo, MinidumpHandleDataStream,
-    MinidumpLinuxCpuInfo, MinidumpLinuxEnviron, MinidumpLinuxLsbRelease, MinidumpLinuxProcLimits,
-    MinidumpLinuxProcStatus, MinidumpMacBootargs, MinidumpMacCrashInfo, MinidumpSoftErrors,
-    MinidumpThreadInfoList, MinidumpThreadNames,
+    MinidumpHandleObjectInformation, MinidumpLinuxCpuInfo, MinidumpLinuxEnviron,
+    MinidumpLinuxLsbRelease, MinidumpLinuxProcLimits, MinidumpLinuxProcStatus, MinidumpMacBootargs,
+    MinidumpMacCrashInfo, MinidumpSoftErrors, MinidumpThreadInfoList, MinidumpThreadNames,
 };
 use minidump_stability::StabilityReport;
 pub use minidump_stability::laws::{
     fields_are_what_bytes_spell, report_depends_on_its_stream_alone, report_is_what_its_fields_mean,
 };
 pub use minidump_system::laws::misc_info_depends_on_its_stream_alone;
-use minidump_system::{MinidumpMiscInfo, MinidumpStream, MinidumpSystemInfo};
+use minidump_system::{Cpu, MinidumpMiscInfo, MinidumpStream, MinidumpSystemInfo, Os};
+use std::fmt;
 
 /// Of the entries with one type the last decides. Its index is the number of entries before it.
 pub fn last_entry_decides()
@@ -137,6 +147,17 @@ pub fn streams_are_read_as_promised()
     ensures linux_maps { IsSame ⟦<MinidumpLinuxMaps<'static> as MinidumpStream<'static>>⟧.spec linux_maps_stream }
     ensures mac_crash_info { IsSame ⟦<MinidumpMacCrashInfo as MinidumpStream<'static>>⟧.spec mac_crash_info_stream }
     ensures stability_report { IsSame ⟦<StabilityReport as MinidumpStream<'static>>⟧.spec stability_report_stream }
+{}
+
+/// What `Display` writes is the text of the definitions.
+pub fn texts_are_as_defined()
+    ensures guid { ⟦<GUID as fmt::Display>⟧.output ≡ (λ g. Some (guid_text g)) }
+    ensures os { ⟦<Os as fmt::Display>⟧.output ≡ (λ os. Some (os_name os)) }
+    ensures cpu { ⟦<Cpu as fmt::Display>⟧.output ≡ (λ cpu. Some (cpu_name cpu)) }
+    ensures code_id { ⟦<CodeId as fmt::Display>⟧.output ≡ (λ id. Some (text_of id)) }
+    ensures debug_id { ⟦<DebugId as fmt::Display>⟧.output ≡ (λ id. Some (debug_id_text id)) }
+    ensures information { ⟦<MinidumpHandleObjectInformation as fmt::Display>⟧.output
+        ≡ (λ information. Some (information_text information)) }
 {}
 
 /// Clones of a deciding entry, of an unknown stream and of an unimplemented one are equal values.

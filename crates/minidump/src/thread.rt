@@ -3,7 +3,7 @@ ghost use Rattle.std.specs.Option.{option_copied, option_map};
 ghost use Rattle.minidump_bytes.specs.Source.{bytes_of};
 ghost use Rattle.minidump_bytes.specs.Steps.{after};
 ghost use Rattle.minidump_context.specs.declared.validity.MinidumpContextValidity.TheVariants.{All};
-ghost use Rattle.minidump_memory.specs.Memory.{spans_read};
+ghost use Rattle.minidump_memory.specs.Memory.{memory_of, spans_read};
 ghost use Rattle.minidump_memory.specs.Unified.{unified_list, unified_region};
 ghost use Rattle.minidump.specs.Thread.{IsErrorIn, IsStack, accepted_context, error_at, last_error_address, located, thread_at, thread_of};
 
@@ -41,6 +41,28 @@ impl<'a> MinidumpThread<'a> {
             stack: MinidumpMemory::read_counted(&raw.stack, all, endian, steps).ok(),
             endian,
         }
+    }
+
+    /// Returns the bytes of the context as they lie in the file, or `None` if they are not in it.
+    pub fn context_bytes(&self) -> Option<&'a [u8]>
+        ensures { option_copied result ≡ (thread_of self.now).context }
+    {
+        self.context
+    }
+
+    /// Returns the thread's own stack, or `None` if its RVA or its size is 0, or its bytes are not in the
+    /// file.
+    pub fn own_stack(&self) -> Option<&MinidumpMemory<'a>>
+        ensures { option_map memory_of (option_copied result) ≡ (thread_of self.now).stack }
+    {
+        self.stack.as_ref()
+    }
+
+    /// Returns the byte order of the dump, in which the context is.
+    pub fn endian(&self) -> Endian
+        ensures { result ≡ (thread_of self.now).order }
+    {
+        self.endian
     }
 
     /// Decodes the registers of the thread. Returns `None` if the bytes of its context are not in the

@@ -1,13 +1,21 @@
 //! Laws of registers, for the context of every processor.
-ghost use Rattle.std.specs.Prelude.{◌≡◌, ◌≢◌, ◌↔◌, ℕ, IsTrue, List, Option, Some, None, is_some, true, length, map, position};
+ghost use Rattle.std.specs.Prelude.{◌≡◌, ◌≢◌, ◌↔◌, ℕ, [], IsTrue, List, Option, Some, None, is_some, true, length, map, position};
 ghost use Rattle.std.specs.List.{range_with_len, list_all};
 ghost use Rattle.std.specs.Str.{bytes_eq};
 ghost use Rattle.minidump_bytes.specs.declared.endian.Endian.{Endian};
 ghost use Rattle.minidump_bytes.specs.Number.{number_at};
+ghost use Rattle.minidump_context.specs.Amd64.{amd64_registers, amd64_rest, amd64_values};
+ghost use Rattle.minidump_context.specs.Arm.{arm_aliases, arm_registers, arm_rest, arm_values};
+ghost use Rattle.minidump_context.specs.Arm64.{arm64_aliases, arm64_old_rest, arm64_old_values, arm64_registers, arm64_rest, arm64_values};
+ghost use Rattle.minidump_context.specs.X86.{x86_registers, x86_rest, x86_values};
 ghost use Rattle.minidump_context.specs.Register.{names_of, place_of, value_of, holds, is_valid, IsChanged, IsSameValidity};
 
 use crate::{
-    ContextRegisters, CpuContext, CpuRegisters, MinidumpContextValidity, MinidumpRawContext,
+    ContextRegisters, CpuContext, CpuRegisterNames, CpuRegisters, MinidumpContextValidity,
+    MinidumpRawContext,
+};
+use minidump_format::format::{
+    CONTEXT_AMD64, CONTEXT_ARM, CONTEXT_ARM64, CONTEXT_ARM64_OLD, CONTEXT_X86,
 };
 
 /// A register that was changed has its new value under each of its names.
@@ -69,4 +77,29 @@ pub fn clones_are_the_same<T: CpuContext + Clone + 'static>()
         → ⟦<CpuRegisters<'static, T> as Clone>⟧.is_clone registers other → other ≡ registers }
     ensures context_registers { (registers other : ContextRegisters)
         → ⟦<ContextRegisters<'static> as Clone>⟧.is_clone registers other → other ≡ registers }
+{}
+
+/// The context of each processor has its own table of registers, the aliases, the values and what it holds
+/// beside them.
+pub fn contexts_are_as_defined()
+    ensures x86_table { ⟦<CONTEXT_X86 as CpuRegisterNames>⟧.table ≡ x86_registers }
+    ensures x86_aliases { ⟦<CONTEXT_X86 as CpuContext>⟧.aliases ≡ [] }
+    ensures x86_values { ⟦<CONTEXT_X86 as CpuContext>⟧.values ≡ x86_values }
+    ensures x86_rest { ⟦<CONTEXT_X86 as CpuContext>⟧.rest ≡ x86_rest }
+    ensures amd64_table { ⟦<CONTEXT_AMD64 as CpuRegisterNames>⟧.table ≡ amd64_registers }
+    ensures amd64_aliases { ⟦<CONTEXT_AMD64 as CpuContext>⟧.aliases ≡ [] }
+    ensures amd64_values { ⟦<CONTEXT_AMD64 as CpuContext>⟧.values ≡ amd64_values }
+    ensures amd64_rest { ⟦<CONTEXT_AMD64 as CpuContext>⟧.rest ≡ amd64_rest }
+    ensures arm_table { ⟦<CONTEXT_ARM as CpuRegisterNames>⟧.table ≡ arm_registers }
+    ensures arm_aliases { ⟦<CONTEXT_ARM as CpuContext>⟧.aliases ≡ arm_aliases }
+    ensures arm_values { ⟦<CONTEXT_ARM as CpuContext>⟧.values ≡ arm_values }
+    ensures arm_rest { ⟦<CONTEXT_ARM as CpuContext>⟧.rest ≡ arm_rest }
+    ensures arm64_table { ⟦<CONTEXT_ARM64 as CpuRegisterNames>⟧.table ≡ arm64_registers }
+    ensures arm64_aliases { ⟦<CONTEXT_ARM64 as CpuContext>⟧.aliases ≡ arm64_aliases }
+    ensures arm64_values { ⟦<CONTEXT_ARM64 as CpuContext>⟧.values ≡ arm64_values }
+    ensures arm64_rest { ⟦<CONTEXT_ARM64 as CpuContext>⟧.rest ≡ arm64_rest }
+    ensures arm64_old_table { ⟦<CONTEXT_ARM64_OLD as CpuRegisterNames>⟧.table ≡ arm64_registers }
+    ensures arm64_old_aliases { ⟦<CONTEXT_ARM64_OLD as CpuContext>⟧.aliases ≡ arm64_aliases }
+    ensures arm64_old_values { ⟦<CONTEXT_ARM64_OLD as CpuContext>⟧.values ≡ arm64_old_values }
+    ensures arm64_old_rest { ⟦<CONTEXT_ARM64_OLD as CpuContext>⟧.rest ≡ arm64_old_rest }
 {}

@@ -23,6 +23,7 @@
 //!   registers come in the order of the list: `registers`, `valid_registers`.
 //! - `set_register` changes that one register under all of its names and nothing else, and nothing with a name
 //!   that is none: by `IsChanged`; `laws::a_change_is_seen_under_all_names`, `nothing_else_is_changed`.
+//!   The tables, the values and the rest of each context: `laws::contexts_are_as_defined`.
 //! - Copies are the same, and sets of valid registers are equal by their names: `try_clone`,
 //!   `laws::clones_are_the_same`, `sets_are_equal_by_their_names`.
 //!

@@ -2,11 +2,15 @@
 ghost use Rattle.std.specs.Prelude.{◌≡◌, ◌↔◌, IsTrue};
 ghost use Rattle.minidump_index.specs.Lookup.{HasRegionLaws};
 ghost use Rattle.minidump_modules.specs.CodeId.{text_of};
-ghost use Rattle.minidump_modules.specs.Module.{module_range};
+ghost use Rattle.minidump_modules.specs.Module.{module_identity, module_range};
 ghost use Rattle.minidump_modules.specs.ModuleList.{modules_of};
+ghost use Rattle.minidump_modules.specs.UnloadedModule.{unloaded_identity};
 ghost use Rattle.minidump_modules.specs.UnloadedOrder.{HasUnloadedLaws};
 
-use crate::{CodeId, MinidumpModuleList, MinidumpUnloadedModuleList};
+use crate::{
+    CodeId, MinidumpModule, MinidumpModuleList, MinidumpUnloadedModule, MinidumpUnloadedModuleList,
+    Module,
+};
 
 /// The laws of a list of modules: how lookups, the order by address and the modules fit together.
 #[tactic(auto, using(minidump_index::proofs::RegionLaws::region_laws))]
@@ -24,4 +28,11 @@ pub fn unloaded_laws()
 /// Identifiers of code are equal where their digits are.
 pub fn code_ids_compare_by_their_digits()
     ensures { (x y : CodeId) → IsTrue (⟦<CodeId as PartialEq>⟧.eq x y) ↔ (text_of x ≡ text_of y) }
+{}
+
+/// A loaded module is known by what its entry, its name and its CodeView record say; an unloaded one by its
+/// entry and its name.
+pub fn modules_are_identified_as_defined()
+    ensures loaded { ⟦<MinidumpModule as Module>⟧.identity ≡ module_identity }
+    ensures unloaded { ⟦<MinidumpUnloadedModule as Module>⟧.identity ≡ unloaded_identity }
 {}

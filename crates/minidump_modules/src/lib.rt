@@ -21,8 +21,9 @@
 //!   `module_list` and `unloaded_list`. One module by its entry: `MinidumpModule::read`, by `read_module`;
 //!   `MinidumpUnloadedModule::read`, by `read_unloaded`.
 //! - The identifiers, the debug file and the version are those of the CodeView record, the system, the build
-//!   id and the version record: the functions of `Module`, by `identity_of` and `unloaded_identity`. Their
-//!   texts: `CodeId::new`, `from_binary`, `Display`; `DebugId::from_breakpad`, `Display`.
+//!   id and the version record: the functions of `Module`, by `identity_of` and `unloaded_identity`:
+//!   `laws::modules_are_identified_as_defined`. Their texts: `CodeId::new`, `from_binary`, `Display`;
+//!   `DebugId::from_breakpad`, `Display`.
 //! - A lookup returns the kept module that contains the address, in at most as many comparisons as the number
 //!   of kept modules has binary digits: `module_at_address`, `module_at_address_counted`. The kept ones by
 //!   address, from both ends: `by_addr`. How these fit together: `laws::region_laws`.

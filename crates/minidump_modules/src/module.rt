@@ -102,6 +102,20 @@ impl MinidumpModule {
         })
     }
 
+    /// Returns the byte order of the dump, by which the build id of an ELF file gives its identifier.
+    pub fn endian(&self) -> Endian
+        ensures { result ≡ (module_of self.now).order }
+    {
+        self.endian
+    }
+
+    /// Returns the operating system of the dump, or `None` if it is not known.
+    pub fn os(&self) -> Option<Os>
+        ensures { result ≡ (module_of self.now).os }
+    {
+        self.os
+    }
+
     /// Copies the module. The only error is [`Error::OutOfMemory`].
     pub fn try_clone(&self, alloc: Global) -> Result<MinidumpModule, Error>
         ensures same { IfOk result (λ m. module_of m ≡ module_of self.now) }

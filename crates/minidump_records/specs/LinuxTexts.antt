@@ -1,13 +1,10 @@
 -- The texts of Linux's files that a dump keeps: Breakpad's MD_LINUX_CPU_INFO, MD_LINUX_PROC_STATUS,
 -- MD_LINUX_LSB_RELEASE and MD_LINUX_ENVIRON, and Mozilla's limits of a process.
-use Rattle.minidump_format.specs.declared.format.stream_type.MINIDUMP_STREAM_TYPE.TheVariants.{LinuxCpuInfo}
-use Rattle.minidump_format.specs.declared.format.stream_type.MINIDUMP_STREAM_TYPE.TheVariants.{MozLinuxLimits}
-use Rattle.minidump_format.specs.declared.format.stream_type.MINIDUMP_STREAM_TYPE.TheVariants.{LinuxLsbRelease}
-use Rattle.minidump_format.specs.declared.format.stream_type.MINIDUMP_STREAM_TYPE.TheVariants.{LinuxProcStatus}
-use Rattle.minidump_format.specs.declared.format.stream_type.MINIDUMP_STREAM_TYPE.TheVariants.{LinuxEnviron}
-use Rattle.minidump_system.specs.StreamSpec.{StreamSpec}
 use Rattle.std.specs.Prelude.{ℕ, List, Result, Ok}
+use Rattle.minidump_format.specs.declared.format.stream_type.MINIDUMP_STREAM_TYPE.{MINIDUMP_STREAM_TYPE}
+use Rattle.minidump_format.specs.declared.format.stream_type.MINIDUMP_STREAM_TYPE.TheVariants.{LinuxCpuInfo, LinuxEnviron, LinuxLsbRelease, LinuxProcStatus, MozLinuxLimits}
 use Rattle.minidump_format.specs.declared.error.Error.{Error}
+use Rattle.minidump_system.specs.StreamSpec.{StreamSpec}
 use Rattle.minidump_records.specs.declared.linux.cpu_info.MinidumpLinuxCpuInfo.{MinidumpLinuxCpuInfo}
 use Rattle.minidump_records.specs.declared.linux.environ.MinidumpLinuxEnviron.{MinidumpLinuxEnviron}
 use Rattle.minidump_records.specs.declared.linux.lsb_release.MinidumpLinuxLsbRelease.{MinidumpLinuxLsbRelease}
@@ -34,57 +31,33 @@ proc_limits_of t = t.data.now
 abbrev pub linux_text : List ℕ → Result (List ℕ) Error
 linux_text bytes = Ok bytes
 
--- the stream of type LinuxEnviron
-abbrev pub linux_environ_stream : StreamSpec MinidumpLinuxEnviron (List ℕ)
-linux_environ_stream = record {
-  stream_type = LinuxEnviron;
-  value = environ_of;
+-- the table of a text: nothing of it is read, and it takes no memory
+abbrev text_stream : {S : Type 0} → MINIDUMP_STREAM_TYPE → (S → List ℕ) → StreamSpec S (List ℕ)
+text_stream stream_type text = record {
+  stream_type = stream_type;
+  value = text;
   meaning = λ bytes file order system. linux_text bytes;
   most = λ n. 0;
-  fewest = λ bytes order text. 0;
+  fewest = λ bytes order value. 0;
   memory = λ bytes order. ⊥;
 }
+
+-- the stream of type LinuxEnviron
+abbrev pub linux_environ_stream : StreamSpec MinidumpLinuxEnviron (List ℕ)
+linux_environ_stream = text_stream LinuxEnviron environ_of
 
 -- the stream of type LinuxProcStatus
 abbrev pub linux_proc_status_stream : StreamSpec MinidumpLinuxProcStatus (List ℕ)
-linux_proc_status_stream = record {
-  stream_type = LinuxProcStatus;
-  value = proc_status_of;
-  meaning = λ bytes file order system. linux_text bytes;
-  most = λ n. 0;
-  fewest = λ bytes order text. 0;
-  memory = λ bytes order. ⊥;
-}
+linux_proc_status_stream = text_stream LinuxProcStatus proc_status_of
 
 -- the stream of type LinuxLsbRelease
 abbrev pub linux_lsb_release_stream : StreamSpec MinidumpLinuxLsbRelease (List ℕ)
-linux_lsb_release_stream = record {
-  stream_type = LinuxLsbRelease;
-  value = lsb_release_of;
-  meaning = λ bytes file order system. linux_text bytes;
-  most = λ n. 0;
-  fewest = λ bytes order text. 0;
-  memory = λ bytes order. ⊥;
-}
+linux_lsb_release_stream = text_stream LinuxLsbRelease lsb_release_of
 
 -- the stream of type MozLinuxLimits
 abbrev pub linux_proc_limits_stream : StreamSpec MinidumpLinuxProcLimits (List ℕ)
-linux_proc_limits_stream = record {
-  stream_type = MozLinuxLimits;
-  value = proc_limits_of;
-  meaning = λ bytes file order system. linux_text bytes;
-  most = λ n. 0;
-  fewest = λ bytes order text. 0;
-  memory = λ bytes order. ⊥;
-}
+linux_proc_limits_stream = text_stream MozLinuxLimits proc_limits_of
 
 -- the stream of type LinuxCpuInfo
 abbrev pub linux_cpu_info_stream : StreamSpec MinidumpLinuxCpuInfo (List ℕ)
-linux_cpu_info_stream = record {
-  stream_type = LinuxCpuInfo;
-  value = cpu_info_of;
-  meaning = λ bytes file order system. linux_text bytes;
-  most = λ n. 0;
-  fewest = λ bytes order text. 0;
-  memory = λ bytes order. ⊥;
-}
+linux_cpu_info_stream = text_stream LinuxCpuInfo cpu_info_of

@@ -15,7 +15,8 @@ const REQUESTING_THREAD_ID: u32 = 0x2;
 /// The threads that wrote and requested a dump, which Breakpad writes.
 #[derive(Clone, Copy)]
 pub struct MinidumpBreakpadInfo {
-    raw: MINIDUMP_BREAKPAD_INFO,
+    /// The record of the stream.
+    pub raw: MINIDUMP_BREAKPAD_INFO,
     /// The id of the thread that wrote the dump, if it is set.
     pub dump_thread_id: Option<u32>,
     /// The id of the thread that requested the dump, if it is set.

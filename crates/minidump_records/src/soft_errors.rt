@@ -1,7 +1,6 @@
-ghost use Rattle.minidump_records.specs.SoftErrors.{soft_errors_stream};
-ghost use Rattle.minidump_format.specs.StreamType.{number_of};
 ghost use Rattle.std.specs.Prelude.{◌≡◌, []};
-ghost use Rattle.minidump_records.specs.SoftErrors.{soft_errors_of};
+ghost use Rattle.minidump_format.specs.StreamType.{number_of};
+ghost use Rattle.minidump_records.specs.SoftErrors.{soft_errors_stream};
 
 use minidump_bytes::{Endian, LinuxOsStr, Source, Steps};
 use minidump_format::Error;
@@ -17,14 +16,14 @@ pub struct MinidumpSoftErrors<'a> {
 impl<'a> MinidumpSoftErrors<'a> {
     /// Makes an empty text.
     pub fn new() -> Self
-        ensures { soft_errors_of result ≡ [] }
+        ensures { soft_errors_stream.value result ≡ [] }
     {
         MinidumpSoftErrors { text: "" }
     }
 
     /// Returns the text, which lives as long as the file.
     pub fn as_ref(&self) -> &'a str
-        ensures { result.now ≡ soft_errors_of self.now }
+        ensures { result.now ≡ soft_errors_stream.value self.now }
     {
         self.text
     }

@@ -6,7 +6,7 @@ ghost use Rattle.std.specs.Ordering.{nat_cmp};
 ghost use Rattle.minidump_bytes.specs.Source.{bytes_of};
 ghost use Rattle.minidump_bytes.specs.Steps.{after};
 ghost use Rattle.minidump_bytes.specs.Text16.{text16};
-ghost use Rattle.minidump_records.specs.ThreadNames.{last_names, name_at, named, names_of};
+ghost use Rattle.minidump_records.specs.ThreadNames.{last_names, name_at, named, names_of, thread_names_stream};
 
 use minidump_bytes::{Endian, Entries, Source, Steps};
 use minidump_format::Error;
@@ -34,7 +34,7 @@ impl MinidumpThreadNames {
 
     /// Returns the name of a thread, or `None` if it has none.
     pub fn get_name(&self, thread_id: u32) -> Option<&str>
-        ensures { option_copied result ≡ name_at (names_of self.now) thread_id }
+        ensures { option_copied result ≡ name_at (thread_names_stream.value self.now) thread_id }
     {
         let name = self.names.get(&thread_id)?;
         Some(name.as_str())

@@ -5,7 +5,7 @@ ghost use Rattle.minidump_bytes.specs.Steps.{after};
 ghost use Rattle.minidump_format.specs.Answer.{Gives};
 ghost use Rattle.minidump_format.specs.Print.{Prints};
 ghost use Rattle.minidump_system.specs.OsParts.{os_parts_of};
-ghost use Rattle.minidump_system.specs.SystemInfo.{names_text, numbers_text, system_info_text, system_of, system_read};
+ghost use Rattle.minidump_system.specs.SystemInfo.{names_text, numbers_text, system_info_stream, system_info_text, system_of, system_read};
 
 use crate::cpu_info::made_cpu_info;
 use crate::os_parts::os_parts;
@@ -69,14 +69,14 @@ impl MinidumpSystemInfo {
 
     /// Returns the text of the service pack, or on Linux of the kernel, or `None` if the dump has none.
     pub fn csd_version(&self) -> Option<&str>
-        ensures { option_copied result ≡ (system_of self.now).csd_version }
+        ensures { option_copied result ≡ (system_info_stream.value self.now).csd_version }
     {
         self.csd_version.as_ref().map(|text| text.as_str())
     }
 
     /// Returns the description of the processor, or `None` if its architecture has none.
     pub fn cpu_info(&self) -> Option<&str>
-        ensures { option_copied result ≡ (system_of self.now).cpu_info }
+        ensures { option_copied result ≡ (system_info_stream.value self.now).cpu_info }
     {
         self.cpu_info.as_ref().map(|text| text.as_str())
     }

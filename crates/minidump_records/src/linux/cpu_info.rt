@@ -1,8 +1,7 @@
-ghost use Rattle.minidump_records.specs.LinuxTexts.{linux_cpu_info_stream};
-ghost use Rattle.minidump_format.specs.StreamType.{number_of};
 ghost use Rattle.std.specs.Prelude.{◌≡◌, []};
+ghost use Rattle.minidump_format.specs.StreamType.{number_of};
 ghost use Rattle.minidump_records.specs.LinuxPairs.{pairs_of};
-ghost use Rattle.minidump_records.specs.LinuxTexts.{cpu_info_of};
+ghost use Rattle.minidump_records.specs.LinuxTexts.{linux_cpu_info_stream};
 
 use crate::LinuxPairs;
 use minidump_bytes::{Endian, Source, Steps};
@@ -19,21 +18,21 @@ pub struct MinidumpLinuxCpuInfo<'a> {
 impl<'a> MinidumpLinuxCpuInfo<'a> {
     /// Makes an empty text.
     pub fn new() -> Self
-        ensures { cpu_info_of result ≡ [] }
+        ensures { linux_cpu_info_stream.value result ≡ [] }
     {
         MinidumpLinuxCpuInfo { data: &[] }
     }
 
     /// Returns an iterator over the pairs of its lines, cut at the first `:`.
     pub fn iter(&self) -> LinuxPairs<'a>
-        ensures { result ≡ pairs_of 58 (cpu_info_of self.now) }
+        ensures { result ≡ pairs_of 58 (linux_cpu_info_stream.value self.now) }
     {
         LinuxPairs::new(self.data, b':')
     }
 
     /// Returns the bytes of the stream.
     pub fn raw_bytes(&self) -> &'a [u8]
-        ensures { result.now ≡ cpu_info_of self.now }
+        ensures { result.now ≡ linux_cpu_info_stream.value self.now }
     {
         self.data
     }

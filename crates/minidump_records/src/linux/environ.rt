@@ -1,8 +1,7 @@
-ghost use Rattle.minidump_records.specs.LinuxTexts.{linux_environ_stream};
-ghost use Rattle.minidump_format.specs.StreamType.{number_of};
 ghost use Rattle.std.specs.Prelude.{◌≡◌, []};
+ghost use Rattle.minidump_format.specs.StreamType.{number_of};
 ghost use Rattle.minidump_records.specs.LinuxPairs.{pairs_of};
-ghost use Rattle.minidump_records.specs.LinuxTexts.{environ_of};
+ghost use Rattle.minidump_records.specs.LinuxTexts.{linux_environ_stream};
 
 use crate::LinuxPairs;
 use minidump_bytes::{Endian, Source, Steps};
@@ -19,21 +18,21 @@ pub struct MinidumpLinuxEnviron<'a> {
 impl<'a> MinidumpLinuxEnviron<'a> {
     /// Makes an empty text.
     pub fn new() -> Self
-        ensures { environ_of result ≡ [] }
+        ensures { linux_environ_stream.value result ≡ [] }
     {
         MinidumpLinuxEnviron { data: &[] }
     }
 
     /// Returns an iterator over the pairs of its lines, cut at the first `=`.
     pub fn iter(&self) -> LinuxPairs<'a>
-        ensures { result ≡ pairs_of 61 (environ_of self.now) }
+        ensures { result ≡ pairs_of 61 (linux_environ_stream.value self.now) }
     {
         LinuxPairs::new(self.data, b'=')
     }
 
     /// Returns the bytes of the stream.
     pub fn raw_bytes(&self) -> &'a [u8]
-        ensures { result.now ≡ environ_of self.now }
+        ensures { result.now ≡ linux_environ_stream.value self.now }
     {
         self.data
     }

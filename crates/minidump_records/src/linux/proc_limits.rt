@@ -1,8 +1,7 @@
-ghost use Rattle.minidump_records.specs.LinuxTexts.{linux_proc_limits_stream};
-ghost use Rattle.minidump_format.specs.StreamType.{number_of};
 ghost use Rattle.std.specs.Prelude.{◌≡◌, []};
 ghost use Rattle.minidump_bytes.specs.LinuxOsStr.{text_lines};
-ghost use Rattle.minidump_records.specs.LinuxTexts.{proc_limits_of};
+ghost use Rattle.minidump_format.specs.StreamType.{number_of};
+ghost use Rattle.minidump_records.specs.LinuxTexts.{linux_proc_limits_stream};
 
 use minidump_bytes::{Endian, Lines, LinuxOsStr, Source, Steps};
 use minidump_format::Error;
@@ -18,21 +17,21 @@ pub struct MinidumpLinuxProcLimits<'a> {
 impl<'a> MinidumpLinuxProcLimits<'a> {
     /// Makes an empty text.
     pub fn new() -> Self
-        ensures { proc_limits_of result ≡ [] }
+        ensures { linux_proc_limits_stream.value result ≡ [] }
     {
         MinidumpLinuxProcLimits { data: &[] }
     }
 
     /// Returns an iterator over its lines.
     pub fn iter(&self) -> Lines<'a>
-        ensures { result ≡ text_lines (proc_limits_of self.now) }
+        ensures { result ≡ text_lines (linux_proc_limits_stream.value self.now) }
     {
         LinuxOsStr::from_bytes(self.data).lines()
     }
 
     /// Returns the bytes of the stream.
     pub fn raw_bytes(&self) -> &'a [u8]
-        ensures { result.now ≡ proc_limits_of self.now }
+        ensures { result.now ≡ linux_proc_limits_stream.value self.now }
     {
         self.data
     }
