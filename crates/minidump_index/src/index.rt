@@ -1,4 +1,4 @@
-ghost use Rattle.std.specs.Prelude.{◌≡◌, ◌+◌, ◌-◌, ◌^◌, ◌<◌, ◌≤◌, ℕ, Some, IfOk, IfErr, IfSome, IsTrue, MatchBool, All, Any, MatchOption, [], ◌∷◌, ◌++◌, length, map, List, Option};
+ghost use Rattle.std.specs.Prelude.{◌≡◌, ◌+◌, ◌-◌, ◌^◌, ◌<◌, ◌≤◌, ℕ, Some, IfOk, IfErr, IfSome, OnErr, IsTrue, MatchBool, All, Any, MatchOption, [], ◌∷◌, ◌++◌, length, map, List, Option};
 ghost use Rattle.std.specs.Iterator.{YieldsFirst, YieldsLast, UpTo, at_most, item_count};
 ghost use Rattle.std.specs.Iterator.SizeHint.{IsWithinCount};
 ghost use Rattle.std.specs.List.Sorted.{IsPermutation};
@@ -178,10 +178,11 @@ impl AddressIndex {
     }
 
     /// Builds the index of a list of ranges, some of which may be absent. The only error is
-    /// [`Error::OutOfMemory`].
+    /// [`Error::OutOfMemory`], and only if there is a range.
     pub fn build(alloc: Global, ranges: &[Option<Range>]) -> Result<AddressIndex, Error>
         ensures kept { IfOk result (λ index. IsIndexOf ranges.now index) }
         ensures memory { IfErr result (λ e. e ≡ Error.OutOfMemory) }
+        ensures some { OnErr result (0 < length ranges.now) }
     {
         Ok(AddressIndex::of_regions(alloc, ranges)?)
     }
@@ -191,8 +192,12 @@ impl AddressIndex {
         alloc: Global,
         regions: &[R],
     ) -> Result<AddressIndex, AllocError>
-        ensures { IfOk result (λ index. IsIndexOf (map R.range regions.now) index) }
+        ensures kept { IfOk result (λ index. IsIndexOf (map R.range regions.now) index) }
+        ensures some { OnErr result (0 < length regions.now) }
     {
+        if regions.is_empty() {
+            return Ok(AddressIndex::empty(alloc));
+        }
         let none = Entry {
             range: Range::new(0, 0),
             place: 0,

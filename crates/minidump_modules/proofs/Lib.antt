@@ -11,3 +11,4 @@ mod PaddedLemmas
 mod RestLemmas
 mod ShownLemmas
 pub mod UnloadedLaws
+pub mod UnloadedViews

@@ -87,14 +87,14 @@ module _ {R V M : Type 0} (read : R → Result V Error) (view : M → V) where
       split ∙ rw (all_ok-append read (take (i + 1) xs) (drop (i + 1) xs), here) refl
 
 -- a refusal of a part is that of the whole, where the part is refused by the whole's rule
-refused : {A B : Type 0} (e : Error) (part : Result A Error) (whole : Result B Error) → (part ≡ Err e → whole ≡ Err e) → Refuses ⊤ e part → Refuses ⊤ e whole
-refused OutOfMemory part whole rule h = h
-refused e part whole rule h = rule h
+refused : {M N A B : Type 0} (e : Error) (part : Result A Error) (whole : Result B Error) → (M → N) → (part ≡ Err e → whole ≡ Err e) → Refuses M e part → Refuses N e whole
+refused OutOfMemory part whole memory rule h = memory h
+refused e part whole memory rule h = rule h
 
 -- the exit of a `?`: where a part was refused
-pub gives_exit : {X A B : Type 0} (view : X → B) (r : Result X Error) (e : Error) (part : Result A Error) (whole : Result B Error) → IsErrAnd r (λ y. y ≡ e) → Refuses ⊤ e part
-    → (part ≡ Err e → whole ≡ Err e) → Gives view ⊤ r whole
-gives_exit view r e part whole exit refusal rule = let p = err_from_is_err_and r exit in rw (p.1, p.2) (refused e part whole rule refusal)
+pub gives_exit : {M N X A B : Type 0} (view : X → B) (r : Result X Error) (e : Error) (part : Result A Error) (whole : Result B Error) → IsErrAnd r (λ y. y ≡ e)
+    → (M → N) → Refuses M e part → (part ≡ Err e → whole ≡ Err e) → Gives view N r whole
+gives_exit view r e part whole exit memory refusal rule = let p = err_from_is_err_and r exit in rw (p.1, p.2) (refused e part whole memory rule refusal)
 
 -- the first 16 bytes of a list, over as many zeros
 pub padded_is : (id : List ℕ) (len : ℕ) → len ≡ min (length id) 16 → take len id ++ drop len (replicate {A = ℕ} 16 0) ≡ padded id

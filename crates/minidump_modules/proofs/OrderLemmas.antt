@@ -79,14 +79,14 @@ module _ (modules : List MinidumpUnloadedModule) where
         rising = all_pairs_push (λ (e f : Placed). e.place < f.place) entries (placed r n) b.rising (λ k d h. (b.into (get_or entries k d) (Contains-get_or entries k d h)).0);
       }
 
-  pub below_all : (n : ℕ) (entries : List Placed) → length modules ≤ n → AreBelow modules n entries → IsByIndex modules entries
+  pub below_all : (n : ℕ) (entries : List Placed) → length modules ≤ n → AreBelow modules n entries → IsByIndex (map unloaded_range modules) entries
   below_all n entries h b = record {
     members = λ e. ((λ k. (b.into e k).1), (λ r. b.from e (let l = in_list (map unloaded_range modules) e.place e.range r in omega (arith, l, length-map modules unloaded_range)) r));
     ascending = b.rising;
   }
 
   -- each index is one of the list's
-  pub all_inside : (StandsBefore : Placed → Placed → Type 0) (entries : List Placed) → IsListedBy StandsBefore modules entries → IsInside modules entries
+  pub all_inside : (StandsBefore : Placed → Placed → Type 0) (entries : List Placed) → IsListedBy StandsBefore (map unloaded_range modules) entries → IsInside modules entries
   all_inside StandsBefore entries b k d h =
       let e = get_or entries k d in
       let l = in_list (map unloaded_range modules) e.place e.range ((b.members e).0 (Contains-get_or entries k d h)) in
@@ -196,8 +196,8 @@ once_swapped entries a b la lb once i j d lt within same =
     ]
 
 -- entries by index, sorted, are in order
-pub sorted_order : (modules : List MinidumpUnloadedModule) (entries order : List Placed) → IsByIndex modules entries → IsPermutation entries order → IsInOrder order → IsOrderOf modules order
-sorted_order modules entries order b moved sorted =
+pub sorted_order : (ranges : List (Option Range)) (entries order : List Placed) → IsByIndex ranges entries → IsPermutation entries order → IsInOrder order → IsOrderOf ranges order
+sorted_order ranges entries order b moved sorted =
     let once : IsOnce order = IsPermutation-keeps entries IsOnce (once_rising entries b.ascending) (λ l i j li lj h. once_swapped l i j li lj h) order moved in
     record {
       members = λ e. (

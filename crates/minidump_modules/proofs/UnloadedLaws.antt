@@ -11,9 +11,8 @@ use Rattle.minidump_index.specs.declared.range.Range.{Range}
 use Rattle.minidump_index.specs.Lookup.{HasAddress}
 use Rattle.minidump_index.specs.Overlap.{HasRange, IsIn}
 use Rattle.minidump_index.proofs.Members.{all_from, cases, first_pairs, head, nothing, rest_pairs, tail}
-use Rattle.minidump_modules.specs.declared.unloaded_module.MinidumpUnloadedModule.{MinidumpUnloadedModule}
 use Rattle.minidump_modules.specs.declared.unloaded_order.Placed.{Placed}
-use Rattle.minidump_modules.specs.UnloadedModule.{unloaded_range}
+use Rattle.minidump_modules.specs.UnloadedModule.{UnloadedValue, unloaded_value_range}
 use Rattle.minidump_modules.specs.UnloadedOrder.{HasUnloadedLaws, IsOrderOf, Precedes, StartsBefore, has, modules_of_order}
 use Rattle.minidump_modules.proofs.ListedLemmas.{same_list}
 
@@ -62,56 +61,56 @@ kept_to p (f ∷ fs) e h t = elim (cases_Bool (p f)) [
   ])
 ]
 
-module _ (modules : List MinidumpUnloadedModule) where
+module _ (modules : List UnloadedValue) where
   abbrev Ranges : List (Option Range)
-  Ranges = map unloaded_range modules
+  Ranges = map unloaded_value_range modules
 
-  pub one_placed : (a b : List Placed) → IsOrderOf modules a → IsOrderOf modules b → a ≡ b
+  pub one_placed : (a b : List Placed) → IsOrderOf Ranges a → IsOrderOf Ranges b → a ≡ b
   one_placed a b of_a of_b = same_list Precedes one_way a b of_a.ascending of_b.ascending
       (λ e. ((λ h. (of_b.members e).1 ((of_a.members e).0 h)), (λ h. (of_a.members e).1 ((of_b.members e).0 h))))
 
   -- ---- the module at an index
-  record IsAt (e : Placed) (m : MinidumpUnloadedModule) : Type 0 where
+  record IsAt (e : Placed) (m : UnloadedValue) : Type 0 where
     at : slice_get modules e.place ≡ Some m
-    range : unloaded_range m ≡ Some e.range
+    range : unloaded_value_range m ≡ Some e.range
 
-  read : (e : Placed) (o : Option MinidumpUnloadedModule) → slice_get modules e.place ≡ o → HasRange Ranges e.place e.range → (m : MinidumpUnloadedModule) × IsAt e m
-  read e (Some m) at h = let same : Some (unloaded_range m) ≡ Some (Some e.range) = ap (option_map unloaded_range) (sym at) ∙ sym (slice_get-map unloaded_range modules e.place) ∙ h in
+  read : (e : Placed) (o : Option UnloadedValue) → slice_get modules e.place ≡ o → HasRange Ranges e.place e.range → (m : UnloadedValue) × IsAt e m
+  read e (Some m) at h = let same : Some (unloaded_value_range m) ≡ Some (Some e.range) = ap (option_map unloaded_value_range) (sym at) ∙ sym (slice_get-map unloaded_value_range modules e.place) ∙ h in
       (m, record { at = at; range = cc })
-  read e None at h = let same : None ≡ Some (Some e.range) = ap (option_map unloaded_range) (sym at) ∙ sym (slice_get-map unloaded_range modules e.place) ∙ h in absurd (let b : ⊥ = cc in b)
+  read e None at h = let same : None ≡ Some (Some e.range) = ap (option_map unloaded_value_range) (sym at) ∙ sym (slice_get-map unloaded_value_range modules e.place) ∙ h in absurd (let b : ⊥ = cc in b)
 
-  module_at : (e : Placed) → HasRange Ranges e.place e.range → (m : MinidumpUnloadedModule) × IsAt e m
+  module_at : (e : Placed) → HasRange Ranges e.place e.range → (m : UnloadedValue) × IsAt e m
   module_at e h = read e (slice_get modules e.place) refl h
 
   -- a module of the list that has a range stands at an index
-  index_of : (m : MinidumpUnloadedModule) (r : Range) → Contains modules m → unloaded_range m ≡ Some r → (e : Placed) × HasRange Ranges e.place e.range × IsAt e m × (e.range ≡ r)
+  index_of : (m : UnloadedValue) (r : Range) → Contains modules m → unloaded_value_range m ≡ Some r → (e : Placed) × HasRange Ranges e.place e.range × IsAt e m × (e.range ≡ r)
   index_of m r (k, within, at) range =
-      let there : slice_get modules k ≡ Some m = slice_get-get_or modules k m within ∙ ap (λ (x : MinidumpUnloadedModule). Some x) at in
-      let has : HasRange Ranges k r = slice_get-map unloaded_range modules k ∙ ap (option_map unloaded_range) there ∙ ap (λ (o : Option Range). Some o) range in
+      let there : slice_get modules k ≡ Some m = slice_get-get_or modules k m within ∙ ap (λ (x : UnloadedValue). Some x) at in
+      let has : HasRange Ranges k r = slice_get-map unloaded_value_range modules k ∙ ap (option_map unloaded_value_range) there ∙ ap (λ (o : Option Range). Some o) range in
       (record { range = r; place = k }, has, record { at = there; range = range }, refl)
 
   -- ---- the modules of an order
-  one_more : (e : Placed) (m : MinidumpUnloadedModule) (es : List Placed) → IsAt e m → modules_of_order modules (e ∷ es) ≡ m ∷ modules_of_order modules es
-  one_more e m es at = ap (λ (o : Option MinidumpUnloadedModule). cons_option o (modules_of_order modules es)) at.at
+  one_more : (e : Placed) (m : UnloadedValue) (es : List Placed) → IsAt e m → modules_of_order modules (e ∷ es) ≡ m ∷ modules_of_order modules es
+  one_more e m es at = ap (λ (o : Option UnloadedValue). cons_option o (modules_of_order modules es)) at.at
 
   abbrev AllHave : List Placed → Type 0
   AllHave es = (e : Placed) → Contains es e → HasRange Ranges e.place e.range
 
-  from_order : (es : List Placed) (m : MinidumpUnloadedModule) → AllHave es → Contains (modules_of_order modules es) m → (e : Placed) × Contains es e × IsAt e m
+  from_order : (es : List Placed) (m : UnloadedValue) → AllHave es → Contains (modules_of_order modules es) m → (e : Placed) × Contains es e × IsAt e m
   from_order [] m has h = absurd (nothing m h)
   from_order (e ∷ es) m has h =
       let n = module_at e (has e (head e es)) in
-      elim (cases n.0 (modules_of_order modules es) m (subst (λ (ms : List MinidumpUnloadedModule). Contains ms m) (one_more e n.0 es n.1) h)) [
+      elim (cases n.0 (modules_of_order modules es) m (subst (λ (ms : List UnloadedValue). Contains ms m) (one_more e n.0 es n.1) h)) [
         | inl same ↦ (e, head e es, subst (IsAt e) same n.1)
         | inr more ↦ (let f = from_order es m (λ f k. has f (tail e es f k)) more in (f.0, tail e es f.0 f.1, f.2))
       ]
 
-  into_order : (es : List Placed) (e : Placed) (m : MinidumpUnloadedModule) → AllHave es → Contains es e → IsAt e m → Contains (modules_of_order modules es) m
+  into_order : (es : List Placed) (e : Placed) (m : UnloadedValue) → AllHave es → Contains es e → IsAt e m → Contains (modules_of_order modules es) m
   into_order [] e m has h at = absurd (nothing e h)
   into_order (f ∷ fs) e m has h at =
       let n = module_at f (has f (head f fs)) in
       let more : modules_of_order modules (f ∷ fs) ≡ n.0 ∷ modules_of_order modules fs = one_more f n.0 fs n.1 in
-      subst (λ (ms : List MinidumpUnloadedModule). Contains ms m) (sym more) (elim (cases f fs e h) [
+      subst (λ (ms : List UnloadedValue). Contains ms m) (sym more) (elim (cases f fs e h) [
         | inl same ↦ (let one : n.0 ≡ m = (let a = n.1.at in let b = at.at in let c = ap (λ (x : Placed). slice_get modules x.place) same in let s : Some n.0 ≡ Some m = sym a ∙ c ∙ b in cc) in
             subst (Contains (n.0 ∷ modules_of_order modules fs)) one (head n.0 (modules_of_order modules fs)))
         | inr rest ↦ tail n.0 (modules_of_order modules fs) m (into_order fs e m (λ x k. has x (tail f fs x k)) rest at)
@@ -128,11 +127,11 @@ module _ (modules : List MinidumpUnloadedModule) where
       (e.range, f.0.range, n.1.range, f.2.range, starts e f.0 (first_pairs Precedes e es up f.0 f.1))))
       (ascend es (λ f k. has f (tail e es f k)) (rest_pairs Precedes e es up)))
 
-  module _ (order : List Placed) (is : IsOrderOf modules order) where
+  module _ (order : List Placed) (is : IsOrderOf Ranges order) where
     all_have : AllHave order
     all_have e h = (is.members e).0 h
 
-    pub ranged : (m : MinidumpUnloadedModule) → Contains (modules_of_order modules order) m ↔ (Contains modules m × ((r : Range) × (unloaded_range m ≡ Some r)))
+    pub ranged : (m : UnloadedValue) → Contains (modules_of_order modules order) m ↔ (Contains modules m × ((r : Range) × (unloaded_value_range m ≡ Some r)))
     ranged m = (
       (λ h. let e = from_order order m all_have h in
           ((e.0.place, slice_get_within modules e.0.place m e.2.at, get_or_from_slice_get modules e.0.place m m e.2.at), (e.0.range, e.2.range))),
@@ -142,7 +141,7 @@ module _ (modules : List MinidumpUnloadedModule) where
     kept_have : (address : ℕ) → AllHave (filter (has address) order)
     kept_have address e h = all_have e (kept_from (has address) order e h).0
 
-    pub found : (address : ℕ) (m : MinidumpUnloadedModule) → Contains (modules_of_order modules (filter (has address) order)) m ↔ (Contains modules m × HasAddress unloaded_range address m)
+    pub found : (address : ℕ) (m : UnloadedValue) → Contains (modules_of_order modules (filter (has address) order)) m ↔ (Contains modules m × HasAddress unloaded_value_range address m)
     found address m = (
       (λ h. let e = from_order (filter (has address) order) m (kept_have address) h in
           let k = kept_from (has address) order e.0 e.1 in (
@@ -154,7 +153,7 @@ module _ (modules : List MinidumpUnloadedModule) where
           (kept_to (has address) order e.0 ((is.members e.0).1 e.1) (there_has address e.0 (subst (IsIn address) (sym e.3) h.1.2))) e.2),
     )
 
-pub unloaded_laws : (modules : List MinidumpUnloadedModule) → HasUnloadedLaws modules
+pub unloaded_laws : (modules : List UnloadedValue) → HasUnloadedLaws modules
 unloaded_laws modules = record {
   one_order = λ given other a b. a.2 ∙ ap (modules_of_order modules) (one_placed modules a.0 b.0 a.1 b.1) ∙ sym b.2;
   ranged = λ given m o. rw o.2 (ranged modules o.0 o.1 m);

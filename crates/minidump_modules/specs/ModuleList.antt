@@ -2,8 +2,7 @@
 use Rattle.minidump_format.specs.declared.format.stream_type.MINIDUMP_STREAM_TYPE.TheVariants.{ModuleListStream}
 use Rattle.minidump_system.specs.Framing.{count_of}
 use Rattle.minidump_system.specs.StreamSpec.{StreamSpec, linear}
-use Rattle.std.specs.Prelude.{IsOk, ◌+◌}
-use Rattle.std.specs.Prelude.{ℕ, List, filter, map, Option, Result}
+use Rattle.std.specs.Prelude.{ℕ, ◌+◌, ◌<◌, List, filter, length, map, Option, Result, IsOkAnd}
 use Rattle.std.specs.List.{sum_by}
 use Rattle.std.specs.Option.{option_map}
 use Rattle.minidump_bytes.specs.declared.endian.Endian.{Endian}
@@ -46,5 +45,5 @@ module_list_stream = record {
   meaning = module_list;
   most = linear;
   fewest = λ bytes order modules. 1 + count_of order bytes + modules_read modules;
-  memory = λ bytes order. IsOk (plain_list module_entry order bytes);
+  memory = λ bytes order. IsOkAnd (plain_list module_entry order bytes) (λ raws. 0 < length raws);
 }

@@ -41,6 +41,10 @@ unloaded_identity m = record {
   version = None;
 }
 
+-- the addresses of an unloaded module as a value
+abbrev pub unloaded_value_range : UnloadedValue → Option Range
+unloaded_value_range m = range_of m.raw.base_of_image m.raw.size_of_image
+
 -- its addresses
 abbrev pub unloaded_range : MinidumpUnloadedModule → Option Range
 unloaded_range m = range_of m.raw.base_of_image m.raw.size_of_image

@@ -3,8 +3,7 @@ use Rattle.minidump_format.specs.declared.format.stream_type.MINIDUMP_STREAM_TYP
 use Rattle.minidump_modules.specs.declared.unloaded_module_list.MinidumpUnloadedModuleList.{MinidumpUnloadedModuleList}
 use Rattle.minidump_system.specs.Framing.{list_header_of}
 use Rattle.minidump_system.specs.StreamSpec.{StreamSpec, linear}
-use Rattle.std.specs.Prelude.{IsOk, ◌*◌, ◌+◌}
-use Rattle.std.specs.Prelude.{ℕ, List, map, Result}
+use Rattle.std.specs.Prelude.{ℕ, ◌+◌, ◌*◌, ◌<◌, List, length, map, Result, IsOkAnd}
 use Rattle.minidump_bytes.specs.declared.endian.Endian.{Endian}
 use Rattle.minidump_format.specs.declared.error.Error.{Error}
 use Rattle.minidump_format.specs.Module.{unloaded_module_entry}
@@ -29,5 +28,5 @@ unloaded_module_list_stream = record {
   meaning = λ bytes file order system. unloaded_list bytes file order;
   most = linear;
   fewest = λ bytes order modules. 1 + 2 * (list_header_of order bytes).number_of_entries;
-  memory = λ bytes order. IsOk (extended_list unloaded_module_entry order bytes);
+  memory = λ bytes order. IsOkAnd (extended_list unloaded_module_entry order bytes) (λ raws. 0 < length raws);
 }

@@ -1,28 +1,27 @@
 -- Unloaded modules by address. They may overlap: each that has a range is kept.
-use Rattle.std.specs.Prelude.{◌≡◌, ◌↔◌, ℕ, ◌<◌, ◌≤◌, ◌⊎◌, ◌&&◌, Bool, List, map, filter, length, Some, All, AllPairs, Contains, slice_get, nat_le}
+use Rattle.std.specs.Prelude.{◌≡◌, ◌↔◌, ℕ, ◌<◌, ◌≤◌, ◌⊎◌, ◌&&◌, Bool, List, map, filter, length, Option, Some, All, AllPairs, Contains, slice_get, nat_le}
 use Rattle.std.specs.List.{filter_map}
 use Rattle.minidump_index.specs.declared.range.Range.{Range}
 use Rattle.minidump_index.specs.Lookup.{HasAddress}
 use Rattle.minidump_index.specs.Overlap.{HasRange, IsBefore}
-use Rattle.minidump_modules.specs.declared.unloaded_module.MinidumpUnloadedModule.{MinidumpUnloadedModule}
 use Rattle.minidump_modules.specs.declared.unloaded_order.Placed.{Placed}
-use Rattle.minidump_modules.specs.UnloadedModule.{unloaded_range}
+use Rattle.minidump_modules.specs.UnloadedModule.{UnloadedValue, unloaded_value_range}
 
--- each range of a module with its index, once: each stands before each later one
-pub record IsListedBy (StandsBefore : Placed → Placed → Type 0) (modules : List MinidumpUnloadedModule) (order : List Placed) : Type 0 where
-  pub members : (e : Placed) → Contains order e ↔ HasRange (map unloaded_range modules) e.place e.range
+-- each range of a list with its index, once: each stands before each later one
+pub record IsListedBy (StandsBefore : Placed → Placed → Type 0) (ranges : List (Option Range)) (order : List Placed) : Type 0 where
+  pub members : (e : Placed) → Contains order e ↔ HasRange ranges e.place e.range
   pub ascending : AllPairs StandsBefore order
 
 -- by start, then by end, then by index
 abbrev pub Precedes : Placed → Placed → Type 0
 Precedes e f = IsBefore e.range e.place f.range f.place
 
--- all ranges of modules, in order
-abbrev pub IsOrderOf : List MinidumpUnloadedModule → List Placed → Type 0
+-- all ranges of a list, in order
+abbrev pub IsOrderOf : List (Option Range) → List Placed → Type 0
 IsOrderOf = IsListedBy Precedes
 
 -- the same by index alone
-abbrev pub IsByIndex : List MinidumpUnloadedModule → List Placed → Type 0
+abbrev pub IsByIndex : List (Option Range) → List Placed → Type 0
 IsByIndex = IsListedBy (λ e f. e.place < f.place)
 
 -- each stands before each later one, or is the same
@@ -42,31 +41,31 @@ abbrev pub has : ℕ → Placed → Bool
 has address e = nat_le e.range.start address && nat_le address e.range.end
 
 -- the modules that have a range, by start, then by end, then by index
-abbrev pub IsByStart : List MinidumpUnloadedModule → List MinidumpUnloadedModule → Type 0
-IsByStart modules given = (order : List Placed) × IsOrderOf modules order × (given ≡ modules_of_order modules order)
+abbrev pub IsByStart : List UnloadedValue → List UnloadedValue → Type 0
+IsByStart modules given = (order : List Placed) × IsOrderOf (map unloaded_value_range modules) order × (given ≡ modules_of_order modules order)
 
 -- those of them that contain an address
-abbrev pub AreAt : List MinidumpUnloadedModule → ℕ → List MinidumpUnloadedModule → Type 0
-AreAt modules address given = (order : List Placed) × IsOrderOf modules order × (given ≡ modules_of_order modules (filter (has address) order))
+abbrev pub AreAt : List UnloadedValue → ℕ → List UnloadedValue → Type 0
+AreAt modules address given = (order : List Placed) × IsOrderOf (map unloaded_value_range modules) order × (given ≡ modules_of_order modules (filter (has address) order))
 
 -- a module starts before another; or at the same address, and ends no later
-abbrev pub StartsBefore : MinidumpUnloadedModule → MinidumpUnloadedModule → Type 0
+abbrev pub StartsBefore : UnloadedValue → UnloadedValue → Type 0
 StartsBefore m n =
-    (r s : Range) × (unloaded_range m ≡ Some r) × (unloaded_range n ≡ Some s) × ((r.start < s.start) ⊎ ((r.start ≡ s.start) × (r.end ≤ s.end)))
+    (r s : Range) × (unloaded_value_range m ≡ Some r) × (unloaded_value_range n ≡ Some s) × ((r.start < s.start) ⊎ ((r.start ≡ s.start) × (r.end ≤ s.end)))
 
 -- what holds of each list of unloaded modules
-pub record HasUnloadedLaws (modules : List MinidumpUnloadedModule) : Type 0 where
+pub record HasUnloadedLaws (modules : List UnloadedValue) : Type 0 where
   -- there is one order by start
-  pub one_order : (given other : List MinidumpUnloadedModule) → IsByStart modules given → IsByStart modules other → given ≡ other
+  pub one_order : (given other : List UnloadedValue) → IsByStart modules given → IsByStart modules other → given ≡ other
   -- in it are the modules that have a range, and no others
-  pub ranged : (given : List MinidumpUnloadedModule) (m : MinidumpUnloadedModule) → IsByStart modules given
-      → Contains given m ↔ (Contains modules m × ((r : Range) × (unloaded_range m ≡ Some r)))
+  pub ranged : (given : List UnloadedValue) (m : UnloadedValue) → IsByStart modules given
+      → Contains given m ↔ (Contains modules m × ((r : Range) × (unloaded_value_range m ≡ Some r)))
   -- they ascend
-  pub ascending : (given : List MinidumpUnloadedModule) → IsByStart modules given → AllPairs StartsBefore given
+  pub ascending : (given : List UnloadedValue) → IsByStart modules given → AllPairs StartsBefore given
   -- an address has one answer
-  pub one_answer : (address : ℕ) (given other : List MinidumpUnloadedModule) → AreAt modules address given → AreAt modules address other → given ≡ other
+  pub one_answer : (address : ℕ) (given other : List UnloadedValue) → AreAt modules address given → AreAt modules address other → given ≡ other
   -- in it are the modules that contain the address, and no others
-  pub found : (address : ℕ) (given : List MinidumpUnloadedModule) (m : MinidumpUnloadedModule) → AreAt modules address given
-      → Contains given m ↔ (Contains modules m × HasAddress unloaded_range address m)
+  pub found : (address : ℕ) (given : List UnloadedValue) (m : UnloadedValue) → AreAt modules address given
+      → Contains given m ↔ (Contains modules m × HasAddress unloaded_value_range address m)
   -- they ascend
-  pub found_ascend : (address : ℕ) (given : List MinidumpUnloadedModule) → AreAt modules address given → AllPairs StartsBefore given
+  pub found_ascend : (address : ℕ) (given : List UnloadedValue) → AreAt modules address given → AllPairs StartsBefore given

@@ -1,28 +1,24 @@
 //! Laws of modules, over the definitions that contracts cite.
-ghost use Rattle.std.specs.Prelude.{◌≡◌, ◌↔◌, IsTrue};
+ghost use Rattle.std.specs.Prelude.{◌≡◌, ◌↔◌, IsTrue, List};
 ghost use Rattle.minidump_index.specs.Lookup.{HasRegionLaws};
 ghost use Rattle.minidump_modules.specs.CodeId.{text_of};
-ghost use Rattle.minidump_modules.specs.Module.{module_identity, module_range};
-ghost use Rattle.minidump_modules.specs.ModuleList.{modules_of};
-ghost use Rattle.minidump_modules.specs.UnloadedModule.{unloaded_identity};
+ghost use Rattle.minidump_modules.specs.Module.{ModuleValue, module_identity, value_range};
+ghost use Rattle.minidump_modules.specs.UnloadedModule.{UnloadedValue, unloaded_identity};
 ghost use Rattle.minidump_modules.specs.UnloadedOrder.{HasUnloadedLaws};
 
-use crate::{
-    CodeId, MinidumpModule, MinidumpModuleList, MinidumpUnloadedModule, MinidumpUnloadedModuleList,
-    Module,
-};
+use crate::{CodeId, MinidumpModule, MinidumpUnloadedModule, Module};
 
 /// The laws of a list of modules: how lookups, the order by address and the modules fit together.
 #[tactic(auto, using(minidump_index::proofs::RegionLaws::region_laws))]
 pub fn region_laws()
-    ensures { (list : MinidumpModuleList) → HasRegionLaws module_range (modules_of list) }
+    ensures { (modules : List ModuleValue) → HasRegionLaws value_range modules }
 {}
 
 /// The laws of a list of unloaded modules: there is one order by start, with exactly the modules that have a
 /// range, and one answer at each address, with exactly those that contain it.
 #[tactic(auto, using(crate::proofs::UnloadedLaws::unloaded_laws))]
 pub fn unloaded_laws()
-    ensures { (list : MinidumpUnloadedModuleList) → HasUnloadedLaws list }
+    ensures { (modules : List UnloadedValue) → HasUnloadedLaws modules }
 {}
 
 /// Identifiers of code are equal where their digits are.

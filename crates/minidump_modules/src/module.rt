@@ -1,9 +1,9 @@
-ghost use Rattle.std.specs.Prelude.{◌≡◌, ◌+◌, ◌≤◌, ⊤, [], IfOk, IsOkUnless, string_bytes};
+ghost use Rattle.std.specs.Prelude.{◌≡◌, ◌+◌, ◌≤◌, [], IfOk, IsOkUnless, string_bytes};
 ghost use Rattle.std.specs.Option.{ok_or, option_copied, option_map};
 ghost use Rattle.minidump_bytes.specs.declared.endian.Endian.TheVariants.{Little};
 ghost use Rattle.minidump_bytes.specs.Source.{bytes_of};
 ghost use Rattle.minidump_bytes.specs.Steps.{after};
-ghost use Rattle.minidump_bytes.specs.Text16.{text16};
+ghost use Rattle.minidump_bytes.specs.Text16.{HoldsText16, text16};
 ghost use Rattle.minidump_format.specs.Answer.{Gives};
 ghost use Rattle.minidump_format.specs.declared.error.Error.TheVariants.{CodeViewReadFailure};
 ghost use Rattle.minidump_format.specs.Guid.{guid};
@@ -63,7 +63,7 @@ impl MinidumpModule {
         endian: Endian,
         system_info: Option<&MinidumpSystemInfo>,
     ) -> Result<MinidumpModule, Error>
-        ensures { Gives module_of ⊤ result (read_module endian (option_map (λ s. s.os) (option_copied system_info.entry)) bytes.now raw) }
+        ensures { Gives module_of (HoldsText16 endian raw.module_name_rva bytes.now) result (read_module endian (option_map (λ s. s.os) (option_copied system_info.entry)) bytes.now raw) }
     {
         let os = system_info.map(|system| system.os);
         MinidumpModule::read_counted(
@@ -86,7 +86,8 @@ impl MinidumpModule {
         os: Option<Os>,
         steps: &mut Steps,
     ) -> Result<MinidumpModule, Error>
-        ensures means { Gives module_of ⊤ result (read_module endian os (bytes_of all.entry) raw.now) }
+        ensures means { Gives module_of (HoldsText16 endian raw.now.module_name_rva (bytes_of all.entry)) result
+            (read_module endian os (bytes_of all.entry) raw.now) }
         ensures within { steps.new ≤ steps.old + 7 }
         ensures grows { steps.old ≤ steps.new }
         ensures steps { IfOk result (λ m. steps.new ≡ after steps.old (module_reads (module_of m))) }
@@ -270,7 +271,7 @@ fn name_at(
     endian: Endian,
     steps: &mut Steps,
 ) -> Result<String, Error>
-    ensures means { Gives string_bytes ⊤ result (ok_or (text16 endian rva (bytes_of all.entry)) CodeViewReadFailure) }
+    ensures means { Gives string_bytes (HoldsText16 endian rva (bytes_of all.entry)) result (ok_or (text16 endian rva (bytes_of all.entry)) CodeViewReadFailure) }
     ensures step { steps.new ≡ after steps.old 1 }
 {
     match all.text16(alloc, rva as u64, endian, steps)? {

@@ -1,4 +1,4 @@
-ghost use Rattle.std.specs.Prelude.{◌≡◌, ◌+◌, ◌*◌, ◌≤◌, ⊤, [], IfOk, IsOkUnless, length, map, slice_get};
+ghost use Rattle.std.specs.Prelude.{◌≡◌, ◌+◌, ◌*◌, ◌<◌, ◌≤◌, [], IfOk, IsOkUnless, OnErr, length, map, slice_get};
 ghost use Rattle.std.specs.Slice.Iter.{iter_rest};
 ghost use Rattle.std.specs.Option.{option_copied, option_map};
 ghost use Rattle.minidump_bytes.specs.Source.{bytes_of};
@@ -6,7 +6,7 @@ ghost use Rattle.minidump_bytes.specs.Steps.{after};
 ghost use Rattle.minidump_format.specs.Answer.{Gives};
 ghost use Rattle.minidump_format.specs.StreamType.{number_of};
 ghost use Rattle.minidump_index.specs.Lookup.{IsByAddress, IsCountedLookup, IsLookedUp};
-ghost use Rattle.minidump_modules.specs.Module.{has_range, module_of, module_range, value_range};
+ghost use Rattle.minidump_modules.specs.Module.{has_range, module_of, value_range};
 ghost use Rattle.minidump_modules.specs.ModuleList.{module_values, modules_in, modules_of, modules_read};
 
 use crate::MinidumpModule;
@@ -39,13 +39,15 @@ impl MinidumpModuleList {
         }
     }
 
-    /// Makes a list of modules. The only error is [`Error::OutOfMemory`], after which they are dropped.
+    /// Makes a list of modules. The only error is [`Error::OutOfMemory`], and only if there is a module;
+    /// after it they are dropped.
     pub fn from_modules(
         alloc: Global,
         modules: Vec<MinidumpModule>,
     ) -> Result<MinidumpModuleList, Error>
         ensures list { IfOk result (λ list. modules_of list ≡ modules.items) }
         ensures memory { IsOkUnless result Error.OutOfMemory }
+        ensures some { OnErr result (0 < length modules.items) }
     {
         Ok(MinidumpModuleList {
             modules: RegionList::from_regions(alloc, modules)?,
@@ -61,8 +63,7 @@ impl MinidumpModuleList {
 
     /// Returns the kept module that contains `address`, or `None` if no kept module does.
     pub fn module_at_address(&self, address: u64) -> Option<&MinidumpModule>
-        ensures found { IsLookedUp module_range (modules_of self.now) address (option_copied result) }
-        ensures value { IsLookedUp value_range (module_values self.now) address (option_map module_of (option_copied result)) }
+        ensures { IsLookedUp value_range (module_values self.now) address (option_map module_of (option_copied result)) }
     {
         self.module_at_address_counted(address, &mut Steps::new())
     }
@@ -74,7 +75,7 @@ impl MinidumpModuleList {
         address: u64,
         steps: &mut Steps,
     ) -> Option<&MinidumpModule>
-        ensures { IsCountedLookup module_range (modules_of self.now) address steps.old steps.new (option_copied result) }
+        ensures { IsCountedLookup value_range (module_values self.now) address steps.old steps.new (option_map module_of (option_copied result)) }
     {
         self.modules.at_address(address, steps)
     }
@@ -88,7 +89,7 @@ impl MinidumpModuleList {
 
     /// Returns an iterator over the kept modules, ascending by address, from both ends.
     pub fn by_addr(&self) -> RegionsByAddress<'_, MinidumpModule>
-        ensures { IsByAddress module_range (modules_of self.now) result }
+        ensures { IsByAddress value_range (module_values self.now) (map module_of result) }
     {
         self.modules.by_addr()
     }
@@ -129,6 +130,9 @@ impl<'a> MinidumpStream<'a> for MinidumpModuleList {
         steps: &mut Steps,
     ) -> Result<Self, Error> {
         let raws = plain_entries::<MINIDUMP_MODULE>(bytes, endian, steps)?;
+        if raws.len() == 0 {
+            return Ok(MinidumpModuleList::new(alloc));
+        }
         let os = system_info.map(|system| system.os);
         let modules = read_modules(alloc, raws, all, endian, os, steps)?;
         MinidumpModuleList::from_modules(alloc, modules)
@@ -144,7 +148,7 @@ fn read_modules(
     os: Option<Os>,
     steps: &mut Steps,
 ) -> Result<Vec<MinidumpModule>, Error>
-    ensures means { Gives (λ v. map module_of v.items) ⊤ result (modules_in endian os (bytes_of all.entry) raws.entry) }
+    ensures means { Gives (λ v. map module_of v.items) (0 < length raws.entry) result (modules_in endian os (bytes_of all.entry) raws.entry) }
     ensures within { steps.new ≤ steps.old + 7 * length raws.entry }
     ensures grows { steps.old ≤ steps.new }
     ensures steps { IfOk result (λ v. steps.new ≡ after steps.old (modules_read (map module_of v.items))) }

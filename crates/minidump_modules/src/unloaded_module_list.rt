@@ -1,7 +1,8 @@
-ghost use Rattle.std.specs.Prelude.{◌≡◌, ◌+◌, ◌≤◌, ⊤, [], IfOk, IsOkUnless, length, map};
+ghost use Rattle.std.specs.Prelude.{◌≡◌, ◌+◌, ◌<◌, ◌≤◌, [], IfOk, IsOkUnless, length, map};
 ghost use Rattle.std.specs.Slice.Iter.{iter_rest};
 ghost use Rattle.minidump_bytes.specs.Source.{bytes_of};
 ghost use Rattle.minidump_bytes.specs.Steps.{after};
+ghost use Rattle.minidump_bytes.specs.Text16.{HoldsText16};
 ghost use Rattle.minidump_format.specs.Answer.{Gives};
 ghost use Rattle.minidump_format.specs.StreamType.{number_of};
 ghost use Rattle.minidump_system.specs.Reads.{all_ok};
@@ -30,15 +31,16 @@ pub struct MinidumpUnloadedModuleList {
 }
 
 impl Model for MinidumpUnloadedModuleList {
-    ghost use Rattle.std.specs.Prelude.{List};
+    ghost use Rattle.std.specs.Prelude.{List, map};
     ghost use Rattle.minidump_modules.specs.declared.unloaded_module.MinidumpUnloadedModule.{MinidumpUnloadedModule};
+    ghost use Rattle.minidump_modules.specs.UnloadedModule.{unloaded_range};
     ghost use Rattle.minidump_modules.specs.UnloadedOrder.{IsInside, IsOrderOf};
 
     ghost Value = { List MinidumpUnloadedModule };
 
     ghost view = { λ s. s.modules.items };
 
-    ghost invariant = { λ s. IsOrderOf s.modules.items s.order.items × IsInside s.modules.items s.order.items };
+    ghost invariant = { λ s. IsOrderOf (map unloaded_range s.modules.items) s.order.items × IsInside s.modules.items s.order.items };
 }
 
 impl MinidumpUnloadedModuleList {
@@ -73,14 +75,14 @@ impl MinidumpUnloadedModuleList {
 
     /// Returns an iterator over the modules that contain `address`, by start, then by end, then by index.
     pub fn modules_at_address(&self, address: u64) -> ModulesAtAddress<'_>
-        ensures { AreAt self.now address result }
+        ensures { AreAt (unloaded_values self.now) address (map unloaded_of result) }
     {
         ModulesAtAddress::new(&self.order, &self.modules, address)
     }
 
     /// Returns an iterator over the modules that have a range, by start, then by end, then by index.
     pub fn by_addr(&self) -> UnloadedModulesByAddress<'_>
-        ensures { IsByStart self.now result }
+        ensures { IsByStart (unloaded_values self.now) (map unloaded_of result) }
     {
         UnloadedModulesByAddress::new(&self.order, &self.modules)
     }
@@ -121,6 +123,9 @@ impl<'a> MinidumpStream<'a> for MinidumpUnloadedModuleList {
         steps: &mut Steps,
     ) -> Result<Self, Error> {
         let raws = extended_entries::<MINIDUMP_UNLOADED_MODULE>(bytes, endian, steps)?;
+        if raws.len() == 0 {
+            return Ok(MinidumpUnloadedModuleList::new(alloc));
+        }
         let modules = read_modules(alloc, raws, all, endian, steps)?;
         MinidumpUnloadedModuleList::from_modules(alloc, modules)
     }
@@ -134,7 +139,7 @@ fn read_modules(
     endian: Endian,
     steps: &mut Steps,
 ) -> Result<Vec<MinidumpUnloadedModule>, Error>
-    ensures means { Gives (λ v. map unloaded_of v.items) ⊤ result (all_ok (listed_unloaded endian (bytes_of all.entry)) raws.entry) }
+    ensures means { Gives (λ v. map unloaded_of v.items) (0 < length raws.entry) result (all_ok (listed_unloaded endian (bytes_of all.entry)) raws.entry) }
     ensures within { steps.new ≤ steps.old + length raws.entry }
     ensures grows { steps.old ≤ steps.new }
     ensures steps { IfOk result (λ _. steps.new ≡ after steps.old (length raws.entry)) }
@@ -155,7 +160,8 @@ fn listed_module(
     endian: Endian,
     steps: &mut Steps,
 ) -> Result<MinidumpUnloadedModule, Error>
-    ensures means { Gives unloaded_of ⊤ result (listed_unloaded endian (bytes_of all.entry) raw.now) }
+    ensures means { Gives unloaded_of (HoldsText16 endian raw.now.module_name_rva (bytes_of all.entry)) result
+        (listed_unloaded endian (bytes_of all.entry) raw.now) }
     ensures within { steps.new ≤ steps.old + 1 }
     ensures grows { steps.old ≤ steps.new }
     ensures step { IfOk result (λ _. steps.new ≡ after steps.old 1) }

@@ -1,6 +1,7 @@
-ghost use Rattle.std.specs.Prelude.{◌≡◌, IfOk};
+ghost use Rattle.std.specs.Prelude.{◌≡◌, IfOk, map};
 ghost use Rattle.std.specs.List.{position};
 ghost use Rattle.std.specs.List.Sorted.{IsPermutation};
+ghost use Rattle.minidump_modules.specs.UnloadedModule.{unloaded_range};
 ghost use Rattle.minidump_modules.specs.UnloadedOrder.{IsByIndex, IsInOrder, IsInside, IsOrderOf, has};
 
 use crate::MinidumpUnloadedModule;
@@ -18,7 +19,7 @@ pub struct Placed {
 
 // Collects the modules that have a range, as that range and their index.
 fn all_placed(alloc: Global, modules: &[MinidumpUnloadedModule]) -> Result<Vec<Placed>, AllocError>
-    ensures { IfOk result (λ v. IsByIndex modules.now v.items) }
+    ensures { IfOk result (λ v. IsByIndex (map unloaded_range modules.now) v.items) }
 {
     let mut order = Vec::with_capacity(alloc, modules.len())?;
     for (place, module) in modules.iter().enumerate() {
@@ -42,7 +43,7 @@ pub(crate) fn order_of(
     alloc: Global,
     modules: &[MinidumpUnloadedModule],
 ) -> Result<Vec<Placed>, AllocError>
-    ensures order { IfOk result (λ v. IsOrderOf modules.now v.items) }
+    ensures order { IfOk result (λ v. IsOrderOf (map unloaded_range modules.now) v.items) }
     ensures inside { IfOk result (λ v. IsInside modules.now v.items) }
 {
     let mut order = all_placed(alloc, modules)?;

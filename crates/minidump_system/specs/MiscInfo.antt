@@ -55,6 +55,14 @@ misc_info_in bytes order = or_refused (largest_layout order bytes)
 abbrev pub raw_of : MinidumpMiscInfo → RawMiscInfo
 raw_of m = m.raw
 
+-- how many layouts are tried, the largest first, until one is it
+abbrev pub layouts_tried : RawMiscInfo → ℕ
+layouts_tried (MiscInfo5 raw) = 1
+layouts_tried (MiscInfo4 raw) = 2
+layouts_tried (MiscInfo3 raw) = 3
+layouts_tried (MiscInfo2 raw) = 4
+layouts_tried (MiscInfo raw) = 5
+
 -- the stream of type MiscInfoStream
 abbrev pub misc_info_stream : StreamSpec MinidumpMiscInfo RawMiscInfo
 misc_info_stream = record {
@@ -62,7 +70,7 @@ misc_info_stream = record {
   value = raw_of;
   meaning = λ bytes file order system. misc_info_in bytes order;
   most = linear;
-  fewest = λ bytes order raw. 1;
+  fewest = λ bytes order raw. layouts_tried raw;
   memory = λ bytes order. ⊥;
 }
 

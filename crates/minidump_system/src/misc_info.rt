@@ -1,8 +1,8 @@
-ghost use Rattle.std.specs.Prelude.{◌≡◌, ◌+◌, ◌≤◌, bit_and};
+ghost use Rattle.std.specs.Prelude.{◌≡◌, ◌+◌, ◌≤◌, IfSome, bit_and};
 ghost use Rattle.std.specs.Option.{option_copied};
 ghost use Rattle.minidump_bytes.specs.Source.{bytes_of};
 ghost use Rattle.minidump_bytes.specs.Steps.{after};
-ghost use Rattle.minidump_system.specs.MiscInfo.{size_of_info, flags1, process_id, process_create_time, process_user_time, process_kernel_time, processor_max_mhz, processor_current_mhz, processor_mhz_limit, processor_max_idle_state, processor_current_idle_state, process_integrity_level, process_execute_flags, protected_process, time_zone_id, time_zone, build_string, dbg_bld_str, xstate_data, process_cookie, where_set, largest_layout, layout_1, layout_2, layout_3, layout_4, layout_5};
+ghost use Rattle.minidump_system.specs.MiscInfo.{size_of_info, flags1, process_id, process_create_time, process_user_time, process_kernel_time, processor_max_mhz, processor_current_mhz, processor_mhz_limit, processor_max_idle_state, processor_current_idle_state, process_integrity_level, process_execute_flags, protected_process, time_zone_id, time_zone, build_string, dbg_bld_str, xstate_data, process_cookie, where_set, largest_layout, layouts_tried, layout_1, layout_2, layout_3, layout_4, layout_5};
 
 use crate::{MinidumpStream, MinidumpSystemInfo};
 
@@ -395,7 +395,8 @@ impl<'a> MinidumpStream<'a> for MinidumpMiscInfo {
 fn read_raw(bytes: Source<'_>, endian: Endian, steps: &mut Steps) -> Option<RawMiscInfo>
     ensures value { result ≡ largest_layout endian (bytes_of bytes.entry) }
     ensures within { steps.new ≤ steps.old + 5 }
-    ensures begun { after steps.old 1 ≤ steps.new }
+    ensures grows { steps.old ≤ steps.new }
+    ensures tried { IfSome result (λ raw. after steps.old (layouts_tried raw) ≤ steps.new) }
 {
     if let Some(raw) = read_5(bytes, endian, steps) {
         return Some(raw);
@@ -415,6 +416,7 @@ fn read_raw(bytes: Source<'_>, endian: Endian, steps: &mut Steps) -> Option<RawM
 #[tactic(auto, unfolding(crate::specs::MiscInfo::layout_5))]
 fn read_5(bytes: Source<'_>, endian: Endian, steps: &mut Steps) -> Option<RawMiscInfo>
     ensures value { result ≡ layout_5 endian (bytes_of bytes.entry) }
+    ensures tried { IfSome result (λ raw. layouts_tried raw ≡ 1) }
     ensures step { steps.new ≡ after steps.old 1 }
 {
     bytes.record(0, endian, steps).map(RawMiscInfo::MiscInfo5)
@@ -423,6 +425,7 @@ fn read_5(bytes: Source<'_>, endian: Endian, steps: &mut Steps) -> Option<RawMis
 #[tactic(auto, unfolding(crate::specs::MiscInfo::layout_4))]
 fn read_4(bytes: Source<'_>, endian: Endian, steps: &mut Steps) -> Option<RawMiscInfo>
     ensures value { result ≡ layout_4 endian (bytes_of bytes.entry) }
+    ensures tried { IfSome result (λ raw. layouts_tried raw ≡ 2) }
     ensures step { steps.new ≡ after steps.old 1 }
 {
     bytes.record(0, endian, steps).map(RawMiscInfo::MiscInfo4)
@@ -431,6 +434,7 @@ fn read_4(bytes: Source<'_>, endian: Endian, steps: &mut Steps) -> Option<RawMis
 #[tactic(auto, unfolding(crate::specs::MiscInfo::layout_3))]
 fn read_3(bytes: Source<'_>, endian: Endian, steps: &mut Steps) -> Option<RawMiscInfo>
     ensures value { result ≡ layout_3 endian (bytes_of bytes.entry) }
+    ensures tried { IfSome result (λ raw. layouts_tried raw ≡ 3) }
     ensures step { steps.new ≡ after steps.old 1 }
 {
     bytes.record(0, endian, steps).map(RawMiscInfo::MiscInfo3)
@@ -439,6 +443,7 @@ fn read_3(bytes: Source<'_>, endian: Endian, steps: &mut Steps) -> Option<RawMis
 #[tactic(auto, unfolding(crate::specs::MiscInfo::layout_2))]
 fn read_2(bytes: Source<'_>, endian: Endian, steps: &mut Steps) -> Option<RawMiscInfo>
     ensures value { result ≡ layout_2 endian (bytes_of bytes.entry) }
+    ensures tried { IfSome result (λ raw. layouts_tried raw ≡ 4) }
     ensures step { steps.new ≡ after steps.old 1 }
 {
     bytes.record(0, endian, steps).map(RawMiscInfo::MiscInfo2)
@@ -447,6 +452,7 @@ fn read_2(bytes: Source<'_>, endian: Endian, steps: &mut Steps) -> Option<RawMis
 #[tactic(auto, unfolding(crate::specs::MiscInfo::layout_1))]
 fn read_1(bytes: Source<'_>, endian: Endian, steps: &mut Steps) -> Option<RawMiscInfo>
     ensures value { result ≡ layout_1 endian (bytes_of bytes.entry) }
+    ensures tried { IfSome result (λ raw. layouts_tried raw ≡ 5) }
     ensures step { steps.new ≡ after steps.old 1 }
 {
     bytes.record(0, endian, steps).map(RawMiscInfo::MiscInfo)

@@ -22,7 +22,7 @@ returns-in_err-read_counted-clause-means c =
     let i = length c.loop-raw.yielded in
     let raw = c.in-Some.raw in
     let next : IsNext xs i raw raw c.next.new.self = next_left xs i raw raw _ (sym c.loop-raw.invariant.left ∙ c.in-Some.ensures.steps) in
-    gives_exit _ _ _ _ _ c.from_residual-in_err-read_counted.ensures.1 c.in_err-read_counted.ensures.means
+    gives_exit _ _ _ _ _ c.from_residual-in_err-read_counted.ensures.1 (λ h. omega (arith, next.inside)) c.in_err-read_counted.ensures.means
     (λ h. ok_refused read has_range module_of xs i raw c.loop-raw.modules.items _ next.inside (rw next.item (sym c.has_range.ensures ∙ c.if-has_range.true)) c.loop-raw.invariant.modules (rw next.item h))
 
 pub loop-raw-preserved-in_ok-push : goal.loop-raw-preserved-in_ok-push

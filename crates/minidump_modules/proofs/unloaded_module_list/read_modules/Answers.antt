@@ -22,7 +22,7 @@ returns-in_err-listed_module-clause-means c =
     let i = length c.loop-raw.yielded in
     let raw = c.in-Some.raw in
     let next : IsNext xs i raw raw c.next.new.self = next_left xs i raw raw _ (sym c.loop-raw.invariant.left ∙ c.in-Some.ensures.steps) in
-    gives_exit _ _ _ _ _ c.from_residual-in_err-listed_module.ensures.1 c.in_err-listed_module.ensures.means
+    gives_exit _ _ _ _ _ c.from_residual-in_err-listed_module.ensures.1 (λ h. omega (arith, next.inside)) c.in_err-listed_module.ensures.means
     (λ h. ok_stopped read unloaded_of xs i raw c.loop-raw.modules.items _ next.inside c.loop-raw.invariant.modules (rw next.item h))
 
 pub loop-raw-preserved : goal.loop-raw-preserved

@@ -7,4 +7,4 @@ pub returns-clause-order : goal.returns-clause-order
 returns-clause-order c = sorted_order _ _ _ c.in_ok-order.ensures c.sort.ensures.same c.sort.ensures.sorted
 
 pub returns-clause-inside : goal.returns-clause-inside
-returns-clause-inside c = all_inside _ Precedes _ (sorted_order _ _ _ c.in_ok-order.ensures c.sort.ensures.same c.sort.ensures.sorted)
+returns-clause-inside c = all_inside c.args.modules.now Precedes _ (sorted_order _ _ _ c.in_ok-order.ensures c.sort.ensures.same c.sort.ensures.sorted)
