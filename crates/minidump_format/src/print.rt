@@ -1,4 +1,4 @@
-ghost use Rattle.std.specs.Prelude.{◌≡◌, ℕ, List, IfErr, IfOk, string_bytes};
+ghost use Rattle.std.specs.Prelude.{◌≡◌, ℕ, List, IfErr, IfOk, IsOk, string_bytes};
 ghost use Rattle.std.specs.List.{flat_map};
 ghost use Rattle.minidump_format.specs.Print.{Prints, out_of_memory};
 
@@ -22,8 +22,9 @@ pub fn put_text<W: Write>(f: &mut Told<W>, text: &str) -> Result<(), Error>
 /// Prints a text that was made in memory. If it could not be made, returns [`Error::OutOfMemory`], or
 /// [`Error::IoError`] if the writer has failed.
 pub fn put_made<W: Write>(f: &mut Told<W>, text: Result<String, AllocError>) -> Result<(), Error>
-    ensures { (bytes : List ℕ) → IfOk text (λ t. string_bytes t ≡ bytes)
+    ensures prints { (bytes : List ℕ) → IfOk text (λ t. string_bytes t ≡ bytes)
         → Prints W.contents f.old f.new bytes result }
+    ensures made { IfOk result (λ _. IsOk text) }
 {
     match text {
         Ok(t) => put_text(f, t.as_str()),

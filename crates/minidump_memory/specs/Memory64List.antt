@@ -4,8 +4,7 @@ use Rattle.minidump_memory.specs.MemoryList.{memories_of}
 use Rattle.minidump_memory.specs.declared.memory_list.MinidumpMemoryListBase.{MinidumpMemoryListBase}
 use Rattle.minidump_system.specs.Framing.{count_64_of}
 use Rattle.minidump_system.specs.StreamSpec.{StreamSpec, linear}
-use Rattle.std.specs.Prelude.{IsOk, ◌*◌}
-use Rattle.std.specs.Prelude.{ℕ, ◌+◌, List, length, take, map, slice_range, Result, Ok, Err, nat_le, ◌==◌, ◌||◌, Bool, if◌then◌else◌}
+use Rattle.std.specs.Prelude.{IsOkAnd, ℕ, ◌+◌, ◌*◌, ◌<◌, List, length, take, map, slice_range, Result, Ok, Err, nat_le, ◌==◌, ◌||◌, Bool, if◌then◌else◌}
 use Rattle.std.specs.List.{enumerate_from, sum_by}
 use Rattle.minidump_bytes.specs.declared.endian.Endian.{Endian}
 use Rattle.minidump_format.specs.declared.error.Error.{Error}
@@ -48,5 +47,5 @@ memory64_list_stream = record {
   meaning = λ bytes file order system. memory_list_64 bytes file order;
   most = linear;
   fewest = λ bytes order regions. 2 + 2 * count_64_of order bytes;
-  memory = λ bytes order. IsOk (list_64 memory_descriptor_64 order bytes);
+  memory = λ bytes order. IsOkAnd (list_64 memory_descriptor_64 order bytes) (λ l. 0 < length l.items);
 }

@@ -2,8 +2,7 @@
 use Rattle.minidump_format.specs.declared.format.stream_type.MINIDUMP_STREAM_TYPE.TheVariants.{MemoryInfoListStream}
 use Rattle.minidump_system.specs.Framing.{list_header_of}
 use Rattle.minidump_system.specs.StreamSpec.{StreamSpec, linear}
-use Rattle.std.specs.Prelude.{IsOk, ◌+◌}
-use Rattle.std.specs.Prelude.{ℕ, Bool, ◌||◌, List, map, bit_and, Option, Result, Ok}
+use Rattle.std.specs.Prelude.{IsOkAnd, ℕ, ◌+◌, ◌<◌, Bool, ◌||◌, List, length, map, bit_and, Option, Result, Ok}
 use Rattle.bitflags.specs.Sets.{known_bits}
 use Rattle.minidump_bytes.specs.declared.endian.Endian.{Endian}
 use Rattle.minidump_format.specs.declared.error.Error.{Error}
@@ -83,5 +82,5 @@ memory_info_list_stream = record {
   meaning = λ bytes file order system. memory_info_list bytes order;
   most = linear;
   fewest = λ bytes order infos. 1 + (list_header_of order bytes).number_of_entries;
-  memory = λ bytes order. IsOk (extended_list memory_info order bytes);
+  memory = λ bytes order. IsOkAnd (extended_list memory_info order bytes) (λ raws. 0 < length raws);
 }

@@ -2,8 +2,7 @@
 use Rattle.minidump_format.specs.declared.format.stream_type.MINIDUMP_STREAM_TYPE.TheVariants.{MemoryListStream}
 use Rattle.minidump_system.specs.Framing.{count_of}
 use Rattle.minidump_system.specs.StreamSpec.{StreamSpec, linear}
-use Rattle.std.specs.Prelude.{IsOk, ◌+◌}
-use Rattle.std.specs.Prelude.{ℕ, List, map, Result, Ok, Err}
+use Rattle.std.specs.Prelude.{ℕ, ◌+◌, ◌<◌, List, length, map, Result, Ok, Err, IsOkAnd}
 use Rattle.std.specs.List.{filter_map, sum_by}
 use Rattle.std.specs.Result.{result_ok}
 use Rattle.minidump_bytes.specs.declared.endian.Endian.{Endian}
@@ -48,5 +47,5 @@ memory_list_stream = record {
   meaning = λ bytes file order system. memory_list bytes file order;
   most = linear;
   fewest = λ bytes order regions. 1 + count_of order bytes + spans_of_list order bytes;
-  memory = λ bytes order. IsOk (plain_list memory_descriptor order bytes);
+  memory = λ bytes order. IsOkAnd (plain_list memory_descriptor order bytes) (λ ds. 0 < length ds);
 }

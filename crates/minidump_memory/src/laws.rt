@@ -27,10 +27,10 @@ use minidump_system::MinidumpStream;
 #[tactic(auto, using(minidump_index::proofs::RegionLaws::region_laws))]
 pub fn region_laws<D>()
     ensures plain { (list : MinidumpMemoryListBase D) → HasRegionLaws memory_range (regions_of list) }
-    ensures unified { (list : UnifiedMemoryList) → HasRegionLaws region_range (unified_regions (unified_list list)) }
+    ensures unified { (regions : List UnifiedRegion) → HasRegionLaws region_range regions }
     ensures information { (list : MinidumpMemoryInfoList) → HasRegionLaws memory_info_range (infos_of list) }
     ensures maps { (list : MinidumpLinuxMaps) → HasRegionLaws map_range (maps_of list) }
-    ensures unified_information { (list : UnifiedMemoryInfoList) → HasRegionLaws info_region_range (info_regions (info_list list)) }
+    ensures unified_information { (regions : List InfoRegion) → HasRegionLaws info_region_range regions }
 {}
 
 /// The lookups and the regions by address of a unified list are those of the memory list that it holds.

@@ -1,4 +1,4 @@
-ghost use Rattle.std.specs.Prelude.{◌≡◌, ◌+◌, ◌≤◌, ◌<◌, [], length, map, IfOk, IsOkUnless};
+ghost use Rattle.std.specs.Prelude.{◌≡◌, ◌+◌, ◌≤◌, ◌<◌, [], length, map, IfOk, IsOkUnless, OnErr};
 ghost use Rattle.std.specs.Option.{option_copied};
 ghost use Rattle.std.specs.Slice.Iter.{iter_rest};
 ghost use Rattle.minidump_bytes.specs.Source.{bytes_of};
@@ -37,13 +37,15 @@ impl<'a> MinidumpLinuxMaps<'a> {
         }
     }
 
-    /// Makes a list of regions. The only error is [`Error::OutOfMemory`], after which they are dropped.
+    /// Makes a list of regions. The only error is [`Error::OutOfMemory`], and only if there is a region;
+    /// after it they are dropped.
     pub fn from_regions(
         alloc: Global,
         regions: Vec<MinidumpLinuxMapInfo<'a>>,
     ) -> Result<MinidumpLinuxMaps<'a>, Error>
         ensures list { IfOk result (λ list. maps_of list ≡ regions.entry.items) }
         ensures memory { IsOkUnless result Error.OutOfMemory }
+        ensures some { OnErr result (0 < length regions.entry.items) }
     {
         Ok(MinidumpLinuxMaps {
             regions: RegionList::from_regions(alloc, regions)?,

@@ -44,6 +44,9 @@ impl<'a> MinidumpStream<'a> for MinidumpMemoryListBase<'a, MINIDUMP_MEMORY_DESCR
         steps: &mut Steps,
     ) -> Result<Self, Error> {
         let (rva, descriptors) = entries_64::<MINIDUMP_MEMORY_DESCRIPTOR64>(bytes, endian, steps)?;
+        if descriptors.len() == 0 {
+            return Ok(MinidumpMemoryListBase::new(alloc));
+        }
         let regions = read_regions_64(alloc, rva, descriptors, all, endian, steps)?;
         MinidumpMemoryListBase::from_regions(alloc, regions)
     }

@@ -1,4 +1,4 @@
-ghost use Rattle.std.specs.Prelude.{◌≡◌, ◌+◌, ◌≤◌, [], length, map, IfOk, IsOkUnless};
+ghost use Rattle.std.specs.Prelude.{◌≡◌, ◌+◌, ◌≤◌, ◌<◌, [], length, map, IfOk, IsOkUnless, OnErr};
 ghost use Rattle.std.specs.Option.{option_copied};
 ghost use Rattle.std.specs.Slice.Iter.{iter_rest};
 ghost use Rattle.minidump_memory.specs.MemoryInfo.{memory_info_list_stream};
@@ -130,13 +130,15 @@ impl<'a> MinidumpMemoryInfoList<'a> {
         }
     }
 
-    /// Makes a list of regions. The only error is [`Error::OutOfMemory`], after which they are dropped.
+    /// Makes a list of regions. The only error is [`Error::OutOfMemory`], and only if there is a region;
+    /// after it they are dropped.
     pub fn from_regions(
         alloc: Global,
         regions: Vec<MinidumpMemoryInfo<'a>>,
     ) -> Result<MinidumpMemoryInfoList<'a>, Error>
         ensures list { IfOk result (λ list. infos_of list ≡ regions.entry.items) }
         ensures memory { IsOkUnless result Error.OutOfMemory }
+        ensures some { OnErr result (0 < length regions.entry.items) }
     {
         Ok(MinidumpMemoryInfoList {
             regions: RegionList::from_regions(alloc, regions)?,
@@ -213,6 +215,9 @@ impl<'a> MinidumpStream<'a> for MinidumpMemoryInfoList<'a> {
         steps: &mut Steps,
     ) -> Result<Self, Error> {
         let raws = extended_entries::<MINIDUMP_MEMORY_INFO>(bytes, endian, steps)?;
+        if raws.len() == 0 {
+            return Ok(MinidumpMemoryInfoList::new(alloc));
+        }
         let infos = infos_of_entries(alloc, raws)?;
         MinidumpMemoryInfoList::from_regions(alloc, infos)
     }

@@ -1,4 +1,4 @@
-ghost use Rattle.std.specs.Prelude.{◌≡◌, ◌+◌, ◌≤◌, [], map, length, IfOk, IsOkUnless};
+ghost use Rattle.std.specs.Prelude.{◌≡◌, ◌+◌, ◌≤◌, ◌<◌, [], map, length, IfOk, IsOkUnless, OnErr};
 ghost use Rattle.std.specs.List.{sum_by};
 ghost use Rattle.std.specs.Option.{option_copied, option_map};
 ghost use Rattle.std.specs.Result.{result_ok};
@@ -47,13 +47,15 @@ impl<'a, D: Drop> MinidumpMemoryListBase<'a, D> {
         }
     }
 
-    /// Makes a list of regions. The only error is [`Error::OutOfMemory`], after which they are dropped.
+    /// Makes a list of regions. The only error is [`Error::OutOfMemory`], and only if there is a region;
+    /// after it they are dropped.
     pub fn from_regions(
         alloc: Global,
         regions: Vec<MinidumpMemoryBase<'a, D>>,
     ) -> Result<MinidumpMemoryListBase<'a, D>, Error>
         ensures list { IfOk result (λ list. regions_of list ≡ regions.entry.items) }
         ensures memory { IsOkUnless result Error.OutOfMemory }
+        ensures some { OnErr result (0 < length regions.entry.items) }
     {
         Ok(MinidumpMemoryListBase {
             regions: RegionList::from_regions(alloc, regions)?,
@@ -123,6 +125,9 @@ impl<'a> MinidumpStream<'a> for MinidumpMemoryListBase<'a, MINIDUMP_MEMORY_DESCR
         steps: &mut Steps,
     ) -> Result<Self, Error> {
         let descriptors = plain_entries::<MINIDUMP_MEMORY_DESCRIPTOR>(bytes, endian, steps)?;
+        if descriptors.len() == 0 {
+            return Ok(MinidumpMemoryListBase::new(alloc));
+        }
         let regions = read_regions(alloc, descriptors, all, endian, steps)?;
         MinidumpMemoryListBase::from_regions(alloc, regions)
     }

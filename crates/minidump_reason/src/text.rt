@@ -2,14 +2,14 @@ ghost use Rattle.std.specs.Prelude.{◌≡◌, ◌++◌, IfOk, IsUtf8, OnOk, cod
 ghost use Rattle.std.specs.Option.{option_copied};
 ghost use Rattle.std.specs.List.{flat_map};
 ghost use Rattle.minidump_bytes.specs.Piece.{piece_text};
-ghost use Rattle.minidump_format.specs.Print.{Prints, out_of_memory};
+ghost use Rattle.minidump_format.specs.Print.{Prints};
 ghost use Rattle.minidump_reason.specs.ReasonText.{flavored, linux_general_text, listed, mac_general_text, name_text, reason_text, windows_general_text};
 
 use crate::guard::push_guard;
 use crate::resource::push_resource;
 use crate::{CodeFamily, CodeNames, CrashReason};
 use minidump_bytes::{Piece, Told, push_pieces};
-use minidump_format::{Error, put_text};
+use minidump_format::{Error, put_made};
 use std::alloc::{AllocError, Global};
 use std::io::Write;
 
@@ -37,21 +37,7 @@ impl CrashReason {
         ensures prints { Prints W.contents f.old f.new (reason_text names.now self.now) result }
         ensures utf8 { IfOk result (λ _. IsUtf8 (reason_text names.now self.now)) }
     {
-        match made_reason(alloc, names, self) {
-            Ok(text) => put_text(f, text.as_str()),
-            Err(AllocError) => Err(no_memory(f)),
-        }
-    }
-}
-
-// Returns the error of a call that ran out of memory.
-fn no_memory<W: Write>(f: &Told<W>) -> Error
-    ensures { result ≡ out_of_memory f.now }
-{
-    if f.failed() {
-        Error::IoError
-    } else {
-        Error::OutOfMemory
+        put_made(f, made_reason(alloc, names, self))
     }
 }
 

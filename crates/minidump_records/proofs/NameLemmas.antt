@@ -2,7 +2,7 @@
 use Rattle.std.proofs.Common.{◌≡◌, ◌≢◌, ℕ, ◌+◌, ◌<◌, ◌≤◌, cond, Bool, true, false, List, [], ◌∷◌, ◌++◌, length, get_or, map, take, Option, Some, None, refl, ap, sym, ◌∙◌, arith, append_assoc, append-nil, inl, inr}
 use Rattle.std.specs.Prelude.{◌==◌, All}
 use Rattle.std.specs.BTreeMap.{BTreeMap, IsOrdered, Updates, get, is_at}
-use Rattle.std.specs.List.{AllZip, filter_map}
+use Rattle.std.specs.List.{AllZip, filter_map, range_with_len}
 use Rattle.std.specs.Map.{lookup}
 use Rattle.std.specs.Option.{option_map}
 use Rattle.std.specs.Ordering.{nat_cmp}
@@ -44,6 +44,20 @@ last_name-found limit before later n small others =
     ∙ last_name-others n.0 later (before ++ n ∷ []) others
     ∙ last_name-more before n n.0 ∙ rw (eq-eqb n.0 n.0 refl) refl
 
+-- and none is, where all names are of other threads
+pub last_name-none : (limit : ℕ) (names : List ThreadName) (id : ℕ) → id < limit → All (λ x. x.0 ≢ id) names → name_at (last_names limit names) id ≡ None
+unfolding last_names
+last_name-none limit names id small others = lookup_by_key (last_name names) limit 0 id (omega arith) (omega arith) ∙ last_name-others id names [] others
+
+-- of no names there is no last one
+pub last_names-none : (limit : ℕ) → last_names limit [] ≡ []
+unfolding last_names
+last_names-none limit = go (range_with_len 0 limit)
+  where
+    go : (ids : List ℕ) → filter_map {Y = ThreadName} (λ id. option_map (λ name. (id, name)) (last_name [] id)) ids ≡ []
+    go [] = refl
+    go (id ∷ ids) = go ids
+
 -- information of other threads changes nothing
 last_info-others : (id : ℕ) (later infos : List MinidumpThreadInfo) → All (λ i. i.raw.thread_id ≢ id) later → last_info (infos ++ later) id ≡ last_info infos id
 last_info-others id [] infos others = rw append-nil refl
@@ -60,6 +74,10 @@ last_info-found before later i others =
     ap (λ l. last_info l i.raw.thread_id) (sym (append_assoc before (i ∷ []) later))
     ∙ last_info-others i.raw.thread_id later (before ++ i ∷ []) others
     ∙ rw (reverse-append before (i ∷ []), eq-eqb i.raw.thread_id i.raw.thread_id refl) refl
+
+-- and none is, where all information is of other threads
+pub last_info-none : (infos : List MinidumpThreadInfo) (id : ℕ) → All (λ i. i.raw.thread_id ≢ id) infos → last_info infos id ≡ None
+last_info-none infos id others = last_info-others id infos [] others
 
 -- clones of entries are seen alike
 pub seen_alike : {X : Type 0} (seen : X → List ℕ) (es fs : List (ℕ × X)) → AllZip (λ e f. (f.0 ≡ e.0) × (seen f.1 ≡ seen e.1)) es fs

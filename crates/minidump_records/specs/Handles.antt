@@ -2,7 +2,7 @@
 use Rattle.minidump_format.specs.declared.format.stream_type.MINIDUMP_STREAM_TYPE.TheVariants.{HandleDataStream}
 use Rattle.minidump_system.specs.StreamSpec.{StreamSpec, square}
 use Rattle.std.specs.List.{sum_by}
-use Rattle.std.specs.Prelude.{IsOk, length}
+use Rattle.std.specs.Prelude.{IsOkAnd, ◌<◌, length}
 use Rattle.std.specs.Prelude.{ℕ, ◌+◌, ◌==◌, List, Option, Some, None, Result, Ok, map, string_bytes, if◌then◌else◌}
 use Rattle.std.specs.List.{filter_map}
 use Rattle.std.specs.Option.{option_map, unwrap_or}
@@ -11,7 +11,7 @@ use Rattle.minidump_bytes.specs.Text16.{text16}
 use Rattle.minidump_format.specs.declared.error.Error.{Error}
 use Rattle.minidump_system.specs.declared.framing.HandleEntries.{HandleEntries}
 use Rattle.minidump_system.specs.declared.framing.HandleEntries.TheVariants.{Short, Long}
-use Rattle.minidump_system.specs.Framing.{handle_list}
+use Rattle.minidump_system.specs.Framing.{handle_list, handles_in}
 use Rattle.minidump_system.specs.Reads.{and_then}
 use Rattle.minidump_records.specs.declared.handles.data_stream.MinidumpHandleDataStream.{MinidumpHandleDataStream}
 use Rattle.minidump_records.specs.declared.handles.descriptor.MinidumpHandleDescriptor.{MinidumpHandleDescriptor}
@@ -125,5 +125,5 @@ handle_data_stream = record {
   meaning = λ bytes file order system. handle_data bytes file order;
   most = square;
   fewest = λ bytes order handles. 1 + length handles + sum_by handle_reads handles;
-  memory = λ bytes order. IsOk (handle_list order bytes);
+  memory = λ bytes order. IsOkAnd (handle_list order bytes) (λ list. 0 < handles_in list);
 }

@@ -2,8 +2,7 @@
 use Rattle.minidump_format.specs.declared.format.stream_type.MINIDUMP_STREAM_TYPE.TheVariants.{ThreadInfoListStream}
 use Rattle.minidump_system.specs.Framing.{list_header_of}
 use Rattle.minidump_system.specs.StreamSpec.{StreamSpec, linear}
-use Rattle.std.specs.Prelude.{IsOk, ◌+◌}
-use Rattle.std.specs.Prelude.{ℕ, ◌==◌, List, find, map, reverse, Option, Result}
+use Rattle.std.specs.Prelude.{IsOkAnd, ℕ, ◌+◌, ◌<◌, ◌==◌, List, find, length, map, reverse, Option, Result}
 use Rattle.minidump_bytes.specs.declared.endian.Endian.{Endian}
 use Rattle.minidump_format.specs.declared.error.Error.{Error}
 use Rattle.minidump_format.specs.declared.format.thread.MINIDUMP_THREAD_INFO.{MINIDUMP_THREAD_INFO}
@@ -32,5 +31,5 @@ thread_info_list_stream = record {
   meaning = λ bytes file order system. thread_infos bytes order;
   most = linear;
   fewest = λ bytes order infos. 1 + (list_header_of order bytes).number_of_entries;
-  memory = λ bytes order. IsOk (extended_list thread_info order bytes);
+  memory = λ bytes order. IsOkAnd (extended_list thread_info order bytes) (λ raws. 0 < length raws);
 }

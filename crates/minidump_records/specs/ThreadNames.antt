@@ -2,8 +2,7 @@
 use Rattle.minidump_format.specs.declared.format.stream_type.MINIDUMP_STREAM_TYPE.TheVariants.{ThreadNamesStream}
 use Rattle.minidump_system.specs.Framing.{count_of}
 use Rattle.minidump_system.specs.StreamSpec.{StreamSpec, linear}
-use Rattle.std.specs.Prelude.{IsOk, ◌*◌, ◌+◌}
-use Rattle.std.specs.Prelude.{ℕ, ◌^◌, ◌==◌, List, map, reverse, Option, Result, Ok, string_bytes}
+use Rattle.std.specs.Prelude.{IsOkAnd, ℕ, ◌+◌, ◌*◌, ◌^◌, ◌<◌, ◌==◌, List, length, map, reverse, Option, Result, Ok, string_bytes}
 use Rattle.std.specs.List.{filter_map, range_with_len}
 use Rattle.std.specs.Map.{lookup}
 use Rattle.std.specs.Option.{option_map}
@@ -52,5 +51,5 @@ thread_names_stream = record {
   meaning = λ bytes file order system. thread_names bytes file order;
   most = linear;
   fewest = λ bytes order names. 1 + 2 * count_of order bytes;
-  memory = λ bytes order. IsOk (plain_list thread_name order bytes);
+  memory = λ bytes order. IsOkAnd (plain_list thread_name order bytes) (λ raws. 0 < length raws);
 }

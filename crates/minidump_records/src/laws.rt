@@ -1,5 +1,5 @@
 //! Laws of the streams of this crate, over the definitions that their contracts cite.
-ghost use Rattle.std.specs.Prelude.{◌≡◌, ◌≢◌, ◌↔◌, ◌<◌, ◌^◌, ◌++◌, ◌∷◌, ℕ, All, List, Some};
+ghost use Rattle.std.specs.Prelude.{◌≡◌, ◌≢◌, ◌↔◌, ◌<◌, ◌^◌, ◌++◌, ◌∷◌, ℕ, All, List, None, Some};
 ghost use Rattle.std.specs.List.{filter_map};
 ghost use Rattle.minidump_bytes.specs.declared.endian.Endian.{Endian};
 ghost use Rattle.minidump_format.specs.declared.format.crashpad.MINIDUMP_ANNOTATION.{MINIDUMP_ANNOTATION};
@@ -37,18 +37,22 @@ pub fn an_annotation_need_not_be_the_same_as_itself()
     ensures unsupported { (raw : MINIDUMP_ANNOTATION) → AreSame (unsupported raw) (unsupported raw) → ⊥ }
 {}
 
-/// Of the names of one thread the last is kept.
+/// Of the names of one thread the last is kept. A thread that no name is of has none.
 pub fn last_name_of_a_thread_is_kept()
-    ensures { (before later : List ThreadName) (n : ThreadName) → n.0 < 2 ^ 32
+    ensures last { (before later : List ThreadName) (n : ThreadName) → n.0 < 2 ^ 32
         → All (λ x. x.0 ≢ n.0) later
         → name_at (last_names (2 ^ 32) (before ++ (n ∷ later))) n.0 ≡ Some n.1 }
+    ensures none { (names : List ThreadName) (id : ℕ) → id < 2 ^ 32
+        → All (λ x. x.0 ≢ id) names → name_at (last_names (2 ^ 32) names) id ≡ None }
 {}
 
-/// Of the information of one thread the last is found.
+/// Of the information of one thread the last is found. For a thread that none is of there is none.
 pub fn last_info_of_a_thread_is_found()
-    ensures { (before later : List MinidumpThreadInfo) (i : MinidumpThreadInfo)
+    ensures last { (before later : List MinidumpThreadInfo) (i : MinidumpThreadInfo)
         → All (λ x. x.raw.thread_id ≢ i.raw.thread_id) later
         → last_info (before ++ (i ∷ later)) i.raw.thread_id ≡ Some i }
+    ensures none { (infos : List MinidumpThreadInfo) (id : ℕ)
+        → All (λ x. x.raw.thread_id ≢ id) infos → last_info infos id ≡ None }
 {}
 
 /// These streams depend on their bytes and the byte order alone, not on the rest of the file or the system

@@ -35,7 +35,7 @@
 //!   distinct pieces of information that its descriptor leads to: `MinidumpHandleDataStream::read`, by
 //!   `handle_data`; `laws::object_chain_is_the_longest`, `object_chain_is_one`. A read takes at least one step
 //!   for the header, each entry, name and piece, and for what ends a chain at another RVA than 0. Memory runs
-//!   out only where the entries have a good size.
+//!   out only where there are entries, of a good size.
 //! - Crashpad's dictionaries, lists and modules are what their locations hold, or the first error in the order of
 //!   the records: `MinidumpCrashpadInfo::read`, by `crashpad_in`; `MinidumpModuleCrashpadInfo::read`, by
 //!   `module_in`. A key has its last value: `laws::dictionaries_have_the_last_values`. A read takes at least one
@@ -56,7 +56,8 @@
 //!   stream.
 //!
 //! What isn't: that a forged count reserves no memory. The contracts show that no `OutOfMemory` is returned
-//! for it, but for Crashpad's lists, which grow entry by entry.
+//! for it, but for Crashpad's lists, which grow entry by entry, and for the count of records on macOS, of which
+//! 20 are read at most.
 #![tactic(auto)]
 
 mod assertion;

@@ -67,6 +67,9 @@ impl<'a> MinidumpStream<'a> for MinidumpThreadInfoList {
         steps: &mut Steps,
     ) -> Result<Self, Error> {
         let raws = extended_entries::<MINIDUMP_THREAD_INFO>(bytes, endian, steps)?;
+        if raws.len() == 0 {
+            return Ok(MinidumpThreadInfoList::new(alloc));
+        }
         Ok(MinidumpThreadInfoList {
             thread_infos: all_infos(alloc, raws)?,
         })

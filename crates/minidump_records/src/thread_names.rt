@@ -77,6 +77,9 @@ impl<'a> MinidumpStream<'a> for MinidumpThreadNames {
         steps: &mut Steps,
     ) -> Result<Self, Error> {
         let raws = plain_entries::<MINIDUMP_THREAD_NAME>(bytes, endian, steps)?;
+        if raws.len() == 0 {
+            return Ok(MinidumpThreadNames::new(alloc));
+        }
         Ok(MinidumpThreadNames {
             names: read_names(alloc, raws, all, endian, steps)?,
         })

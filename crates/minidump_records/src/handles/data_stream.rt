@@ -1,4 +1,4 @@
-ghost use Rattle.std.specs.Prelude.{◌≡◌, ◌+◌, ◌*◌, ◌≤◌, [], length, map, IfOk, IsOkUnless};
+ghost use Rattle.std.specs.Prelude.{◌≡◌, ◌+◌, ◌*◌, ◌<◌, ◌≤◌, [], length, map, IfOk, IsOkUnless, OnErr};
 ghost use Rattle.std.specs.List.{sum_by};
 ghost use Rattle.std.specs.Slice.Iter.{iter_rest};
 ghost use Rattle.minidump_bytes.specs.Source.{bytes_of};
@@ -136,7 +136,11 @@ fn read_handles<R: Descriptor>(
     ensures within { steps.new ≤ steps.old + length raws.entry * (length (bytes_of all.entry) + 3) }
     ensures grows { steps.old ≤ steps.new }
     ensures at_least { IfOk result (λ v. after steps.old (sum_by handle_reads (map handle_of v.items)) ≤ steps.new) }
+    ensures some { OnErr result (0 < length raws.entry) }
 {
+    if raws.len() == 0 {
+        return Ok(Vec::new(alloc));
+    }
     let mut handles = Vec::with_capacity(alloc, raws.len())?;
     for raw in raws {
         handles.push(read_handle(alloc, raw.raw(), all, endian, steps)?)?;
