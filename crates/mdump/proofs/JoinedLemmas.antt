@@ -1,5 +1,5 @@
 -- Lines that are written one after another.
-use Rattle.std.specs.Prelude.{◌≡◌, ℕ, List, ◌++◌, Option, Result, Ok, Err, IfErr, IsErrAnd}
+use Rattle.std.specs.Prelude.{◌≡◌, ℕ, List, ◌++◌, Option, Some, None, Result, Ok, Err, IfErr, IsErrAnd}
 use Rattle.std.proofs.Common.{inl, inr, refl, ap, sym, ◌∙◌, append_assoc, subst}
 use Rattle.std.proofs.KnownBytes.{Appends-trans}
 use Rattle.minidump_bytes.specs.declared.told.Told.{Told}
@@ -7,8 +7,8 @@ use Rattle.minidump_bytes.specs.Told.{PutsAll, PutsBeginning}
 use Rattle.minidump_format.specs.declared.error.Error.{Error}
 use Rattle.mdump.specs.Done.{IsOutputRefusal, TookAll, TookBeginning, Writes}
 use Rattle.minidump_index.specs.declared.range.Range.{Range}
+use Rattle.minidump_index.specs.Lookup.{HasRegionLaws}
 use Rattle.mdump.specs.Lines.{IsAt, Joined}
-use Rattle.mdump.proofs.LookupLemmas.{a_found}
 
 module _ {D : Type 0} (contents : D → Option (List ℕ)) (First Rest : List ℕ → Type 0) where
   -- a text that went out is a beginning of each longer one
@@ -48,10 +48,11 @@ module _ {D : Type 0} (contents : D → Option (List ℕ)) (First Rest : List �
   )
   cut a b (Ok u) e refused some began = absurd refused
 
--- the line of what a lookup answers
+-- the line of what a lookup answers, where each list has an answer
 pub a_line : {R : Type 0} (range : R → Option Range) (list : Option (List R)) (address : ℕ) (line : Option R → List ℕ)
-    → (text : List ℕ) × ((found : Option R) × IsAt range list address found × (text ≡ line found))
-a_line range list address line = let f = a_found range list address in (line f.0, (f.0, f.1, refl))
+    → ((regions : List R) → HasRegionLaws range regions) → (text : List ℕ) × ((found : Option R) × IsAt range list address found × (text ≡ line found))
+a_line range (Some regions) address line laws = let f = (laws regions).an_answer address in (line f.0, (f.0, f.1, refl))
+a_line range None address line laws = (line None, (None, refl, refl))
 
 -- a line and another one
 pub both_lines : (First Rest : List ℕ → Type 0) → (text : List ℕ) × First text → (text : List ℕ) × Rest text → (text : List ℕ) × Joined First Rest text

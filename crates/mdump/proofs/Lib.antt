@@ -3,5 +3,4 @@ pub mod AddressLemmas
 pub mod CommandLemmas
 pub mod JoinedLemmas
 pub mod ListLemmas
-pub mod LookupLemmas
 pub mod PrintLemmas

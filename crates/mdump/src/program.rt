@@ -10,7 +10,7 @@ use crate::command::Command;
 use crate::info::info_line;
 use crate::memory::memory_line;
 use crate::module::module_line;
-use minidump::{Error, Minidump, Told};
+use minidump::{Error, Minidump, Told, laws};
 use minidump_format::put_text;
 use std::alloc::Global;
 use std::io::Write;
@@ -120,6 +120,8 @@ fn lines<O: Write>(
     ensures written { Writes (AreLinesOf (dump_of dump.now) address) O.contents out.old out.new result }
     ensures refusal { IfErr result (IsOutputRefusal out.old out.new) }
 {
+    laws::module_laws();
+    laws::region_laws::<()>();
     memory_line(dump, alloc, address, out)?;
     last_lines(dump, alloc, address, out)
 }
@@ -134,6 +136,7 @@ fn last_lines<O: Write>(
     ensures written { Writes (AreLastLines (dump_of dump.now) address) O.contents out.old out.new result }
     ensures refusal { IfErr result (IsOutputRefusal out.old out.new) }
 {
+    laws::region_laws::<()>();
     module_line(dump, alloc, address, out)?;
     info_line(dump, alloc, address, out)
 }

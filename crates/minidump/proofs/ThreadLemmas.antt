@@ -3,11 +3,11 @@ use Rattle.std.proofs.Common.{◌≡◌, ◌≢◌, ℕ, Bool, true, false, cond
 use Rattle.std.specs.Prelude.{find, ◌==◌, All, ◌↔◌}
 use Rattle.std.specs.Option.{option_map, option_or}
 use Rattle.std.proofs.lemmas.Bool.{eqb-true, ne_eqb, eq-eqb}
-use Rattle.std.proofs.lemmas.List.{map-append, reverse-append}
-use Rattle.std.proofs.lemmas.List.Elements.{All-cons, All-head, All-map, All-tail}
+use Rattle.std.proofs.lemmas.List.{reverse-append}
+use Rattle.std.proofs.lemmas.List.Elements.{All-cons, All-head, All-tail}
 use Rattle.std.proofs.lemmas.List.Folds.{find-append}
 use Rattle.minidump.specs.declared.thread.MinidumpThread.{MinidumpThread}
-use Rattle.minidump.specs.Thread.{IsLastThread, IsLastWith, Thread, thread_of}
+use Rattle.minidump.specs.Thread.{IsLastThread, Thread, thread_of}
 
 module _ {X : Type 0} (p : X → Bool) where
   -- it is in the rest, or it is the first
@@ -58,47 +58,44 @@ module _ {X : Type 0} (key : X → ℕ) where
   )
 
 -- the last thread of an id is what a search from the end finds
-pub last_is_found : (id : ℕ) (threads : List MinidumpThread) (last : Option MinidumpThread) → IsLastWith id threads last
+pub last_is_found : (id : ℕ) (threads : List Thread) (last : Option Thread) → IsLastThread id threads last
     → last ≡ find (λ t. t.raw.thread_id == id) (reverse threads)
 last_is_found id threads None others = sym ((none_of_key (λ t. t.raw.thread_id) threads id).1 others)
 last_is_found id threads (Some t) (earlier, later, split, own, others) =
     rw (split, ← own) (sym (last_of_key (λ x. x.raw.thread_id) earlier later t (λ k d lt. rw own (others k d lt))))
 
-earlier_too : (id : ℕ) (x : MinidumpThread) (xs : List MinidumpThread) (t : MinidumpThread) → IsLastWith id xs (Some t) → IsLastWith id (x ∷ xs) (Some t)
+earlier_too : (id : ℕ) (x : Thread) (xs : List Thread) (t : Thread) → IsLastThread id xs (Some t) → IsLastThread id (x ∷ xs) (Some t)
 earlier_too id x xs t (earlier, later, split, own, others) = (x ∷ earlier, later, ap (λ l. x ∷ l) split, own, others)
 
-first_or_none : (id : ℕ) (x : MinidumpThread) (xs : List MinidumpThread) (b : Bool) → (x.raw.thread_id == id) ≡ b
-    → All (λ t. t.raw.thread_id ≢ id) xs → IsLastWith id (x ∷ xs) (cond b (Some x) None)
+first_or_none : (id : ℕ) (x : Thread) (xs : List Thread) (b : Bool) → (x.raw.thread_id == id) ≡ b
+    → All (λ t. t.raw.thread_id ≢ id) xs → IsLastThread id (x ∷ xs) (cond b (Some x) None)
 first_or_none id x xs true own others = ([], xs, refl, eqb-true x.raw.thread_id id own, others)
 first_or_none id x xs false other others =
-    All-cons (λ t. t.raw.thread_id ≢ id) x xs (differs {X = MinidumpThread} (λ t. t.raw.thread_id) x.raw.thread_id id other) others
+    All-cons (λ t. t.raw.thread_id ≢ id) x xs (differs {X = Thread} (λ t. t.raw.thread_id) x.raw.thread_id id other) others
 
 -- and what a search from the end finds is the last
-pub found_is_last : (id : ℕ) (threads : List MinidumpThread) → IsLastWith id threads (find (λ t. t.raw.thread_id == id) (reverse threads))
+pub found_is_last : (id : ℕ) (threads : List Thread) → IsLastThread id threads (find (λ t. t.raw.thread_id == id) (reverse threads))
 found_is_last id [] = λ k d lt. absurd (omega arith)
 found_is_last id (x ∷ xs) =
     rw (last-cons (λ t. t.raw.thread_id == id) x xs) (go (find (λ t. t.raw.thread_id == id) (reverse xs)) (found_is_last id xs))
   where
-    go : (found : Option MinidumpThread) → IsLastWith id xs found
-        → IsLastWith id (x ∷ xs) (option_or found (cond (x.raw.thread_id == id) (Some x) None))
+    go : (found : Option Thread) → IsLastThread id xs found
+        → IsLastThread id (x ∷ xs) (option_or found (cond (x.raw.thread_id == id) (Some x) None))
     go (Some t) rest = earlier_too id x xs t rest
     go None others = first_or_none id x xs (x.raw.thread_id == id) refl others
 
--- the last thread of an id is the last one as a value
-pub last_as_value : (id : ℕ) (threads : List MinidumpThread) (last : Option MinidumpThread) → IsLastWith id threads last
-    → IsLastThread id (map thread_of threads) (option_map thread_of last)
-last_as_value id threads None others = All-map (λ (t : Thread). t.raw.thread_id ≢ id) thread_of threads others
-last_as_value id threads (Some t) (earlier, later, split, own, others) = (
-  map thread_of earlier,
-  map thread_of later,
-  ap (map thread_of) split ∙ map-append thread_of earlier (t ∷ later),
-  own,
-  All-map (λ (t : Thread). t.raw.thread_id ≢ id) thread_of later others,
-)
-
--- the last thread of an id, as a value, is what a search from the end finds
-pub last_value_is_found : (id : ℕ) (threads : List Thread) (last : Option Thread) → IsLastThread id threads last
-    → last ≡ find (λ t. t.raw.thread_id == id) (reverse threads)
-last_value_is_found id threads None others = sym ((none_of_key (λ t. t.raw.thread_id) threads id).1 others)
-last_value_is_found id threads (Some t) (earlier, later, split, own, others) =
-    rw (split, ← own) (sym (last_of_key (λ x. x.raw.thread_id) earlier later t (λ k d lt. rw own (others k d lt))))
+-- a search from the end finds the same among threads as values
+pub found_as_value : (id : ℕ) (threads : List MinidumpThread)
+    → option_map thread_of (find (λ t. t.raw.thread_id == id) (reverse threads)) ≡ find (λ t. t.raw.thread_id == id) (reverse (map thread_of threads))
+found_as_value id [] = refl
+found_as_value id (x ∷ xs) =
+    ap (option_map thread_of) (last-cons (λ t. t.raw.thread_id == id) x xs)
+    ∙ go (find (λ t. t.raw.thread_id == id) (reverse xs)) (x.raw.thread_id == id)
+    ∙ ap (λ (o : Option Thread). option_or o (cond (x.raw.thread_id == id) (Some (thread_of x)) None)) (found_as_value id xs)
+    ∙ sym (last-cons (λ t. t.raw.thread_id == id) (thread_of x) (map thread_of xs))
+  where
+    go : (found : Option MinidumpThread) (b : Bool)
+        → option_map thread_of (option_or found (cond b (Some x) None)) ≡ option_or (option_map thread_of found) (cond b (Some (thread_of x)) None)
+    go (Some t) b = refl
+    go None true = refl
+    go None false = refl

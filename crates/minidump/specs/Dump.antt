@@ -28,9 +28,9 @@ with_header file (Ok h) = if is_readable h.1 file then Ok (record { file = file;
 abbrev pub dump_in : List ℕ → Result Dump Error
 dump_in file = with_header file (header_of file)
 
--- the header is accepted, and the directory has entries, so that they take memory
+-- a file is a minidump whose directory has entries, which take memory
 abbrev pub HasEntries : List ℕ → Type 0
-HasEntries file = IsOkAnd (header_of file) (λ h. 0 < h.1.stream_count)
+HasEntries file = IsOkAnd (dump_in file) (λ d. 0 < d.header.stream_count)
 
 -- the entries that decide a type of stream, ascending by type
 abbrev pub streams_of : Dump → List DecidingEntry

@@ -2,7 +2,7 @@
 use Rattle.minidump_format.specs.declared.format.stream_type.MINIDUMP_STREAM_TYPE.TheVariants.{ThreadListStream}
 use Rattle.minidump_system.specs.StreamSpec.{StreamSpec, linear}
 use Rattle.std.specs.List.{sum_by}
-use Rattle.std.specs.Prelude.{IsOk, length}
+use Rattle.std.specs.Prelude.{IsOkAnd, ◌<◌, length}
 use Rattle.std.specs.Prelude.{◌≡◌, ◌≢◌, ℕ, ◌+◌, All, List, ◌∷◌, ◌++◌, map, Option, Some, None, Result, Ok, if◌then◌else◌, nat_lt, ◌*◌, ◌^◌}
 use Rattle.std.specs.Option.{option_and_then, option_copied, option_map}
 use Rattle.std.specs.Result.{result_ok}
@@ -63,7 +63,7 @@ thread_at order file raw = record {
 abbrev pub thread_list : List ℕ → List ℕ → Endian → Result (List Thread) Error
 thread_list bytes file order = and_then (plain_list thread order bytes) (λ raws. Ok (map (thread_at order file) raws))
 
--- the same of threads as values
+-- the last thread of an id: it has the id, and none behind it has. There is none only where no thread has the id
 abbrev pub IsLastThread : ℕ → List Thread → Option Thread → Type 0
 IsLastThread id threads None = All (λ t. t.raw.thread_id ≢ id) threads
 IsLastThread id threads (Some last) =
@@ -72,12 +72,6 @@ IsLastThread id threads (Some last) =
 -- how much is read for a thread: its context, and its stack where that has a place and a size
 abbrev pub reads_of : Thread → ℕ
 reads_of t = 1 + spans_read t.raw.stack
-
--- the last thread of an id: it has the id, and none behind it has. There is none only where no thread has the id
-abbrev pub IsLastWith : ℕ → List MinidumpThread → Option MinidumpThread → Type 0
-IsLastWith id threads None = All (λ t. t.raw.thread_id ≢ id) threads
-IsLastWith id threads (Some last) =
-    (earlier later : List MinidumpThread) × (threads ≡ earlier ++ (last ∷ later)) × (last.raw.thread_id ≡ id) × All (λ t. t.raw.thread_id ≢ id) later
 
 abbrev IsOwnOrListed : Option (MemoryRegion MINIDUMP_MEMORY_DESCRIPTOR) → Type 0 → Option UnifiedRegion → Type 0
 IsOwnOrListed (Some own) listed found = found ≡ Some (of_kind Memory own)
@@ -113,5 +107,5 @@ thread_list_stream = record {
   meaning = λ bytes file order system. thread_list bytes file order;
   most = linear;
   fewest = λ bytes order threads. 1 + length threads + sum_by reads_of threads;
-  memory = λ bytes order. IsOk (plain_list thread order bytes);
+  memory = λ bytes order. IsOkAnd (plain_list thread order bytes) (λ raws. 0 < length raws);
 }

@@ -2,6 +2,7 @@ ghost use Rattle.std.specs.Prelude.{◌≡◌, ◌+◌, ◌-◌, ◌*◌, ◌<�
 ghost use Rattle.minidump_bytes.specs.Steps.{after};
 ghost use Rattle.minidump_bytes.specs.Source.{bytes_of};
 ghost use Rattle.minidump.specs.Deciding.{ReadsDirectory};
+ghost use Rattle.minidump.specs.Directory.{is_readable};
 
 use minidump_bytes::{Endian, Source, Steps};
 use minidump_format::Error;
@@ -17,7 +18,16 @@ pub(crate) struct DecidingEntry {
     pub(crate) entry: MINIDUMP_DIRECTORY,
 }
 
-// Reads the directory, and returns the deciding entries by type.
+// Tells whether each entry is in the file. The place of a directory with none isn't looked at.
+fn is_readable(header: &MINIDUMP_HEADER, source: Source<'_>) -> bool
+    ensures { result ≡ is_readable header.now (bytes_of source.entry) }
+{
+    let count = header.stream_count as u64;
+    count == 0 || header.stream_directory_rva as u64 + 12 * count <= source.len() as u64
+}
+
+// Reads the directory, and returns the deciding entries by type. Takes memory only where each entry is in
+// the file.
 pub(crate) fn read_directory(
     alloc: Global,
     source: Source<'_>,
@@ -30,6 +40,9 @@ pub(crate) fn read_directory(
     ensures grows { steps.old ≤ steps.new }
     ensures at_least { OnOk result (after steps.old header.now.stream_count ≤ steps.new) }
 {
+    if !is_readable(header, source) {
+        return Err(Error::MissingDirectory);
+    }
     let mut entries = BTreeMap::new(alloc);
     for index in 0..header.stream_count {
         let place = header.stream_directory_rva as u64 + 12 * index as u64;

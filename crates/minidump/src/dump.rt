@@ -49,7 +49,7 @@ impl<'a> Minidump<'a> {
     /// Returns the first of these errors that holds: `MissingHeader` if there are fewer than 32 bytes,
     /// `HeaderMismatch` if they don't begin with the signature in either byte order, `VersionMismatch` if
     /// the low 16 bits of the version are not those of a minidump, `MissingDirectory` if an entry is not
-    /// in the file. Returns `OutOfMemory` only if the header is accepted and counts at least one entry. A
+    /// in the file. Returns `OutOfMemory` only if none of them holds and there is at least one entry. A
     /// missing or malformed SystemInfo stream is no error.
     pub fn read(alloc: Global, bytes: &'a [u8]) -> Result<Minidump<'a>, Error>
         ensures { Gives dump_of (HasEntries bytes.now) result (dump_in bytes.now) }

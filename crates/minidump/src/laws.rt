@@ -4,15 +4,12 @@ ghost use Rattle.std.specs.Prelude.{◌≡◌, ◌≢◌, ◌<◌, ◌^◌, ◌+
 ghost use Rattle.std.specs.List.Sorted.{IsStrictlyIncreasing};
 ghost use Rattle.minidump_format.specs.declared.format.header.MINIDUMP_DIRECTORY.{MINIDUMP_DIRECTORY};
 ghost use Rattle.minidump.specs.declared.directory.DecidingEntry.{DecidingEntry};
-ghost use Rattle.minidump.specs.declared.thread.MinidumpThread.{MinidumpThread};
 ghost use Rattle.minidump.specs.Directory.{deciding, deciding_below, directory};
-ghost use Rattle.minidump.specs.Dump.{Dump, raw_stream, spanned, stream, streams_of, system_info_of};
-ghost use Rattle.minidump_format.specs.StreamType.{number_of};
-ghost use Rattle.minidump_format.specs.declared.format.stream_type.MINIDUMP_STREAM_TYPE.TheVariants.{SystemInfoStream};
+ghost use Rattle.minidump.specs.Dump.{Dump, raw_stream, spanned, stream_of, streams_of, system_info_of};
 ghost use Rattle.std.specs.Result.{result_ok};
 ghost use Rattle.minidump.specs.Promise.{assertion_stream, breakpad_info_stream, crashpad_info_stream, exception_stream, handle_data_stream, linux_cpu_info_stream, linux_environ_stream, linux_lsb_release_stream, linux_maps_stream, linux_proc_limits_stream, linux_proc_status_stream, mac_bootargs_stream, mac_crash_info_stream, memory64_list_stream, memory_info_list_stream, memory_list_stream, misc_info_stream, module_list_stream, soft_errors_stream, stability_report_stream, system_info_stream, thread_info_list_stream, thread_list_stream, thread_names_stream, unloaded_module_list_stream};
 ghost use Rattle.minidump.specs.Streams.{unimplemented_view, unknown_view};
-ghost use Rattle.minidump.specs.Thread.{IsLastThread, IsLastWith, Thread};
+ghost use Rattle.minidump.specs.Thread.{IsLastThread, Thread};
 ghost use Rattle.minidump_bytes.specs.Span.{span};
 ghost use Rattle.minidump_format.specs.Guid.{guid_text};
 ghost use Rattle.minidump_modules.specs.CodeId.{text_of};
@@ -25,7 +22,6 @@ ghost use Rattle.minidump_system.specs.StreamSpec.{IsSame};
 use crate::directory::DecidingEntry;
 use crate::exception::MinidumpException;
 use crate::streams::{MinidumpUnimplementedStream, MinidumpUnknownStream};
-use crate::thread::MinidumpThread;
 use crate::thread_list::MinidumpThreadList;
 pub use minidump_context::laws::{
     a_change_is_seen_under_all_names, any_name_makes_a_register_valid, contexts_are_as_defined,
@@ -105,17 +101,16 @@ pub fn listed_streams_decide()
         → deciding stream_type (directory d.order d.header d.file) ≡ Some s → Contains (streams_of d) s }
 {}
 
-/// One thread, or none, is the last of an id: it has the id, and none behind it has.
+/// Exactly one thread, or none, is the last of an id: it has the id, and none behind it has.
 pub fn one_last_thread()
-    ensures last { (id : ℕ) (threads : List MinidumpThread) (one other : Option MinidumpThread)
-        → IsLastWith id threads one → IsLastWith id threads other → one ≡ other }
-    ensures value { (id : ℕ) (threads : List Thread) (one other : Option Thread)
-        → IsLastThread id threads one → IsLastThread id threads other → one ≡ other }
+    ensures one { (id : ℕ) (threads : List Thread) (last other : Option Thread)
+        → IsLastThread id threads last → IsLastThread id threads other → last ≡ other }
+    ensures exists { (id : ℕ) (threads : List Thread) → (last : Option Thread) × IsLastThread id threads last }
 {}
 
 /// The system information is read as the dump has it: its stream, where that parses.
 pub fn system_information_is_the_dumps()
-    ensures { (d : Dump) → result_ok (stream (number_of SystemInfoStream) system_info_stream.meaning d) ≡ system_info_of d }
+    ensures { (d : Dump) → result_ok (stream_of system_info_stream d) ≡ system_info_of d }
 {}
 
 /// Each type of stream that is read keeps what is promised of it: its number, its meaning, at most `n + 7`

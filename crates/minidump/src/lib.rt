@@ -23,7 +23,7 @@
 //! # What is proved
 //!
 //! - Which files are dumps, and the error of every other: `Minidump::read`, by `dump_in`. `OutOfMemory` only
-//!   where the header is accepted and counts an entry. One read at least and at most n + 8 for n bytes,
+//!   where the file is a dump whose directory has an entry. One read at least and at most n + 8 for n bytes,
 //!   however it ends, and at least `least_reads` where it succeeds: `read_counted`.
 //! - The last entry of a type decides its bytes: `get_raw_stream`; `laws::last_entry_decides`,
 //!   `last_entry_decides_the_bytes`.

@@ -5,7 +5,7 @@ ghost use Rattle.minidump_bytes.specs.Source.{bytes_of};
 ghost use Rattle.minidump_bytes.specs.Steps.{after};
 ghost use Rattle.minidump.specs.Thread.{thread_list_stream};
 ghost use Rattle.minidump_format.specs.StreamType.{number_of};
-ghost use Rattle.minidump.specs.Thread.{IsLastThread, IsLastWith, reads_of, thread_at, thread_of, threads_of};
+ghost use Rattle.minidump.specs.Thread.{IsLastThread, reads_of, thread_at, thread_of, threads_of};
 
 use crate::MinidumpThread;
 use minidump_bytes::{Endian, Entries, Source, Steps};
@@ -26,8 +26,7 @@ impl<'a> MinidumpThreadList<'a> {
     /// Returns the last thread with an id, or `None` if no thread has it. It compares ids from the end of
     /// the list on.
     pub fn get_thread(&self, id: u32) -> Option<&MinidumpThread<'a>>
-        ensures last { IsLastWith id self.now.threads.items (option_copied result) }
-        ensures value { IsLastThread id (threads_of self.now) (option_map thread_of (option_copied result)) }
+        ensures { IsLastThread id (threads_of self.now) (option_map thread_of (option_copied result)) }
     {
         self.first_from_the_end(id)
     }
@@ -67,7 +66,11 @@ impl<'a> MinidumpStream<'a> for MinidumpThreadList<'a> {
         steps: &mut Steps,
     ) -> Result<Self, Error> {
         let raws = plain_entries::<MINIDUMP_THREAD>(bytes, endian, steps)?;
-        let threads = read_threads(alloc, raws, all, endian, steps)?;
+        let threads = if raws.len() == 0 {
+            Vec::new(alloc)
+        } else {
+            read_threads(alloc, raws, all, endian, steps)?
+        };
         Ok(MinidumpThreadList { threads })
     }
 }

@@ -1,22 +1,18 @@
--- The region of a minidump's memory in which an address lies.
-use Rattle.std.specs.Prelude.{◌≡◌, ◌⊎◌, ℕ, List, Option, Some, None, Ok, Err, Contains}
+-- The region of a minidump's memory in which an address lies: of overlapping regions one is kept, and the kept ones answer.
+use Rattle.std.specs.Prelude.{◌≡◌, ◌⊎◌, ℕ, List, Option, Some, None, Ok, Err}
+use Rattle.std.specs.Option.{option_map}
 use Rattle.minidump.specs.declared.Error.{Error}
 use Rattle.minidump.specs.declared.Error.TheVariants.{OutOfMemory}
 use Rattle.minidump.specs.Dump.{Dump, dump_in}
-use Rattle.minidump.specs.Index.Lookup.{HasAddress, IsLookedUp}
+use Rattle.minidump.specs.Index.Lookup.{IsLookedUp}
 use Rattle.minidump.specs.Memory.{memories_of_dump}
 use Rattle.minidump.specs.MemoryLists.Memory.{region_range}
 use Rattle.minidump.specs.MemoryLists.Unified.{UnifiedRegion, UnifiedRegions, unified_regions}
 
--- it is one of these regions, and has the address
-abbrev pub IsRegionOf : List UnifiedRegion → ℕ → ℕ × List ℕ → Type 0
-IsRegionOf regions address found =
-    (region : UnifiedRegion) × Contains regions region × HasAddress region_range address region × (found ≡ (region.base_address, region.bytes))
-
--- a region that a lookup among these answers, or that it answers none
+-- the base address and the bytes of the kept one of these regions that has the address, or none where no kept one has it
 abbrev pub IsRegionIn : List UnifiedRegion → ℕ → Option (ℕ × List ℕ) → Type 0
-IsRegionIn regions address (Some found) = IsRegionOf regions address found
-IsRegionIn regions address None = IsLookedUp region_range regions address None
+IsRegionIn regions address found =
+    (region : Option UnifiedRegion) × IsLookedUp region_range regions address region × (found ≡ option_map (λ r. (r.base_address, r.bytes)) region)
 
 -- the same by the memory of a minidump, where it has some
 abbrev pub IsInMemory : Option UnifiedRegions → ℕ → Option (ℕ × List ℕ) → Type 0

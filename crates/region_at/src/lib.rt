@@ -7,9 +7,9 @@
 //!
 //! # What is proved
 //!
-//! The region is one that the format assigns to these bytes and contains the address, and it is `None` where
-//! no kept region contains it: `region_at`, by `IsRegionAt` and `IsRefused`. The proof uses the contracts
-//! and laws of `minidump`, and nothing below.
+//! The region is the kept one that contains the address, of those that the format assigns to these bytes, and
+//! it is `None` where no kept region contains it: `region_at`, by `IsRegionAt` and `IsRefused`. The proof uses
+//! the contracts of `minidump`, and nothing below.
 #![tactic(auto)]
 
 ghost use Rattle.std.specs.Prelude.{IfErr, IfOk};
@@ -17,7 +17,7 @@ ghost use Rattle.std.specs.Option.{option_map};
 ghost use Rattle.minidump.specs.MemoryLists.Unified.{unified_list, unified_regions};
 ghost use Rattle.region_at.specs.RegionAt.{IsRefused, IsRegionAt, IsRegionIn};
 
-use minidump::{Error, Minidump, UnifiedMemoryList, laws};
+use minidump::{Error, Minidump, UnifiedMemoryList};
 use std::alloc::Global;
 
 /// Returns the base address and the bytes of the region of memory that contains `address`, or `None` if
@@ -40,7 +40,6 @@ pub fn region_at<'a>(
 fn region_in<'a>(memory: &UnifiedMemoryList<'a>, address: u64) -> Option<(u64, &'a [u8])>
     ensures { IsRegionIn (unified_regions (unified_list memory.now)) address (option_map (λ r. (r.0, r.1.now)) result) }
 {
-    laws::region_laws::<()>();
     let region = memory.memory_at_address(address)?;
     Some((region.base_address(), region.bytes()))
 }

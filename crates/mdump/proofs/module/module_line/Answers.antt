@@ -15,9 +15,9 @@ returns-clause-written g c =
     let found = option_map module_of (option_copied c.module_at-found.result) in
     let same : option_map module_values c.in_ok-modules.modules ≡ modules_of_dump (dump_of c.args.dump.now) = c.in_ok-modules.ensures.means in
     written g.O.Write.contents c.args.out.now c.put_made.new.f (IsModuleLine (dump_of c.args.dump.now) c.args.address) (module_line found) c.put_made.result
-    (found, subst (λ (m : Option (List ModuleValue)). IsAt value_range m c.args.address found) (ap (option_map module_values) c.as_ref.ensures.value ∙ same) c.module_at-found.ensures, refl) (c.put_made.ensures (module_line found) c.made_module_line.ensures)
+    (found, subst (λ (m : Option (List ModuleValue)). IsAt value_range m c.args.address found) (ap (option_map module_values) c.as_ref.ensures.value ∙ same) c.module_at-found.ensures, refl) (c.put_made.ensures.prints (module_line found) c.made_module_line.ensures)
 
 pub returns-clause-refusal : goal.returns-clause-refusal
 returns-clause-refusal g c =
     let text = module_line (option_map module_of (option_copied c.module_at-found.result)) in
-    print_refusal g.O.Write.contents c.args.out.now c.put_made.new.f text c.put_made.result (c.put_made.ensures text c.made_module_line.ensures)
+    print_refusal g.O.Write.contents c.args.out.now c.put_made.new.f text c.put_made.result (c.put_made.ensures.prints text c.made_module_line.ensures)
