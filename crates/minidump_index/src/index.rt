@@ -359,6 +359,3 @@ impl<'a> ExactSizeIterator for ByAddress<'a> {
         self.left
     }
 }
-
-#[cfg(test)]
-mod tests;

@@ -48,6 +48,3 @@ pub use misc_info::{MinidumpMiscInfo, RawMiscInfo};
 pub use os::Os;
 pub use stream::MinidumpStream;
 pub use system_info::MinidumpSystemInfo;
-
-#[cfg(test)]
-mod tests;
