@@ -1,15 +1,20 @@
 // Tests of `minidump_index`.
 use minidump_bytes::Steps;
 use minidump_format::Error;
-use minidump_index::{AddressIndex, Range, Region, RegionList};
-use std::alloc::Global;
+use minidump_index::{AddressIndex, Range, RegionList};
+use std::alloc::{AllocError, Global};
 
-// The index of regions, by their bases and sizes.
-fn index_of(alloc: Global, regions: &[(u64, u64)]) -> Result<AddressIndex, Error> {
+// The ranges of regions, by their bases and sizes.
+fn ranges_of(alloc: Global, regions: &[(u64, u64)]) -> Result<Vec<Option<Range>>, AllocError> {
     let mut ranges = Vec::new(alloc);
     for &(base, size) in regions {
         ranges.push(Range::from_size(base, size))?;
     }
+    Ok(ranges)
+}
+
+fn index_of(alloc: Global, regions: &[(u64, u64)]) -> Result<AddressIndex, Error> {
+    let ranges = ranges_of(alloc, regions)?;
     AddressIndex::build(alloc, &ranges)
 }
 
@@ -33,6 +38,7 @@ const KEPT: &[(&[(u64, u64)], &[usize])] = &[
     (&[(0x10, 8), (0x18, 8), (0x1f, 8)], &[0, 1]),
     // No size, and an end of 2^64.
     (&[(0x10, 0), (0x20, 4), (u64::MAX, 1)], &[1]),
+    (&[(1, 0), (u64::MAX, 1)], &[]),
     (&[], &[]),
 ];
 
@@ -74,27 +80,23 @@ fn six_are_found(alloc: Global) -> Result<bool, Error> {
     )
 }
 
-// How many comparisons find each of so many regions, ascending by address: how deep it is in the complete tree
+// Eight regions of four addresses, ascending. Such a list is put into the tree as it stands.
+#[rattlefmt::skip]
+const UP: &[(u64, u64)] = &[(0, 4), (10, 4), (20, 4), (30, 4), (40, 4), (50, 4), (60, 4), (70, 4)];
+
+// The same, descending. Such a list is sorted first.
+#[rattlefmt::skip]
+const DOWN: &[(u64, u64)] = &[(70, 4), (60, 4), (50, 4), (40, 4), (30, 4), (20, 4), (10, 4), (0, 4)];
+
+// How many comparisons find each of the first regions of `UP`, by its base: how deep it is in the complete tree
 // whose last level is filled from the left.
 #[rattlefmt::skip]
-const DEPTHS: &[&[u128]] = &[
-    &[],
-    &[1],
-    &[2, 1],
-    &[3, 2, 3, 1, 3, 2, 3],
-    &[4, 3, 2, 3, 1, 3, 2, 3],
+const DEPTHS: &[&[(u64, u128)]] = &[
+    &[(0, 1)],
+    &[(0, 2), (10, 1)],
+    &[(0, 3), (10, 2), (20, 3), (30, 1), (40, 3), (50, 2), (60, 3)],
+    &[(0, 4), (10, 3), (20, 2), (30, 3), (40, 1), (50, 3), (60, 2), (70, 3)],
 ];
-
-// The index of so many regions of four addresses, from ten times their number on. A list that ascends is put
-// into the tree as it stands, and another is sorted first.
-fn row_of_regions(alloc: Global, count: usize, descends: bool) -> Result<AddressIndex, Error> {
-    let mut ranges = Vec::new(alloc);
-    for i in 0..count {
-        let number = if descends { count - 1 - i } else { i };
-        ranges.push(Range::from_size((number as u64).saturating_mul(10), 4))?;
-    }
-    AddressIndex::build(alloc, &ranges)
-}
 
 fn comparisons(index: &AddressIndex, address: u64) -> u128 {
     let mut steps = Steps::new();
@@ -102,14 +104,21 @@ fn comparisons(index: &AddressIndex, address: u64) -> u128 {
     steps.count()
 }
 
-fn is_as_deep(alloc: Global, depths: &[u128], descends: bool) -> Result<bool, Error> {
-    let index = row_of_regions(alloc, depths.len(), descends)?;
-    for (number, depth) in depths.iter().enumerate() {
-        if comparisons(&index, (number as u64).saturating_mul(10)) != *depth {
-            return Ok(false);
-        }
-    }
-    Ok(true)
+fn is_as_deep(
+    alloc: Global,
+    regions: Option<&[(u64, u64)]>,
+    depths: &[(u64, u128)],
+) -> Result<bool, Error> {
+    let index = index_of(alloc, regions.unwrap_or(&[]))?;
+    Ok(depths.iter().all(|row| comparisons(&index, row.0) == row.1))
+}
+
+fn depths_are(alloc: Global, depths: &[(u64, u128)]) -> Result<bool, Error> {
+    let count = depths.len();
+    Ok(
+        is_as_deep(alloc, UP.get(..count), depths)?
+            && is_as_deep(alloc, DOWN.get(8_usize.saturating_sub(count)..), depths)?,
+    )
 }
 
 #[test]
@@ -117,18 +126,13 @@ fn finds_regions_down_a_complete_tree(rt: HostRuntime) {
     let alloc = rt.alloc();
     assert!(rt; six_are_found(alloc) == Ok(true));
     for depths in DEPTHS {
-        assert!(rt;
-            is_as_deep(alloc, depths, false) == Ok(true)
-                && is_as_deep(alloc, depths, true) == Ok(true),
-            "{}",
-            depths.len()
-        );
+        assert!(rt; depths_are(alloc, depths) == Ok(true), "{}", depths.len());
     }
 }
 
 // The walk is taken from both ends in turn.
 fn walks_from_both_ends(alloc: Global) -> Result<bool, Error> {
-    let index = row_of_regions(alloc, 4, false)?;
+    let index = index_of(alloc, &[(0, 4), (10, 4), (20, 4), (30, 4)])?;
     let mut places = index.by_addr();
     Ok(
         [
@@ -157,53 +161,28 @@ fn walks_and_ranges_end(rt: HostRuntime) {
     );
 }
 
-// A region of memory, by its base and its size.
-#[derive(Drop)]
-struct Memory {
-    base: u64,
-    size: u64,
-}
-
-impl Region for Memory {
-    ghost use Rattle.minidump_index.specs.Overlap.{range_of};
-
-    ghost range = { λ m. range_of m.base m.size };
-
-    fn memory_range(&self) -> Option<Range> {
-        Range::from_size(self.base, self.size)
-    }
-}
-
-fn list_of(alloc: Global, regions: &[(u64, u64)]) -> Result<RegionList<Memory>, Error> {
-    let mut list = Vec::new(alloc);
-    for &(base, size) in regions {
-        list.push(Memory { base, size })?;
-    }
-    RegionList::from_regions(alloc, list)
-}
-
-fn base_at(list: &RegionList<Memory>, address: u64) -> Option<u64> {
-    Some(list.at_address(address, &mut Steps::new())?.base)
+fn start_at(list: &RegionList<Option<Range>>, address: u64) -> Option<u64> {
+    Some((*list.at_address(address, &mut Steps::new())?)?.start)
 }
 
 // The regions of a list, those that are kept, and one found.
 fn lists_regions(alloc: Global) -> Result<bool, Error> {
-    let list = list_of(alloc, SIX)?;
+    let list = RegionList::from_regions(alloc, ranges_of(alloc, SIX)?)?;
     let mut kept = list.by_addr();
     Ok(
         list.as_slice().len() == 6
             && kept.len() == 2
-            && kept.next_back().map(|region| region.base) == Some(0x2000)
-            && kept.next().map(|region| region.base) == Some(0x1000)
+            && kept.next_back().copied() == Some(Range::from_size(0x2000, 0x1000))
+            && kept.next().copied() == Some(Range::from_size(0x1000, 0x1000))
             && kept.next().is_none()
-            && base_at(&list, 0x2a00) == Some(0x2000)
-            && base_at(&list, 0x9000) == None,
+            && start_at(&list, 0x2a00) == Some(0x2000)
+            && start_at(&list, 0x9000) == None,
     )
 }
 
 fn an_empty_list_has_no_regions(alloc: Global) -> bool {
-    let list: RegionList<Memory> = RegionList::new(alloc);
-    list.as_slice().is_empty() && list.by_addr().next().is_none() && base_at(&list, 0) == None
+    let list: RegionList<Option<Range>> = RegionList::new(alloc);
+    list.as_slice().is_empty() && list.by_addr().next().is_none() && start_at(&list, 0) == None
 }
 
 #[test]

@@ -17,12 +17,16 @@ impl Printed for Line {
     }
 }
 
-// Whether three items print that text to a device whose calls fail from a number on, and make that many.
-fn prints(alloc: Global, at: usize, text: &str, made: usize, answer: Result<(), Error>) -> bool {
+// Whether three items, printed twice to a device whose calls fail from a number on, leave that text and make
+// that many calls: the first print succeeds or not, and the second is refused.
+fn prints(alloc: Global, at: usize, text: &str, made: usize, first: Result<(), Error>) -> bool {
     let mut f = Told::new(FailsAt::new(Vec::new(alloc), at));
-    let first = print_all(&[Line, Line, Line], alloc, &mut f);
+    let printed = [
+        print_all(&[Line, Line, Line], alloc, &mut f),
+        print_all(&[Line, Line, Line], alloc, &mut f),
+    ];
     let FailsAt { inner, calls, .. } = f.into_device();
-    first == answer && inner.as_slice() == text.as_bytes() && calls == made
+    printed == [first, Err(Error::IoError)] && inner.as_slice() == text.as_bytes() && calls == made
 }
 
 #[test]
@@ -32,7 +36,7 @@ fn prints_items_up_to_a_failure(rt: HostRuntime) {
         prints(alloc, 0, "", 1, Err(Error::IoError)),
         prints(alloc, 1, "line\n", 2, Err(Error::IoError)),
         prints(alloc, 2, "line\nline\n", 3, Err(Error::IoError)),
-        prints(alloc, 3, "line\nline\nline\n", 3, Ok(())),
+        prints(alloc, 3, "line\nline\nline\n", 4, Ok(())),
     ];
     assert!(rt; found == [true; 4]);
 }

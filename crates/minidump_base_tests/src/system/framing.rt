@@ -10,10 +10,6 @@ fn are_numbers(entries: Entries<'_, u32>, numbers: &[u32]) -> bool {
     entries.len() == numbers.len() && numbers.iter().all(|n| entries.next() == Some(*n))
 }
 
-fn mismatch(expected: usize, actual: usize) -> Error {
-    Error::StreamSizeMismatch { expected, actual }
-}
-
 // A plain list of numbers, and the numbers. Behind the count may stand four bytes that align them.
 #[rattlefmt::skip]
 const PLAIN: &[(&[u8], Endian, &[u32])] = &[
@@ -32,22 +28,28 @@ fn plain_is(row: &(&[u8], Endian, &[u32])) -> bool {
     }
 }
 
-fn plain_error(bytes: &[u8]) -> Option<Error> {
-    plain_entries::<u32>(Source::new(bytes), Endian::Little, &mut Steps::new()).err()
-}
+// A plain list that is refused, and its error. The count alone is read.
+#[rattlefmt::skip]
+const NOT_PLAIN: &[(&[u8], Error)] = &[
+    (&[], Error::StreamReadFailure),
+    (&[1, 0, 0], Error::StreamReadFailure),
+    (&[1, 0, 0, 0], Error::StreamSizeMismatch { expected: 8, actual: 4 }),
+    (&[1, 0, 0, 0, 5, 0, 0], Error::StreamSizeMismatch { expected: 8, actual: 7 }),
+    (&[1, 0, 0, 0, 5, 0, 0, 0, 5], Error::StreamSizeMismatch { expected: 8, actual: 9 }),
+    (&[1, 0, 0, 0, 5, 0, 0, 0, 5, 0, 0], Error::StreamSizeMismatch { expected: 8, actual: 11 }),
+    (&[1, 0, 0, 0, 5, 0, 0, 0, 5, 0, 0, 0, 5], Error::StreamSizeMismatch { expected: 8, actual: 13 }),
+    (&[255, 255, 255, 255, 0, 0, 0, 0], Error::StreamSizeMismatch { expected: 17_179_869_184, actual: 8 }),
+];
 
-// The lengths at which a list of one number is refused, and its error there.
-fn plain_is_refused() -> bool {
-    let one: &[u8] = &[1, 0, 0, 0, 5, 0, 0, 0, 5, 0, 0, 0, 5];
-    let bad: &[usize] = &[4, 7, 9, 11, 13];
-    bad.iter().all(|n| plain_error(one.get(..*n).unwrap_or(&[])) == Some(mismatch(8, *n)))
-        && plain_error(&[]) == Some(Error::StreamReadFailure)
-        && plain_error(&[1, 0, 0]) == Some(Error::StreamReadFailure)
+fn plain_is_refused(row: &(&[u8], Error)) -> bool {
+    let mut steps = Steps::new();
+    let list = plain_entries::<u32>(Source::new(row.0), Endian::Little, &mut steps);
+    list.err() == Some(row.1) && steps.count() == 1
 }
 
 #[test]
 fn the_length_says_where_a_plain_list_begins(rt: HostRuntime) {
-    assert!(rt; PLAIN.iter().all(plain_is) && plain_is_refused());
+    assert!(rt; PLAIN.iter().all(plain_is) && NOT_PLAIN.iter().all(plain_is_refused));
 }
 
 // A 64-bit list, its RVA and its numbers.
@@ -65,38 +67,31 @@ fn list_64_is(row: &(&[u8], Endian, &[u32])) -> bool {
     }
 }
 
-fn error_64(bytes: &[u8]) -> Option<Error> {
-    entries_64::<u32>(Source::new(bytes), Endian::Little, &mut Steps::new()).err()
-}
+// A 64-bit list that is refused, its error and how many reads it takes: the count and the RVA. The last two have
+// counts of 2^62 - 4 and of 2^62 - 5: 4 * (2^62 - 4) + 16 is 2^64, no length of a stream.
+#[rattlefmt::skip]
+const NOT_64: &[(&[u8], Error, u128)] = &[
+    (&[], Error::StreamReadFailure, 1),
+    (&[1, 0, 0, 0, 0, 0, 0], Error::StreamReadFailure, 1),
+    (&[1, 0, 0, 0, 0, 0, 0, 0], Error::StreamReadFailure, 2),
+    (&[1, 0, 0, 0, 0, 0, 0, 0, 0, 0, 0, 0, 0, 0, 0], Error::StreamReadFailure, 2),
+    (&[1, 0, 0, 0, 0, 0, 0, 0, 0, 0, 0, 0, 0, 0, 0, 0], Error::StreamSizeMismatch { expected: 20, actual: 16 }, 2),
+    (&[1, 0, 0, 0, 0, 0, 0, 0, 0, 0, 0, 0, 0, 0, 0, 0, 5, 0, 0], Error::StreamSizeMismatch { expected: 20, actual: 19 }, 2),
+    (&[1, 0, 0, 0, 0, 0, 0, 0, 0, 0, 0, 0, 0, 0, 0, 0, 5, 0, 0, 0, 5], Error::StreamSizeMismatch { expected: 20, actual: 21 }, 2),
+    (&[1, 0, 0, 0, 0, 0, 0, 0, 0, 0, 0, 0, 0, 0, 0, 0, 5, 0, 0, 0, 5, 0, 0, 0], Error::StreamSizeMismatch { expected: 20, actual: 24 }, 2),
+    (&[0xfc, 255, 255, 255, 255, 255, 255, 0x3f, 0, 0, 0, 0, 0, 0, 0, 0], Error::StreamReadFailure, 2),
+    (&[0xfb, 255, 255, 255, 255, 255, 255, 0x3f, 0, 0, 0, 0, 0, 0, 0, 0], Error::StreamSizeMismatch { expected: 18_446_744_073_709_551_612, actual: 16 }, 2),
+];
 
-fn list_64_is_refused() -> bool {
-    let one: &[u8] = &[
-        1, 0, 0, 0, 0, 0, 0, 0, 0, 0, 0, 0, 0, 0, 0, 0, 5, 0, 0, 0, 5, 0, 0, 0,
-    ];
-    let bad: &[usize] = &[16, 19, 21, 24];
-    let short: &[usize] = &[0, 7, 8, 15];
-    bad.iter().all(|n| error_64(one.get(..*n).unwrap_or(&[])) == Some(mismatch(20, *n)))
-        && short.iter().all(|n| error_64(one.get(..*n).unwrap_or(&[]))
-            == Some(Error::StreamReadFailure))
-}
-
-// Counts of 2^32 - 1, of 2^62 - 4 and of 2^62 - 5: 4 * (2^62 - 4) + 16 is 2^64, no length of a stream.
-fn forged_counts_are_refused() -> bool {
-    let above: &[u8] = &[
-        0xfc, 255, 255, 255, 255, 255, 255, 0x3f, 0, 0, 0, 0, 0, 0, 0, 0,
-    ];
-    let below: &[u8] = &[
-        0xfb, 255, 255, 255, 255, 255, 255, 0x3f, 0, 0, 0, 0, 0, 0, 0, 0,
-    ];
-    plain_error(&[255, 255, 255, 255, 0, 0, 0, 0]) == Some(mismatch(17_179_869_184, 8))
-        && error_64(above) == Some(Error::StreamReadFailure)
-        && error_64(below) == Some(mismatch(18_446_744_073_709_551_612, 16))
+fn list_64_is_refused(row: &(&[u8], Error, u128)) -> bool {
+    let mut steps = Steps::new();
+    let list = entries_64::<u32>(Source::new(row.0), Endian::Little, &mut steps);
+    list.err() == Some(row.1) && steps.count() == row.2
 }
 
 #[test]
 fn reads_64_bit_lists(rt: HostRuntime) {
-    assert!(rt; LISTS_64.iter().all(list_64_is) && list_64_is_refused());
-    assert!(rt; forged_counts_are_refused());
+    assert!(rt; LISTS_64.iter().all(list_64_is) && NOT_64.iter().all(list_64_is_refused));
 }
 
 // An extended list and its numbers.
@@ -163,7 +158,11 @@ fn handles_have_two_sizes() -> bool {
     two_handles(32) == Ok((false, 2, Some(0x2_0000_0020)))
         && two_handles(40) == Ok((true, 2, Some(0x2_0000_0028)))
         && two_handles(33) == Err(Error::StreamReadFailure)
-        && two_handles(41) == Err(mismatch(86, 84))
+        && two_handles(41)
+            == Err(Error::StreamSizeMismatch {
+                expected: 86,
+                actual: 84,
+            })
 }
 
 // Lists of no handles, and their sizes of header and of entry, of any number.
@@ -174,16 +173,24 @@ const NO_HANDLES: &[&[u8]] = &[
     &[12, 0, 0, 0, 255, 255, 255, 255, 0, 0, 0, 0],
 ];
 
-// The product of the two greatest sizes and counts is no number of 32 bits.
-fn forged_handles_are_refused() -> bool {
-    first_handle(&[255; 12]) == Err(mismatch(18_446_744_069_414_584_320, 12))
-        && first_handle(&[0; 11]) == Err(Error::StreamReadFailure)
-        && first_handle(&[]) == Err(Error::StreamReadFailure)
+// Lists that are refused: no number, one missing, and the greatest sizes and count, whose product is no number of
+// 32 bits.
+#[rattlefmt::skip]
+const NOT_HANDLES: &[(&[u8], Error)] = &[
+    (&[], Error::StreamReadFailure),
+    (&[0, 0, 0, 0, 0, 0, 0, 0, 0, 0, 0], Error::StreamReadFailure),
+    (&[255, 255, 255, 255, 255, 255, 255, 255, 255, 255, 255, 255], Error::StreamSizeMismatch { expected: 18_446_744_069_414_584_320, actual: 12 }),
+];
+
+fn handles_are_refused(row: &(&[u8], Error)) -> bool {
+    let mut steps = Steps::new();
+    let list = handle_entries(Source::new(row.0), Endian::Little, &mut steps);
+    list.err() == Some(row.1) && steps.count() == 1
 }
 
 #[test]
 fn handles_have_32_or_40_bytes(rt: HostRuntime) {
-    assert!(rt; handles_have_two_sizes() && forged_handles_are_refused());
+    assert!(rt; handles_have_two_sizes() && NOT_HANDLES.iter().all(handles_are_refused));
     assert!(rt;
         NO_HANDLES
             .iter()
