@@ -75,6 +75,3 @@ pub use steps::Steps;
 pub use text16::text_before_nul;
 pub use told::{Refused, Told};
 pub use wire::{WireField, WireValue};
-
-#[cfg(test)]
-mod tests;

@@ -44,6 +44,3 @@ mod vendor;
 pub use error::Error;
 pub use print::{Printed, TextOf, print_all, print_values, put_made, put_text};
 pub use vendor::stream_vendor;
-
-#[cfg(test)]
-mod tests;

@@ -364,6 +364,3 @@ impl<'a> ExactSizeIterator for ByAddress<'a> {
         self.left
     }
 }
-
-#[cfg(test)]
-mod tests;

@@ -35,6 +35,3 @@ pub use device::{FailsAt, Full, OneByte, TakesNone};
 pub use dump::SynthMinidump;
 pub use encode::{Encode, zeroed};
 pub use section::Section;
-
-#[cfg(test)]
-mod tests;

@@ -49,6 +49,3 @@ pub use misc_info::{MinidumpMiscInfo, RawMiscInfo};
 pub use os::Os;
 pub use stream::MinidumpStream;
 pub use system_info::MinidumpSystemInfo;
-
-#[cfg(test)]
-mod tests;

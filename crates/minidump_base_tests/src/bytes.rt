@@ -1,0 +1,4 @@
+// Tests of `minidump_bytes`.
+mod linux_texts;
+mod texts;
+mod wire;

@@ -1,0 +1,87 @@
+// Each record is read of the bytes 0, 1, 2, .. in both byte orders: each field has the number of the bytes at its
+// place in the format's table, and what was read is written as these bytes. Of a record within a record the first
+// field shows the place: the rest is the table of the inner one.
+mod contexts;
+mod extensions;
+mod process;
+mod system;
+
+use minidump_bytes::{Endian, Record};
+use minidump_format::format::MINIDUMP_SYSTEM_INFO;
+use minidump_synth::{Encode, Section, zeroed};
+use std::alloc::{AllocError, Global};
+
+// A record whose fields are known to stand at places.
+trait Fields {
+    // Whether each field has the number of its bytes, which are 0, 1, 2, ..
+    fn stand(&self, endian: Endian) -> bool;
+}
+
+// The bytes 0, 1, 2, .. 250, 0, 1, .. so that each field of a record has a value of its own.
+fn counted(alloc: Global, size: usize) -> Result<Vec<u8>, AllocError> {
+    let mut bytes = Vec::new(alloc);
+    for i in 0..size {
+        bytes.push((i % 251) as u8)?;
+    }
+    Ok(bytes)
+}
+
+// The number in so many of these bytes from a place on.
+fn number(endian: Endian, place: u16, width: u16) -> u128 {
+    let mut number = 0;
+    for i in 0..width {
+        let k = match endian {
+            Endian::Little => width - 1 - i,
+            Endian::Big => i,
+        };
+        number = (number << 8) | ((place as u128 + k as u128) % 251);
+    }
+    number
+}
+
+// Whether the values are the numbers of a width in bytes that stand one after another from a place on.
+fn follow<T: Copy + Into<u128>>(endian: Endian, place: u16, width: u16, values: &[T]) -> bool {
+    let mut place = place;
+    for value in values {
+        if (*value).into() != number(endian, place, width) {
+            return false;
+        }
+        place = place.wrapping_add(width);
+    }
+    true
+}
+
+fn is_kept<R: Record + Encode + Fields + Drop>(
+    alloc: Global,
+    endian: Endian,
+) -> Result<bool, AllocError> {
+    let bytes = counted(alloc, R::SIZE)?;
+    if bytes.len() != R::SIZE {
+        return Ok(false);
+    }
+    let record = R::decode(&bytes, endian);
+    let written = Section::new(alloc, endian).record(&record).finish()?;
+    Ok(record.stand(endian) && written.as_slice() == bytes.as_slice())
+}
+
+// Whether the fields stand at their places and are written back there, in both byte orders.
+fn is_exact<R: Record + Encode + Fields + Drop>(alloc: Global) -> bool {
+    is_kept::<R>(alloc, Endian::Little) == Ok(true) && is_kept::<R>(alloc, Endian::Big) == Ok(true)
+}
+
+fn zeros_are_unset(alloc: Global) -> Result<bool, AllocError> {
+    let info = MINIDUMP_SYSTEM_INFO {
+        processor_architecture: 0x0102,
+        ..zeroed()
+    };
+    let bytes = Section::new(alloc, Endian::Big).record(&info).finish()?;
+    let mut want = [0; 56];
+    want[0] = 1;
+    want[1] = 2;
+    Ok(bytes.as_slice() == want.as_slice())
+}
+
+#[test]
+fn writes_unset_fields_as_zeros(rt: HostRuntime) {
+    assert!(rt; zeros_are_unset(rt.alloc()) == Ok(true));
+}

@@ -1,0 +1,5 @@
+// Tests of `minidump_system`.
+mod framing;
+mod misc_info;
+mod names;
+mod system_info;

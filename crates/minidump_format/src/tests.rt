@@ -1,9 +1,0 @@
-mod context;
-mod error;
-mod flags;
-mod guid;
-mod numbers;
-mod print;
-mod stream_type;
-mod system;
-mod xstate;

@@ -1,3 +1,0 @@
-mod framing;
-mod names;
-mod os_parts;
