@@ -9,7 +9,6 @@ ghost use Rattle.minidump_bytes.specs.declared.linux_os_str.LinuxOsString as own
 ghost use Rattle.minidump_bytes.specs.Text16.{IsTextOf, IsUtf16, utf16_text};
 ghost use Rattle.minidump_bytes.specs.Text8.{IsText8, SpellsUtf8, utf8_text};
 ghost use Rattle.minidump_bytes.specs.Wire.{Field, IsFieldAt, SpellsFields, field_at};
-
 ghost use Rattle.minidump_bytes.specs.declared.source.Source.{Source};
 ghost use Rattle.minidump_bytes.specs.declared.wire.WireField.{WireField};
 ghost use Rattle.minidump_bytes.specs.declared.wire.WireValue.{WireValue};
