@@ -1,7 +1,7 @@
 -- The first part of a text, and the parts of what follows it.
 use Rattle.std.proofs.Common.{◌≡◌, ◌<◌, ◌≤◌, ◌+◌, ◌-◌, ℕ, Bool, true, false, not, cond, List, [], ◌∷◌, get_or, length, take, drop, reverse, Option, Some, None, refl, sym, ◌∙◌, ap, arith, one-add, inl, inr}
 use Rattle.std.specs.Prelude.{◌==◌, All, filter, nat_lt}
-use Rattle.std.specs.List.{onto_first, position, position_or_len, prefix_len, slice_split, suffix_len}
+use Rattle.std.specs.List.{after_first, before_first, onto_first, position, position_or_len, prefix_len, slice_split, suffix_len}
 use Rattle.std.specs.Iterator.{MakesProgress, item_count}
 use Rattle.std.proofs.lemmas.Bool.{cases_lt}
 use Rattle.std.proofs.lemmas.Bool.Decides.{nat_tests}
@@ -73,6 +73,19 @@ pub line_last : (text : List ℕ) → IsFirstByte ends_line text None → 0 < le
 unfolding text_lines
 line_last text none some = rw (slice_split_none ends_line text (none_pass ends_line text none)) (rw (not_zero (length text) some) refl)
 
+none_passes : (p : ℕ → Bool) (text : List ℕ) → length text ≤ position_or_len p text → All (λ b. p b ≡ false) text
+none_passes p text all = λ i d below. fails_before_first p text i d (omega (arith, below, all))
+
+-- the first line that a byte of a kind ends, or the end, and the others
+pub first_line : (p : ℕ → Bool) (text : List ℕ) → 0 < length text
+    → but_empty_last (slice_split p text) ≡ before_first p text ∷ but_empty_last (slice_split p (after_first p text))
+first_line p text some = elim (cases_lt (position_or_len p text) (length text)) [
+  | inl within ↦ rw (slice_split_first p text 0 within) (keeps_first (before_first p text) p (after_first p text))
+  | inr all ↦
+      let k = position_or_len p text in
+      rw (slice_split_none p text (none_passes p text all), take_all k text all, drop_all (k + 1) text (omega (arith, all))) (rw (not_zero (length text) some) refl)
+]
+
 pub lines_end : (text : List ℕ) → text_lines (take (length text - length text) (drop (length text) text)) ≡ []
 lines_end text = no_line _ (omega (arith, length-take (length text - length text) (drop (length text) text)))
 
@@ -109,9 +122,6 @@ head_black (b ∷ bs) some black = rw black (omega arith)
 word_kept : (word : List ℕ) (parts : List (List ℕ)) → 0 < length word → filter (λ part. nat_lt 0 (length part)) (word ∷ parts) ≡ word ∷ filter (λ part. nat_lt 0 (length part)) parts
 word_kept word parts h = rw (nonempty word h) refl
 
-none_white : (text : List ℕ) → length text ≤ position_or_len is_white text → All (λ b. is_white b ≡ false) text
-none_white text all = λ i d below. fails_before_first is_white text i d (omega (arith, below, all))
-
 -- a word that white space ends, and one that the text ends
 before_white : (text : List ℕ) → position_or_len is_white text < length text → 0 < length (take (position_or_len is_white text) text)
     → words_of text ≡ take (position_or_len is_white text) text ∷ words_of (drop (position_or_len is_white text + 1) text)
@@ -130,7 +140,7 @@ word_last : (text : List ℕ) → length text ≤ position_or_len is_white text 
 unfolding words_of
 word_last text all some =
     let k = position_or_len is_white text in
-    rw (take_all k text all, drop_all k text all, slice_split_none is_white text (none_white text all)) (word_kept text [] some)
+    rw (take_all k text all, drop_all k text all, slice_split_none is_white text (none_passes is_white text all)) (word_kept text [] some)
 
 pub word_first : (text : List ℕ) → 0 < length text → is_white (get_or text 0 0) ≡ false
     → words_of text ≡ take (position_or_len is_white text) text ∷ words_of (drop (position_or_len is_white text) text)

@@ -1,95 +1,17 @@
 -- A line of the map means what its grammar says.
-use Rattle.std.proofs.Common.{◌≡◌, ◌≢◌, ◌↔◌, ℕ, ◌+◌, Bool, true, false, List, [], ◌∷◌, ◌++◌, Option, Some, None, refl, ap, sym, ◌∙◌}
+use Rattle.std.proofs.Common.{◌≡◌, ◌≢◌, ◌↔◌, ℕ, Bool, true, false, List, [], ◌∷◌, Option, Some, None, refl, sym, ◌∙◌}
 use Rattle.std.specs.Prelude.{◌==◌, ◌||◌, if◌then◌else◌, slice_index}
 use Rattle.std.specs.List.{list_any}
-use Rattle.std.specs.Option.{option_map}
 use Rattle.std.specs.Str.{IsUtf8, is_utf8, trim}
-use Rattle.std.proofs.lemmas.Bool.{eq-eqb, eqb-true, ne_eqb}
+use Rattle.std.proofs.lemmas.Bool.{eq-eqb, ne_eqb}
 use Rattle.std.proofs.lemmas.Str.{IsUtf8-from_is_utf8, is_utf8-from_IsUtf8}
-use Rattle.std.specs.List.{position_or_len}
-use Rattle.std.proofs.Common.{add-one, drop, one-add, take}
 use Rattle.minidump_bytes.proofs.DigitLemmas.{number_spells, spelled_number}
 use Rattle.minidump_bytes.specs.Digits.{number_of_digits}
 use Rattle.minidump_bytes.specs.LinuxOsStr.{cut_first}
 use Rattle.minidump_bytes.specs.Text8.{utf8_text}
-use Rattle.minidump_memory.specs.MapLine.{AreFields, AreTwo, IsCut, IsMapLine, Lacks, MapPath, MapRegion, and_then, fields_in, is_capital, map_line, path_in, permissions, two_numbers}
-
--- ---- chains
-some_same : {A : Type 0} (x y : A) → Some x ≡ Some y → x ≡ y
-some_same x y h = cc
-
-pub given : {A B : Type 0} (o : Option A) (f : A → Option B) (y : B) → and_then o f ≡ Some y → (x : A) × (o ≡ Some x) × (f x ≡ Some y)
-given None f y h = absurd (let k : None ≡ Some y = h in cc)
-given (Some x) f y h = (x, refl, h)
-
--- ---- cuts
-abbrev chosen : Bool → ℕ → List ℕ → Option (List ℕ × List ℕ) → Option (List ℕ × List ℕ)
-chosen t b bs o = if t then Some ([], bs) else option_map (λ p. (b ∷ p.0, p.1)) o
-
-cut_by : (t : Bool) (o : Option (List ℕ × List ℕ)) (byte b : ℕ) (bs front back : List ℕ) → (b == byte) ≡ t → ((f g : List ℕ) → o ≡ Some (f, g) → IsCut byte bs f g)
-    → chosen t b bs o ≡ Some (front, back) → IsCut byte (b ∷ bs) front back
-cut_by true o byte b bs front back is more h =
-    let e = some_same {A = List ℕ × List ℕ} ([], bs) (front, back) h in
-    let f : [] ≡ front = ap (λ r. r.0) e in
-    let g : bs ≡ back = ap (λ r. r.1) e in
-    let same : b ≡ byte = eqb-true _ _ is in
-    rw (← f, ← g, same) (record { joined = refl; lacks = tt })
-cut_by false None byte b bs front back is more h = absurd (let k : None ≡ Some (front, back) = h in cc)
-cut_by false (Some (f, g)) byte b bs front back is more h =
-    let e = some_same {A = List ℕ × List ℕ} (b ∷ f, g) (front, back) h in
-    let p : b ∷ f ≡ front = ap (λ r. r.0) e in
-    let q : g ≡ back = ap (λ r. r.1) e in
-    let rest = more f g refl in
-    rw (← p, ← q) (record { joined = ap (λ l. b ∷ l) rest.joined; lacks = ((λ e. let clash : true ≡ false = sym (eq-eqb b byte e) ∙ is in cc), rest.lacks) })
-
-shifted : (b : ℕ) (bs : List ℕ) (k : ℕ) → (take (1 + k) (b ∷ bs) ≡ b ∷ take k bs) × (drop (1 + k + 1) (b ∷ bs) ≡ drop (k + 1) bs)
-shifted b bs k = (rw one-add refl, rw (one-add, add-one, add-one) refl)
-
-later : (t : Bool) (byte b : ℕ) (bs : List ℕ) → list_any (λ c. c == byte) bs ≡ t → (b == byte) ≡ false
-    → cut_first byte (b ∷ bs) ≡ option_map (λ p. (b ∷ p.0, p.1)) (cut_first byte bs)
-later true byte b bs there is =
-    let k = position_or_len (λ c. c == byte) bs in
-    rw (is, there, (shifted b bs k).0, (shifted b bs k).1) refl
-later false byte b bs there is = rw (is, there) refl
-
-cut_step_by : (t : Bool) (byte b : ℕ) (bs : List ℕ) → (b == byte) ≡ t → cut_first byte (b ∷ bs) ≡ chosen t b bs (cut_first byte bs)
-cut_step_by true byte b bs is = rw is refl
-cut_step_by false byte b bs is = later (list_any (λ c. c == byte) bs) byte b bs refl is
-
--- where the first byte is the one that is sought, the rest is behind it; else it goes to the front part
-cut_step : (byte b : ℕ) (bs : List ℕ) → cut_first byte (b ∷ bs) ≡ chosen (b == byte) b bs (cut_first byte bs)
-cut_step byte b bs = cut_step_by (b == byte) byte b bs refl
-
-pub cut_is : (byte : ℕ) (bytes front back : List ℕ) → cut_first byte bytes ≡ Some (front, back) → IsCut byte bytes front back
-cut_is byte [] front back h = absurd (let k : None ≡ Some (front, back) = h in cc)
-cut_is byte (b ∷ bs) front back h = cut_by (b == byte) (cut_first byte bs) byte b bs front back refl (λ f g e. cut_is byte bs f g e) (sym (cut_step byte b bs) ∙ h)
-
-cut_at : (byte : ℕ) (front back : List ℕ) → Lacks byte front → cut_first byte (front ++ byte ∷ back) ≡ Some (front, back)
-cut_at byte [] back h = rw (cut_step byte byte back, eq-eqb byte byte refl) refl
-cut_at byte (b ∷ front) back h = rw (cut_step byte b (front ++ byte ∷ back), ne_eqb b byte h.0, cut_at byte front back h.1) refl
-
-pub is_cut : (byte : ℕ) (bytes front back : List ℕ) → IsCut byte bytes front back → cut_first byte bytes ≡ Some (front, back)
-is_cut byte bytes front back h = rw h.joined (cut_at byte front back h.lacks)
-
--- ---- two numbers
-two_by : (byte bits : ℕ) (bytes first last : List ℕ) (m n : ℕ) (pair : ℕ × ℕ) → cut_first byte bytes ≡ Some (first, last) → number_of_digits 16 bits first ≡ Some m → number_of_digits 16 bits last ≡ Some n
-    → Some (m, n) ≡ Some pair → AreTwo byte bits bytes pair
-two_by byte bits bytes first last m n pair is a b h =
-    let same : (m, n) ≡ pair = cc in
-    rw (← same) (record { first = first; last = last; cut = cut_is byte bytes first last is; first_is = number_spells 16 bits first m a; last_is = number_spells 16 bits last n b })
-
-pub two_spell : (byte bits : ℕ) (bytes : List ℕ) (pair : ℕ × ℕ) → two_numbers byte bits bytes ≡ Some pair → AreTwo byte bits bytes pair
-unfolding two_numbers
-two_spell byte bits bytes pair h =
-    let p = given (cut_first byte bytes) _ pair h in
-    let m = given (number_of_digits 16 bits p.0.0) _ pair p.2 in
-    let n = given (number_of_digits 16 bits p.0.1) _ pair m.2 in
-    two_by byte bits bytes p.0.0 p.0.1 m.0 n.0 pair p.1 m.1 n.1 n.2
-
-pub spelled_two : (byte bits : ℕ) (bytes : List ℕ) (pair : ℕ × ℕ) → AreTwo byte bits bytes pair → two_numbers byte bits bytes ≡ Some pair
-unfolding two_numbers
-spelled_two byte bits bytes pair h =
-    rw (is_cut byte bytes h.first h.last h.cut, spelled_number 16 bits h.first pair.0 h.first_is, spelled_number 16 bits h.last pair.1 h.last_is) refl
+use Rattle.minidump_memory.proofs.CutLemmas.{cut_is, given, is_cut, spelled_two, two_spell}
+use Rattle.minidump_memory.proofs.PathLemmas.{letters_spell, path_spells, spelled_letters, spelled_path}
+use Rattle.minidump_memory.specs.MapLine.{AreFields, IsMapLine, Lacks, MapPath, MapRegion, fields_in, is_capital, map_line, path_in, permissions, two_numbers}
 
 -- ---- fields
 abbrev made : ℕ × ℕ → List ℕ → ℕ → ℕ × ℕ → ℕ → MapPath → MapRegion
@@ -118,11 +40,11 @@ fields_by line range perms offset dev inode address place device node kind m a b
       path = inode.1;
       cut_inode = cut_is 32 dev.1 inode.0 inode.1 e;
       range_is = two_spell 45 64 range.0 address f;
-      perms_are = refl;
+      perms_are = letters_spell perms.0 (permissions perms.0) refl;
       offset_is = number_spells 16 64 offset.0 place g;
       dev_is = two_spell 58 32 dev.0 device h;
       inode_is = number_spells 10 64 inode.0 node i;
-      path_is = j;
+      path_is = path_spells (trim inode.1) kind j;
     })
 
 pub fields_spell : (line : List ℕ) (m : MapRegion) → fields_in line ≡ Some m → AreFields line m
@@ -153,8 +75,8 @@ spelled_fields line m h =
       spelled_number 16 64 h.offset m.offset h.offset_is,
       spelled_two 58 32 h.dev m.dev h.dev_is,
       spelled_number 10 64 h.inode m.inode h.inode_is,
-      h.path_is,
-      h.perms_are,
+      spelled_path (trim h.path) m.pathname h.path_is,
+      spelled_letters h.perms m.perms h.perms_are,
     ) refl
 
 -- ---- lines

@@ -3,5 +3,7 @@ pub mod PlacedLemmas
 pub mod UnifiedLemmas
 pub mod MapTextLemmas
 pub mod MapLinesLemmas
+pub mod CutLemmas
+pub mod PathLemmas
 pub mod GrammarLemmas
 pub mod MapsAlike

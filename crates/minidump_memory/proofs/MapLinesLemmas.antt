@@ -1,11 +1,13 @@
 -- The lines of the map that a loop goes through.
-use Rattle.std.proofs.Common.{◌≡◌, ℕ, ◌+◌, ◌<◌, ◌≤◌, Bool, true, false, List, [], ◌∷◌, ◌++◌, length, take, drop, Option, Some, None, Result, Ok, Err, zero, suc, append_assoc, add-one, one-add, arith, refl, sym, ◌∙◌}
+use Rattle.std.proofs.Common.{◌≡◌, ℕ, ◌+◌, ◌<◌, ◌≤◌, Bool, true, false, List, [], ◌∷◌, ◌++◌, length, drop, Option, Some, None, Result, Ok, Err, zero, suc, append_assoc, arith, refl, sym, ◌∙◌}
 use Rattle.std.specs.Prelude.{◌==◌, IsSome, nat_lt, if◌then◌else◌}
 use Rattle.std.specs.List.{after_first, before_first, position_or_len}
 use Rattle.std.proofs.lemmas.Bool.{ltb-true, ltb-false}
 use Rattle.std.proofs.lemmas.List.{append-nil, drop-drop, length-drop, length-take}
 use Rattle.std.proofs.lemmas.List.Folds.{length-prefix_len}
 use Rattle.minidump_bytes.specs.Line.{line_at}
+use Rattle.minidump_bytes.specs.LinuxOsStr.{split_parts}
+use Rattle.minidump_bytes.proofs.LinuxTextLemmas.{first_line as text_first_line}
 use Rattle.minidump_system.specs.Reads.{all_ok, and_then}
 use Rattle.minidump_memory.specs.MapLine.{MapRegion, map_line}
 use Rattle.minidump_memory.specs.LinuxMaps.{BeginsWithRegion, line_region, lines_of, linux_maps}
@@ -13,21 +15,9 @@ use Rattle.minidump_format.specs.declared.error.Error.{Error}
 use Rattle.minidump_format.specs.declared.error.Error.TheVariants.{StreamReadFailure}
 
 -- ---- the first line
-shifted : (b : ℕ) (bs : List ℕ) (k : ℕ) → (take (1 + k) (b ∷ bs) ≡ b ∷ take k bs) × (drop (1 + k + 1) (b ∷ bs) ≡ drop (k + 1) bs)
-shifted b bs k = (rw one-add refl, rw (one-add, add-one, add-one) refl)
-
-first_by : (t : Bool) (b : ℕ) (bs : List ℕ) → (b == 10) ≡ t → (0 < length bs → lines_of bs ≡ before_first (λ b. b == 10) bs ∷ lines_of (after_first (λ b. b == 10) bs))
-    → lines_of (b ∷ bs) ≡ before_first (λ b. b == 10) (b ∷ bs) ∷ lines_of (after_first (λ b. b == 10) (b ∷ bs))
-unfolding lines_of
-first_by true b bs is more = rw is refl
-first_by false b [] is more = rw is refl
-first_by false b (c ∷ cs) is more =
-    let k = position_or_len (λ b. b == 10) (c ∷ cs) in
-    rw (is, more (omega arith), (shifted b (c ∷ cs) k).0, (shifted b (c ∷ cs) k).1) refl
-
-pub first_line : (bytes : List ℕ) → 0 < length bytes → lines_of bytes ≡ before_first (λ b. b == 10) bytes ∷ lines_of (after_first (λ b. b == 10) bytes)
-first_line [] some = absurd (omega (arith, some))
-first_line (b ∷ bs) some = first_by (b == 10) b bs refl (first_line bs)
+first_line : (bytes : List ℕ) → 0 < length bytes → lines_of bytes ≡ before_first (λ b. b == 10) bytes ∷ lines_of (after_first (λ b. b == 10) bytes)
+unfolding lines_of split_parts
+first_line bytes some = text_first_line (λ b. b == 10) bytes some
 
 -- ---- what a read of a line says
 line_by : (t : Bool) (place : ℕ) (bytes line : List ℕ) → nat_lt place (length bytes) ≡ t → Some line ≡ (if t then Some (before_first (λ b. b == 10) (drop place bytes)) else None)
@@ -102,7 +92,7 @@ module _ (bytes : List ℕ) (place : ℕ) (done : List MapRegion) (so_far : Rest
       rw (so_far, one) refl
 
   pub rest_end : None ≡ line_at place bytes → linux_maps bytes ≡ Ok done
-  unfolding linux_maps all_ok lines_of
+  unfolding linux_maps all_ok lines_of split_parts
   rest_end e =
       let past : drop place bytes ≡ [] = nothing_left place bytes (line_none place bytes e) in
       rw (so_far, past, append-nil) refl

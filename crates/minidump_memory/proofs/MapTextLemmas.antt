@@ -1,5 +1,6 @@
 -- The parts of a line of the map: what follows a front, and line feeds.
-use Rattle.std.proofs.Common.{◌≡◌, ◌≢◌, ℕ, Bool, List, [], ◌∷◌, ◌++◌, length, take, drop, Option, Some, None, refl, ap, sym, ◌∙◌}
+use Rattle.std.proofs.Common.{◌≡◌, ◌≢◌, ℕ, Bool, true, false, List, [], ◌∷◌, ◌++◌, length, take, drop, Option, Some, None, refl, ap, sym, ◌∙◌}
+use Rattle.std.specs.Prelude.{if◌then◌else◌}
 use Rattle.std.specs.Str.{bytes_eq}
 use Rattle.std.proofs.lemmas.Bool.{false_from_ne_true}
 use Rattle.std.proofs.lemmas.List.{take-append-drop}
@@ -11,7 +12,7 @@ use Rattle.minidump_bytes.proofs.SearchLemmas.{none_there, one_there}
 use Rattle.minidump_bytes.specs.LinuxOsStr.{behind}
 
 -- ---- fronts
-taken : (xs ys : List ℕ) → take (length xs) (xs ++ ys) ≡ xs
+pub taken : (xs ys : List ℕ) → take (length xs) (xs ++ ys) ≡ xs
 taken [] ys = refl
 taken (x ∷ xs) ys = ap (λ l. x ∷ l) (taken xs ys)
 
@@ -27,6 +28,16 @@ behind_none front text lacks =
     rw (false_from_ne_true (bytes_eq (take (length front) text) front) (λ t.
     let same = (bytes_eq-Decides (take (length front) text) front).0 t in
     lacks (drop (length front) text) (sym (take-append-drop (length front) text) ∙ ap (λ l. l ++ drop (length front) text) same))) refl
+
+behind_by : (t : Bool) (front text rest : List ℕ) → bytes_eq (take (length front) text) front ≡ t → (if t then Some (drop (length front) text) else None) ≡ Some rest → text ≡ front ++ rest
+behind_by true front text rest is h =
+    let same = (bytes_eq-Decides (take (length front) text) front).0 is in
+    let back : drop (length front) text ≡ rest = cc in
+    sym (take-append-drop (length front) text) ∙ rw (same, back) refl
+behind_by false front text rest is h = absurd (let k : None ≡ Some rest = h in cc)
+
+pub behind_is : (front text rest : List ℕ) → behind front text ≡ Some rest → text ≡ front ++ rest
+behind_is front text rest h = behind_by (bytes_eq (take (length front) text) front) front text rest refl h
 
 -- ---- line feeds
 pub found_any : (p : ℕ → Bool) (xs : List ℕ) (r : Option ℕ) → IsFirstByte p xs r → is_some r ≡ list_any p xs

@@ -2,9 +2,10 @@
 use Rattle.minidump_format.specs.declared.format.stream_type.MINIDUMP_STREAM_TYPE.TheVariants.{LinuxMaps}
 use Rattle.minidump_system.specs.StreamSpec.{StreamSpec, linear}
 use Rattle.std.specs.Prelude.{length, ◌+◌}
-use Rattle.std.specs.Prelude.{ℕ, ◌-◌, ◌==◌, List, [], ◌∷◌, codes, map, Option, Result, IsSome, if◌then◌else◌, string_bytes}
+use Rattle.std.specs.Prelude.{ℕ, ◌-◌, List, [], ◌∷◌, codes, map, Option, Result, IsSome, string_bytes}
 use Rattle.std.specs.Option.{ok_or, option_and_then}
 use Rattle.minidump_bytes.specs.Line.{line_at}
+use Rattle.minidump_bytes.specs.LinuxOsStr.{but_empty_last, split_parts}
 use Rattle.minidump_format.specs.declared.error.Error.{Error}
 use Rattle.minidump_format.specs.declared.error.Error.TheVariants.{StreamReadFailure}
 use Rattle.minidump_index.specs.declared.range.Range.{Range}
@@ -64,14 +65,9 @@ maps_of l = l.regions
 abbrev pub map_regions : MinidumpLinuxMaps → List MapRegion
 map_regions l = map map_info_of (maps_of l)
 
-abbrev pub onto : ℕ → List (List ℕ) → List (List ℕ)
-onto b [] = (b ∷ []) ∷ []
-onto b (l ∷ ls) = (b ∷ l) ∷ ls
-
--- the lines of bytes: a line feed ends one, and the last may end with the bytes
+-- the lines of bytes: the parts between line feeds, a last one only where it is not empty
 unfoldable pub lines_of : List ℕ → List (List ℕ)
-lines_of [] = []
-lines_of (b ∷ bs) = if b == 10 then [] ∷ lines_of bs else onto b (lines_of bs)
+lines_of bytes = but_empty_last (split_parts 10 bytes)
 
 -- the region of a line of the stream, which refuses the stream where it is none
 abbrev pub line_region : List ℕ → Result MapRegion Error

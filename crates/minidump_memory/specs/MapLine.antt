@@ -1,5 +1,5 @@
 -- A line of /proc/PID/maps, as Linux's proc_pid_maps(5) has it: `first-last perms offset major:minor inode pathname`.
-use Rattle.std.specs.Prelude.{◌≡◌, ◌≢◌, ℕ, ◌+◌, ◌-◌, Bool, false, ◌&&◌, List, ◌∷◌, ◌++◌, length, codes, slice_index, slice_range, Option, Some, None, ◌==◌, nat_le, if◌then◌else◌}
+use Rattle.std.specs.Prelude.{◌≡◌, ◌≢◌, ◌↔◌, ◌<◌, ℕ, ◌+◌, ◌-◌, ◌/◌, ◌%◌, Bool, false, ◌&&◌, Contains, List, [], ◌∷◌, ◌++◌, length, codes, slice_index, slice_range, Option, Some, None, ◌==◌, nat_le, if◌then◌else◌}
 use Rattle.std.specs.List.{AllByRecursion, list_any}
 use Rattle.std.specs.Option.{option_and_then, option_map}
 use Rattle.std.specs.Str.{IsUtf8, bytes_eq, trim}
@@ -16,7 +16,8 @@ unfoldable pub two_numbers : ℕ → ℕ → List ℕ → Option (ℕ × ℕ)
 two_numbers byte bits bytes =
     and_then (cut_first byte bytes) (λ p. and_then (number_of_digits 16 bits p.0) (λ m. and_then (number_of_digits 16 bits p.1) (λ n. Some (m, n))))
 
-abbrev bit_if : List ℕ → ℕ → ℕ → ℕ
+-- the bit of a letter, where it is there
+abbrev pub bit_if : List ℕ → ℕ → ℕ → ℕ
 bit_if letters letter bit = if list_any (λ b. b == letter) letters then bit else 0
 
 -- the permissions of a field with the letters r, w, x, s and p: 1, 2, 4, 8 and 16; other bytes say nothing
@@ -126,6 +127,53 @@ pub record AreTwo (byte bits : ℕ) (bytes : List ℕ) (pair : ℕ × ℕ) : Typ
   pub first_is : IsNumber 16 bits first pair.0
   pub last_is : IsNumber 16 bits last pair.1
 
+-- the permissions are those of the letters that are there: r, w, x, s and p for 1, 2, 4, 8 and 16
+pub record ArePermissions (letters : List ℕ) (perms : ℕ) : Type 0 where
+  pub small : perms < 32
+  pub read : (perms % 2 ≡ 1) ↔ Contains letters 114
+  pub write : (perms / 2 % 2 ≡ 1) ↔ Contains letters 119
+  pub execute : (perms / 4 % 2 ≡ 1) ↔ Contains letters 120
+  pub shared : (perms / 8 % 2 ≡ 1) ↔ Contains letters 115
+  pub private : (perms / 16 % 2 ≡ 1) ↔ Contains letters 112
+
+-- a text stands between brackets
+abbrev pub IsBracketed : List ℕ → List ℕ → Type 0
+IsBracketed text inside = text ≡ 91 ∷ inside ++ 93 ∷ []
+
+-- a text is none of the names that pseudo-paths have for themselves
+abbrev pub Unnamed : List ℕ → Type 0
+Unnamed text =
+    (text ≢ codes "[heap]") × (text ≢ codes "[stack]") × (text ≢ codes "[vdso]") × (text ≢ codes "[vvar]") × (text ≢ codes "[vsyscall]") × (text ≢ codes "[rollup]")
+
+-- the stack of a thread: `[stack:`, a decimal number of 32 bits and a bracket
+pub record IsThreadStack (text : List ℕ) (n : ℕ) : Type 0 where
+  pub digits : List ℕ
+  pub joined : text ≡ codes "[stack:" ++ (digits ++ 93 ∷ [])
+  pub lacks : Lacks 93 digits
+  pub number : IsNumber 10 32 digits n
+
+-- a segment of System V's shared memory: `/SYSV` and eight hexadecimal digits
+pub record IsSegment (text : List ℕ) (n : ℕ) : Type 0 where
+  pub digits : List ℕ
+  pub joined : text ≡ codes "/SYSV" ++ digits
+  pub eight : length digits ≡ 8
+  pub number : IsNumber 16 32 digits n
+
+-- what a text without white space at its ends names. What `[stack:` begins is the stack of a thread, or nothing
+abbrev pub IsPath : List ℕ → MapPath → Type 0
+IsPath text Anonymous = text ≡ []
+IsPath text Heap = text ≡ codes "[heap]"
+IsPath text Stack = text ≡ codes "[stack]"
+IsPath text Vdso = text ≡ codes "[vdso]"
+IsPath text Vvar = text ≡ codes "[vvar]"
+IsPath text Vsyscall = text ≡ codes "[vsyscall]"
+IsPath text Rollup = text ≡ codes "[rollup]"
+IsPath text (TStack n) = IsThreadStack text n
+IsPath text (Other inside) = IsBracketed text inside × Unnamed text × ((rest : List ℕ) → text ≢ codes "[stack:" ++ rest)
+IsPath text (Vsys n) = IsSegment text n
+IsPath text (Path path) =
+    (path ≡ text) × (text ≢ []) × ((rest : List ℕ) → text ≢ codes "[stack:" ++ rest) × ((inside : List ℕ) → ¬ (IsBracketed text inside)) × ((n : ℕ) → ¬ (IsSegment text n))
+
 -- six fields joined by spaces, the first five without a space: `first-last`, the permissions, the offset, `major:minor`, the inode
 -- and the path
 pub record AreFields (line : List ℕ) (m : MapRegion) : Type 0 where
@@ -145,11 +193,11 @@ pub record AreFields (line : List ℕ) (m : MapRegion) : Type 0 where
   pub path : List ℕ
   pub cut_inode : IsCut 32 after_dev inode path
   pub range_is : AreTwo 45 64 range m.address
-  pub perms_are : permissions perms ≡ m.perms
+  pub perms_are : ArePermissions perms m.perms
   pub offset_is : IsNumber 16 64 offset m.offset
   pub dev_is : AreTwo 58 32 dev m.dev
   pub inode_is : IsNumber 10 64 inode m.inode
-  pub path_is : path_in (trim path) ≡ Some m.pathname
+  pub path_is : IsPath (trim path) m.pathname
 
 -- a line is that of a region: UTF-8 without a line feed, whose first byte is none of A to Z, and its fields are the region's
 pub record IsMapLine (line : List ℕ) (m : MapRegion) : Type 0 where

@@ -1,8 +1,9 @@
--- The set of the offsets that were met, beside the list of them.
-use Rattle.std.proofs.Common.{◌≡◌, ℕ, List, [], ◌∷◌, ◌++◌, refl, ap, sym, ◌∙◌, Bool, true, false, nat_eq, cond}
+-- The set of the offsets that were met, beside the list of them, and the pieces that stand at these.
+use Rattle.std.proofs.Common.{◌≡◌, ℕ, List, [], ◌∷◌, ◌++◌, map, refl, ap, sym, ◌∙◌, Bool, true, false, nat_eq, cond, Option, Some}
 use Rattle.std.specs.Prelude.{◌||◌, not}
-use Rattle.std.specs.List.{list_any}
+use Rattle.std.specs.List.{filter_map, list_any}
 use Rattle.std.proofs.lemmas.List.Folds.{list_any-append}
+use Rattle.minidump_records.specs.ObjectChain.{Follow}
 use Rattle.minidump_records.specs.OneChain.{right_false, same_test}
 
 cond_or : (a b : Bool) → cond a true b ≡ (b || a)
@@ -25,3 +26,8 @@ was_there added false e h = (let k : false ≡ true = sym h ∙ e in cc)
 pub was_absent : (added had : Bool) → added ≡ not had → added ≡ true → had ≡ false
 was_absent added false e h = refl
 was_absent added true e h = (let k : true ≡ false = sym h ∙ e in cc)
+
+-- a piece stands at each offset
+pub none_skipped : {I : Type 0} (at : ℕ → Option I) (next : I → ℕ) (link : ℕ) (ps : List ℕ) → Follow at next link ps → map at ps ≡ map Some (filter_map at ps)
+none_skipped at next link [] f = refl
+none_skipped at next link (p ∷ ps) (here, i, is, more) = rw is (ap (λ l. Some i ∷ l) (none_skipped at next (next i) ps more))

@@ -1,6 +1,5 @@
 -- What the contracts of this crate cite.
 pub mod Parts
-pub mod ExactlyOne
 pub mod LastValues
 pub mod OneDictionary
 pub mod Dictionary

@@ -2,10 +2,10 @@
 use Rattle.minidump_format.specs.declared.format.stream_type.MINIDUMP_STREAM_TYPE.TheVariants.{MozMacosCrashInfoStream}
 use Rattle.minidump_records.specs.MacRecord.{record_reads}
 use Rattle.minidump_system.specs.StreamSpec.{StreamSpec, linear}
-use Rattle.std.specs.List.{sum_by}
+use Rattle.std.specs.List.{filter_map, sum_by, zip}
 use Rattle.std.specs.Prelude.{IsSome, ◌*◌}
-use Rattle.std.specs.Prelude.{ℕ, ◌+◌, ◌==◌, List, [], ◌∷◌, map, min, take, Option, Some, None, Result, Ok, Err, slice_range, if◌then◌else◌}
-use Rattle.std.specs.Option.{ok_or}
+use Rattle.std.specs.Prelude.{ℕ, ◌+◌, ◌==◌, List, ◌∷◌, map, min, take, Option, Some, None, Result, Ok, Err, slice_range, if◌then◌else◌}
+use Rattle.std.specs.Option.{ok_or, option_and_then, option_map}
 use Rattle.minidump_bytes.specs.declared.endian.Endian.{Endian}
 use Rattle.minidump_bytes.specs.Number.{number_at}
 use Rattle.minidump_bytes.specs.Span.{record_at, span}
@@ -13,62 +13,62 @@ use Rattle.minidump_format.specs.declared.error.Error.{Error}
 use Rattle.minidump_format.specs.declared.error.Error.TheVariants.{StreamReadFailure, VersionMismatch}
 use Rattle.minidump_format.specs.declared.format.header.MINIDUMP_LOCATION_DESCRIPTOR.{MINIDUMP_LOCATION_DESCRIPTOR}
 use Rattle.minidump_format.specs.Mac.{mac_crash_info, mac_record}
-use Rattle.minidump_system.specs.Reads.{and_then}
+use Rattle.minidump_system.specs.Reads.{all_ok, and_then}
 use Rattle.minidump_records.specs.declared.mac_crash_info.MinidumpMacCrashInfo.{MinidumpMacCrashInfo}
 use Rattle.minidump_records.specs.declared.mac_crash_info.raw.RawMacCrashInfo.{RawMacCrashInfo}
-use Rattle.minidump_records.specs.declared.mac_crash_info.record.Versioned.{Versioned}
 use Rattle.minidump_records.specs.MacRecord.{MacRecord, by_version, mac_record_of}
 
 -- its records
 abbrev pub mac_records_of : MinidumpMacCrashInfo → List MacRecord
 mac_records_of s = map mac_record_of s.raw.items
 
--- the version of a record, and the record, if there is one of that version
-pub record VersionedRecord : Type 0 where
-  pub version : ℕ
-  pub item : Option MacRecord
-
+-- the record of a value, if there is one
 abbrev pub record_if : Option RawMacCrashInfo → Option MacRecord
 record_if None = None
 record_if (Some r) = Some (mac_record_of r)
 
-abbrev pub versioned_of : Versioned → VersionedRecord
-versioned_of v = record { version = v.version; item = record_if v.record }
+-- the version that the bytes of a record state
+abbrev pub stated_version : Endian → List ℕ → Option ℕ
+stated_version order bytes = option_map (λ head. head.version) (record_at mac_record order 0 bytes)
 
--- a version that has to be the one before it, if there is one
+-- a version has to be that of the record before, if there is one
 abbrev pub follows : Option ℕ → ℕ → Result ℕ Error
 follows None version = Ok version
 follows (Some before) version = if version == before then Ok version else Err VersionMismatch
 
--- the record that bytes are, behind one of a version, where the texts begin at a place
-abbrev pub behind_version : Endian → ℕ → Option ℕ → List ℕ → Result VersionedRecord Error
+-- the record that bytes are, behind one of a version, where the texts begin at a place; one of version 0 is none
+abbrev pub behind_version : Endian → ℕ → Option ℕ → List ℕ → Result (Option MacRecord) Error
 behind_version order start before bytes =
     and_then (ok_or (record_at mac_record order 0 bytes) StreamReadFailure) (λ head.
-    and_then (follows before head.version) (λ version.
-    and_then (by_version order start head bytes) (λ item. Ok (record { version = version; item = item }))))
+    and_then (follows before head.version) (λ version. by_version order start head bytes))
+
+-- the version of the record at a location
+unfoldable pub located_version : Endian → List ℕ → MINIDUMP_LOCATION_DESCRIPTOR → Option ℕ
+located_version order file l = option_and_then (stated_version order) (span l.rva (l.rva + l.data_size) file)
 
 -- the record at a location
-unfoldable pub located_record : Endian → List ℕ → ℕ → Option ℕ → MINIDUMP_LOCATION_DESCRIPTOR → Result VersionedRecord Error
+unfoldable pub located_record : Endian → List ℕ → ℕ → Option ℕ → MINIDUMP_LOCATION_DESCRIPTOR → Result (Option MacRecord) Error
 located_record order file start before l =
     and_then (ok_or (span l.rva (l.rva + l.data_size) file) StreamReadFailure) (behind_version order start before)
 
--- records behind a first one, if there is one
-abbrev pub added : Option MacRecord → List MacRecord → List MacRecord
-added None rs = rs
-added (Some r) rs = r ∷ rs
+-- each location with the one before it, if there is one
+abbrev pub with_neighbours : List MINIDUMP_LOCATION_DESCRIPTOR → List (Option MINIDUMP_LOCATION_DESCRIPTOR × MINIDUMP_LOCATION_DESCRIPTOR)
+with_neighbours ls = zip (None ∷ map Some ls) ls
 
--- the records at locations, behind one of a version
-unfoldable pub located_records : Endian → List ℕ → ℕ → Option ℕ → List MINIDUMP_LOCATION_DESCRIPTOR → Result (List MacRecord) Error
-located_records order file start before [] = Ok []
-located_records order file start before (l ∷ ls) =
-    and_then (located_record order file start before l) (λ r.
-    and_then (located_records order file start (Some r.version) ls) (λ rs. Ok (added r.item rs)))
+-- the record at a location, whose version is that of its neighbour
+abbrev pub neighbouring_record : Endian → List ℕ → ℕ → Option MINIDUMP_LOCATION_DESCRIPTOR × MINIDUMP_LOCATION_DESCRIPTOR → Result (Option MacRecord) Error
+neighbouring_record order file start p = located_record order file start (option_and_then (located_version order file) p.0) p.1
+
+-- the records at locations, without those of version 0
+unfoldable pub located_records : Endian → List ℕ → ℕ → List MINIDUMP_LOCATION_DESCRIPTOR → Result (List MacRecord) Error
+located_records order file start ls =
+    and_then (all_ok (neighbouring_record order file start) (with_neighbours ls)) (λ rs. Ok (filter_map (λ r. r) rs))
 
 -- Mozilla's MDRawMacCrashInfo: a count of records, of which the first 20 are read, and their locations
 abbrev pub mac_crash_info_in : List ℕ → List ℕ → Endian → Result (List MacRecord) Error
 mac_crash_info_in bytes file order =
     and_then (ok_or (record_at mac_crash_info order 0 bytes) StreamReadFailure) (λ info.
-    located_records order file info.record_start_size None (take (min info.record_count 20) info.records))
+    located_records order file info.record_start_size (take (min info.record_count 20) info.records))
 
 -- how many records are read
 abbrev pub count_of_records : Endian → List ℕ → ℕ

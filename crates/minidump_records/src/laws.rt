@@ -1,5 +1,5 @@
 //! Laws of the streams of this crate, over the definitions that their contracts cite.
-ghost use Rattle.std.specs.Prelude.{◌≡◌, ◌≢◌, ◌↔◌, ◌<◌, ◌^◌, ◌++◌, ◌∷◌, ℕ, All, List, None, Some};
+ghost use Rattle.std.specs.Prelude.{◌≡◌, ◌≢◌, ◌↔◌, ◌<◌, ◌^◌, ◌++◌, ◌∷◌, ℕ, All, List, None, Some, map};
 ghost use Rattle.std.specs.List.{filter_map};
 ghost use Rattle.minidump_bytes.specs.declared.endian.Endian.{Endian};
 ghost use Rattle.minidump_format.specs.declared.format.crashpad.MINIDUMP_ANNOTATION.{MINIDUMP_ANNOTATION};
@@ -75,13 +75,12 @@ pub fn breakpad_info_clones_are_the_same()
 {}
 
 /// The pieces of information on an object stand at the longest list of distinct offsets that follow a link,
-/// each named by the piece before it.
-#[tactic(auto, unfolding(crate::specs::Handles::object_chain))]
+/// each named by the piece before it: one at each offset, of which none is skipped.
 pub fn object_chain_is_the_longest()
     ensures offsets { (order : Endian) (file : List ℕ) (link : ℕ)
         → IsChain (information_at order file) next_of link (chain_offsets order file link) }
     ensures pieces { (order : Endian) (file : List ℕ) (link : ℕ)
-        → object_chain order file link ≡ filter_map (information_at order file) (chain_offsets order file link) }
+        → map (information_at order file) (chain_offsets order file link) ≡ map Some (object_chain order file link) }
 {}
 
 /// There is one such list.

@@ -1,4 +1,4 @@
-ghost use Rattle.std.specs.Prelude.{◌≡◌, ◌+◌, ◌*◌, ◌≤◌, ⊤, None, length, map, IfOk, IsOkUnless};
+ghost use Rattle.std.specs.Prelude.{◌≡◌, ◌+◌, ◌*◌, ◌≤◌, ⊤, length, map, IfOk, IsOkUnless};
 ghost use Rattle.std.specs.List.{sum_by};
 ghost use Rattle.minidump_bytes.specs.Source.{bytes_of};
 ghost use Rattle.minidump_bytes.specs.Steps.{after};
@@ -86,7 +86,7 @@ fn read_records(
     endian: Endian,
     steps: &mut Steps,
 ) -> Result<Vec<RawMacCrashInfo>, Error>
-    ensures means { Gives (λ v. map mac_record_of v.items) ⊤ result (located_records endian (bytes_of all.entry) start None locations.now) }
+    ensures means { Gives (λ v. map mac_record_of v.items) ⊤ result (located_records endian (bytes_of all.entry) start locations.now) }
     ensures within { steps.new ≤ steps.old + 8 * length locations.now }
     ensures grows { steps.old ≤ steps.new }
     ensures at_least { IfOk result (λ v. after steps.old (2 * length locations.now + sum_by record_reads (map mac_record_of v.items)) ≤ steps.new) }

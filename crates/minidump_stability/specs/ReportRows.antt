@@ -10,7 +10,7 @@ use Rattle.minidump_stability.specs.declared.report.ProcessState.{ProcessState}
 use Rattle.minidump_stability.specs.declared.report.SystemMemoryState.{SystemMemoryState}
 use Rattle.minidump_stability.specs.declared.system_memory_state.WindowsMemory as system
 use Rattle.minidump_stability.specs.Fields.{int64_in, uint32_in}
-use Rattle.minidump_stability.specs.StabilityReport.{Report, no_report}
+use Rattle.minidump_stability.specs.StabilityReport.{Report}
 use Rattle.minidump_stability.specs.Rows.{one_nested, one_repeated, only, row, scalar_row, through}
 
 -- ProcessState.MemoryState.WindowsMemory

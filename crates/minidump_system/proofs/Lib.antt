@@ -1,6 +1,7 @@
 -- The lemmas of this crate.
 pub mod DateFacts
 pub mod DateText
+pub mod CalendarLemmas
 pub mod MomentFacts
 pub mod MomentText
 pub mod HexLemmas

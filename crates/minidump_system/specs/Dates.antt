@@ -1,6 +1,6 @@
--- Dates as text (RFC 3339), by the civil time and by counting years, months and days.
-use Rattle.std.specs.Prelude.{◌≡◌, ℕ, zero, suc, pos, ◌+◌, ◌-◌, ◌*◌, ◌/◌, ◌%◌, ◌++◌, List, [], ◌∷◌, codes, nat_le, nat_lt, ◌==◌, Bool, ◌&&◌, if◌then◌else◌}
-use Rattle.std.specs.List.{concat}
+-- Dates as text (RFC 3339), by the civil time, by counting years, months and days, and by the rules of the calendar.
+use Rattle.std.specs.Prelude.{◌≡◌, ◌≤◌, ℕ, zero, suc, pos, true, ◌+◌, ◌-◌, ◌*◌, ◌/◌, ◌%◌, ◌++◌, List, [], ◌∷◌, codes, nat_le, nat_lt, ◌==◌, Bool, ◌&&◌, if◌then◌else◌}
+use Rattle.std.specs.List.{concat, range_with_len, sum_by}
 use Rattle.jiff_core.specs.Calendar.{days_in_year, days_in_month}
 use Rattle.jiff_core.specs.declared.civil.datetime.DateTime.{DateTime}
 use Rattle.jiff_core.specs.Date.{IsYmd}
@@ -81,3 +81,32 @@ unfoldable pub system_time_text : SYSTEMTIME → List ℕ
 system_time_text t =
     if is_moment t then moment_text t.year t.month t.day t.hour t.minute t.second (thousandths t.milliseconds)
     else codes "<invalid date>"
+
+-- ---- the date of a count of seconds, by the rules of the calendar
+-- a date and a time of day
+pub record Moment : Type 0 where
+  pub year : ℕ
+  pub month : ℕ
+  pub day : ℕ
+  pub hour : ℕ
+  pub minute : ℕ
+  pub second : ℕ
+
+-- the days from 1 January 1970 to a date: those of the years before its year, those of the months before its month, and those before
+-- it in its month
+abbrev pub days_before : ℕ → ℕ → ℕ → ℕ
+days_before year month day =
+    sum_by (λ y. days_in_year (pos y)) (range_with_len 1970 (year - 1970))
+    + sum_by (λ m. days_in_month (pos year) m) (range_with_len 1 (month - 1))
+    + (day - 1)
+
+-- the moment so many seconds after 1970-01-01T00:00:00Z, where each day has 86,400 seconds
+pub record IsMomentAt (seconds : ℕ) (m : Moment) : Type 0 where
+  pub since : 1970 ≤ m.year
+  pub on_calendar : is_day m.year m.month m.day ≡ true
+  pub on_clock : is_clock m.hour m.minute m.second 0 ≡ true
+  pub counted : days_before m.year m.month m.day * 86400 + m.hour * 3600 + m.minute * 60 + m.second ≡ seconds
+
+-- its text
+abbrev pub text_at : Moment → List ℕ
+text_at m = moment_text m.year m.month m.day m.hour m.minute m.second []

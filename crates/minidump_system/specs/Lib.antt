@@ -1,4 +1,5 @@
 -- The definitions that the contracts of this crate cite.
+pub mod ExactlyOne
 pub mod Dates
 pub mod Os
 pub mod Cpu

@@ -26,8 +26,8 @@
 //!   read for each layout that is tried: `read`, by `misc_info_in` and `layouts_tried`;
 //!   `laws::misc_info_depends_on_its_stream_alone`, `misc_info_clones_are_the_same`. A field is absent exactly
 //!   where the layout lacks it or its flag is not set: the accessors of `RawMiscInfo`.
-//! - Names, widths, versions, builds and dates: `Os`, `Cpu`, `PointerWidth`, `os_parts`, `date_text`. Both
-//!   prints, byte by byte: `print`.
+//! - Names, widths, versions, builds and dates: `Os`, `Cpu`, `PointerWidth`, `os_parts`, `date_text`. Dates are
+//!   those of the calendar: `laws::dates_are_the_calendars`. Both prints, byte by byte: `print`.
 //!
 //! What isn't: that a `read` counts on the counter that it is handed each read beyond `least`.
 #![tactic(auto)]

@@ -1,10 +1,10 @@
-ghost use Rattle.std.specs.Prelude.{◌≡◌, ◌+◌, ◌≤◌, ⊤, string_bytes, IfOk, IfSome};
+ghost use Rattle.std.specs.Prelude.{◌≡◌, ◌+◌, ◌≤◌, ⊤, Some, string_bytes, IfOk, IfSome};
 ghost use Rattle.std.specs.Option.{option_map};
 ghost use Rattle.minidump_bytes.specs.Source.{bytes_of};
 ghost use Rattle.minidump_bytes.specs.Steps.{after};
 ghost use Rattle.minidump_format.specs.Answer.{Gives};
 ghost use Rattle.minidump_records.specs.MacRecord.{behind, by_version, fixed_part, item_reads, text_at, texts_4, texts_5, texts_in, texts_of};
-ghost use Rattle.minidump_records.specs.MacCrashInfo.{behind_version, located_record, record_if, versioned_of};
+ghost use Rattle.minidump_records.specs.MacCrashInfo.{behind_version, located_record, located_version, record_if, stated_version};
 
 use super::RawMacCrashInfo;
 use minidump_bytes::{Endian, Record, Source, Steps};
@@ -60,7 +60,7 @@ impl Texts {
 }
 
 // Reads the record at a location, which has to have the version before it, if there is one.
-#[tactic(auto, unfolding(crate::specs::MacCrashInfo::located_record))]
+#[tactic(auto, unfolding(crate::specs::MacCrashInfo::located_record, crate::specs::MacCrashInfo::located_version))]
 pub(super) fn read_located(
     alloc: Global,
     location: &MINIDUMP_LOCATION_DESCRIPTOR,
@@ -70,7 +70,8 @@ pub(super) fn read_located(
     endian: Endian,
     steps: &mut Steps,
 ) -> Result<Versioned, Error>
-    ensures means { Gives versioned_of ⊤ result (located_record endian (bytes_of all.entry) start before location.now) }
+    ensures means { Gives (λ v. record_if v.record) ⊤ result (located_record endian (bytes_of all.entry) start before location.now) }
+    ensures version { IfOk result (λ v. Some v.version ≡ located_version endian (bytes_of all.entry) location.now) }
     ensures within { steps.new ≤ steps.old + 8 }
     ensures grows { steps.old ≤ steps.new }
     ensures at_least { IfOk result (λ v. after steps.old (2 + item_reads (record_if v.record)) ≤ steps.new) }
@@ -90,7 +91,8 @@ fn read_behind(
     endian: Endian,
     steps: &mut Steps,
 ) -> Result<Versioned, Error>
-    ensures means { Gives versioned_of ⊤ result (behind_version endian start before (bytes_of bytes.entry)) }
+    ensures means { Gives (λ v. record_if v.record) ⊤ result (behind_version endian start before (bytes_of bytes.entry)) }
+    ensures version { IfOk result (λ v. Some v.version ≡ stated_version endian (bytes_of bytes.entry)) }
     ensures within { steps.new ≤ steps.old + 7 }
     ensures grows { steps.old ≤ steps.new }
     ensures at_least { IfOk result (λ v. after steps.old (1 + item_reads (record_if v.record)) ≤ steps.new) }
