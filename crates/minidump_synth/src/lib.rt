@@ -34,6 +34,7 @@ mod section;
 pub use device::{FailsAt, Full, OneByte, TakesNone};
 pub use dump::SynthMinidump;
 pub use encode::{Encode, zeroed};
+pub use memory::OVERLAPPING;
 pub use section::Section;
 
 #[cfg(test)]
