@@ -1,22 +1,16 @@
 use crate::address::hex_address;
-use crate::memory::region_line;
 use crate::run;
 use crate::start::arguments;
 use minidump::format::MINIDUMP_MEMORY_INFO;
 use minidump::{Endian, MinidumpModule, Told};
-use minidump_synth::{Section, SynthMinidump, zeroed};
-use std::alloc::Global;
+use minidump_synth::{Full, OVERLAPPING, SynthMinidump, zeroed};
+use std::alloc::{AllocError, Global};
 use std::env::{Env, FillError};
-use std::io::{ErrorKind, Write};
-use std::process::Abort;
-use std::rt::Files;
 use std::test::Fail;
 use std::{fs, io};
 
-// The types of the streams that list modules, memory, information on it, and map lines.
+// The types of the streams that list modules, information on memory, and map lines.
 const MODULE_LIST: u32 = 4;
-
-const MEMORY_LIST: u32 = 5;
 
 const MEMORY_INFO_LIST: u32 = 16;
 
@@ -50,361 +44,305 @@ Streams:
 
 ";
 
-// What a run of the program answers: its status, its output and its errors.
-#[derive(Drop)]
-struct Outcome {
-    status: u8,
-    out: Vec<u8>,
-    err: Vec<u8>,
-}
+// The words of a run; its status, what the output took, and what the errors took.
+type Row = (&'static [&'static str], u8, &'static str, &'static str);
 
-fn ran<R: Files + AllocGlobal>(rt: &R, words: &[&str]) -> Result<Outcome, Fail> {
-    let alloc = rt.alloc();
+fn words_of(alloc: Global, words: &[&str]) -> Result<Vec<String>, AllocError> {
     let mut owned = Vec::new(alloc);
     for word in words {
         owned.push(String::from_str(alloc, *word)?)?;
     }
-    let mut out = Told::new(Vec::new(alloc));
-    let mut err = Told::new(Vec::new(alloc));
-    let status = run(rt, owned.as_slice(), &mut out, &mut err);
-    Ok(Outcome {
-        status,
-        out: out.into_device(),
-        err: err.into_device(),
-    })
+    Ok(owned)
 }
 
-// Writes a file of this test's own, runs `dir` with it, and removes it.
-fn ran_on(rt: &HostRuntime, path: &str, bytes: &[u8]) -> Result<Outcome, Fail> {
-    fs::write(rt, path, bytes)?;
-    let answer = ran(rt, &["dir", path])?;
-    fs::remove_file(rt, path)?;
-    Ok(answer)
+fn answers(rt: &HostRuntime, row: &Row) -> Result<bool, AllocError> {
+    let (words, status, text, error) = *row;
+    let owned = words_of(rt.alloc(), words)?;
+    let mut out = Told::new(Vec::new(rt.alloc()));
+    let mut err = Told::new(Vec::new(rt.alloc()));
+    let found = run(rt, owned.as_slice(), &mut out, &mut err);
+    Ok(
+        found == status
+            && out.into_device().as_slice() == text.as_bytes()
+            && err.into_device().as_slice() == error.as_bytes(),
+    )
 }
+
+// Writes a file of a test's own, tells whether each run of the rows answers so, and removes the file.
+fn answers_of(rt: &HostRuntime, path: &str, bytes: &[u8], rows: &[Row]) -> Result<bool, Fail> {
+    fs::write(rt, path, bytes)?;
+    let mut holds = true;
+    for row in rows {
+        holds = holds && answers(rt, row)?;
+    }
+    fs::remove_file(rt, path)?;
+    Ok(holds)
+}
+
+const DIRECTORY: &[Row] = &[(&["dir", "writes_the_directory.dmp"], 0, ONE_TEXT, "")];
 
 #[test]
 fn writes_the_directory(rt: HostRuntime) -> Result<(), Fail> {
-    let answer = ran_on(&rt, "writes_the_directory.dmp", &ONE)?;
-    assert_eq!(rt; answer.status, 0);
-    assert_eq!(rt; answer.out.as_slice(), ONE_TEXT.as_bytes());
-    assert_eq!(rt; answer.err.len(), 0);
+    assert!(rt; answers_of(&rt, "writes_the_directory.dmp", &ONE, DIRECTORY)?);
     Ok(())
+}
+
+// A file that isn't there, and a folder, which can be opened and not read.
+const NO_FILES: &[Row] = &[
+    (&["dir", "no/such.dmp"], 1, "", "FileNotFound\n"),
+    (&["at", "no/such.dmp", "0"], 1, "", "FileNotFound\n"),
+    (&["dir", "."], 1, "", "IoError\n"),
+];
+
+fn is_refused(rt: &HostRuntime, bytes: &[u8], name: &'static str) -> Result<bool, Fail> {
+    let rows = [(&["dir", "names_refusals.dmp"][..], 1, "", name)];
+    answers_of(rt, "names_refusals.dmp", bytes, &rows)
+}
+
+fn with_byte(place: usize, byte: u8) -> [u8; 48] {
+    let mut bytes = ONE;
+    if place < bytes.len() {
+        bytes[place] = byte;
+    }
+    bytes
 }
 
 #[test]
 fn names_refusals(rt: HostRuntime) -> Result<(), Fail> {
-    let mut wrong_version = ONE;
-    wrong_version[4] = 0x94;
-    let mut no_directory = ONE;
-    no_directory[12] = 0x25;
-    let path = "names_refusals.dmp";
-    for (bytes, name) in [
+    for row in NO_FILES {
+        assert!(rt; answers(&rt, row)?, "{}", row.3);
+    }
+    for (bytes, name) in &[
         (&ONE[..31], "MissingHeader\n"),
         (&ONE[1..], "HeaderMismatch\n"),
-        (&wrong_version[..], "VersionMismatch\n"),
-        (&no_directory[..], "MissingDirectory\n"),
+        (&with_byte(4, 0x94)[..], "VersionMismatch\n"),
+        (&with_byte(12, 0x25)[..], "MissingDirectory\n"),
     ] {
-        let answer = ran_on(&rt, path, bytes)?;
-        assert_eq!(rt; answer.status, 1);
-        assert_eq!(rt; answer.out.len(), 0);
-        assert_eq!(rt; answer.err.as_slice(), name.as_bytes());
-    }
-    // A file that isn't there, and a folder, which can be opened and not read.
-    for (path, name) in [("no/such.dmp", "FileNotFound\n"), (".", "IoError\n")] {
-        let answer = ran(&rt, &["dir", path])?;
-        assert_eq!(rt; answer.status, 1);
-        assert_eq!(rt; answer.out.len(), 0);
-        assert_eq!(rt; answer.err.as_slice(), name.as_bytes());
+        assert!(rt; is_refused(&rt, *bytes, *name)?, "{name}");
     }
     Ok(())
 }
+
+const USAGES: &[Row] = &[
+    (&[], 0, USAGE, ""),
+    (&["dir"], 2, "", USAGE),
+    (&["dir", "no/such.dmp", "more"], 2, "", USAGE),
+    (&["Dir", "no/such.dmp"], 2, "", USAGE),
+    (&["", "no/such.dmp"], 2, "", USAGE),
+    (&["--help"], 2, "", USAGE),
+    (&["at", "no/such.dmp"], 2, "", USAGE),
+    (&["at", "no/such.dmp", "10", "more"], 2, "", USAGE),
+    (&["at", "no/such.dmp", "1_0"], 2, "", USAGE),
+    (&["At", "no/such.dmp", "10"], 2, "", USAGE),
+    (&["report", "no/such.dmp"], 2, "", USAGE),
+];
 
 #[test]
 fn shows_its_usage(rt: HostRuntime) -> Result<(), Fail> {
-    let answer = ran(&rt, &[])?;
-    assert_eq!(rt; answer.status, 0);
-    assert_eq!(rt; answer.out.as_slice(), USAGE.as_bytes());
-    assert_eq!(rt; answer.err.len(), 0);
-    let wrong: [&[&str]; 9] = [
-        &["dir"],
-        &["dir", "no/such.dmp", "more"],
-        &["Dir", "no/such.dmp"],
-        &["", "no/such.dmp"],
-        &["--help"],
-        &["at", "no/such.dmp"],
-        &["at", "no/such.dmp", "10", "more"],
-        &["At", "no/such.dmp", "10"],
-        &["report", "no/such.dmp"],
-    ];
-    for words in wrong {
-        let answer = ran(&rt, words)?;
-        assert_eq!(rt; answer.status, 2);
-        assert_eq!(rt; answer.out.len(), 0);
-        assert_eq!(rt; answer.err.as_slice(), USAGE.as_bytes());
+    for row in USAGES {
+        assert!(rt; answers(&rt, row)?);
     }
     Ok(())
+}
+
+const ADDRESSES: &[(&str, Option<u64>)] = &[
+    ("0", Some(0)),
+    ("1a00", Some(0x1a00)),
+    ("0x1A00", Some(0x1a00)),
+    ("0000000000000001", Some(1)),
+    ("ffffffffffffffff", Some(u64::MAX)),
+    ("0x123456789abcDEF0", Some(0x1234_5678_9abc_def0)),
+    ("", None),
+    ("0x", None),
+    ("00000000000000001", None),
+    ("0x00000000000000001", None),
+    ("+1", None),
+    ("-1", None),
+    ("0x+1", None),
+    (" 1", None),
+    ("1 ", None),
+    ("1_0", None),
+    ("0X1", None),
+    ("0x0x1", None),
+    ("1\n", None),
+    ("g", None),
+    ("\u{ff11}", None),
+];
+
+#[test]
+fn reads_addresses(rt: HostRuntime) {
+    for (word, address) in ADDRESSES {
+        assert!(rt; hex_address(*word) == *address, "{word}");
+    }
+}
+
+const NO_LISTS: &[Row] = &[(
+    &["at", "writes_that_a_dump_has_no_lists.dmp", "0x1A00"],
+    0,
+    "memory none\nmodule none\ninfo none\n",
+    "",
+)];
+
+#[test]
+fn writes_that_a_dump_has_no_lists(rt: HostRuntime) -> Result<(), Fail> {
+    let path = "writes_that_a_dump_has_no_lists.dmp";
+    assert!(rt; answers_of(&rt, path, &ONE, NO_LISTS)?);
+    Ok(())
+}
+
+const MEMORY_PATH: &str = "writes_the_first_of_overlapping_regions.dmp";
+
+#[rattlefmt::skip]
+const MEMORY: &[Row] = &[
+    (&["at", MEMORY_PATH, "0x1a00"], 0, "memory 0x1000 0x1000\nmodule none\ninfo none\n", ""),
+    (&["at", MEMORY_PATH, "1A00"], 0, "memory 0x1000 0x1000\nmodule none\ninfo none\n", ""),
+    (&["at", MEMORY_PATH, "2a00"], 0, "memory 0x2000 0x1000\nmodule none\ninfo none\n", ""),
+    (&["at", MEMORY_PATH, "0x9000"], 0, "memory none\nmodule none\ninfo none\n", ""),
+];
+
+fn five_regions(alloc: Global) -> Result<Vec<u8>, AllocError> {
+    let mut dump = SynthMinidump::new(alloc, Endian::Little);
+    dump.add_memory_list(OVERLAPPING);
+    dump.finish()
 }
 
 #[test]
-fn refuses_bad_addresses(rt: HostRuntime) -> Result<(), Fail> {
-    for address in [
-        "",
-        "0x",
-        "00000000000000001",
-        "0x00000000000000001",
-        "+1",
-        "-1",
-        "0x+1",
-        " 1",
-        "1 ",
-        "1_0",
-        "0X1",
-        "0x0x1",
-        "1\n",
-        "g",
-        "\u{ff11}",
-    ] {
-        let answer = ran(&rt, &["at", "no/such.dmp", address])?;
-        assert_eq!(rt; answer.status, 2);
-        assert_eq!(rt; answer.out.len(), 0);
-        assert_eq!(rt; answer.err.as_slice(), USAGE.as_bytes());
-    }
+fn writes_the_first_of_overlapping_regions(rt: HostRuntime) -> Result<(), Fail> {
+    assert!(rt; answers_of(&rt, MEMORY_PATH, &five_regions(rt.alloc())?, MEMORY)?);
     Ok(())
 }
 
-#[test]
-fn reads_addresses(rt: HostRuntime) -> Result<(), Fail> {
-    for (word, want) in [
-        ("0", Some(0)),
-        ("1a00", Some(0x1a00)),
-        ("0x1A00", Some(0x1a00)),
-        ("0000000000000001", Some(1)),
-        ("ffffffffffffffff", Some(u64::MAX)),
-        ("0x123456789abcDEF0", Some(0x1234_5678_9abc_def0)),
-        ("0x", None),
-    ] {
-        assert_eq!(rt; hex_address(word), want);
-    }
-    Ok(())
-}
+const MODULES_PATH: &str = "writes_the_first_of_overlapping_modules.dmp";
 
-// Writes a file of this test's own, asks what lies at each address, and removes it.
-fn answers_at<R: Files + AllocGlobal + Abort>(
-    rt: &R,
-    path: &str,
-    bytes: &[u8],
-    lines: &[(&str, &str)],
-) -> Result<(), Fail> {
-    fs::write(rt, path, bytes)?;
-    for (address, line) in lines {
-        let answer = ran(rt, &["at", path, *address])?;
-        assert_eq!(rt; answer.status, 0, "at {address}");
-        assert_eq!(rt; answer.out.as_slice(), line.as_bytes(), "at {address}");
-        assert_eq!(rt; answer.err.len(), 0);
-    }
-    fs::remove_file(rt, path)?;
-    Ok(())
-}
+#[rattlefmt::skip]
+const MODULES: &[Row] = &[
+    (&["at", MODULES_PATH, "100001000"], 0, "memory none\nmodule 0x100000000 0x4000 module 1\ninfo none\n", ""),
+    (&["at", MODULES_PATH, "0x100005000"], 0, "memory none\nmodule 0x100004000 0x4000 module 5\ninfo none\n", ""),
+    (&["at", MODULES_PATH, "100008000"], 0, "memory none\nmodule none\ninfo none\n", ""),
+];
 
-#[test]
-fn writes_that_a_dump_without_memory_has_none(rt: HostRuntime) -> Result<(), Fail> {
-    let none = "memory none\nmodule none\ninfo none\n";
-    answers_at(
-        &rt,
-        "writes_that_a_dump_without_memory_has_none.dmp",
-        &ONE,
-        &[
-            ("0", none),
-            ("1a00", none),
-            ("0x1A00", none),
-            ("ffffffffffffffff", none),
-        ],
-    )?;
-    let answer = ran(&rt, &["at", "no/such.dmp", "0"])?;
-    assert_eq!(rt; answer.status, 1);
-    assert_eq!(rt; answer.out.len(), 0);
-    assert_eq!(rt; answer.err.as_slice(), b"FileNotFound\n".as_slice());
-    Ok(())
-}
+const NO_MODULES: &[Row] = &[(
+    &["at", MODULES_PATH, "100005000"],
+    0,
+    "memory none\nmodule none\ninfo none\n",
+    "",
+)];
 
 // The second has the addresses of the first, the third and the fourth share some with it, and the last
 // begins where the first ends.
-#[test]
-fn writes_the_first_of_overlapping_regions(rt: HostRuntime) -> Result<(), Fail> {
-    let mut dump = SynthMinidump::new(rt.alloc(), Endian::Little);
-    let regions = [
-        dump.add_memory(0x1000, &[0; 0x1000]),
-        dump.add_memory(0x1000, &[1; 0x1000]),
-        dump.add_memory(0x1001, &[2; 0x1000]),
-        dump.add_memory(0x1001, &[3; 0x100]),
-        dump.add_memory(0x2000, &[4; 0x1000]),
-    ];
-    dump.add_stream(MEMORY_LIST, dump.section().list(&regions));
-    answers_at(
-        &rt,
-        "writes_the_first_of_overlapping_regions.dmp",
-        &dump.finish()?,
-        &[
-            ("0x1a00", "memory 0x1000 0x1000\nmodule none\ninfo none\n"),
-            ("1A00", "memory 0x1000 0x1000\nmodule none\ninfo none\n"),
-            ("2a00", "memory 0x2000 0x1000\nmodule none\ninfo none\n"),
-            ("0x9000", "memory none\nmodule none\ninfo none\n"),
-        ],
-    )
-}
+const FIVE: &[(u64, u32, &str)] = &[
+    (0x1_0000_0000, 0x4000, "module 1"),
+    (0x1_0000_0000, 0x4000, "module 2"),
+    (0x1_0000_0001, 0x4000, "module 3"),
+    (0x1_0000_0001, 0x3000, "module 4"),
+    (0x1_0000_4000, 0x4000, "module 5"),
+];
 
-#[test]
-fn writes_the_region_of_a_64_list(rt: HostRuntime) -> Result<(), Fail> {
-    let mut dump = SynthMinidump::new(rt.alloc(), Endian::Little);
-    dump.add_memory64_list(&[(0x1234, b"another_block".as_slice())]);
-    answers_at(
-        &rt,
-        "writes_the_region_of_a_64_list.dmp",
-        &dump.finish()?,
-        &[
-            ("1233", "memory none\nmodule none\ninfo none\n"),
-            ("1234", "memory 0x1234 0xd\nmodule none\ninfo none\n"),
-            ("1240", "memory 0x1234 0xd\nmodule none\ninfo none\n"),
-            ("1241", "memory none\nmodule none\ninfo none\n"),
-        ],
-    )
-}
-
-// A list of modules, of no memory. The second has the addresses of the first, the third and the fourth share
-// some with it, and the last begins where the first ends.
+// A list of modules, of no memory.
 fn five_modules(alloc: Global) -> Result<Vec<u8>, Fail> {
     let mut dump = SynthMinidump::new(alloc, Endian::Little);
-    let mut list = Vec::new(alloc);
-    for (base, size, name) in [
-        (0x1_0000_0000, 0x4000, "module 1"),
-        (0x1_0000_0000, 0x4000, "module 2"),
-        (0x1_0000_0001, 0x4000, "module 3"),
-        (0x1_0000_0001, 0x3000, "module 4"),
-        (0x1_0000_4000, 0x4000, "module 5"),
-    ] {
-        let mut raw = MinidumpModule::new(alloc, base, size, "")?.raw;
-        raw.module_name_rva = dump.add_text16(name);
-        list.push(raw)?;
+    let mut list = dump.section();
+    list.u32(5);
+    for (base, size, name) in FIVE {
+        let mut raw = MinidumpModule::new(alloc, *base, *size, "")?.raw;
+        raw.module_name_rva = dump.add_text16(*name);
+        list.record(&raw);
     }
-    dump.add_stream(MODULE_LIST, dump.section().list(&list));
+    dump.add_stream(MODULE_LIST, &list);
     Ok(dump.finish()?)
+}
+
+// A list of one entry, with no bytes for it.
+fn no_modules(alloc: Global) -> Result<Vec<u8>, AllocError> {
+    let mut dump = SynthMinidump::new(alloc, Endian::Little);
+    dump.add_stream(MODULE_LIST, dump.section().u32(1));
+    dump.finish()
 }
 
 #[test]
 fn writes_the_first_of_overlapping_modules(rt: HostRuntime) -> Result<(), Fail> {
-    let path = "writes_the_first_of_overlapping_modules.dmp";
-    let modules = five_modules(rt.alloc())?;
-    answers_at(
-        &rt,
-        path,
-        &modules,
-        &[
-            (
-                "100001000",
-                "memory none\nmodule 0x100000000 0x4000 module 1\ninfo none\n",
-            ),
-            (
-                "0x100005000",
-                "memory none\nmodule 0x100004000 0x4000 module 5\ninfo none\n",
-            ),
-            ("100008000", "memory none\nmodule none\ninfo none\n"),
-        ],
-    )?;
-    // A list of one entry, with no bytes for it.
-    let mut dump = SynthMinidump::new(rt.alloc(), Endian::Little);
-    dump.add_stream(MODULE_LIST, dump.section().u32(1));
-    let none = [("100005000", "memory none\nmodule none\ninfo none\n")];
-    answers_at(&rt, path, &dump.finish()?, &none)
+    assert!(rt; answers_of(&rt, MODULES_PATH, &five_modules(rt.alloc())?, MODULES)?);
+    assert!(rt; answers_of(&rt, MODULES_PATH, &no_modules(rt.alloc())?, NO_MODULES)?);
+    Ok(())
 }
+
+const INFO_PATH: &str = "writes_the_region_of_the_memory_information_or_of_the_maps.dmp";
+
+#[rattlefmt::skip]
+const MAPS: &[Row] = &[
+    (&["at", INFO_PATH, "10b00"], 0, "memory none\nmodule none\ninfo 0x10b00 0x10bff\n", ""),
+    (&["at", INFO_PATH, "10d00"], 0, "memory none\nmodule none\ninfo none\n", ""),
+];
+
+#[rattlefmt::skip]
+const INFORMATION: &[Row] = &[
+    (&["at", INFO_PATH, "10b80"], 0, "memory 0x10b80 0xd\nmodule none\ninfo 0x10b80 0x10b8f\n", ""),
+    (&["at", INFO_PATH, "10b00"], 0, "memory none\nmodule none\ninfo none\n", ""),
+];
 
 const THREE_LINES: &[u8] =
     b"10a00-10b00 r-xp 0 fd:05 1 \n10b00-10c00 rw-p 0 fd:05 2 \n10c00-10d00 r--p 0 fd:05 3 \n";
 
-// A dump with these map lines, and with a memory information of these bytes.
-fn information_dump(alloc: Global, information: &[u8]) -> Result<Vec<u8>, Fail> {
+// A dump with these map lines, whose memory information has no header.
+fn maps_dump(alloc: Global) -> Result<Vec<u8>, AllocError> {
     let mut dump = SynthMinidump::new(alloc, Endian::Little);
     dump.add_stream(LINUX_MAPS, &THREE_LINES);
-    dump.add_stream(MEMORY_INFO_LIST, &information);
-    Ok(dump.finish()?)
+    dump.add_stream(MEMORY_INFO_LIST, &[0; 11]);
+    dump.finish()
 }
 
-#[test]
-fn writes_the_region_of_the_memory_information_or_of_the_maps(rt: HostRuntime) -> Result<(), Fail> {
-    let alloc = rt.alloc();
-    let path = "writes_the_region_of_the_memory_information_or_of_the_maps.dmp";
-    // A list with no header has no information.
-    let maps = information_dump(alloc, &[0; 11])?;
-    let found = "memory none\nmodule none\ninfo 0x10b00 0x10bff\n";
-    let none = "memory none\nmodule none\ninfo none\n";
-    answers_at(&rt, path, &maps, &[("10b00", found), ("10d00", none)])?;
+// A dump with the same lines, a memory information, and a 64-bit list of memory.
+fn information_dump(alloc: Global) -> Result<Vec<u8>, AllocError> {
+    let mut dump = SynthMinidump::new(alloc, Endian::Little);
+    dump.add_stream(LINUX_MAPS, &THREE_LINES);
     let entry = MINIDUMP_MEMORY_INFO {
         base_address: 0x10b80,
         region_size: 0x10,
         ..zeroed()
     };
-    let list = Section::new(alloc, Endian::Little)
-        .extended_list(12, &[entry])
-        .finish()?;
-    let both = information_dump(alloc, &list)?;
-    let found = "memory none\nmodule none\ninfo 0x10b80 0x10b8f\n";
-    answers_at(&rt, path, &both, &[("10b80", found), ("10b00", none)])
+    dump.add_stream(MEMORY_INFO_LIST, dump.section().extended_list(12, &[entry]));
+    dump.add_memory64_list(&[(0x10b80, b"another_block")]);
+    dump.finish()
 }
 
 #[test]
-fn shows_a_region_of_memory(rt: HostRuntime) -> Result<(), Fail> {
-    let alloc = rt.alloc();
-    for (base, size, want) in [
-        (0x7fff_0001_a000, 0x1000, "memory 0x7fff0001a000 0x1000\n"),
-        (0, 0, "memory 0x0 0x0\n"),
-        (u64::MAX, 0xab, "memory 0xffffffffffffffff 0xab\n"),
-    ] {
-        assert_eq!(rt; region_line(alloc, base, size)?.as_str(), want);
-    }
+fn writes_the_region_of_the_memory_information_or_of_the_maps(rt: HostRuntime) -> Result<(), Fail> {
+    assert!(rt; answers_of(&rt, INFO_PATH, &maps_dump(rt.alloc())?, MAPS)?);
+    assert!(rt; answers_of(&rt, INFO_PATH, &information_dump(rt.alloc())?, INFORMATION)?);
     Ok(())
 }
 
-// A writer that takes nothing.
-#[derive(Drop)]
-struct Full;
+const FULL_PATH: &str = "reports_a_full_output.dmp";
 
-impl Write for Full {
-    fn write(&mut self, _buf: &[u8]) -> io::Result<usize> {
-        Err(io::Error::from(ErrorKind::Other))
-    }
+const TO_A_FULL_OUTPUT: &[&[&str]] = &[&[], &["dir", FULL_PATH], &["at", FULL_PATH, "0"]];
 
-    fn flush(&mut self) -> io::Result<()> {
-        Ok(())
-    }
+// Tells whether a full output is the error of these words.
+fn is_reported(rt: &HostRuntime, words: &[&str]) -> Result<bool, AllocError> {
+    let owned = words_of(rt.alloc(), words)?;
+    let mut err = Told::new(Vec::new(rt.alloc()));
+    let status = run(rt, owned.as_slice(), &mut Told::new(Full::new()), &mut err);
+    Ok(status == 1 && err.into_device().as_slice() == b"IoError\n".as_slice())
+}
+
+// A failure of the errors changes no status.
+fn is_status_2(rt: &HostRuntime) -> Result<bool, AllocError> {
+    let owned = words_of(rt.alloc(), &["dir"])?;
+    let mut out = Told::new(Vec::new(rt.alloc()));
+    Ok(run(rt, owned.as_slice(), &mut out, &mut Told::new(Full::new())) == 2)
 }
 
 #[test]
 fn reports_a_full_output(rt: HostRuntime) -> Result<(), Fail> {
-    let alloc = rt.alloc();
-    let path = "reports_a_full_output.dmp";
-    fs::write(&rt, path, &ONE)?;
-    let words = [
-        String::from_str(alloc, "dir")?,
-        String::from_str(alloc, path)?,
-    ];
-    let at = [
-        String::from_str(alloc, "at")?,
-        String::from_str(alloc, path)?,
-        String::from_str(alloc, "0")?,
-    ];
-    for asked in [&words[..0], &words[..], &at[..]] {
-        let mut err = Told::new(Vec::new(alloc));
-        let status = run(&rt, asked, &mut Told::new(Full), &mut err);
-        assert_eq!(rt; status, 1);
-        assert_eq!(rt; err.into_device().as_slice(), b"IoError\n".as_slice());
+    fs::write(&rt, FULL_PATH, &ONE)?;
+    for words in TO_A_FULL_OUTPUT {
+        assert!(rt; is_reported(&rt, *words)?);
     }
-    // A failure of the errors changes no status.
-    let mut out = Told::new(Vec::new(alloc));
-    assert_eq!(rt; run(&rt, &words[..1], &mut out, &mut Told::new(Full)), 2);
-    fs::remove_file(&rt, path)?;
+    fs::remove_file(&rt, FULL_PATH)?;
+    assert!(rt; is_status_2(&rt)?);
     Ok(())
 }
 
-const ARGUMENTS: [&str; 5] = ["mdump", "at", "regions.dmp", "0x1008", ""];
+const ARGUMENTS: &[&str] = &["mdump", "at", "regions.dmp", "0x1008", ""];
 
 // A process with so many of these arguments.
 #[derive(Drop)]
@@ -434,15 +372,21 @@ impl Env for Process {
     }
 }
 
+fn are_taken(alloc: Global, count: usize) -> io::Result<bool> {
+    let taken = arguments(&(Process { count }, alloc))?;
+    Ok(
+        taken.len() == count
+            && taken
+                .iter()
+                .zip(ARGUMENTS)
+                .all(|(word, want)| word.as_str() == *want),
+    )
+}
+
 #[test]
 fn takes_all_arguments(rt: HostRuntime) -> Result<(), Fail> {
-    let alloc = rt.alloc();
     for count in [0, 1, 5] {
-        let taken = arguments(&(Process { count }, alloc))?;
-        assert_eq!(rt; taken.len(), count);
-        for (word, want) in taken.iter().zip(&ARGUMENTS) {
-            assert_eq!(rt; word.as_str(), *want);
-        }
+        assert!(rt; are_taken(rt.alloc(), count)?);
     }
     Ok(())
 }

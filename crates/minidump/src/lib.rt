@@ -118,6 +118,3 @@ pub mod strings {
 pub mod system_info {
     pub use minidump_system::{Cpu, Os, PointerWidth};
 }
-
-#[cfg(test)]
-mod tests;

@@ -34,4 +34,5 @@ mod section;
 pub use device::{FailsAt, Full, OneByte, TakesNone};
 pub use dump::SynthMinidump;
 pub use encode::{Encode, zeroed};
+pub use memory::OVERLAPPING;
 pub use section::Section;

@@ -43,6 +43,3 @@ fn region_in<'a>(memory: &UnifiedMemoryList<'a>, address: u64) -> Option<(u64, &
     let region = memory.memory_at_address(address)?;
     Some((region.base_address(), region.bytes()))
 }
-
-#[cfg(test)]
-mod tests;

@@ -1,0 +1,29 @@
+//! Tests of `minidump` and of the example `region_at`, on their public calls. They stand apart from them, since a
+//! library with a test is proved twice.
+//!
+//! They show what no contract says: that a call succeeds where there is memory, that definitions mean the
+//! format, and what becomes of files. So each expected value is written from the format's own tables, not from a
+//! definition here. What a dump's header, directory and streams print, and how a stream is refused, the samples
+//! of `golden` show.
+#![tactic(auto)]
+
+#[cfg(test)]
+mod directory;
+#[cfg(test)]
+mod exception;
+#[cfg(test)]
+mod file;
+#[cfg(test)]
+mod given;
+#[cfg(test)]
+mod memory;
+#[cfg(test)]
+mod names;
+#[cfg(test)]
+mod system;
+#[cfg(test)]
+mod texts;
+#[cfg(test)]
+mod threads;
+#[cfg(test)]
+mod types;
