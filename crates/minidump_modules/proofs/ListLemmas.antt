@@ -1,6 +1,6 @@
 -- Lists that a loop makes item by item, up to the first refusal.
 use Rattle.std.proofs.Common.{◌≡◌, ℕ, ◌+◌, ◌-◌, ◌<◌, true, false, List, [], ◌∷◌, ◌++◌, length, get_or, take, drop, map, replicate, Result, Ok, Err, refl, ap, sym, ◌∙◌, arith, append-nil, inl, inr}
-use Rattle.std.specs.Prelude.{⊤, Bool, filter, min}
+use Rattle.std.specs.Prelude.{Bool, filter, min}
 use Rattle.std.proofs.lemmas.Bool.{cases_lt}
 use Rattle.std.proofs.lemmas.List.{drop-replicate, take-append-drop, take_all, take_more, map_push}
 use Rattle.std.proofs.lemmas.List.Elements.{filter-append, filter_more}
