@@ -21,17 +21,29 @@ use crate::exception::MinidumpException;
 use crate::streams::{MinidumpUnimplementedStream, MinidumpUnknownStream};
 use crate::thread::MinidumpThread;
 use crate::thread_list::MinidumpThreadList;
+pub use minidump_bytes::laws::{
+    characters_of_a_text_are_one, clones_are_the_same as reading_clones_are_the_same,
+    digits_have_their_numbers, field_at_a_place_is_one, field_is_what_bytes_spell,
+    fields_of_bytes_are_one, linux_texts_compare_by_their_bytes, number_is_what_digits_write,
+    parts_make_the_text, text_is_utf8, text_of_units_is_one, text_spells_its_units,
+};
 pub use minidump_context::laws::{
-    a_change_is_seen_under_all_names, any_name_makes_a_register_valid, names_name_their_registers,
+    a_change_is_seen_under_all_names, any_name_makes_a_register_valid,
+    clones_are_the_same as context_clones_are_the_same, names_name_their_registers,
     nothing_else_is_changed, registers_stand_at_their_places, sets_are_equal_by_their_names,
 };
+pub use minidump_format::laws::{
+    annotation_numbers, contexts_are_copied, file_info_numbers, header_numbers,
+    large_records_are_exact,
+};
 pub use minidump_index::laws::{
-    a_kept_set, an_address_order, one_address_order, one_kept_set, one_region_at_an_address,
-    regions_by_address,
+    a_kept_set, a_lookup, an_address_order, one_address_order, one_kept_set,
+    one_region_at_an_address, region_laws as laws_of_regions, regions_by_address,
 };
 pub use minidump_memory::laws::{
-    information_compares_and_copies_exactly, information_depends_on_its_stream_alone,
-    map_lines_are_the_grammar, maps_compare_by_what_their_lines_say, region_laws,
+    clones_are_the_same as memory_clones_are_the_same, information_compares_and_copies_exactly,
+    information_depends_on_its_stream_alone, map_lines_are_the_grammar,
+    maps_compare_by_what_their_lines_say, region_laws,
     the_unified_information_answers_as_the_list_it_holds,
     the_unified_information_answers_as_the_maps_it_holds,
     the_unified_list_answers_as_the_64_list_it_holds,
@@ -62,9 +74,13 @@ use minidump_records::{
 };
 use minidump_stability::StabilityReport;
 pub use minidump_stability::laws::{
-    fields_are_what_bytes_spell, report_depends_on_its_stream_alone, report_is_what_its_fields_mean,
+    fields_are_what_bytes_spell, process_states_compare_and_copy_exactly,
+    report_depends_on_its_stream_alone, report_is_what_its_fields_mean,
+    reports_compare_by_what_they_hold,
 };
-pub use minidump_system::laws::misc_info_depends_on_its_stream_alone;
+pub use minidump_system::laws::{
+    dates_are_the_calendars, misc_info_clones_are_the_same, misc_info_depends_on_its_stream_alone,
+};
 use minidump_system::{MinidumpMiscInfo, MinidumpStream, MinidumpSystemInfo};
 
 /// Of the entries with one type the last decides. Its index is the number of entries before it.
