@@ -1,5 +1,3 @@
 -- What `minidump_stability` defines, for the crates above this one.
 pub use Rattle.minidump_stability.specs.Fields
-pub use Rattle.minidump_stability.specs.ReportRows
-pub use Rattle.minidump_stability.specs.Rows
 pub use Rattle.minidump_stability.specs.StabilityReport

@@ -2,6 +2,7 @@
 pub use Rattle.minidump_system.specs.Cpu
 pub use Rattle.minidump_system.specs.CpuInfo
 pub use Rattle.minidump_system.specs.Dates
+pub use Rattle.minidump_system.specs.ExactlyOne
 pub use Rattle.minidump_system.specs.Framing
 pub use Rattle.minidump_system.specs.Meaning
 pub use Rattle.minidump_system.specs.MiscInfo
