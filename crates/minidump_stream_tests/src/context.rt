@@ -134,15 +134,16 @@ const CONTEXTS: &[(u16, usize, &[u8], usize, Table)] = &[
 ];
 
 fn has_registers(context: &MinidumpContext, size: usize, table: Table) -> bool {
-    let is_it = |((name, value), row): ((&str, u64), &(&str, usize))| {
-        name == row.0
-            && value == number_at(row.1, size)
-            && context.get_register(name) == Some(value)
-    };
-    context.register_size() == size
+    let mut left = context.registers();
+    for (name, place) in table {
+        let value = number_at(*place, size);
+        if left.next() != Some((*name, value)) || context.get_register(name) != Some(value) {
+            return false;
+        }
+    }
+    left.next().is_none()
+        && context.register_size() == size
         && context.general_purpose_registers().len() == table.len()
-        && context.registers().count() == table.len()
-        && context.registers().zip(table).all(is_it)
 }
 
 fn is_placed(alloc: Global, row: &(u16, usize, &[u8], usize, Table)) -> Result<bool, Error> {

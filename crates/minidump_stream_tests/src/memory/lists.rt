@@ -4,7 +4,7 @@ use crate::given::{BOTH, read_in};
 use minidump_bytes::{Endian, Steps};
 use minidump_format::Error;
 use minidump_index::Range;
-use minidump_memory::{MinidumpMemory64List, MinidumpMemoryList, UnifiedMemory, UnifiedMemoryList};
+use minidump_memory::{MinidumpMemory64List, MinidumpMemoryList, UnifiedMemoryList};
 use minidump_synth::Section;
 use std::alloc::{AllocError, Global};
 use std::test::Fail;
@@ -21,12 +21,20 @@ const FIVE: &[(u64, &[u8])] = &[
     (0x2000, &[4; 0x1000]),
 ];
 
-// The base addresses of regions.
-fn bases<'a, 'm: 'a>(
-    alloc: Global,
-    regions: impl Iterator<Item = UnifiedMemory<'a, 'm>>,
-) -> Result<Vec<u64>, AllocError> {
-    regions.map(|m| m.base_address()).collect(alloc)
+// The base addresses of all regions, and of those that are kept, from both ends.
+fn listed(alloc: Global, list: &UnifiedMemoryList<'_>) -> Result<Vec<u64>, AllocError> {
+    list.iter().map(|m| m.base_address()).collect(alloc)
+}
+
+fn ascending(alloc: Global, list: &UnifiedMemoryList<'_>) -> Result<Vec<u64>, AllocError> {
+    list.by_addr().map(|m| m.base_address()).collect(alloc)
+}
+
+fn descending(alloc: Global, list: &UnifiedMemoryList<'_>) -> Result<Vec<u64>, AllocError> {
+    list.by_addr()
+        .rev()
+        .map(|m| m.base_address())
+        .collect(alloc)
 }
 
 // Whether a list has regions of these bases, in its own order, and those that it keeps, ascending.
@@ -36,11 +44,13 @@ fn has(
     all: &[u64],
     kept: &[u64],
 ) -> Result<bool, AllocError> {
-    let listed = bases(alloc, list.iter())?;
-    let ascending = bases(alloc, list.by_addr())?;
-    let mut descending = bases(alloc, list.by_addr().rev())?;
-    descending.reverse();
-    Ok(listed.as_slice() == all && ascending.as_slice() == kept && descending.as_slice() == kept)
+    let mut backwards = descending(alloc, list)?;
+    backwards.reverse();
+    Ok(
+        listed(alloc, list)?.as_slice() == all
+            && ascending(alloc, list)?.as_slice() == kept
+            && backwards.as_slice() == kept,
+    )
 }
 
 // An address, and where the region at it begins, with each of its bytes.

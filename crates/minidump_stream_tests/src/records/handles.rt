@@ -4,6 +4,7 @@ use minidump_format::Error;
 use minidump_format::format::MINIDUMP_HANDLE_DESCRIPTOR_2;
 use minidump_records::{
     MinidumpHandleDataStream, MinidumpHandleDescriptor, MinidumpHandleObjectInformation,
+    RawHandleDescriptor,
 };
 use minidump_synth::{Section, SynthMinidump, zeroed};
 use std::alloc::{AllocError, Global};
@@ -142,34 +143,31 @@ fn a_handle_has_its_names_and_its_information(rt: HostRuntime) -> Result<(), Fai
     Ok(())
 }
 
-// The value of a handle, and its other numbers: both names, the attributes, the access, both counts, and the
-// information.
-type Fields = (Option<u64>, [Option<u32>; 7]);
-
-fn fields(handle: &MinidumpHandleDescriptor) -> Fields {
-    let raw = &handle.raw;
-    (
-        raw.handle().copied(),
-        [
-            raw.type_name_rva().copied(),
-            raw.object_name_rva().copied(),
-            raw.attributes().copied(),
-            raw.granted_access().copied(),
-            raw.handle_count().copied(),
-            raw.pointer_count().copied(),
-            raw.object_info_rva().copied(),
-        ],
-    )
+// Both names of a handle, its attributes, its access, both counts, and its information.
+fn fields(raw: &RawHandleDescriptor) -> [Option<u32>; 7] {
+    [
+        raw.type_name_rva().copied(),
+        raw.object_name_rva().copied(),
+        raw.attributes().copied(),
+        raw.granted_access().copied(),
+        raw.handle_count().copied(),
+        raw.pointer_count().copied(),
+        raw.object_info_rva().copied(),
+    ]
 }
 
-// The size of an entry, and what its fields are where they are numbered from 1 on.
+// The size of an entry, and what its fields are where they are numbered from 1 on, which is its value.
 #[rattlefmt::skip]
-const FIELDS: &[(u32, Fields)] = &[
-    (32, (Some(1), [Some(2), Some(3), Some(4), Some(5), Some(6), Some(7), None])),
-    (40, (Some(1), [Some(2), Some(3), Some(4), Some(5), Some(6), Some(7), Some(8)])),
+const FIELDS: &[(u32, &[Option<u32>])] = &[
+    (32, &[Some(2), Some(3), Some(4), Some(5), Some(6), Some(7), None]),
+    (40, &[Some(2), Some(3), Some(4), Some(5), Some(6), Some(7), Some(8)]),
 ];
 
-fn has_fields(alloc: Global, endian: Endian, row: &(u32, Fields)) -> Result<bool, Error> {
+fn is_numbered(handle: &MinidumpHandleDescriptor, numbers: &[Option<u32>]) -> bool {
+    handle.raw.handle() == Some(&1) && fields(&handle.raw).as_slice() == numbers
+}
+
+fn has_fields(alloc: Global, endian: Endian, row: &(u32, &[Option<u32>])) -> Result<bool, Error> {
     let mut stream = Section::new(alloc, endian);
     stream.u32(12).u32(row.0).u32(1).u64(1);
     for n in 2..row.0 / 4 {
@@ -177,7 +175,10 @@ fn has_fields(alloc: Global, endian: Endian, row: &(u32, Fields)) -> Result<bool
     }
     let stream = stream.finish()?;
     let list = read(alloc, &stream, &[], endian, &mut Steps::new())?;
-    Ok(list.iter().next().map(fields) == Some(row.1))
+    match list.iter().next() {
+        None => Ok(false),
+        Some(handle) => Ok(is_numbered(handle, row.1)),
+    }
 }
 
 #[test]

@@ -8,6 +8,7 @@ use std::alloc::Global;
 use std::test::Fail;
 
 // The numbers of a record, and its texts, each with its NUL.
+#[derive(Clone, Copy)]
 struct Record {
     version: u64,
     thread: u64,
@@ -165,9 +166,6 @@ fn texts(record: &RawMacCrashInfo) -> [Option<&str>; 5] {
     ]
 }
 
-// A record with its numbers and its texts.
-type Row = (Record, [Option<u64>; 4], [Option<&'static str>; 5]);
-
 const FULL: Record = Record {
     version: 5,
     thread: 7,
@@ -176,7 +174,11 @@ const FULL: Record = Record {
     texts: b"/bin/x\0first\0sign\0trace\0second\0",
 };
 
-const FULL_TEXTS: [Option<&str>; 5] = [
+const FULL_4: Record = Record { version: 4, ..FULL };
+
+const FULL_3: Record = Record { version: 3, ..FULL };
+
+const FULL_TEXTS: &[Option<&str>] = &[
     Some("/bin/x"),
     Some("first"),
     Some("sign"),
@@ -184,31 +186,35 @@ const FULL_TEXTS: [Option<&str>; 5] = [
     Some("second"),
 ];
 
+// A record, its reads, its numbers and its texts. The reads are those of the stream, the record's bytes and its
+// head, and from version 4 on of its fixed part and five texts.
+type Row = (
+    Record,
+    u64,
+    &'static [Option<u64>],
+    &'static [Option<&'static str>],
+);
+
 #[rattlefmt::skip]
 const RECORDS: &[Row] = &[
-    (FULL, [Some(5), Some(7), Some(8), Some(9)], FULL_TEXTS),
-    (Record { version: 4, ..FULL }, [Some(4), Some(7), Some(8), None], FULL_TEXTS),
-    (Record { version: 3, ..FULL }, [Some(3), None, None, None], [None; 5]),
-    (NINE, [Some(9), Some(7), None, Some(9)], [Some("a"), None, None, None, None]),
+    (FULL, 9, &[Some(5), Some(7), Some(8), Some(9)], FULL_TEXTS),
+    (FULL_4, 9, &[Some(4), Some(7), Some(8), None], FULL_TEXTS),
+    (FULL_3, 3, &[Some(3), None, None, None], &[None, None, None, None, None]),
+    (NINE, 9, &[Some(9), Some(7), None, Some(9)], &[Some("a"), None, None, None, None]),
 ];
+
+fn is_it(info: &MinidumpMacCrashInfo, row: &Row) -> bool {
+    match info.raw.first() {
+        None => false,
+        Some(record) => numbers(record).as_slice() == row.2 && texts(record).as_slice() == row.3,
+    }
+}
 
 fn holds(alloc: Global, endian: Endian, row: &Row) -> Result<bool, Error> {
     let mut steps = Steps::new();
-    let info = read(
-        alloc,
-        endian,
-        40,
-        1,
-        std::slice::from_ref(&row.0),
-        &mut steps,
-    )?;
+    let info = read(alloc, endian, 40, 1, &[row.0], &mut steps)?;
     let copy = info.try_clone(alloc)?;
-    Ok(
-        [&info, &copy].iter().all(|info| {
-            info.raw.first().is_some_and(|record| numbers(record) == row.1
-                && texts(record) == row.2)
-        }),
-    )
+    Ok(steps.count() == row.1 && is_it(&info, row) && is_it(&copy, row))
 }
 
 #[test]

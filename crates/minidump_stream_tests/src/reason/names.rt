@@ -1,4 +1,5 @@
-use super::*;
+use super::Lists;
+use minidump_reason::{CodeFamily, CodeNames, CodeNamesError};
 
 const TWICE: Lists = &[
     (CodeFamily::Mac, &[(1, "a"), (2, "b")]),
@@ -19,17 +20,19 @@ const ASCENDING: Lists = &[
     (CodeFamily::WinError, &[(0, "a")]),
 ];
 
+#[rattlefmt::skip]
+const REFUSED: &[(Lists, Option<CodeNamesError>)] = &[
+    (TWICE, Some(CodeNamesError::Repeated(CodeFamily::Mac))),
+    (EQUAL, Some(CodeNamesError::NotAscending(CodeFamily::Mac))),
+    (DESCENDING, Some(CodeNamesError::NotAscending(CodeFamily::NtStatus))),
+    (ASCENDING, None),
+];
+
+fn is_tested(row: &(Lists, Option<CodeNamesError>)) -> bool {
+    CodeNames::new(row.0).err() == row.1
+}
+
 #[test]
 fn lists_are_tested_in_order(rt: HostRuntime) {
-    for (lists, refusal) in [
-        (TWICE, Some(CodeNamesError::Repeated(CodeFamily::Mac))),
-        (EQUAL, Some(CodeNamesError::NotAscending(CodeFamily::Mac))),
-        (
-            DESCENDING,
-            Some(CodeNamesError::NotAscending(CodeFamily::NtStatus)),
-        ),
-        (ASCENDING, None),
-    ] {
-        assert_eq!(rt; CodeNames::new(lists).err(), refusal);
-    }
+    assert!(rt; REFUSED.iter().all(is_tested));
 }
