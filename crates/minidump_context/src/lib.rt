@@ -53,6 +53,3 @@ pub use cpu_context::{CpuContext, CpuRegisterNames, RegisterNumber};
 pub use cpu_registers::CpuRegisters;
 pub use raw_context::MinidumpRawContext;
 pub use validity::MinidumpContextValidity;
-
-#[cfg(test)]
-mod tests;

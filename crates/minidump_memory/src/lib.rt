@@ -65,6 +65,3 @@ pub use unified::{UnifiedMemory, UnifiedMemoryByAddress, UnifiedMemoryIter, Unif
 pub use unified_info::{
     UnifiedMemoryInfo, UnifiedMemoryInfoByAddress, UnifiedMemoryInfoIter, UnifiedMemoryInfoList,
 };
-
-#[cfg(test)]
-mod tests;

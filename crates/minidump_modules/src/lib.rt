@@ -59,6 +59,3 @@ pub use module_list::MinidumpModuleList;
 pub use unloaded_iter::{ModulesAtAddress, UnloadedModulesByAddress};
 pub use unloaded_module::MinidumpUnloadedModule;
 pub use unloaded_module_list::MinidumpUnloadedModuleList;
-
-#[cfg(test)]
-mod tests;

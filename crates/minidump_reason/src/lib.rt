@@ -43,6 +43,3 @@ mod windows;
 pub use family::CodeFamily;
 pub use names::{CodeNames, CodeNamesError};
 pub use reason::CrashReason;
-
-#[cfg(test)]
-mod tests;

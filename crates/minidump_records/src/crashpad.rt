@@ -10,6 +10,3 @@ mod text;
 pub use annotation::MinidumpAnnotation;
 pub use info::MinidumpCrashpadInfo;
 pub use module_info::MinidumpModuleCrashpadInfo;
-
-#[cfg(test)]
-mod tests;

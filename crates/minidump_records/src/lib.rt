@@ -88,6 +88,3 @@ pub use mac_crash_info::{MinidumpMacCrashInfo, RawMacCrashInfo};
 pub use soft_errors::MinidumpSoftErrors;
 pub use thread_info::{MinidumpThreadInfo, MinidumpThreadInfoList};
 pub use thread_names::MinidumpThreadNames;
-
-#[cfg(test)]
-mod tests;

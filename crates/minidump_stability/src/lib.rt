@@ -31,6 +31,3 @@ mod report;
 pub mod system_memory_state;
 
 pub use report::{ProcessState, StabilityReport, SystemMemoryState};
-
-#[cfg(test)]
-mod tests;

@@ -1,0 +1,20 @@
+//! The tests of the crates that read streams: what no contract says of `minidump_memory`, `minidump_modules`,
+//! `minidump_records`, `minidump_context`, `minidump_reason` and `minidump_stability`, by their public calls.
+//!
+//! A crate with tests is proved once with them and once without, so these stand above their crates.
+#![tactic(auto)]
+
+#[cfg(test)]
+mod context;
+#[cfg(test)]
+mod given;
+#[cfg(test)]
+mod memory;
+#[cfg(test)]
+mod modules;
+#[cfg(test)]
+mod reason;
+#[cfg(test)]
+mod records;
+#[cfg(test)]
+mod stability;

@@ -1,0 +1,135 @@
+use super::{region, region_64};
+use crate::given::BOTH;
+use minidump_bytes::{Endian, FixedRead};
+use minidump_format::Error;
+use minidump_format::format::{MINIDUMP_LOCATION_DESCRIPTOR, MINIDUMP_MEMORY_DESCRIPTOR};
+use minidump_memory::{MinidumpMemory, UnifiedMemory};
+use std::alloc::AllocError;
+use std::test::Fail;
+
+const FILE: &[u8] = &[0, 1, 2, 3, 4, 5, 6, 7];
+
+// The descriptor of a region of so many bytes at a place of the file.
+pub(super) fn described(base: u64, rva: u32, data_size: u32) -> MINIDUMP_MEMORY_DESCRIPTOR {
+    MINIDUMP_MEMORY_DESCRIPTOR {
+        start_of_memory_range: base,
+        memory: MINIDUMP_LOCATION_DESCRIPTOR { data_size, rva },
+    }
+}
+
+// Places and sizes in the file, with the error of a region there.
+#[rattlefmt::skip]
+const REFUSED: &[(u32, u32, Error)] = &[
+    (0, 2, Error::MemoryReadFailure),
+    (0, 0, Error::MemoryReadFailure),
+    (5, 0, Error::MemoryReadFailure),
+    (9, 0, Error::MemoryReadFailure),
+    (5, 4, Error::StreamReadFailure),
+    (8, 1, Error::StreamReadFailure),
+    (9, 1, Error::StreamReadFailure),
+    (u32::MAX, u32::MAX, Error::StreamReadFailure),
+];
+
+fn is_refused(row: &(u32, u32, Error)) -> bool {
+    let (rva, data_size, error) = *row;
+    let desc = described(0x1000, rva, data_size);
+    MinidumpMemory::read(&desc, FILE, Endian::Little).err() == Some(error)
+}
+
+// A copy of the region has its values too.
+fn is_copied(region: &MinidumpMemory<'_>) -> Result<bool, AllocError> {
+    let copy = region.clone()?;
+    Ok(
+        copy.desc == region.desc
+            && copy.bytes == region.bytes
+            && copy.memory_range() == region.memory_range(),
+    )
+}
+
+fn is_read(endian: Endian) -> Result<bool, Error> {
+    let desc = described(0x1000, 5, 3);
+    let region = MinidumpMemory::read(&desc, FILE, endian)?;
+    Ok(
+        region.desc == desc
+            && (region.base_address, region.size) == (0x1000, 3)
+            && region.bytes == [5, 6, 7].as_slice()
+            && region.endian == endian
+            && is_copied(&region)?,
+    )
+}
+
+#[test]
+fn a_region_is_read_where_its_bytes_are_in_the_file(rt: HostRuntime) -> Result<(), Fail> {
+    for row in REFUSED {
+        assert!(rt; is_refused(row), "at {}", row.0);
+    }
+    for endian in BOTH {
+        assert!(rt; is_read(*endian)?);
+    }
+    Ok(())
+}
+
+const SIXTEEN: &[u8] = &[1, 2, 3, 4, 5, 6, 7, 8, 9, 10, 11, 12, 13, 14, 15, 16];
+
+// The number at an address of sixteen bytes from 0x1000 on, in a region of either kind and as a unified one.
+fn holds<T: FixedRead + PartialEq>(endian: Endian, address: u64, want: &Option<T>) -> bool {
+    let plain = region(0x1000, SIXTEEN, endian);
+    let long = region_64(0x1000, SIXTEEN, endian);
+    plain.get_memory_at_address::<T>(address) == *want
+        && long.get_memory_at_address::<T>(address) == *want
+        && UnifiedMemory::Memory(&plain).get_memory_at_address::<T>(address) == *want
+        && UnifiedMemory::Memory64(&long).get_memory_at_address::<T>(address) == *want
+}
+
+#[rattlefmt::skip]
+const BYTES: &[(u64, Option<u8>)] = &[
+    (0xfff, None), (0x1000, Some(1)), (0x100f, Some(16)), (0x1010, None), (u64::MAX, None),
+];
+
+// Numbers of 16, 32, 64 and 128 bits at an address, in both byte orders.
+#[rattlefmt::skip]
+const HALVES: &[(u64, Option<u16>, Option<u16>)] = &[
+    (0xfff, None, None),
+    (0x1002, Some(0x0403), Some(0x0304)),
+    (0x100e, Some(0x100f), Some(0x0f10)),
+    (0x100f, None, None),
+];
+
+#[rattlefmt::skip]
+const WORDS: &[(u64, Option<u32>, Option<u32>)] = &[
+    (0x1001, Some(0x0504_0302), Some(0x0203_0405)),
+    (0x100d, None, None),
+];
+
+#[rattlefmt::skip]
+const LONGS: &[(u64, Option<u64>, Option<u64>)] = &[
+    (0x1008, Some(0x100f_0e0d_0c0b_0a09), Some(0x090a_0b0c_0d0e_0f10)),
+    (0x1009, None, None),
+];
+
+#[rattlefmt::skip]
+const LONGEST: &[(u64, Option<u128>, Option<u128>)] = &[
+    (
+        0x1000,
+        Some(0x100f_0e0d_0c0b_0a09_0807_0605_0403_0201),
+        Some(0x0102_0304_0506_0708_090a_0b0c_0d0e_0f10),
+    ),
+    (0x1001, None, None),
+];
+
+fn all_hold<T: FixedRead + PartialEq>(rows: &[(u64, Option<T>, Option<T>)]) -> bool {
+    for (address, little, big) in rows {
+        if !holds(Endian::Little, *address, little) || !holds(Endian::Big, *address, big) {
+            return false;
+        }
+    }
+    true
+}
+
+#[test]
+fn a_number_is_read_where_the_region_holds_it_whole(rt: HostRuntime) {
+    for (address, want) in BYTES {
+        assert!(rt; holds(Endian::Little, *address, want), "at {address}");
+    }
+    assert!(rt; all_hold(HALVES) && all_hold(WORDS) && all_hold(LONGS) && all_hold(LONGEST));
+}

@@ -1,0 +1,90 @@
+mod identity;
+mod lists;
+
+use crate::given::read_in;
+use minidump_bytes::{Endian, Steps};
+use minidump_format::Error;
+use minidump_format::format::{MINIDUMP_MODULE, MINIDUMP_UNLOADED_MODULE};
+use minidump_modules::MinidumpModule;
+use minidump_synth::SynthMinidump;
+use minidump_system::MinidumpStream;
+use std::alloc::{AllocError, Global};
+
+// A module to be written: its entry but for the places, its name and its CodeView record.
+#[derive(Clone, Copy)]
+struct Written<'a> {
+    base: u64,
+    size: u32,
+    name: &'a str,
+    view: &'a [u8],
+}
+
+// The time stamp of each module that is written.
+const STAMP: u32 = 0xb105_4d2a;
+
+// Adds the name and the record of a module, and returns its entry.
+fn added(
+    alloc: Global,
+    dump: &mut SynthMinidump,
+    module: &Written<'_>,
+) -> Result<MINIDUMP_MODULE, Error> {
+    let mut raw = MinidumpModule::new(alloc, module.base, module.size, "")?.raw;
+    raw.time_date_stamp = STAMP;
+    raw.module_name_rva = dump.add_text16(module.name);
+    raw.cv_record = dump.add_located(&module.view);
+    Ok(raw)
+}
+
+// The bytes of a file, and those of its list of modules.
+#[derive(Drop)]
+struct Listed {
+    file: Vec<u8>,
+    stream: Vec<u8>,
+    endian: Endian,
+}
+
+impl Listed {
+    fn loaded(alloc: Global, endian: Endian, modules: &[Written<'_>]) -> Result<Listed, Error> {
+        let mut dump = SynthMinidump::new(alloc, endian);
+        let mut list = Vec::new(alloc);
+        for module in modules {
+            list.push(added(alloc, &mut dump, module)?)?;
+        }
+        Ok(Listed {
+            stream: dump.section().list(&list).finish()?,
+            file: dump.finish()?,
+            endian,
+        })
+    }
+
+    fn unloaded(
+        alloc: Global,
+        endian: Endian,
+        modules: &[Written<'_>],
+    ) -> Result<Listed, AllocError> {
+        let mut dump = SynthMinidump::new(alloc, endian);
+        let mut list = Vec::new(alloc);
+        for module in modules {
+            list.push(MINIDUMP_UNLOADED_MODULE {
+                base_of_image: module.base,
+                size_of_image: module.size,
+                checksum: 0,
+                time_date_stamp: STAMP,
+                module_name_rva: dump.add_text16(module.name),
+            })?;
+        }
+        Ok(Listed {
+            stream: dump.section().extended_list(12, &list).finish()?,
+            file: dump.finish()?,
+            endian,
+        })
+    }
+
+    fn read<'a, S: MinidumpStream<'a>>(
+        &'a self,
+        alloc: Global,
+        steps: &mut Steps,
+    ) -> Result<S, Error> {
+        read_in(alloc, &self.stream, &self.file, self.endian, steps)
+    }
+}

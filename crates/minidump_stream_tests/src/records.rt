@@ -1,0 +1,3 @@
+mod crashpad;
+mod handles;
+mod mac_crash_info;
