@@ -190,7 +190,7 @@ const FULL_TEXTS: &[Option<&str>] = &[
 // head, and from version 4 on of its fixed part and five texts.
 type Row = (
     Record,
-    u64,
+    u128,
     &'static [Option<u64>],
     &'static [Option<&'static str>],
 );
