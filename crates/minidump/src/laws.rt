@@ -1,5 +1,6 @@
 //! Laws of the directory, of the streams and of lists of regions, over the definitions that the contracts of
-//! this crate name. Each is a call that does nothing; its contract says what holds.
+//! this crate name. Each is a call that does nothing; its contract says what holds. Those of reading are in
+//! `reading`, those of the records of the format in `records`.
 ghost use Rattle.std.specs.Prelude.{◌≡◌, ◌≢◌, ◌<◌, ◌^◌, ◌+◌, ℕ, ◌++◌, ◌∷◌, All, Contains, List, length, map, Option};
 ghost use Rattle.std.specs.List.Sorted.{IsStrictlyIncreasing};
 ghost use Rattle.minidump_format.specs.declared.format.header.MINIDUMP_DIRECTORY.{MINIDUMP_DIRECTORY};
@@ -21,21 +22,13 @@ use crate::exception::MinidumpException;
 use crate::streams::{MinidumpUnimplementedStream, MinidumpUnknownStream};
 use crate::thread::MinidumpThread;
 use crate::thread_list::MinidumpThreadList;
-pub use minidump_bytes::laws::{
-    characters_of_a_text_are_one, clones_are_the_same as reading_clones_are_the_same,
-    digits_have_their_numbers, field_at_a_place_is_one, field_is_what_bytes_spell,
-    fields_of_bytes_are_one, linux_texts_compare_by_their_bytes, number_is_what_digits_write,
-    parts_make_the_text, text_is_utf8, text_of_units_is_one, text_spells_its_units,
-};
+pub use minidump_bytes::laws as reading;
 pub use minidump_context::laws::{
     a_change_is_seen_under_all_names, any_name_makes_a_register_valid,
     clones_are_the_same as context_clones_are_the_same, names_name_their_registers,
     nothing_else_is_changed, registers_stand_at_their_places, sets_are_equal_by_their_names,
 };
-pub use minidump_format::laws::{
-    annotation_numbers, contexts_are_copied, file_info_numbers, header_numbers,
-    large_records_are_exact,
-};
+pub use minidump_format::laws as records;
 pub use minidump_index::laws::{
     a_kept_set, a_lookup, an_address_order, one_address_order, one_kept_set,
     one_region_at_an_address, region_laws as laws_of_regions, regions_by_address,
