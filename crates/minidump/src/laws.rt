@@ -1,5 +1,6 @@
 //! Laws of the directory, of the streams and of lists of regions, over the definitions that the contracts of
-//! this crate name. Each is a call that does nothing; its contract says what holds.
+//! this crate name. Each is a call that does nothing; its contract says what holds. Those of reading are in
+//! `reading`, those of the records of the format in `records`.
 ghost use Rattle.std.specs.Prelude.{◌≡◌, ◌≢◌, ◌<◌, ◌^◌, ◌+◌, ℕ, ◌++◌, ◌∷◌, All, Contains, List, length, map, Option, Some};
 ghost use Rattle.std.specs.List.Sorted.{IsStrictlyIncreasing};
 ghost use Rattle.minidump_format.specs.declared.format.header.MINIDUMP_DIRECTORY.{MINIDUMP_DIRECTORY};
@@ -21,107 +22,64 @@ ghost use Rattle.minidump_system.specs.StreamSpec.{IsSame};
 
 use crate::directory::DecidingEntry;
 use crate::exception::MinidumpException;
-use crate::streams::MinidumpUnimplementedStream;
-use crate::streams::MinidumpUnknownStream;
+use crate::streams::{MinidumpUnimplementedStream, MinidumpUnknownStream};
 use crate::thread_list::MinidumpThreadList;
-pub use minidump_bytes::laws::characters_of_a_text_are_one;
-pub use minidump_bytes::laws::clones_are_the_same as reading_clones_are_the_same;
-pub use minidump_bytes::laws::digits_have_their_numbers;
-pub use minidump_bytes::laws::field_at_a_place_is_one;
-pub use minidump_bytes::laws::field_is_what_bytes_spell;
-pub use minidump_bytes::laws::fields_of_bytes_are_one;
-pub use minidump_bytes::laws::linux_texts_compare_by_their_bytes;
-pub use minidump_bytes::laws::number_is_what_digits_write;
-pub use minidump_bytes::laws::parts_make_the_text;
-pub use minidump_bytes::laws::text_is_utf8;
-pub use minidump_bytes::laws::text_of_units_is_one;
-pub use minidump_bytes::laws::text_spells_its_units;
-pub use minidump_context::laws::a_change_is_seen_under_all_names;
-pub use minidump_context::laws::any_name_makes_a_register_valid;
-pub use minidump_context::laws::clones_are_the_same as context_clones_are_the_same;
-pub use minidump_context::laws::contexts_are_as_defined;
-pub use minidump_context::laws::names_name_their_registers;
-pub use minidump_context::laws::nothing_else_is_changed;
-pub use minidump_context::laws::registers_stand_at_their_places;
-pub use minidump_context::laws::sets_are_equal_by_their_names;
+pub use minidump_bytes::laws as reading;
+pub use minidump_context::laws::{
+    a_change_is_seen_under_all_names, any_name_makes_a_register_valid,
+    clones_are_the_same as context_clones_are_the_same, contexts_are_as_defined,
+    names_name_their_registers, nothing_else_is_changed, registers_stand_at_their_places,
+    sets_are_equal_by_their_names,
+};
 use minidump_format::format::GUID;
-pub use minidump_format::laws::annotation_numbers;
-pub use minidump_format::laws::contexts_are_copied;
-pub use minidump_format::laws::file_info_numbers;
-pub use minidump_format::laws::header_numbers;
-pub use minidump_format::laws::large_records_are_exact;
-pub use minidump_index::laws::a_kept_set;
-pub use minidump_index::laws::a_lookup;
-pub use minidump_index::laws::an_address_order;
-pub use minidump_index::laws::one_address_order;
-pub use minidump_index::laws::one_kept_set;
-pub use minidump_index::laws::one_region_at_an_address;
-pub use minidump_index::laws::region_laws as laws_of_regions;
-pub use minidump_index::laws::regions_by_address;
-use minidump_memory::MinidumpLinuxMaps;
-use minidump_memory::MinidumpMemory64List;
-use minidump_memory::MinidumpMemoryInfoList;
-use minidump_memory::MinidumpMemoryList;
-pub use minidump_memory::laws::clones_are_the_same as memory_clones_are_the_same;
-pub use minidump_memory::laws::information_compares_and_copies_exactly;
-pub use minidump_memory::laws::information_depends_on_its_stream_alone;
-pub use minidump_memory::laws::map_lines_are_the_grammar;
-pub use minidump_memory::laws::maps_compare_by_what_their_lines_say;
-pub use minidump_memory::laws::region_laws;
-pub use minidump_memory::laws::the_unified_information_answers_as_the_list_it_holds;
-pub use minidump_memory::laws::the_unified_information_answers_as_the_maps_it_holds;
-pub use minidump_memory::laws::the_unified_list_answers_as_the_64_list_it_holds;
-pub use minidump_memory::laws::the_unified_list_answers_as_the_list_it_holds;
-use minidump_modules::CodeId;
-use minidump_modules::DebugId;
-use minidump_modules::MinidumpModuleList;
-use minidump_modules::MinidumpUnloadedModuleList;
-pub use minidump_modules::laws::code_ids_compare_by_their_digits;
-pub use minidump_modules::laws::modules_are_identified_as_defined;
-pub use minidump_modules::laws::region_laws as module_laws;
-pub use minidump_modules::laws::unloaded_laws;
-pub use minidump_reason::laws::codes_have_their_listed_names;
-pub use minidump_reason::laws::errors_compare_and_copy_exactly;
-pub use minidump_reason::laws::reasons_compare_and_copy_exactly;
-pub use minidump_reason::laws::wide_codes_are_unlisted;
-use minidump_records::MinidumpAssertion;
-use minidump_records::MinidumpBreakpadInfo;
-use minidump_records::MinidumpCrashpadInfo;
-use minidump_records::MinidumpHandleDataStream;
-use minidump_records::MinidumpHandleObjectInformation;
-use minidump_records::MinidumpLinuxCpuInfo;
-use minidump_records::MinidumpLinuxEnviron;
-use minidump_records::MinidumpLinuxLsbRelease;
-use minidump_records::MinidumpLinuxProcLimits;
-use minidump_records::MinidumpLinuxProcStatus;
-use minidump_records::MinidumpMacBootargs;
-use minidump_records::MinidumpMacCrashInfo;
-use minidump_records::MinidumpSoftErrors;
-use minidump_records::MinidumpThreadInfoList;
-use minidump_records::MinidumpThreadNames;
-pub use minidump_records::laws::an_annotation_need_not_be_the_same_as_itself;
-pub use minidump_records::laws::breakpad_info_clones_are_the_same;
-pub use minidump_records::laws::dictionaries_have_the_last_values;
-pub use minidump_records::laws::handle_clones_are_the_same;
-pub use minidump_records::laws::last_info_of_a_thread_is_found;
-pub use minidump_records::laws::last_name_of_a_thread_is_kept;
-pub use minidump_records::laws::object_chain_is_one;
-pub use minidump_records::laws::object_chain_is_the_longest;
-pub use minidump_records::laws::streams_depend_on_their_bytes_alone;
+pub use minidump_format::laws as records;
+pub use minidump_index::laws::{
+    a_kept_set, a_lookup, an_address_order, one_address_order, one_kept_set,
+    one_region_at_an_address, region_laws as laws_of_regions, regions_by_address,
+};
+pub use minidump_memory::laws::{
+    clones_are_the_same as memory_clones_are_the_same, information_compares_and_copies_exactly,
+    information_depends_on_its_stream_alone, map_lines_are_the_grammar,
+    maps_compare_by_what_their_lines_say, region_laws,
+    the_unified_information_answers_as_the_list_it_holds,
+    the_unified_information_answers_as_the_maps_it_holds,
+    the_unified_list_answers_as_the_64_list_it_holds,
+    the_unified_list_answers_as_the_list_it_holds,
+};
+use minidump_memory::{
+    MinidumpLinuxMaps, MinidumpMemory64List, MinidumpMemoryInfoList, MinidumpMemoryList,
+};
+pub use minidump_modules::laws::{
+    code_ids_compare_by_their_digits, modules_are_identified_as_defined,
+    region_laws as module_laws, unloaded_laws,
+};
+use minidump_modules::{CodeId, DebugId, MinidumpModuleList, MinidumpUnloadedModuleList};
+pub use minidump_reason::laws::{
+    codes_have_their_listed_names, errors_compare_and_copy_exactly,
+    reasons_compare_and_copy_exactly, wide_codes_are_unlisted,
+};
+pub use minidump_records::laws::{
+    an_annotation_need_not_be_the_same_as_itself, breakpad_info_clones_are_the_same,
+    dictionaries_have_the_last_values, handle_clones_are_the_same, last_info_of_a_thread_is_found,
+    last_name_of_a_thread_is_kept, object_chain_is_one, object_chain_is_the_longest,
+    streams_depend_on_their_bytes_alone,
+};
+use minidump_records::{
+    MinidumpAssertion, MinidumpBreakpadInfo, MinidumpCrashpadInfo, MinidumpHandleDataStream,
+    MinidumpHandleObjectInformation, MinidumpLinuxCpuInfo, MinidumpLinuxEnviron,
+    MinidumpLinuxLsbRelease, MinidumpLinuxProcLimits, MinidumpLinuxProcStatus, MinidumpMacBootargs,
+    MinidumpMacCrashInfo, MinidumpSoftErrors, MinidumpThreadInfoList, MinidumpThreadNames,
+};
 use minidump_stability::StabilityReport;
-pub use minidump_stability::laws::fields_are_what_bytes_spell;
-pub use minidump_stability::laws::process_states_compare_and_copy_exactly;
-pub use minidump_stability::laws::report_depends_on_its_stream_alone;
-pub use minidump_stability::laws::report_is_what_its_fields_mean;
-pub use minidump_stability::laws::reports_compare_by_what_they_hold;
-use minidump_system::Cpu;
-use minidump_system::MinidumpMiscInfo;
-use minidump_system::MinidumpStream;
-use minidump_system::MinidumpSystemInfo;
-use minidump_system::Os;
-pub use minidump_system::laws::dates_are_the_calendars;
-pub use minidump_system::laws::misc_info_clones_are_the_same;
-pub use minidump_system::laws::misc_info_depends_on_its_stream_alone;
+pub use minidump_stability::laws::{
+    fields_are_what_bytes_spell, process_states_compare_and_copy_exactly,
+    report_depends_on_its_stream_alone, report_is_what_its_fields_mean,
+    reports_compare_by_what_they_hold,
+};
+pub use minidump_system::laws::{
+    dates_are_the_calendars, misc_info_clones_are_the_same, misc_info_depends_on_its_stream_alone,
+};
+use minidump_system::{Cpu, MinidumpMiscInfo, MinidumpStream, MinidumpSystemInfo, Os};
 use std::fmt;
 
 /// Of the entries with one type the last decides. Its index is the number of entries before it.

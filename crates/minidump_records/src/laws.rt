@@ -1,6 +1,5 @@
 //! Laws of the streams of this crate, over the definitions that their contracts cite.
 ghost use Rattle.std.specs.Prelude.{◌≡◌, ◌≢◌, ◌↔◌, ◌<◌, ◌^◌, ◌++◌, ◌∷◌, ℕ, All, List, None, Some, map};
-ghost use Rattle.std.specs.List.{filter_map};
 ghost use Rattle.minidump_bytes.specs.declared.endian.Endian.{Endian};
 ghost use Rattle.minidump_format.specs.declared.format.crashpad.MINIDUMP_ANNOTATION.{MINIDUMP_ANNOTATION};
 ghost use Rattle.minidump_system.specs.Meaning.{DependsOnItsBytesAlone};
