@@ -52,8 +52,8 @@
 //!   `iter` of each, by `pairs_of`; `LinuxPairs::next`.
 //! - What depends on its stream and the byte order alone: `laws::streams_depend_on_their_bytes_alone`. Copies
 //!   are the same: `try_clone`, `laws::breakpad_info_clones_are_the_same`.
-//! - Each read takes at most n + 7 steps, of handles and of Crashpad's information (n + 8)² - 1: `limit` of each
-//!   stream.
+//! - Each read takes at most n + 7 steps, of handles and of Crashpad's information (n + 8)² - 1: `most` of each
+//!   table.
 //!
 //! What isn't: that a forged count reserves no memory. The contracts show that no `OutOfMemory` is returned
 //! for it, but for Crashpad's lists, which grow entry by entry, and for the count of records on macOS, of which

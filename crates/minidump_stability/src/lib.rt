@@ -16,7 +16,7 @@
 //!   by `stability_report`; `laws::fields_are_what_bytes_spell`, `report_is_what_its_fields_mean`.
 //! - It depends on its stream alone: `laws::report_depends_on_its_stream_alone`.
 //! - A read takes at most n + 7 reads and, where it succeeds, at least one for each field, nested ones
-//!   included: `limit` and `least` of `StabilityReport`.
+//!   included: `most` and `fewest` of `stability_report_stream`.
 //! - A copy is the same report, and reports are equal where they hold the same: `StabilityReport::try_clone`,
 //!   `laws::reports_compare_by_what_they_hold`; each message copies and compares exactly.
 //!

@@ -14,9 +14,9 @@
 //!
 //! # What is proved
 //!
-//! - `read` of a stream returns what the type's `meaning` assigns to its bytes, or `OutOfMemory` where
-//!   `takes_memory` holds, and counts at most `limit` and, where it succeeds, at least `least` reads: the
-//!   clauses of `MinidumpStream::read`.
+//! - `read` of a stream returns what the `meaning` of the type's table, a `StreamSpec`, assigns to its bytes, or
+//!   `OutOfMemory` where its `memory` holds, and counts at most `most` and, where it succeeds, at least `fewest`
+//!   reads: the clauses of `MinidumpStream::read`.
 //! - The entries of each framing, one by one, each error in the format's order and with its two numbers, and
 //!   the number of reads, without taking memory: `framing::plain_entries`, `entries_64`,
 //!   `extended_entries`, `handle_entries`.
@@ -29,7 +29,7 @@
 //! - Names, widths, versions, builds and dates: `Os`, `Cpu`, `PointerWidth`, `os_parts`, `date_text`. Dates are
 //!   those of the calendar: `laws::dates_are_the_calendars`. Both prints, byte by byte: `print`.
 //!
-//! What isn't: that a `read` counts on the counter that it is handed each read beyond `least`.
+//! What isn't: that a `read` counts on the counter that it is handed each read beyond `fewest`.
 #![tactic(auto)]
 
 mod cpu;
