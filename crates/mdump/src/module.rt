@@ -1,7 +1,7 @@
 ghost use Rattle.std.specs.Prelude.{◌≡◌, ◌⊎◌, IfErr, IfOk, string_bytes};
 ghost use Rattle.std.specs.Option.{option_copied, option_map};
 ghost use Rattle.minidump_modules.specs.Module.{module_of, value_range};
-ghost use Rattle.minidump_modules.specs.ModuleList.{module_values};
+ghost use Rattle.minidump_modules.specs.ModuleList.{module_list_of};
 ghost use Rattle.minidump.specs.Seen.{dump_of};
 ghost use Rattle.mdump.specs.Done.{IsModuleLine, IsOutputRefusal, Writes};
 ghost use Rattle.mdump.specs.Lines.{IsAt, module_line};
@@ -30,7 +30,7 @@ pub(crate) fn module_line<O: Write>(
 
 // Finds the module that contains the address.
 fn module_at(modules: Option<&MinidumpModuleList>, address: u64) -> Option<&MinidumpModule>
-    ensures { IsAt value_range (option_map module_values (option_copied modules.entry)) address
+    ensures { IsAt value_range (option_map module_list_of (option_copied modules.entry)) address
         (option_map module_of (option_copied result)) }
 {
     modules?.module_at_address(address)

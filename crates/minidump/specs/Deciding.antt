@@ -17,7 +17,7 @@ pub record Decides (m : BTreeMap ℕ DecidingEntry) (es : List MINIDUMP_DIRECTOR
 
 -- `Ok`: each entry is in the file, and the map has the deciding ones. Memory may run out where each entry is there, and there is one
 abbrev pub ReadsDirectory : Endian → MINIDUMP_HEADER → List ℕ → Result (BTreeMap ℕ DecidingEntry) Error → Type 0
-ReadsDirectory order h bytes (Ok m) = (is_readable h bytes ≡ true) × Decides m (directory order h bytes)
+ReadsDirectory order h bytes (Ok m) = (is_readable h bytes ≡ true) × Decides m (directory order bytes h)
 ReadsDirectory order h bytes (Err MissingDirectory) = is_readable h bytes ≡ false
 ReadsDirectory order h bytes (Err OutOfMemory) = (is_readable h bytes ≡ true) × (0 < h.stream_count)
 ReadsDirectory order h bytes (Err _) = ⊥

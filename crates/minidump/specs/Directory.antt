@@ -9,8 +9,8 @@ use Rattle.minidump_format.specs.Header.{directory_entry}
 use Rattle.minidump.specs.declared.directory.DecidingEntry.{DecidingEntry}
 
 -- its entries, in the order of the file
-abbrev pub directory : Endian → MINIDUMP_HEADER → List ℕ → List MINIDUMP_DIRECTORY
-directory order h bytes = entries directory_entry order bytes h.stream_directory_rva h.stream_count
+abbrev pub directory : Endian → List ℕ → MINIDUMP_HEADER → List MINIDUMP_DIRECTORY
+directory order bytes h = entries directory_entry order bytes h.stream_directory_rva h.stream_count
 
 -- each of them is in the file. The place of a directory with none isn't looked at
 abbrev pub is_readable : MINIDUMP_HEADER → List ℕ → Bool

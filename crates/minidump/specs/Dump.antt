@@ -10,7 +10,7 @@ use Rattle.minidump_format.specs.declared.format.stream_type.MINIDUMP_STREAM_TYP
 use Rattle.minidump_format.specs.StreamType.{number_of}
 use Rattle.minidump_format.specs.Answer.{Gives}
 use Rattle.minidump_system.specs.StreamSpec.{Meaning, StreamSpec}
-use Rattle.minidump_system.specs.SystemInfo.{System, system_in}
+use Rattle.minidump_system.specs.SystemInfo.{System, system_info_in}
 use Rattle.minidump.specs.declared.directory.DecidingEntry.{DecidingEntry}
 use Rattle.minidump.specs.Header.{header_of}
 use Rattle.minidump.specs.Directory.{directory, deciding, deciding_below, is_readable}
@@ -34,23 +34,23 @@ HasEntries file = IsOkAnd (dump_in file) (λ d. 0 < d.header.stream_count)
 
 -- the entries that decide a type of stream, ascending by type
 abbrev pub streams_of : Dump → List DecidingEntry
-streams_of d = deciding_below (2 ^ 32) (directory d.order d.header d.file)
+streams_of d = deciding_below (2 ^ 32) (directory d.order d.file d.header)
 
 -- the bytes of a span, where it is in the file
 abbrev pub spanned : Option (List ℕ) → Result (List ℕ) Error
 spanned None = Err StreamReadFailure
 spanned (Some bytes) = Ok bytes
 
-abbrev located : List ℕ → Option DecidingEntry → Result (List ℕ) Error
-located file None = Err StreamNotFound
-located file (Some d) = let at = d.entry.location in spanned (span at.rva (at.rva + at.data_size) file)
+abbrev decided_bytes : List ℕ → Option DecidingEntry → Result (List ℕ) Error
+decided_bytes file None = Err StreamNotFound
+decided_bytes file (Some d) = let at = d.entry.location in spanned (span at.rva (at.rva + at.data_size) file)
 
 -- the bytes of the stream of a type: the span of its deciding entry
 abbrev pub raw_stream : ℕ → Dump → Result (List ℕ) Error
-raw_stream stream_type d = located d.file (deciding stream_type (directory d.order d.header d.file))
+raw_stream stream_type d = decided_bytes d.file (deciding stream_type (directory d.order d.file d.header))
 
 abbrev meant : {V : Type 0} → Meaning V → Dump → Option System → Result (List ℕ) Error → Result V Error
-meant meaning d system (Ok bytes) = meaning bytes d.file d.order system
+meant meaning d system (Ok bytes) = meaning d.order d.file bytes system
 meant meaning d system (Err e) = Err e
 
 -- the stream of a type, with a system information handed in
@@ -58,8 +58,8 @@ abbrev pub stream_with : {V : Type 0} → Option System → ℕ → Meaning V �
 stream_with system stream_type meaning d = meant meaning d system (raw_stream stream_type d)
 
 -- the system information, where its stream is one with none handed in
-abbrev pub system_info_of : Dump → Option System
-system_info_of d = result_ok (stream_with None (number_of SystemInfoStream) system_in d)
+abbrev pub dump_system : Dump → Option System
+dump_system d = result_ok (stream_with None (number_of SystemInfoStream) system_info_in d)
 
 abbrev reads_of : Result (List ℕ) Error → Option System → ℕ
 reads_of (Err StreamNotFound) system = 0
@@ -69,7 +69,7 @@ reads_of (Ok bytes) (Some system) = 3
 
 -- the reads that the system information takes at least: its span, its record and its text, as far as each is there to be read
 abbrev pub system_reads : Dump → ℕ
-system_reads d = reads_of (raw_stream (number_of SystemInfoStream) d) (system_info_of d)
+system_reads d = reads_of (raw_stream (number_of SystemInfoStream) d) (dump_system d)
 
 -- the reads that a dump takes at least: one for the header, one for each entry, and those of its system information
 abbrev pub least_reads : Dump → ℕ
@@ -77,16 +77,16 @@ least_reads d = 1 + d.header.stream_count + system_reads d
 
 -- the stream of a type, with the dump's system information
 abbrev pub stream : {V : Type 0} → ℕ → Meaning V → Dump → Result V Error
-stream stream_type meaning d = stream_with (system_info_of d) stream_type meaning d
+stream stream_type meaning d = stream_with (dump_system d) stream_type meaning d
 
 -- the stream of a table
 abbrev pub stream_of : {S V : Type 0} → StreamSpec S V → Dump → Result V Error
 stream_of spec d = stream (number_of spec.stream_type) spec.meaning d
 
 -- where it may run out of memory
-abbrev pub memory_of : {S V : Type 0} → StreamSpec S V → Dump → Type 0
-memory_of spec d = IsOkAnd (raw_stream (number_of spec.stream_type) d) (λ b. spec.memory b d.order)
+abbrev pub stream_memory : {S V : Type 0} → StreamSpec S V → Dump → Type 0
+stream_memory spec d = IsOkAnd (raw_stream (number_of spec.stream_type) d) (λ b. spec.memory d.order b)
 
 -- a result is the stream of a table or its error; or memory ran out where it may
 abbrev pub IsStreamOf : {S V : Type 0} → StreamSpec S V → Dump → Result S Error → Type 0
-IsStreamOf spec d result = Gives spec.value (memory_of spec d) result (stream_of spec d)
+IsStreamOf spec d result = Gives spec.value (stream_memory spec d) result (stream_of spec d)

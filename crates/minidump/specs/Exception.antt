@@ -1,15 +1,15 @@
 -- The exception of a minidump: Microsoft's MINIDUMP_EXCEPTION_STREAM, with the address of the crash.
-use Rattle.minidump_format.specs.declared.format.stream_type.MINIDUMP_STREAM_TYPE.TheVariants.{ExceptionStream}
-use Rattle.minidump_system.specs.StreamSpec.{StreamSpec, linear}
 use Rattle.std.specs.Prelude.{ℕ, ◌%◌, ◌^◌, ◌==◌, ◌||◌, ◌&&◌, nat_le, Bool, false, List, slice_index, Option, Result, Ok, if◌then◌else◌}
 use Rattle.std.specs.Option.{ok_or, option_copied}
 use Rattle.minidump_bytes.specs.declared.endian.Endian.{Endian}
 use Rattle.minidump_bytes.specs.Span.{record_at}
+use Rattle.minidump_format.specs.declared.format.stream_type.MINIDUMP_STREAM_TYPE.TheVariants.{ExceptionStream}
 use Rattle.minidump_format.specs.declared.error.Error.{Error}
 use Rattle.minidump_format.specs.declared.error.Error.TheVariants.{StreamReadFailure}
 use Rattle.minidump_format.specs.declared.format.exception.MINIDUMP_EXCEPTION.{MINIDUMP_EXCEPTION}
 use Rattle.minidump_format.specs.declared.format.exception.MINIDUMP_EXCEPTION_STREAM.{MINIDUMP_EXCEPTION_STREAM}
 use Rattle.minidump_format.specs.Exception.{exception_stream as exception_layout}
+use Rattle.minidump_system.specs.StreamSpec.{StreamSpec, linear}
 use Rattle.minidump_system.specs.declared.cpu.Cpu.{Cpu}
 use Rattle.minidump_system.specs.declared.cpu.PointerWidth.{PointerWidth}
 use Rattle.minidump_system.specs.declared.cpu.PointerWidth.TheVariants.{Bits32}
@@ -35,8 +35,8 @@ abbrev pub exception_at : Endian → List ℕ → MINIDUMP_EXCEPTION_STREAM → 
 exception_at order file raw = record { raw = raw; thread_id = raw.thread_id; context = located file raw.thread_context; order = order }
 
 -- Microsoft's MINIDUMP_EXCEPTION_STREAM: one record
-abbrev pub exception_in : List ℕ → List ℕ → Endian → Result Exception Error
-exception_in bytes file order =
+abbrev pub exception_in : Endian → List ℕ → List ℕ → Result Exception Error
+exception_in order file bytes =
     and_then (ok_or (record_at exception_layout order 0 bytes) StreamReadFailure) (λ raw. Ok (exception_at order file raw))
 
 -- EXCEPTION_ACCESS_VIOLATION and EXCEPTION_IN_PAGE_ERROR of winnt.h, whose second parameter is the address that was accessed
@@ -58,8 +58,8 @@ abbrev pub exception_stream : StreamSpec MinidumpException Exception
 exception_stream = record {
   stream_type = ExceptionStream;
   value = exception_of;
-  meaning = λ bytes file order system. exception_in bytes file order;
+  meaning = λ order file bytes system. exception_in order file bytes;
   most = linear;
-  fewest = λ bytes order exception. 2;
-  memory = λ bytes order. ⊥;
+  fewest = λ order bytes exception. 2;
+  memory = λ order bytes. ⊥;
 }

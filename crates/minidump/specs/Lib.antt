@@ -10,15 +10,6 @@ pub mod File
 pub mod Promise
 pub mod Memory
 pub mod Answer
-pub mod Bytes
-pub mod Format
-pub mod Index
-pub mod System
-pub mod MemoryLists
-pub mod Stability
-pub mod Contexts
-pub mod Modules
-pub mod Reasons
-pub mod Records
 pub mod Thread
 pub mod Exception
+pub mod Below

@@ -5,7 +5,7 @@ use Rattle.minidump_format.specs.declared.format.memory.MINIDUMP_MEMORY_DESCRIPT
 use Rattle.minidump_format.specs.declared.format.memory.MINIDUMP_MEMORY_DESCRIPTOR64.{MINIDUMP_MEMORY_DESCRIPTOR64}
 use Rattle.minidump_memory.specs.Memory.{MemoryRegion}
 use Rattle.minidump_memory.specs.Unified.{Memory, Memory64, UnifiedRegions}
-use Rattle.minidump.specs.Dump.{Dump, memory_of, stream_of}
+use Rattle.minidump.specs.Dump.{Dump, stream_memory, stream_of}
 use Rattle.minidump.specs.Promise.{memory_list_stream, memory64_list_stream}
 
 -- the 64 list, else the plain list where that one is missing or refused, else none
@@ -20,4 +20,4 @@ memories_of_dump d =
 
 -- one of the two lists takes memory
 abbrev pub TakesMemory : Dump → Type 0
-TakesMemory d = memory_of memory64_list_stream d ⊎ memory_of memory_list_stream d
+TakesMemory d = stream_memory memory64_list_stream d ⊎ stream_memory memory_list_stream d

@@ -1,7 +1,8 @@
--- The promise of this library. A file is a minidump, or has an error, by `dump_in` of Dump.antt; a stream is a value, or has an error,
--- by `stream` there and by what its type means. Reading a file of n bytes takes n + 8 reads at most, and `least_reads` at least where it is a
--- minidump; a stream takes one for its span and n + 7 more at most, or (n + 8)² - 1 more where it is handles or Crashpad's information. A list of regions answers
--- by `HasRegionLaws` of minidump_index. Each type of stream that is read has a table here.
+-- The promise of this library, and the index of its tables. A file is a minidump, or has an error, by `dump_in` of Dump.antt; a stream is a
+-- value, or has an error, by `stream_of` there and by the table of its type: a `StreamSpec`, at the end of the file that its line here names.
+-- Reading a file of n bytes takes n + 8 reads at most, and `least_reads` at least where it is a minidump; a stream takes one for its span and
+-- n + 7 more at most, or (n + 8)² - 1 more where it is handles or Crashpad's information. A list of regions answers by `HasRegionLaws` of
+-- minidump_index.
 pub use Rattle.minidump_system.specs.SystemInfo.{system_info_stream}
 pub use Rattle.minidump_system.specs.MiscInfo.{misc_info_stream}
 pub use Rattle.minidump_memory.specs.MemoryList.{memory_list_stream}
@@ -21,5 +22,9 @@ pub use Rattle.minidump_records.specs.Assertion.{assertion_stream}
 pub use Rattle.minidump_records.specs.MacCrashInfo.{mac_crash_info_stream}
 pub use Rattle.minidump_records.specs.BootArgs.{mac_bootargs_stream}
 pub use Rattle.minidump_records.specs.SoftErrors.{soft_errors_stream}
-pub use Rattle.minidump_records.specs.LinuxTexts.{linux_cpu_info_stream, linux_proc_status_stream, linux_lsb_release_stream, linux_environ_stream, linux_proc_limits_stream}
+pub use Rattle.minidump_records.specs.LinuxTexts.{linux_cpu_info_stream}
+pub use Rattle.minidump_records.specs.LinuxTexts.{linux_proc_status_stream}
+pub use Rattle.minidump_records.specs.LinuxTexts.{linux_lsb_release_stream}
+pub use Rattle.minidump_records.specs.LinuxTexts.{linux_environ_stream}
+pub use Rattle.minidump_records.specs.LinuxTexts.{linux_proc_limits_stream}
 pub use Rattle.minidump_stability.specs.StabilityReport.{stability_report_stream}

@@ -1,31 +1,30 @@
 -- The threads of a minidump: Microsoft's MINIDUMP_THREAD_LIST, with the context and the stack of each.
-use Rattle.minidump_format.specs.declared.format.stream_type.MINIDUMP_STREAM_TYPE.TheVariants.{ThreadListStream}
-use Rattle.minidump_system.specs.StreamSpec.{StreamSpec, linear}
+use Rattle.std.specs.Prelude.{◌≡◌, ◌≢◌, ℕ, ◌+◌, All, List, ◌∷◌, ◌++◌, map, Option, Some, None, Result, Ok, if◌then◌else◌, nat_lt, ◌*◌, ◌^◌, IsOkAnd, ◌<◌, length}
 use Rattle.std.specs.List.{sum_by}
-use Rattle.std.specs.Prelude.{IsOkAnd, ◌<◌, length}
-use Rattle.std.specs.Prelude.{◌≡◌, ◌≢◌, ℕ, ◌+◌, All, List, ◌∷◌, ◌++◌, map, Option, Some, None, Result, Ok, if◌then◌else◌, nat_lt, ◌*◌, ◌^◌}
 use Rattle.std.specs.Option.{option_and_then, option_copied, option_map}
 use Rattle.std.specs.Result.{result_ok}
 use Rattle.minidump_bytes.specs.declared.endian.Endian.{Endian}
 use Rattle.minidump_bytes.specs.Layout.{number_layout}
 use Rattle.minidump_bytes.specs.Span.{span}
+use Rattle.minidump_format.specs.declared.format.stream_type.MINIDUMP_STREAM_TYPE.TheVariants.{ThreadListStream}
 use Rattle.minidump_format.specs.declared.error.Error.{Error}
 use Rattle.minidump_format.specs.declared.format.header.MINIDUMP_LOCATION_DESCRIPTOR.{MINIDUMP_LOCATION_DESCRIPTOR}
 use Rattle.minidump_format.specs.declared.format.memory.MINIDUMP_MEMORY_DESCRIPTOR.{MINIDUMP_MEMORY_DESCRIPTOR}
 use Rattle.minidump_format.specs.declared.format.thread.MINIDUMP_THREAD.{MINIDUMP_THREAD}
 use Rattle.minidump_format.specs.Thread.{thread}
+use Rattle.minidump_index.specs.Lookup.{IsLookedUp}
+use Rattle.minidump_system.specs.StreamSpec.{StreamSpec, linear}
+use Rattle.minidump_system.specs.declared.cpu.Cpu.{Cpu}
+use Rattle.minidump_system.specs.Cpu.{pointer_bytes, width_of}
+use Rattle.minidump_system.specs.Framing.{plain_list}
+use Rattle.minidump_system.specs.Reads.{and_then}
 use Rattle.minidump_context.specs.declared.raw_context.MinidumpRawContext.{MinidumpRawContext}
 use Rattle.minidump_context.specs.Context.{context_in}
-use Rattle.minidump_index.specs.Lookup.{IsLookedUp}
 use Rattle.minidump_memory.specs.Memory.{MemoryRegion, described, memory_of, number_in, region_range, spans_read}
 use Rattle.minidump_memory.specs.Unified.{Memory, UnifiedRegion, UnifiedRegions, of_kind, unified_regions}
 use Rattle.minidump_reason.specs.declared.reason.CrashReason.{CrashReason}
 use Rattle.minidump_reason.specs.Names.{Lists}
 use Rattle.minidump_reason.specs.Reason.{windows_error}
-use Rattle.minidump_system.specs.declared.cpu.Cpu.{Cpu}
-use Rattle.minidump_system.specs.Cpu.{pointer_bytes, width_of}
-use Rattle.minidump_system.specs.Framing.{plain_list}
-use Rattle.minidump_system.specs.Reads.{and_then}
 use Rattle.minidump.specs.declared.thread.MinidumpThread.{MinidumpThread}
 use Rattle.minidump.specs.declared.thread_list.MinidumpThreadList.{MinidumpThreadList}
 
@@ -47,21 +46,21 @@ pub record Thread : Type 0 where
 abbrev pub thread_of : MinidumpThread → Thread
 thread_of t = record { raw = t.raw; context = option_copied t.context; stack = option_map memory_of t.stack; order = t.endian }
 
-abbrev pub threads_of : MinidumpThreadList → List Thread
-threads_of l = map thread_of l.threads.items
+abbrev pub thread_list_of : MinidumpThreadList → List Thread
+thread_list_of l = map thread_of l.threads.items
 
 -- the thread of an entry: a context or a stack whose bytes are not in the file is absent, and so is a stack without a place or a size
 abbrev pub thread_at : Endian → List ℕ → MINIDUMP_THREAD → Thread
 thread_at order file raw = record {
   raw = raw;
   context = located file raw.thread_context;
-  stack = result_ok (described file order raw.stack);
+  stack = result_ok (described order file raw.stack);
   order = order;
 }
 
 -- Microsoft's MINIDUMP_THREAD_LIST: a plain list of entries
-abbrev pub thread_list : List ℕ → List ℕ → Endian → Result (List Thread) Error
-thread_list bytes file order = and_then (plain_list thread order bytes) (λ raws. Ok (map (thread_at order file) raws))
+abbrev pub thread_list_in : Endian → List ℕ → List ℕ → Result (List Thread) Error
+thread_list_in order file bytes = and_then (plain_list thread order bytes) (λ raws. Ok (map (thread_at order file) raws))
 
 -- the last thread of an id: it has the id, and none behind it has. There is none only where no thread has the id
 abbrev pub IsLastThread : ℕ → List Thread → Option Thread → Type 0
@@ -103,9 +102,9 @@ IsErrorIn names memory (Some address) found =
 abbrev pub thread_list_stream : StreamSpec MinidumpThreadList (List Thread)
 thread_list_stream = record {
   stream_type = ThreadListStream;
-  value = threads_of;
-  meaning = λ bytes file order system. thread_list bytes file order;
+  value = thread_list_of;
+  meaning = λ order file bytes system. thread_list_in order file bytes;
   most = linear;
-  fewest = λ bytes order threads. 1 + length threads + sum_by reads_of threads;
-  memory = λ bytes order. IsOkAnd (plain_list thread order bytes) (λ raws. 0 < length raws);
+  fewest = λ order bytes threads. 1 + length threads + sum_by reads_of threads;
+  memory = λ order bytes. IsOkAnd (plain_list thread order bytes) (λ raws. 0 < length raws);
 }

@@ -1,10 +1,10 @@
+ghost use Rattle.std.specs.Prelude.{◌≡◌};
+ghost use Rattle.std.specs.Option.{option_map};
 ghost use Rattle.minidump_bytes.specs.Source.{bytes_of};
+ghost use Rattle.minidump_system.specs.SystemInfo.{system_info_of};
 ghost use Rattle.minidump.specs.Directory.{directory};
 ghost use Rattle.minidump.specs.Deciding.{Decides};
-ghost use Rattle.minidump.specs.Dump.{system_info_of};
-ghost use Rattle.minidump_system.specs.SystemInfo.{system_of};
-ghost use Rattle.std.specs.Option.{option_map};
-ghost use Rattle.std.specs.Prelude.{◌≡◌};
+ghost use Rattle.minidump.specs.Dump.{dump_system};
 
 use crate::directory::{DecidingEntry, read_directory};
 use crate::header::read_header;
@@ -30,19 +30,19 @@ pub struct Minidump<'a> {
     pub(crate) entries: BTreeMap<u32, DecidingEntry>,
     // set exactly where the SystemInfo stream parses
     pub(crate) system_info: Option<MinidumpSystemInfo>,
-    ghost decides: { Decides entries (directory endian header (bytes_of source)) },
-    ghost knows: { option_map system_of system_info
-        ≡ system_info_of (record { file = bytes_of source; order = endian; header = header }) },
+    ghost decides: { Decides entries (directory endian (bytes_of source) header) },
+    ghost knows: { option_map system_info_of system_info
+        ≡ dump_system (record { file = bytes_of source; order = endian; header = header }) },
 }
 
 impl<'a> Minidump<'a> {
     ghost use Rattle.std.specs.Prelude.{◌+◌, ◌≤◌, length, IfOk};
+    ghost use Rattle.std.specs.List.{filter_map};
     ghost use Rattle.minidump_bytes.specs.Steps.{after};
     ghost use Rattle.minidump_format.specs.Answer.{Gives};
     ghost use Rattle.minidump.specs.Dump.{HasEntries, dump_in, least_reads, raw_stream, streams_of};
     ghost use Rattle.minidump.specs.Seen.{dump_of};
     ghost use Rattle.minidump.specs.Streams.{as_unknown, as_unimplemented, entries_of, streams_left, unknown_left, unimplemented_left};
-    ghost use Rattle.std.specs.List.{filter_map};
 
     /// Reads the header, the directory and the system information of a minidump.
     ///

@@ -1,10 +1,9 @@
 ghost use Rattle.std.specs.Prelude.{◌≡◌, IfSome};
 ghost use Rattle.std.specs.Option.{option_copied, option_map};
-ghost use Rattle.minidump_context.specs.declared.validity.MinidumpContextValidity.TheVariants.{All};
-ghost use Rattle.minidump.specs.Exception.{exception_stream};
 ghost use Rattle.minidump_format.specs.StreamType.{number_of};
+ghost use Rattle.minidump_context.specs.declared.validity.MinidumpContextValidity.TheVariants.{All};
 ghost use Rattle.minidump_reason.specs.Reason.{crash_reason};
-ghost use Rattle.minidump.specs.Exception.{crash_address};
+ghost use Rattle.minidump.specs.Exception.{exception_stream, crash_address};
 ghost use Rattle.minidump.specs.Thread.{accepted_context};
 
 use crate::thread::{accepted_context, located};
@@ -102,8 +101,7 @@ impl<'a> MinidumpException<'a> {
 /// Microsoft's `MINIDUMP_EXCEPTION_STREAM`: one record. Its context is not decoded. The only error is
 /// `StreamReadFailure`, if the stream has too few bytes.
 impl<'a> MinidumpStream<'a> for MinidumpException<'a> {
-    ghost use Rattle.minidump.specs.Exception.{Exception};
-    ghost use Rattle.minidump.specs.Exception.{exception_stream};
+    ghost use Rattle.minidump.specs.Exception.{Exception, exception_stream};
 
     ghost Value = { Exception };
 

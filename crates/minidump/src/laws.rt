@@ -3,22 +3,22 @@
 //! `reading`, those of the records of the format in `records`.
 ghost use Rattle.std.specs.Prelude.{◌≡◌, ◌≢◌, ◌<◌, ◌^◌, ◌+◌, ℕ, ◌++◌, ◌∷◌, All, Contains, List, length, map, Option, Some};
 ghost use Rattle.std.specs.List.Sorted.{IsStrictlyIncreasing};
-ghost use Rattle.minidump_format.specs.declared.format.header.MINIDUMP_DIRECTORY.{MINIDUMP_DIRECTORY};
-ghost use Rattle.minidump.specs.declared.directory.DecidingEntry.{DecidingEntry};
-ghost use Rattle.minidump.specs.Directory.{deciding, deciding_below, directory};
-ghost use Rattle.minidump.specs.Dump.{Dump, raw_stream, spanned, stream_of, streams_of, system_info_of};
 ghost use Rattle.std.specs.Result.{result_ok};
-ghost use Rattle.minidump.specs.Promise.{assertion_stream, breakpad_info_stream, crashpad_info_stream, exception_stream, handle_data_stream, linux_cpu_info_stream, linux_environ_stream, linux_lsb_release_stream, linux_maps_stream, linux_proc_limits_stream, linux_proc_status_stream, mac_bootargs_stream, mac_crash_info_stream, memory64_list_stream, memory_info_list_stream, memory_list_stream, misc_info_stream, module_list_stream, soft_errors_stream, stability_report_stream, system_info_stream, thread_info_list_stream, thread_list_stream, thread_names_stream, unloaded_module_list_stream};
-ghost use Rattle.minidump.specs.Streams.{unimplemented_view, unknown_view};
-ghost use Rattle.minidump.specs.Thread.{IsLastThread, Thread};
 ghost use Rattle.minidump_bytes.specs.Span.{span};
+ghost use Rattle.minidump_format.specs.declared.format.header.MINIDUMP_DIRECTORY.{MINIDUMP_DIRECTORY};
 ghost use Rattle.minidump_format.specs.Guid.{guid_text};
-ghost use Rattle.minidump_modules.specs.CodeId.{text_of};
-ghost use Rattle.minidump_modules.specs.DebugId.{debug_id_text};
-ghost use Rattle.minidump_records.specs.ObjectChain.{information_text};
 ghost use Rattle.minidump_system.specs.Cpu.{cpu_name};
 ghost use Rattle.minidump_system.specs.Os.{os_name};
 ghost use Rattle.minidump_system.specs.StreamSpec.{IsSame};
+ghost use Rattle.minidump_modules.specs.CodeId.{text_of};
+ghost use Rattle.minidump_modules.specs.DebugId.{debug_id_text};
+ghost use Rattle.minidump_records.specs.ObjectChain.{information_text};
+ghost use Rattle.minidump.specs.declared.directory.DecidingEntry.{DecidingEntry};
+ghost use Rattle.minidump.specs.Directory.{deciding, deciding_below, directory};
+ghost use Rattle.minidump.specs.Dump.{Dump, raw_stream, spanned, stream_of, streams_of, dump_system};
+ghost use Rattle.minidump.specs.Promise.{assertion_stream, breakpad_info_stream, crashpad_info_stream, exception_stream, handle_data_stream, linux_cpu_info_stream, linux_environ_stream, linux_lsb_release_stream, linux_maps_stream, linux_proc_limits_stream, linux_proc_status_stream, mac_bootargs_stream, mac_crash_info_stream, memory64_list_stream, memory_info_list_stream, memory_list_stream, misc_info_stream, module_list_stream, soft_errors_stream, stability_report_stream, system_info_stream, thread_info_list_stream, thread_list_stream, thread_names_stream, unloaded_module_list_stream};
+ghost use Rattle.minidump.specs.Streams.{unimplemented_view, unknown_view};
+ghost use Rattle.minidump.specs.Thread.{IsLastThread, Thread};
 
 use crate::directory::DecidingEntry;
 use crate::exception::MinidumpException;
@@ -92,7 +92,7 @@ pub fn last_entry_decides()
 /// The last entry of a type decides the bytes of the stream.
 pub fn last_entry_decides_the_bytes()
     ensures { (d : Dump) (es later : List MINIDUMP_DIRECTORY) (e : MINIDUMP_DIRECTORY)
-        → directory d.order d.header d.file ≡ es ++ (e ∷ later)
+        → directory d.order d.file d.header ≡ es ++ (e ∷ later)
         → All (λ x. x.stream_type ≢ e.stream_type) later
         → raw_stream e.stream_type d ≡ spanned (span e.location.rva (e.location.rva + e.location.data_size) d.file) }
 {}
@@ -105,9 +105,9 @@ pub fn listed_streams_ascend()
 /// The listed streams are exactly the deciding entries.
 pub fn listed_streams_decide()
     ensures each { (d : Dump)
-        → All (λ s. deciding s.entry.stream_type (directory d.order d.header d.file) ≡ Some s) (streams_of d) }
+        → All (λ s. deciding s.entry.stream_type (directory d.order d.file d.header) ≡ Some s) (streams_of d) }
     ensures all { (d : Dump) (stream_type : ℕ) (s : DecidingEntry) → stream_type < 2 ^ 32
-        → deciding stream_type (directory d.order d.header d.file) ≡ Some s → Contains (streams_of d) s }
+        → deciding stream_type (directory d.order d.file d.header) ≡ Some s → Contains (streams_of d) s }
 {}
 
 /// Exactly one thread, or none, is the last of an id: it has the id, and none behind it has.
@@ -119,7 +119,7 @@ pub fn one_last_thread()
 
 /// The system information is read as the dump has it: its stream, where that parses.
 pub fn system_information_is_the_dumps()
-    ensures { (d : Dump) → result_ok (stream_of system_info_stream d) ≡ system_info_of d }
+    ensures { (d : Dump) → result_ok (stream_of system_info_stream d) ≡ dump_system d }
 {}
 
 /// Each type of stream that is read keeps what is promised of it: its number, its meaning, at most `n + 7`

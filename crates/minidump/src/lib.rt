@@ -35,7 +35,7 @@
 //! - The memory is the 64-bit list, else, where that is missing or malformed, the memory list: `get_memory`,
 //!   by `memories_of_dump`. `OutOfMemory` is no reason to take the other list.
 //! - The threads, in the order of the file, each with the bytes of its context and its stack:
-//!   `laws::streams_are_read_as_promised`, by `thread_list`; the last one of an id: `get_thread`,
+//!   `laws::streams_are_read_as_promised`, by `thread_list_in`; the last one of an id: `get_thread`,
 //!   `laws::one_last_thread`. A context: `MinidumpThread::context`, `MinidumpException::context`. A stack is
 //!   the thread's own, else a region of the list: `stack_memory`. The last error: `last_error`. The address and
 //!   the reason of a crash: `get_crash_address`, `get_crash_reason`.

@@ -2,10 +2,10 @@ ghost use Rattle.std.specs.Prelude.{◌≡◌, ◌+◌, ◌≤◌, ◌<◌, IfOk
 ghost use Rattle.std.specs.Option.{option_map};
 ghost use Rattle.minidump_bytes.specs.Source.{bytes_of};
 ghost use Rattle.minidump_bytes.specs.Steps.{after};
-ghost use Rattle.minidump_system.specs.SystemInfo.{system_of};
+ghost use Rattle.minidump_system.specs.SystemInfo.{system_info_of};
 ghost use Rattle.minidump.specs.Deciding.{Decides};
 ghost use Rattle.minidump.specs.Directory.{directory};
-ghost use Rattle.minidump.specs.Dump.{system_info_of, system_reads};
+ghost use Rattle.minidump.specs.Dump.{dump_system, system_reads};
 
 use crate::answer::accepted;
 use crate::directory::DecidingEntry;
@@ -26,9 +26,9 @@ pub(crate) fn read_system_info(
     entries: &BTreeMap<u32, DecidingEntry>,
     steps: &mut Steps,
 ) -> Result<Option<MinidumpSystemInfo>, Error>
-    requires { Decides entries.now (directory endian header.now (bytes_of source)) }
-    ensures value { IfOk result (λ s. option_map system_of s
-        ≡ system_info_of (record { file = bytes_of source.entry; order = endian; header = header.now })) }
+    requires { Decides entries.now (directory endian (bytes_of source) header.now) }
+    ensures value { IfOk result (λ s. option_map system_info_of s
+        ≡ dump_system (record { file = bytes_of source.entry; order = endian; header = header.now })) }
     ensures memory { IfErr result (λ e. (e ≡ Error.OutOfMemory) × (0 < header.now.stream_count)) }
     ensures within { steps.new ≤ steps.old + 3 }
     ensures grows { steps.old ≤ steps.new }

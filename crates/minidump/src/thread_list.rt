@@ -3,9 +3,8 @@ ghost use Rattle.std.specs.List.{sum_by};
 ghost use Rattle.std.specs.Option.{option_copied, option_map};
 ghost use Rattle.minidump_bytes.specs.Source.{bytes_of};
 ghost use Rattle.minidump_bytes.specs.Steps.{after};
-ghost use Rattle.minidump.specs.Thread.{thread_list_stream};
 ghost use Rattle.minidump_format.specs.StreamType.{number_of};
-ghost use Rattle.minidump.specs.Thread.{IsLastThread, reads_of, thread_at, thread_of, threads_of};
+ghost use Rattle.minidump.specs.Thread.{IsLastThread, reads_of, thread_at, thread_of, thread_list_of, thread_list_stream};
 
 use crate::MinidumpThread;
 use minidump_bytes::{Endian, Entries, Source, Steps};
@@ -26,7 +25,7 @@ impl<'a> MinidumpThreadList<'a> {
     /// Returns the last thread with an id, or `None` if no thread has it. It compares ids from the end of
     /// the list on.
     pub fn get_thread(&self, id: u32) -> Option<&MinidumpThread<'a>>
-        ensures { IsLastThread id (threads_of self.now) (option_map thread_of (option_copied result)) }
+        ensures { IsLastThread id (thread_list_of self.now) (option_map thread_of (option_copied result)) }
     {
         self.first_from_the_end(id)
     }
@@ -42,8 +41,7 @@ impl<'a> MinidumpThreadList<'a> {
 /// Microsoft's `MINIDUMP_THREAD_LIST`: a plain list of entries. No context is decoded.
 impl<'a> MinidumpStream<'a> for MinidumpThreadList<'a> {
     ghost use Rattle.std.specs.Prelude.{List};
-    ghost use Rattle.minidump.specs.Thread.{Thread};
-    ghost use Rattle.minidump.specs.Thread.{thread_list_stream};
+    ghost use Rattle.minidump.specs.Thread.{Thread, thread_list_stream};
 
     ghost Value = { List Thread };
 

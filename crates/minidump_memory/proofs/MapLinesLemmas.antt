@@ -10,7 +10,7 @@ use Rattle.minidump_bytes.specs.LinuxOsStr.{split_parts}
 use Rattle.minidump_bytes.proofs.LinuxTextLemmas.{first_line as text_first_line}
 use Rattle.minidump_system.specs.Reads.{all_ok, and_then}
 use Rattle.minidump_memory.specs.MapLine.{MapRegion, map_line}
-use Rattle.minidump_memory.specs.LinuxMaps.{BeginsWithRegion, line_region, lines_of, linux_maps}
+use Rattle.minidump_memory.specs.LinuxMaps.{BeginsWithRegion, line_region, lines_of, linux_maps_in}
 use Rattle.minidump_format.specs.declared.error.Error.{Error}
 use Rattle.minidump_format.specs.declared.error.Error.TheVariants.{StreamReadFailure}
 
@@ -82,8 +82,8 @@ module _ (bytes : List ℕ) (place : ℕ) (done : List MapRegion) (so_far : Rest
       so_far ∙ rw (first_line (drop place bytes) some, ← p.1, heads line (lines_of (after_first (λ b. b == 10) (drop place bytes))) m (sym means), next_place place bytes line p.1)
       (moved (all_ok line_region (lines_of (drop (place + (length line + 1)) bytes))) done m)
 
-  pub rest_none : (line : List ℕ) → Some line ≡ line_at place bytes → None ≡ map_line line → linux_maps bytes ≡ Err StreamReadFailure
-  unfolding linux_maps
+  pub rest_none : (line : List ℕ) → Some line ≡ line_at place bytes → None ≡ map_line line → linux_maps_in bytes ≡ Err StreamReadFailure
+  unfolding linux_maps_in
   rest_none line e means =
       let p = line_is place bytes line e in
       let some : 0 < length (drop place bytes) = omega (arith, p.0, length-drop place bytes) in
@@ -91,8 +91,8 @@ module _ (bytes : List ℕ) (place : ℕ) (done : List MapRegion) (so_far : Rest
       rw (first_line (drop place bytes) some, ← p.1) (heads_none line (lines_of (after_first (λ b. b == 10) (drop place bytes))) (sym means)) in
       rw (so_far, one) refl
 
-  pub rest_end : None ≡ line_at place bytes → linux_maps bytes ≡ Ok done
-  unfolding linux_maps all_ok lines_of split_parts
+  pub rest_end : None ≡ line_at place bytes → linux_maps_in bytes ≡ Ok done
+  unfolding linux_maps_in all_ok lines_of split_parts
   rest_end e =
       let past : drop place bytes ≡ [] = nothing_left place bytes (line_none place bytes e) in
       rw (so_far, past, append-nil) refl

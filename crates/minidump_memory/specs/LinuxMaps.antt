@@ -1,15 +1,14 @@
 -- The regions of Breakpad's MD_LINUX_MAPS stream: the lines of Linux's /proc/PID/maps.
-use Rattle.minidump_format.specs.declared.format.stream_type.MINIDUMP_STREAM_TYPE.TheVariants.{LinuxMaps}
-use Rattle.minidump_system.specs.StreamSpec.{StreamSpec, linear}
-use Rattle.std.specs.Prelude.{length, ◌+◌}
-use Rattle.std.specs.Prelude.{ℕ, ◌-◌, List, [], ◌∷◌, codes, map, Option, Result, IsSome, string_bytes}
+use Rattle.std.specs.Prelude.{ℕ, ◌-◌, List, [], ◌∷◌, codes, map, Option, Result, IsSome, string_bytes, length, ◌+◌}
 use Rattle.std.specs.Option.{ok_or, option_and_then}
 use Rattle.minidump_bytes.specs.Line.{line_at}
 use Rattle.minidump_bytes.specs.LinuxOsStr.{but_empty_last, split_parts}
+use Rattle.minidump_format.specs.declared.format.stream_type.MINIDUMP_STREAM_TYPE.TheVariants.{LinuxMaps}
 use Rattle.minidump_format.specs.declared.error.Error.{Error}
 use Rattle.minidump_format.specs.declared.error.Error.TheVariants.{StreamReadFailure}
 use Rattle.minidump_index.specs.declared.range.Range.{Range}
 use Rattle.minidump_index.specs.Overlap.{range_of}
+use Rattle.minidump_system.specs.StreamSpec.{StreamSpec, linear}
 use Rattle.minidump_system.specs.Reads.{all_ok}
 use Rattle.minidump_memory.specs.declared.linux_maps.MinidumpLinuxMaps.{MinidumpLinuxMaps}
 use Rattle.minidump_memory.specs.declared.map_info.MMapPath.{MMapPath}
@@ -62,8 +61,8 @@ abbrev pub maps_of : MinidumpLinuxMaps → List MinidumpLinuxMapInfo
 maps_of l = l.regions
 
 -- the same, without their places in memory
-abbrev pub map_regions : MinidumpLinuxMaps → List MapRegion
-map_regions l = map map_info_of (maps_of l)
+abbrev pub linux_maps_of : MinidumpLinuxMaps → List MapRegion
+linux_maps_of l = map map_info_of (maps_of l)
 
 -- the lines of bytes: the parts between line feeds, a last one only where it is not empty
 unfoldable pub lines_of : List ℕ → List (List ℕ)
@@ -74,8 +73,8 @@ abbrev pub line_region : List ℕ → Result MapRegion Error
 line_region line = ok_or (map_line line) StreamReadFailure
 
 -- Breakpad's MD_LINUX_MAPS: the regions of the lines, where each line is one
-unfoldable pub linux_maps : List ℕ → Result (List MapRegion) Error
-linux_maps bytes = all_ok line_region (lines_of bytes)
+unfoldable pub linux_maps_in : List ℕ → Result (List MapRegion) Error
+linux_maps_in bytes = all_ok line_region (lines_of bytes)
 
 -- the first line is that of a region: without it there is no `OutOfMemory`
 abbrev pub BeginsWithRegion : List ℕ → Type 0
@@ -85,9 +84,9 @@ BeginsWithRegion bytes = IsSome (option_and_then map_line (line_at 0 bytes))
 abbrev pub linux_maps_stream : StreamSpec MinidumpLinuxMaps (List MapRegion)
 linux_maps_stream = record {
   stream_type = LinuxMaps;
-  value = map_regions;
-  meaning = λ bytes file order system. linux_maps bytes;
+  value = linux_maps_of;
+  meaning = λ order file bytes system. linux_maps_in bytes;
   most = linear;
-  fewest = λ bytes order regions. 1 + length regions;
-  memory = λ bytes order. BeginsWithRegion bytes;
+  fewest = λ order bytes regions. 1 + length regions;
+  memory = λ order bytes. BeginsWithRegion bytes;
 }

@@ -39,8 +39,8 @@ number_in layout m address =
 
 -- Microsoft's MINIDUMP_MEMORY_DESCRIPTOR: the region of a descriptor, whose bytes are the span of its location. A location with no
 -- place or no size has none.
-abbrev pub described : List ℕ → Endian → MINIDUMP_MEMORY_DESCRIPTOR → Result (MemoryRegion MINIDUMP_MEMORY_DESCRIPTOR) Error
-described file order d =
+abbrev pub described : Endian → List ℕ → MINIDUMP_MEMORY_DESCRIPTOR → Result (MemoryRegion MINIDUMP_MEMORY_DESCRIPTOR) Error
+described order file d =
     if d.memory.rva == 0 || d.memory.data_size == 0 then Err MemoryReadFailure else
     and_then (ok_or (span d.memory.rva (d.memory.rva + d.memory.data_size) file) StreamReadFailure) (λ bytes.
     Ok (record { desc = d; base_address = d.start_of_memory_range; size = d.memory.data_size; bytes = bytes; endian = order }))

@@ -1,17 +1,16 @@
 -- Information on regions of memory: Microsoft's MINIDUMP_MEMORY_INFO_LIST, and the access that winnt.h's PAGE_ numbers allow.
-use Rattle.minidump_format.specs.declared.format.stream_type.MINIDUMP_STREAM_TYPE.TheVariants.{MemoryInfoListStream}
-use Rattle.minidump_system.specs.Framing.{list_header_of}
-use Rattle.minidump_system.specs.StreamSpec.{StreamSpec, linear}
 use Rattle.std.specs.Prelude.{IsOkAnd, ℕ, ◌+◌, ◌<◌, Bool, ◌||◌, List, length, map, bit_and, Option, Result, Ok}
 use Rattle.bitflags.specs.Sets.{known_bits}
 use Rattle.minidump_bytes.specs.declared.endian.Endian.{Endian}
+use Rattle.minidump_format.specs.declared.format.stream_type.MINIDUMP_STREAM_TYPE.TheVariants.{MemoryInfoListStream}
 use Rattle.minidump_format.specs.declared.error.Error.{Error}
 use Rattle.minidump_format.specs.declared.format.memory_info.MINIDUMP_MEMORY_INFO.{MINIDUMP_MEMORY_INFO}
 use Rattle.minidump_format.specs.Flags.{has_flag}
 use Rattle.minidump_format.specs.MemoryInfo.{memory_info, memory_protection, memory_state, memory_type}
 use Rattle.minidump_index.specs.declared.range.Range.{Range}
 use Rattle.minidump_index.specs.Overlap.{range_of}
-use Rattle.minidump_system.specs.Framing.{extended_list}
+use Rattle.minidump_system.specs.Framing.{list_header_of, extended_list}
+use Rattle.minidump_system.specs.StreamSpec.{StreamSpec, linear}
 use Rattle.minidump_system.specs.Reads.{and_then}
 use Rattle.minidump_memory.specs.declared.memory_info.MinidumpMemoryInfo.{MinidumpMemoryInfo}
 use Rattle.minidump_memory.specs.declared.memory_info.MinidumpMemoryInfoList.{MinidumpMemoryInfoList}
@@ -67,20 +66,20 @@ abbrev pub infos_of : MinidumpMemoryInfoList → List MinidumpMemoryInfo
 infos_of l = l.regions
 
 -- the same, as values
-abbrev pub info_values : MinidumpMemoryInfoList → List MemoryInfo
-info_values l = map info_of (infos_of l)
+abbrev pub memory_info_list_of : MinidumpMemoryInfoList → List MemoryInfo
+memory_info_list_of l = map info_of (infos_of l)
 
 -- Microsoft's MINIDUMP_MEMORY_INFO_LIST: an extended list of entries
-abbrev pub memory_info_list : List ℕ → Endian → Result (List MemoryInfo) Error
-memory_info_list bytes order = and_then (extended_list memory_info order bytes) (λ raws. Ok (map info_in raws))
+abbrev pub memory_info_list_in : Endian → List ℕ → Result (List MemoryInfo) Error
+memory_info_list_in order bytes = and_then (extended_list memory_info order bytes) (λ raws. Ok (map info_in raws))
 
 -- the stream of type MemoryInfoListStream
 abbrev pub memory_info_list_stream : StreamSpec MinidumpMemoryInfoList (List MemoryInfo)
 memory_info_list_stream = record {
   stream_type = MemoryInfoListStream;
-  value = info_values;
-  meaning = λ bytes file order system. memory_info_list bytes order;
+  value = memory_info_list_of;
+  meaning = λ order file bytes system. memory_info_list_in order bytes;
   most = linear;
-  fewest = λ bytes order infos. 1 + (list_header_of order bytes).number_of_entries;
-  memory = λ bytes order. IsOkAnd (extended_list memory_info order bytes) (λ raws. 0 < length raws);
+  fewest = λ order bytes infos. 1 + (list_header_of order bytes).number_of_entries;
+  memory = λ order bytes. IsOkAnd (extended_list memory_info order bytes) (λ raws. 0 < length raws);
 }

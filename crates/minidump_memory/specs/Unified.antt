@@ -7,7 +7,7 @@ use Rattle.minidump_memory.specs.declared.unified.UnifiedMemory.TheVariants as r
 use Rattle.minidump_memory.specs.declared.unified.UnifiedMemoryList.{UnifiedMemoryList}
 use Rattle.minidump_memory.specs.declared.unified.UnifiedMemoryList.TheVariants as list
 use Rattle.minidump_memory.specs.Memory.{MemoryRegion, memory_of}
-use Rattle.minidump_memory.specs.MemoryList.{memories_of}
+use Rattle.minidump_memory.specs.MemoryList.{memory_list_of}
 
 -- what is of a MINIDUMP_MEMORY_LIST, or of a MINIDUMP_MEMORY64_LIST
 pub data Unified (A B : Type 0) : Type 0 where
@@ -41,5 +41,5 @@ unified_region (region.Memory64 m) = of_kind Memory64 (memory_of m.now)
 
 -- the regions of the list that is held
 abbrev pub unified_list : UnifiedMemoryList → UnifiedRegions
-unified_list (list.Memory l) = Memory (memories_of l)
-unified_list (list.Memory64 l) = Memory64 (memories_of l)
+unified_list (list.Memory l) = Memory (memory_list_of l)
+unified_list (list.Memory64 l) = Memory64 (memory_list_of l)

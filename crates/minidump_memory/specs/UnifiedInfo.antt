@@ -8,9 +8,9 @@ use Rattle.minidump_memory.specs.declared.unified_info.UnifiedMemoryInfo.{Unifie
 use Rattle.minidump_memory.specs.declared.unified_info.UnifiedMemoryInfo.TheVariants as region
 use Rattle.minidump_memory.specs.declared.unified_info.UnifiedMemoryInfoList.{UnifiedMemoryInfoList}
 use Rattle.minidump_memory.specs.declared.unified_info.UnifiedMemoryInfoList.TheVariants as list
-use Rattle.minidump_memory.specs.LinuxMaps.{map_info_of, map_regions, region_range}
+use Rattle.minidump_memory.specs.LinuxMaps.{map_info_of, linux_maps_of, region_range}
 use Rattle.minidump_memory.specs.MapLine.{MapRegion}
-use Rattle.minidump_memory.specs.MemoryInfo.{MemoryInfo, info_of, info_range, info_values, page_is_executable, page_is_readable, page_is_writable}
+use Rattle.minidump_memory.specs.MemoryInfo.{MemoryInfo, info_of, info_range, memory_info_list_of, page_is_executable, page_is_readable, page_is_writable}
 
 -- what is of an MD_LINUX_MAPS stream, or of a MINIDUMP_MEMORY_INFO_LIST
 pub data UnifiedInfo (A B : Type 0) : Type 0 where
@@ -37,8 +37,8 @@ info_region (region.Info m) = OfInfo (info_of m.now)
 
 -- the regions of the list that is held
 abbrev pub info_list : UnifiedMemoryInfoList → InfoRegions
-info_list (list.Maps l) = OfMaps (map_regions l)
-info_list (list.Info l) = OfInfo (info_values l)
+info_list (list.Maps l) = OfMaps (linux_maps_of l)
+info_list (list.Info l) = OfInfo (memory_info_list_of l)
 
 -- the addresses of a region
 abbrev pub info_region_range : InfoRegion → Option Range

@@ -1,9 +1,10 @@
 //! Laws of lists of memory and of information on it, over the definitions that contracts cite.
 ghost use Rattle.std.specs.Prelude.{◌≡◌, ◌↔◌, ℕ, IsTrue, List, Option, Some, map};
+ghost use Rattle.std.specs.Option.{option_map};
 ghost use Rattle.minidump_bytes.specs.declared.endian.Endian.{Endian};
 ghost use Rattle.minidump_bytes.specs.Exact.{IsExact};
-ghost use Rattle.std.specs.Option.{option_map};
 ghost use Rattle.minidump_index.specs.Lookup.{HasRegionLaws, IsByAddress, IsLookedUp};
+ghost use Rattle.minidump_system.specs.SystemInfo.{System};
 ghost use Rattle.minidump_memory.specs.LinuxMaps.{map_info_of, map_of, map_range, maps_of, path_of};
 ghost use Rattle.minidump_memory.specs.MapLine.{IsMapLine, MapRegion, map_line};
 ghost use Rattle.minidump_memory.specs.Memory.{memory_of, memory_range, region_range};
@@ -11,7 +12,6 @@ ghost use Rattle.minidump_memory.specs.MemoryList.{regions_of};
 ghost use Rattle.minidump_memory.specs.MemoryInfo.{info_of, infos_of, memory_info_range};
 ghost use Rattle.minidump_memory.specs.Unified.{Memory, Memory64, UnifiedRegion, of_kind, unified_list, unified_regions};
 ghost use Rattle.minidump_memory.specs.UnifiedInfo.{InfoRegion, OfInfo, OfMaps, info_list, info_region_range, info_regions};
-ghost use Rattle.minidump_system.specs.SystemInfo.{System};
 
 use crate::{
     MMPermissions, MMapPath, MemoryMap, MinidumpLinuxMapInfo, MinidumpLinuxMaps, MinidumpMemory,
@@ -106,11 +106,11 @@ pub fn map_lines_are_the_grammar()
 /// the maps not on that either.
 pub fn information_depends_on_its_stream_alone()
     ensures information { (bytes all other : List ℕ) (order : Endian) (s t : Option System)
-        → ⟦<MinidumpMemoryInfoList<'static> as MinidumpStream<'static>>⟧.spec.meaning bytes all order s
-        ≡ ⟦<MinidumpMemoryInfoList<'static> as MinidumpStream<'static>>⟧.spec.meaning bytes other order t }
+        → ⟦<MinidumpMemoryInfoList<'static> as MinidumpStream<'static>>⟧.spec.meaning order all bytes s
+        ≡ ⟦<MinidumpMemoryInfoList<'static> as MinidumpStream<'static>>⟧.spec.meaning order other bytes t }
     ensures maps { (bytes all other : List ℕ) (order another : Endian) (s t : Option System)
-        → ⟦<MinidumpLinuxMaps<'static> as MinidumpStream<'static>>⟧.spec.meaning bytes all order s
-        ≡ ⟦<MinidumpLinuxMaps<'static> as MinidumpStream<'static>>⟧.spec.meaning bytes other another t }
+        → ⟦<MinidumpLinuxMaps<'static> as MinidumpStream<'static>>⟧.spec.meaning order all bytes s
+        ≡ ⟦<MinidumpLinuxMaps<'static> as MinidumpStream<'static>>⟧.spec.meaning another other bytes t }
 {}
 
 /// Permissions equal the same permissions alone, and a clone of them is the same. So it is of information on

@@ -19,8 +19,8 @@
 //!
 //! - Each list has the regions that the format assigns to its stream, in its order, or returns the error
 //!   that it assigns, in at most n + 7 reads and at least one for each number, entry, line and region:
-//!   `MinidumpStream::read` of the four lists, by `memory_list`, `memory_list_64`, `memory_info_list` and
-//!   `linux_maps`. One region by its descriptor: `MinidumpMemory::read`, `read_counted`, by `described`.
+//!   `MinidumpStream::read` of the four lists, by `memory_list_in`, `memory64_list_in`, `memory_info_list_in` and
+//!   `linux_maps_in`. One region by its descriptor: `MinidumpMemory::read`, `read_counted`, by `described`.
 //! - A lookup returns the kept region that contains the address, in at most as many comparisons as the
 //!   number of kept regions has binary digits: `memory_at_address`, `memory_info_at_address`, and their
 //!   counted forms. All regions in the list's order: `iter`. The kept ones by address, from both ends:

@@ -4,10 +4,9 @@ ghost use Rattle.std.specs.Slice.Iter.{iter_rest};
 ghost use Rattle.minidump_bytes.specs.Source.{bytes_of};
 ghost use Rattle.minidump_bytes.specs.Steps.{after};
 ghost use Rattle.minidump_format.specs.Answer.{Gives};
-ghost use Rattle.minidump_memory.specs.LinuxMaps.{linux_maps_stream};
 ghost use Rattle.minidump_format.specs.StreamType.{number_of};
 ghost use Rattle.minidump_index.specs.Lookup.{IsByAddress, IsCountedLookup, IsLookedUp};
-ghost use Rattle.minidump_memory.specs.LinuxMaps.{BeginsWithRegion, linux_maps, map_info_of, map_range, map_regions, maps_of};
+ghost use Rattle.minidump_memory.specs.LinuxMaps.{BeginsWithRegion, linux_maps_in, map_info_of, map_range, linux_maps_of, maps_of, linux_maps_stream};
 
 use crate::MinidumpLinuxMapInfo;
 use minidump_bytes::{Endian, Source, Steps};
@@ -94,7 +93,7 @@ impl<'a> MinidumpLinuxMaps<'a> {
 
     /// Copies the list. The only error is [`Error::OutOfMemory`].
     pub fn try_clone(&self, alloc: Global) -> Result<MinidumpLinuxMaps<'a>, Error>
-        ensures same { IfOk result (λ list. map_regions list ≡ map_regions self.now) }
+        ensures same { IfOk result (λ list. linux_maps_of list ≡ linux_maps_of self.now) }
         ensures memory { IsOkUnless result Error.OutOfMemory }
     {
         let regions = copied_regions(alloc, self.regions.as_slice())?;
@@ -142,7 +141,7 @@ fn read_regions<'a>(
     bytes: Source<'_>,
     steps: &mut Steps,
 ) -> Result<Vec<MinidumpLinuxMapInfo<'a>>, Error>
-    ensures means { Gives (λ v. map map_info_of v.items) (BeginsWithRegion (bytes_of bytes.entry)) result (linux_maps (bytes_of bytes.entry)) }
+    ensures means { Gives (λ v. map map_info_of v.items) (BeginsWithRegion (bytes_of bytes.entry)) result (linux_maps_in (bytes_of bytes.entry)) }
     ensures first { IfOk result (λ v. 0 < length v.items → BeginsWithRegion (bytes_of bytes.entry)) }
     ensures within { steps.new ≤ steps.old + length (bytes_of bytes.entry) + 2 }
     ensures grows { steps.old ≤ steps.new }

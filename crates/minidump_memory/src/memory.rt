@@ -64,7 +64,7 @@ impl<'a> MinidumpMemory<'a> {
         all: &'a [u8],
         endian: Endian,
     ) -> Result<MinidumpMemory<'a>, Error>
-        ensures { Gives memory_of ⊥ result (described all.now endian desc.now) }
+        ensures { Gives memory_of ⊥ result (described endian all.now desc.now) }
     {
         MinidumpMemory::read_counted(desc, Source::new(all), endian, &mut Steps::new())
     }
@@ -76,7 +76,7 @@ impl<'a> MinidumpMemory<'a> {
         endian: Endian,
         steps: &mut Steps,
     ) -> Result<MinidumpMemory<'a>, Error>
-        ensures means { Gives memory_of ⊥ result (described (bytes_of all.entry) endian desc.now) }
+        ensures means { Gives memory_of ⊥ result (described endian (bytes_of all.entry) desc.now) }
         ensures step { steps.new ≡ after steps.old (spans_read desc.now) }
     {
         let memory = desc.memory;

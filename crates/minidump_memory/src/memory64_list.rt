@@ -1,11 +1,10 @@
 ghost use Rattle.std.specs.Prelude.{◌≡◌, ◌+◌, ◌≤◌, ◌<◌, ⊤, map, length, IfNone, IfOk, IfSome};
 ghost use Rattle.minidump_bytes.specs.Source.{bytes_of};
 ghost use Rattle.minidump_bytes.specs.Steps.{after};
-ghost use Rattle.minidump_memory.specs.Memory64List.{memory64_list_stream};
 ghost use Rattle.minidump_format.specs.Answer.{Gives};
 ghost use Rattle.minidump_format.specs.StreamType.{number_of};
+ghost use Rattle.minidump_memory.specs.Memory64List.{placed, regions_64, memory64_list_stream};
 ghost use Rattle.minidump_memory.specs.Memory.{memory_of};
-ghost use Rattle.minidump_memory.specs.Memory64List.{placed, regions_64};
 
 use crate::{MinidumpMemory64, MinidumpMemoryBase, MinidumpMemoryListBase};
 use minidump_bytes::{Endian, Entries, Source, Steps};
@@ -19,8 +18,8 @@ use std::alloc::Global;
 /// from the list's RVA on. Returns `StreamReadFailure` if some of them are not in the file.
 impl<'a> MinidumpStream<'a> for MinidumpMemoryListBase<'a, MINIDUMP_MEMORY_DESCRIPTOR64> {
     ghost use Rattle.std.specs.Prelude.{List};
-    ghost use Rattle.minidump_memory.specs.Memory.{MemoryRegion};
     ghost use Rattle.minidump_format.specs.declared.format.memory.MINIDUMP_MEMORY_DESCRIPTOR64.{MINIDUMP_MEMORY_DESCRIPTOR64};
+    ghost use Rattle.minidump_memory.specs.Memory.{MemoryRegion};
     ghost use Rattle.minidump_memory.specs.Memory64List.{memory64_list_stream};
 
     ghost Value = { List (MemoryRegion MINIDUMP_MEMORY_DESCRIPTOR64) };
@@ -61,7 +60,7 @@ fn region_at<'a>(
     endian: Endian,
     steps: &mut Steps,
 ) -> Option<MinidumpMemory64<'a>>
-    ensures value { IfSome result (λ m. memory_of m ≡ placed (bytes_of all.entry) endian place desc.now) }
+    ensures value { IfSome result (λ m. memory_of m ≡ placed endian (bytes_of all.entry) place desc.now) }
     ensures inside { IfSome result (λ _. place + desc.now.data_size ≤ length (bytes_of all.entry)) }
     ensures outside { IfNone result (length (bytes_of all.entry) < place + desc.now.data_size) }
     ensures step { steps.new ≡ after steps.old 1 }
@@ -87,7 +86,7 @@ fn read_regions_64<'a>(
     steps: &mut Steps,
 ) -> Result<Vec<MinidumpMemory64<'a>>, Error>
     ensures means { Gives (λ v. map memory_of v.items) ⊤ result
-        (regions_64 (bytes_of all.entry) endian (record { rva = rva; items = descriptors.entry })) }
+        (regions_64 endian (bytes_of all.entry) (record { rva = rva; items = descriptors.entry })) }
     ensures within { steps.new ≤ steps.old + length descriptors.entry }
     ensures grows { steps.old ≤ steps.new }
     ensures steps { IfOk result (λ _. steps.new ≡ after steps.old (length descriptors.entry)) }

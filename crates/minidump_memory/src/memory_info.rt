@@ -1,10 +1,9 @@
 ghost use Rattle.std.specs.Prelude.{◌≡◌, ◌+◌, ◌≤◌, ◌<◌, [], length, map, IfOk, IsOkUnless, OnErr};
 ghost use Rattle.std.specs.Option.{option_copied};
 ghost use Rattle.std.specs.Slice.Iter.{iter_rest};
-ghost use Rattle.minidump_memory.specs.MemoryInfo.{memory_info_list_stream};
 ghost use Rattle.minidump_format.specs.StreamType.{number_of};
 ghost use Rattle.minidump_index.specs.Lookup.{IsByAddress, IsCountedLookup, IsLookedUp};
-ghost use Rattle.minidump_memory.specs.MemoryInfo.{info_in, info_of, infos_of, memory_info_range, page_is_executable, page_is_readable, page_is_writable};
+ghost use Rattle.minidump_memory.specs.MemoryInfo.{info_in, info_of, infos_of, memory_info_range, page_is_executable, page_is_readable, page_is_writable, memory_info_list_stream};
 
 use bitflags::Flags;
 use minidump_bytes::{Endian, Entries, Source, Steps};
@@ -191,8 +190,7 @@ impl<'a> MinidumpMemoryInfoList<'a> {
 /// Microsoft's `MINIDUMP_MEMORY_INFO_LIST`: an extended list of entries.
 impl<'a> MinidumpStream<'a> for MinidumpMemoryInfoList<'a> {
     ghost use Rattle.std.specs.Prelude.{List};
-    ghost use Rattle.minidump_memory.specs.MemoryInfo.{MemoryInfo};
-    ghost use Rattle.minidump_memory.specs.MemoryInfo.{memory_info_list_stream};
+    ghost use Rattle.minidump_memory.specs.MemoryInfo.{MemoryInfo, memory_info_list_stream};
 
     ghost Value = { List MemoryInfo };
 

@@ -5,11 +5,10 @@ ghost use Rattle.std.specs.Result.{result_ok};
 ghost use Rattle.std.specs.Slice.Iter.{iter_rest};
 ghost use Rattle.minidump_bytes.specs.Source.{bytes_of};
 ghost use Rattle.minidump_bytes.specs.Steps.{after};
-ghost use Rattle.minidump_memory.specs.MemoryList.{memory_list_stream};
 ghost use Rattle.minidump_format.specs.StreamType.{number_of};
 ghost use Rattle.minidump_index.specs.Lookup.{IsByAddress, IsCountedLookup, IsLookedUp};
+ghost use Rattle.minidump_memory.specs.MemoryList.{all_described, regions_of, memory_list_stream};
 ghost use Rattle.minidump_memory.specs.Memory.{described, memory_of, memory_range, spans_read};
-ghost use Rattle.minidump_memory.specs.MemoryList.{all_described, regions_of};
 
 use crate::{MinidumpMemory, MinidumpMemoryBase};
 use minidump_bytes::{Endian, Entries, Source, Steps};
@@ -100,8 +99,8 @@ impl<'a, D: Drop> MinidumpMemoryListBase<'a, D> {
 /// bytes are not in the file, is skipped.
 impl<'a> MinidumpStream<'a> for MinidumpMemoryListBase<'a, MINIDUMP_MEMORY_DESCRIPTOR> {
     ghost use Rattle.std.specs.Prelude.{List};
-    ghost use Rattle.minidump_memory.specs.Memory.{MemoryRegion};
     ghost use Rattle.minidump_format.specs.declared.format.memory.MINIDUMP_MEMORY_DESCRIPTOR.{MINIDUMP_MEMORY_DESCRIPTOR};
+    ghost use Rattle.minidump_memory.specs.Memory.{MemoryRegion};
     ghost use Rattle.minidump_memory.specs.MemoryList.{memory_list_stream};
 
     ghost Value = { List (MemoryRegion MINIDUMP_MEMORY_DESCRIPTOR) };
@@ -141,7 +140,7 @@ fn region_of<'a>(
     steps: &mut Steps,
 ) -> Option<MinidumpMemory<'a>>
     ensures value { option_map memory_of result
-        ≡ result_ok (described (bytes_of all.entry) endian desc.now) }
+        ≡ result_ok (described endian (bytes_of all.entry) desc.now) }
     ensures step { steps.new ≡ after steps.old (spans_read desc.now) }
 {
     MinidumpMemory::read_counted(desc, all, endian, steps).ok()
@@ -156,7 +155,7 @@ fn read_regions<'a>(
     steps: &mut Steps,
 ) -> Result<Vec<MinidumpMemory<'a>>, AllocError>
     ensures items { IfOk result (λ v. map memory_of v.items
-        ≡ all_described (bytes_of all.entry) endian descriptors.entry) }
+        ≡ all_described endian (bytes_of all.entry) descriptors.entry) }
     ensures within { steps.new ≤ steps.old + length descriptors.entry }
     ensures grows { steps.old ≤ steps.new }
     ensures steps { IfOk result (λ _. steps.new ≡ after steps.old (sum_by spans_read descriptors.entry)) }

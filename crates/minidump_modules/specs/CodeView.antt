@@ -14,9 +14,9 @@ use Rattle.minidump_format.specs.declared.format.code_view.CvSignature.{CvSignat
 use Rattle.minidump_format.specs.declared.format.code_view.CvSignature.TheVariants as signature
 use Rattle.minidump_format.specs.declared.format.guid.GUID.{GUID}
 use Rattle.minidump_format.specs.declared.format.header.MINIDUMP_LOCATION_DESCRIPTOR.{MINIDUMP_LOCATION_DESCRIPTOR}
+use Rattle.minidump_system.specs.Reads.{and_then}
 use Rattle.minidump_modules.specs.declared.code_view.CodeView.{CodeView}
 use Rattle.minidump_modules.specs.declared.code_view.CodeView.TheVariants.{Pdb20, Pdb70, Elf, Unknown}
-use Rattle.minidump_system.specs.Reads.{and_then}
 
 -- a CodeView record as a value; each but the last begins with its signature
 pub data View : Type 0 where
@@ -64,8 +64,8 @@ code_view order bytes =
     record_of order bytes (signature_of (number_at order 4 0 bytes))
 
 -- the record at a location: none where that has no size
-unfoldable pub code_view_at : Endian → MINIDUMP_LOCATION_DESCRIPTOR → List ℕ → Result (Option View) Error
-code_view_at order place file =
+unfoldable pub code_view_at : Endian → List ℕ → MINIDUMP_LOCATION_DESCRIPTOR → Result (Option View) Error
+code_view_at order file place =
     if place.data_size == 0 then Ok None else
     and_then (ok_or (span place.rva (place.rva + place.data_size) file) CodeViewReadFailure) (λ bytes. and_then (code_view order bytes) (λ view. Ok (Some view)))
 

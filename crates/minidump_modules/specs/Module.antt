@@ -10,10 +10,10 @@ use Rattle.minidump_format.specs.declared.format.module.MINIDUMP_MODULE.{MINIDUM
 use Rattle.minidump_index.specs.declared.range.Range.{Range}
 use Rattle.minidump_index.specs.Overlap.{range_of}
 use Rattle.minidump_system.specs.declared.os.Os.{Os}
+use Rattle.minidump_system.specs.Reads.{and_then}
 use Rattle.minidump_modules.specs.declared.module.MinidumpModule.{MinidumpModule}
 use Rattle.minidump_modules.specs.CodeView.{View, code_view_at, view_of, view_reads}
 use Rattle.minidump_modules.specs.Identity.{Identity, code_identifier, debug_file, debug_identifier}
-use Rattle.minidump_system.specs.Reads.{and_then}
 use Rattle.minidump_modules.specs.Version.{version_of}
 
 -- a module as a value: with the byte order and the system of its dump
@@ -86,7 +86,7 @@ module_range m = range_of m.raw.base_of_image m.raw.size_of_image
 unfoldable pub read_module : Endian → Option Os → List ℕ → MINIDUMP_MODULE → Result ModuleValue Error
 read_module order os file raw =
     and_then (ok_or (text16 order raw.module_name_rva file) CodeViewReadFailure) (λ name.
-    and_then (code_view_at order raw.cv_record file) (λ view.
+    and_then (code_view_at order file raw.cv_record) (λ view.
     Ok (record { raw = raw; name = name; view = view; order = order; os = os })))
 
 -- how much is read for a module: its name, and its CodeView record where it has one

@@ -1,37 +1,36 @@
 -- The modules of a dump: Microsoft's MINIDUMP_MODULE_LIST.
-use Rattle.minidump_format.specs.declared.format.stream_type.MINIDUMP_STREAM_TYPE.TheVariants.{ModuleListStream}
-use Rattle.minidump_system.specs.Framing.{count_of}
-use Rattle.minidump_system.specs.StreamSpec.{StreamSpec, linear}
 use Rattle.std.specs.Prelude.{ℕ, ◌+◌, ◌<◌, List, filter, length, map, Option, Result, IsOkAnd}
 use Rattle.std.specs.List.{sum_by}
 use Rattle.std.specs.Option.{option_map}
 use Rattle.minidump_bytes.specs.declared.endian.Endian.{Endian}
+use Rattle.minidump_format.specs.declared.format.stream_type.MINIDUMP_STREAM_TYPE.TheVariants.{ModuleListStream}
 use Rattle.minidump_format.specs.declared.error.Error.{Error}
 use Rattle.minidump_format.specs.declared.format.module.MINIDUMP_MODULE.{MINIDUMP_MODULE}
 use Rattle.minidump_format.specs.Module.{module_entry}
+use Rattle.minidump_system.specs.Framing.{count_of, plain_list}
+use Rattle.minidump_system.specs.StreamSpec.{StreamSpec, linear}
 use Rattle.minidump_system.specs.declared.os.Os.{Os}
-use Rattle.minidump_system.specs.Framing.{plain_list}
 use Rattle.minidump_system.specs.SystemInfo.{System}
+use Rattle.minidump_system.specs.Reads.{all_ok, and_then}
 use Rattle.minidump_modules.specs.declared.module.MinidumpModule.{MinidumpModule}
 use Rattle.minidump_modules.specs.declared.module_list.MinidumpModuleList.{MinidumpModuleList}
 use Rattle.minidump_modules.specs.Module.{ModuleValue, has_range, module_of, module_reads, read_module}
-use Rattle.minidump_system.specs.Reads.{all_ok, and_then}
 
 -- its modules, in the order of the list
 abbrev pub modules_of : MinidumpModuleList → List MinidumpModule
 modules_of l = l.modules
 
 -- the same as values
-abbrev pub module_values : MinidumpModuleList → List ModuleValue
-module_values l = map module_of (modules_of l)
+abbrev pub module_list_of : MinidumpModuleList → List ModuleValue
+module_list_of l = map module_of (modules_of l)
 
 -- the modules of entries; an entry without addresses is skipped whole
 abbrev pub modules_in : Endian → Option Os → List ℕ → List MINIDUMP_MODULE → Result (List ModuleValue) Error
 modules_in order os file raws = all_ok (read_module order os file) (filter has_range raws)
 
 -- Microsoft's MINIDUMP_MODULE_LIST: a plain list of entries
-abbrev pub module_list : List ℕ → List ℕ → Endian → Option System → Result (List ModuleValue) Error
-module_list bytes file order system = and_then (plain_list module_entry order bytes) (modules_in order (option_map (λ s. s.os) system) file)
+abbrev pub module_list_in : Endian → List ℕ → List ℕ → Option System → Result (List ModuleValue) Error
+module_list_in order file bytes system = and_then (plain_list module_entry order bytes) (modules_in order (option_map (λ s. s.os) system) file)
 
 -- how much is read for modules
 abbrev pub modules_read : List ModuleValue → ℕ
@@ -41,9 +40,9 @@ modules_read modules = sum_by module_reads modules
 abbrev pub module_list_stream : StreamSpec MinidumpModuleList (List ModuleValue)
 module_list_stream = record {
   stream_type = ModuleListStream;
-  value = module_values;
-  meaning = module_list;
+  value = module_list_of;
+  meaning = module_list_in;
   most = linear;
-  fewest = λ bytes order modules. 1 + count_of order bytes + modules_read modules;
-  memory = λ bytes order. IsOkAnd (plain_list module_entry order bytes) (λ raws. 0 < length raws);
+  fewest = λ order bytes modules. 1 + count_of order bytes + modules_read modules;
+  memory = λ order bytes. IsOkAnd (plain_list module_entry order bytes) (λ raws. 0 < length raws);
 }

@@ -8,10 +8,10 @@ use Rattle.minidump_format.specs.declared.error.Error.TheVariants.{DataError, Mo
 use Rattle.minidump_format.specs.declared.format.module.MINIDUMP_UNLOADED_MODULE.{MINIDUMP_UNLOADED_MODULE}
 use Rattle.minidump_index.specs.declared.range.Range.{Range}
 use Rattle.minidump_index.specs.Overlap.{range_of}
+use Rattle.minidump_system.specs.Reads.{and_then}
 use Rattle.minidump_modules.specs.declared.unloaded_module.MinidumpUnloadedModule.{MinidumpUnloadedModule}
 use Rattle.minidump_modules.specs.CodeId.{stamp_form}
 use Rattle.minidump_modules.specs.Identity.{Identity}
-use Rattle.minidump_system.specs.Reads.{and_then}
 
 -- an unloaded module as a value
 pub record UnloadedValue : Type 0 where

@@ -1,32 +1,31 @@
 -- The unloaded modules of a dump: Microsoft's MINIDUMP_UNLOADED_MODULE_LIST.
-use Rattle.minidump_format.specs.declared.format.stream_type.MINIDUMP_STREAM_TYPE.TheVariants.{UnloadedModuleListStream}
-use Rattle.minidump_modules.specs.declared.unloaded_module_list.MinidumpUnloadedModuleList.{MinidumpUnloadedModuleList}
-use Rattle.minidump_system.specs.Framing.{list_header_of}
-use Rattle.minidump_system.specs.StreamSpec.{StreamSpec, linear}
 use Rattle.std.specs.Prelude.{ℕ, ◌+◌, ◌*◌, ◌<◌, List, length, map, Result, IsOkAnd}
 use Rattle.minidump_bytes.specs.declared.endian.Endian.{Endian}
+use Rattle.minidump_format.specs.declared.format.stream_type.MINIDUMP_STREAM_TYPE.TheVariants.{UnloadedModuleListStream}
 use Rattle.minidump_format.specs.declared.error.Error.{Error}
 use Rattle.minidump_format.specs.Module.{unloaded_module_entry}
-use Rattle.minidump_system.specs.Framing.{extended_list}
+use Rattle.minidump_system.specs.Framing.{list_header_of, extended_list}
+use Rattle.minidump_system.specs.StreamSpec.{StreamSpec, linear}
+use Rattle.minidump_system.specs.Reads.{all_ok, and_then}
+use Rattle.minidump_modules.specs.declared.unloaded_module_list.MinidumpUnloadedModuleList.{MinidumpUnloadedModuleList}
 use Rattle.minidump_modules.specs.declared.unloaded_module.MinidumpUnloadedModule.{MinidumpUnloadedModule}
 use Rattle.minidump_modules.specs.UnloadedModule.{UnloadedValue, listed_unloaded, unloaded_of}
-use Rattle.minidump_system.specs.Reads.{all_ok, and_then}
 
 -- the modules of a list as values, in its order
-abbrev pub unloaded_values : List MinidumpUnloadedModule → List UnloadedValue
-unloaded_values modules = map unloaded_of modules
+abbrev pub unloaded_module_list_of : List MinidumpUnloadedModule → List UnloadedValue
+unloaded_module_list_of modules = map unloaded_of modules
 
 -- Microsoft's MINIDUMP_UNLOADED_MODULE_LIST: an extended list of entries
-abbrev pub unloaded_list : List ℕ → List ℕ → Endian → Result (List UnloadedValue) Error
-unloaded_list bytes file order = and_then (extended_list unloaded_module_entry order bytes) (all_ok (listed_unloaded order file))
+abbrev pub unloaded_module_list_in : Endian → List ℕ → List ℕ → Result (List UnloadedValue) Error
+unloaded_module_list_in order file bytes = and_then (extended_list unloaded_module_entry order bytes) (all_ok (listed_unloaded order file))
 
 -- the stream of type UnloadedModuleListStream
 abbrev pub unloaded_module_list_stream : StreamSpec MinidumpUnloadedModuleList (List UnloadedValue)
 unloaded_module_list_stream = record {
   stream_type = UnloadedModuleListStream;
-  value = unloaded_values;
-  meaning = λ bytes file order system. unloaded_list bytes file order;
+  value = unloaded_module_list_of;
+  meaning = λ order file bytes system. unloaded_module_list_in order file bytes;
   most = linear;
-  fewest = λ bytes order modules. 1 + 2 * (list_header_of order bytes).number_of_entries;
-  memory = λ bytes order. IsOkAnd (extended_list unloaded_module_entry order bytes) (λ raws. 0 < length raws);
+  fewest = λ order bytes modules. 1 + 2 * (list_header_of order bytes).number_of_entries;
+  memory = λ order bytes. IsOkAnd (extended_list unloaded_module_entry order bytes) (λ raws. 0 < length raws);
 }

@@ -63,7 +63,7 @@ pub(crate) fn code_view_at(
     endian: Endian,
     steps: &mut Steps,
 ) -> Result<Option<CodeView>, Error>
-    ensures means { Gives (option_map view_of) ⊤ result (code_view_at endian place.now (bytes_of all.entry)) }
+    ensures means { Gives (option_map view_of) ⊤ result (code_view_at endian (bytes_of all.entry) place.now) }
     ensures within { steps.new ≤ steps.old + 6 }
     ensures grows { steps.old ≤ steps.new }
     ensures steps { IfOk result (λ view. steps.new ≡ after steps.old (view_reads (option_map view_of view))) }

@@ -18,7 +18,7 @@
 //! - Each list has the modules that the format assigns to its stream, in its order, or returns the error that
 //!   it assigns, in at most n + 7 reads and at least one for the count and for each entry and name, and for the
 //!   span, the signature and each field of a CodeView record: `MinidumpStream::read` of both lists, by
-//!   `module_list` and `unloaded_list`. One module by its entry: `MinidumpModule::read`, by `read_module`;
+//!   `module_list_in` and `unloaded_module_list_in`. One module by its entry: `MinidumpModule::read`, by `read_module`;
 //!   `MinidumpUnloadedModule::read`, by `read_unloaded`.
 //! - The identifiers, the debug file and the version are those of the CodeView record, the system, the build
 //!   id and the version record: the functions of `Module`, by `identity_of` and `unloaded_identity`:

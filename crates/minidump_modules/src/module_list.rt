@@ -7,7 +7,7 @@ ghost use Rattle.minidump_format.specs.Answer.{Gives};
 ghost use Rattle.minidump_format.specs.StreamType.{number_of};
 ghost use Rattle.minidump_index.specs.Lookup.{IsByAddress, IsCountedLookup, IsLookedUp};
 ghost use Rattle.minidump_modules.specs.Module.{has_range, module_of, value_range};
-ghost use Rattle.minidump_modules.specs.ModuleList.{module_values, modules_in, modules_of, modules_read};
+ghost use Rattle.minidump_modules.specs.ModuleList.{module_list_of, modules_in, modules_of, modules_read};
 
 use crate::MinidumpModule;
 use minidump_bytes::{Endian, Entries, Source, Steps};
@@ -63,7 +63,7 @@ impl MinidumpModuleList {
 
     /// Returns the kept module that contains `address`, or `None` if no kept module does.
     pub fn module_at_address(&self, address: u64) -> Option<&MinidumpModule>
-        ensures { IsLookedUp value_range (module_values self.now) address (option_map module_of (option_copied result)) }
+        ensures { IsLookedUp value_range (module_list_of self.now) address (option_map module_of (option_copied result)) }
     {
         self.module_at_address_counted(address, &mut Steps::new())
     }
@@ -75,7 +75,7 @@ impl MinidumpModuleList {
         address: u64,
         steps: &mut Steps,
     ) -> Option<&MinidumpModule>
-        ensures { IsCountedLookup value_range (module_values self.now) address steps.old steps.new (option_map module_of (option_copied result)) }
+        ensures { IsCountedLookup value_range (module_list_of self.now) address steps.old steps.new (option_map module_of (option_copied result)) }
     {
         self.modules.at_address(address, steps)
     }
@@ -89,14 +89,14 @@ impl MinidumpModuleList {
 
     /// Returns an iterator over the kept modules, ascending by address, from both ends.
     pub fn by_addr(&self) -> RegionsByAddress<'_, MinidumpModule>
-        ensures { IsByAddress value_range (module_values self.now) (map module_of result) }
+        ensures { IsByAddress value_range (module_list_of self.now) (map module_of result) }
     {
         self.modules.by_addr()
     }
 
     /// Copies the list. The only error is [`Error::OutOfMemory`].
     pub fn try_clone(&self, alloc: Global) -> Result<MinidumpModuleList, Error>
-        ensures same { IfOk result (λ list. module_values list ≡ module_values self.now) }
+        ensures same { IfOk result (λ list. module_list_of list ≡ module_list_of self.now) }
         ensures memory { IsOkUnless result Error.OutOfMemory }
     {
         let modules = copied_modules(alloc, self.modules.as_slice())?;

@@ -7,7 +7,7 @@ ghost use Rattle.minidump_format.specs.Answer.{Gives};
 ghost use Rattle.minidump_format.specs.StreamType.{number_of};
 ghost use Rattle.minidump_system.specs.Reads.{all_ok};
 ghost use Rattle.minidump_modules.specs.UnloadedModule.{listed_unloaded, unloaded_of};
-ghost use Rattle.minidump_modules.specs.UnloadedModuleList.{unloaded_values};
+ghost use Rattle.minidump_modules.specs.UnloadedModuleList.{unloaded_module_list_of};
 ghost use Rattle.minidump_modules.specs.UnloadedOrder.{AreAt, IsByStart};
 
 use crate::unloaded_order::{Placed, order_of};
@@ -75,21 +75,21 @@ impl MinidumpUnloadedModuleList {
 
     /// Returns an iterator over the modules that contain `address`, by start, then by end, then by index.
     pub fn modules_at_address(&self, address: u64) -> ModulesAtAddress<'_>
-        ensures { AreAt (unloaded_values self.now) address (map unloaded_of result) }
+        ensures { AreAt (unloaded_module_list_of self.now) address (map unloaded_of result) }
     {
         ModulesAtAddress::new(&self.order, &self.modules, address)
     }
 
     /// Returns an iterator over the modules that have a range, by start, then by end, then by index.
     pub fn by_addr(&self) -> UnloadedModulesByAddress<'_>
-        ensures { IsByStart (unloaded_values self.now) (map unloaded_of result) }
+        ensures { IsByStart (unloaded_module_list_of self.now) (map unloaded_of result) }
     {
         UnloadedModulesByAddress::new(&self.order, &self.modules)
     }
 
     /// Copies the list. The only error is [`Error::OutOfMemory`].
     pub fn try_clone(&self, alloc: Global) -> Result<MinidumpUnloadedModuleList, Error>
-        ensures same { IfOk result (λ list. unloaded_values list ≡ unloaded_values self.now) }
+        ensures same { IfOk result (λ list. unloaded_module_list_of list ≡ unloaded_module_list_of self.now) }
         ensures memory { IsOkUnless result Error.OutOfMemory }
     {
         let modules = copied_modules(alloc, &self.modules)?;

@@ -1,14 +1,14 @@
 -- An assertion that failed: Breakpad's MDRawAssertionInfo.
-use Rattle.minidump_format.specs.declared.format.stream_type.MINIDUMP_STREAM_TYPE.TheVariants.{AssertionInfoStream}
-use Rattle.minidump_system.specs.StreamSpec.{StreamSpec}
 use Rattle.std.specs.Prelude.{ℕ, List, Result}
 use Rattle.std.specs.Option.{ok_or}
 use Rattle.minidump_bytes.specs.declared.endian.Endian.{Endian}
 use Rattle.minidump_bytes.specs.Span.{record_at}
+use Rattle.minidump_format.specs.declared.format.stream_type.MINIDUMP_STREAM_TYPE.TheVariants.{AssertionInfoStream}
 use Rattle.minidump_format.specs.declared.error.Error.{Error}
 use Rattle.minidump_format.specs.declared.error.Error.TheVariants.{StreamReadFailure}
 use Rattle.minidump_format.specs.declared.format.assertion.MINIDUMP_ASSERTION_INFO.{MINIDUMP_ASSERTION_INFO}
 use Rattle.minidump_format.specs.Assertion.{assertion_info}
+use Rattle.minidump_system.specs.StreamSpec.{StreamSpec}
 use Rattle.minidump_records.specs.declared.assertion.MinidumpAssertion.{MinidumpAssertion}
 
 -- the record of a value
@@ -16,16 +16,16 @@ abbrev pub assertion_of : MinidumpAssertion → MINIDUMP_ASSERTION_INFO
 assertion_of a = a.raw
 
 -- Breakpad's MDRawAssertionInfo: a record
-abbrev pub assertion_in : List ℕ → Endian → Result MINIDUMP_ASSERTION_INFO Error
-assertion_in bytes order = ok_or (record_at assertion_info order 0 bytes) StreamReadFailure
+abbrev pub assertion_in : Endian → List ℕ → Result MINIDUMP_ASSERTION_INFO Error
+assertion_in order bytes = ok_or (record_at assertion_info order 0 bytes) StreamReadFailure
 
 -- the stream of type AssertionInfoStream
 abbrev pub assertion_stream : StreamSpec MinidumpAssertion MINIDUMP_ASSERTION_INFO
 assertion_stream = record {
   stream_type = AssertionInfoStream;
   value = assertion_of;
-  meaning = λ bytes file order system. assertion_in bytes order;
+  meaning = λ order file bytes system. assertion_in order bytes;
   most = λ n. 1;
-  fewest = λ bytes order info. 1;
-  memory = λ bytes order. ⊥;
+  fewest = λ order bytes info. 1;
+  memory = λ order bytes. ⊥;
 }

@@ -1,18 +1,17 @@
 -- The arguments of macOS's boot: Mozilla's MDRawMacBootargs.
-use Rattle.minidump_format.specs.declared.format.stream_type.MINIDUMP_STREAM_TYPE.TheVariants.{MozMacosBootargsStream}
-use Rattle.minidump_system.specs.StreamSpec.{StreamSpec}
-use Rattle.std.specs.Prelude.{◌≤◌}
-use Rattle.std.specs.Prelude.{ℕ, List, length, Option, Result, Ok, nat_le, if◌then◌else◌, string_bytes}
+use Rattle.std.specs.Prelude.{ℕ, List, length, Option, Result, Ok, nat_le, if◌then◌else◌, string_bytes, ◌≤◌}
 use Rattle.std.specs.Option.{ok_or, option_map, option_or}
 use Rattle.minidump_bytes.specs.declared.endian.Endian.{Endian}
 use Rattle.minidump_bytes.specs.Layout.{Layout}
 use Rattle.minidump_bytes.specs.Number.{number_at}
 use Rattle.minidump_bytes.specs.Span.{record_at}
 use Rattle.minidump_bytes.specs.Text16.{text16}
+use Rattle.minidump_format.specs.declared.format.stream_type.MINIDUMP_STREAM_TYPE.TheVariants.{MozMacosBootargsStream}
 use Rattle.minidump_format.specs.declared.error.Error.{Error}
 use Rattle.minidump_format.specs.declared.error.Error.TheVariants.{StreamReadFailure}
 use Rattle.minidump_format.specs.declared.format.mac.MINIDUMP_MAC_BOOTARGS.{MINIDUMP_MAC_BOOTARGS}
 use Rattle.minidump_format.specs.Mac.{mac_boot_args}
+use Rattle.minidump_system.specs.StreamSpec.{StreamSpec}
 use Rattle.minidump_system.specs.Reads.{and_then}
 use Rattle.minidump_records.specs.declared.boot_args.MinidumpMacBootargs.{MinidumpMacBootargs}
 use Rattle.minidump_records.specs.declared.boot_args.ShortBootArgs.{ShortBootArgs}
@@ -22,8 +21,8 @@ pub record BootArgs : Type 0 where
   pub raw : MINIDUMP_MAC_BOOTARGS
   pub text : Option (List ℕ)
 
-abbrev pub boot_args_of : MinidumpMacBootargs → BootArgs
-boot_args_of b = record { raw = b.raw; text = option_map string_bytes b.bootargs }
+abbrev pub mac_bootargs_of : MinidumpMacBootargs → BootArgs
+mac_bootargs_of b = record { raw = b.raw; text = option_map string_bytes b.bootargs }
 
 -- the short form of the record: an RVA of 32 bits
 abbrev pub short_boot_args : Layout ShortBootArgs
@@ -43,8 +42,8 @@ abbrev pub boot_args_record : Endian → List ℕ → Option MINIDUMP_MAC_BOOTAR
 boot_args_record order bytes = option_or (record_at mac_boot_args order 0 bytes) (option_map widened (record_at short_boot_args order 0 bytes))
 
 -- Mozilla's MDRawMacBootargs: a record, and the text at its RVA, which may be none
-abbrev pub boot_args : List ℕ → List ℕ → Endian → Result BootArgs Error
-boot_args bytes file order =
+abbrev pub mac_bootargs_in : Endian → List ℕ → List ℕ → Result BootArgs Error
+mac_bootargs_in order file bytes =
     and_then (ok_or (boot_args_record order bytes) StreamReadFailure) (λ raw. Ok (record { raw = raw; text = text16 order raw.bootargs file }))
 
 -- how much is read: the long form, then the short one where that isn't there, and the text
@@ -55,9 +54,9 @@ boot_args_reads bytes = if nat_le 12 (length bytes) then 2 else 3
 abbrev pub mac_bootargs_stream : StreamSpec MinidumpMacBootargs BootArgs
 mac_bootargs_stream = record {
   stream_type = MozMacosBootargsStream;
-  value = boot_args_of;
-  meaning = λ bytes file order system. boot_args bytes file order;
+  value = mac_bootargs_of;
+  meaning = λ order file bytes system. mac_bootargs_in order file bytes;
   most = λ n. 3;
-  fewest = λ bytes order args. boot_args_reads bytes;
-  memory = λ bytes order. 8 ≤ length bytes;
+  fewest = λ order bytes args. boot_args_reads bytes;
+  memory = λ order bytes. 8 ≤ length bytes;
 }

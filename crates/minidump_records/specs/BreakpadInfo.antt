@@ -1,14 +1,14 @@
 -- Which threads wrote a dump and asked for it: Breakpad's MDRawBreakpadInfo.
-use Rattle.minidump_format.specs.declared.format.stream_type.MINIDUMP_STREAM_TYPE.TheVariants.{BreakpadInfoStream}
-use Rattle.minidump_system.specs.StreamSpec.{StreamSpec}
 use Rattle.std.specs.Prelude.{ℕ, ◌==◌, List, Option, Some, None, Result, Ok, bit_and, if◌then◌else◌}
 use Rattle.std.specs.Option.{ok_or}
 use Rattle.minidump_bytes.specs.declared.endian.Endian.{Endian}
 use Rattle.minidump_bytes.specs.Span.{record_at}
+use Rattle.minidump_format.specs.declared.format.stream_type.MINIDUMP_STREAM_TYPE.TheVariants.{BreakpadInfoStream}
 use Rattle.minidump_format.specs.declared.error.Error.{Error}
 use Rattle.minidump_format.specs.declared.error.Error.TheVariants.{StreamReadFailure}
 use Rattle.minidump_format.specs.declared.format.breakpad.MINIDUMP_BREAKPAD_INFO.{MINIDUMP_BREAKPAD_INFO}
 use Rattle.minidump_format.specs.Breakpad.{breakpad_info}
+use Rattle.minidump_system.specs.StreamSpec.{StreamSpec}
 use Rattle.minidump_system.specs.Reads.{and_then}
 use Rattle.minidump_records.specs.declared.breakpad_info.MinidumpBreakpadInfo.{MinidumpBreakpadInfo}
 
@@ -25,16 +25,16 @@ breakpad_of raw = record {
 }
 
 -- Breakpad's MDRawBreakpadInfo: a record
-abbrev pub breakpad_info_in : List ℕ → Endian → Result MinidumpBreakpadInfo Error
-breakpad_info_in bytes order = and_then (ok_or (record_at breakpad_info order 0 bytes) StreamReadFailure) (λ raw. Ok (breakpad_of raw))
+abbrev pub breakpad_info_in : Endian → List ℕ → Result MinidumpBreakpadInfo Error
+breakpad_info_in order bytes = and_then (ok_or (record_at breakpad_info order 0 bytes) StreamReadFailure) (λ raw. Ok (breakpad_of raw))
 
 -- the stream of type BreakpadInfoStream
 abbrev pub breakpad_info_stream : StreamSpec MinidumpBreakpadInfo MinidumpBreakpadInfo
 breakpad_info_stream = record {
   stream_type = BreakpadInfoStream;
   value = λ info. info;
-  meaning = λ bytes file order system. breakpad_info_in bytes order;
+  meaning = λ order file bytes system. breakpad_info_in order bytes;
   most = λ n. 1;
-  fewest = λ bytes order info. 1;
-  memory = λ bytes order. ⊥;
+  fewest = λ order bytes info. 1;
+  memory = λ order bytes. ⊥;
 }

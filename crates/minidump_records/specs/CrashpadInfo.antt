@@ -1,13 +1,11 @@
 -- Crashpad's MinidumpCrashpadInfo and MinidumpModuleCrashpadInfo: what they know of a process and of its modules.
-use Rattle.minidump_format.specs.declared.format.stream_type.MINIDUMP_STREAM_TYPE.TheVariants.{CrashpadInfoStream}
-use Rattle.minidump_system.specs.StreamSpec.{StreamSpec, square}
-use Rattle.std.specs.Prelude.{IsOk}
-use Rattle.std.specs.Prelude.{ℕ, ◌+◌, ◌==◌, IsSome, List, Result, Ok, Err, map, string_bytes, if◌then◌else◌}
+use Rattle.std.specs.Prelude.{ℕ, ◌+◌, ◌==◌, IsSome, List, Result, Ok, Err, map, string_bytes, if◌then◌else◌, IsOk}
 use Rattle.std.specs.List.{sum_by}
 use Rattle.std.specs.Option.{ok_or}
 use Rattle.minidump_bytes.specs.declared.endian.Endian.{Endian}
 use Rattle.minidump_bytes.specs.Layout.{number_layout}
 use Rattle.minidump_bytes.specs.Span.{record_at}
+use Rattle.minidump_format.specs.declared.format.stream_type.MINIDUMP_STREAM_TYPE.TheVariants.{CrashpadInfoStream}
 use Rattle.minidump_format.specs.Crashpad.{annotation, crashpad_info, dictionary_entry, module_crashpad_info, module_link}
 use Rattle.minidump_format.specs.declared.error.Error.{Error}
 use Rattle.minidump_format.specs.declared.error.Error.TheVariants.{StreamReadFailure, VersionMismatch}
@@ -15,6 +13,7 @@ use Rattle.minidump_format.specs.declared.format.crashpad.MINIDUMP_CRASHPAD_INFO
 use Rattle.minidump_format.specs.declared.format.crashpad.MINIDUMP_MODULE_CRASHPAD_INFO.{MINIDUMP_MODULE_CRASHPAD_INFO}
 use Rattle.minidump_format.specs.declared.format.crashpad.MINIDUMP_MODULE_CRASHPAD_INFO_LINK.{MINIDUMP_MODULE_CRASHPAD_INFO_LINK}
 use Rattle.minidump_format.specs.declared.format.header.MINIDUMP_LOCATION_DESCRIPTOR.{MINIDUMP_LOCATION_DESCRIPTOR}
+use Rattle.minidump_system.specs.StreamSpec.{StreamSpec, square}
 use Rattle.minidump_system.specs.Reads.{and_then}
 use Rattle.minidump_records.specs.declared.crashpad.info.MinidumpCrashpadInfo.{MinidumpCrashpadInfo}
 use Rattle.minidump_records.specs.declared.crashpad.module_info.MinidumpModuleCrashpadInfo.{MinidumpModuleCrashpadInfo}
@@ -83,8 +82,8 @@ pub record Crashpad : Type 0 where
   pub simple_annotations : List (List ℕ × List ℕ)
   pub module_list : List Module
 
-abbrev pub crashpad_of : MinidumpCrashpadInfo → Crashpad
-crashpad_of c = record {
+abbrev pub crashpad_info_of : MinidumpCrashpadInfo → Crashpad
+crashpad_info_of c = record {
   raw = c.raw;
   simple_annotations = entries_of string_bytes c.simple_annotations.entries;
   module_list = map module_of c.module_list.items;
@@ -97,8 +96,8 @@ crashpad_record order bytes =
     if raw.version == 0 then Err VersionMismatch else Ok raw)
 
 -- what the bytes of the stream say: its record, then its dictionary and its MinidumpModuleCrashpadInfoList
-unfoldable pub crashpad_in : List ℕ → List ℕ → Endian → Result Crashpad Error
-crashpad_in bytes file order =
+unfoldable pub crashpad_info_in : Endian → List ℕ → List ℕ → Result Crashpad Error
+crashpad_info_in order file bytes =
     and_then (crashpad_record order bytes) (λ raw.
     and_then (text_dictionary order file raw.simple_annotations) (λ simple.
     and_then (tested_list module_link module_in order file raw.module_list) (λ modules.
@@ -114,9 +113,9 @@ crashpad_reads c = 1
 abbrev pub crashpad_info_stream : StreamSpec MinidumpCrashpadInfo Crashpad
 crashpad_info_stream = record {
   stream_type = CrashpadInfoStream;
-  value = crashpad_of;
-  meaning = λ bytes file order system. crashpad_in bytes file order;
+  value = crashpad_info_of;
+  meaning = λ order file bytes system. crashpad_info_in order file bytes;
   most = square;
-  fewest = λ bytes order info. crashpad_reads info;
-  memory = λ bytes order. IsOk (crashpad_record order bytes);
+  fewest = λ order bytes info. crashpad_reads info;
+  memory = λ order bytes. IsOk (crashpad_record order bytes);
 }

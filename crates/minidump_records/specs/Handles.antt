@@ -1,14 +1,12 @@
 -- The open handles of a process: Microsoft's MINIDUMP_HANDLE_DATA_STREAM.
-use Rattle.minidump_format.specs.declared.format.stream_type.MINIDUMP_STREAM_TYPE.TheVariants.{HandleDataStream}
-use Rattle.minidump_system.specs.StreamSpec.{StreamSpec, square}
-use Rattle.std.specs.List.{sum_by}
-use Rattle.std.specs.Prelude.{IsOkAnd, ◌<◌, length}
-use Rattle.std.specs.Prelude.{ℕ, ◌+◌, ◌==◌, List, Option, Some, None, Result, Ok, map, string_bytes, if◌then◌else◌}
-use Rattle.std.specs.List.{filter_map}
+use Rattle.std.specs.Prelude.{ℕ, ◌+◌, ◌==◌, List, Option, Some, None, Result, Ok, map, string_bytes, if◌then◌else◌, IsOkAnd, ◌<◌, length}
+use Rattle.std.specs.List.{sum_by, filter_map}
 use Rattle.std.specs.Option.{option_map, unwrap_or}
 use Rattle.minidump_bytes.specs.declared.endian.Endian.{Endian}
 use Rattle.minidump_bytes.specs.Text16.{text16}
+use Rattle.minidump_format.specs.declared.format.stream_type.MINIDUMP_STREAM_TYPE.TheVariants.{HandleDataStream}
 use Rattle.minidump_format.specs.declared.error.Error.{Error}
+use Rattle.minidump_system.specs.StreamSpec.{StreamSpec, square}
 use Rattle.minidump_system.specs.declared.framing.HandleEntries.{HandleEntries}
 use Rattle.minidump_system.specs.declared.framing.HandleEntries.TheVariants.{Short, Long}
 use Rattle.minidump_system.specs.Framing.{handle_list, handles_in}
@@ -90,8 +88,8 @@ unfoldable pub object_chain : Endian → List ℕ → ℕ → List MinidumpHandl
 object_chain order file link = filter_map (information_at order file) (chain_offsets order file link)
 
 -- the handle of a descriptor
-abbrev pub described : Endian → List ℕ → RawHandleDescriptor → Handle
-described order file raw = record {
+abbrev pub handle_in : Endian → List ℕ → RawHandleDescriptor → Handle
+handle_in order file raw = record {
   raw = raw;
   type_name = name_at order file (or_zero (type_name_rva raw));
   object_name = name_at order file (or_zero (object_name_rva raw));
@@ -105,25 +103,25 @@ handle_reads h = reads_at (or_zero (type_name_rva h.raw)) + reads_at (or_zero (o
 -- ---- the stream
 
 -- its handles, in the order of the list
-abbrev pub handles_of : MinidumpHandleDataStream → List Handle
-handles_of s = map handle_of s.handles.items
+abbrev pub handle_data_of : MinidumpHandleDataStream → List Handle
+handle_data_of s = map handle_of s.handles.items
 
 -- the handles of descriptors of either layout
-abbrev pub all_described : Endian → List ℕ → HandleEntries → List Handle
-all_described order file (Short raws) = map (λ r. described order file (HandleDescriptor r)) raws
-all_described order file (Long raws) = map (λ r. described order file (HandleDescriptor2 r)) raws
+abbrev pub all_handles : Endian → List ℕ → HandleEntries → List Handle
+all_handles order file (Short raws) = map (λ r. handle_in order file (HandleDescriptor r)) raws
+all_handles order file (Long raws) = map (λ r. handle_in order file (HandleDescriptor2 r)) raws
 
 -- Microsoft's MINIDUMP_HANDLE_DATA_STREAM: a handle list
-abbrev pub handle_data : List ℕ → List ℕ → Endian → Result (List Handle) Error
-handle_data bytes file order = and_then (handle_list order bytes) (λ list. Ok (all_described order file list))
+abbrev pub handle_data_in : Endian → List ℕ → List ℕ → Result (List Handle) Error
+handle_data_in order file bytes = and_then (handle_list order bytes) (λ list. Ok (all_handles order file list))
 
 -- the stream of type HandleDataStream
 abbrev pub handle_data_stream : StreamSpec MinidumpHandleDataStream (List Handle)
 handle_data_stream = record {
   stream_type = HandleDataStream;
-  value = handles_of;
-  meaning = λ bytes file order system. handle_data bytes file order;
+  value = handle_data_of;
+  meaning = λ order file bytes system. handle_data_in order file bytes;
   most = square;
-  fewest = λ bytes order handles. 1 + length handles + sum_by handle_reads handles;
-  memory = λ bytes order. IsOkAnd (handle_list order bytes) (λ list. 0 < handles_in list);
+  fewest = λ order bytes handles. 1 + length handles + sum_by handle_reads handles;
+  memory = λ order bytes. IsOkAnd (handle_list order bytes) (λ list. 0 < handles_in list);
 }

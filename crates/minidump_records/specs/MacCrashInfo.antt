@@ -1,26 +1,24 @@
 -- The crash information of macOS: Mozilla's MDRawMacCrashInfo.
-use Rattle.minidump_format.specs.declared.format.stream_type.MINIDUMP_STREAM_TYPE.TheVariants.{MozMacosCrashInfoStream}
-use Rattle.minidump_records.specs.MacRecord.{record_reads}
-use Rattle.minidump_system.specs.StreamSpec.{StreamSpec, linear}
+use Rattle.std.specs.Prelude.{ℕ, ◌+◌, ◌==◌, List, ◌∷◌, map, min, take, Option, Some, None, Result, Ok, Err, slice_range, if◌then◌else◌, IsSome, ◌*◌}
 use Rattle.std.specs.List.{filter_map, sum_by, zip}
-use Rattle.std.specs.Prelude.{IsSome, ◌*◌}
-use Rattle.std.specs.Prelude.{ℕ, ◌+◌, ◌==◌, List, ◌∷◌, map, min, take, Option, Some, None, Result, Ok, Err, slice_range, if◌then◌else◌}
 use Rattle.std.specs.Option.{ok_or, option_and_then, option_map}
 use Rattle.minidump_bytes.specs.declared.endian.Endian.{Endian}
 use Rattle.minidump_bytes.specs.Number.{number_at}
 use Rattle.minidump_bytes.specs.Span.{record_at, span}
+use Rattle.minidump_format.specs.declared.format.stream_type.MINIDUMP_STREAM_TYPE.TheVariants.{MozMacosCrashInfoStream}
 use Rattle.minidump_format.specs.declared.error.Error.{Error}
 use Rattle.minidump_format.specs.declared.error.Error.TheVariants.{StreamReadFailure, VersionMismatch}
 use Rattle.minidump_format.specs.declared.format.header.MINIDUMP_LOCATION_DESCRIPTOR.{MINIDUMP_LOCATION_DESCRIPTOR}
 use Rattle.minidump_format.specs.Mac.{mac_crash_info, mac_record}
+use Rattle.minidump_system.specs.StreamSpec.{StreamSpec, linear}
 use Rattle.minidump_system.specs.Reads.{all_ok, and_then}
+use Rattle.minidump_records.specs.MacRecord.{MacRecord, by_version, mac_record_of, record_reads}
 use Rattle.minidump_records.specs.declared.mac_crash_info.MinidumpMacCrashInfo.{MinidumpMacCrashInfo}
 use Rattle.minidump_records.specs.declared.mac_crash_info.raw.RawMacCrashInfo.{RawMacCrashInfo}
-use Rattle.minidump_records.specs.MacRecord.{MacRecord, by_version, mac_record_of}
 
 -- its records
-abbrev pub mac_records_of : MinidumpMacCrashInfo → List MacRecord
-mac_records_of s = map mac_record_of s.raw.items
+abbrev pub mac_crash_info_of : MinidumpMacCrashInfo → List MacRecord
+mac_crash_info_of s = map mac_record_of s.raw.items
 
 -- the record of a value, if there is one
 abbrev pub record_if : Option RawMacCrashInfo → Option MacRecord
@@ -65,8 +63,8 @@ located_records order file start ls =
     and_then (all_ok (neighbouring_record order file start) (with_neighbours ls)) (λ rs. Ok (filter_map (λ r. r) rs))
 
 -- Mozilla's MDRawMacCrashInfo: a count of records, of which the first 20 are read, and their locations
-abbrev pub mac_crash_info_in : List ℕ → List ℕ → Endian → Result (List MacRecord) Error
-mac_crash_info_in bytes file order =
+abbrev pub mac_crash_info_in : Endian → List ℕ → List ℕ → Result (List MacRecord) Error
+mac_crash_info_in order file bytes =
     and_then (ok_or (record_at mac_crash_info order 0 bytes) StreamReadFailure) (λ info.
     located_records order file info.record_start_size (take (min info.record_count 20) info.records))
 
@@ -78,9 +76,9 @@ count_of_records order bytes = min (number_at order 4 4 (slice_range bytes 0 172
 abbrev pub mac_crash_info_stream : StreamSpec MinidumpMacCrashInfo (List MacRecord)
 mac_crash_info_stream = record {
   stream_type = MozMacosCrashInfoStream;
-  value = mac_records_of;
-  meaning = λ bytes file order system. mac_crash_info_in bytes file order;
+  value = mac_crash_info_of;
+  meaning = λ order file bytes system. mac_crash_info_in order file bytes;
   most = linear;
-  fewest = λ bytes order records. 1 + 2 * count_of_records order bytes + sum_by record_reads records;
-  memory = λ bytes order. IsSome (record_at mac_crash_info order 0 bytes);
+  fewest = λ order bytes records. 1 + 2 * count_of_records order bytes + sum_by record_reads records;
+  memory = λ order bytes. IsSome (record_at mac_crash_info order 0 bytes);
 }

@@ -11,8 +11,8 @@ use Rattle.std.specs.Ordering.{is_eq, match_ordering, nat_cmp, ordering_reverse}
 use Rattle.std.proofs.lemmas.Cmp.{alike_right, nat_list_cmp_total}
 use Rattle.std.proofs.lemmas.Map.Text.{is_eq-slice_cmp}
 use Rattle.std.proofs.lemmas.Slice.Eq.{bytes_eq-Decides}
-use Rattle.minidump_records.specs.LastValues.{IsDictionaryOf, last_value}
 use Rattle.minidump_system.specs.ExactlyOne.{ExactlyOne}
+use Rattle.minidump_records.specs.LastValues.{IsDictionaryOf, last_value}
 
 module _ {K : Type 0} (cmp : K → K → Ordering) (total : IsTotalOrder cmp) where
   below_all : (k x : K) (ys : List K) → cmp k x ≡ Less → AllByRecursion (λ y. cmp x y ≡ Less) ys → AllByRecursion (λ y. cmp k y ≡ Less) ys

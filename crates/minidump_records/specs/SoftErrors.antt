@@ -1,11 +1,11 @@
 -- Errors that the writer of a dump met and went on after: Mozilla's stream of JSON in UTF-8.
-use Rattle.minidump_format.specs.declared.format.stream_type.MINIDUMP_STREAM_TYPE.TheVariants.{MozSoftErrors}
-use Rattle.minidump_system.specs.StreamSpec.{StreamSpec}
 use Rattle.std.specs.Prelude.{ℕ, List, Result}
 use Rattle.std.specs.Option.{ok_or}
 use Rattle.minidump_bytes.specs.Text8.{utf8_text}
+use Rattle.minidump_format.specs.declared.format.stream_type.MINIDUMP_STREAM_TYPE.TheVariants.{MozSoftErrors}
 use Rattle.minidump_format.specs.declared.error.Error.{Error}
 use Rattle.minidump_format.specs.declared.error.Error.TheVariants.{DataError}
+use Rattle.minidump_system.specs.StreamSpec.{StreamSpec}
 use Rattle.minidump_records.specs.declared.soft_errors.MinidumpSoftErrors.{MinidumpSoftErrors}
 
 -- the text of a value
@@ -13,16 +13,16 @@ abbrev pub soft_errors_of : MinidumpSoftErrors → List ℕ
 soft_errors_of e = e.text.now
 
 -- the stream is one text
-abbrev pub soft_errors : List ℕ → Result (List ℕ) Error
-soft_errors bytes = ok_or (utf8_text bytes) DataError
+abbrev pub soft_errors_in : List ℕ → Result (List ℕ) Error
+soft_errors_in bytes = ok_or (utf8_text bytes) DataError
 
 -- the stream of type MozSoftErrors
 abbrev pub soft_errors_stream : StreamSpec MinidumpSoftErrors (List ℕ)
 soft_errors_stream = record {
   stream_type = MozSoftErrors;
   value = soft_errors_of;
-  meaning = λ bytes file order system. soft_errors bytes;
+  meaning = λ order file bytes system. soft_errors_in bytes;
   most = λ n. 0;
-  fewest = λ bytes order text. 0;
-  memory = λ bytes order. ⊥;
+  fewest = λ order bytes text. 0;
+  memory = λ order bytes. ⊥;
 }

@@ -1,17 +1,16 @@
 -- The names of threads: Microsoft's MINIDUMP_THREAD_NAME_LIST.
-use Rattle.minidump_format.specs.declared.format.stream_type.MINIDUMP_STREAM_TYPE.TheVariants.{ThreadNamesStream}
-use Rattle.minidump_system.specs.Framing.{count_of}
-use Rattle.minidump_system.specs.StreamSpec.{StreamSpec, linear}
 use Rattle.std.specs.Prelude.{IsOkAnd, ℕ, ◌+◌, ◌*◌, ◌^◌, ◌<◌, ◌==◌, List, length, map, reverse, Option, Result, Ok, string_bytes}
 use Rattle.std.specs.List.{filter_map, range_with_len}
 use Rattle.std.specs.Map.{lookup}
 use Rattle.std.specs.Option.{option_map}
 use Rattle.minidump_bytes.specs.declared.endian.Endian.{Endian}
 use Rattle.minidump_bytes.specs.Text16.{text16}
+use Rattle.minidump_format.specs.declared.format.stream_type.MINIDUMP_STREAM_TYPE.TheVariants.{ThreadNamesStream}
 use Rattle.minidump_format.specs.declared.error.Error.{Error}
 use Rattle.minidump_format.specs.declared.format.thread.MINIDUMP_THREAD_NAME.{MINIDUMP_THREAD_NAME}
 use Rattle.minidump_format.specs.Thread.{thread_name}
-use Rattle.minidump_system.specs.Framing.{plain_list}
+use Rattle.minidump_system.specs.Framing.{count_of, plain_list}
+use Rattle.minidump_system.specs.StreamSpec.{StreamSpec, linear}
 use Rattle.minidump_system.specs.Reads.{and_then}
 use Rattle.minidump_records.specs.declared.thread_names.MinidumpThreadNames.{MinidumpThreadNames}
 
@@ -20,8 +19,8 @@ abbrev pub ThreadName : Type 0
 ThreadName = ℕ × List ℕ
 
 -- the names of a value, ascending by id
-abbrev pub names_of : MinidumpThreadNames → List ThreadName
-names_of n = map (λ e. (e.0, string_bytes e.1)) n.names.entries
+abbrev pub thread_names_of : MinidumpThreadNames → List ThreadName
+thread_names_of n = map (λ e. (e.0, string_bytes e.1)) n.names.entries
 
 -- the name of an entry: none where no text is at its RVA
 abbrev pub named : Endian → List ℕ → MINIDUMP_THREAD_NAME → Option ThreadName
@@ -36,8 +35,8 @@ unfoldable pub last_names : ℕ → List ThreadName → List ThreadName
 last_names limit names = filter_map (λ id. option_map (λ name. (id, name)) (last_name names id)) (range_with_len 0 limit)
 
 -- Microsoft's MINIDUMP_THREAD_NAME_LIST: a plain list of entries, of which one whose name is no text does not count
-abbrev pub thread_names : List ℕ → List ℕ → Endian → Result (List ThreadName) Error
-thread_names bytes file order = and_then (plain_list thread_name order bytes) (λ raws. Ok (last_names (2 ^ 32) (filter_map (named order file) raws)))
+abbrev pub thread_names_in : Endian → List ℕ → List ℕ → Result (List ThreadName) Error
+thread_names_in order file bytes = and_then (plain_list thread_name order bytes) (λ raws. Ok (last_names (2 ^ 32) (filter_map (named order file) raws)))
 
 -- the name of a thread, of several the first
 abbrev pub name_at : List ThreadName → ℕ → Option (List ℕ)
@@ -47,9 +46,9 @@ name_at names id = lookup (λ t. t == id) names
 abbrev pub thread_names_stream : StreamSpec MinidumpThreadNames (List ThreadName)
 thread_names_stream = record {
   stream_type = ThreadNamesStream;
-  value = names_of;
-  meaning = λ bytes file order system. thread_names bytes file order;
+  value = thread_names_of;
+  meaning = λ order file bytes system. thread_names_in order file bytes;
   most = linear;
-  fewest = λ bytes order names. 1 + 2 * count_of order bytes;
-  memory = λ bytes order. IsOkAnd (plain_list thread_name order bytes) (λ raws. 0 < length raws);
+  fewest = λ order bytes names. 1 + 2 * count_of order bytes;
+  memory = λ order bytes. IsOkAnd (plain_list thread_name order bytes) (λ raws. 0 < length raws);
 }

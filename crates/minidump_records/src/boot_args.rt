@@ -2,7 +2,7 @@ ghost use Rattle.std.specs.Prelude.{◌≡◌, ◌+◌, ◌≤◌, IfOk, IsOkUnl
 ghost use Rattle.std.proofs.Common.{rules};
 ghost use Rattle.minidump_bytes.specs.Source.{bytes_of};
 ghost use Rattle.minidump_bytes.specs.Steps.{after};
-ghost use Rattle.minidump_records.specs.BootArgs.{boot_args_of, boot_args_record};
+ghost use Rattle.minidump_records.specs.BootArgs.{mac_bootargs_of, boot_args_record};
 
 use minidump_bytes::{Endian, Record, Source, Steps, copied};
 use minidump_format::Error;
@@ -22,7 +22,7 @@ pub struct MinidumpMacBootargs {
 impl MinidumpMacBootargs {
     /// Copies the arguments. The only error is [`Error::OutOfMemory`].
     pub fn try_clone(&self, alloc: Global) -> Result<MinidumpMacBootargs, Error>
-        ensures same { IfOk result (λ copy. boot_args_of copy ≡ boot_args_of self.now) }
+        ensures same { IfOk result (λ copy. mac_bootargs_of copy ≡ mac_bootargs_of self.now) }
         ensures memory { IsOkUnless result Error.OutOfMemory }
     {
         Ok(MinidumpMacBootargs {
@@ -61,8 +61,7 @@ impl Record for ShortBootArgs {
 /// Mozilla's `MDRawMacBootargs`, in the form of 12 bytes, or of 8 bytes where the stream is shorter.
 /// `StreamReadFailure` if it is shorter than that too.
 impl<'a> MinidumpStream<'a> for MinidumpMacBootargs {
-    ghost use Rattle.minidump_records.specs.BootArgs.{BootArgs};
-    ghost use Rattle.minidump_records.specs.BootArgs.{mac_bootargs_stream};
+    ghost use Rattle.minidump_records.specs.BootArgs.{BootArgs, mac_bootargs_stream};
 
     ghost Value = { BootArgs };
 

@@ -26,24 +26,24 @@
 //! # What is proved
 //!
 //! - A thread's name is the last of its id that is a text, or `None` exactly where there is none:
-//!   `MinidumpThreadNames::read`, by `thread_names`; `get_name`; `laws::last_name_of_a_thread_is_kept`. A read
+//!   `MinidumpThreadNames::read`, by `thread_names_in`; `get_name`; `laws::last_name_of_a_thread_is_kept`. A read
 //!   takes at least one step for the count, for each entry and for its name.
 //! - All thread information stays in the order of the file, and the last of an id is found:
-//!   `MinidumpThreadInfoList::read`, by `thread_infos`; `get_thread_info`;
+//!   `MinidumpThreadInfoList::read`, by `thread_info_list_in`; `get_thread_info`;
 //!   `laws::last_info_of_a_thread_is_found`.
 //! - A handle has the names at its RVAs, each absent at 0 and where no text is, and the longest chain of
 //!   distinct pieces of information that its descriptor leads to: `MinidumpHandleDataStream::read`, by
-//!   `handle_data`; `laws::object_chain_is_the_longest`, `object_chain_is_one`. A read takes at least one step
+//!   `handle_data_in`; `laws::object_chain_is_the_longest`, `object_chain_is_one`. A read takes at least one step
 //!   for the header, each entry, name and piece, and for what ends a chain at another RVA than 0. Memory runs
 //!   out only where there are entries, of a good size.
 //! - Crashpad's dictionaries, lists and modules are what their locations hold, or the first error in the order of
-//!   the records: `MinidumpCrashpadInfo::read`, by `crashpad_in`; `MinidumpModuleCrashpadInfo::read`, by
+//!   the records: `MinidumpCrashpadInfo::read`, by `crashpad_info_in`; `MinidumpModuleCrashpadInfo::read`, by
 //!   `module_in`. A key has its last value: `laws::dictionaries_have_the_last_values`. A read takes at least one
 //!   step for each record, location, count, entry that is kept and text. Copies of annotations are the same:
 //!   `try_clone`. `same_as` is no equality: `laws::an_annotation_need_not_be_the_same_as_itself`.
 //! - Breakpad's information, an assertion and the boot arguments are their records, with the fields whose flags
-//!   are set, the texts up to a NUL, and the text at the RVA: `breakpad_info_in`, `assertion_in`, `boot_args`;
-//!   `MinidumpAssertion::expression`, `function`, `file`. Soft errors are the stream as UTF-8: `soft_errors`.
+//!   are set, the texts up to a NUL, and the text at the RVA: `breakpad_info_in`, `assertion_in`, `mac_bootargs_in`;
+//!   `MinidumpAssertion::expression`, `function`, `file`. Soft errors are the stream as UTF-8: `soft_errors_in`.
 //! - The records of macOS are those at the first 20 locations, each by its version and with its texts within its
 //!   bytes, but for version 0: `MinidumpMacCrashInfo::read`, by `mac_crash_info_in`. A read takes at least one step
 //!   for the stream, for the bytes and the head of each record, and for the fixed part and each text from version 4

@@ -5,7 +5,7 @@ ghost use Rattle.minidump_bytes.specs.Steps.{after};
 ghost use Rattle.minidump_format.specs.Answer.{Gives};
 ghost use Rattle.minidump_format.specs.StreamType.{number_of};
 ghost use Rattle.minidump_records.specs.MacRecord.{mac_record_of, record_reads};
-ghost use Rattle.minidump_records.specs.MacCrashInfo.{located_records, mac_records_of};
+ghost use Rattle.minidump_records.specs.MacCrashInfo.{located_records, mac_crash_info_of};
 
 mod raw;
 mod record;
@@ -28,7 +28,7 @@ pub struct MinidumpMacCrashInfo {
 impl MinidumpMacCrashInfo {
     /// Copies the information. The only error is [`Error::OutOfMemory`].
     pub fn try_clone(&self, alloc: Global) -> Result<MinidumpMacCrashInfo, Error>
-        ensures same { IfOk result (λ copy. mac_records_of copy ≡ mac_records_of self.now) }
+        ensures same { IfOk result (λ copy. mac_crash_info_of copy ≡ mac_crash_info_of self.now) }
         ensures memory { IsOkUnless result Error.OutOfMemory }
     {
         let mut raw = Vec::with_capacity(alloc, self.raw.len())?;

@@ -32,8 +32,7 @@ impl<'a> MinidumpSoftErrors<'a> {
 /// Mozilla's soft errors: the stream is one text in UTF-8, else `DataError`. Reads no number of it, and takes no
 /// memory.
 impl<'a> MinidumpStream<'a> for MinidumpSoftErrors<'a> {
-    ghost use Rattle.std.specs.Prelude.{List};
-    ghost use Rattle.std.specs.Prelude.{ℕ};
+    ghost use Rattle.std.specs.Prelude.{List, ℕ};
     ghost use Rattle.minidump_records.specs.SoftErrors.{soft_errors_stream};
 
     ghost Value = { List ℕ };

@@ -1,6 +1,6 @@
 ghost use Rattle.std.specs.Prelude.{◌≡◌, [], IfOk, map};
 ghost use Rattle.std.specs.Option.{option_copied};
-ghost use Rattle.minidump_records.specs.ThreadInfo.{infos_of, last_info};
+ghost use Rattle.minidump_records.specs.ThreadInfo.{thread_info_list_of, last_info};
 
 use minidump_bytes::{Endian, Entries, Source, Steps};
 use minidump_format::Error;
@@ -25,7 +25,7 @@ pub struct MinidumpThreadInfoList {
 impl MinidumpThreadInfoList {
     /// Makes an empty list. Takes no memory.
     pub fn new(alloc: Global) -> MinidumpThreadInfoList
-        ensures { infos_of result ≡ [] }
+        ensures { thread_info_list_of result ≡ [] }
     {
         MinidumpThreadInfoList {
             thread_infos: Vec::new(alloc),

@@ -6,7 +6,7 @@ ghost use Rattle.std.specs.Ordering.{nat_cmp};
 ghost use Rattle.minidump_bytes.specs.Source.{bytes_of};
 ghost use Rattle.minidump_bytes.specs.Steps.{after};
 ghost use Rattle.minidump_bytes.specs.Text16.{text16};
-ghost use Rattle.minidump_records.specs.ThreadNames.{last_names, name_at, named, names_of, thread_names_stream};
+ghost use Rattle.minidump_records.specs.ThreadNames.{last_names, name_at, named, thread_names_of, thread_names_stream};
 
 use minidump_bytes::{Endian, Entries, Source, Steps};
 use minidump_format::Error;
@@ -25,7 +25,7 @@ pub struct MinidumpThreadNames {
 impl MinidumpThreadNames {
     /// Makes names of no thread. Takes no memory.
     pub fn new(alloc: Global) -> MinidumpThreadNames
-        ensures { names_of result ≡ [] }
+        ensures { thread_names_of result ≡ [] }
     {
         MinidumpThreadNames {
             names: BTreeMap::new(alloc),
@@ -42,7 +42,7 @@ impl MinidumpThreadNames {
 
     /// Copies the names. The only error is [`Error::OutOfMemory`].
     pub fn try_clone(&self, _alloc: Global) -> Result<MinidumpThreadNames, Error>
-        ensures same { IfOk result (λ copy. names_of copy ≡ names_of self.now) }
+        ensures same { IfOk result (λ copy. thread_names_of copy ≡ thread_names_of self.now) }
         ensures memory { IsOkUnless result Error.OutOfMemory }
     {
         Ok(MinidumpThreadNames {
@@ -55,8 +55,7 @@ impl MinidumpThreadNames {
 /// several names of one thread the last is kept.
 impl<'a> MinidumpStream<'a> for MinidumpThreadNames {
     ghost use Rattle.std.specs.Prelude.{List};
-    ghost use Rattle.minidump_records.specs.ThreadNames.{ThreadName};
-    ghost use Rattle.minidump_records.specs.ThreadNames.{thread_names_stream};
+    ghost use Rattle.minidump_records.specs.ThreadNames.{ThreadName, thread_names_stream};
 
     ghost Value = { List ThreadName };
 

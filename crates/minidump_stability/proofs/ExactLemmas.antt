@@ -12,7 +12,7 @@ use Rattle.minidump_stability.specs.declared.process_state.MemoryState.{MemorySt
 use Rattle.minidump_stability.specs.declared.report.ProcessState.{ProcessState}
 use Rattle.minidump_stability.specs.declared.report.StabilityReport.{StabilityReport}
 use Rattle.minidump_stability.specs.declared.report.SystemMemoryState.{SystemMemoryState}
-use Rattle.minidump_stability.specs.StabilityReport.{report_of}
+use Rattle.minidump_stability.specs.StabilityReport.{stability_report_of}
 use Rattle.std.specs.Cmp.Lexicographic.{pointwise}
 
 -- a test holds of the same value alone
@@ -77,7 +77,7 @@ system_eq = (system.eq-value).it
 system_test : IsTest system_eq
 system_test x y = ((λ h. Prim.search rules), (λ h. Prim.search rules))
 
-pub report_test : (x y : StabilityReport) → IsTrue (pointwise (state.eq-value).it x.process_states.items y.process_states.items && option_eq system_eq x.system_memory_state y.system_memory_state) ↔ (report_of x ≡ report_of y)
+pub report_test : (x y : StabilityReport) → IsTrue (pointwise (state.eq-value).it x.process_states.items y.process_states.items && option_eq system_eq x.system_memory_state y.system_memory_state) ↔ (stability_report_of x ≡ stability_report_of y)
 report_test x y =
     let states = list_test (state.eq-value).it state_test x.process_states.items y.process_states.items in
     let system = option_test system_eq system_test x.system_memory_state y.system_memory_state in

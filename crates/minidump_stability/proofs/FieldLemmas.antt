@@ -10,7 +10,7 @@ use Rattle.minidump_bytes.proofs.WireFieldLemmas.{field_there, there_field}
 use Rattle.minidump_format.specs.declared.error.Error.{Error}
 use Rattle.minidump_format.specs.declared.error.Error.TheVariants.{DataError}
 use Rattle.minidump_stability.specs.Fields.{fields_from, fields_in}
-use Rattle.minidump_stability.specs.StabilityReport.{Report, report, stability_report}
+use Rattle.minidump_stability.specs.StabilityReport.{Report, report, stability_report_in}
 use Rattle.minidump_stability.proofs.MergeLemmas.{fields_end, fields_more}
 
 -- ---- what is found is spelled
@@ -106,6 +106,6 @@ unfolding Held
 held_in bytes None is = (refl, (λ gs s. absurd (let k : None ≡ Some gs = sym is ∙ (fields_are_spelled bytes gs).1 s in cc)))
 held_in bytes (Some fs) is = held_by bytes fs (report fs) is refl
 
-pub report_is_held : (bytes : List ℕ) → MatchResult (stability_report bytes) (λ r. (fs : List Field) × SpellsFields bytes fs × (report fs ≡ Some r)) (λ e. (e ≡ DataError) × ((fs : List Field) → SpellsFields bytes fs → report fs ≡ None))
+pub report_is_held : (bytes : List ℕ) → MatchResult (stability_report_in bytes) (λ r. (fs : List Field) × SpellsFields bytes fs × (report fs ≡ Some r)) (λ e. (e ≡ DataError) × ((fs : List Field) → SpellsFields bytes fs → report fs ≡ None))
 unfolding Held
 report_is_held bytes = held_in bytes (fields_in bytes) refl

@@ -7,7 +7,7 @@ use Rattle.minidump_format.specs.declared.error.Error.TheVariants.{DataError}
 use Rattle.minidump_stability.specs.Fields.{fields_in, int64_in, uint32_in}
 use Rattle.minidump_stability.specs.ReportRows.{no_file_system_state, no_memory_state, no_posix_file_system_state, no_process_state, no_system_memory_state, no_system_windows_memory, no_windows_file_system_state, no_windows_memory, put_file_system_state, put_memory_state, put_posix_file_system_state, put_process_state, put_report, put_system_memory_state, put_system_windows_memory, put_windows_file_system_state, put_windows_memory}
 use Rattle.minidump_stability.specs.Rows.{merged_bytes, merged_fields}
-use Rattle.minidump_stability.specs.StabilityReport.{file_system_state, memory_state, no_report, posix_file_system_state, process_state, report, stability_report, system_memory_state, system_windows_memory, windows_file_system_state, windows_memory}
+use Rattle.minidump_stability.specs.StabilityReport.{file_system_state, memory_state, no_report, posix_file_system_state, process_state, report, stability_report_in, system_memory_state, system_windows_memory, windows_file_system_state, windows_memory}
 use Rattle.minidump_stability.proofs.RowLemmas.{Means, beside, only_nested, only_repeated, only_scalar, through_means}
 
 windows_memory_means : Means put_windows_memory no_windows_memory windows_memory
@@ -61,5 +61,5 @@ report_by None = refl
 report_by (Some fs) = report_means fs
 
 -- a report that is read field by field is the one that its stream holds
-pub report_is : (bytes : List ℕ) → ok_or (merged_bytes put_report bytes no_report) DataError ≡ stability_report bytes
+pub report_is : (bytes : List ℕ) → ok_or (merged_bytes put_report bytes no_report) DataError ≡ stability_report_in bytes
 report_is bytes = ap (λ o. ok_or o DataError) (report_by (fields_in bytes))

@@ -1,11 +1,11 @@
--- The messages of Chromium's stability_report.proto: each field by its number, other fields are skipped.
+-- The messages of Chromium's stability_report_in.proto: each field by its number, other fields are skipped.
 use Rattle.std.specs.Prelude.{ℕ, ◌+◌, List, [], Option, None, Result, unwrap_or, IsSome}
 use Rattle.std.specs.Option.{ok_or, option_and_then, option_map}
 use Rattle.minidump_bytes.specs.Wire.{Field, field_at}
 use Rattle.minidump_format.specs.declared.error.Error.{Error}
 use Rattle.minidump_format.specs.declared.format.stream_type.MINIDUMP_STREAM_TYPE.TheVariants.{StabilityReportStream}
-use Rattle.minidump_system.specs.StreamSpec.{StreamSpec, linear}
 use Rattle.minidump_format.specs.declared.error.Error.TheVariants.{DataError}
+use Rattle.minidump_system.specs.StreamSpec.{StreamSpec, linear}
 use Rattle.minidump_stability.specs.declared.process_state.FileSystemState.{FileSystemState}
 use Rattle.minidump_stability.specs.declared.process_state.MemoryState.{MemoryState}
 use Rattle.minidump_stability.specs.declared.process_state.file_system_state.PosixFileSystemState.{PosixFileSystemState}
@@ -71,11 +71,11 @@ report fs =
     (both (repeated process_state 2 fs) (nested system_memory_state 7 fs))
 
 -- the report that a stream holds
-abbrev pub stability_report : List ℕ → Result Report Error
-stability_report bytes = ok_or (option_and_then report (fields_in bytes)) DataError
+abbrev pub stability_report_in : List ℕ → Result Report Error
+stability_report_in bytes = ok_or (option_and_then report (fields_in bytes)) DataError
 
-abbrev pub report_of : StabilityReport → Report
-report_of r = record { process_states = r.process_states.items; system_memory_state = r.system_memory_state }
+abbrev pub stability_report_of : StabilityReport → Report
+stability_report_of r = record { process_states = r.process_states.items; system_memory_state = r.system_memory_state }
 
 -- ---- how many fields are inside a field of each message
 unfoldable pub memory_state_fields : Field → ℕ
@@ -101,9 +101,9 @@ fields_of_report bytes = counted report_fields (unwrap_or (fields_in bytes) [])
 abbrev pub stability_report_stream : StreamSpec StabilityReport Report
 stability_report_stream = record {
   stream_type = StabilityReportStream;
-  value = report_of;
-  meaning = λ bytes file order system. stability_report bytes;
+  value = stability_report_of;
+  meaning = λ order file bytes system. stability_report_in bytes;
   most = linear;
-  fewest = λ bytes order report. fields_of_report bytes;
-  memory = λ bytes order. IsSome (field_at 0 bytes);
+  fewest = λ order bytes report. fields_of_report bytes;
+  memory = λ order bytes. IsSome (field_at 0 bytes);
 }

@@ -4,9 +4,9 @@ ghost use Rattle.minidump_bytes.specs.declared.endian.Endian.{Endian};
 ghost use Rattle.minidump_bytes.specs.Exact.{IsExact};
 ghost use Rattle.minidump_bytes.specs.Wire.{Field, SpellsFields};
 ghost use Rattle.minidump_format.specs.declared.error.Error.TheVariants.{DataError};
-ghost use Rattle.minidump_stability.specs.Fields.{fields_in};
-ghost use Rattle.minidump_stability.specs.StabilityReport.{report, report_of, stability_report};
 ghost use Rattle.minidump_system.specs.SystemInfo.{System};
+ghost use Rattle.minidump_stability.specs.Fields.{fields_in};
+ghost use Rattle.minidump_stability.specs.StabilityReport.{report, stability_report_of, stability_report_in};
 
 use crate::{ProcessState, StabilityReport};
 use minidump_system::MinidumpStream;
@@ -19,7 +19,7 @@ pub fn fields_are_what_bytes_spell()
 /// A stream holds a report exactly where it spells fields that mean this report. Any other is refused by
 /// `DataError`.
 pub fn report_is_what_its_fields_mean()
-    ensures { (bytes : List ℕ) → MatchResult (stability_report bytes)
+    ensures { (bytes : List ℕ) → MatchResult (stability_report_in bytes)
         (λ r. (fs : List Field) × SpellsFields bytes fs × (report fs ≡ Some r))
         (λ e. (e ≡ DataError) × ((fs : List Field) → SpellsFields bytes fs → report fs ≡ None)) }
 {}
@@ -27,8 +27,8 @@ pub fn report_is_what_its_fields_mean()
 /// The report depends on the bytes of its stream alone.
 pub fn report_depends_on_its_stream_alone()
     ensures { (bytes all other : List ℕ) (order another : Endian) (s t : Option System)
-        → ⟦<StabilityReport as MinidumpStream<'static>>⟧.spec.meaning bytes all order s
-        ≡ ⟦<StabilityReport as MinidumpStream<'static>>⟧.spec.meaning bytes other another t }
+        → ⟦<StabilityReport as MinidumpStream<'static>>⟧.spec.meaning order all bytes s
+        ≡ ⟦<StabilityReport as MinidumpStream<'static>>⟧.spec.meaning another other bytes t }
 {}
 
 /// A state of a process equals the same state alone, and a clone of it is the same state.
@@ -38,5 +38,5 @@ pub fn process_states_compare_and_copy_exactly()
 
 /// Reports are equal where they hold the same.
 pub fn reports_compare_by_what_they_hold()
-    ensures { (x y : StabilityReport) → IsTrue (⟦<StabilityReport as PartialEq>⟧.eq x y) ↔ (report_of x ≡ report_of y) }
+    ensures { (x y : StabilityReport) → IsTrue (⟦<StabilityReport as PartialEq>⟧.eq x y) ↔ (stability_report_of x ≡ stability_report_of y) }
 {}

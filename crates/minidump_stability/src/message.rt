@@ -15,7 +15,7 @@ use std::alloc::Global;
 pub trait Message: Sized {
     ghost Value: { Type 0 };
 
-    ghost view: { Self → Value };
+    ghost value: { Self → Value };
 
     // the message of no fields
     ghost empty: { Value };
@@ -28,12 +28,12 @@ pub trait Message: Sized {
 
     /// The message of no fields.
     fn none(alloc: Global) -> Self
-        ensures { view result ≡ empty };
+        ensures { value result ≡ empty };
 
     /// The message with one field more. `DataError` where it is a known field of another type, or holds a
     /// message that can't be read.
     fn put(self, alloc: Global, field: WireField<'_>, steps: &mut Steps) -> Result<Self, Error>
-        ensures means { Gives view ⊤ result (ok_or (put (field_of field.entry) (view self)) DataError) }
+        ensures means { Gives value ⊤ result (ok_or (put (field_of field.entry) (value self)) DataError) }
         ensures within { steps.new ≤ steps.old + room (payload_of field.entry.value) }
         ensures grows { steps.old ≤ steps.new }
         ensures counted { IfOk result (λ _. steps.new ≡ after steps.old (inside (field_of field.entry))) };
@@ -46,7 +46,7 @@ pub fn merge<M: Message + Drop>(
     bytes: &[u8],
     steps: &mut Steps,
 ) -> Result<M, Error>
-    ensures means { Gives M.view ⊤ result (ok_or (merged_bytes M.put bytes.now (M.view old)) DataError) }
+    ensures means { Gives M.value ⊤ result (ok_or (merged_bytes M.put bytes.now (M.value old)) DataError) }
     ensures within { steps.new ≤ steps.old + length bytes.now }
     ensures grows { steps.old ≤ steps.new }
     ensures counted { IfOk result
@@ -71,8 +71,8 @@ pub fn nested<M: Message + Drop>(
     value: WireValue<'_>,
     steps: &mut Steps,
 ) -> Result<Option<M>, Error>
-    ensures means { Gives (option_map M.view) ⊤ result
-        (ok_or (one_nested M.put M.empty (payload_of value.entry) (option_map M.view old)) DataError) }
+    ensures means { Gives (option_map M.value) ⊤ result
+        (ok_or (one_nested M.put M.empty (payload_of value.entry) (option_map M.value old)) DataError) }
     ensures within { steps.new ≤ steps.old + room (payload_of value.entry) }
     ensures grows { steps.old ≤ steps.new }
     ensures counted { IfOk result (λ _. steps.new ≡ after steps.old (count_in M.inside (payload_of value.entry))) }

@@ -25,7 +25,7 @@ impl Message for MemoryState {
 
     ghost Value = { MemoryState };
 
-    ghost view = { λ m. m };
+    ghost value = { λ m. m };
 
     ghost empty = { no_memory_state };
 
@@ -73,7 +73,7 @@ impl Message for FileSystemState {
 
     ghost Value = { FileSystemState };
 
-    ghost view = { λ m. m };
+    ghost value = { λ m. m };
 
     ghost empty = { no_file_system_state };
 

@@ -2,7 +2,7 @@ ghost use Rattle.std.specs.Prelude.{◌≡◌, IfOk, IsOkUnless};
 ghost use Rattle.std.proofs.Common.{rules};
 ghost use Rattle.minidump_format.specs.declared.format.stream_type.MINIDUMP_STREAM_TYPE.TheVariants.{StabilityReportStream};
 ghost use Rattle.minidump_format.specs.StreamType.{number_of};
-ghost use Rattle.minidump_stability.specs.StabilityReport.{no_report, report_of};
+ghost use Rattle.minidump_stability.specs.StabilityReport.{no_report, stability_report_of};
 
 use crate::message::{Message, int64, merge, nested};
 use crate::process_state::{FileSystemState, MemoryState};
@@ -30,7 +30,7 @@ impl Message for ProcessState {
 
     ghost Value = { ProcessState };
 
-    ghost view = { λ m. m };
+    ghost value = { λ m. m };
 
     ghost empty = { no_process_state };
 
@@ -73,7 +73,7 @@ impl Message for SystemMemoryState {
 
     ghost Value = { SystemMemoryState };
 
-    ghost view = { λ m. m };
+    ghost value = { λ m. m };
 
     ghost empty = { no_system_memory_state };
 
@@ -114,7 +114,7 @@ pub struct StabilityReport {
 impl StabilityReport {
     /// The report without anything in it. It takes no memory.
     pub fn new(alloc: Global) -> StabilityReport
-        ensures { report_of result ≡ no_report }
+        ensures { stability_report_of result ≡ no_report }
     {
         StabilityReport {
             process_states: Vec::new(alloc),
@@ -124,7 +124,7 @@ impl StabilityReport {
 
     /// The same report.
     pub fn try_clone(&self, alloc: Global) -> Result<StabilityReport, Error>
-        ensures report { IfOk result (λ copy. report_of copy ≡ report_of self.now) }
+        ensures report { IfOk result (λ copy. stability_report_of copy ≡ stability_report_of self.now) }
         ensures memory { IsOkUnless result Error.OutOfMemory }
     {
         let mut process_states = Vec::new(alloc);
@@ -137,13 +137,12 @@ impl StabilityReport {
 }
 
 impl Message for StabilityReport {
-    ghost use Rattle.minidump_stability.specs.StabilityReport.{Report, no_report, report_of};
+    ghost use Rattle.minidump_stability.specs.StabilityReport.{Report, no_report, stability_report_of, report_fields};
     ghost use Rattle.minidump_stability.specs.ReportRows.{put_report};
-    ghost use Rattle.minidump_stability.specs.StabilityReport.{report_fields};
 
     ghost Value = { Report };
 
-    ghost view = { report_of };
+    ghost value = { stability_report_of };
 
     ghost empty = { no_report };
 

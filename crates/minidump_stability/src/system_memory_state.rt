@@ -24,7 +24,7 @@ impl Message for WindowsMemory {
 
     ghost Value = { WindowsMemory };
 
-    ghost view = { λ m. m };
+    ghost value = { λ m. m };
 
     ghost empty = { no_system_windows_memory };
 

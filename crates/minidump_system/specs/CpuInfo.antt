@@ -14,8 +14,8 @@ abbrev pub latin_text : ℕ → List ℕ
 latin_text n = flat_map encode_utf8 (to_le_bytes w32 n)
 
 -- the vendor of an x86 processor: the characters of three numbers
-unfoldable pub vendor_text : List ℕ → Endian → List ℕ
-vendor_text bytes order = latin_text (number_at order 4 0 bytes) ++ (latin_text (number_at order 4 4 bytes) ++ latin_text (number_at order 4 8 bytes))
+unfoldable pub vendor_text : Endian → List ℕ → List ℕ
+vendor_text order bytes = latin_text (number_at order 4 0 bytes) ++ (latin_text (number_at order 4 4 bytes) ++ latin_text (number_at order 4 8 bytes))
 
 -- the model is the high byte of the revision, and the stepping the low one
 unfoldable pub family_text : ℕ → ℕ → List ℕ
@@ -97,8 +97,8 @@ unfoldable pub arm_text : ℕ → ℕ → ℕ → List ℕ
 arm_text level cpuid elf_hwcaps = codes "ARMv" ++ (decimal level ++ (identity_text cpuid ++ features_text elf_hwcaps))
 
 -- what a processor says of itself, of the 24 bytes that the system information has for it
-abbrev pub cpu_info_text : Cpu → ℕ → ℕ → List ℕ → Endian → Option (List ℕ)
-cpu_info_text X86 level revision bytes order = Some (vendor_text bytes order ++ (codes " " ++ family_text level revision))
-cpu_info_text X86_64 level revision bytes order = Some (family_text level revision)
-cpu_info_text Arm level revision bytes order = Some (arm_text level (number_at order 4 0 bytes) (number_at order 4 4 bytes))
-cpu_info_text _ level revision bytes order = None
+abbrev pub cpu_info_text : Endian → Cpu → ℕ → ℕ → List ℕ → Option (List ℕ)
+cpu_info_text order X86 level revision bytes = Some (vendor_text order bytes ++ (codes " " ++ family_text level revision))
+cpu_info_text order X86_64 level revision bytes = Some (family_text level revision)
+cpu_info_text order Arm level revision bytes = Some (arm_text level (number_at order 4 0 bytes) (number_at order 4 4 bytes))
+cpu_info_text order _ level revision bytes = None

@@ -7,4 +7,4 @@ use Rattle.minidump_system.specs.System.{System}
 -- on its bytes and the byte order alone: not on the rest of the file, nor on the system information
 abbrev pub DependsOnItsBytesAlone : {V : Type 0} → Meaning V → Type 0
 DependsOnItsBytesAlone meaning =
-    (bytes file other : List ℕ) (order : Endian) (s t : Option System) → meaning bytes file order s ≡ meaning bytes other order t
+    (order : Endian) (file other bytes : List ℕ) (s t : Option System) → meaning order file bytes s ≡ meaning order other bytes t

@@ -1,7 +1,5 @@
 -- The misc information: Microsoft's MINIDUMP_MISC_INFO to MINIDUMP_MISC_INFO_5. A layout has the fields of the one before
 -- it and more.
-use Rattle.minidump_system.specs.StreamSpec.{StreamSpec, linear}
-use Rattle.minidump_format.specs.declared.format.stream_type.MINIDUMP_STREAM_TYPE.TheVariants.{MiscInfoStream}
 use Rattle.std.specs.Prelude.{ℕ, List, Option, Some, None, Result, Ok, Err, if◌then◌else◌, ℤ, [], ◌∷◌, ◌++◌, codes}
 use Rattle.std.specs.Option.{option_map, option_or}
 use Rattle.std.specs.List.{concat, flat_map}
@@ -10,6 +8,7 @@ use Rattle.minidump_bytes.specs.Span.{record_at}
 use Rattle.minidump_bytes.specs.declared.endian.Endian.{Endian}
 use Rattle.minidump_bytes.specs.Piece.{hex, plain_hex, or_invalid, right, left}
 use Rattle.minidump_bytes.specs.Text16.{text_before_nul}
+use Rattle.minidump_format.specs.declared.format.stream_type.MINIDUMP_STREAM_TYPE.TheVariants.{MiscInfoStream}
 use Rattle.minidump_format.specs.declared.error.Error.{Error}
 use Rattle.minidump_format.specs.declared.error.Error.TheVariants.{StreamReadFailure}
 use Rattle.minidump_format.specs.declared.format.misc.TIME_ZONE_INFORMATION.{TIME_ZONE_INFORMATION}
@@ -19,6 +18,7 @@ use Rattle.minidump_format.specs.Misc.{misc_info, misc_info_2, misc_info_3, misc
 use Rattle.minidump_format.specs.declared.format.misc.XSTATE_FEATURE.{XSTATE_FEATURE}
 use Rattle.minidump_format.specs.declared.format.xstate.XstateFeatureIndex.{XstateFeatureIndex}
 use Rattle.minidump_format.specs.Xstate.{feature_of, index_name, xstate_features}
+use Rattle.minidump_system.specs.StreamSpec.{StreamSpec, linear}
 use Rattle.minidump_system.specs.declared.misc_info.RawMiscInfo.{RawMiscInfo}
 use Rattle.minidump_system.specs.declared.misc_info.RawMiscInfo.TheVariants.{MiscInfo, MiscInfo2, MiscInfo3, MiscInfo4, MiscInfo5}
 use Rattle.minidump_system.specs.declared.misc_info.MinidumpMiscInfo.{MinidumpMiscInfo}
@@ -49,11 +49,11 @@ abbrev or_refused : Option RawMiscInfo → Result RawMiscInfo Error
 or_refused (Some raw) = Ok raw
 or_refused None = Err StreamReadFailure
 
-abbrev pub misc_info_in : List ℕ → Endian → Result RawMiscInfo Error
-misc_info_in bytes order = or_refused (largest_layout order bytes)
+abbrev pub misc_info_in : Endian → List ℕ → Result RawMiscInfo Error
+misc_info_in order bytes = or_refused (largest_layout order bytes)
 
-abbrev pub raw_of : MinidumpMiscInfo → RawMiscInfo
-raw_of m = m.raw
+abbrev pub misc_info_of : MinidumpMiscInfo → RawMiscInfo
+misc_info_of m = m.raw
 
 -- how many layouts are tried, the largest first, until one is it
 abbrev pub layouts_tried : RawMiscInfo → ℕ
@@ -67,11 +67,11 @@ layouts_tried (MiscInfo raw) = 5
 abbrev pub misc_info_stream : StreamSpec MinidumpMiscInfo RawMiscInfo
 misc_info_stream = record {
   stream_type = MiscInfoStream;
-  value = raw_of;
-  meaning = λ bytes file order system. misc_info_in bytes order;
+  value = misc_info_of;
+  meaning = λ order file bytes system. misc_info_in order bytes;
   most = linear;
-  fewest = λ bytes order raw. layouts_tried raw;
-  memory = λ bytes order. ⊥;
+  fewest = λ order bytes raw. layouts_tried raw;
+  memory = λ order bytes. ⊥;
 }
 
 -- a field, where its flag is set

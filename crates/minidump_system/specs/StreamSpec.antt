@@ -5,20 +5,20 @@ use Rattle.minidump_format.specs.declared.error.Error.{Error}
 use Rattle.minidump_format.specs.declared.format.stream_type.MINIDUMP_STREAM_TYPE.{MINIDUMP_STREAM_TYPE}
 use Rattle.minidump_system.specs.System.{System}
 
--- what a stream's bytes mean, by the bytes of its file, their byte order and the system information, where there is one
+-- what a stream's bytes mean, by the byte order, the bytes of its file and the system information, where there is one
 abbrev pub Meaning : Type 0 → Type 0
-Meaning V = List ℕ → List ℕ → Endian → Option System → Result V Error
+Meaning V = Endian → List ℕ → List ℕ → Option System → Result V Error
 
 -- the table of a type of stream, whose struct is S: its name; its value without addresses, as callers see it; what its bytes mean; the most
--- reads, by n, where neither its bytes nor those of the file are more than n; the fewest reads of one that is read, by its bytes, their byte
--- order and its value; and where memory may run out
+-- reads, by n, where neither its bytes nor those of the file are more than n; the fewest reads of one that is read, by the byte order, its
+-- bytes and its value; and where memory may run out
 pub record StreamSpec (S V : Type 0) : Type 1 where
   pub stream_type : MINIDUMP_STREAM_TYPE
   pub value : S → V
   pub meaning : Meaning V
   pub most : ℕ → ℕ
-  pub fewest : List ℕ → Endian → V → ℕ
-  pub memory : List ℕ → Endian → Type 0
+  pub fewest : Endian → List ℕ → V → ℕ
+  pub memory : Endian → List ℕ → Type 0
 
 -- two tables say the same of a type of stream
 pub record IsSame {S V : Type 0} (one other : StreamSpec S V) : Type 0 where
@@ -27,7 +27,7 @@ pub record IsSame {S V : Type 0} (one other : StreamSpec S V) : Type 0 where
   pub meaning : one.meaning ≡ other.meaning
   pub most : one.most ≡ other.most
   pub fewest : one.fewest ≡ other.fewest
-  pub memory : (bytes : List ℕ) (order : Endian) → one.memory bytes order ↔ other.memory bytes order
+  pub memory : (order : Endian) (bytes : List ℕ) → one.memory order bytes ↔ other.memory order bytes
 
 -- seven more than there are bytes
 abbrev pub linear : ℕ → ℕ

@@ -19,8 +19,8 @@ use Rattle.minidump_system.specs.Os.{os_of}
 use Rattle.minidump_system.specs.Cpu.{cpu_of}
 use Rattle.minidump_system.specs.CpuInfo.{cpu_info_text}
 
-abbrev pub system_of : MinidumpSystemInfo → System
-system_of s = record {
+abbrev pub system_info_of : MinidumpSystemInfo → System
+system_info_of s = record {
   raw = s.raw;
   os = s.os;
   cpu = s.cpu;
@@ -29,34 +29,34 @@ system_of s = record {
 }
 
 -- the system of a record. A service pack that is no text is none
-abbrev with_record : List ℕ → Endian → Option MINIDUMP_SYSTEM_INFO → Result System Error
-with_record all order None = Err StreamReadFailure
-with_record all order (Some raw) = Ok (record {
+abbrev with_record : Endian → List ℕ → Option MINIDUMP_SYSTEM_INFO → Result System Error
+with_record order file None = Err StreamReadFailure
+with_record order file (Some raw) = Ok (record {
   raw = raw;
   os = os_of raw.platform_id;
   cpu = cpu_of raw.processor_architecture;
-  csd_version = text16 order raw.csd_version_rva all;
-  cpu_info = cpu_info_text (cpu_of raw.processor_architecture) raw.processor_level raw.processor_revision raw.cpu order;
+  csd_version = text16 order raw.csd_version_rva file;
+  cpu_info = cpu_info_text order (cpu_of raw.processor_architecture) raw.processor_level raw.processor_revision raw.cpu;
 })
 
 -- the system of the record that the stream begins with
-abbrev pub system_read : List ℕ → List ℕ → Endian → Result System Error
-system_read bytes all order = with_record all order (record_at system_info order 0 bytes)
+abbrev pub system_read : Endian → List ℕ → List ℕ → Result System Error
+system_read order file bytes = with_record order file (record_at system_info order 0 bytes)
 
 -- a system information that is handed in is answered again; else the stream is read
-abbrev pub system_in : List ℕ → List ℕ → Endian → Option System → Result System Error
-system_in bytes all order (Some system) = Ok system
-system_in bytes all order None = system_read bytes all order
+abbrev pub system_info_in : Endian → List ℕ → List ℕ → Option System → Result System Error
+system_info_in order file bytes (Some system) = Ok system
+system_info_in order file bytes None = system_read order file bytes
 
 -- the stream of type SystemInfoStream
 abbrev pub system_info_stream : StreamSpec MinidumpSystemInfo System
 system_info_stream = record {
   stream_type = SystemInfoStream;
-  value = system_of;
-  meaning = system_in;
+  value = system_info_of;
+  meaning = system_info_in;
   most = λ n. 7;
-  fewest = λ bytes order system. 0;
-  memory = λ bytes order. ⊤;
+  fewest = λ order bytes system. 0;
+  memory = λ order bytes. ⊤;
 }
 
 -- the printed text, line by line: the numbers of the record

@@ -16,7 +16,7 @@ pub(crate) fn made_cpu_info(
     bytes: &[u8; 24],
     endian: Endian,
 ) -> Result<Option<String>, AllocError>
-    ensures { IfOk result (λ t. option_map string_bytes t ≡ cpu_info_text cpu level revision bytes.now endian) }
+    ensures { IfOk result (λ t. option_map string_bytes t ≡ cpu_info_text endian cpu level revision bytes.now) }
 {
     let mut out = String::new(alloc);
     match cpu {
@@ -38,7 +38,7 @@ pub(crate) fn made_cpu_info(
 // The twelve characters of an x86 processor's vendor.
 #[tactic(auto, unfolding(crate::specs::CpuInfo::vendor_text))]
 fn push_vendor(out: &mut String, bytes: &[u8; 24], endian: Endian) -> Result<(), AllocError>
-    ensures { OnOk result (string_bytes out.new ≡ string_bytes out.old ++ vendor_text bytes.now endian) }
+    ensures { OnOk result (string_bytes out.new ≡ string_bytes out.old ++ vendor_text endian bytes.now) }
 {
     push_latin(out, endian.u32_at(bytes, 0))?;
     push_latin(out, endian.u32_at(bytes, 4))?;

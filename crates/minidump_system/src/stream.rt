@@ -4,7 +4,7 @@ ghost use Rattle.minidump_bytes.specs.Source.{bytes_of};
 ghost use Rattle.minidump_bytes.specs.Steps.{after};
 ghost use Rattle.minidump_format.specs.Answer.{Gives};
 ghost use Rattle.minidump_format.specs.StreamType.{number_of};
-ghost use Rattle.minidump_system.specs.SystemInfo.{system_of};
+ghost use Rattle.minidump_system.specs.SystemInfo.{system_info_of};
 ghost use Rattle.minidump_system.specs.StreamSpec.{StreamSpec};
 
 use crate::MinidumpSystemInfo;
@@ -36,11 +36,11 @@ pub trait MinidumpStream<'a>: Sized {
         system_info: Option<&MinidumpSystemInfo>,
         steps: &mut Steps,
     ) -> Result<Self, Error>
-        ensures means { Gives spec.value (spec.memory (bytes_of bytes.entry) endian) result
-            (spec.meaning (bytes_of bytes.entry) (bytes_of all.entry) endian (option_map system_of (option_copied system_info.entry))) }
+        ensures means { Gives spec.value (spec.memory endian (bytes_of bytes.entry)) result
+            (spec.meaning endian (bytes_of all.entry) (bytes_of bytes.entry) (option_map system_info_of (option_copied system_info.entry))) }
         ensures within { steps.new
             ≤ steps.old + spec.most (max (length (bytes_of bytes.entry)) (length (bytes_of all.entry))) }
         ensures grows { steps.old ≤ steps.new }
         ensures at_least { IfOk result
-            (λ x. after steps.old (spec.fewest (bytes_of bytes.entry) endian (spec.value x)) ≤ steps.new) };
+            (λ x. after steps.old (spec.fewest endian (bytes_of bytes.entry) (spec.value x)) ≤ steps.new) };
 }

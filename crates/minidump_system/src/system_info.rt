@@ -5,7 +5,7 @@ ghost use Rattle.minidump_bytes.specs.Steps.{after};
 ghost use Rattle.minidump_format.specs.Answer.{Gives};
 ghost use Rattle.minidump_format.specs.Print.{Prints};
 ghost use Rattle.minidump_system.specs.OsParts.{os_parts_of};
-ghost use Rattle.minidump_system.specs.SystemInfo.{names_text, numbers_text, system_info_stream, system_info_text, system_of, system_read};
+ghost use Rattle.minidump_system.specs.SystemInfo.{names_text, numbers_text, system_info_stream, system_info_text, system_info_of, system_read};
 
 use crate::cpu_info::made_cpu_info;
 use crate::os_parts::os_parts;
@@ -39,8 +39,8 @@ impl MinidumpSystemInfo {
         endian: Endian,
         steps: &mut Steps,
     ) -> Result<MinidumpSystemInfo, Error>
-        ensures means { Gives system_of (IsOk (system_read (bytes_of bytes.entry) (bytes_of all.entry) endian)) result
-            (system_read (bytes_of bytes.entry) (bytes_of all.entry) endian) }
+        ensures means { Gives system_info_of (IsOk (system_read endian (bytes_of all.entry) (bytes_of bytes.entry))) result
+            (system_read endian (bytes_of all.entry) (bytes_of bytes.entry)) }
         ensures within { steps.new ≤ steps.old + 2 }
         ensures begun { after steps.old 1 ≤ steps.new }
         ensures steps { IfOk result (λ _. steps.new ≡ after steps.old 2) }
@@ -89,7 +89,7 @@ impl MinidumpSystemInfo {
     pub fn os_parts(&self, alloc: Global) -> Result<(String, Option<String>), Error>
         ensures means { IfOk result (λ r. (string_bytes r.0, option_map string_bytes r.1)
             ≡ os_parts_of self.now.raw.major_version self.now.raw.minor_version self.now.raw.build_number
-            self.now.raw.platform_id (system_of self.now).csd_version) }
+            self.now.raw.platform_id (system_info_of self.now).csd_version) }
         ensures memory { IsOkUnless result Error.OutOfMemory }
     {
         let raw = &self.raw;
@@ -105,14 +105,14 @@ impl MinidumpSystemInfo {
 
     /// Prints the record, the version and the description of the processor.
     pub fn print<W: Write>(&self, alloc: Global, f: &mut Told<W>) -> Result<(), Error>
-        ensures { Prints W.contents f.old f.new (system_info_text (system_of self.now)) result }
+        ensures { Prints W.contents f.old f.new (system_info_text (system_info_of self.now)) result }
     {
         put_made(f, made_text(alloc, self))
     }
 
     /// Copies the system information. The only error is `OutOfMemory`.
     pub fn try_clone(&self, alloc: Global) -> Result<MinidumpSystemInfo, Error>
-        ensures same { IfOk result (λ s. system_of s ≡ system_of self.now) }
+        ensures same { IfOk result (λ s. system_info_of s ≡ system_info_of self.now) }
         ensures memory { IsOkUnless result Error.OutOfMemory }
     {
         Ok(MinidumpSystemInfo {
@@ -154,7 +154,7 @@ impl<'a> MinidumpStream<'a> for MinidumpSystemInfo {
 }
 
 fn made_text(alloc: Global, system: &MinidumpSystemInfo) -> Result<String, AllocError>
-    ensures { IfOk result (λ t. string_bytes t ≡ system_info_text (system_of system.now)) }
+    ensures { IfOk result (λ t. string_bytes t ≡ system_info_text (system_info_of system.now)) }
 {
     let mut text = String::new(alloc);
     push_numbers(&mut text, &system.raw)?;

@@ -15,14 +15,14 @@
 ghost use Rattle.std.specs.Prelude.{◌≡◌, map, string_bytes};
 ghost use Rattle.std.specs.Option.{option_copied, option_map};
 ghost use Rattle.std.specs.Slice.Iter.{iter_rest};
-ghost use Rattle.minidump.specs.MemoryLists.LinuxMaps.{map_info_of, path_of};
-ghost use Rattle.minidump.specs.MemoryLists.Memory.{memory_of};
-ghost use Rattle.minidump.specs.MemoryLists.MemoryInfo.{info_of};
-ghost use Rattle.minidump.specs.Modules.CodeView.{view_of};
-ghost use Rattle.minidump.specs.Modules.Module.{module_of};
-ghost use Rattle.minidump.specs.Modules.UnloadedModule.{unloaded_of};
+ghost use Rattle.minidump.specs.Below.MemoryLists.LinuxMaps.{map_info_of, path_of};
+ghost use Rattle.minidump.specs.Below.MemoryLists.Memory.{memory_of};
+ghost use Rattle.minidump.specs.Below.MemoryLists.MemoryInfo.{info_of};
+ghost use Rattle.minidump.specs.Below.Modules.CodeView.{view_of};
+ghost use Rattle.minidump.specs.Below.Modules.Module.{module_of};
+ghost use Rattle.minidump.specs.Below.Modules.UnloadedModule.{unloaded_of};
 ghost use Rattle.minidump.specs.Promise.{exception_stream, linux_cpu_info_stream, linux_environ_stream, linux_lsb_release_stream, linux_maps_stream, linux_proc_limits_stream, linux_proc_status_stream, memory64_list_stream, memory_info_list_stream, memory_list_stream, module_list_stream, soft_errors_stream, system_info_stream, thread_list_stream, thread_names_stream, unloaded_module_list_stream};
-ghost use Rattle.minidump.specs.Records.ThreadNames.{name_at};
+ghost use Rattle.minidump.specs.Below.Records.ThreadNames.{name_at};
 ghost use Rattle.minidump.specs.Thread.{thread_of};
 
 use bitflags::Flags;

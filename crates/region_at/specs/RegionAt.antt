@@ -4,10 +4,10 @@ use Rattle.std.specs.Option.{option_map}
 use Rattle.minidump.specs.declared.Error.{Error}
 use Rattle.minidump.specs.declared.Error.TheVariants.{OutOfMemory}
 use Rattle.minidump.specs.Dump.{Dump, dump_in}
-use Rattle.minidump.specs.Index.Lookup.{IsLookedUp}
+use Rattle.minidump.specs.Below.Index.Lookup.{IsLookedUp}
 use Rattle.minidump.specs.Memory.{memories_of_dump}
-use Rattle.minidump.specs.MemoryLists.Memory.{region_range}
-use Rattle.minidump.specs.MemoryLists.Unified.{UnifiedRegion, UnifiedRegions, unified_regions}
+use Rattle.minidump.specs.Below.MemoryLists.Memory.{region_range}
+use Rattle.minidump.specs.Below.MemoryLists.Unified.{UnifiedRegion, UnifiedRegions, unified_regions}
 
 -- the base address and the bytes of the kept one of these regions that has the address, or none where no kept one has it
 abbrev pub IsRegionIn : List UnifiedRegion → ℕ → Option (ℕ × List ℕ) → Type 0

@@ -14,7 +14,7 @@
 
 ghost use Rattle.std.specs.Prelude.{IfErr, IfOk};
 ghost use Rattle.std.specs.Option.{option_map};
-ghost use Rattle.minidump.specs.MemoryLists.Unified.{unified_list, unified_regions};
+ghost use Rattle.minidump.specs.Below.MemoryLists.Unified.{unified_list, unified_regions};
 ghost use Rattle.region_at.specs.RegionAt.{IsRefused, IsRegionAt, IsRegionIn};
 
 use minidump::{Error, Minidump, UnifiedMemoryList};

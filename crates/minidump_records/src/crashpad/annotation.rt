@@ -55,13 +55,13 @@ impl Valued<MINIDUMP_ANNOTATION> for MinidumpAnnotation {
 
     ghost Value = { Annotation };
 
-    ghost view = { annotation_of };
+    ghost value = { annotation_of };
 
     ghost key = { λ e. e.name };
 
     ghost part = { annotation_in };
 
-    ghost least = { annotation_reads };
+    ghost fewest = { annotation_reads };
 
     fn key_of(entry: &MINIDUMP_ANNOTATION) -> u32 {
         entry.name

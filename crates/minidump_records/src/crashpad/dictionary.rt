@@ -22,7 +22,7 @@ use std::collections::BTreeMap;
 pub(crate) trait Valued<E>: Sized {
     ghost Value: { Type 0 };
 
-    ghost view: { Self → Value };
+    ghost value: { Self → Value };
 
     // the RVA of the key
     ghost key: { E → ℕ };
@@ -31,7 +31,7 @@ pub(crate) trait Valued<E>: Sized {
     ghost part: { Endian → List ℕ → E → Result Value Error };
 
     // the fewest reads of a value that is read
-    ghost least: { Value → ℕ };
+    ghost fewest: { Value → ℕ };
 
     /// Returns the RVA of the key.
     fn key_of(entry: &E) -> u32
@@ -45,10 +45,10 @@ pub(crate) trait Valued<E>: Sized {
         endian: Endian,
         steps: &mut Steps,
     ) -> Result<Self, Error>
-        ensures means { Gives view ⊤ result (part endian (bytes_of all.entry) entry.now) }
+        ensures means { Gives value ⊤ result (part endian (bytes_of all.entry) entry.now) }
         ensures within { steps.new ≤ steps.old + 1 }
         ensures grows { steps.old ≤ steps.new }
-        ensures at_least { IfOk result (λ v. after steps.old (least (view v)) ≤ steps.new) };
+        ensures at_least { IfOk result (λ v. after steps.old (fewest (value v)) ≤ steps.new) };
 }
 
 /// The value of an entry of a plain dictionary is a text.
@@ -58,13 +58,13 @@ impl Valued<MINIDUMP_SIMPLE_STRING_DICTIONARY_ENTRY> for String {
 
     ghost Value = { List ℕ };
 
-    ghost view = { string_bytes };
+    ghost value = { string_bytes };
 
     ghost key = { λ e. e.key };
 
     ghost part = { λ order file e. text_in order file e.value };
 
-    ghost least = { λ text. 1 };
+    ghost fewest = { λ text. 1 };
 
     fn key_of(entry: &MINIDUMP_SIMPLE_STRING_DICTIONARY_ENTRY) -> u32 {
         entry.key
@@ -94,15 +94,15 @@ impl<E, V: Valued<E>> Part<E> for Keyed<V> {
 
     ghost Value = { List ℕ × V.Value };
 
-    ghost view = { pair_of V.view };
+    ghost value = { pair_of V.value };
 
     ghost part = { keyed V.key V.part };
 
     ghost memory = { λ order file e. HasText order file (V.key e) };
 
-    ghost limit = { λ n. 2 };
+    ghost most = { λ n. 2 };
 
-    ghost least = { λ pair. 1 + V.least pair.1 };
+    ghost fewest = { λ pair. 1 + V.fewest pair.1 };
 
     fn read_part(
         alloc: Global,
@@ -125,12 +125,12 @@ pub(crate) fn read_dictionary<E: Record + Drop, V: Valued<E> + Drop>(
     endian: Endian,
     steps: &mut Steps,
 ) -> Result<BTreeMap<String, V>, Error>
-    ensures means { Gives (λ m. entries_of V.view m.entries) ⊤ result
+    ensures means { Gives (λ m. entries_of V.value m.entries) ⊤ result
         (dictionary E.layout V.key V.part endian (bytes_of all.entry) location) }
     ensures within { WithinParts E.layout.size (length (bytes_of all.entry)) 2 (steps.old + 2) steps.new }
     ensures grows { steps.old ≤ steps.new }
     ensures at_least { IfOk result (λ m. after steps.old
-        (opened_reads location + sum_by (λ e. 1 + (1 + V.least e.1)) (entries_of V.view m.entries)) ≤ steps.new) }
+        (opened_reads location + sum_by (λ e. 1 + (1 + V.fewest e.1)) (entries_of V.value m.entries)) ≤ steps.new) }
 {
     let pairs: Vec<Keyed<V>> = read_untested::<E, Keyed<V>>(alloc, location, all, endian, steps)?;
     let mut dictionary = BTreeMap::new(alloc);

@@ -50,8 +50,7 @@ fn read_record(
 /// Crashpad's `MinidumpCrashpadInfo`: a record, whose version is not 0, then its dictionary and its list of
 /// links to modules.
 impl<'a> MinidumpStream<'a> for MinidumpCrashpadInfo {
-    ghost use Rattle.minidump_records.specs.CrashpadInfo.{Crashpad};
-    ghost use Rattle.minidump_records.specs.CrashpadInfo.{crashpad_info_stream};
+    ghost use Rattle.minidump_records.specs.CrashpadInfo.{Crashpad, crashpad_info_stream};
 
     ghost Value = { Crashpad };
 
@@ -63,7 +62,7 @@ impl<'a> MinidumpStream<'a> for MinidumpCrashpadInfo {
         Self::STREAM_TYPE
     }
 
-    #[tactic(auto, unfolding(crate::specs::CrashpadInfo::crashpad_in))]
+    #[tactic(auto, unfolding(crate::specs::CrashpadInfo::crashpad_info_in))]
     fn read(
         alloc: Global,
         bytes: Source<'a>,

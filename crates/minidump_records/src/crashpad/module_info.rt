@@ -61,15 +61,15 @@ impl Part<MINIDUMP_MODULE_CRASHPAD_INFO_LINK> for MinidumpModuleCrashpadInfo {
 
     ghost Value = { Module };
 
-    ghost view = { module_of };
+    ghost value = { module_of };
 
     ghost part = { module_in };
 
     ghost memory = { HasModule };
 
-    ghost limit = { λ n. 3 * n + 10 };
+    ghost most = { λ n. 3 * n + 10 };
 
-    ghost least = { module_reads };
+    ghost fewest = { module_reads };
 
     #[tactic(auto, unfolding(crate::specs::CrashpadInfo::module_in))]
     fn read_part(

@@ -16,7 +16,7 @@ use std::alloc::Global;
 pub(crate) trait Part<E>: Sized {
     ghost Value: { Type 0 };
 
-    ghost view: { Self → Value };
+    ghost value: { Self → Value };
 
     // the value or the error, by the byte order, the file's bytes and the entry
     ghost part: { Endian → List ℕ → E → Result Value Error };
@@ -25,10 +25,10 @@ pub(crate) trait Part<E>: Sized {
     ghost memory: { Endian → List ℕ → E → Type 0 };
 
     // the most reads, by the file's length
-    ghost limit: { ℕ → ℕ };
+    ghost most: { ℕ → ℕ };
 
     // the fewest reads of a value that is read
-    ghost least: { Value → ℕ };
+    ghost fewest: { Value → ℕ };
 
     /// Reads it from the bytes of the file, `all`.
     fn read_part(
@@ -38,10 +38,10 @@ pub(crate) trait Part<E>: Sized {
         endian: Endian,
         steps: &mut Steps,
     ) -> Result<Self, Error>
-        ensures means { Gives view (memory endian (bytes_of all.entry) entry.now) result (part endian (bytes_of all.entry) entry.now) }
-        ensures within { steps.new ≤ steps.old + limit (length (bytes_of all.entry)) }
+        ensures means { Gives value (memory endian (bytes_of all.entry) entry.now) result (part endian (bytes_of all.entry) entry.now) }
+        ensures within { steps.new ≤ steps.old + most (length (bytes_of all.entry)) }
         ensures grows { steps.old ≤ steps.new }
-        ensures at_least { IfOk result (λ p. after steps.old (least (view p)) ≤ steps.new) };
+        ensures at_least { IfOk result (λ p. after steps.old (fewest (value p)) ≤ steps.new) };
 }
 
 // Reads the bytes of the list at a location, and the count that they begin with. Without bytes the count is 0.
@@ -81,11 +81,11 @@ fn read_parts<E: Record + Drop, P: Part<E> + Drop>(
     endian: Endian,
     steps: &mut Steps,
 ) -> Result<Vec<P>, Error>
-    ensures means { Gives (λ v. map P.view v.items) ⊤ result
+    ensures means { Gives (λ v. map P.value v.items) ⊤ result
         (parts E.layout P.part endian (bytes_of all.entry) (list_of (bytes_of bytes.entry) count)) }
-    ensures within { WithinParts E.layout.size (length (bytes_of bytes.entry)) (P.limit (length (bytes_of all.entry))) steps.old steps.new }
+    ensures within { WithinParts E.layout.size (length (bytes_of bytes.entry)) (P.most (length (bytes_of all.entry))) steps.old steps.new }
     ensures grows { steps.old ≤ steps.new }
-    ensures at_least { IfOk result (λ v. after steps.old (sum_by (λ p. 1 + P.least p) (map P.view v.items)) ≤ steps.new) }
+    ensures at_least { IfOk result (λ v. after steps.old (sum_by (λ p. 1 + P.fewest p) (map P.value v.items)) ≤ steps.new) }
 {
     let mut parts = Vec::new(alloc);
     for i in 0..count {
@@ -108,12 +108,12 @@ pub(crate) fn read_untested<E: Record + Drop, P: Part<E> + Drop>(
     endian: Endian,
     steps: &mut Steps,
 ) -> Result<Vec<P>, Error>
-    ensures means { Gives (λ v. map P.view v.items) ⊤ result
+    ensures means { Gives (λ v. map P.value v.items) ⊤ result
         (untested_list E.layout P.part endian (bytes_of all.entry) location) }
-    ensures within { WithinParts E.layout.size (length (bytes_of all.entry)) (P.limit (length (bytes_of all.entry))) (steps.old + 2) steps.new }
+    ensures within { WithinParts E.layout.size (length (bytes_of all.entry)) (P.most (length (bytes_of all.entry))) (steps.old + 2) steps.new }
     ensures grows { steps.old ≤ steps.new }
     ensures at_least { IfOk result (λ v. after steps.old
-        (opened_reads location + sum_by (λ p. 1 + P.least p) (map P.view v.items)) ≤ steps.new) }
+        (opened_reads location + sum_by (λ p. 1 + P.fewest p) (map P.value v.items)) ≤ steps.new) }
 {
     let (bytes, count) = open_list(location, all, endian, steps)?;
     read_parts(alloc, bytes, count, all, endian, steps)
@@ -129,12 +129,12 @@ pub(crate) fn read_list<E: Record + Drop, P: Part<E> + Drop>(
     endian: Endian,
     steps: &mut Steps,
 ) -> Result<Vec<P>, Error>
-    ensures means { Gives (λ v. map P.view v.items) ⊤ result
+    ensures means { Gives (λ v. map P.value v.items) ⊤ result
         (tested_list E.layout P.part endian (bytes_of all.entry) location) }
-    ensures within { WithinParts E.layout.size (length (bytes_of all.entry)) (P.limit (length (bytes_of all.entry))) (steps.old + 2) steps.new }
+    ensures within { WithinParts E.layout.size (length (bytes_of all.entry)) (P.most (length (bytes_of all.entry))) (steps.old + 2) steps.new }
     ensures grows { steps.old ≤ steps.new }
     ensures at_least { IfOk result (λ v. after steps.old
-        (opened_reads location + sum_by (λ p. 1 + P.least p) (map P.view v.items)) ≤ steps.new) }
+        (opened_reads location + sum_by (λ p. 1 + P.fewest p) (map P.value v.items)) ≤ steps.new) }
 {
     let (bytes, count) = open_list(location, all, endian, steps)?;
     let expected = E::SIZE * count as usize;

@@ -34,15 +34,15 @@ impl Part<u32> for String {
 
     ghost Value = { List ℕ };
 
-    ghost view = { string_bytes };
+    ghost value = { string_bytes };
 
     ghost part = { text_in };
 
     ghost memory = { HasText };
 
-    ghost limit = { λ n. 1 };
+    ghost most = { λ n. 1 };
 
-    ghost least = { λ text. 1 };
+    ghost fewest = { λ text. 1 };
 
     fn read_part(
         alloc: Global,

@@ -4,7 +4,7 @@ ghost use Rattle.std.specs.Slice.Iter.{iter_rest};
 ghost use Rattle.minidump_bytes.specs.Source.{bytes_of};
 ghost use Rattle.minidump_bytes.specs.Steps.{after};
 ghost use Rattle.minidump_format.specs.StreamType.{number_of};
-ghost use Rattle.minidump_records.specs.Handles.{described, handle_of, handle_reads, handles_of};
+ghost use Rattle.minidump_records.specs.Handles.{handle_in, handle_of, handle_reads, handle_data_of};
 
 use super::descriptor::read_handle;
 use super::{MinidumpHandleDescriptor, RawHandleDescriptor};
@@ -49,7 +49,7 @@ impl MinidumpHandleDataStream {
 
     /// Copies the list. The only error is [`Error::OutOfMemory`].
     pub fn try_clone(&self, alloc: Global) -> Result<MinidumpHandleDataStream, Error>
-        ensures same { IfOk result (λ list. handles_of list ≡ handles_of self.now) }
+        ensures same { IfOk result (λ list. handle_data_of list ≡ handle_data_of self.now) }
         ensures memory { IsOkUnless result Error.OutOfMemory }
     {
         let mut handles = Vec::with_capacity(alloc, self.handles.len())?;
@@ -64,8 +64,7 @@ impl MinidumpHandleDataStream {
 /// one that is no text, is `None`; descriptors of 40 bytes name information on their objects.
 impl<'a> MinidumpStream<'a> for MinidumpHandleDataStream {
     ghost use Rattle.std.specs.Prelude.{List};
-    ghost use Rattle.minidump_records.specs.Handles.{Handle};
-    ghost use Rattle.minidump_records.specs.Handles.{handle_data_stream};
+    ghost use Rattle.minidump_records.specs.Handles.{Handle, handle_data_stream};
 
     ghost Value = { List Handle };
 
@@ -132,7 +131,7 @@ fn read_handles<R: Descriptor>(
     endian: Endian,
     steps: &mut Steps,
 ) -> Result<Vec<MinidumpHandleDescriptor>, AllocError>
-    ensures items { IfOk result (λ v. map handle_of v.items ≡ map (λ r. described endian (bytes_of all.entry) (R.raw r)) raws.entry) }
+    ensures items { IfOk result (λ v. map handle_of v.items ≡ map (λ r. handle_in endian (bytes_of all.entry) (R.raw r)) raws.entry) }
     ensures within { steps.new ≤ steps.old + length raws.entry * (length (bytes_of all.entry) + 3) }
     ensures grows { steps.old ≤ steps.new }
     ensures at_least { IfOk result (λ v. after steps.old (sum_by handle_reads (map handle_of v.items)) ≤ steps.new) }

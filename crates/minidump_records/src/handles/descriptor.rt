@@ -2,7 +2,7 @@ ghost use Rattle.std.specs.Prelude.{◌≡◌, ◌+◌, ◌≤◌, length, strin
 ghost use Rattle.std.specs.Option.{option_copied, option_map};
 ghost use Rattle.minidump_bytes.specs.Source.{bytes_of};
 ghost use Rattle.minidump_bytes.specs.Steps.{after};
-ghost use Rattle.minidump_records.specs.Handles.{described, handle_of, handle_reads, name_at, or_zero};
+ghost use Rattle.minidump_records.specs.Handles.{handle_in, handle_of, handle_reads, name_at, or_zero};
 ghost use Rattle.minidump_records.specs.ObjectChain.{reads_at};
 
 use super::chain::read_chain;
@@ -48,7 +48,7 @@ pub(super) fn read_handle(
     endian: Endian,
     steps: &mut Steps,
 ) -> Result<MinidumpHandleDescriptor, AllocError>
-    ensures value { IfOk result (λ h. handle_of h ≡ described endian (bytes_of all.entry) raw) }
+    ensures value { IfOk result (λ h. handle_of h ≡ handle_in endian (bytes_of all.entry) raw) }
     ensures within { steps.new ≤ steps.old + (length (bytes_of all.entry) + 3) }
     ensures grows { steps.old ≤ steps.new }
     ensures at_least { IfOk result (λ h. after steps.old (handle_reads (handle_of h)) ≤ steps.new) }

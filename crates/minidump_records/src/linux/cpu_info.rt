@@ -41,8 +41,7 @@ impl<'a> MinidumpLinuxCpuInfo<'a> {
 /// Breakpad's `MD_LINUX_CPU_INFO`: the stream is the text, whatever its bytes are. Reads no number of it,
 /// takes no memory, and has no error.
 impl<'a> MinidumpStream<'a> for MinidumpLinuxCpuInfo<'a> {
-    ghost use Rattle.std.specs.Prelude.{List};
-    ghost use Rattle.std.specs.Prelude.{ℕ};
+    ghost use Rattle.std.specs.Prelude.{List, ℕ};
     ghost use Rattle.minidump_records.specs.LinuxTexts.{linux_cpu_info_stream};
 
     ghost Value = { List ℕ };

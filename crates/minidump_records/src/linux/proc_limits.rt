@@ -40,8 +40,7 @@ impl<'a> MinidumpLinuxProcLimits<'a> {
 /// Mozilla's `MozLinuxLimits`: the stream is the text, whatever its bytes are. Reads no number of it, takes
 /// no memory, and has no error.
 impl<'a> MinidumpStream<'a> for MinidumpLinuxProcLimits<'a> {
-    ghost use Rattle.std.specs.Prelude.{List};
-    ghost use Rattle.std.specs.Prelude.{ℕ};
+    ghost use Rattle.std.specs.Prelude.{List, ℕ};
     ghost use Rattle.minidump_records.specs.LinuxTexts.{linux_proc_limits_stream};
 
     ghost Value = { List ℕ };

@@ -41,8 +41,7 @@ impl<'a> MinidumpLinuxProcStatus<'a> {
 /// Breakpad's `MD_LINUX_PROC_STATUS`: the stream is the text, whatever its bytes are. Reads no number of
 /// it, takes no memory, and has no error.
 impl<'a> MinidumpStream<'a> for MinidumpLinuxProcStatus<'a> {
-    ghost use Rattle.std.specs.Prelude.{List};
-    ghost use Rattle.std.specs.Prelude.{ℕ};
+    ghost use Rattle.std.specs.Prelude.{List, ℕ};
     ghost use Rattle.minidump_records.specs.LinuxTexts.{linux_proc_status_stream};
 
     ghost Value = { List ℕ };

@@ -20,7 +20,7 @@ impl Message for PosixFileSystemState {
 
     ghost Value = { PosixFileSystemState };
 
-    ghost view = { λ m. m };
+    ghost value = { λ m. m };
 
     ghost empty = { no_posix_file_system_state };
 
@@ -63,7 +63,7 @@ impl Message for WindowsFileSystemState {
 
     ghost Value = { WindowsFileSystemState };
 
-    ghost view = { λ m. m };
+    ghost value = { λ m. m };
 
     ghost empty = { no_windows_file_system_state };
 

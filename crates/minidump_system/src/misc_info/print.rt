@@ -6,7 +6,7 @@ ghost use Rattle.minidump_bytes.specs.Text16.{text_before_nul};
 ghost use Rattle.minidump_format.specs.Print.{Prints};
 ghost use Rattle.minidump_format.specs.Xstate.{xstate_features, feature_of};
 ghost use Rattle.minidump_system.specs.Dates.{system_time_text};
-ghost use Rattle.minidump_system.specs.MiscInfo.{head_text, create_time_line, create_time_text, times_text, processor_text, policy_text, zone_lines, bias_line, standard_lines, daylight_lines, time_zone_text, shown_units, lines_of_builds, builds_text, feature_name, feature_text, feature_lines, xstate_text, cookie_text, process_text, raw_of, settings_text, misc_info_text};
+ghost use Rattle.minidump_system.specs.MiscInfo.{head_text, create_time_line, create_time_text, times_text, processor_text, policy_text, zone_lines, bias_line, standard_lines, daylight_lines, time_zone_text, shown_units, lines_of_builds, builds_text, feature_name, feature_text, feature_lines, xstate_text, cookie_text, process_text, misc_info_of, settings_text, misc_info_text};
 
 use crate::dates::{made_date, made_system_time};
 use crate::{MinidumpMiscInfo, RawMiscInfo};
@@ -21,7 +21,7 @@ use std::io::Write;
 impl MinidumpMiscInfo {
     /// Prints every field, or `(invalid)` if it is absent.
     pub fn print<W: Write>(&self, alloc: Global, f: &mut Told<W>) -> Result<(), Error>
-        ensures { Prints W.contents f.old f.new (misc_info_text (raw_of self.now)) result }
+        ensures { Prints W.contents f.old f.new (misc_info_text (misc_info_of self.now)) result }
     {
         put_made(f, made_text(alloc, &self.raw))
     }

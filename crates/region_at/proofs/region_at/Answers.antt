@@ -2,7 +2,7 @@
 use Rattle.std.proofs.Common.{◌≡◌, ◌∙◌, ap, sym, refl, subst, ℕ, List, Option, None}
 use Rattle.std.specs.Option.{option_map}
 use Rattle.minidump.specs.Memory.{memories_of_dump}
-use Rattle.minidump.specs.MemoryLists.Unified.{UnifiedRegions, unified_list}
+use Rattle.minidump.specs.Below.MemoryLists.Unified.{UnifiedRegions, unified_list}
 use Rattle.minidump.specs.Seen.{dump_of}
 use Rattle.region_at.specs.RegionAt.{IsInMemory}
 use Rattle.region_at.proofs.region_at.Goals as goal

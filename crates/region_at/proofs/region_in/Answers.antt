@@ -1,7 +1,7 @@
 -- The region is what the lookup answers.
 use Rattle.std.proofs.Common.{refl}
 use Rattle.std.specs.Prelude.{None, Some}
-use Rattle.minidump.specs.MemoryLists.Unified.{unified_region}
+use Rattle.minidump.specs.Below.MemoryLists.Unified.{unified_region}
 use Rattle.region_at.proofs.region_in.Goals as goal
 
 pub returns-in_err-region : goal.returns-in_err-region

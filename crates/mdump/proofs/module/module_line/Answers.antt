@@ -3,7 +3,7 @@ use Rattle.std.proofs.Common.{◌≡◌, ap, ◌∙◌, List, refl, subst}
 use Rattle.std.specs.Prelude.{Option}
 use Rattle.std.specs.Option.{option_copied, option_map}
 use Rattle.minidump_modules.specs.Module.{ModuleValue, module_of, value_range}
-use Rattle.minidump_modules.specs.ModuleList.{module_values}
+use Rattle.minidump_modules.specs.ModuleList.{module_list_of}
 use Rattle.minidump.specs.Seen.{dump_of}
 use Rattle.mdump.specs.Done.{IsModuleLine, modules_of_dump}
 use Rattle.mdump.specs.Lines.{IsAt, module_line}
@@ -13,9 +13,9 @@ use Rattle.mdump.proofs.module.module_line.Goals as goal
 pub returns-clause-written : goal.returns-clause-written
 returns-clause-written g c =
     let found = option_map module_of (option_copied c.module_at-found.result) in
-    let same : option_map module_values c.in_ok-modules.modules ≡ modules_of_dump (dump_of c.args.dump.now) = c.in_ok-modules.ensures.means in
+    let same : option_map module_list_of c.in_ok-modules.modules ≡ modules_of_dump (dump_of c.args.dump.now) = c.in_ok-modules.ensures.means in
     written g.O.Write.contents c.args.out.now c.put_made.new.f (IsModuleLine (dump_of c.args.dump.now) c.args.address) (module_line found) c.put_made.result
-    (found, subst (λ (m : Option (List ModuleValue)). IsAt value_range m c.args.address found) (ap (option_map module_values) c.as_ref.ensures.value ∙ same) c.module_at-found.ensures, refl) (c.put_made.ensures.prints (module_line found) c.made_module_line.ensures)
+    (found, subst (λ (m : Option (List ModuleValue)). IsAt value_range m c.args.address found) (ap (option_map module_list_of) c.as_ref.ensures.value ∙ same) c.module_at-found.ensures, refl) (c.put_made.ensures.prints (module_line found) c.made_module_line.ensures)
 
 pub returns-clause-refusal : goal.returns-clause-refusal
 returns-clause-refusal g c =

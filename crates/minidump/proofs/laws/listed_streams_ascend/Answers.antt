@@ -5,4 +5,4 @@ use Rattle.minidump.proofs.LawsLemmas.{streams_ascend}
 use Rattle.minidump.proofs.laws.listed_streams_ascend.Goals as goal
 
 pub returns : goal.returns
-returns c d = streams_ascend (directory d.order d.header d.file) (2 ^ 32)
+returns c d = streams_ascend (directory d.order d.file d.header) (2 ^ 32)

@@ -15,7 +15,7 @@ use Rattle.minidump.proofs.system.read_system_info.Goals as goal
 pub returns-clause-memory : goal.returns-clause-memory
 returns-clause-memory c =
     let h = c.args.header.now in
-    let es = directory c.args.endian h (bytes_of c.args.source) in
+    let es = directory c.args.endian (bytes_of c.args.source) h in
     let found : deciding (number_of SystemInfoStream) es ≡ Some c.in-Some.deciding.now = sym (c.requires.at (number_of SystemInfoStream)) ∙ sym c.in-Some.ensures.value in
     let some : 0 < length es = deciding-among_some (number_of SystemInfoStream) es c.in-Some.deciding.now found in
     let counted : 0 < h.stream_count = rw (length-entries directory_entry c.args.endian (bytes_of c.args.source) h.stream_directory_rva h.stream_count) at some in

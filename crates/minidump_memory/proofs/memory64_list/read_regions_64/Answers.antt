@@ -18,7 +18,7 @@ pub loop-desc-preserved : goal.loop-desc-preserved
 loop-desc-preserved c =
     let list : List64 MINIDUMP_MEMORY_DESCRIPTOR64 = record { rva = c.args.rva; items = c.args.descriptors } in
     let i = length c.loop-desc.yielded in
-    let region = λ (place : ℕ) (d : MINIDUMP_MEMORY_DESCRIPTOR64). placed (bytes_of c.args.all) c.args.endian place d in
+    let region = λ (place : ℕ) (d : MINIDUMP_MEMORY_DESCRIPTOR64). placed c.args.endian (bytes_of c.args.all) place d in
     let next : IsNext list.items i no_descriptor c.in-Some.desc c.next.new.self = next_left list.items i no_descriptor _ _ (sym c.loop-desc.invariant.left ∙ c.in-Some.ensures.steps) in
     rw (one_given c.loop-desc.yielded c.in-Some.desc) (record {
       left = next.left;

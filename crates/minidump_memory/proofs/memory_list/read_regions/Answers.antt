@@ -24,7 +24,7 @@ pub loop-desc-preserved-in-Continue-branch-2 : goal.loop-desc-preserved-in-Conti
 loop-desc-preserved-in-Continue-branch-2 c =
     let xs = c.args.descriptors in
     let i = length c.loop-desc.yielded in
-    let found = λ (d : MINIDUMP_MEMORY_DESCRIPTOR). result_ok (described (bytes_of c.args.all) c.args.endian d) in
+    let found = λ (d : MINIDUMP_MEMORY_DESCRIPTOR). result_ok (described c.args.endian (bytes_of c.args.all) d) in
     let next : IsNext xs i no_descriptor c.in-Some.desc c.next.new.self = next_left xs i no_descriptor _ _ (sym c.loop-desc.invariant.left ∙ c.in-Some.ensures.steps) in
     rw (one_given c.loop-desc.yielded c.in-Some.desc) (record {
       left = next.left;
@@ -38,7 +38,7 @@ pub loop-desc-preserved : goal.loop-desc-preserved
 loop-desc-preserved c =
     let xs = c.args.descriptors in
     let i = length c.loop-desc.yielded in
-    let found = λ (d : MINIDUMP_MEMORY_DESCRIPTOR). result_ok (described (bytes_of c.args.all) c.args.endian d) in
+    let found = λ (d : MINIDUMP_MEMORY_DESCRIPTOR). result_ok (described c.args.endian (bytes_of c.args.all) d) in
     let next : IsNext xs i no_descriptor c.in-Some.desc c.next.new.self = next_left xs i no_descriptor _ _ (sym c.loop-desc.invariant.left ∙ c.in-Some.ensures.steps) in
     rw (one_given c.loop-desc.yielded c.in-Some.desc) (record {
       left = next.left;

@@ -10,7 +10,7 @@ use Rattle.minidump_stability.proofs.message.merge.Goals as goal
 
 pub loop-place-init : goal.loop-place-init
 loop-place-init g c = record {
-  merging = merging_none g.M.Message.put c.args.bytes.now (g.M.Message.view c.args.old);
+  merging = merging_none g.M.Message.put c.args.bytes.now (g.M.Message.value c.args.old);
   within = omega arith;
   grows = omega arith;
   first = λ h. absurd (omega (arith, h));

@@ -9,7 +9,7 @@ use Rattle.minidump_stability.proofs.message.merge.Given as goal
 
 abbrev pub invariant-loop-place : goal.invariant-loop-place
 invariant-loop-place g l = record {
-  merging : Merging g.M.Message.put (merged_bytes g.M.Message.put l.bytes (g.M.Message.view l.fn.old)) l.bytes l.place (g.M.Message.view l.message);
+  merging : Merging g.M.Message.put (merged_bytes g.M.Message.put l.bytes (g.M.Message.value l.fn.old)) l.bytes l.place (g.M.Message.value l.message);
   within : l.steps ≤ l.fn.steps + l.place;
   grows : l.fn.steps ≤ l.steps;
   first : 0 < l.place → IsSome (field_at 0 l.bytes);

@@ -8,5 +8,5 @@ use Rattle.minidump.proofs.dump.Minidump.deciding_entries.Goals as goal
 pub returns : goal.returns
 returns c =
     let d = c.args.self.now in
-    let es = directory d.endian d.header (bytes_of d.source) in
+    let es = directory d.endian (bytes_of d.source) d.header in
     c.values.ensures.rest ∙ values-deciding d.entries es (2 ^ 32) c.values.ensures.ordered d.decides.at d.decides.small

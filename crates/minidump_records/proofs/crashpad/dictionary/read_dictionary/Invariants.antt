@@ -7,6 +7,6 @@ use Rattle.minidump_records.proofs.crashpad.dictionary.read_dictionary.Given as 
 
 abbrev pub invariant-loop-pair : goal.invariant-loop-pair
 invariant-loop-pair g l = record {
-  dictionary : IsDictionaryOf (map (pair_of g.V.Valued.view) l.yielded) (entries_of g.V.Valued.view l.dictionary.entries);
-  least : sum_by (λ e. 1 + (1 + g.V.Valued.least e.1)) (entries_of g.V.Valued.view l.dictionary.entries) ≤ sum_by (λ e. 1 + (1 + g.V.Valued.least e.1)) (map (pair_of g.V.Valued.view) l.yielded);
+  dictionary : IsDictionaryOf (map (pair_of g.V.Valued.value) l.yielded) (entries_of g.V.Valued.value l.dictionary.entries);
+  least : sum_by (λ e. 1 + (1 + g.V.Valued.fewest e.1)) (entries_of g.V.Valued.value l.dictionary.entries) ≤ sum_by (λ e. 1 + (1 + g.V.Valued.fewest e.1)) (map (pair_of g.V.Valued.value) l.yielded);
 }

@@ -46,6 +46,6 @@ loop-i-preserved g c =
           let fits : 4 + c.SIZE.result * c.loop-i.i + g.E.Record.layout.size ≤ length (bytes_of c.args.bytes) = c.record.ensures.readable.0 (rw c.in_ok-entry.ensures.ok_part refl) in
           omega (arith, rw size at fits);
       grows = omega (arith, c.read_part.ensures.grows, c.record.ensures.step, c.loop-i.invariant.grows);
-      least = rw (c.in_ok-push.ensures.items, map_push, sum_by_push (λ p. 1 + g.P.Part.least p) (map g.P.Part.view c.loop-i.parts.items) (g.P.Part.view c.in_ok-part.part))
+      least = rw (c.in_ok-push.ensures.items, map_push, sum_by_push (λ p. 1 + g.P.Part.fewest p) (map g.P.Part.value c.loop-i.parts.items) (g.P.Part.value c.in_ok-part.part))
           (omega (arith, c.in_ok-part.ensures.at_least, c.record.ensures.step, c.loop-i.invariant.least));
     }
