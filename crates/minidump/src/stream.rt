@@ -59,7 +59,7 @@ impl<'a> Minidump<'a> {
         ensures counted { raw_stream (number_of S.spec.stream_type) (dump_of self.now) ≢ Err Error.StreamNotFound
             → after steps.old 1 ≤ steps.new }
         ensures at_least { IfOk result (λ x. IfOk (raw_stream (number_of S.spec.stream_type) (dump_of self.now))
-            (λ b. after steps.old (1 + S.spec.fewest b (dump_of self.now).order (S.spec.value x)) ≤ steps.new)) }
+            (λ b. after steps.old (1 + S.spec.fewest (dump_of self.now).order b (S.spec.value x)) ≤ steps.new)) }
     {
         let bytes = Source::new(self.raw_stream(S::number_of_type(), steps)?);
         S::read(
