@@ -122,9 +122,9 @@ pub fn system_information_is_the_dumps()
     ensures { (d : Dump) → result_ok (stream_of system_info_stream d) ≡ dump_system d }
 {}
 
-/// Each type of stream that is read keeps what is promised of it: its number, its meaning, at most `n + 7`
-/// reads, or `(n + 8)² - 1` of handles and Crashpad's information, the fewest reads, and where it may take
-/// memory.
+/// Each type of stream that is read has the table that is promised of it: its name, its value, its meaning, at
+/// most `n + 7` reads, or `(n + 8)² - 1` of handles and Crashpad's information, the fewest reads, and where it
+/// may take memory.
 pub fn streams_are_read_as_promised()
     ensures system_info { IsSame ⟦<MinidumpSystemInfo as MinidumpStream<'static>>⟧.spec system_info_stream }
     ensures misc_info { IsSame ⟦<MinidumpMiscInfo as MinidumpStream<'static>>⟧.spec misc_info_stream }

@@ -31,7 +31,7 @@
 //!   `Prints` at `put_text`, `put_made`, `print_all`, `print_values`.
 //!
 //! What isn't: the messages of the errors, which tests show. `CV_INFO_PDB70`, `CV_INFO_PDB20` and
-//! `CV_INFO_ELF` have no reader yet.
+//! `CV_INFO_ELF` are no records: `minidump_modules` reads them.
 #![tactic(auto)]
 
 mod error;

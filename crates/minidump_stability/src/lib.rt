@@ -20,8 +20,8 @@
 //! - A copy is the same report, and reports are equal where they hold the same: `StabilityReport::try_clone`,
 //!   `laws::reports_compare_by_what_they_hold`; each message copies and compares exactly.
 //!
-//! What isn't: where memory may run out within a stream; the contract allows it for every stream. The print
-//! of the report is not there yet.
+//! What isn't: where memory may run out within a stream; the contract allows it for every stream that begins
+//! with a field. The print of the report is not there yet.
 #![tactic(auto)]
 
 pub mod laws;

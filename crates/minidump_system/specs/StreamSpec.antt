@@ -1,4 +1,4 @@
--- What is promised of a type of stream, in one table: its type, its value, its meaning, and its limits.
+-- What is promised of a type of stream, in one table: its name, its value, its meaning, its reads, and where memory may run out.
 use Rattle.std.specs.Prelude.{ℕ, ◌≡◌, ◌↔◌, ◌+◌, ◌-◌, ◌*◌, List, Option, Result}
 use Rattle.minidump_bytes.specs.declared.endian.Endian.{Endian}
 use Rattle.minidump_format.specs.declared.error.Error.{Error}

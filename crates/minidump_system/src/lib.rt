@@ -21,7 +21,7 @@
 //!   the number of reads, without taking memory: `framing::plain_entries`, `entries_64`,
 //!   `extended_entries`, `handle_entries`.
 //! - The system information: the record, what its numbers name, the service pack and the processor in words;
-//!   two reads from its stream: `MinidumpSystemInfo::read_record`, by `system_info_in`.
+//!   two reads from its stream: `MinidumpSystemInfo::read_record`, by `system_read`.
 //! - The misc information is the largest layout that the stream holds; it takes no memory, and at least one
 //!   read for each layout that is tried: `read`, by `misc_info_in` and `layouts_tried`;
 //!   `laws::misc_info_depends_on_its_stream_alone`, `misc_info_clones_are_the_same`. A field is absent exactly
