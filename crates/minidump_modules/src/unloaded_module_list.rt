@@ -1,4 +1,4 @@
-ghost use Rattle.std.specs.Prelude.{◌≡◌, ◌+◌, ◌<◌, ◌≤◌, [], IfOk, IsOkUnless, length, map};
+ghost use Rattle.std.specs.Prelude.{◌≡◌, ◌+◌, ◌<◌, ◌≤◌, [], IfOk, IsOkUnless, OnErr, length, map};
 ghost use Rattle.std.specs.Slice.Iter.{iter_rest};
 ghost use Rattle.minidump_bytes.specs.Source.{bytes_of};
 ghost use Rattle.minidump_bytes.specs.Steps.{after};
@@ -54,14 +54,19 @@ impl MinidumpUnloadedModuleList {
         }
     }
 
-    /// Makes a list of modules. The only error is [`Error::OutOfMemory`], after which they are dropped.
+    /// Makes a list of modules. The only error is [`Error::OutOfMemory`], and only if there is a module;
+    /// after it they are dropped.
     pub fn from_modules(
         alloc: Global,
         modules: Vec<MinidumpUnloadedModule>,
     ) -> Result<MinidumpUnloadedModuleList, Error>
         ensures list { IfOk result (λ list. list ≡ modules.items) }
         ensures memory { IsOkUnless result Error.OutOfMemory }
+        ensures some { OnErr result (0 < length modules.items) }
     {
+        if modules.is_empty() {
+            return Ok(MinidumpUnloadedModuleList::new(alloc));
+        }
         let order = order_of(alloc, &modules)?;
         Ok(MinidumpUnloadedModuleList { modules, order })
     }

@@ -1,5 +1,5 @@
 -- The region of a minidump's memory in which an address lies: of overlapping regions one is kept, and the kept ones answer.
-use Rattle.std.specs.Prelude.{◌≡◌, ◌⊎◌, ℕ, List, Option, Some, None, Ok, Err}
+use Rattle.std.specs.Prelude.{◌≡◌, ◌⊎◌, ℕ, List, Option, Some, None, Ok, Err, IsOk}
 use Rattle.std.specs.Option.{option_map}
 use Rattle.minidump.specs.declared.Error.{Error}
 use Rattle.minidump.specs.declared.Error.TheVariants.{OutOfMemory}
@@ -23,6 +23,6 @@ IsInMemory (Some memory) address found = IsRegionIn (unified_regions memory) add
 abbrev pub IsRegionAt : List ℕ → ℕ → Option (ℕ × List ℕ) → Type 0
 IsRegionAt bytes address found = (dump : Dump) × (dump_in bytes ≡ Ok dump) × IsInMemory (memories_of_dump dump) address found
 
--- the bytes are no minidump, or memory ran out
+-- the bytes are no minidump, or memory ran out behind their header and directory
 abbrev pub IsRefused : List ℕ → Error → Type 0
-IsRefused bytes e = (dump_in bytes ≡ Err e) ⊎ (e ≡ OutOfMemory)
+IsRefused bytes e = (dump_in bytes ≡ Err e) ⊎ ((e ≡ OutOfMemory) × IsOk (dump_in bytes))
