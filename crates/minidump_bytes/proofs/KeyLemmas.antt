@@ -106,7 +106,8 @@ module _ {X : Type 0} where
       → ((t : ℕ) → f t ≡ lookup (is_at (nat_cmp t)) es) → ((t : ℕ) → n ≤ t → lookup (is_at (nat_cmp t)) es ≡ None)
       → values_of es ≡ filter_map f (range_with_len 0 n)
   values_by_key f n es sorted same high =
-      ap values_of (entries_by_key f n 0 es sorted (λ t l. same t ∙ lookup_number t es) (λ t l. absurd (omega arith)) (λ t l. sym (lookup_number t es) ∙ high t (omega arith)))
+      ap values_of (entries_by_key f n 0 es sorted (λ t l. same t ∙ lookup_number t es) (λ t l. absurd (omega arith))
+      (λ t l. sym (lookup_number t es) ∙ high t (omega arith)))
       ∙ values-filter f (range_with_len 0 n)
 
   -- no number below a has an entry among those from a on
@@ -133,7 +134,8 @@ module _ {X : Type 0} where
       behind None other rest = rest
       behind (Some x) other rest = rw other rest
 
-      here_is : (o : Option X) → (a == t) ≡ true → o ≡ f t → lookup (λ k. k == t) (filter_map (λ q. option_map (λ x. (q, x)) (f q)) (range_with_len (a + 1) n)) ≡ None
+      here_is : (o : Option X) → (a == t) ≡ true → o ≡ f t
+          → lookup (λ k. k == t) (filter_map (λ q. option_map (λ x. (q, x)) (f q)) (range_with_len (a + 1) n)) ≡ None
           → lookup (λ k. k == t) (cons_option (option_map (λ x. (a, x)) o) (filter_map (λ q. option_map (λ x. (q, x)) (f q)) (range_with_len (a + 1) n))) ≡ f t
       here_is None own is rest = rest ∙ is
       here_is (Some x) own is rest = rw own is
