@@ -47,7 +47,8 @@ state_eq-Decides x y =
     (Decides-and _ _ id (Decides-and _ _ memory files))
 
 pub report_eq-Decides : (x y : StabilityReport)
-    → Decides (pointwise (state.eq-value).it x.process_states.items y.process_states.items && option_eq (system.eq-value).it x.system_memory_state y.system_memory_state)
+    → Decides (pointwise (state.eq-value).it x.process_states.items y.process_states.items && option_eq
+    (system.eq-value).it x.system_memory_state y.system_memory_state)
     (stability_report_of x ≡ stability_report_of y)
 report_eq-Decides x y =
     let states = slice_eq-Decides state_eq-Decides x.process_states.items y.process_states.items _ refl in
