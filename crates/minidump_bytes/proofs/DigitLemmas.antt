@@ -49,17 +49,20 @@ pub number_large : (base bits : ℕ) (ds : List ℕ) → 2 ^ bits ≤ digits_val
 unfolding number_of_digits
 number_large base bits ds h = rw (le-ltb _ _ h, and_false (nat_lt 0 (length ds) && all_digits base ds)) refl
 
-pub number_some : (base bits : ℕ) (ds : List ℕ) → 0 < length ds → AllDigits base ds → digits_value base ds < 2 ^ bits → number_of_digits base bits ds ≡ Some (digits_value base ds)
+pub number_some : (base bits : ℕ) (ds : List ℕ) → 0 < length ds → AllDigits base ds → digits_value base ds < 2 ^ bits
+    → number_of_digits base bits ds ≡ Some (digits_value base ds)
 unfolding number_of_digits
 number_some base bits ds some all fits = rw (lt-ltb 0 (length ds) some, digits_hold base ds all, lt-ltb _ _ fits) refl
 
 -- the number of one digit more
-pub number_next : (base : ℕ) (ds : List ℕ) (i value digit product total : ℕ) → i < length ds → value ≡ digits_value base (take i ds) → digit ≡ digit_value (get_or ds i 0)
+pub number_next : (base : ℕ) (ds : List ℕ) (i value digit product total : ℕ) → i < length ds → value ≡ digits_value base (take i ds)
+    → digit ≡ digit_value (get_or ds i 0)
     → product ≡ value * base → total ≡ product + digit → total ≡ digits_value base (take (i + 1) ds)
 number_next base ds i value digit product total lt so_far is times plus = rw (plus, times, digits_value_more base ds i lt, so_far, is) refl
 
 -- one digit more is too many
-pub number_past : (base : ℕ) (ds : List ℕ) (i value digit : ℕ) → 1 ≤ base → i < length ds → value ≡ digits_value base (take i ds) → digit ≡ digit_value (get_or ds i 0)
+pub number_past : (base : ℕ) (ds : List ℕ) (i value digit : ℕ) → 1 ≤ base → i < length ds → value ≡ digits_value base (take i ds)
+    → digit ≡ digit_value (get_or ds i 0)
     → 2 ^ 64 ≤ value * base + digit → number_of_digits base 64 ds ≡ None
 number_past base ds i value digit pos lt so_far is large =
     let more : digits_value base (take (i + 1) ds) ≡ value * base + digit = rw (digits_value_more base ds i lt, ← so_far, ← is) refl in

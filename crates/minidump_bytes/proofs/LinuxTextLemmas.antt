@@ -83,7 +83,8 @@ first_line p text some = elim (cases_lt (position_or_len p text) (length text)) 
   | inl within ↦ rw (slice_split_first p text 0 within) (keeps_first (before_first p text) p (after_first p text))
   | inr all ↦
       let k = position_or_len p text in
-      rw (slice_split_none p text (none_passes p text all), take_all k text all, drop_all (k + 1) text (omega (arith, all))) (rw (not_zero (length text) some) refl)
+      rw (slice_split_none p text (none_passes p text all), take_all k text all, drop_all (k + 1) text (omega (arith, all)))
+      (rw (not_zero (length text) some) refl)
 ]
 
 pub lines_end : (text : List ℕ) → text_lines (take (length text - length text) (drop (length text) text)) ≡ []
@@ -119,14 +120,17 @@ head_black : (text : List ℕ) → 0 < length text → is_white (get_or text 0 0
 head_black [] some black = absurd (omega (arith, some))
 head_black (b ∷ bs) some black = rw black (omega arith)
 
-word_kept : (word : List ℕ) (parts : List (List ℕ)) → 0 < length word → filter (λ part. nat_lt 0 (length part)) (word ∷ parts) ≡ word ∷ filter (λ part. nat_lt 0 (length part)) parts
+word_kept : (word : List ℕ) (parts : List (List ℕ)) → 0 < length word
+    → filter (λ part. nat_lt 0 (length part)) (word ∷ parts) ≡ word ∷ filter (λ part. nat_lt 0 (length part)) parts
 word_kept word parts h = rw (nonempty word h) refl
 
 -- a word that white space ends, and one that the text ends
 before_white : (text : List ℕ) → position_or_len is_white text < length text → 0 < length (take (position_or_len is_white text) text)
     → words_of text ≡ take (position_or_len is_white text) text ∷ words_of (drop (position_or_len is_white text + 1) text)
 unfolding words_of
-before_white text within long = rw (slice_split_first is_white text 0 within) (word_kept (take (position_or_len is_white text) text) (slice_split is_white (drop (position_or_len is_white text + 1) text)) long)
+before_white text within long =
+    rw (slice_split_first is_white text 0 within)
+    (word_kept (take (position_or_len is_white text) text) (slice_split is_white (drop (position_or_len is_white text + 1) text)) long)
 
 word_ended : (text : List ℕ) → position_or_len is_white text < length text → 0 < position_or_len is_white text
     → words_of text ≡ take (position_or_len is_white text) text ∷ words_of (drop (position_or_len is_white text) text)
@@ -150,7 +154,8 @@ word_first text some black = elim (cases_lt (position_or_len is_white text) (len
 ]
 
 -- the words of a text are the first word of what follows its white space, and those of the rest
-pub words_next : (rest text word back : List ℕ) (k : ℕ) → text ≡ without_front rest → (0 < length text → is_white (get_or text 0 0) ≡ false) → 0 < length text → k ≡ position_or_len is_white text
+pub words_next : (rest text word back : List ℕ) (k : ℕ) → text ≡ without_front rest → (0 < length text → is_white (get_or text 0 0) ≡ false) → 0 < length text
+    → k ≡ position_or_len is_white text
     → word ≡ take k text → back ≡ drop k text → words_of rest ≡ word ∷ words_of back
 words_next rest text word back k front black some at w b =
     rw (w, b, at) (sym (words_behind rest) ∙ ap words_of (sym front) ∙ word_first text some (black some))
@@ -175,7 +180,8 @@ position_none p xs e =
     omega (arith, above, prefix_len-le-length (λ b. not (p b)) xs)
 
 -- ---- white space at the back
-module _ (p : ℕ → Bool) (xs : List ℕ) (n : ℕ) (within : n ≤ length xs) (passes : (i : ℕ) → n ≤ i → i < length xs → p (get_or xs i 0) ≡ true) (stops : 0 < n → p (get_or xs (n - 1) 0) ≡ false) where
+module _ (p : ℕ → Bool) (xs : List ℕ) (n : ℕ) (within : n ≤ length xs) (passes : (i : ℕ) → n ≤ i → i < length xs → p (get_or xs i 0) ≡ true)
+    (stops : 0 < n → p (get_or xs (n - 1) 0) ≡ false) where
   passes_back : (k : ℕ) → k < length xs - n → p (get_or (reverse xs) k 0) ≡ true
   passes_back k below = rw (get_or-reverse xs k 0 (omega arith)) (passes (length xs - 1 - k) (omega arith) (omega arith))
 

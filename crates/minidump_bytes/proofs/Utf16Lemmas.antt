@@ -32,7 +32,11 @@ first_char : (c : ℕ) (us : List ℕ) → scalar c ≡ true → (c < 0x1_0000) 
 first_char c us h (inl small) = rw (one_unit c small, utf16_chars_lone c us (no_pair_at c (get_or us 0 0) h), lone_scalar c h) refl
 first_char c us h (inr large) =
     let top : c < 1114112 = below_max c h in
-    rw (two_units c large, utf16_chars_pair (0xD800 + (c - 0x1_0000) / 0x400) (0xDC00 + (c - 0x1_0000) % 0x400) us (omega arith, omega arith, omega arith, omega arith))
+    rw (
+      two_units c large,
+      utf16_chars_pair (0xD800 + (c - 0x1_0000) / 0x400) (0xDC00 + (c - 0x1_0000) % 0x400) us
+          (omega arith, omega arith, omega arith, omega arith),
+    )
     (ap (λ d. Some d ∷ utf16_chars us) (char_of_pair c large))
 
 -- the encoding of characters spells these

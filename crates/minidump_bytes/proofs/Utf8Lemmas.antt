@@ -14,7 +14,8 @@ spelled bytes u = (u.0, record { scalars = u.1.0; same = sym u.1.1 })
 unspelled : (bytes : List ℕ) → IsText8 bytes → IsUtf8 bytes
 unspelled bytes t = (t.0, (t.1.scalars, sym t.1.same))
 
-text_by : (good : Bool) (bytes : List ℕ) → is_utf8 bytes ≡ good → MatchOption (if good then Some bytes else None) (¬ (IsText8 bytes)) (λ text. (text ≡ bytes) × IsText8 bytes)
+text_by : (good : Bool) (bytes : List ℕ) → is_utf8 bytes ≡ good
+    → MatchOption (if good then Some bytes else None) (¬ (IsText8 bytes)) (λ text. (text ≡ bytes) × IsText8 bytes)
 text_by true bytes is = (refl, spelled bytes (IsUtf8-from_is_utf8 bytes is))
 text_by false bytes is = λ t. let good = is_utf8-from_IsUtf8 bytes (unspelled bytes t) in let bad : false ≡ true = rw is at good in cc
 

@@ -3,17 +3,13 @@ use Rattle.std.proofs.Common.{◌≡◌, ℕ, zero, suc, ◌<◌, ◌≤◌, ◌
 use Rattle.std.specs.Prelude.{Option, Some, None, nat_le, nat_lt, ◌==◌, ◌&&◌, if◌then◌else◌}
 use Rattle.std.specs.Option.{option_and_then, option_map}
 use Rattle.std.proofs.lemmas.Bool.Decides.{nat_tests}
-use Rattle.std.proofs.lemmas.List.{drop-drop, take-append-drop, length-drop, length-take-le}
+use Rattle.std.proofs.lemmas.Bool.{le-ltb, lt-ltb}
+use Rattle.std.proofs.lemmas.List.{take-append-drop, length-drop, length-take-le}
+use Rattle.std.proofs.lemmas.List.Folds.{drop_split}
 use Rattle.std.proofs.Math.Seq.{drop-append_seam, take-append_seam}
 use Rattle.minidump_bytes.specs.declared.endian.Endian.TheVariants.{Little}
 use Rattle.minidump_bytes.specs.Number.{number_at}
 use Rattle.minidump_bytes.specs.Wire.{number_of, IsGrouped, IsVarint, Payload, Varint, Eight, Bytes, Four, Field, wire_type, SpellsPayload, SpellsField, SpellsFields, groups_in, small, varint_in, front_in, payload_in, keyed, field_in, field_at, IsFieldAt}
-
-lt_true : (m n : ℕ) → m < n → nat_lt m n ≡ true
-lt_true m n h = grind (arith, nat_tests)
-
-lt_false : (m n : ℕ) → n ≤ m → nat_lt m n ≡ false
-lt_false m n h = grind (arith, nat_tests)
 
 le_true : (m n : ℕ) → m ≤ n → nat_le m n ≡ true
 le_true m n h = grind (arith, nat_tests)
@@ -33,11 +29,12 @@ above b r = (b % 128 + 128 * r.0, r.1)
 -- ---- groups
 group_last : (most b : ℕ) (bs : List ℕ) → b < 128 → groups_in (suc most) (b ∷ bs) ≡ Some (pair (b % 128) bs)
 unfolding groups_in
-group_last most b bs h = rw (lt_true b 128 h) refl
+group_last most b bs h = rw (lt-ltb b 128 h) refl
 
-group_more : (most b n : ℕ) (bs rest : List ℕ) → 128 ≤ b → groups_in most bs ≡ Some (pair n rest) → groups_in (suc most) (b ∷ bs) ≡ Some (pair (b % 128 + 128 * n) rest)
+group_more : (most b n : ℕ) (bs rest : List ℕ) → 128 ≤ b → groups_in most bs ≡ Some (pair n rest)
+    → groups_in (suc most) (b ∷ bs) ≡ Some (pair (b % 128 + 128 * n) rest)
 unfolding groups_in
-group_more most b n bs rest h e = rw (lt_false b 128 h, e) refl
+group_more most b n bs rest h e = rw (le-ltb b 128 h, e) refl
 
 last_is : (most b : ℕ) (bs rest : List ℕ) → b < 128 → bs ≡ [] → groups_in (suc most) (b ∷ bs ++ rest) ≡ Some (pair (number_of (b ∷ bs)) rest)
 last_is most b bs rest h e = rw e (group_last most b rest h ∙ ap (λ n. Some (pair n rest)) (omega arith))
@@ -60,7 +57,8 @@ gives_last most b n bs rest h e =
     let back : bs ≡ rest = ap (λ r. r.1) p in
     (b ∷ [], inl (h, refl), omega arith, omega (arith, number), ap (λ l. b ∷ l) back)
 
-gives_more : (most b n : ℕ) (bs rest : List ℕ) → 128 ≤ b → (o : Option (ℕ × List ℕ)) → ((m : ℕ) (back : List ℕ) → o ≡ Some (pair m back) → AreGroups most bs m back)
+gives_more : (most b n : ℕ) (bs rest : List ℕ) → 128 ≤ b → (o : Option (ℕ × List ℕ))
+    → ((m : ℕ) (back : List ℕ) → o ≡ Some (pair m back) → AreGroups most bs m back)
     → option_map (above b) o ≡ Some (pair n rest) → AreGroups (suc most) (b ∷ bs) n rest
 gives_more most b n bs rest h None more e = (let k : None ≡ Some (pair n rest) = e in cc)
 gives_more most b n bs rest h (Some r) more e =
@@ -70,7 +68,8 @@ gives_more most b n bs rest h (Some r) more e =
     let m = more r.0 r.1 refl in
     (b ∷ m.0, inr (h, m.1), omega (arith, m.2), ap (λ k. b % 128 + 128 * k) m.3 ∙ number, ap (λ l. b ∷ l) (m.4 ∙ ap (λ l. m.0 ++ l) back))
 
-gives_by : (most b n : ℕ) (bs rest : List ℕ) (t : Bool) → nat_lt b 128 ≡ t → ((m : ℕ) (back : List ℕ) → groups_in most bs ≡ Some (pair m back) → AreGroups most bs m back)
+gives_by : (most b n : ℕ) (bs rest : List ℕ) (t : Bool) → nat_lt b 128 ≡ t
+    → ((m : ℕ) (back : List ℕ) → groups_in most bs ≡ Some (pair m back) → AreGroups most bs m back)
     → (if t then Some (pair (b % 128) bs) else option_map (above b) (groups_in most bs)) ≡ Some (pair n rest) → AreGroups (suc most) (b ∷ bs) n rest
 gives_by most b n bs rest true t more e = gives_last most b n bs rest (is_lt b 128 t) e
 gives_by most b n bs rest false t more e = gives_more most b n bs rest (is_ge b 128 t) (groups_in most bs) more e
@@ -84,12 +83,13 @@ groups_gives (suc most) (b ∷ bs) n rest e = gives_by most b n bs rest (nat_lt 
 -- ---- varints
 varint_some : (front rest : List ℕ) (n : ℕ) → IsVarint front n → varint_in (front ++ rest) ≡ Some (pair n rest)
 unfolding varint_in
-varint_some front rest n v = rw (groups_some 10 front rest v.grouped v.short, v.value, lt_true n (2 ^ 64) v.fits) refl
+varint_some front rest n v = rw (groups_some 10 front rest v.grouped v.short, v.value, lt-ltb n (2 ^ 64) v.fits) refl
 
 abbrev IsVarintOf : List ℕ → ℕ → List ℕ → Type 0
 IsVarintOf bytes n rest = (front : List ℕ) × IsVarint front n × (bytes ≡ front ++ rest)
 
-small_by : (t : Bool) (bytes : List ℕ) (m : ℕ) (back : List ℕ) (n : ℕ) (rest : List ℕ) → nat_lt m (2 ^ 64) ≡ t → AreGroups 10 bytes m back → (if t then Some (pair m back) else None) ≡ Some (pair n rest) → IsVarintOf bytes n rest
+small_by : (t : Bool) (bytes : List ℕ) (m : ℕ) (back : List ℕ) (n : ℕ) (rest : List ℕ) → nat_lt m (2 ^ 64) ≡ t → AreGroups 10 bytes m back
+    → (if t then Some (pair m back) else None) ≡ Some (pair n rest) → IsVarintOf bytes n rest
 small_by true bytes m back n rest is g e =
     let p : pair m back ≡ pair n rest = cc in
     let number : m ≡ n = ap (λ r. r.0) p in
@@ -97,7 +97,8 @@ small_by true bytes m back n rest is g e =
     (g.0, record { grouped = g.1; short = g.2; value = g.3 ∙ number; fits = omega (arith, number, is_lt m (2 ^ 64) is) }, g.4 ∙ ap (λ l. g.0 ++ l) behind)
 small_by false bytes m back n rest is g e = (let k : None ≡ Some (pair n rest) = e in cc)
 
-varint_by : (bytes : List ℕ) (o : Option (ℕ × List ℕ)) → groups_in 10 bytes ≡ o → (n : ℕ) (rest : List ℕ) → option_and_then small o ≡ Some (pair n rest) → IsVarintOf bytes n rest
+varint_by : (bytes : List ℕ) (o : Option (ℕ × List ℕ)) → groups_in 10 bytes ≡ o → (n : ℕ) (rest : List ℕ) → option_and_then small o ≡ Some (pair n rest)
+    → IsVarintOf bytes n rest
 varint_by bytes None is n rest e = (let k : None ≡ Some (pair n rest) = e in cc)
 varint_by bytes (Some r) is n rest e = small_by (nat_lt r.0 (2 ^ 64)) bytes r.0 r.1 n rest refl (groups_gives 10 bytes r.0 r.1 is) e
 
@@ -118,7 +119,8 @@ front_some front rest =
 abbrev IsFront : ℕ → List ℕ → List ℕ → List ℕ → Type 0
 IsFront count bytes front rest = (length front ≡ count) × (bytes ≡ front ++ rest)
 
-front_by : (t : Bool) (count : ℕ) (bytes front rest : List ℕ) → nat_le count (length bytes) ≡ t → (if t then Some (split (take count bytes) (drop count bytes)) else None) ≡ Some (split front rest) → IsFront count bytes front rest
+front_by : (t : Bool) (count : ℕ) (bytes front rest : List ℕ) → nat_le count (length bytes) ≡ t
+    → (if t then Some (split (take count bytes) (drop count bytes)) else None) ≡ Some (split front rest) → IsFront count bytes front rest
 front_by true count bytes front rest is e =
     let p : split (take count bytes) (drop count bytes) ≡ split front rest = cc in
     let one : take count bytes ≡ front = ap (λ r. r.0) p in
@@ -150,7 +152,8 @@ payload_some front rest (Four n) s = rw (four_some front rest s.0, ← s.1) refl
 abbrev IsPayload : ℕ → List ℕ → Payload → List ℕ → Type 0
 IsPayload kind bytes p rest = (front : List ℕ) × SpellsPayload front p × (wire_type p ≡ kind) × (bytes ≡ front ++ rest)
 
-same_payload : (kind : ℕ) (bytes : List ℕ) (p q : Payload) (rest back : List ℕ) → holds p rest ≡ holds q back → IsPayload kind bytes p rest → IsPayload kind bytes q back
+same_payload : (kind : ℕ) (bytes : List ℕ) (p q : Payload) (rest back : List ℕ) → holds p rest ≡ holds q back → IsPayload kind bytes p rest
+    → IsPayload kind bytes q back
 same_payload kind bytes p q rest back e is = let P : Payload × List ℕ → Type 0 = λ r. IsPayload kind bytes r.0 r.1 in subst P e is
 
 varint_case : (kind : ℕ) (bytes : List ℕ) (q : Payload) (back : List ℕ) (o : Option (ℕ × List ℕ)) → varint_in bytes ≡ o → 0 ≡ kind
@@ -177,7 +180,8 @@ four_case kind bytes q back (Some r) is k e =
     let same : holds (Four (number_at Little 4 0 r.0)) r.1 ≡ holds q back = cc in
     same_payload kind bytes (Four (number_at Little 4 0 r.0)) q r.1 back same (r.0, (f.0, refl), k, f.1)
 
-sized_case : (kind : ℕ) (bytes size behind : List ℕ) (n : ℕ) (q : Payload) (back : List ℕ) (o : Option (List ℕ × List ℕ)) → IsVarint size n → bytes ≡ size ++ behind → front_in n behind ≡ o → 2 ≡ kind
+sized_case : (kind : ℕ) (bytes size behind : List ℕ) (n : ℕ) (q : Payload) (back : List ℕ) (o : Option (List ℕ × List ℕ)) → IsVarint size n
+    → bytes ≡ size ++ behind → front_in n behind ≡ o → 2 ≡ kind
     → option_and_then (λ r. Some (holds (Bytes r.0) r.1)) o ≡ Some (holds q back) → IsPayload kind bytes q back
 sized_case kind bytes size behind n q back None v at is k e = (let none : None ≡ Some (holds q back) = e in cc)
 sized_case kind bytes size behind n q back (Some r) v at is k e =
@@ -187,7 +191,8 @@ sized_case kind bytes size behind n q back (Some r) v at is k e =
     (size ++ r.0, (size, rw f.0 v, refl), k, at ∙ ap (λ l. size ++ l) f.1 ∙ sym (append_assoc size r.0 r.1))
 
 bytes_case : (kind : ℕ) (bytes : List ℕ) (q : Payload) (back : List ℕ) (o : Option (ℕ × List ℕ)) → varint_in bytes ≡ o → 2 ≡ kind
-    → option_and_then (λ size. option_and_then (λ r. Some (holds (Bytes r.0) r.1)) (front_in size.0 size.1)) o ≡ Some (holds q back) → IsPayload kind bytes q back
+    → option_and_then (λ size. option_and_then (λ r. Some (holds (Bytes r.0) r.1)) (front_in size.0 size.1)) o ≡ Some (holds q back)
+    → IsPayload kind bytes q back
 bytes_case kind bytes q back None is k e = (let none : None ≡ Some (holds q back) = e in cc)
 bytes_case kind bytes q back (Some r) is k e =
     let v = varint_gives bytes r.0 r.1 is in
@@ -225,8 +230,9 @@ type_below (Eight n) = omega arith
 type_below (Bytes bytes) = omega arith
 type_below (Four n) = omega arith
 
-keyed_some : (k : ℕ) (behind rest : List ℕ) (p : Payload) → k < 2 ^ 32 → 0 < k / 8 → payload_in (k % 8) behind ≡ Some (holds p rest) → keyed (pair k behind) ≡ Some (found (named (k / 8) p) rest)
-keyed_some k behind rest p low some e = rw (lt_true k (2 ^ 32) low, lt_true 0 (k / 8) some, e) refl
+keyed_some : (k : ℕ) (behind rest : List ℕ) (p : Payload) → k < 2 ^ 32 → 0 < k / 8 → payload_in (k % 8) behind ≡ Some (holds p rest)
+    → keyed (pair k behind) ≡ Some (found (named (k / 8) p) rest)
+keyed_some k behind rest p low some e = rw (lt-ltb k (2 ^ 32) low, lt-ltb 0 (k / 8) some, e) refl
 
 key_parts : (number kind : ℕ) → kind < 8 → ((8 * number + kind) / 8 ≡ number) × ((8 * number + kind) % 8 ≡ kind)
 key_parts number kind below = (omega (arith, below), omega (arith, below))
@@ -238,7 +244,8 @@ field_some front rest f s =
     let numbered : 0 < (8 * f.number + wire_type f.payload) / 8 = omega (arith, parts.0, s.numbered) in
     let payload = rw (← parts.1) at (payload_some s.rest rest f.payload s.payload) in
     rw (s.joined, append_assoc, varint_some s.key (s.rest ++ rest) (8 * f.number + wire_type f.payload) s.is_key)
-    (keyed_some (8 * f.number + wire_type f.payload) (s.rest ++ rest) rest f.payload s.small numbered payload ∙ ap (λ n. Some (found (named n f.payload) rest)) parts.0)
+    (keyed_some (8 * f.number + wire_type f.payload) (s.rest ++ rest) rest f.payload s.small numbered payload ∙ ap
+    (λ n. Some (found (named n f.payload) rest)) parts.0)
 
 abbrev IsField : List ℕ → Field → List ℕ → Type 0
 IsField bytes f rest = (front : List ℕ) × SpellsField front f × (bytes ≡ front ++ rest)
@@ -246,7 +253,8 @@ IsField bytes f rest = (front : List ℕ) × SpellsField front f × (bytes ≡ f
 same_field : (bytes : List ℕ) (f g : Field) (rest back : List ℕ) → found f rest ≡ found g back → IsField bytes f rest → IsField bytes g back
 same_field bytes f g rest back e is = let P : Field × List ℕ → Type 0 = λ r. IsField bytes r.0 r.1 in subst P e is
 
-payload_case : (bytes key behind : List ℕ) (k : ℕ) (g : Field) (back : List ℕ) (o : Option (Payload × List ℕ)) → IsVarint key k → bytes ≡ key ++ behind → k < 2 ^ 32 → 0 < k / 8 → payload_in (k % 8) behind ≡ o
+payload_case : (bytes key behind : List ℕ) (k : ℕ) (g : Field) (back : List ℕ) (o : Option (Payload × List ℕ)) → IsVarint key k → bytes ≡ key ++ behind
+    → k < 2 ^ 32 → 0 < k / 8 → payload_in (k % 8) behind ≡ o
     → option_and_then (λ r. Some (found (named (k / 8) r.0) r.1)) o ≡ Some (found g back) → IsField bytes g back
 payload_case bytes key behind k g back None v at low some is e = (let none : None ≡ Some (found g back) = e in cc)
 payload_case bytes key behind k g back (Some r) v at low some is e =
@@ -259,13 +267,17 @@ payload_case bytes key behind k g back (Some r) v at low some is e =
       at ∙ ap (λ l. key ++ l) p.3 ∙ sym (append_assoc key p.0 r.1),
     )
 
-keyed_by : (a b : Bool) (bytes key behind : List ℕ) (k : ℕ) (g : Field) (back : List ℕ) → IsVarint key k → bytes ≡ key ++ behind → nat_lt k (2 ^ 32) ≡ a → nat_lt 0 (k / 8) ≡ b
-    → (if a && b then option_and_then (λ r. Some (found (named (k / 8) r.0) r.1)) (payload_in (k % 8) behind) else None) ≡ Some (found g back) → IsField bytes g back
-keyed_by true true bytes key behind k g back v at ia ib e = payload_case bytes key behind k g back (payload_in (k % 8) behind) v at (is_lt k (2 ^ 32) ia) (is_lt 0 (k / 8) ib) refl e
+keyed_by : (a b : Bool) (bytes key behind : List ℕ) (k : ℕ) (g : Field) (back : List ℕ) → IsVarint key k → bytes ≡ key ++ behind → nat_lt k (2 ^ 32) ≡ a
+    → nat_lt 0 (k / 8) ≡ b
+    → (if a && b then option_and_then (λ r. Some (found (named (k / 8) r.0) r.1)) (payload_in (k % 8) behind) else None) ≡ Some (found g back)
+    → IsField bytes g back
+keyed_by true true bytes key behind k g back v at ia ib e =
+    payload_case bytes key behind k g back (payload_in (k % 8) behind) v at (is_lt k (2 ^ 32) ia) (is_lt 0 (k / 8) ib) refl e
 keyed_by true false bytes key behind k g back v at ia ib e = (let none : None ≡ Some (found g back) = e in cc)
 keyed_by false b bytes key behind k g back v at ia ib e = (let none : None ≡ Some (found g back) = e in cc)
 
-field_by : (bytes : List ℕ) (g : Field) (back : List ℕ) (o : Option (ℕ × List ℕ)) → varint_in bytes ≡ o → option_and_then keyed o ≡ Some (found g back) → IsField bytes g back
+field_by : (bytes : List ℕ) (g : Field) (back : List ℕ) (o : Option (ℕ × List ℕ)) → varint_in bytes ≡ o → option_and_then keyed o ≡ Some (found g back)
+    → IsField bytes g back
 field_by bytes g back None is e = (let none : None ≡ Some (found g back) = e in cc)
 field_by bytes g back (Some r) is e =
     let v = varint_gives bytes r.0 r.1 is in
@@ -280,7 +292,7 @@ grouped_some : (bytes : List ℕ) → IsGrouped bytes → 0 < length bytes
 grouped_some [] g = absurd g
 grouped_some (b ∷ bs) g = omega arith
 
-field_long : (front : List ℕ) (f : Field) → SpellsField front f → 0 < length front
+pub field_long : (front : List ℕ) (f : Field) → SpellsField front f → 0 < length front
 field_long front f s = omega (arith, ap length s.joined, length-append s.key s.rest, grouped_some s.key s.is_key.grouped)
 
 abbrev placed : Field → ℕ → Field × ℕ
@@ -289,7 +301,8 @@ placed f next = (f, next)
 cut_front : (front back : List ℕ) (n : ℕ) → n ≡ length front → take n (front ++ back) ≡ front
 cut_front front back n e = rw e (take-append_seam front back)
 
-found_there : (bytes : List ℕ) (place : ℕ) (g : Field) (back : List ℕ) → IsField (drop place bytes) g back → IsFieldAt bytes place g (length bytes - length back)
+found_there : (bytes : List ℕ) (place : ℕ) (g : Field) (back : List ℕ) → IsField (drop place bytes) g back
+    → IsFieldAt bytes place g (length bytes - length back)
 found_there bytes place g back is =
     let some = field_long is.0 g is.1 in
     let long : length bytes ≡ place + length is.0 + length back = omega (arith, ap length is.2, length-append is.0 back, length-drop place bytes, some) in
@@ -308,23 +321,20 @@ at_by bytes place f next (Some r) is e =
 pub field_there : (bytes : List ℕ) (place : ℕ) (f : Field) (next : ℕ) → field_at place bytes ≡ Some (f, next) → IsFieldAt bytes place f next
 field_there bytes place f next e = at_by bytes place f next (field_in (drop place bytes)) refl e
 
-rest_at : (bytes : List ℕ) (place next : ℕ) → place ≤ next → drop place bytes ≡ slice_range bytes place next ++ drop next bytes
-rest_at bytes place next forward =
-    let sum : place + (next - place) ≡ next = omega arith in
-    sym (take-append-drop (next - place) (drop place bytes)) ∙ ap (λ l. slice_range bytes place next ++ l) (drop-drop (next - place) place bytes ∙ ap (λ k. drop k bytes) sum)
-
 pub there_field : (bytes : List ℕ) (place : ℕ) (f : Field) (next : ℕ) → IsFieldAt bytes place f next → field_at place bytes ≡ Some (f, next)
 there_field bytes place f next is =
     let behind : length bytes - length (drop next bytes) ≡ next = omega (arith, is.within, length-drop next bytes) in
-    rw (rest_at bytes place next is.forward, field_some (slice_range bytes place next) (drop next bytes) f is.spelled) (ap (λ n. Some (placed f n)) behind)
+    rw (drop_split bytes place next is.forward, field_some (slice_range bytes place next) (drop next bytes) f is.spelled) (ap (λ n. Some (placed f n)) behind)
 
-pub one_there : (bytes : List ℕ) (place : ℕ) (f : Field) (next : ℕ) (g : Field) (other : ℕ) → IsFieldAt bytes place f next → IsFieldAt bytes place g other → (f ≡ g) × (next ≡ other)
+pub one_there : (bytes : List ℕ) (place : ℕ) (f : Field) (next : ℕ) (g : Field) (other : ℕ) → IsFieldAt bytes place f next → IsFieldAt bytes place g other
+    → (f ≡ g) × (next ≡ other)
 one_there bytes place f next g other one two =
     let same : Some (placed f next) ≡ Some (placed g other) = sym (there_field bytes place f next one) ∙ there_field bytes place g other two in
     let p : placed f next ≡ placed g other = cc in
     (ap (λ r. r.0) p, ap (λ r. r.1) p)
 
-one_front : (front back ahead rest : List ℕ) (f g : Field) → SpellsField front f → SpellsField ahead g → front ++ back ≡ ahead ++ rest → found f back ≡ found g rest
+one_front : (front back ahead rest : List ℕ) (f g : Field) → SpellsField front f → SpellsField ahead g → front ++ back ≡ ahead ++ rest
+    → found f back ≡ found g rest
 one_front front back ahead rest f g s t e =
     let same : Some (found f back) ≡ Some (found g rest) = sym (field_some front back f s) ∙ ap field_in e ∙ field_some ahead rest g t in cc
 

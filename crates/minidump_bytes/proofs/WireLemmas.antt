@@ -62,7 +62,8 @@ joined : (value scale g : ℕ) (o : Option (ℕ × List ℕ))
     → option_map (above value scale) (option_map (above g 128) o)
     ≡ option_map (above (value + g * scale) (scale * 128)) o
 joined value scale g None = refl
-joined value scale g (Some (n, rest)) = let e : value + scale * (g + 128 * n) ≡ value + g * scale + scale * 128 * n = omega arith in ap (λ k. Some (pair k rest)) e
+joined value scale g (Some (n, rest)) =
+    let e : value + scale * (g + 128 * n) ≡ value + g * scale + scale * 128 * n = omega arith in ap (λ k. Some (pair k rest)) e
 
 module _ (bytes : List ℕ) (i value scale b : ℕ) (few : i < 10) (within : i < length bytes) (at : b ≡ get_or bytes i 0) (r : Reading bytes i value scale) where
   front : drop i bytes ≡ b ∷ drop (i + 1) bytes
@@ -73,7 +74,8 @@ module _ (bytes : List ℕ) (i value scale b : ℕ) (few : i < 10) (within : i <
 
   pub reads_more : 128 ≤ b → Reading bytes (i + 1) (value + b % 128 * scale) (scale * 128)
   reads_more high = record {
-    same = r.same ∙ rw (left, front, next_group (10 - (i + 1)) b (drop (i + 1) bytes) high) (joined value scale (b % 128) (groups_in (10 - (i + 1)) (drop (i + 1) bytes)));
+    same = r.same ∙ rw (left, front, next_group (10 - (i + 1)) b (drop (i + 1) bytes) high)
+        (joined value scale (b % 128) (groups_in (10 - (i + 1)) (drop (i + 1) bytes)));
     scale_is = rw add-one (omega (arith, r.scale_is));
     below = group_below value (b % 128) scale r.below (omega arith);
   }
@@ -83,9 +85,11 @@ module _ (bytes : List ℕ) (i value scale b : ℕ) (few : i < 10) (within : i <
       let e : value + scale * (b % 128) ≡ value + b % 128 * scale = omega arith in
       r.same ∙ rw (left, front, last_group (10 - (i + 1)) b (drop (i + 1) bytes) low) (ap (λ k. Some (pair k (drop (i + 1) bytes))) e)
 
-  pub reads_last : b < 128 → value + b % 128 * scale < 2 ^ 64 → varint_in bytes ≡ Some (value + b % 128 * scale, take (length bytes - (i + 1)) (drop (i + 1) bytes))
+  pub reads_last : b < 128 → value + b % 128 * scale < 2 ^ 64
+      → varint_in bytes ≡ Some (value + b % 128 * scale, take (length bytes - (i + 1)) (drop (i + 1) bytes))
   unfolding varint_in
-  reads_last low fits = let yes : nat_lt (value + b % 128 * scale) (2 ^ 64) ≡ true = grind (arith, nat_tests) in rw (last low, yes, take_rest bytes (i + 1)) refl
+  reads_last low fits =
+      let yes : nat_lt (value + b % 128 * scale) (2 ^ 64) ≡ true = grind (arith, nat_tests) in rw (last low, yes, take_rest bytes (i + 1)) refl
 
   pub reads_large : b < 128 → 2 ^ 64 ≤ value + b % 128 * scale → varint_in bytes ≡ None
   unfolding varint_in

@@ -1,12 +1,14 @@
--- What a call of a `Told` does to its device, as far as the device tells its bytes.
+-- What a call of a `Told` does to the bytes of its device.
 use Rattle.std.specs.Prelude.{◌≡◌, ℕ, ◌≤◌, ◌<◌, Bool, true, false, List, ◌++◌, length, take, Option, Result, Ok, Err}
 use Rattle.std.specs.Io.KnownBytes.{Appends, Consumes, IsAtEnd}
 use Rattle.minidump_bytes.specs.declared.told.Told.{Told}
 use Rattle.minidump_bytes.specs.declared.told.Refused.{Refused}
 
+-- the reader or the writer
 abbrev pub device_of : {D : Type 0} → Told D → D
 device_of t = t.device
 
+-- a call of the device has failed
 abbrev pub has_failed : {D : Type 0} → Told D → Bool
 has_failed t = t.failed
 
@@ -22,12 +24,12 @@ pub record PutsBeginning {D : Type 0} (contents : D → Option (List ℕ)) (old 
   pub split : text ≡ front ++ rest
   pub grown : Appends (contents old.device) (contents new.device) front
 
--- `Ok`: all of the text went out. Refused: a beginning of it did, and the device has failed
+-- `Ok`: all of the text was written. `Refused`: a beginning of it was written, and the device has failed
 abbrev pub Puts : {D : Type 0} → (D → Option (List ℕ)) → Told D → Told D → List ℕ → Result (Unit {0}) Refused → Type 0
 Puts contents old new text (Ok _) = PutsAll contents old new text
 Puts contents old new text (Err _) = PutsBeginning contents old new text × (has_failed new ≡ true)
 
--- `Ok(n)`: the next n bytes of the device are at the front of the buffer, none only at its end. Refused: the device has failed
+-- `Ok(n)`: the next n bytes of the device are at the front of the buffer, and n is 0 only at its end. `Refused`: the device has failed
 abbrev pub Takes : {D : Type 0} → (D → Option (List ℕ)) → Told D → Told D → List ℕ → Result ℕ Refused → Type 0
 Takes remaining old new buf (Ok n) =
     (n ≤ length buf) × Consumes (remaining old.device) (remaining new.device) (take n buf)

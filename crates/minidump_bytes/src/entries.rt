@@ -7,8 +7,8 @@ use crate::array::record_in;
 use crate::{Endian, Record};
 use std::marker::{Model, PhantomData};
 
-/// An iterator over consecutive records, which decodes them one by one. [`Source::entries`] makes it, and
-/// counts all of them then.
+/// An iterator over consecutive records. It decodes them one by one. [`Source::entries`] makes it and counts
+/// all of its records at once.
 #[derive(Drop)]
 pub struct Entries<'a, R: Record> {
     bytes: &'a [u8],

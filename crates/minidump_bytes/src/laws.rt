@@ -66,7 +66,7 @@ pub fn linux_texts_compare_by_their_bytes()
         → IsTrue (⟦<LinuxOsString as PartialEq>⟧.eq one other) ↔ (string_of one ≡ string_of other) }
 {}
 
-/// Clones of a source, a wire field, its value and a piece are the same.
+/// Clones of a source, of a wire field, of its value and of a piece are the same value.
 pub fn clones_are_the_same()
     ensures source { (x y : Source) → ⟦<Source<'static> as Clone>⟧.is_clone x y → y ≡ x }
     ensures field { (x y : WireField) → ⟦<WireField<'static> as Clone>⟧.is_clone x y → y ≡ x }

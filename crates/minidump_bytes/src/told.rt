@@ -27,7 +27,7 @@ impl<D> Told<D> {
         }
     }
 
-    /// Tells whether a call of the device has failed.
+    /// Returns true if a call of the device has failed.
     pub fn failed(&self) -> bool
         ensures { result ≡ has_failed self.now }
     {
@@ -44,8 +44,8 @@ impl<D> Told<D> {
 }
 
 impl<W: Write> Told<W> {
-    /// Writes all of the bytes. A write that takes none of some bytes is a failure, as an error is. After
-    /// a failure a beginning of the bytes was written.
+    /// Writes all of the bytes. A write that takes no byte counts as a failure. If the device fails, only
+    /// a beginning of the bytes was written.
     pub fn put(&mut self, bytes: &[u8]) -> Result<(), Refused>
         ensures puts { Puts W.contents self.old self.new bytes.now result }
         ensures dead { IsTrue (has_failed self.old) → self.new ≡ self.old }

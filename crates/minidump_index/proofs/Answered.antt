@@ -50,14 +50,22 @@ module _ {R : Type 0} (range : R → Option Range) (regions : List R) (address :
   compared : (n : ℕ) → 0 < n → after 0 1 ≤ digits n
   compared n some = let half = digits-half n some in omega arith
 
-  looked_up : (entries : List Entry) → IsIndexOf (map range regions) entries → Answer entries address → (found : Option R) × IsLookedUp range regions address found
+  looked_up : (entries : List Entry) → IsIndexOf (map range regions) entries → Answer entries address
+      → (found : Option R) × IsLookedUp range regions address found
   looked_up entries index (None, none) =
       (None, (counted_none range regions entries address 0 (digits (length entries)) index (omega arith) (omega arith) (compared (length entries)) none).found)
   looked_up entries index (Some place, f) = there regions refl
     where
       there : (rs : List R) → rs ≡ regions → (found : Option R) × IsLookedUp range regions address found
-      there [] same = absurd (let lt = found_within range regions entries address place index f in let none : length regions ≡ 0 = ap (λ (xs : List R). length xs) (sym same) in omega arith)
-      there (r ∷ rs) same = (Some (get_or regions place r), (counted_some range regions entries address 0 (digits (length entries)) index (omega arith) (omega arith) (compared (length entries)) place (get_or regions place r) f (get_or_default regions place r (get_or regions place r) (found_within range regions entries address place index f))).found)
+      there [] same =
+          let lt = found_within range regions entries address place index f in
+          let none : length regions ≡ 0 = ap (λ (xs : List R). length xs) (sym same) in
+          absurd (omega arith)
+      there (r ∷ rs) same =
+          let here = get_or regions place r in
+          let is = get_or_default regions place r here (found_within range regions entries address place index f) in
+          let found = counted_some range regions entries address 0 (digits (length entries)) index (omega arith) (omega arith) (compared (length entries)) place here f is in
+          (Some here, found.found)
 
   -- of regions
   pub a_lookup : (found : Option R) × IsLookedUp range regions address found

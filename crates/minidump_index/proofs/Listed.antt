@@ -55,7 +55,8 @@ listed_none ranges rank end h = record {
   last = λ i r k. absurd (omega arith);
 }
 
-pub listed_one : (ranges : List (Option Range)) (rank end next : ℕ) (r : Range) → HasRange ranges rank r → (0 < rank → end < r.start) → next ≡ rank + 1 → ListedTo ranges rank end → ListedTo ranges next r.end
+pub listed_one : (ranges : List (Option Range)) (rank end next : ℕ) (r : Range) → HasRange ranges rank r → (0 < rank → end < r.start) → next ≡ rank + 1
+    → ListedTo ranges rank end → ListedTo ranges next r.end
 listed_one ranges rank end next r here behind n l = record {
   some = λ i h. elim (cases_lt i rank) [
     | inl below ↦ l.some i below
@@ -103,7 +104,9 @@ module _ (ranges : List (Option Range)) (rank end : ℕ) (all : length ranges �
 
   -- the entries as they stand are the index
   pub listed_index : IsIndexOf ranges (slots 0 ranges)
-  listed_index = index_from ranges (slots 0 ranges) (slots 0 ranges) (slots 0 ranges) holds (IsPermutation-refl (slots 0 ranges)) (record { among = λ e c. c; ascending = ascends; others = λ e c. inl c })
+  listed_index =
+      index_from ranges (slots 0 ranges) (slots 0 ranges) (slots 0 ranges) holds (IsPermutation-refl (slots 0 ranges))
+      (record { among = λ e c. c; ascending = ascends; others = λ e c. inl c })
 
 -- the tree has the entries of the regions before, at the places of the walk before the k-th
 pub record PutTo (ranges : List (Option Range)) (tree : List Entry) (total k rank end : ℕ) : Type 0 where
@@ -127,18 +130,21 @@ module _ (ranges : List (Option Range)) (tree : List Entry) (total k rank end pl
   pub put_within : place < length ranges → rank < length ranges
   put_within h = let one = (ranks_at (length ranges) total k t few p.starts before).has (omega (arith, h, at)) in omega (arith, one.1, p.ranks)
 
-  pub put_one : (next after : ℕ) (r : Range) → place < length ranges → HasRange ranges rank r → (0 < rank → end < r.start) → next ≡ k + 1 → after ≡ rank + 1 → PutTo ranges (slice_set tree place (entry r rank)) total next after r.end
+  pub put_one : (next after : ℕ) (r : Range) → place < length ranges → HasRange ranges rank r → (0 < rank → end < r.start) → next ≡ k + 1 → after ≡ rank + 1
+      → PutTo ranges (slice_set tree place (entry r rank)) total next after r.end
   put_one next after r within here behind n m =
       let sorted = slots 0 ranges in
       let long = length-slots 0 ranges in
       let one = (ranks_at (length ranges) total k t few p.starts before).has (omega (arith, within, at)) in
       let next_rank : rank_at total (length ranges) next ≡ rank_at total (length ranges) (suc k) = ap (rank_at total (length ranges)) (omega arith) in
-      let there = subst (λ (i : ℕ). slice_get sorted i ≡ Some (entry r rank)) (p.ranks ∙ ap (λ (len : ℕ). rank_at total len k) (sym long)) (slots-get 0 rank rank ranges r (omega arith) here) in
+      let there = subst (λ (i : ℕ). slice_get sorted i ≡ Some (entry r rank)) (p.ranks ∙ ap (λ (len : ℕ). rank_at total len k) (sym long))
+      (slots-get 0 rank rank ranges r (omega arith) here) in
       record {
         starts = omega arith;
         whole = length-set tree place (entry r rank) ∙ p.whole;
         ranks = omega (arith, p.ranks, one.0, next_rank);
-        filled = rw n (filled_put tree sorted total k place (entry r rank) (total_of _ _ _ t (sym long)) (omega (arith, few, long)) (p.whole ∙ sym long) p.starts before at (omega (arith, within, long)) there p.filled);
+        filled = rw n (filled_put tree sorted total k place (entry r rank) (total_of _ _ _ t (sym long)) (omega (arith, few, long))
+            (p.whole ∙ sym long) p.starts before at (omega (arith, within, long)) there p.filled);
         listed = listed_one ranges rank end after r here behind m p.listed;
       }
 
@@ -155,7 +161,8 @@ module _ (ranges : List (Option Range)) (tree : List Entry) (total k rank end pl
         listed = p.listed;
       }
 
-module _ (ranges : List (Option Range)) (tree : List Entry) (total k rank end : ℕ) (t : total ≡ 2 ^ digits (length ranges)) (few : length ranges < 2 ^ 63) (ends : k ≡ total) (p : PutTo ranges tree total k rank end) where
+module _ (ranges : List (Option Range)) (tree : List Entry) (total k rank end : ℕ) (t : total ≡ 2 ^ digits (length ranges)) (few : length ranges < 2 ^ 63)
+    (ends : k ≡ total) (p : PutTo ranges tree total k rank end) where
   walk_is : walk tree ≡ slots 0 ranges
   walk_is =
       let long = length-slots 0 ranges in

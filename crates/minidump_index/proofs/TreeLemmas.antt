@@ -50,9 +50,12 @@ past (suc levels) tree i h =
     let c = slice_get_past tree i h in
     rw (a, b, c) refl
 
-here : (levels : ℕ) (tree : List Entry) (i : ℕ) (e : Entry) → i < length tree → e ≡ get_or tree i e → in_order (suc levels) tree i ≡ in_order levels tree (2 * i + 1) ++ (e ∷ in_order levels tree (2 * i + 2))
+here : (levels : ℕ) (tree : List Entry) (i : ℕ) (e : Entry) → i < length tree → e ≡ get_or tree i e
+    → in_order (suc levels) tree i ≡ in_order levels tree (2 * i + 1) ++ (e ∷ in_order levels tree (2 * i + 2))
 unfolding in_order
-here levels tree i e h at = ap (λ (o : Option Entry). in_order levels tree (2 * i + 1) ++ (option_to_list o ++ in_order levels tree (2 * i + 2))) (slice_get_read tree (length tree) i e refl h at)
+here levels tree i e h at =
+    ap (λ (o : Option Entry). in_order levels tree (2 * i + 1) ++ (option_to_list o ++ in_order levels tree (2 * i + 2)))
+    (slice_get_read tree (length tree) i e refl h at)
 
 -- so many levels below a place hold all that the tree has there, and there is one at least
 left_reaches : (levels len i : ℕ) → len < (i + 1) * 2 ^ suc levels → len < (2 * i + 1 + 1) * 2 ^ levels
@@ -88,7 +91,8 @@ descent_start tree address spent up = record {
   none = λ e c inside. c;
 }
 
-not_right : (right : List Entry) (e f : Entry) (address : ℕ) → IsAscending (e ∷ right) → address < e.range.start → IsIn address f.range → Contains (e ∷ right) f → ⊥
+not_right : (right : List Entry) (e f : Entry) (address : ℕ) → IsAscending (e ∷ right) → address < e.range.start → IsIn address f.range → Contains (e ∷ right) f
+    → ⊥
 not_right right e f address up lt inside (zero, h, at) = let k = ap (λ (x : Entry). x.range.start) at in omega (arith, k, inside.0)
 not_right right e f address up lt inside (suc n, h, at) = let k = up_head e f right up (n, omega arith, at) in omega (arith, k, inside.0, e.range.ordered)
 
@@ -97,19 +101,22 @@ only_right right e f address lt inside (zero, h, at) = let k = ap (λ (x : Entry
 only_right right e f address lt inside (suc n, h, at) = (n, omega arith, at)
 
 -- an entry that contains an address below e is left of e
-go_left : (left right : List Entry) (e f : Entry) (address : ℕ) → IsAscending (left ++ (e ∷ right)) → address < e.range.start → IsIn address f.range → Contains (left ++ (e ∷ right)) f → Contains left f
+go_left : (left right : List Entry) (e f : Entry) (address : ℕ) → IsAscending (left ++ (e ∷ right)) → address < e.range.start → IsIn address f.range
+    → Contains (left ++ (e ∷ right)) f → Contains left f
 go_left left right e f address up lt inside c = elim (Contains-append_cases left (e ∷ right) f c) [
   | inl l ↦ l
   | inr r ↦ absurd (not_right right e f address (up_right left (e ∷ right) up) lt inside r)
 ]
 
-go_right : (left right : List Entry) (e f : Entry) (address : ℕ) → IsAscending (left ++ (e ∷ right)) → e.range.end < address → IsIn address f.range → Contains (left ++ (e ∷ right)) f → Contains right f
+go_right : (left right : List Entry) (e f : Entry) (address : ℕ) → IsAscending (left ++ (e ∷ right)) → e.range.end < address → IsIn address f.range
+    → Contains (left ++ (e ∷ right)) f → Contains right f
 go_right left right e f address up lt inside c = elim (Contains-append_cases left (e ∷ right) f c) [
   | inl l ↦ (let k = up_across left (e ∷ right) f e up l (0, omega arith, refl) in absurd (omega (arith, k, inside.1, e.range.ordered)))
   | inr r ↦ only_right right e f address lt inside r
 ]
 
-split_levels : (tree : List Entry) (i : ℕ) (e : Entry) → i < length tree → e ≡ get_or tree i e → (all : ℕ) → length tree < (i + 1) * 2 ^ all → (levels : ℕ) × (all ≡ suc levels) × (in_order all tree i ≡ in_order levels tree (2 * i + 1) ++ (e ∷ in_order levels tree (2 * i + 2)))
+split_levels : (tree : List Entry) (i : ℕ) (e : Entry) → i < length tree → e ≡ get_or tree i e → (all : ℕ) → length tree < (i + 1) * 2 ^ all
+    → (levels : ℕ) × (all ≡ suc levels) × (in_order all tree i ≡ in_order levels tree (2 * i + 1) ++ (e ∷ in_order levels tree (2 * i + 2)))
 split_levels tree i e h at zero k = absurd (omega arith)
 split_levels tree i e h at (suc levels) k = (levels, refl, here levels tree i e h at)
 
@@ -117,7 +124,8 @@ one_level : (levels len i : ℕ) → i < len → len < (i + 1) * 2 ^ levels → 
 one_level zero len i h k = absurd (omega arith)
 one_level (suc levels) len i h k = omega arith
 
-pub descent_left : (tree : List Entry) (address i spent more limit : ℕ) (e : Entry) → i < length tree → e ≡ get_or tree i e → address < e.range.start → more ≤ spent + 1
+pub descent_left : (tree : List Entry) (address i spent more limit : ℕ) (e : Entry) → i < length tree → e ≡ get_or tree i e → address < e.range.start
+    → more ≤ spent + 1
     → Descent tree address i spent limit → Descent tree address (2 * i + 1) more limit
 descent_left tree address i spent more limit e h at lt step d =
     let s = split_levels tree i e h at d.levels d.enough in
@@ -133,7 +141,8 @@ descent_left tree address i spent more limit e h at lt step d =
       none = λ f c inside. go_left left right e f address up lt inside (subst (λ (l : List Entry). Contains l f) s.2 (d.none f c inside));
     }
 
-pub descent_right : (tree : List Entry) (address i spent more limit : ℕ) (e : Entry) → i < length tree → e ≡ get_or tree i e → e.range.end < address → more ≤ spent + 1
+pub descent_right : (tree : List Entry) (address i spent more limit : ℕ) (e : Entry) → i < length tree → e ≡ get_or tree i e → e.range.end < address
+    → more ≤ spent + 1
     → Descent tree address i spent limit → Descent tree address (2 * i + 2) more limit
 descent_right tree address i spent more limit e h at lt step d =
     let s = split_levels tree i e h at d.levels d.enough in
@@ -144,13 +153,15 @@ descent_right tree address i spent more limit e h at lt step d =
       levels = s.0;
       enough = right_reaches s.0 (length tree) i (subst (λ (n : ℕ). length tree < (i + 1) * 2 ^ n) s.1 d.enough);
       within = omega (arith, d.within, s.1, step);
-      part = λ f c. d.part f (subst (λ (l : List Entry). Contains l f) (sym s.2) (Contains-append_right left (e ∷ right) f (Contains-append_right (e ∷ []) right f c)));
+      part = λ f c. d.part f (subst (λ (l : List Entry). Contains l f) (sym s.2)
+          (Contains-append_right left (e ∷ right) f (Contains-append_right (e ∷ []) right f c)));
       up = up_tail e right (up_right left (e ∷ right) up);
       none = λ f c inside. go_right left right e f address up lt inside (subst (λ (l : List Entry). Contains l f) s.2 (d.none f c inside));
     }
 
 -- the probe of an entry that contains the address finds it
-pub descent_found : (tree : List Entry) (address i spent limit : ℕ) (e : Entry) → i < length tree → e ≡ get_or tree i e → IsIn address e.range → Descent tree address i spent limit → IsFound (walk tree) address (Some e.place)
+pub descent_found : (tree : List Entry) (address i spent limit : ℕ) (e : Entry) → i < length tree → e ≡ get_or tree i e → IsIn address e.range
+    → Descent tree address i spent limit → IsFound (walk tree) address (Some e.place)
 descent_found tree address i spent limit e h at inside d =
     let s = split_levels tree i e h at d.levels d.enough in
     let left = in_order s.0 tree (2 * i + 1) in

@@ -48,7 +48,16 @@ pub placed : (d e c : ℕ) → d < 64 → place_at (2 ^ (e + suc d)) (number d c
 placed d e c h =
     let t = trailing 64 d c h in
     let n : 2 ^ (e + suc d) + number d c ≡ (2 * (2 ^ e + c) + 1) * 2 ^ d + 0 =
-    omega (arith, pow-add 2 e (suc d), twice_row (2 ^ e) d, twice_row c d, add-mul (2 * (2 ^ e + c)) 1 (2 ^ d), mul_assoc 2 (2 ^ e + c) (2 ^ d), add-mul (2 ^ e) c (2 ^ d)) in
+    omega (
+      arith,
+      pow-add 2 e (suc d),
+      twice_row (2 ^ e) d,
+      twice_row c d,
+      add-mul (2 * (2 ^ e + c)) 1 (2 ^ d),
+      mul_assoc 2 (2 ^ e + c) (2 ^ d),
+      add-mul
+          (2 ^ e) c (2 ^ d),
+    ) in
     let high = shr_high (2 * (2 ^ e + c) + 1) d 0 (pow_pos d) in
     rw (t, n, high) (omega arith)
 
@@ -61,7 +70,8 @@ spelled (suc D) k h l = elim (cases_lt (k % 2) 1) [
 ]
 
 -- ---- joined parts of the walk
-pub walk_more : (tree : List Entry) (total a b k all next : ℕ) → all ≡ a + b → next ≡ k + a → walk_from tree total k all ≡ walk_from tree total k a ++ walk_from tree total next b
+pub walk_more : (tree : List Entry) (total a b k all next : ℕ) → all ≡ a + b → next ≡ k + a
+    → walk_from tree total k all ≡ walk_from tree total k a ++ walk_from tree total next b
 unfolding walk_from
 walk_more tree total zero b k all next h n = let e : all ≡ b = omega arith in let f : next ≡ k = omega arith in rw (e, f) refl
 walk_more tree total (suc a) b k all next h n =
@@ -70,12 +80,14 @@ walk_more tree total (suc a) b k all next h n =
     let one = option_to_list (slice_get tree (place_at total k)) in
     rw e (ap (λ (l : List Entry). one ++ l) rest ∙ sym (append_assoc one (walk_from tree total (suc k) a) (walk_from tree total next b)))
 
-walk_one : (tree : List Entry) (total k count : ℕ) (i : ℕ) → place_at total k ≡ i → walk_from tree total k (suc count) ≡ option_to_list (slice_get tree i) ++ walk_from tree total (suc k) count
+walk_one : (tree : List Entry) (total k count : ℕ) (i : ℕ) → place_at total k ≡ i
+    → walk_from tree total k (suc count) ≡ option_to_list (slice_get tree i) ++ walk_from tree total (suc k) count
 unfolding walk_from
 walk_one tree total k count i h = ap (λ (j : ℕ). option_to_list (slice_get tree j) ++ walk_from tree total (suc k) count) h
 
 -- the walk below the place of column c on level e, with d levels
-walked : (tree : List Entry) (total d e c k i : ℕ) → d ≤ 64 → total ≡ 2 ^ (e + d) → c < 2 ^ e → i + 1 ≡ 2 ^ e + c → k ≡ c * 2 ^ d + 1 → in_order d tree i ≡ walk_from tree total k (2 ^ d - 1)
+walked : (tree : List Entry) (total d e c k i : ℕ) → d ≤ 64 → total ≡ 2 ^ (e + d) → c < 2 ^ e → i + 1 ≡ 2 ^ e + c → k ≡ c * 2 ^ d + 1
+    → in_order d tree i ≡ walk_from tree total k (2 ^ d - 1)
 unfolding in_order walk_from
 walked tree total zero e c k i b t h at from = refl
 walked tree total (suc d) e c k i b t h at from =
@@ -85,8 +97,10 @@ walked tree total (suc d) e c k i b t h at from =
     let middle : number d c ≡ k + (2 ^ d - 1) = omega arith in
     let place : place_at total (number d c) ≡ i = rw t (placed d e c (omega arith) ∙ omega arith) in
     let levels : total ≡ 2 ^ (suc e + d) = t ∙ ap (λ (n : ℕ). 2 ^ n) (omega arith) in
-    let left = walked tree total d (suc e) (2 * c) k (2 * i + 1) (omega arith) levels (omega (arith, double e)) (omega (arith, double e)) (omega (arith, mul_assoc 2 c (2 ^ d))) in
-    let right = walked tree total d (suc e) (2 * c + 1) (suc (number d c)) (2 * i + 2) (omega arith) levels (omega (arith, double e)) (omega (arith, double e)) (omega (arith, mul_assoc 2 c (2 ^ d), add-mul (2 * c) 1 (2 ^ d))) in
+    let left = walked tree total d (suc e) (2 * c) k (2 * i + 1) (omega arith) levels (omega (arith, double e)) (omega (arith, double e))
+    (omega (arith, mul_assoc 2 c (2 ^ d))) in
+    let right = walked tree total d (suc e) (2 * c + 1) (suc (number d c)) (2 * i + 2) (omega arith) levels (omega (arith, double e)) (omega (arith, double e))
+    (omega (arith, mul_assoc 2 c (2 ^ d), add-mul (2 * c) 1 (2 ^ d))) in
     let parts = walk_more tree total (2 ^ d - 1) (suc (2 ^ d - 1)) k (2 ^ suc d - 1) (number d c) (omega arith) middle in
     let one = walk_one tree total (number d c) (2 ^ d - 1) i place in
     rw (left, right) (sym (parts ∙ ap (λ (l : List Entry). walk_from tree total k (2 ^ d - 1) ++ l) one))
@@ -94,21 +108,24 @@ walked tree total (suc d) e c k i b t h at from =
 -- the whole walk by its numbers
 pub walk-numbers : (tree : List Entry) → digits (length tree) ≤ 64 → walk tree ≡ walk_from tree (2 ^ digits (length tree)) 1 (2 ^ digits (length tree) - 1)
 unfolding walk
-walk-numbers tree b = walked tree (2 ^ digits (length tree)) (digits (length tree)) 0 0 1 0 b (ap (λ (n : ℕ). 2 ^ n) (omega arith)) (omega arith) (omega arith) (omega arith)
+walk-numbers tree b =
+    walked tree (2 ^ digits (length tree)) (digits (length tree)) 0 0 1 0 b (ap (λ (n : ℕ). 2 ^ n) (omega arith)) (omega arith) (omega arith) (omega arith)
 
 -- the zeros at the end of a number make no more than the number
 pub trailing_below : (w k : ℕ) → 0 < k → 2 ^ count_trailing_zeros w k ≤ k
 unfolding count_trailing_zeros
 trailing_below zero k h = omega arith
 trailing_below (suc w) k h = elim (cases_lt (k % 2) 1) [
-  | inl even ↦ (let e : k % 2 ≡ 0 = omega arith in let half = trailing_below w (k / 2) (omega arith) in rw e (omega (arith, half, double (count_trailing_zeros w (k / 2)))))
+  | inl even ↦ (let e : k % 2 ≡ 0 = omega arith in let half = trailing_below w (k / 2) (omega arith) in rw e
+      (omega (arith, half, double (count_trailing_zeros w (k / 2)))))
   | inr odd ↦ (let e : k % 2 ≡ 1 = omega arith in rw e (omega arith))
 ]
 
 -- ---- the walk of the tree itself: what is past its end is left out
 pub record Filled (tree sorted : List Entry) (total : ℕ) : Type 0 where
   pub whole : length tree ≡ length sorted
-  pub each : (k : ℕ) → 0 < k → k < total → place_at total k < length sorted → slice_get tree (place_at total k) ≡ slice_get sorted (rank_at total (length sorted) k)
+  pub each : (k : ℕ) → 0 < k → k < total → place_at total k < length sorted
+      → slice_get tree (place_at total k) ≡ slice_get sorted (rank_at total (length sorted) k)
 
 -- one place more of the walk: the next rank where the tree has the place, else the same
 pub record Ranks (len total k : ℕ) : Type 0 where
@@ -157,7 +174,8 @@ ranks_of len total D (suc d) e c k t b levels h at low high =
     let twice = number-suc d c in
     let pos = pow_pos d in
     let rows : 2 ^ suc e ≤ 2 ^ (e + suc d) = powers (suc e) (e + suc d) (omega arith) in
-    upper len total (2 ^ (e + suc d)) k (number d c) (is ∙ halves) (omega (arith, is, halves)) high (at ∙ twice) (omega arith) (omega (arith, twice, at, is, halves, k_below d e c h)) (omega (arith, place, rows, double e, is, halves))
+    upper len total (2 ^ (e + suc d)) k (number d c) (is ∙ halves) (omega (arith, is, halves)) high (at ∙ twice) (omega arith)
+    (omega (arith, twice, at, is, halves, k_below d e c h)) (omega (arith, place, rows, double e, is, halves))
 
 pub ranks : (len k : ℕ) → 0 < k → k < 2 ^ digits len → digits len ≤ 64 → Ranks len (2 ^ digits len) k
 ranks len k h l b =
@@ -180,7 +198,8 @@ drop_one [] i h = absurd (omega arith)
 drop_one (x ∷ xs) zero h = refl
 drop_one (x ∷ xs) (suc i) h = drop_one xs i (omega arith)
 
-walk_filled : (tree sorted : List Entry) (total count k : ℕ) → total ≡ 2 ^ digits (length sorted) → digits (length sorted) ≤ 64 → Filled tree sorted total → 0 < k → k + count ≡ total → walk_from tree total k count ≡ drop (rank_at total (length sorted) k) sorted
+walk_filled : (tree sorted : List Entry) (total count k : ℕ) → total ≡ 2 ^ digits (length sorted) → digits (length sorted) ≤ 64 → Filled tree sorted total
+    → 0 < k → k + count ≡ total → walk_from tree total k count ≡ drop (rank_at total (length sorted) k) sorted
 unfolding walk_from
 walk_filled tree sorted total zero k t b f h ends =
     let all = rank_end (length sorted) in
@@ -197,7 +216,8 @@ walk_filled tree sorted total (suc count) k t b f h ends =
 pub walk-filled : (tree sorted : List Entry) → digits (length sorted) ≤ 64 → Filled tree sorted (2 ^ digits (length sorted)) → walk tree ≡ sorted
 walk-filled tree sorted b f =
     let w = walk-numbers tree (rw f.whole b) in
-    let v = walk_filled tree sorted (2 ^ digits (length sorted)) (2 ^ digits (length sorted) - 1) 1 refl b f (omega arith) (omega (arith, pow_pos (digits (length sorted)))) in
+    let v = walk_filled tree sorted (2 ^ digits (length sorted)) (2 ^ digits (length sorted) - 1) 1 refl b f (omega arith)
+    (omega (arith, pow_pos (digits (length sorted)))) in
     let none : rank_at (2 ^ digits (length sorted)) (length sorted) 1 ≡ 0 = omega arith in
     w ∙ rw f.whole (v ∙ rw none refl)
 
@@ -270,23 +290,29 @@ numbered_at len place level d c b h at =
           is ∙ sym (s.5 ∙ ap (λ (n : ℕ). number n s.2) zeros_same ∙ ap (λ (n : ℕ). number d n) column_same);
     }
 
-pub numbered : (len place level : ℕ) → len < 2 ^ 63 → place < len → 2 ^ level ≤ place + 1 → place + 1 < 2 * 2 ^ level → Numbered len (2 ^ digits len) place level
+pub numbered : (len place level : ℕ) → len < 2 ^ 63 → place < len → 2 ^ level ≤ place + 1 → place + 1 < 2 * 2 ^ level
+    → Numbered len (2 ^ digits len) place level
 numbered len place level b h low high =
     let few = digits-few len b in
-    let under : level < digits len = elim (cases_lt level (digits len)) [ inl l ↦ l | inr g ↦ absurd (omega (arith, g, low, h, digits-above len, powers (digits len) level g)) ] in
+    let under : level < digits len = elim
+    (cases_lt level (digits len)) [ inl l ↦ l | inr g ↦ absurd (omega (arith, g, low, h, digits-above len, powers (digits len) level g)) ] in
     let e : level + suc (digits len - level - 1) ≡ digits len = omega (arith, under) in
-    subst (λ (n : ℕ). Numbered len (2 ^ n) place level) e (numbered_at len place level (digits len - level - 1) (place + 1 - 2 ^ level) (omega (arith, e, few)) (omega (arith, low, high, double level)) (omega (arith, low)))
+    subst (λ (n : ℕ). Numbered len (2 ^ n) place level) e
+    (numbered_at len place level (digits len - level - 1) (place + 1 - 2 ^ level) (omega (arith, e, few)) (omega (arith, low, high, double level))
+    (omega (arith, low)))
 
 -- ---- one place of the walk
 pub walk_none : (tree : List Entry) (total k count : ℕ) → count ≡ 0 → walk_from tree total k count ≡ []
 unfolding walk_from
 walk_none tree total k count h = rw h refl
 
-pub walk_skips : (tree : List Entry) (total k count next rest : ℕ) → next ≡ k + 1 → count ≡ rest + 1 → slice_get tree (place_at total k) ≡ None → walk_from tree total k count ≡ walk_from tree total next rest
+pub walk_skips : (tree : List Entry) (total k count next rest : ℕ) → next ≡ k + 1 → count ≡ rest + 1 → slice_get tree (place_at total k) ≡ None
+    → walk_from tree total k count ≡ walk_from tree total next rest
 unfolding walk_from
 walk_skips tree total k count next rest n h gone = let a : next ≡ suc k = omega arith in let b : count ≡ suc rest = omega arith in rw (a, b, gone) refl
 
-pub walk_gives : (tree : List Entry) (total k count next rest : ℕ) (e : Entry) → next ≡ k + 1 → count ≡ rest + 1 → slice_get tree (place_at total k) ≡ Some e → walk_from tree total k count ≡ e ∷ walk_from tree total next rest
+pub walk_gives : (tree : List Entry) (total k count next rest : ℕ) (e : Entry) → next ≡ k + 1 → count ≡ rest + 1 → slice_get tree (place_at total k) ≡ Some e
+    → walk_from tree total k count ≡ e ∷ walk_from tree total next rest
 unfolding walk_from
 walk_gives tree total k count next rest e n h there = let a : next ≡ suc k = omega arith in let b : count ≡ suc rest = omega arith in rw (a, b, there) refl
 
@@ -294,13 +320,17 @@ last_one : (tree : List Entry) (total last : ℕ) (o : Option Entry) → slice_g
 unfolding walk_from
 last_one tree total last o h = rw h (append-nil (option_to_list o))
 
-walk_ends : (tree : List Entry) (total k count rest last : ℕ) (o : Option Entry) → count ≡ rest + 1 → last ≡ k + rest → slice_get tree (place_at total last) ≡ o → walk_from tree total k count ≡ walk_from tree total k rest ++ option_to_list o
-walk_ends tree total k count rest last o h n there = walk_more tree total rest 1 k count last h n ∙ ap (λ (l : List Entry). walk_from tree total k rest ++ l) (last_one tree total last o there)
+walk_ends : (tree : List Entry) (total k count rest last : ℕ) (o : Option Entry) → count ≡ rest + 1 → last ≡ k + rest → slice_get tree (place_at total last) ≡ o
+    → walk_from tree total k count ≡ walk_from tree total k rest ++ option_to_list o
+walk_ends tree total k count rest last o h n there =
+    walk_more tree total rest 1 k count last h n ∙ ap (λ (l : List Entry). walk_from tree total k rest ++ l) (last_one tree total last o there)
 
-pub walk_ends_by : (tree : List Entry) (total k count rest last : ℕ) (e : Entry) → count ≡ rest + 1 → last ≡ k + rest → slice_get tree (place_at total last) ≡ Some e → walk_from tree total k count ≡ walk_from tree total k rest ++ (e ∷ [])
+pub walk_ends_by : (tree : List Entry) (total k count rest last : ℕ) (e : Entry) → count ≡ rest + 1 → last ≡ k + rest
+    → slice_get tree (place_at total last) ≡ Some e → walk_from tree total k count ≡ walk_from tree total k rest ++ (e ∷ [])
 walk_ends_by tree total k count rest last e h n there = walk_ends tree total k count rest last (Some e) h n there
 
-pub walk_ends_past : (tree : List Entry) (total k count rest last : ℕ) → count ≡ rest + 1 → last ≡ k + rest → slice_get tree (place_at total last) ≡ None → walk_from tree total k count ≡ walk_from tree total k rest
+pub walk_ends_past : (tree : List Entry) (total k count rest last : ℕ) → count ≡ rest + 1 → last ≡ k + rest → slice_get tree (place_at total last) ≡ None
+    → walk_from tree total k count ≡ walk_from tree total k rest
 walk_ends_past tree total k count rest last h n there = walk_ends tree total k count rest last None h n there ∙ append-nil (walk_from tree total k rest)
 
 -- ---- the entries put to their places in the order of the walk
@@ -322,23 +352,29 @@ placed_once D j k b pj lj pk lk same =
     let one = ap (λ (x : ℕ). place_at (2 ^ D) x) s.5 in
     let two = ap (λ (n : ℕ). place_at (2 ^ n) (number s.0 s.2)) (sym s.3) in
     let found : place_at (2 ^ D) k ≡ 2 ^ s.1 + s.2 - 1 = one ∙ two ∙ placed s.0 s.1 s.2 (omega (arith, s.3, b)) in
-    let n = subst (λ (m : ℕ). Numbered 0 (2 ^ m) (place_at (2 ^ D) k) s.1) s.3 (numbered_at 0 (place_at (2 ^ D) k) s.1 s.0 s.2 (omega (arith, s.3, b)) s.4 (omega (arith, found, pow_pos s.1))) in
+    let n = subst (λ (m : ℕ). Numbered 0 (2 ^ m) (place_at (2 ^ D) k) s.1) s.3
+    (numbered_at 0 (place_at (2 ^ D) k) s.1 s.0 s.2 (omega (arith, s.3, b)) s.4 (omega (arith, found, pow_pos s.1))) in
     sym (n.only j pj lj same) ∙ n.only k pk lk refl
 
 -- the tree has what it is to have at the places of the walk before the k-th
 unfoldable pub FilledTo : List Entry → List Entry → ℕ → ℕ → Type 0
-FilledTo tree sorted total k = (j : ℕ) → 0 < j → j < k → place_at total j < length sorted → slice_get tree (place_at total j) ≡ slice_get sorted (rank_at total (length sorted) j)
+FilledTo tree sorted total k =
+    (j : ℕ) → 0 < j → j < k → place_at total j < length sorted → slice_get tree (place_at total j) ≡ slice_get sorted (rank_at total (length sorted) j)
 
 pub filled_start : (tree sorted : List Entry) (total : ℕ) → FilledTo tree sorted total 1
 unfolding FilledTo
 filled_start tree sorted total j pos l h = absurd (omega (arith, pos, l))
 
-pub filled_put : (tree sorted : List Entry) (total k place : ℕ) (e : Entry) → total ≡ 2 ^ digits (length sorted) → length sorted < 2 ^ 63 → length tree ≡ length sorted → 0 < k → k < total
-    → place ≡ place_at total k → place < length sorted → slice_get sorted (rank_at total (length sorted) k) ≡ Some e → FilledTo tree sorted total k → FilledTo (slice_set tree place e) sorted total (k + 1)
+pub filled_put : (tree sorted : List Entry) (total k place : ℕ) (e : Entry) → total ≡ 2 ^ digits (length sorted) → length sorted < 2 ^ 63
+    → length tree ≡ length sorted → 0 < k → k < total
+    → place ≡ place_at total k → place < length sorted → slice_get sorted (rank_at total (length sorted) k) ≡ Some e → FilledTo tree sorted total k
+    → FilledTo (slice_set tree place e) sorted total (k + 1)
 unfolding FilledTo
 filled_put tree sorted total k place e t b whole pk lk at within there filled j pos l h = elim (cases_lt j k) [
   | inl before ↦
-      (let apart : place_at total j ≢ place = λ same. (let once = placed_once (digits (length sorted)) j k (digits-few (length sorted) b) pos (omega (arith, l, lk, t)) pk (omega (arith, lk, t)) (subst (λ (m : ℕ). place_at m j ≡ place_at m k) t (same ∙ at)) in omega (arith, once, before)) in
+      (let apart : place_at total j ≢ place = λ same.
+      (let once = placed_once (digits (length sorted)) j k (digits-few (length sorted) b) pos (omega (arith, l, lk, t)) pk (omega (arith, lk, t))
+      (subst (λ (m : ℕ). place_at m j ≡ place_at m k) t (same ∙ at)) in omega (arith, once, before)) in
       put_other tree place (place_at total j) e apart ∙ filled j pos before h)
   | inr from ↦
       (let same : j ≡ k = omega (arith, from, l) in
@@ -346,19 +382,22 @@ filled_put tree sorted total k place e t b whole pk lk at within there filled j 
       (put_here tree place (place_at total k) e (sym at) (omega (arith, within, whole)) ∙ sym there))
 ]
 
-pub filled_skip : (tree sorted : List Entry) (total k place : ℕ) → place ≡ place_at total k → length sorted ≤ place → FilledTo tree sorted total k → FilledTo tree sorted total (k + 1)
+pub filled_skip : (tree sorted : List Entry) (total k place : ℕ) → place ≡ place_at total k → length sorted ≤ place → FilledTo tree sorted total k
+    → FilledTo tree sorted total (k + 1)
 unfolding FilledTo
 filled_skip tree sorted total k place at past filled j pos l h = elim (cases_lt j k) [
   | inl before ↦ filled j pos before h
   | inr from ↦ (let same : j ≡ k = omega (arith, from, l) in absurd (omega (arith, subst (λ (i : ℕ). place_at total i < length sorted) same h, at, past)))
 ]
 
-pub filled_all : (tree sorted : List Entry) (total k : ℕ) → total ≡ 2 ^ digits (length sorted) → length sorted < 2 ^ 63 → length tree ≡ length sorted → total ≤ k → FilledTo tree sorted total k → walk tree ≡ sorted
+pub filled_all : (tree sorted : List Entry) (total k : ℕ) → total ≡ 2 ^ digits (length sorted) → length sorted < 2 ^ 63 → length tree ≡ length sorted
+    → total ≤ k → FilledTo tree sorted total k → walk tree ≡ sorted
 unfolding FilledTo
 filled_all tree sorted total k t b whole end filled =
     walk-filled tree sorted (omega (arith, digits-few (length sorted) b)) (record {
       whole = whole;
-      each = λ j pos l h. subst (λ (m : ℕ). slice_get tree (place_at m j) ≡ slice_get sorted (rank_at m (length sorted) j)) t (filled j pos (omega (arith, l, t, end)) (subst (λ (m : ℕ). place_at m j < length sorted) (sym t) h));
+      each = λ j pos l h. subst (λ (m : ℕ). slice_get tree (place_at m j) ≡ slice_get sorted (rank_at m (length sorted) j)) t
+          (filled j pos (omega (arith, l, t, end)) (subst (λ (m : ℕ). place_at m j < length sorted) (sym t) h));
     })
 
 pub ranks_at : (len total k : ℕ) → total ≡ 2 ^ digits len → len < 2 ^ 63 → 0 < k → k < total → Ranks len total k

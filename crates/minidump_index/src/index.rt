@@ -93,7 +93,7 @@ fn sort(entries: &mut Vec<Entry>)
     entries.sort_unstable();
 }
 
-// Sorts the entries of a list, and keeps those of its index.
+// Turns the entries of a list into those of its index: sorted, and without the overlapping ones.
 fn keep_apart(entries: &mut Vec<Entry>)
     ensures { (ranges : List (Option Range)) → HoldsRanged ranges entries.old.items → IsIndexOf ranges entries.new.items }
 {
@@ -101,8 +101,8 @@ fn keep_apart(entries: &mut Vec<Entry>)
     drop_overlaps(entries);
 }
 
-// Returns one more than the number of places of a full tree with as many levels as a complete tree of
-// `len` entries.
+// A complete tree of `len` entries lacks places on its last level. Returns one more than the number of places
+// of the full tree with the same levels.
 fn full(len: usize) -> usize
     requires { len < 2 ^ 63 }
     ensures { result ≡ 2 ^ digits len }
@@ -120,8 +120,8 @@ fn place_at(total: usize, k: usize) -> usize
     ((total + k) >> k.trailing_zeros() >> 1) - 1
 }
 
-// Puts the regions of a list into a tree of as many entries, if each has a range that starts behind the end
-// of the one before it. Returns false if not; the tree then has some of their entries.
+// Fills a tree with the regions of a list of the same length, if each region has a range and starts behind
+// the end of the region before it. Returns false if one doesn't; the tree is then partly filled.
 fn put_regions<R: Region>(tree: &mut Vec<Entry>, regions: &[R]) -> bool
     requires { length tree.old.items ≡ length regions.now }
     ensures whole { length tree.new.items ≡ length tree.old.items }
@@ -149,7 +149,7 @@ fn put_regions<R: Region>(tree: &mut Vec<Entry>, regions: &[R]) -> bool
     true
 }
 
-// Puts ascending entries into a tree of as many.
+// Fills a tree with the same number of ascending entries.
 fn put_entries(tree: &mut Vec<Entry>, entries: &[Entry])
     requires { length tree.old.items ≡ length entries.now }
     ensures whole { length tree.new.items ≡ length tree.old.items }
@@ -267,7 +267,7 @@ pub struct ByAddress<'a> {
     tree: &'a [Entry],
     // One more than the number of places of a full tree with as many levels.
     total: usize,
-    // Of the walk of that full tree, counted from 1: the first place that is left, and how many are.
+    // The walk of that full tree is counted from 1: the first place that is left, and how many are left.
     first: usize,
     count: usize,
     // How many of those places have an entry.

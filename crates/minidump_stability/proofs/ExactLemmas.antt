@@ -1,8 +1,10 @@
--- What tests of parts say of the whole.
-use Rattle.std.proofs.Common.{◌≡◌, ◌↔◌, ℤ, Bool, true, false, [], ◌∷◌, refl, ap, rules}
-use Rattle.std.specs.Prelude.{Option, Some, None, IsTrue, ◌&&◌}
+-- `==` of the state of a process decides whether two are the same, and `==` of a report whether two hold the same.
+use Rattle.std.proofs.Common.{◌≡◌, ℤ, Bool, refl, ap, rules}
+use Rattle.std.specs.Prelude.{Decides, Option, Some, None, ◌&&◌}
+use Rattle.std.specs.Cmp.Lexicographic.{pointwise}
 use Rattle.std.specs.Option.{option_eq}
-use Rattle.std.specs.Ordering.{int_eq}
+use Rattle.std.proofs.lemmas.Bool.Decides.{Decides-and, Decides-int_eq, Decides-like}
+use Rattle.std.proofs.lemmas.Slice.Eq.{slice_eq-Decides}
 use Rattle.minidump_stability.specs.contracts.process_state.FileSystemStatePartialEq.TheImpl as files
 use Rattle.minidump_stability.specs.contracts.process_state.MemoryStatePartialEq.TheImpl as memory
 use Rattle.minidump_stability.specs.contracts.report.ProcessStatePartialEq.TheImpl as state
@@ -13,75 +15,44 @@ use Rattle.minidump_stability.specs.declared.report.ProcessState.{ProcessState}
 use Rattle.minidump_stability.specs.declared.report.StabilityReport.{StabilityReport}
 use Rattle.minidump_stability.specs.declared.report.SystemMemoryState.{SystemMemoryState}
 use Rattle.minidump_stability.specs.StabilityReport.{stability_report_of}
-use Rattle.std.specs.Cmp.Lexicographic.{pointwise}
 
--- a test holds of the same value alone
-abbrev pub IsTest : {A : Type 0} → (A → A → Bool) → Type 0
-IsTest {A} eq = (x y : A) → IsTrue (eq x y) ↔ (x ≡ y)
+option_eq-Decides : {A : Type 0} {eq : A → A → Bool} → ((x y : A) → Decides (eq x y) (x ≡ y)) → (x y : Option A) → Decides (option_eq eq x y) (x ≡ y)
+option_eq-Decides same None None = ((λ h. refl), (λ h. refl))
+option_eq-Decides same None (Some y) = ((λ h. cc), (λ h. cc))
+option_eq-Decides same (Some x) None = ((λ h. cc), (λ h. cc))
+option_eq-Decides same (Some x) (Some y) = ((λ h. ap Some ((same x y).0 h)), (λ h. (same x y).1 cc))
 
-pub and_true : (a b : Bool) → IsTrue (a && b) ↔ (IsTrue a × IsTrue b)
-and_true true b = ((λ h. Prim.search rules), (λ h. h.1))
-and_true false b = ((λ h. Prim.search rules), (λ h. Prim.search rules))
+memory_eq-Decides : (x y : MemoryState) → Decides ((memory.eq-value).it x y) (x ≡ y)
+memory_eq-Decides x y = ((λ h. Prim.search rules), (λ h. Prim.search rules))
 
-pub option_test : {A : Type 0} (eq : A → A → Bool) → IsTest eq → IsTest (option_eq eq)
-option_test eq test None None = ((λ h. refl), (λ h. Prim.search rules))
-option_test eq test None (Some y) = ((λ h. Prim.search rules), (λ h. cc))
-option_test eq test (Some x) None = ((λ h. Prim.search rules), (λ h. cc))
-option_test eq test (Some x) (Some y) = ((λ h. ap Some ((test x y).0 h)), (λ h. (test x y).1 cc))
+files_eq-Decides : (x y : FileSystemState) → Decides ((files.eq-value).it x y) (x ≡ y)
+files_eq-Decides x y = ((λ h. Prim.search rules), (λ h. Prim.search rules))
 
-pub list_test : {A : Type 0} (eq : A → A → Bool) → IsTest eq → IsTest (pointwise eq)
-list_test eq test [] [] = ((λ h. refl), (λ h. Prim.search rules))
-list_test eq test [] (y ∷ ys) = ((λ h. Prim.search rules), (λ h. cc))
-list_test eq test (x ∷ xs) [] = ((λ h. Prim.search rules), (λ h. cc))
-list_test eq test (x ∷ xs) (y ∷ ys) = (
-  (λ h. let t = (and_true (eq x y) (pointwise eq xs ys)).0 h in let head : x ≡ y = (test x y).0 t.0 in let tail : xs ≡ ys = (list_test eq test xs ys).0 t.1 in cc),
-  (λ h. let head : x ≡ y = cc in let tail : xs ≡ ys = cc in (and_true (eq x y) (pointwise eq xs ys)).1 ((test x y).1 head, (list_test eq test xs ys).1 tail)),
-)
+system_eq-Decides : (x y : SystemMemoryState) → Decides ((system.eq-value).it x y) (x ≡ y)
+system_eq-Decides x y = ((λ h. Prim.search rules), (λ h. Prim.search rules))
 
--- ---- the tests of this crate
-id_test : IsTest int_eq
-id_test x y = ((λ h. Prim.search rules), (λ h. Prim.search rules))
+abbrev state_of : Option ℤ → Option MemoryState → Option FileSystemState → ProcessState
+state_of id memory files = record { process_id = id; memory_state = memory; file_system_state = files }
 
-abbrev memory_eq : MemoryState → MemoryState → Bool
-memory_eq = (memory.eq-value).it
+same_state : (i j : Option ℤ) (m n : Option MemoryState) (f g : Option FileSystemState) → i ≡ j → m ≡ n → f ≡ g → state_of i m f ≡ state_of j n g
+same_state i j m n f g p q r = rw (p, q, r) refl
 
-abbrev files_eq : FileSystemState → FileSystemState → Bool
-files_eq = (files.eq-value).it
+pub state_eq-Decides : (x y : ProcessState) → Decides ((state.eq-value).it x y) (x ≡ y)
+state_eq-Decides x y =
+    let id = option_eq-Decides Decides-int_eq x.process_id y.process_id in
+    let memory = option_eq-Decides memory_eq-Decides x.memory_state y.memory_state in
+    let files = option_eq-Decides files_eq-Decides x.file_system_state y.file_system_state in
+    Decides-like _ (λ h. same_state _ _ _ _ _ _ h.0 h.1.0 h.1.1)
+    (λ h. (ap (λ s. s.process_id) h, (ap (λ s. s.memory_state) h, ap (λ s. s.file_system_state) h)))
+    (Decides-and _ _ id (Decides-and _ _ memory files))
 
-memory_test : IsTest memory_eq
-memory_test x y = ((λ h. Prim.search rules), (λ h. Prim.search rules))
-
-files_test : IsTest files_eq
-files_test x y = ((λ h. Prim.search rules), (λ h. Prim.search rules))
-
-abbrev made : Option ℤ → Option MemoryState → Option FileSystemState → ProcessState
-made id memory files = record { process_id = id; memory_state = memory; file_system_state = files }
-
-same_parts : (i j : Option ℤ) (m n : Option MemoryState) (f g : Option FileSystemState) → i ≡ j → m ≡ n → f ≡ g → made i m f ≡ made j n g
-same_parts i j m n f g p q r = rw (p, q, r) refl
-
-pub state_test : IsTest (state.eq-value).it
-state_test x y =
-    let id = option_test int_eq id_test x.process_id y.process_id in
-    let memory = option_test memory_eq memory_test x.memory_state y.memory_state in
-    let files = option_test files_eq files_test x.file_system_state y.file_system_state in
-    let rest = and_true (option_eq memory_eq x.memory_state y.memory_state) (option_eq files_eq x.file_system_state y.file_system_state) in
-    let all = and_true (option_eq int_eq x.process_id y.process_id) (option_eq memory_eq x.memory_state y.memory_state && option_eq files_eq x.file_system_state y.file_system_state) in (
-      (λ h. let p = id.0 (all.0 h).0 in let q = memory.0 (rest.0 (all.0 h).1).0 in let r = files.0 (rest.0 (all.0 h).1).1 in same_parts _ _ _ _ _ _ p q r),
-      (λ h. all.1 (id.1 (ap (λ s. s.process_id) h), rest.1 (memory.1 (ap (λ s. s.memory_state) h), files.1 (ap (λ s. s.file_system_state) h)))),
-    )
-
-abbrev system_eq : SystemMemoryState → SystemMemoryState → Bool
-system_eq = (system.eq-value).it
-
-system_test : IsTest system_eq
-system_test x y = ((λ h. Prim.search rules), (λ h. Prim.search rules))
-
-pub report_test : (x y : StabilityReport) → IsTrue (pointwise (state.eq-value).it x.process_states.items y.process_states.items && option_eq system_eq x.system_memory_state y.system_memory_state) ↔ (stability_report_of x ≡ stability_report_of y)
-report_test x y =
-    let states = list_test (state.eq-value).it state_test x.process_states.items y.process_states.items in
-    let system = option_test system_eq system_test x.system_memory_state y.system_memory_state in
-    let all = and_true (pointwise (state.eq-value).it x.process_states.items y.process_states.items) (option_eq system_eq x.system_memory_state y.system_memory_state) in (
-      (λ h. let p = states.0 (all.0 h).0 in let q = system.0 (all.0 h).1 in cc),
-      (λ h. all.1 (states.1 (ap (λ r. r.process_states) h), system.1 (ap (λ r. r.system_memory_state) h))),
-    )
+pub report_eq-Decides : (x y : StabilityReport)
+    → Decides (pointwise (state.eq-value).it x.process_states.items y.process_states.items && option_eq
+    (system.eq-value).it x.system_memory_state y.system_memory_state)
+    (stability_report_of x ≡ stability_report_of y)
+report_eq-Decides x y =
+    let states = slice_eq-Decides state_eq-Decides x.process_states.items y.process_states.items _ refl in
+    let system = option_eq-Decides system_eq-Decides x.system_memory_state y.system_memory_state in
+    Decides-like _ (λ h. let p = h.0 in let q = h.1 in cc)
+    (λ h. (ap (λ r. r.process_states) h, ap (λ r. r.system_memory_state) h))
+    (Decides-and _ _ states system)

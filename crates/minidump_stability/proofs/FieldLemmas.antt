@@ -17,7 +17,8 @@ use Rattle.minidump_stability.proofs.MergeLemmas.{fields_end, fields_more}
 rest_at : (bytes : List ℕ) (place next : ℕ) → place ≤ next → drop place bytes ≡ slice_range bytes place next ++ drop next bytes
 rest_at bytes place next forward =
     let sum : place + (next - place) ≡ next = omega arith in
-    sym (take-append-drop (next - place) (drop place bytes)) ∙ ap (λ l. slice_range bytes place next ++ l) (drop-drop (next - place) place bytes ∙ ap (λ k. drop k bytes) sum)
+    sym (take-append-drop (next - place) (drop place bytes))
+    ∙ ap (λ l. slice_range bytes place next ++ l) (drop-drop (next - place) place bytes ∙ ap (λ k. drop k bytes) sum)
 
 some_is : {A : Type 0} (x y : A) → Some x ≡ Some y → x ≡ y
 some_is x y h = cc
@@ -26,7 +27,8 @@ spelled_more : (bytes : List ℕ) (place next : ℕ) (f : Field) (gs : List Fiel
     → ((hs : List Field) → o ≡ Some hs → SpellsFields (drop next bytes) hs) → option_map (λ hs. f ∷ hs) o ≡ Some gs → SpellsFields (drop place bytes) gs
 spelled_more bytes place next f gs None at more h = (let k : None ≡ Some gs = h in cc)
 spelled_more bytes place next f gs (Some hs) at more h =
-    subst (SpellsFields (drop place bytes)) (some_is (f ∷ hs) gs h) (slice_range bytes place next, drop next bytes, rest_at bytes place next at.forward, at.spelled, more hs refl)
+    subst (SpellsFields (drop place bytes)) (some_is (f ∷ hs) gs h)
+    (slice_range bytes place next, drop next bytes, rest_at bytes place next at.forward, at.spelled, more hs refl)
 
 spelled_by : (most place : ℕ) (bytes : List ℕ) (gs : List Field) (o : Option (Field × ℕ)) → field_at place bytes ≡ o
     → ((next : ℕ) (hs : List Field) → next ≤ length bytes → fields_from most next bytes ≡ Some hs → SpellsFields (drop next bytes) hs)
@@ -36,16 +38,19 @@ spelled_by most place bytes gs (Some r) is more h =
     let at = field_there bytes place r.0 r.1 is in
     spelled_more bytes place r.1 r.0 gs (fields_from most r.1 bytes) at (λ hs e. more r.1 hs at.within e) h
 
-end_spelled : (most place : ℕ) (bytes : List ℕ) (fs : List Field) → place ≡ length bytes → fields_from (suc most) place bytes ≡ Some fs → SpellsFields (drop place bytes) fs
+end_spelled : (most place : ℕ) (bytes : List ℕ) (fs : List Field) → place ≡ length bytes → fields_from (suc most) place bytes ≡ Some fs
+    → SpellsFields (drop place bytes) fs
 end_spelled most place bytes fs end h =
     subst (SpellsFields (drop place bytes)) (some_is [] fs (sym (fields_end most place bytes end) ∙ h)) (drop_all place bytes (omega (arith, end)))
 
-spelled : (most place : ℕ) (bytes : List ℕ) (fs : List Field) → place ≤ length bytes → fields_from most place bytes ≡ Some fs → SpellsFields (drop place bytes) fs
+spelled : (most place : ℕ) (bytes : List ℕ) (fs : List Field) → place ≤ length bytes → fields_from most place bytes ≡ Some fs
+    → SpellsFields (drop place bytes) fs
 unfolding fields_from
 spelled zero place bytes fs within h = (let k : None ≡ Some fs = h in cc)
 spelled (suc most) place bytes fs within h = elim (eq-or-lt_of_le within) [
   | inl end ↦ end_spelled most place bytes fs end h
-  | inr more ↦ spelled_by most place bytes fs (field_at place bytes) refl (λ next hs fits e. spelled most next bytes hs fits e) (sym (fields_more most place bytes more) ∙ h)
+  | inr more ↦ spelled_by most place bytes fs (field_at place bytes) refl (λ next hs fits e. spelled most next bytes hs fits e)
+      (sym (fields_more most place bytes more) ∙ h)
 ]
 
 -- ---- what is spelled is found
@@ -60,7 +65,8 @@ none_left : (place : ℕ) (bytes : List ℕ) → place ≤ length bytes → drop
 none_left place bytes within none = omega (arith, within, ap length none, length-drop place bytes)
 
 -- the field at the front of what is left, and what is left behind it
-module _ (place : ℕ) (bytes front back : List ℕ) (f : Field) (within : place ≤ length bytes) (left : drop place bytes ≡ front ++ back) (s : SpellsField front f) where
+module _ (place : ℕ) (bytes front back : List ℕ) (f : Field) (within : place ≤ length bytes) (left : drop place bytes ≡ front ++ back)
+    (s : SpellsField front f) where
   long : length bytes ≡ place + length front + length back
   long = omega (arith, within, ap length left, length-append front back, length-drop place bytes)
 
@@ -76,13 +82,15 @@ module _ (place : ℕ) (bytes front back : List ℕ) (f : Field) (within : place
   at : field_at place bytes ≡ Some (f, place + length front)
   at = there_field bytes place f (place + length front) (record { forward = omega arith; within = omega (arith, long); spelled = rw cut s })
 
-found : (most place : ℕ) (bytes : List ℕ) (fs : List Field) → place ≤ length bytes → length bytes < place + most → SpellsFields (drop place bytes) fs → fields_from most place bytes ≡ Some fs
+found : (most place : ℕ) (bytes : List ℕ) (fs : List Field) → place ≤ length bytes → length bytes < place + most → SpellsFields (drop place bytes) fs
+    → fields_from most place bytes ≡ Some fs
 found zero place bytes fs within enough s = absurd (omega (arith, within, enough))
 found (suc most) place bytes [] within enough s = fields_end most place bytes (none_left place bytes within s)
 found (suc most) place bytes (f ∷ fs) within enough (front, back, left, s, more) =
     let some = field_long front f s in
     let size = long place bytes front back f within left s in
-    let next = found most (place + length front) bytes fs (omega (arith, size)) (omega (arith, enough, some)) (rw (behind place bytes front back f within left s) more) in
+    let next = found most (place + length front) bytes fs (omega (arith, size)) (omega (arith, enough, some))
+    (rw (behind place bytes front back f within left s) more) in
     fields_more most place bytes (omega (arith, size, some)) ∙ rw (at place bytes front back f within left s, next) refl
 
 pub fields_are_spelled : (bytes : List ℕ) (fs : List Field) → (fields_in bytes ≡ Some fs) ↔ SpellsFields bytes fs
@@ -94,7 +102,9 @@ fields_are_spelled bytes fs = (
 
 -- ---- a report is of the fields that are spelled
 Held : List ℕ → Result Report Error → Type 0
-Held bytes answer = MatchResult answer (λ r. (fs : List Field) × SpellsFields bytes fs × (report fs ≡ Some r)) (λ e. (e ≡ DataError) × ((fs : List Field) → SpellsFields bytes fs → report fs ≡ None))
+Held bytes answer =
+    MatchResult answer (λ r. (fs : List Field) × SpellsFields bytes fs × (report fs ≡ Some r))
+    (λ e. (e ≡ DataError) × ((fs : List Field) → SpellsFields bytes fs → report fs ≡ None))
 
 held_by : (bytes : List ℕ) (fs : List Field) (r : Option Report) → fields_in bytes ≡ Some fs → report fs ≡ r → Held bytes (ok_or r DataError)
 unfolding Held
@@ -106,6 +116,8 @@ unfolding Held
 held_in bytes None is = (refl, (λ gs s. absurd (let k : None ≡ Some gs = sym is ∙ (fields_are_spelled bytes gs).1 s in cc)))
 held_in bytes (Some fs) is = held_by bytes fs (report fs) is refl
 
-pub report_is_held : (bytes : List ℕ) → MatchResult (stability_report_in bytes) (λ r. (fs : List Field) × SpellsFields bytes fs × (report fs ≡ Some r)) (λ e. (e ≡ DataError) × ((fs : List Field) → SpellsFields bytes fs → report fs ≡ None))
+pub report_is_held : (bytes : List ℕ)
+    → MatchResult (stability_report_in bytes) (λ r. (fs : List Field) × SpellsFields bytes fs × (report fs ≡ Some r))
+    (λ e. (e ≡ DataError) × ((fs : List Field) → SpellsFields bytes fs → report fs ≡ None))
 unfolding Held
 report_is_held bytes = held_in bytes (fields_in bytes) refl

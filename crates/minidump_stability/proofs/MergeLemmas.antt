@@ -37,14 +37,16 @@ module _ {V : Type 0} (put : Field → V → Option V) where
   unfolding fields_in
   merging_none bytes v = record { most = 1 + length bytes; enough = omega arith; within = omega arith; same = refl }
 
-  end_by : (whole : Option V) (bytes : List ℕ) (place : ℕ) (now : V) (most : ℕ) → place ≡ length bytes → length bytes < place + most → merged_fields put (fields_from most place bytes) now ≡ whole → whole ≡ Some now
+  end_by : (whole : Option V) (bytes : List ℕ) (place : ℕ) (now : V) (most : ℕ) → place ≡ length bytes → length bytes < place + most
+      → merged_fields put (fields_from most place bytes) now ≡ whole → whole ≡ Some now
   end_by whole bytes place now zero end enough same = absurd (omega (arith, enough))
   end_by whole bytes place now (suc most) end enough same = sym (rw (fields_end most place bytes end) at same)
 
   pub merging_end : (whole : Option V) (bytes : List ℕ) (place : ℕ) (now : V) → length bytes ≤ place → Merging whole bytes place now → whole ≡ Some now
   merging_end whole bytes place now past m = end_by whole bytes place now m.most (omega (arith, m.within)) m.enough m.same
 
-  one_by : (fields : Option (List Field)) (f : Field) (now : V) (made : Option V) → put f now ≡ made → merged_fields put (option_map (λ fs. f ∷ fs) fields) now ≡ option_and_then (λ v. merged_fields put fields v) made
+  one_by : (fields : Option (List Field)) (f : Field) (now : V) (made : Option V) → put f now ≡ made
+      → merged_fields put (option_map (λ fs. f ∷ fs) fields) now ≡ option_and_then (λ v. merged_fields put fields v) made
   one_by None f now None p = refl
   one_by None f now (Some v) p = refl
   one_by (Some fs) f now made p = rw p (refl_then fs made)
@@ -63,16 +65,25 @@ module _ {V : Type 0} (put : Field → V → Option V) where
       step zero enough same = absurd (omega (arith, enough, more))
       step (suc most) enough same = (most, omega (arith, enough), rw (fields_more most place bytes more) at same)
 
-  pub merging_more : (whole : Option V) (bytes : List ℕ) (place next : ℕ) (f : Field) (now new : V) → place < next → next ≤ length bytes → field_at place bytes ≡ Some (f, next) → put f now ≡ Some new
+  pub merging_more : (whole : Option V) (bytes : List ℕ) (place next : ℕ) (f : Field) (now new : V) → place < next → next ≤ length bytes
+      → field_at place bytes ≡ Some (f, next) → put f now ≡ Some new
       → Merging whole bytes place now → Merging whole bytes next new
   merging_more whole bytes place next f now new forward within at p m =
       let s = one_more whole bytes place now (omega (arith, forward, within)) m in
-      record { most = s.0; enough = omega (arith, s.1, forward); within = within; same = sym (one_by (fields_from s.0 next bytes) f now (Some new) p) ∙ rw at at s.2 }
+      record {
+        most = s.0;
+        enough = omega (arith, s.1, forward);
+        within = within;
+        same = sym (one_by (fields_from s.0 next bytes) f now (Some new) p)
+            ∙ rw at at s.2;
+      }
 
-  pub merging_stuck : (whole : Option V) (bytes : List ℕ) (place : ℕ) (now : V) → place < length bytes → field_at place bytes ≡ None → Merging whole bytes place now → whole ≡ None
+  pub merging_stuck : (whole : Option V) (bytes : List ℕ) (place : ℕ) (now : V) → place < length bytes → field_at place bytes ≡ None
+      → Merging whole bytes place now → whole ≡ None
   merging_stuck whole bytes place now more none m = let s = one_more whole bytes place now more m in sym (rw none at s.2)
 
-  pub merging_refused : (whole : Option V) (bytes : List ℕ) (place next : ℕ) (f : Field) (now : V) → place < length bytes → field_at place bytes ≡ Some (f, next) → put f now ≡ None
+  pub merging_refused : (whole : Option V) (bytes : List ℕ) (place next : ℕ) (f : Field) (now : V) → place < length bytes
+      → field_at place bytes ≡ Some (f, next) → put f now ≡ None
       → Merging whole bytes place now → whole ≡ None
   merging_refused whole bytes place next f now more at p m =
       let s = one_more whole bytes place now more m in
@@ -89,41 +100,49 @@ module _ (inside : Field → ℕ) where
   unfolding fields_in
   counting_none bytes = record { most = 1 + length bytes; enough = omega arith; total = λ fs h. rw h (omega arith) }
 
-  pub counting_end : (bytes : List ℕ) (place done : ℕ) → place ≡ length bytes → Counting inside bytes place done → counted inside (unwrap_or (fields_in bytes) []) ≡ done
+  pub counting_end : (bytes : List ℕ) (place done : ℕ) → place ≡ length bytes → Counting inside bytes place done
+      → counted inside (unwrap_or (fields_in bytes) []) ≡ done
   counting_end bytes place done end c = go c.most c.enough c.total
     where
-      go : (most : ℕ) → length bytes < place + most → ((fs : List Field) → fields_from most place bytes ≡ Some fs → counted inside (unwrap_or (fields_in bytes) []) ≡ done + counted inside fs)
+      go : (most : ℕ) → length bytes < place + most
+          → ((fs : List Field) → fields_from most place bytes ≡ Some fs → counted inside (unwrap_or (fields_in bytes) []) ≡ done + counted inside fs)
           → counted inside (unwrap_or (fields_in bytes) []) ≡ done
       go zero enough total = absurd (omega (arith, enough, end))
       go (suc most) enough total = let all = total [] (fields_end most place bytes end) in omega (arith, all)
 
-  pub counting_more : (bytes : List ℕ) (place next done : ℕ) (f : Field) → place < next → next ≤ length bytes → field_at place bytes ≡ Some (f, next) → Counting inside bytes place done
+  pub counting_more : (bytes : List ℕ) (place next done : ℕ) (f : Field) → place < next → next ≤ length bytes → field_at place bytes ≡ Some (f, next)
+      → Counting inside bytes place done
       → Counting inside bytes next (done + (1 + inside f))
   counting_more bytes place next done f forward fits at c = go c.most c.enough c.total
     where
-      go : (most : ℕ) → length bytes < place + most → ((fs : List Field) → fields_from most place bytes ≡ Some fs → counted inside (unwrap_or (fields_in bytes) []) ≡ done + counted inside fs)
+      go : (most : ℕ) → length bytes < place + most
+          → ((fs : List Field) → fields_from most place bytes ≡ Some fs → counted inside (unwrap_or (fields_in bytes) []) ≡ done + counted inside fs)
           → Counting inside bytes next (done + (1 + inside f))
       go zero enough total = absurd (omega (arith, enough, forward, fits))
       go (suc most) enough total = record {
         most = most;
         enough = omega (arith, enough, forward);
-        total = λ fs h. (let all = total (f ∷ fs) (fields_more most place bytes (omega (arith, forward, fits)) ∙ rw (at, h) refl) in omega (arith, all, sum_by-cons (λ g. 1 + inside g) f fs));
+        total = λ fs h. (let all = total (f ∷ fs) (fields_more most place bytes (omega (arith, forward, fits)) ∙ rw (at, h) refl) in omega
+            (arith, all, sum_by-cons (λ g. 1 + inside g) f fs));
       }
 
 -- ---- how refusals are handed on
 module _ {A B : Type 0} where
-  pub refused_alike : (e : Error) (part : Option A) (whole : Option B) → (part ≡ None → whole ≡ None) → Refuses ⊤ e (ok_or part DataError) → Refuses ⊤ e (ok_or whole DataError)
+  pub refused_alike : (e : Error) (part : Option A) (whole : Option B) → (part ≡ None → whole ≡ None) → Refuses ⊤ e (ok_or part DataError)
+      → Refuses ⊤ e (ok_or whole DataError)
   refused_alike OutOfMemory part whole rule h = h
   refused_alike e (Some x) whole rule h = (let k : Ok x ≡ Err e = h in cc)
   refused_alike e None whole rule h = (let k : ok_or {T = A} None DataError ≡ Err e = h in let s : DataError ≡ e = cc in rw (rule refl, s) refl)
 
 -- the exit of a `?`: where a part was refused, the whole is
-pub gives_refused : {X A B : Type 0} (view : X → B) (r : Result X Error) (e : Error) (part : Option A) (whole : Option B) → IsErrAnd r (λ y. y ≡ e) → Refuses ⊤ e (ok_or part DataError)
+pub gives_refused : {X A B : Type 0} (view : X → B) (r : Result X Error) (e : Error) (part : Option A) (whole : Option B) → IsErrAnd r (λ y. y ≡ e)
+    → Refuses ⊤ e (ok_or part DataError)
     → (part ≡ None → whole ≡ None) → Gives view ⊤ r (ok_or whole DataError)
 gives_refused view r e part whole exit refusal rule = let p = err_from_is_err_and r exit in rw (p.1, p.2) (refused_alike e part whole rule refusal)
 
 -- and where it is known that nothing is there
-pub gives_none : {X B : Type 0} (view : X → B) (r : Result X Error) (e : Error) (whole : Option B) → IsErrAnd r (λ y. y ≡ e) → whole ≡ None → DataError ≡ e → Gives view ⊤ r (ok_or whole DataError)
+pub gives_none : {X B : Type 0} (view : X → B) (r : Result X Error) (e : Error) (whole : Option B) → IsErrAnd r (λ y. y ≡ e) → whole ≡ None → DataError ≡ e
+    → Gives view ⊤ r (ok_or whole DataError)
 gives_none view r e whole exit none is = let p = err_from_is_err_and r exit in rw (p.1, p.2, none, ← is) refl
 
 pub none_seen : {A B : Type 0} (seen : A → B) (r : Option A) (o : Option B) (d e : Error) → option_map seen r ≡ o → Err e ≡ ok_or r d → (o ≡ None) × (d ≡ e)
@@ -145,7 +164,8 @@ memory_held P (Err e) p = λ h. p
 pub memory_none : {X : Type 0} (P : Type 0) (r : Result X Error) (e : Error) → IsErrAnd r (λ y. y ≡ e) → DataError ≡ e → IfErr r (λ y. y ≡ OutOfMemory → P)
 memory_none P r e exit is = let p = err_from_is_err_and r exit in rw (p.1, p.2, ← is) (λ h. (let k : DataError ≡ OutOfMemory = h in cc))
 
-pub gives_where : {X V : Type 0} (view : X → V) (memory : Type 0) (r : Result X Error) (a : Result V Error) → Gives view ⊤ r a → IfErr r (λ e. e ≡ OutOfMemory → memory) → Gives view memory r a
+pub gives_where : {X V : Type 0} (view : X → V) (memory : Type 0) (r : Result X Error) (a : Result V Error) → Gives view ⊤ r a
+    → IfErr r (λ e. e ≡ OutOfMemory → memory) → Gives view memory r a
 gives_where view memory (Ok x) a h m = h
 gives_where view memory (Err OutOfMemory) a h m = m refl
 gives_where view memory (Err e) a h m = h

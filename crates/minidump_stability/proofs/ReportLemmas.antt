@@ -14,7 +14,8 @@ windows_memory_means : Means put_windows_memory no_windows_memory windows_memory
 unfolding put_windows_memory
 windows_memory_means =
     through_means _ _ _ (λ v. refl) (λ w. refl) _ _
-    (beside 1 _ _ _ _ _ _ (only_scalar uint32_in 1) (beside 2 _ _ _ _ _ _ (only_scalar uint32_in 2) (beside 3 _ _ _ _ _ _ (only_scalar uint32_in 3) (only_scalar uint32_in 4))))
+    (beside 1 _ _ _ _ _ _ (only_scalar uint32_in 1)
+    (beside 2 _ _ _ _ _ _ (only_scalar uint32_in 2) (beside 3 _ _ _ _ _ _ (only_scalar uint32_in 3) (only_scalar uint32_in 4))))
 
 memory_state_means : Means put_memory_state no_memory_state memory_state
 unfolding put_memory_state
@@ -32,13 +33,16 @@ file_system_state_means : Means put_file_system_state no_file_system_state file_
 unfolding put_file_system_state
 file_system_state_means =
     through_means _ _ _ (λ v. refl) (λ w. refl) _ _
-    (beside 1 _ _ _ _ _ _ (only_nested put_posix_file_system_state no_posix_file_system_state posix_file_system_state posix_means 1) (only_nested put_windows_file_system_state no_windows_file_system_state windows_file_system_state windows_means 2))
+    (beside 1 _ _ _ _ _ _ (only_nested put_posix_file_system_state no_posix_file_system_state posix_file_system_state posix_means 1)
+    (only_nested put_windows_file_system_state no_windows_file_system_state windows_file_system_state windows_means 2))
 
 process_state_means : Means put_process_state no_process_state process_state
 unfolding put_process_state
 process_state_means =
     through_means _ _ _ (λ v. refl) (λ w. refl) _ _
-    (beside 3 _ _ _ _ _ _ (only_scalar int64_in 3) (beside 4 _ _ _ _ _ _ (only_nested put_memory_state no_memory_state memory_state memory_state_means 4) (only_nested put_file_system_state no_file_system_state file_system_state file_system_state_means 7)))
+    (beside 3 _ _ _ _ _ _ (only_scalar int64_in 3)
+    (beside 4 _ _ _ _ _ _ (only_nested put_memory_state no_memory_state memory_state memory_state_means 4)
+    (only_nested put_file_system_state no_file_system_state file_system_state file_system_state_means 7)))
 
 system_windows_memory_means : Means put_system_windows_memory no_system_windows_memory system_windows_memory
 unfolding put_system_windows_memory
@@ -48,13 +52,16 @@ system_windows_memory_means =
 
 system_memory_state_means : Means put_system_memory_state no_system_memory_state system_memory_state
 unfolding put_system_memory_state
-system_memory_state_means = through_means _ _ _ (λ v. refl) (λ w. refl) _ _ (only_nested put_system_windows_memory no_system_windows_memory system_windows_memory system_windows_memory_means 1)
+system_memory_state_means =
+    through_means _ _ _ (λ v. refl) (λ w. refl) _ _
+    (only_nested put_system_windows_memory no_system_windows_memory system_windows_memory system_windows_memory_means 1)
 
 report_means : Means put_report no_report report
 unfolding put_report
 report_means =
     through_means _ _ _ (λ v. refl) (λ w. refl) _ _
-    (beside 2 _ _ _ _ _ _ (only_repeated put_process_state no_process_state process_state process_state_means 2) (only_nested put_system_memory_state no_system_memory_state system_memory_state system_memory_state_means 7))
+    (beside 2 _ _ _ _ _ _ (only_repeated put_process_state no_process_state process_state process_state_means 2)
+    (only_nested put_system_memory_state no_system_memory_state system_memory_state system_memory_state_means 7))
 
 report_by : (fields : Option (List Field)) → merged_fields put_report fields no_report ≡ option_and_then report fields
 report_by None = refl

@@ -17,8 +17,10 @@ module _ {X : Type 0} (change : Payload → X → Option X) where
   changes [] x = Some x
   changes (p ∷ ps) x = option_and_then (changes ps) (change p x)
 
-  only_by : (number : ℕ) (f : Field) (fs : List Field) (x : X) (t : Bool) → (f.number == number) ≡ t → ((y : X) → puts (only number change) fs y ≡ changes (payloads number fs) y)
-      → option_and_then (puts (only number change) fs) (if t then change f.payload x else Some x) ≡ changes (if t then f.payload ∷ payloads number fs else payloads number fs) x
+  only_by : (number : ℕ) (f : Field) (fs : List Field) (x : X) (t : Bool) → (f.number == number) ≡ t
+      → ((y : X) → puts (only number change) fs y ≡ changes (payloads number fs) y)
+      → option_and_then (puts (only number change) fs) (if t then change f.payload x else Some x)
+      ≡ changes (if t then f.payload ∷ payloads number fs else payloads number fs) x
   only_by number f fs x true t more = go (change f.payload x)
     where
       go : (r : Option X) → option_and_then (puts (only number change) fs) r ≡ option_and_then (changes (payloads number fs)) r
@@ -39,7 +41,8 @@ none_left g (Some x) = left (g x)
     left None = refl
     left (Some y) = refl
 
-both_then : {A B : Type 0} (k : A × B → Option (A × B)) (g : A → Option A) (h : B → Option B) (a : Option A) (b : Option B) → ((x : A) (w : B) → k (x, w) ≡ both (g x) (h w))
+both_then : {A B : Type 0} (k : A × B → Option (A × B)) (g : A → Option A) (h : B → Option B) (a : Option A) (b : Option B)
+    → ((x : A) (w : B) → k (x, w) ≡ both (g x) (h w))
     → option_and_then k (both a b) ≡ both (option_and_then g a) (option_and_then h b)
 both_then k g h None b each = refl
 both_then k g h (Some x) None each = sym (none_left g (Some x))
@@ -55,27 +58,32 @@ module _ {X W : Type 0} (number : ℕ) (change : Payload → X → Option X) (re
       → Means (row number change rest) (x, w) (λ fs. both (one fs) (more fs))
   beside x w one more h k = λ fs. row_is fs x w ∙ rw (h fs, k fs) refl
 
-module _ {V W : Type 0} (seen : V → W) (made : W → V) (put : Field → W → Option W) (same : (v : V) → made (seen v) ≡ v) (back : (w : W) → seen (made w) ≡ w) where
-  through_by : (fs : List Field) (r : Option W) → ((v : V) → puts (through seen made put) fs v ≡ option_map made (puts put fs (seen v)))
-      → option_and_then (puts (through seen made put) fs) (option_map made r) ≡ option_map made (option_and_then (puts put fs) r)
+module _ {V W : Type 0} (tuple_of : V → W) (of_tuple : W → V) (put : Field → W → Option W) (same : (v : V) → of_tuple (tuple_of v) ≡ v)
+    (back : (w : W) → tuple_of (of_tuple w) ≡ w) where
+  through_by : (fs : List Field) (r : Option W) → ((v : V) → puts (through tuple_of of_tuple put) fs v ≡ option_map of_tuple (puts put fs (tuple_of v)))
+      → option_and_then (puts (through tuple_of of_tuple put) fs) (option_map of_tuple r) ≡ option_map of_tuple (option_and_then (puts put fs) r)
   through_by fs None more = refl
-  through_by fs (Some w) more = more (made w) ∙ ap (λ u. option_map made (puts put fs u)) (back w)
+  through_by fs (Some w) more = more (of_tuple w) ∙ ap (λ u. option_map of_tuple (puts put fs u)) (back w)
 
-  pub through_is : (fs : List Field) (v : V) → puts (through seen made put) fs v ≡ option_map made (puts put fs (seen v))
+  pub through_is : (fs : List Field) (v : V) → puts (through tuple_of of_tuple put) fs v ≡ option_map of_tuple (puts put fs (tuple_of v))
   through_is [] v = ap Some (sym (same v))
-  through_is (f ∷ fs) v = through_by fs (put f (seen v)) (λ u. through_is fs u)
+  through_is (f ∷ fs) v = through_by fs (put f (tuple_of v)) (λ u. through_is fs u)
 
-  pub through_means : (v : V) (meaning : List Field → Option W) → Means put (seen v) meaning → Means (through seen made put) v (λ fs. option_map made (meaning fs))
-  through_means v meaning h = λ fs. through_is fs v ∙ ap (option_map made) (h fs)
+  pub through_means : (v : V) (meaning : List Field → Option W) → Means put (tuple_of v) meaning
+      → Means (through tuple_of of_tuple put) v (λ fs. option_map of_tuple (meaning fs))
+  through_means v meaning h = λ fs. through_is fs v ∙ ap (option_map of_tuple) (h fs)
 
 -- ---- scalars
 module _ {N : Type 0} (value : Payload → Option N) where
-  later : (n : N) (x : Option N) (o : Option (List N)) → option_map (λ ns. last_of ns (Some n)) o ≡ option_map (λ ns. last_of ns x) (option_map (λ ns. n ∷ ns) o)
+  later : (n : N) (x : Option N) (o : Option (List N))
+      → option_map (λ ns. last_of ns (Some n)) o ≡ option_map (λ ns. last_of ns x) (option_map (λ ns. n ∷ ns) o)
   later n x None = refl
   later n x (Some ns) = refl
 
-  scalar_by : (ps : List Payload) (x : Option N) (v : Option N) → ((y : Option N) → changes (scalar_row value) ps y ≡ option_map (λ ns. last_of ns y) (each value ps))
-      → option_and_then (changes (scalar_row value) ps) (option_map Some v) ≡ option_map (λ ns. last_of ns x) (option_and_then (λ n. option_map (λ ns. n ∷ ns) (each value ps)) v)
+  scalar_by : (ps : List Payload) (x : Option N) (v : Option N)
+      → ((y : Option N) → changes (scalar_row value) ps y ≡ option_map (λ ns. last_of ns y) (each value ps))
+      → option_and_then (changes (scalar_row value) ps) (option_map Some v)
+      ≡ option_map (λ ns. last_of ns x) (option_and_then (λ n. option_map (λ ns. n ∷ ns) (each value ps)) v)
   scalar_by ps x None more = refl
   scalar_by ps x (Some n) more = more (Some n) ∙ later n x (each value ps)
 
@@ -106,16 +114,19 @@ module _ {M : Type 0} (put : Field → M → Option M) (empty : M) where
   nested_none fs m None is = refl
   nested_none fs m (Some all) is = puts-append put fs (joined all) m ∙ rw is refl
 
-  nested_some : (fs : List Field) (m n : M) (fss : Option (List (List Field))) → puts put fs m ≡ Some n → all_in (option_map (λ all. fs ∷ all) fss) m ≡ all_in fss n
+  nested_some : (fs : List Field) (m n : M) (fss : Option (List (List Field))) → puts put fs m ≡ Some n
+      → all_in (option_map (λ all. fs ∷ all) fss) m ≡ all_in fss n
   nested_some fs m n None is = refl
   nested_some fs m n (Some all) is = puts-append put fs (joined all) m ∙ rw is refl
 
-  nested_made : (ps : List Payload) (fs : List Field) (m : M) (r : Option M) → puts put fs m ≡ r → ((n : M) → changes (one_nested put empty) ps (Some n) ≡ option_map Some (all_in (each message_in ps) n))
+  nested_made : (ps : List Payload) (fs : List Field) (m : M) (r : Option M) → puts put fs m ≡ r
+      → ((n : M) → changes (one_nested put empty) ps (Some n) ≡ option_map Some (all_in (each message_in ps) n))
       → option_and_then (changes (one_nested put empty) ps) (option_map Some r) ≡ option_map Some (all_in (option_map (λ all. fs ∷ all) (each message_in ps)) m)
   nested_made ps fs m None is more = rw (nested_none fs m (each message_in ps) is) refl
   nested_made ps fs m (Some n) is more = more n ∙ ap (option_map Some) (sym (nested_some fs m n (each message_in ps) is))
 
-  nested_by : (ps : List Payload) (m : M) (fields : Option (List Field)) → ((n : M) → changes (one_nested put empty) ps (Some n) ≡ option_map Some (all_in (each message_in ps) n))
+  nested_by : (ps : List Payload) (m : M) (fields : Option (List Field))
+      → ((n : M) → changes (one_nested put empty) ps (Some n) ≡ option_map Some (all_in (each message_in ps) n))
       → option_and_then (changes (one_nested put empty) ps) (option_map Some (merged_fields put fields m))
       ≡ option_map Some (all_in (option_and_then (λ fs. option_map (λ all. fs ∷ all) (each message_in ps)) fields) m)
   nested_by ps m None more = refl
@@ -126,11 +137,13 @@ module _ {M : Type 0} (put : Field → M → Option M) (empty : M) where
   nested_on (p ∷ ps) m = nested_by ps m (message_in p) (λ n. nested_on ps n)
 
   module _ (message : List Field → Option M) (means : Means put empty message) where
-    first_by : (fs : List Field) (fss : Option (List (List Field))) → option_map Some (all_in (option_map (λ all. fs ∷ all) fss) empty) ≡ option_and_then (merged message) (option_map (λ all. fs ∷ all) fss)
+    first_by : (fs : List Field) (fss : Option (List (List Field)))
+        → option_map Some (all_in (option_map (λ all. fs ∷ all) fss) empty) ≡ option_and_then (merged message) (option_map (λ all. fs ∷ all) fss)
     first_by fs None = refl
     first_by fs (Some all) = ap (option_map Some) (means (joined (fs ∷ all)))
 
-    first : (fields : Option (List Field)) (fss : Option (List (List Field))) → option_map Some (all_in (option_and_then (λ fs. option_map (λ all. fs ∷ all) fss) fields) empty)
+    first : (fields : Option (List Field)) (fss : Option (List (List Field)))
+        → option_map Some (all_in (option_and_then (λ fs. option_map (λ all. fs ∷ all) fss) fields) empty)
         ≡ option_and_then (merged message) (option_and_then (λ fs. option_map (λ all. fs ∷ all) fss) fields)
     first None fss = refl
     first (Some fs) fss = first_by fs fss
@@ -150,7 +163,8 @@ module _ {M : Type 0} (put : Field → M → Option M) (empty : M) where
     no_message fs None is = refl
     no_message fs (Some all) is = rw is refl
 
-    more_by : (m : M) (xs : List M) (o : Option (List M)) → option_map (λ ys. (xs ++ m ∷ []) ++ ys) o ≡ option_map (λ ys. xs ++ ys) (option_map (λ ys. m ∷ ys) o)
+    more_by : (m : M) (xs : List M) (o : Option (List M))
+        → option_map (λ ys. (xs ++ m ∷ []) ++ ys) o ≡ option_map (λ ys. xs ++ ys) (option_map (λ ys. m ∷ ys) o)
     more_by m xs None = refl
     more_by m xs (Some ys) = ap Some (append_assoc xs (m ∷ []) ys)
 
@@ -159,12 +173,15 @@ module _ {M : Type 0} (put : Field → M → Option M) (empty : M) where
     one_message fs m xs None is = refl
     one_message fs m xs (Some all) is = rw is (more_by m xs (each message all))
 
-    repeated_made : (ps : List Payload) (fs : List Field) (xs : List M) (r : Option M) → message fs ≡ r → ((ys : List M) → changes (one_repeated put empty) ps ys ≡ option_map (λ zs. ys ++ zs) (all_of (each message_in ps)))
-        → option_and_then (changes (one_repeated put empty) ps) (option_map (λ m. xs ++ m ∷ []) r) ≡ option_map (λ ys. xs ++ ys) (all_of (option_map (λ all. fs ∷ all) (each message_in ps)))
+    repeated_made : (ps : List Payload) (fs : List Field) (xs : List M) (r : Option M) → message fs ≡ r
+        → ((ys : List M) → changes (one_repeated put empty) ps ys ≡ option_map (λ zs. ys ++ zs) (all_of (each message_in ps)))
+        → option_and_then (changes (one_repeated put empty) ps) (option_map (λ m. xs ++ m ∷ []) r)
+        ≡ option_map (λ ys. xs ++ ys) (all_of (option_map (λ all. fs ∷ all) (each message_in ps)))
     repeated_made ps fs xs None is more = rw (no_message fs (each message_in ps) is) refl
     repeated_made ps fs xs (Some m) is more = more (xs ++ m ∷ []) ∙ one_message fs m xs (each message_in ps) is
 
-    repeated_by : (ps : List Payload) (xs : List M) (fields : Option (List Field)) → ((ys : List M) → changes (one_repeated put empty) ps ys ≡ option_map (λ zs. ys ++ zs) (all_of (each message_in ps)))
+    repeated_by : (ps : List Payload) (xs : List M) (fields : Option (List Field))
+        → ((ys : List M) → changes (one_repeated put empty) ps ys ≡ option_map (λ zs. ys ++ zs) (all_of (each message_in ps)))
         → option_and_then (changes (one_repeated put empty) ps) (option_map (λ m. xs ++ m ∷ []) (merged_fields put fields empty))
         ≡ option_map (λ ys. xs ++ ys) (all_of (option_and_then (λ fs. option_map (λ all. fs ∷ all) (each message_in ps)) fields))
     repeated_by ps xs None more = refl
@@ -179,4 +196,5 @@ module _ {M : Type 0} (put : Field → M → Option M) (empty : M) where
     as_it_is (Some ys) = refl
 
     pub only_repeated : (number : ℕ) → Means (only number (one_repeated put empty)) [] (repeated message number)
-    only_repeated number = λ fs. only_is (one_repeated put empty) number fs [] ∙ repeated_is (payloads number fs) [] ∙ as_it_is (all_of (each message_in (payloads number fs)))
+    only_repeated number = λ fs.
+        only_is (one_repeated put empty) number fs [] ∙ repeated_is (payloads number fs) [] ∙ as_it_is (all_of (each message_in (payloads number fs)))

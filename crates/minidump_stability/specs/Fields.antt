@@ -4,11 +4,12 @@ use Rattle.std.specs.List.{sum_by}
 use Rattle.std.specs.Option.{option_and_then, option_map}
 use Rattle.minidump_bytes.specs.Wire.{Bytes, Eight, Field, Four, Payload, Varint, field_at}
 
--- each of them, or none
+-- the values of all, or none where one has none
 abbrev pub each : {A B : Type 0} → (A → Option B) → List A → Option (List B)
 each value [] = Some []
 each value (x ∷ xs) = option_and_then (λ y. option_map (λ ys. y ∷ ys) (each value xs)) (value x)
 
+-- two values, or none where one is absent
 abbrev pub both : {A B : Type 0} → Option A → Option B → Option (A × B)
 both a b = option_and_then (λ x. option_map (λ y. (x, y)) b) a
 
@@ -49,6 +50,7 @@ message_in (Eight n) = None
 message_in (Bytes bytes) = fields_in bytes
 message_in (Four n) = None
 
+-- the last of some values, or the old one where there are none
 abbrev pub last_of : {N : Type 0} → List N → Option N → Option N
 last_of [] old = old
 last_of (n ∷ ns) old = last_of ns (Some n)
@@ -57,10 +59,12 @@ last_of (n ∷ ns) old = last_of ns (Some n)
 abbrev pub scalar : {N : Type 0} → (Payload → Option N) → ℕ → List Field → Option (Option N)
 scalar value number fs = option_map (λ ns. last_of ns None) (each value (payloads number fs))
 
+-- the fields of several messages, one after another
 abbrev pub joined : List (List Field) → List Field
 joined [] = []
 joined (fs ∷ more) = fs ++ joined more
 
+-- the message of the fields of some messages, joined; absent where there are none
 abbrev pub merged : {M : Type 0} → (List Field → Option M) → List (List Field) → Option (Option M)
 merged message [] = Some None
 merged message (fs ∷ more) = option_map Some (message (joined (fs ∷ more)))

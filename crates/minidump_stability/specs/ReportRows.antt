@@ -15,11 +15,13 @@ use Rattle.minidump_stability.specs.Rows.{one_nested, one_repeated, only, row, s
 
 -- ProcessState.MemoryState.WindowsMemory
 abbrev pub no_windows_memory : WindowsMemory
-no_windows_memory = record { process_private_usage = None; process_peak_workingset_size = None; process_peak_pagefile_usage = None; process_allocation_attempt = None }
+no_windows_memory =
+    record { process_private_usage = None; process_peak_workingset_size = None; process_peak_pagefile_usage = None; process_allocation_attempt = None }
 
 unfoldable pub put_windows_memory : Field → WindowsMemory → Option WindowsMemory
 put_windows_memory =
-    through (λ m. (m.process_private_usage, (m.process_peak_workingset_size, (m.process_peak_pagefile_usage, m.process_allocation_attempt)))) (λ v. record { process_private_usage = v.0; process_peak_workingset_size = v.1.0; process_peak_pagefile_usage = v.1.1.0; process_allocation_attempt = v.1.1.1 })
+    through (λ m. (m.process_private_usage, (m.process_peak_workingset_size, (m.process_peak_pagefile_usage, m.process_allocation_attempt))))
+    (λ v. record { process_private_usage = v.0; process_peak_workingset_size = v.1.0; process_peak_pagefile_usage = v.1.1.0; process_allocation_attempt = v.1.1.1 })
     (row 1 (scalar_row uint32_in) (row 2 (scalar_row uint32_in) (row 3 (scalar_row uint32_in) (only 4 (scalar_row uint32_in)))))
 
 -- ProcessState.MemoryState
@@ -73,7 +75,8 @@ no_system_windows_memory = record { system_commit_limit = None; system_commit_re
 
 unfoldable pub put_system_windows_memory : Field → system.WindowsMemory → Option system.WindowsMemory
 put_system_windows_memory =
-    through (λ m. (m.system_commit_limit, (m.system_commit_remaining, m.system_handle_count))) (λ v. record { system_commit_limit = v.0; system_commit_remaining = v.1.0; system_handle_count = v.1.1 })
+    through (λ m. (m.system_commit_limit, (m.system_commit_remaining, m.system_handle_count)))
+    (λ v. record { system_commit_limit = v.0; system_commit_remaining = v.1.0; system_handle_count = v.1.1 })
     (row 1 (scalar_row uint32_in) (row 2 (scalar_row uint32_in) (only 3 (scalar_row uint32_in))))
 
 -- SystemMemoryState

@@ -1,4 +1,4 @@
--- What one field more makes of a message, by a table of its fields.
+-- How a message changes when a field is added to it, by a table of its fields.
 use Rattle.std.specs.Prelude.{ℕ, List, [], ◌∷◌, ◌++◌, ◌==◌, Option, Some, unwrap_or, if◌then◌else◌}
 use Rattle.std.specs.Option.{option_and_then, option_map}
 use Rattle.minidump_bytes.specs.Wire.{Field, Payload}
@@ -10,11 +10,11 @@ module _ {V : Type 0} (put : Field → V → Option V) where
   puts [] v = Some v
   puts (f ∷ fs) v = option_and_then (puts fs) (put f v)
 
--- a message with these fields, where there are fields
+-- a message with these fields added; none where there are no such fields
 abbrev pub merged_fields : {V : Type 0} → (Field → V → Option V) → Option (List Field) → V → Option V
 merged_fields put fields v = option_and_then (λ fs. puts put fs v) fields
 
--- a message with the fields that bytes spell
+-- a message with the fields added that bytes spell
 abbrev pub merged_bytes : {V : Type 0} → (Field → V → Option V) → List ℕ → V → Option V
 merged_bytes put bytes v = merged_fields put (fields_in bytes) v
 
@@ -43,6 +43,6 @@ one_nested put empty p old = option_map Some (merged_fields put (message_in p) (
 abbrev pub one_repeated : {M : Type 0} → (Field → M → Option M) → M → Payload → List M → Option (List M)
 one_repeated put empty p old = option_map (λ m. old ++ m ∷ []) (merged_fields put (message_in p) empty)
 
--- a table of rows on values that are seen as its places
+-- a table on a message whose fields are read as a tuple, and are put back from it
 abbrev pub through : {V W : Type 0} → (V → W) → (W → V) → (Field → W → Option W) → Field → V → Option V
-through seen made put f v = option_map made (put f (seen v))
+through tuple_of of_tuple put f v = option_map of_tuple (put f (tuple_of v))

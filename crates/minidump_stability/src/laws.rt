@@ -16,8 +16,8 @@ pub fn fields_are_what_bytes_spell()
     ensures { (bytes : List ℕ) (fs : List Field) → (fields_in bytes ≡ Some fs) ↔ SpellsFields bytes fs }
 {}
 
-/// A stream holds a report exactly where it spells fields that mean this report. Any other is refused by
-/// `DataError`.
+/// A stream holds a report exactly if it encodes fields that mean this report. Any other stream is refused
+/// with `DataError`.
 pub fn report_is_what_its_fields_mean()
     ensures { (bytes : List ℕ) → MatchResult (stability_report_in bytes)
         (λ r. (fs : List Field) × SpellsFields bytes fs × (report fs ≡ Some r))
@@ -31,12 +31,12 @@ pub fn report_depends_on_its_stream_alone()
         ≡ ⟦<StabilityReport as MinidumpStream<'static>>⟧.spec.meaning another other bytes t }
 {}
 
-/// A state of a process equals the same state alone, and a clone of it is the same state.
+/// States of a process are equal exactly if they are the same, and a clone is the same state.
 pub fn process_states_compare_and_copy_exactly()
     ensures { IsExact ⟦<ProcessState as PartialEq>⟧.eq ⟦<ProcessState as Clone>⟧.is_clone }
 {}
 
-/// Reports are equal where they hold the same.
+/// Reports are equal exactly if they hold the same states.
 pub fn reports_compare_by_what_they_hold()
     ensures { (x y : StabilityReport) → IsTrue (⟦<StabilityReport as PartialEq>⟧.eq x y) ↔ (stability_report_of x ≡ stability_report_of y) }
 {}

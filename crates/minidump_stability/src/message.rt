@@ -17,7 +17,7 @@ pub trait Message: Sized {
 
     ghost value: { Self → Value };
 
-    // the message of no fields
+    // the message without fields
     ghost empty: { Value };
 
     // the message with one field more
@@ -26,12 +26,12 @@ pub trait Message: Sized {
     // how many fields are inside one of its fields
     ghost inside: { Field → ℕ };
 
-    /// The message of no fields.
+    /// Makes the message without fields.
     fn none(alloc: Global) -> Self
         ensures { value result ≡ empty };
 
-    /// The message with one field more. `DataError` where it is a known field of another type, or holds a
-    /// message that can't be read.
+    /// Adds a field to the message. Returns `DataError` if the field is known and has another type, or if it
+    /// holds a message that can't be read.
     fn put(self, alloc: Global, field: WireField<'_>, steps: &mut Steps) -> Result<Self, Error>
         ensures means { Gives value ⊤ result (ok_or (put (field_of field.entry) (value self)) DataError) }
         ensures within { steps.new ≤ steps.old + room (payload_of field.entry.value) }
@@ -39,7 +39,8 @@ pub trait Message: Sized {
         ensures counted { IfOk result (λ _. steps.new ≡ after steps.old (inside (field_of field.entry))) };
 }
 
-/// The message with the fields that bytes spell. `DataError` where they spell none.
+/// Adds the fields that the bytes encode to the message `old`. Returns `DataError` if they don't encode
+/// fields, or a field can't be added.
 pub fn merge<M: Message + Drop>(
     alloc: Global,
     old: M,
@@ -64,7 +65,7 @@ pub fn merge<M: Message + Drop>(
     Ok(message)
 }
 
-/// The nested message with those of a field's payload.
+/// Adds the fields in the payload of a field to the nested message that it holds, which is empty at first.
 pub fn nested<M: Message + Drop>(
     alloc: Global,
     old: Option<M>,
@@ -87,7 +88,7 @@ pub fn nested<M: Message + Drop>(
     Ok(Some(merge(alloc, old, bytes, steps)?))
 }
 
-/// The low 32 bits of a field's number.
+/// Returns the low 32 bits of a varint. Returns `DataError` if the value is no varint.
 pub fn uint32(value: WireValue<'_>) -> Result<Option<u32>, Error>
     ensures { result ≡ ok_or (one_scalar uint32_in (payload_of value.entry)) DataError }
 {
@@ -97,7 +98,7 @@ pub fn uint32(value: WireValue<'_>) -> Result<Option<u32>, Error>
     }
 }
 
-/// A field's number, in two's complement.
+/// Returns a varint as a number in two's complement. Returns `DataError` if the value is no varint.
 pub fn int64(value: WireValue<'_>) -> Result<Option<i64>, Error>
     ensures { result ≡ ok_or (one_scalar int64_in (payload_of value.entry)) DataError }
 {

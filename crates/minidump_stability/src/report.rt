@@ -112,7 +112,7 @@ pub struct StabilityReport {
 }
 
 impl StabilityReport {
-    /// The report without anything in it. It takes no memory.
+    /// Makes an empty report. Takes no memory.
     pub fn new(alloc: Global) -> StabilityReport
         ensures { stability_report_of result ≡ no_report }
     {
@@ -122,7 +122,7 @@ impl StabilityReport {
         }
     }
 
-    /// The same report.
+    /// Copies the report.
     pub fn try_clone(&self, alloc: Global) -> Result<StabilityReport, Error>
         ensures report { IfOk result (λ copy. stability_report_of copy ≡ stability_report_of self.now) }
         ensures memory { IsOkUnless result Error.OutOfMemory }

@@ -9,11 +9,11 @@ use std::alloc::Global;
 /// The memory of a process on Windows.
 #[derive(Clone, Copy, PartialEq, Eq)]
 pub struct WindowsMemory {
-    /// The private bytes of the process.
+    /// How many private bytes the process has.
     pub process_private_usage: Option<u32>,
-    /// The largest size of its working set.
+    /// The largest size of the working set of the process.
     pub process_peak_workingset_size: Option<u32>,
-    /// The most that it used of the page file.
+    /// The most that the process used of the page file.
     pub process_peak_pagefile_usage: Option<u32>,
     /// The size of the allocation that failed.
     pub process_allocation_attempt: Option<u32>,

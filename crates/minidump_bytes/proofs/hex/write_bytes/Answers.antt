@@ -12,7 +12,8 @@ returns-in_err-put-clause-puts g c =
     let i = c.loop-byte.byte-index in
     let put = rw (c.digit.ensures, c.digit-in-loop-byte.ensures) at c.in_err-put.ensures.puts in
     rw p.1 (
-      begins_on g.W.Write.contents c.args.f.now c.loop-byte.f c.put.new.self (bytes_hex (take i bytes)) (bytes_hex (get_or bytes i 0 ∷ [])) (bytes_hex (drop (i + 1) bytes)) (bytes_hex bytes)
+      begins_on g.W.Write.contents c.args.f.now c.loop-byte.f c.put.new.self (bytes_hex (take i bytes)) (bytes_hex (get_or bytes i 0 ∷ []))
+          (bytes_hex (drop (i + 1) bytes)) (bytes_hex bytes)
           (digits_at bytes i c.loop-byte-test.true) c.loop-byte.invariant.grown put.0,
       put.1,
     )

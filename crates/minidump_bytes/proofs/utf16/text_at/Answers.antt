@@ -16,7 +16,8 @@ pub returns : goal.returns
 returns c =
     let units = units_at c.args.endian c.args.place c.args.count c.args.bytes.now in
     let len = length-entries (number_layout 2) c.args.endian c.args.bytes.now c.args.place c.args.count in
-    text_done units _ (string_bytes c.loop-at.text) (no_units units c.loop-at.at (rw len (omega (arith, c.loop-at-test.false)))) c.loop-at.invariant.made c.loop-at.invariant.paired
+    text_done units _ (string_bytes c.loop-at.text)
+    (no_units units c.loop-at.at (rw len (omega (arith, c.loop-at-test.false)))) c.loop-at.invariant.made c.loop-at.invariant.paired
 
 pub returns-in_default : goal.returns-in_default
 returns-in_default c =

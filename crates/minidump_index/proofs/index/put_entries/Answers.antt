@@ -22,7 +22,8 @@ offset_bounds-entries-rank c =
     let few : length c.args.tree.now.items < 2 ^ 63 = search rules in
     let len : c.len-len.result ≡ length c.args.entries.now = search rules in
     let total = total_of _ _ _ c.full-total.ensures len in
-    let r = ranks_at (length c.args.entries.now) c.full-total.result c.loop-k.k total (omega (arith, few, c.requires)) c.loop-k.invariant.starts c.loop-k-test.true in
+    let r = ranks_at (length c.args.entries.now) c.full-total.result c.loop-k.k total
+    (omega (arith, few, c.requires)) c.loop-k.invariant.starts c.loop-k-test.true in
     let one = r.has (omega (arith, c.if-place-len.true, c.place_at-place.ensures, len)) in
     omega (arith, one.1, c.loop-k.invariant.rank)
 
@@ -31,7 +32,8 @@ bounds-entries-rank c =
     let few : length c.args.tree.now.items < 2 ^ 63 = search rules in
     let len : c.len-len.result ≡ length c.args.entries.now = search rules in
     let total = total_of _ _ _ c.full-total.ensures len in
-    let r = ranks_at (length c.args.entries.now) c.full-total.result c.loop-k.k total (omega (arith, few, c.requires)) c.loop-k.invariant.starts c.loop-k-test.true in
+    let r = ranks_at (length c.args.entries.now) c.full-total.result c.loop-k.k total
+    (omega (arith, few, c.requires)) c.loop-k.invariant.starts c.loop-k-test.true in
     let one = r.has (omega (arith, c.if-place-len.true, c.place_at-place.ensures, len)) in
     omega (arith, one.1, c.loop-k.invariant.rank)
 
@@ -42,7 +44,8 @@ loop-k-preserved c =
     let len : c.len-len.result ≡ length c.args.entries.now = search rules in
     let total = total_of _ _ _ c.full-total.ensures len in
     let r = ranks_at (length c.args.entries.now) c.full-total.result c.loop-k.k total small c.loop-k.invariant.starts c.loop-k-test.true in
-    let next : rank_at c.full-total.result (length c.args.entries.now) (suc c.loop-k.k) ≡ rank_at c.full-total.result (length c.args.entries.now) (c.loop-k.k + 1) = ap (rank_at c.full-total.result (length c.args.entries.now)) (omega arith) in
+    let next : rank_at c.full-total.result (length c.args.entries.now) (suc c.loop-k.k) ≡ rank_at c.full-total.result (length c.args.entries.now)
+    (c.loop-k.k + 1) = ap (rank_at c.full-total.result (length c.args.entries.now)) (omega arith) in
     elim c.if-place-len.branch [
       | then-place-len w ↦ (let e = w.index-entries-rank.result in
           let one = r.has (omega (arith, w.if-place-len.true, c.place_at-place.ensures, len)) in

@@ -25,7 +25,8 @@ offset_bounds-regions-rank g c =
     let own : c.len-len.result ≡ length c.args.tree.now.items = search rules in
     let long = length-map c.args.regions.now range in
     let len : c.len-len.result ≡ length (map range c.args.regions.now) = omega (arith, own, c.requires, long) in
-    let within = put_within (map range c.args.regions.now) _ _ _ _ _ _ (total_of _ _ _ c.full-total.ensures len) (omega (arith, few, c.requires, long)) c.loop-k.invariant c.loop-k-test.true c.place_at-place.ensures (omega (arith, c.if-place-len.true, len)) in
+    let within = put_within (map range c.args.regions.now) _ _ _ _ _ _ (total_of _ _ _ c.full-total.ensures len)
+    (omega (arith, few, c.requires, long)) c.loop-k.invariant c.loop-k-test.true c.place_at-place.ensures (omega (arith, c.if-place-len.true, len)) in
     omega (arith, within, long)
 
 pub bounds-regions-rank : goal.bounds-regions-rank
@@ -35,7 +36,8 @@ bounds-regions-rank g c =
     let own : c.len-len.result ≡ length c.args.tree.now.items = search rules in
     let long = length-map c.args.regions.now range in
     let len : c.len-len.result ≡ length (map range c.args.regions.now) = omega (arith, own, c.requires, long) in
-    let within = put_within (map range c.args.regions.now) _ _ _ _ _ _ (total_of _ _ _ c.full-total.ensures len) (omega (arith, few, c.requires, long)) c.loop-k.invariant c.loop-k-test.true c.place_at-place.ensures (omega (arith, c.if-place-len.true, len)) in
+    let within = put_within (map range c.args.regions.now) _ _ _ _ _ _ (total_of _ _ _ c.full-total.ensures len)
+    (omega (arith, few, c.requires, long)) c.loop-k.invariant c.loop-k-test.true c.place_at-place.ensures (omega (arith, c.if-place-len.true, len)) in
     omega (arith, within, long)
 
 pub loop-k-preserved : goal.loop-k-preserved
@@ -52,14 +54,17 @@ loop-k-preserved g c =
       | then-place-len+in-Some+else-rank-gt0 w ↦
           (let inside : c.place_at-place.result < length (map range c.args.regions.now) = omega (arith, w.if-place-len.true, len) in
           let within = put_within ranges _ _ _ _ _ _ total small c.loop-k.invariant c.loop-k-test.true c.place_at-place.ensures inside in
-          let here = has_region range c.args.regions.now c.loop-k.rank _ w.memory_range.result _ (omega (arith, within, long)) w.index-regions-rank.is w.memory_range.ensures w.in-Some.is in
-          rw (w.tree-is, w.rank-is, w.end-is) (put_one ranges _ _ _ _ _ _ total small c.loop-k.invariant c.loop-k-test.true c.place_at-place.ensures _ _ _ inside here
+          let here = has_region range c.args.regions.now c.loop-k.rank _ w.memory_range.result _
+          (omega (arith, within, long)) w.index-regions-rank.is w.memory_range.ensures w.in-Some.is in
+          rw (w.tree-is, w.rank-is, w.end-is)
+          (put_one ranges _ _ _ _ _ _ total small c.loop-k.invariant c.loop-k-test.true c.place_at-place.ensures _ _ _ inside here
           (elim w.else-rank-gt0.branch [
             | else-rank-gt0-via-then-rank-gt0+else-range-end v ↦ (λ h. omega (arith, v.if-range-end.false))
             | else-rank-gt0-via-else-rank-gt0 v ↦ (λ h. absurd (omega (arith, h, v.if-rank-gt0.false)))
           ]) refl refl))
       | else-place-len w ↦ rw (w.tree-is, w.rank-is, w.end-is)
-          (put_skip ranges _ _ _ _ _ _ total small c.loop-k.invariant c.loop-k-test.true c.place_at-place.ensures _ (omega (arith, w.if-place-len.false, len)) refl)
+          (put_skip ranges _ _ _ _ _ _ total small c.loop-k.invariant c.loop-k-test.true c.place_at-place.ensures _
+          (omega (arith, w.if-place-len.false, len)) refl)
     ]
 
 pub returns-clause-all : goal.returns-clause-all

@@ -27,9 +27,11 @@ returns-in_err-field-clause-means g c =
 pub returns-in_err-message-clause-means : goal.returns-in_err-message-clause-means
 returns-in_err-message-clause-means g c =
     let size : length (bytes_of c.new-source.result) ≡ length c.args.bytes.now = ap length c.new-source.ensures in
-    let is : field_at c.loop-place.place c.args.bytes.now ≡ Some (field_of c.in_ok-field.field, c.in_ok-field.next) = some_seen _ c.wire_field.result _ (c.in_ok-field.field, c.in_ok-field.next) (rw c.new-source.ensures at c.wire_field.ensures.value) c.in_ok-field.ensures.ok_part in
+    let is : field_at c.loop-place.place c.args.bytes.now ≡ Some (field_of c.in_ok-field.field, c.in_ok-field.next) = some_seen _ c.wire_field.result _
+    (c.in_ok-field.field, c.in_ok-field.next) (rw c.new-source.ensures at c.wire_field.ensures.value) c.in_ok-field.ensures.ok_part in
     gives_refused _ _ _ _ _ c.from_residual-in_err-message.ensures.1 c.in_err-message.ensures.means
-    (λ h. merging_refused g.M.Message.put _ c.args.bytes.now c.loop-place.place c.in_ok-field.next (field_of c.in_ok-field.field) _ (omega (arith, size)) is h c.loop-place.invariant.merging)
+    (λ h. merging_refused g.M.Message.put _ c.args.bytes.now c.loop-place.place c.in_ok-field.next (field_of c.in_ok-field.field) _
+    (omega (arith, size)) is h c.loop-place.invariant.merging)
 
 pub returns-in_err-field-clause-memory : goal.returns-in_err-field-clause-memory
 returns-in_err-field-clause-memory g c =
@@ -38,21 +40,25 @@ returns-in_err-field-clause-memory g c =
 
 pub returns-in_err-message-clause-memory : goal.returns-in_err-message-clause-memory
 returns-in_err-message-clause-memory g c =
-    let is : field_at c.loop-place.place c.args.bytes.now ≡ Some (field_of c.in_ok-field.field, c.in_ok-field.next) = some_seen _ c.wire_field.result _ (c.in_ok-field.field, c.in_ok-field.next) (rw c.new-source.ensures at c.wire_field.ensures.value) c.in_ok-field.ensures.ok_part in
+    let is : field_at c.loop-place.place c.args.bytes.now ≡ Some (field_of c.in_ok-field.field, c.in_ok-field.next) = some_seen _ c.wire_field.result _
+    (c.in_ok-field.field, c.in_ok-field.next) (rw c.new-source.ensures at c.wire_field.ensures.value) c.in_ok-field.ensures.ok_part in
     memory_held _ _ (first_there (λ p. field_at p c.args.bytes.now) c.loop-place.place _ is c.loop-place.invariant.first)
 
 pub loop-place-preserved : goal.loop-place-preserved
 loop-place-preserved g c =
-    let is : field_at c.loop-place.place c.args.bytes.now ≡ Some (field_of c.in_ok-field.field, c.in_ok-field.next) = some_seen _ c.wire_field.result _ (c.in_ok-field.field, c.in_ok-field.next) (rw c.new-source.ensures at c.wire_field.ensures.value) c.in_ok-field.ensures.ok_part in
+    let is : field_at c.loop-place.place c.args.bytes.now ≡ Some (field_of c.in_ok-field.field, c.in_ok-field.next) = some_seen _ c.wire_field.result _
+    (c.in_ok-field.field, c.in_ok-field.next) (rw c.new-source.ensures at c.wire_field.ensures.value) c.in_ok-field.ensures.ok_part in
     let inside = rw (c.new-source.ensures, c.in_ok-field.ensures.ok_part) at c.wire_field.ensures.inside in
     record {
-      merging = merging_more g.M.Message.put _ c.args.bytes.now c.loop-place.place c.in_ok-field.next (field_of c.in_ok-field.field) _ _ (omega (arith, inside.0)) inside.1 is (is_there _ _ _ c.in_ok-message.ensures.means) c.loop-place.invariant.merging;
+      merging = merging_more g.M.Message.put _ c.args.bytes.now c.loop-place.place c.in_ok-field.next (field_of c.in_ok-field.field) _ _
+          (omega (arith, inside.0)) inside.1 is (is_there _ _ _ c.in_ok-message.ensures.means) c.loop-place.invariant.merging;
       within = omega (arith, inside.0, c.put.ensures.within, c.wire_field.ensures.step, c.loop-place.invariant.within);
       grows = omega (arith, c.put.ensures.grows, c.wire_field.ensures.step, c.loop-place.invariant.grows);
       first = λ h. first_there (λ p. field_at p c.args.bytes.now) c.loop-place.place _ is c.loop-place.invariant.first;
       counted = (
         c.loop-place.invariant.counted.0 + (1 + g.M.Message.inside (field_of c.in_ok-field.field)),
-        counting_more g.M.Message.inside c.args.bytes.now c.loop-place.place c.in_ok-field.next _ (field_of c.in_ok-field.field) (omega (arith, inside.0)) inside.1 is c.loop-place.invariant.counted.1,
+        counting_more g.M.Message.inside c.args.bytes.now c.loop-place.place c.in_ok-field.next _ (field_of c.in_ok-field.field)
+            (omega (arith, inside.0)) inside.1 is c.loop-place.invariant.counted.1,
         omega (arith, c.in_ok-message.ensures.counted, c.wire_field.ensures.step, c.loop-place.invariant.counted.2),
       );
     }
@@ -65,4 +71,5 @@ returns-clause-means g c =
 pub returns-clause-counted : goal.returns-clause-counted
 returns-clause-counted g c =
     let size : length (bytes_of c.new-source.result) ≡ length c.args.bytes.now = ap length c.new-source.ensures in
-    rw (counting_end g.M.Message.inside c.args.bytes.now c.loop-place.place c.loop-place.invariant.counted.0 (omega (arith, size, c.loop-place.invariant.merging.within)) c.loop-place.invariant.counted.1) c.loop-place.invariant.counted.2
+    rw (counting_end g.M.Message.inside c.args.bytes.now c.loop-place.place c.loop-place.invariant.counted.0
+    (omega (arith, size, c.loop-place.invariant.merging.within)) c.loop-place.invariant.counted.1) c.loop-place.invariant.counted.2

@@ -18,7 +18,8 @@ pub returns-clause-steps : goal.returns-clause-steps
 returns-clause-steps c =
     let some = is_more _ (sym c.is_empty.ensures ∙ c.if-is_empty.false) in
     let text = c.trim_front-text.ensures in
-    sym c.self.view_is ∙ words_next c.self.inside.rest.now _ _ _ c.word_len.result text.value text.head some c.word_len.ensures c.split_at.ensures.front c.split_at.ensures.back
+    sym c.self.view_is
+    ∙ words_next c.self.inside.rest.now _ _ _ c.word_len.result text.value text.head some c.word_len.ensures c.split_at.ensures.front c.split_at.ensures.back
 
 pub returns-clause-goes : goal.returns-clause-goes
 returns-clause-goes c =

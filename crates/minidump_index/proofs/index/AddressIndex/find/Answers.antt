@@ -12,21 +12,24 @@ loop-place-init c = record {
 
 pub loop-place-preserved-in-Less : goal.loop-place-preserved-in-Less
 loop-place-preserved-in-Less c = record {
-  descent = descent_left _ _ _ _ _ _ c.index-entry.result.now (omega arith) c.index-entry.ensures c.in-Less.ensures.answer (omega (arith, c.probe.ensures.step)) c.loop-place.invariant.descent;
+  descent = descent_left _ _ _ _ _ _ c.index-entry.result.now (omega arith) c.index-entry.ensures c.in-Less.ensures.answer
+      (omega (arith, c.probe.ensures.step)) c.loop-place.invariant.descent;
   grows = omega (arith, c.loop-place.invariant.grows, c.probe.ensures.step);
   compared = λ _. omega (arith, c.loop-place.invariant.grows, c.probe.ensures.step);
 }
 
 pub loop-place-preserved : goal.loop-place-preserved
 loop-place-preserved c = record {
-  descent = descent_right _ _ _ _ _ _ c.index-entry.result.now (omega arith) c.index-entry.ensures c.in-Greater.ensures.answer.1 (omega (arith, c.probe.ensures.step)) c.loop-place.invariant.descent;
+  descent = descent_right _ _ _ _ _ _ c.index-entry.result.now (omega arith) c.index-entry.ensures c.in-Greater.ensures.answer.1
+      (omega (arith, c.probe.ensures.step)) c.loop-place.invariant.descent;
   grows = omega (arith, c.loop-place.invariant.grows, c.probe.ensures.step);
   compared = λ _. omega (arith, c.loop-place.invariant.grows, c.probe.ensures.step);
 }
 
 pub returns-in-Equal-clause-found : goal.returns-in-Equal-clause-found
 returns-in-Equal-clause-found c =
-    rw (← c.self.view_is) (descent_found _ _ _ _ _ c.index-entry.result.now (omega arith) c.index-entry.ensures c.in-Equal.ensures.answer c.loop-place.invariant.descent)
+    rw (← c.self.view_is) (descent_found _ _ _ _ _ c.index-entry.result.now
+    (omega arith) c.index-entry.ensures c.in-Equal.ensures.answer c.loop-place.invariant.descent)
 
 pub returns-clause-found : goal.returns-clause-found
 returns-clause-found c = rw (← c.self.view_is) (descent_none _ _ _ _ _ (omega arith) c.loop-place.invariant.descent)

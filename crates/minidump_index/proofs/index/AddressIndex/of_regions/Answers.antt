@@ -15,6 +15,7 @@ invariant_of-result g c = elim c.if-not-put_regions.branch [
 
 pub returns-clause-kept : goal.returns-clause-kept
 returns-clause-kept g c = elim c.if-not-put_regions.branch [
-  | then-not-put_regions+in_ok-kept+in_ok-resize w ↦ rw (w.tree-is, w.put_entries.ensures.walk, w.deref.ensures.value) (w.keep_apart.ensures _ w.in_ok-kept.ensures)
+  | then-not-put_regions+in_ok-kept+in_ok-resize w ↦ rw (w.tree-is, w.put_entries.ensures.walk, w.deref.ensures.value)
+      (w.keep_apart.ensures _ w.in_ok-kept.ensures)
   | else-not-put_regions w ↦ rw w.tree-is (c.put_regions.ensures.all (search rules))
 ]

@@ -5,4 +5,6 @@ use Rattle.minidump_stability.proofs.ReportLemmas.{report_is}
 use Rattle.minidump_stability.proofs.report.StabilityReportMinidumpStream.read.Goals as goal
 
 pub returns-clause-means : goal.returns-clause-means
-returns-clause-means c = gives_where _ _ _ _ (rw (← report_is (bytes_of c.args.bytes)) (rw (c.bytes.ensures, c.new.ensures) at c.merge.ensures.means)) (rw c.bytes.ensures at c.merge.ensures.memory)
+returns-clause-means c =
+    gives_where _ _ _ _ (rw (← report_is (bytes_of c.args.bytes)) (rw (c.bytes.ensures, c.new.ensures) at c.merge.ensures.means))
+    (rw c.bytes.ensures at c.merge.ensures.memory)
