@@ -1,7 +1,7 @@
 -- The words of a crash reason: Darwin's kern/exc_resource.h and kern/exc_guard.h for what codes and subcodes hold.
 use Rattle.std.specs.Prelude.{ℕ, ◌==◌, List, [], ◌∷◌, ◌++◌, codes, Option, Some, None, unwrap_or, if◌then◌else◌}
 use Rattle.std.specs.Fmt.{decimal}
-use Rattle.std.specs.List.{concat}
+use Rattle.std.specs.List.{concat, flat_map}
 use Rattle.minidump_bytes.specs.Piece.{wide_hex}
 use Rattle.minidump_reason.specs.declared.family.CodeFamily.{CodeFamily}
 use Rattle.minidump_reason.specs.declared.family.CodeFamily.TheVariants as family
@@ -39,41 +39,32 @@ mac_general_text names c f =
     if c == 0x43507378 then codes "Simulated Exception"
     else concat (name_text names family.Mac c ∷ codes " / " ∷ hex8 f ∷ [])
 
--- RESOURCE_TYPE_CPU
-unfoldable pub cpu_text : ℕ → ℕ → List ℕ
-cpu_text code subcode = concat (
-    codes " interval: " ∷ decimal (bits_of code 7 25) ∷ codes "s CPU limit: " ∷ decimal (bits_of code 0 3)
-    ∷ codes "% CPU consumed: " ∷ decimal (bits_of subcode 0 3) ∷ codes "%" ∷ [])
+-- words, and a number in decimal behind them
+abbrev pub detail : List ℕ × ℕ → List ℕ
+detail d = d.0 ++ decimal d.1
 
--- RESOURCE_TYPE_WAKEUPS
-unfoldable pub wakeups_text : ℕ → ℕ → List ℕ
-wakeups_text code subcode = concat (
-    codes " interval: " ∷ decimal (bits_of code 20 20) ∷ codes "s wakeups permitted: " ∷ decimal (bits_of code 0 12)
-    ∷ codes " wakeups observed: " ∷ decimal (bits_of subcode 0 12) ∷ [])
+-- such details, and the last words
+unfoldable pub details : List (List ℕ × ℕ) → List ℕ → List ℕ
+details numbers last = flat_map detail numbers ++ last
 
--- RESOURCE_TYPE_MEMORY
-unfoldable pub memory_text : ℕ → List ℕ
-memory_text code = concat (codes " high watermark limit: " ∷ decimal (bits_of code 0 13) ∷ codes "MiB" ∷ [])
+-- a limit by the name of its flavor, in bits 58 to 60 of the code, and its details
+abbrev limit : Lists → ℕ → ℕ → CodeFamily → List (List ℕ × ℕ) → List ℕ → List ℕ
+limit names code subcode family numbers last = flavored (name_of names family (bits_of code 58 3)) (details numbers last) code subcode
 
--- RESOURCE_TYPE_IO
-unfoldable pub io_text : ℕ → ℕ → List ℕ
-io_text code subcode = concat (
-    codes " interval: " ∷ decimal (bits_of code 15 17) ∷ codes "s I/O limit: " ∷ decimal (bits_of code 0 15)
-    ∷ codes "% I/O observed: " ∷ decimal (bits_of subcode 0 15) ∷ codes "%" ∷ [])
-
--- RESOURCE_TYPE_THREADS
-unfoldable pub threads_text : ℕ → List ℕ
-threads_text code = concat (codes " high watermark limit: " ∷ decimal (bits_of code 0 15) ∷ [])
-
--- the flavor, in bits 58 to 60 of the code, by the type of the resource: 1 CPU, 2 WAKEUPS, 3 MEMORY, 4 IO, 5 THREADS
+-- a limit by the type of the resource: 1 CPU, 2 WAKEUPS, 3 MEMORY, 4 IO, 5 THREADS
 unfoldable pub resource_flavor : Lists → ℕ → ℕ → ℕ → List ℕ
 resource_flavor names kind code subcode =
-    let flavor = bits_of code 58 3 in
-    if kind == 1 then flavored (name_of names family.MacResourceCpu flavor) (cpu_text code subcode) code subcode else (
-    if kind == 2 then flavored (name_of names family.MacResourceWakeups flavor) (wakeups_text code subcode) code subcode else (
-    if kind == 3 then flavored (name_of names family.MacResourceMemory flavor) (memory_text code) code subcode else (
-    if kind == 4 then flavored (name_of names family.MacResourceIo flavor) (io_text code subcode) code subcode else (
-    if kind == 5 then flavored (name_of names family.MacResourceThreads flavor) (threads_text code) code subcode
+    if kind == 1 then limit names code subcode family.MacResourceCpu (
+    (codes " interval: ", bits_of code 7 25) ∷ (codes "s CPU limit: ", bits_of code 0 3)
+    ∷ (codes "% CPU consumed: ", bits_of subcode 0 3) ∷ []) (codes "%") else (
+    if kind == 2 then limit names code subcode family.MacResourceWakeups (
+    (codes " interval: ", bits_of code 20 20) ∷ (codes "s wakeups permitted: ", bits_of code 0 12)
+    ∷ (codes " wakeups observed: ", bits_of subcode 0 12) ∷ []) [] else (
+    if kind == 3 then limit names code subcode family.MacResourceMemory ((codes " high watermark limit: ", bits_of code 0 13) ∷ []) (codes "MiB") else (
+    if kind == 4 then limit names code subcode family.MacResourceIo (
+    (codes " interval: ", bits_of code 15 17) ∷ (codes "s I/O limit: ", bits_of code 0 15)
+    ∷ (codes "% I/O observed: ", bits_of subcode 0 15) ∷ []) (codes "%") else (
+    if kind == 5 then limit names code subcode family.MacResourceThreads ((codes " high watermark limit: ", bits_of code 0 15) ∷ []) []
     else flavored None [] code subcode))))
 
 -- EXC_RESOURCE
@@ -81,48 +72,23 @@ abbrev pub resource_text : Lists → ℕ → ℕ → ℕ → List ℕ
 resource_text names kind code subcode =
     listed names (codes "EXC_RESOURCE / ") family.MacResource kind ++ (codes " / " ++ resource_flavor names kind code subcode)
 
--- GUARD_TYPE_MACH_PORT with a subcode of 0
-unfoldable pub port_text : ℕ → List ℕ
-port_text code = concat (codes " port name: " ∷ decimal (bits_of code 0 28) ∷ [])
+-- a guard by the name of its flavor, in bits 32 to 60 of the code, and its details
+abbrev pub guard : Lists → ℕ → ℕ → CodeFamily → List (List ℕ × ℕ) → List ℕ
+guard names code subcode family numbers = codes " / " ++ flavored (name_of names family (bits_of code 32 29)) (details numbers []) code subcode
 
--- GUARD_TYPE_MACH_PORT with another subcode
-unfoldable pub port_subcode_text : ℕ → ℕ → List ℕ
-port_subcode_text code subcode = concat (codes " port name: " ∷ decimal (bits_of code 0 28) ∷ codes " subcode: " ∷ decimal subcode ∷ [])
-
--- GUARD_TYPE_FD
-unfoldable pub fd_text : ℕ → ℕ → List ℕ
-fd_text code subcode = concat (codes " file descriptor: " ∷ decimal (bits_of code 0 28) ∷ codes " guard identifier: " ∷ decimal subcode ∷ [])
-
--- GUARD_TYPE_USER, which has no flavor
-unfoldable pub user_text : ℕ → ℕ → List ℕ
-user_text code subcode = concat (codes "/ namespace: " ∷ decimal (bits_of code 0 32) ∷ codes " guard identifier: " ∷ decimal subcode ∷ [])
-
--- GUARD_TYPE_VN
-unfoldable pub vn_text : ℕ → ℕ → List ℕ
-vn_text code subcode = concat (codes " pid: " ∷ decimal (bits_of code 0 28) ∷ codes " guard identifier: " ∷ decimal subcode ∷ [])
-
--- GUARD_TYPE_VIRT_MEMORY
-unfoldable pub offset_text : ℕ → List ℕ
-offset_text subcode = concat (codes " offset: " ∷ decimal subcode ∷ [])
-
--- GUARD_TYPE_REJECTED_SC
-unfoldable pub syscall_text : ℕ → List ℕ
-syscall_text subcode = concat (codes " syscall: " ∷ decimal subcode ∷ [])
-
--- the flavor, in bits 32 to 60 of the code, with its details
-unfoldable pub guard_flavor : Lists → CodeFamily → ℕ → ℕ → List ℕ → List ℕ
-guard_flavor names family code subcode details = codes " / " ++ flavored (name_of names family (bits_of code 32 29)) details code subcode
-
--- by the type of the guard: 0 NONE, 1 MACH_PORT, 2 FD, 3 USER, 4 VN, 5 VIRT_MEMORY, 6 REJECTED_SC
+-- a guard by its type: 0 NONE, 1 MACH_PORT, 2 FD, 3 USER, which has no flavor, 4 VN, 5 VIRT_MEMORY, 6 REJECTED_SC
 unfoldable pub guard_detail : Lists → ℕ → ℕ → ℕ → List ℕ
 guard_detail names kind code subcode =
     if kind == 0 then [] else (
-    if kind == 1 then guard_flavor names family.MacGuardMachPort code subcode (if subcode == 0 then port_text code else port_subcode_text code subcode) else (
-    if kind == 2 then guard_flavor names family.MacGuardFd code subcode (fd_text code subcode) else (
-    if kind == 3 then user_text code subcode else (
-    if kind == 4 then guard_flavor names family.MacGuardVn code subcode (vn_text code subcode) else (
-    if kind == 5 then guard_flavor names family.MacGuardVirtMemory code subcode (offset_text subcode) else (
-    if kind == 6 then guard_flavor names family.MacGuardRejectedSysCall code subcode (syscall_text subcode)
+    if kind == 1 then guard names code subcode family.MacGuardMachPort (
+    (codes " port name: ", bits_of code 0 28) ∷ (if subcode == 0 then [] else (codes " subcode: ", subcode) ∷ [])) else (
+    if kind == 2 then guard names code subcode family.MacGuardFd (
+    (codes " file descriptor: ", bits_of code 0 28) ∷ (codes " guard identifier: ", subcode) ∷ []) else (
+    if kind == 3 then details ((codes "/ namespace: ", bits_of code 0 32) ∷ (codes " guard identifier: ", subcode) ∷ []) [] else (
+    if kind == 4 then guard names code subcode family.MacGuardVn (
+    (codes " pid: ", bits_of code 0 28) ∷ (codes " guard identifier: ", subcode) ∷ []) else (
+    if kind == 5 then guard names code subcode family.MacGuardVirtMemory ((codes " offset: ", subcode) ∷ []) else (
+    if kind == 6 then guard names code subcode family.MacGuardRejectedSysCall ((codes " syscall: ", subcode) ∷ [])
     else codes " / " ++ flavored None [] code subcode))))))
 
 -- EXC_GUARD
