@@ -6,7 +6,7 @@ use Rattle.minidump_bytes.specs.Piece.{wide_hex}
 use Rattle.minidump_reason.specs.declared.family.CodeFamily.{CodeFamily}
 use Rattle.minidump_reason.specs.declared.family.CodeFamily.TheVariants as family
 use Rattle.minidump_reason.specs.declared.reason.CrashReason.{CrashReason}
-use Rattle.minidump_reason.specs.declared.reason.CrashReason.TheVariants.{MacGeneral, MacBadAccessKern, MacBadAccessArm, MacBadAccessPpc, MacBadAccessX86, MacBadInstructionArm, MacBadInstructionPpc, MacBadInstructionX86, MacArithmeticArm, MacArithmeticPpc, MacArithmeticX86, MacSoftware, MacBreakpointArm, MacBreakpointPpc, MacBreakpointX86, MacResource, MacGuard, LinuxGeneral, LinuxSigill, LinuxSigtrap, LinuxSigbus, LinuxSigfpe, LinuxSigsegv, LinuxSigsys, WindowsGeneral, WindowsWinError, WindowsWinErrorWithFacility, WindowsNtStatus, WindowsAccessViolation, WindowsInPageError, WindowsStackBufferOverrun, WindowsUnknown, Unknown}
+use Rattle.minidump_reason.specs.declared.reason.CrashReason.TheVariants as reason
 use Rattle.minidump_reason.specs.Bits.{bits_of}
 use Rattle.minidump_reason.specs.Names.{Lists, name_of}
 
@@ -76,20 +76,25 @@ resource_text names kind code subcode =
 abbrev pub guard : Lists → ℕ → ℕ → CodeFamily → List (List ℕ × ℕ) → List ℕ
 guard names code subcode family numbers = codes " / " ++ flavored (name_of names family (bits_of code 32 29)) (details numbers []) code subcode
 
--- a guard by its type: 0 NONE, 1 MACH_PORT, 2 FD, 3 USER, which has no flavor, 4 VN, 5 VIRT_MEMORY, 6 REJECTED_SC
-unfoldable pub guard_detail : Lists → ℕ → ℕ → ℕ → List ℕ
-guard_detail names kind code subcode =
-    if kind == 0 then [] else (
+-- a guard that has a flavor, by its type: 1 MACH_PORT, 2 FD, 4 VN, 5 VIRT_MEMORY, 6 REJECTED_SC
+unfoldable pub guard_flavor : Lists → ℕ → ℕ → ℕ → List ℕ
+guard_flavor names kind code subcode =
     if kind == 1 then guard names code subcode family.MacGuardMachPort (
     (codes " port name: ", bits_of code 0 28) ∷ (if subcode == 0 then [] else (codes " subcode: ", subcode) ∷ [])) else (
     if kind == 2 then guard names code subcode family.MacGuardFd (
     (codes " file descriptor: ", bits_of code 0 28) ∷ (codes " guard identifier: ", subcode) ∷ []) else (
-    if kind == 3 then details ((codes "/ namespace: ", bits_of code 0 32) ∷ (codes " guard identifier: ", subcode) ∷ []) [] else (
     if kind == 4 then guard names code subcode family.MacGuardVn (
     (codes " pid: ", bits_of code 0 28) ∷ (codes " guard identifier: ", subcode) ∷ []) else (
     if kind == 5 then guard names code subcode family.MacGuardVirtMemory ((codes " offset: ", subcode) ∷ []) else (
     if kind == 6 then guard names code subcode family.MacGuardRejectedSysCall ((codes " syscall: ", subcode) ∷ [])
-    else codes " / " ++ flavored None [] code subcode))))))
+    else codes " / " ++ flavored None [] code subcode))))
+
+-- a guard by its type: 0 NONE, which has no details, 3 USER, which has no flavor, or one with a flavor
+unfoldable pub guard_detail : Lists → ℕ → ℕ → ℕ → List ℕ
+guard_detail names kind code subcode =
+    if kind == 0 then [] else (
+    if kind == 3 then details ((codes "/ namespace: ", bits_of code 0 32) ∷ (codes " guard identifier: ", subcode) ∷ []) []
+    else guard_flavor names kind code subcode)
 
 -- EXC_GUARD
 abbrev pub guard_text : Lists → ℕ → ℕ → ℕ → List ℕ
@@ -119,36 +124,38 @@ windows_general_text names c =
 
 -- the words of a reason
 abbrev pub reason_text : Lists → CrashReason → List ℕ
-reason_text names (MacGeneral c f) = mac_general_text names c f
-reason_text names (MacBadAccessKern f) = listed names (codes "EXC_BAD_ACCESS / ") family.MacBadAccessKern f
-reason_text names (MacBadAccessArm f) = listed names (codes "EXC_BAD_ACCESS / ") family.MacBadAccessArm f
-reason_text names (MacBadAccessPpc f) = listed names (codes "EXC_BAD_ACCESS / ") family.MacBadAccessPpc f
-reason_text names (MacBadAccessX86 f) = listed names (codes "EXC_BAD_ACCESS / ") family.MacBadAccessX86 f
-reason_text names (MacBadInstructionArm f) = listed names (codes "EXC_BAD_INSTRUCTION / ") family.MacBadInstructionArm f
-reason_text names (MacBadInstructionPpc f) = listed names (codes "EXC_BAD_INSTRUCTION / ") family.MacBadInstructionPpc f
-reason_text names (MacBadInstructionX86 f) = listed names (codes "EXC_BAD_INSTRUCTION / ") family.MacBadInstructionX86 f
-reason_text names (MacArithmeticArm f) = listed names (codes "EXC_ARITHMETIC / ") family.MacArithmeticArm f
-reason_text names (MacArithmeticPpc f) = listed names (codes "EXC_ARITHMETIC / ") family.MacArithmeticPpc f
-reason_text names (MacArithmeticX86 f) = listed names (codes "EXC_ARITHMETIC / ") family.MacArithmeticX86 f
-reason_text names (MacSoftware f) = listed names (codes "EXC_SOFTWARE / ") family.MacSoftware f
-reason_text names (MacBreakpointArm f) = listed names (codes "EXC_BREAKPOINT / ") family.MacBreakpointArm f
-reason_text names (MacBreakpointPpc f) = listed names (codes "EXC_BREAKPOINT / ") family.MacBreakpointPpc f
-reason_text names (MacBreakpointX86 f) = listed names (codes "EXC_BREAKPOINT / ") family.MacBreakpointX86 f
-reason_text names (MacResource kind code subcode) = resource_text names kind code subcode
-reason_text names (MacGuard kind code subcode) = guard_text names kind code subcode
-reason_text names (LinuxGeneral c f) = linux_general_text names c f
-reason_text names (LinuxSigill f) = listed names (codes "SIGILL / ") family.LinuxSigill f
-reason_text names (LinuxSigtrap f) = listed names (codes "SIGTRAP / ") family.LinuxSigtrap f
-reason_text names (LinuxSigbus f) = listed names (codes "SIGBUS / ") family.LinuxSigbus f
-reason_text names (LinuxSigfpe f) = listed names (codes "SIGFPE / ") family.LinuxSigfpe f
-reason_text names (LinuxSigsegv f) = listed names (codes "SIGSEGV / ") family.LinuxSigsegv f
-reason_text names (LinuxSigsys f) = listed names (codes "SIGSYS / ") family.LinuxSigsys f
-reason_text names (WindowsGeneral c) = windows_general_text names c
-reason_text names (WindowsWinError c) = listed names [] family.WinError c
-reason_text names (WindowsWinErrorWithFacility facility c) = listed names [] family.WinErrorFacility facility ++ listed names (codes " / ") family.WinError c
-reason_text names (WindowsNtStatus c) = listed names [] family.NtStatus c
-reason_text names (WindowsAccessViolation kind) = listed names (codes "EXCEPTION_ACCESS_VIOLATION_") family.WindowsAccess kind
-reason_text names (WindowsInPageError kind status) = listed names (codes "EXCEPTION_IN_PAGE_ERROR_") family.WindowsInPageError kind ++ listed names (codes " / ") family.NtStatus status
-reason_text names (WindowsStackBufferOverrun c) = listed names (codes "EXCEPTION_STACK_BUFFER_OVERRUN / ") family.FastFail c
-reason_text names (WindowsUnknown c) = codes "unknown " ++ hex8 c
-reason_text names (Unknown c f) = concat (codes "unknown " ∷ hex8 c ∷ codes " / " ∷ hex8 f ∷ [])
+reason_text names (reason.MacGeneral c f) = mac_general_text names c f
+reason_text names (reason.MacBadAccessKern f) = listed names (codes "EXC_BAD_ACCESS / ") family.MacBadAccessKern f
+reason_text names (reason.MacBadAccessArm f) = listed names (codes "EXC_BAD_ACCESS / ") family.MacBadAccessArm f
+reason_text names (reason.MacBadAccessPpc f) = listed names (codes "EXC_BAD_ACCESS / ") family.MacBadAccessPpc f
+reason_text names (reason.MacBadAccessX86 f) = listed names (codes "EXC_BAD_ACCESS / ") family.MacBadAccessX86 f
+reason_text names (reason.MacBadInstructionArm f) = listed names (codes "EXC_BAD_INSTRUCTION / ") family.MacBadInstructionArm f
+reason_text names (reason.MacBadInstructionPpc f) = listed names (codes "EXC_BAD_INSTRUCTION / ") family.MacBadInstructionPpc f
+reason_text names (reason.MacBadInstructionX86 f) = listed names (codes "EXC_BAD_INSTRUCTION / ") family.MacBadInstructionX86 f
+reason_text names (reason.MacArithmeticArm f) = listed names (codes "EXC_ARITHMETIC / ") family.MacArithmeticArm f
+reason_text names (reason.MacArithmeticPpc f) = listed names (codes "EXC_ARITHMETIC / ") family.MacArithmeticPpc f
+reason_text names (reason.MacArithmeticX86 f) = listed names (codes "EXC_ARITHMETIC / ") family.MacArithmeticX86 f
+reason_text names (reason.MacSoftware f) = listed names (codes "EXC_SOFTWARE / ") family.MacSoftware f
+reason_text names (reason.MacBreakpointArm f) = listed names (codes "EXC_BREAKPOINT / ") family.MacBreakpointArm f
+reason_text names (reason.MacBreakpointPpc f) = listed names (codes "EXC_BREAKPOINT / ") family.MacBreakpointPpc f
+reason_text names (reason.MacBreakpointX86 f) = listed names (codes "EXC_BREAKPOINT / ") family.MacBreakpointX86 f
+reason_text names (reason.MacResource kind code subcode) = resource_text names kind code subcode
+reason_text names (reason.MacGuard kind code subcode) = guard_text names kind code subcode
+reason_text names (reason.LinuxGeneral c f) = linux_general_text names c f
+reason_text names (reason.LinuxSigill f) = listed names (codes "SIGILL / ") family.LinuxSigill f
+reason_text names (reason.LinuxSigtrap f) = listed names (codes "SIGTRAP / ") family.LinuxSigtrap f
+reason_text names (reason.LinuxSigbus f) = listed names (codes "SIGBUS / ") family.LinuxSigbus f
+reason_text names (reason.LinuxSigfpe f) = listed names (codes "SIGFPE / ") family.LinuxSigfpe f
+reason_text names (reason.LinuxSigsegv f) = listed names (codes "SIGSEGV / ") family.LinuxSigsegv f
+reason_text names (reason.LinuxSigsys f) = listed names (codes "SIGSYS / ") family.LinuxSigsys f
+reason_text names (reason.WindowsGeneral c) = windows_general_text names c
+reason_text names (reason.WindowsWinError c) = listed names [] family.WinError c
+reason_text names (reason.WindowsWinErrorWithFacility facility c) =
+    listed names [] family.WinErrorFacility facility ++ listed names (codes " / ") family.WinError c
+reason_text names (reason.WindowsNtStatus c) = listed names [] family.NtStatus c
+reason_text names (reason.WindowsAccessViolation kind) = listed names (codes "EXCEPTION_ACCESS_VIOLATION_") family.WindowsAccess kind
+reason_text names (reason.WindowsInPageError kind status) =
+    listed names (codes "EXCEPTION_IN_PAGE_ERROR_") family.WindowsInPageError kind ++ listed names (codes " / ") family.NtStatus status
+reason_text names (reason.WindowsStackBufferOverrun c) = listed names (codes "EXCEPTION_STACK_BUFFER_OVERRUN / ") family.FastFail c
+reason_text names (reason.WindowsUnknown c) = codes "unknown " ++ hex8 c
+reason_text names (reason.Unknown c f) = concat (codes "unknown " ∷ hex8 c ∷ codes " / " ∷ hex8 f ∷ [])

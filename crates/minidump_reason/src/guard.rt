@@ -1,5 +1,6 @@
-ghost use Rattle.std.specs.Prelude.{◌≡◌, ◌++◌, OnOk, map, string_bytes};
-ghost use Rattle.minidump_reason.specs.ReasonText.{guard, guard_detail, guard_text};
+ghost use Rattle.std.specs.Prelude.{◌≡◌, ◌++◌, OnOk, codes, map, string_bytes, []};
+ghost use Rattle.minidump_reason.specs.Names.{name_of};
+ghost use Rattle.minidump_reason.specs.ReasonText.{details, flavored, guard_detail, guard_flavor, guard_text};
 
 use crate::bits::bits_of;
 use crate::flavor::{Flavor, push_details};
@@ -41,7 +42,7 @@ pub(crate) fn push_guard(
     push_guard_detail(out, names, kind, code, subcode)
 }
 
-// Appends the flavor of a guard and its details, by the type of the guard.
+// Appends the details of a guard, by its type.
 #[tactic(auto, unfolding(crate::specs::ReasonText::guard_detail))]
 fn push_guard_detail(
     out: &mut String,
@@ -52,92 +53,83 @@ fn push_guard_detail(
 ) -> Result<(), AllocError>
     ensures { OnOk result (string_bytes out.new ≡ string_bytes out.old ++ guard_detail names.now kind code subcode) }
 {
-    let number = bits_of(code, 0, 28);
-    let identifier = (" guard identifier: ", subcode);
     match kind {
         GUARD_TYPE_NONE => Ok(()),
         GUARD_TYPE_USER => {
-            let numbers = [("/ namespace: ", bits_of(code, 0, 32)), identifier];
+            let namespace = bits_of(code, 0, 32);
+            let numbers = [
+                ("/ namespace: ", namespace),
+                (" guard identifier: ", subcode),
+            ];
             push_details(out, &numbers, "")
         }
-        GUARD_TYPE_MACH_PORT if subcode == 0 => {
-            push_flavor(
-                out,
-                names,
-                CodeFamily::MacGuardMachPort,
-                &[(" port name: ", number)],
-                code,
-                subcode,
-            )
-        }
-        GUARD_TYPE_MACH_PORT => {
-            let numbers = [(" port name: ", number), (" subcode: ", subcode)];
-            push_flavor(
-                out,
-                names,
-                CodeFamily::MacGuardMachPort,
-                &numbers,
-                code,
-                subcode,
-            )
-        }
-        GUARD_TYPE_FD => {
-            let numbers = [(" file descriptor: ", number), identifier];
-            push_flavor(out, names, CodeFamily::MacGuardFd, &numbers, code, subcode)
-        }
-        GUARD_TYPE_VN => {
-            let numbers = [(" pid: ", number), identifier];
-            push_flavor(out, names, CodeFamily::MacGuardVn, &numbers, code, subcode)
-        }
-        GUARD_TYPE_VIRT_MEMORY => {
-            push_flavor(
-                out,
-                names,
-                CodeFamily::MacGuardVirtMemory,
-                &[(" offset: ", subcode)],
-                code,
-                subcode,
-            )
-        }
-        GUARD_TYPE_REJECTED_SC => {
-            push_flavor(
-                out,
-                names,
-                CodeFamily::MacGuardRejectedSysCall,
-                &[(" syscall: ", subcode)],
-                code,
-                subcode,
-            )
-        }
-        _ => {
-            out.push_str(" / ")?;
-            Flavor {
-                number,
-                code,
-                subcode,
-            }
-            .push_unnamed(out)
-        }
+        _ => push_guard_flavor(out, names, kind, code, subcode),
     }
 }
 
-// Appends the name of a guard's flavor and its details.
-fn push_flavor(
+// Appends the flavor of a guard and its details, by the type of the guard.
+#[tactic(auto, unfolding(crate::specs::ReasonText::guard_flavor))]
+fn push_guard_flavor(
     out: &mut String,
     names: &CodeNames<'_>,
-    family: CodeFamily,
-    numbers: &[(&str, u64)],
+    kind: u32,
     code: u64,
     subcode: u64,
 ) -> Result<(), AllocError>
-    ensures { OnOk result (string_bytes out.new ≡ string_bytes out.old
-        ++ guard names.now code subcode family (map (λ d. (d.0.now, d.1)) numbers.now)) }
+    ensures { OnOk result (string_bytes out.new ≡ string_bytes out.old ++ guard_flavor names.now kind code subcode) }
 {
-    out.push_str(" / ")?;
     let flavor = Flavor {
         number: bits_of(code, 32, 29),
         code,
         subcode,
     };
-    flavor.push(out, names, family, numbers, "")
+    let low = bits_of(code, 0, 28);
+    let identifier = (" guard identifier: ", subcode);
+    match kind {
+        GUARD_TYPE_MACH_PORT if subcode == 0 => {
+            let numbers = [(" port name: ", low)];
+            flavor.push_guard(out, names, CodeFamily::MacGuardMachPort, &numbers)
+        }
+        GUARD_TYPE_MACH_PORT => {
+            let numbers = [(" port name: ", low), (" subcode: ", subcode)];
+            flavor.push_guard(out, names, CodeFamily::MacGuardMachPort, &numbers)
+        }
+        GUARD_TYPE_FD => {
+            let numbers = [(" file descriptor: ", low), identifier];
+            flavor.push_guard(out, names, CodeFamily::MacGuardFd, &numbers)
+        }
+        GUARD_TYPE_VN => {
+            let numbers = [(" pid: ", low), identifier];
+            flavor.push_guard(out, names, CodeFamily::MacGuardVn, &numbers)
+        }
+        GUARD_TYPE_VIRT_MEMORY => {
+            let numbers = [(" offset: ", subcode)];
+            flavor.push_guard(out, names, CodeFamily::MacGuardVirtMemory, &numbers)
+        }
+        GUARD_TYPE_REJECTED_SC => {
+            let numbers = [(" syscall: ", subcode)];
+            flavor.push_guard(out, names, CodeFamily::MacGuardRejectedSysCall, &numbers)
+        }
+        _ => {
+            out.push_str(" / ")?;
+            flavor.push_unnamed(out)
+        }
+    }
+}
+
+impl Flavor {
+    // Appends the name of a guard's flavor and its details.
+    fn push_guard(
+        self,
+        out: &mut String,
+        names: &CodeNames<'_>,
+        family: CodeFamily,
+        numbers: &[(&str, u64)],
+    ) -> Result<(), AllocError>
+        ensures { OnOk result (string_bytes out.new ≡ string_bytes out.old
+            ++ (codes " / " ++ flavored (name_of names.now family self.number) (details (map (λ d. (d.0.now, d.1)) numbers.now) []) self.code self.subcode)) }
+    {
+        out.push_str(" / ")?;
+        self.push(out, names, family, numbers, "")
+    }
 }
