@@ -1,5 +1,6 @@
 -- The names that are found are those that the lists hold.
-use Rattle.std.proofs.Common.{rules, ◌≡◌, ◌≢◌, ℕ, zero, suc, ◌<◌, Bool, true, false, List, [], ◌∷◌, length, get_or, map, Some, refl, sym, ap, subst, ◌∙◌, inl, inr, arith, if◌then◌else◌, All, AllPairs}
+use Rattle.std.proofs.Common.{rules, ◌≡◌, ◌≢◌, ℕ, zero, suc, ◌<◌, Bool, true, false, List, [], ◌∷◌, length, get_or, map, Some, refl, sym, ap, subst}
+use Rattle.std.proofs.Common.{◌∙◌, inl, inr, arith, if◌then◌else◌, All, AllPairs}
 use Rattle.std.specs.Prelude.{Contains}
 use Rattle.std.proofs.lemmas.List.{get_or-map, length-map}
 use Rattle.std.proofs.lemmas.Bool.Decides.{eqb_tells}
@@ -35,7 +36,8 @@ record Formed (lists : Lists) : Type 0 where
 
 formed : (lists : LentLists) → AreCodeNames lists → Formed (lists_of lists)
 formed lists names = record {
-  ascending = all_map (λ list. Ascending list.1) (λ l. (l.0, entries_of l.1.now)) lists (λ k d within. all_pairs_map (λ a b. a.0 < b.0) (λ e. (e.0, e.1.now)) (get_or lists k d).1.now (names.ascending k d within));
+  ascending =
+      all_map (λ list. Ascending list.1) (λ l. (l.0, entries_of l.1.now)) lists (λ k d within. all_pairs_map (λ a b. a.0 < b.0) (λ e. (e.0, e.1.now)) (get_or lists k d).1.now (names.ascending k d within));
   apart = all_pairs_map (λ a b. a.0 ≢ b.0) (λ l. (l.0, entries_of l.1.now)) lists names.apart;
 }
 
@@ -54,11 +56,13 @@ name_there ((n, t) ∷ rest) number name found = elim (eqb_tells n number) [
       (suc there.0, omega (arith, there.1), there.2))
 ]
 
-list_there : (lists : Lists) (family : CodeFamily) (number : ℕ) (name : List ℕ) → name_in (list_of lists family) number ≡ Some name → HasName lists family number name
+list_there : (lists : Lists) (family : CodeFamily) (number : ℕ) (name : List ℕ) → name_in (list_of lists family) number ≡ Some name
+    → HasName lists family number name
 list_there [] family number name found = cc
 list_there ((f, entries) ∷ rest) family number name found = by_case (is_family f family) refl (list_there rest family number name)
   where
-    by_case : (b : Bool) → is_family f family ≡ b → (name_in (list_of rest family) number ≡ Some name → HasName rest family number name) → HasName ((f, entries) ∷ rest) family number name
+    by_case : (b : Bool) → is_family f family ≡ b → (name_in (list_of rest family) number ≡ Some name → HasName rest family number name)
+        → HasName ((f, entries) ∷ rest) family number name
     by_case true e later =
         let here : name_in entries number ≡ Some name = ap (λ b. name_in (if b then entries else list_of rest family) number) (sym e) ∙ found in
         (entries, (0, omega arith, ap (λ g. (g, entries)) (same_true the_type (search rules) f family e)), name_there entries number name here)
@@ -69,7 +73,8 @@ list_there ((f, entries) ∷ rest) family number name found = by_case (is_family
 
 -- ---- what is there is found
 
-name_found : (entries : Entries) (number : ℕ) (name : List ℕ) (k : ℕ) → Ascending entries → k < length entries → get_or entries k (number, name) ≡ (number, name) → name_in entries number ≡ Some name
+name_found : (entries : Entries) (number : ℕ) (name : List ℕ) (k : ℕ) → Ascending entries → k < length entries
+    → get_or entries k (number, name) ≡ (number, name) → name_in entries number ≡ Some name
 name_found [] number name k up within at = absurd (omega (arith, within))
 name_found ((n, t) ∷ rest) number name zero up within at =
     ap (λ b. if b then Some t else name_in rest number) (eq-eqb n number (ap (λ e. e.0) at)) ∙ ap (λ e. Some e.1) at
@@ -77,9 +82,11 @@ name_found ((n, t) ∷ rest) number name (suc k) up within at =
     let below : n < (get_or rest k (number, name)).0 = up 0 (suc k) (number, name) (omega arith) within in
     let that : (get_or rest k (number, name)).0 ≡ number = ap (λ e. e.0) at in
     let tail : Ascending rest = λ i j d lt h. up (suc i) (suc j) d (omega arith) (omega arith) in
-    ap (λ b. if b then Some t else name_in rest number) (ne_eqb n number (λ same. omega (arith, below, that, same))) ∙ name_found rest number name k tail (omega arith) at
+    ap (λ b. if b then Some t else name_in rest number) (ne_eqb n number (λ same. omega (arith, below, that, same)))
+    ∙ name_found rest number name k tail (omega arith) at
 
-list_found : (lists : Lists) (family : CodeFamily) (entries : Entries) (k : ℕ) → AllPairs (λ a b. a.0 ≢ b.0) lists → k < length lists → get_or lists k (family, entries) ≡ (family, entries) → list_of lists family ≡ entries
+list_found : (lists : Lists) (family : CodeFamily) (entries : Entries) (k : ℕ) → AllPairs (λ a b. a.0 ≢ b.0) lists → k < length lists
+    → get_or lists k (family, entries) ≡ (family, entries) → list_of lists family ≡ entries
 list_found [] family entries k apart within at = absurd (omega (arith, within))
 list_found ((f, es) ∷ rest) family entries zero apart within at =
     ap (λ b. if b then es else list_of rest family) (true_same the_type f family (ap (λ l. l.0) at)) ∙ ap (λ l. l.1) at
@@ -90,11 +97,13 @@ list_found ((f, es) ∷ rest) family entries (suc k) apart within at =
 
 -- ---- both
 
-pub named_from_name_of : (lists : Lists) (family : CodeFamily) (number : ℕ) (name : List ℕ) → name_of lists family number ≡ Some name → HasName lists family number name
+pub named_from_name_of : (lists : Lists) (family : CodeFamily) (number : ℕ) (name : List ℕ) → name_of lists family number ≡ Some name
+    → HasName lists family number name
 unfolding name_of
 named_from_name_of lists family number name found = list_there lists family number name found
 
-pub name_of_from_named : (lists : LentLists) → AreCodeNames lists → (family : CodeFamily) (number : ℕ) (name : List ℕ) → HasName (lists_of lists) family number name → name_of (lists_of lists) family number ≡ Some name
+pub name_of_from_named : (lists : LentLists) → AreCodeNames lists → (family : CodeFamily) (number : ℕ) (name : List ℕ)
+    → HasName (lists_of lists) family number name → name_of (lists_of lists) family number ≡ Some name
 unfolding name_of
 name_of_from_named lists names family number name (entries, (k, within, at), (j, inside, there)) =
     let all = formed lists names in

@@ -1,5 +1,6 @@
 -- The lists of names as they are lent: when they are accepted, and what is found in them.
-use Rattle.std.proofs.Common.{rules, ◌≡◌, ◌≢◌, ℕ, zero, suc, ◌+◌, ◌-◌, ◌<◌, ◌≤◌, true, false, List, [], ◌∷◌, length, get_or, take, drop, Some, None, Result, Ok, Err, refl, sym, ap, subst, ◌∙◌, inl, inr, arith, add-one, if◌then◌else◌, All}
+use Rattle.std.proofs.Common.{rules, ◌≡◌, ◌≢◌, ℕ, zero, suc, ◌+◌, ◌-◌, ◌<◌, ◌≤◌, true, false, List, [], ◌∷◌, length, get_or, take, drop, Some, None}
+use Rattle.std.proofs.Common.{Result, Ok, Err, refl, sym, ap, subst, ◌∙◌, inl, inr, arith, add-one, if◌then◌else◌, All}
 use Rattle.std.specs.Borrow.{Bor}
 use Rattle.std.specs.List.{list_any}
 use Rattle.std.specs.List.Sorted.{IsSearchInRange, IsBinarySearchResult, IsNonDecreasingBy}
@@ -31,7 +32,8 @@ abbrev pub AscendsBefore : LentEntries → ℕ → Type 0
 AscendsBefore xs i = (j k : ℕ) (d : LentEntry) → j < k → k < i → (get_or xs j d).0 < (get_or xs k d).0
 
 -- and one more does
-pub ascends_more : (xs : LentEntries) (i : ℕ) (e f : LentEntry) → 0 < i → i < length xs → AscendsBefore xs i → (get_or xs (i - 1) e).0 < (get_or xs i f).0 → AscendsBefore xs (i + 1)
+pub ascends_more : (xs : LentEntries) (i : ℕ) (e f : LentEntry) → 0 < i → i < length xs → AscendsBefore xs i
+    → (get_or xs (i - 1) e).0 < (get_or xs i f).0 → AscendsBefore xs (i + 1)
 ascends_more xs i e f some within before step j k d lt below =
     let key = λ (x : LentEntry). x.0 in
     let last : (get_or xs (i - 1) d).0 ≡ (get_or xs (i - 1) e).0 = ap key (get_or_default xs (i - 1) d e (omega arith)) in
@@ -50,18 +52,22 @@ ascends_more xs i e f some within before step j k d lt below =
 
 -- ---- the name beside a number
 
-pub name_at : (xs : LentEntries) (place number : ℕ) (d : LentEntry) → IsAscending xs → place < length xs → (get_or xs place d).0 ≡ number → name_in (entries_of xs) number ≡ Some (get_or xs place d).1.now
+pub name_at : (xs : LentEntries) (place number : ℕ) (d : LentEntry) → IsAscending xs → place < length xs → (get_or xs place d).0 ≡ number
+    → name_in (entries_of xs) number ≡ Some (get_or xs place d).1.now
 name_at [] place number d up within has = absurd (omega (arith, within))
 name_at (x ∷ xs) zero number d up within has = ap (λ t. if t then Some x.1.now else name_in (entries_of xs) number) (eq-eqb x.0 number has)
 name_at (x ∷ xs) (suc k) number d up within has =
     let below = up 0 (suc k) d (omega arith) within in
     let tail : IsAscending xs = λ i j e lt h. up (suc i) (suc j) e (omega arith) (omega arith) in
-    ap (λ t. if t then Some x.1.now else name_in (entries_of xs) number) (ne_eqb x.0 number (λ same. omega (arith, below, has))) ∙ name_at xs k number d tail (omega arith) has
+    ap (λ t. if t then Some x.1.now else name_in (entries_of xs) number) (ne_eqb x.0 number (λ same. omega (arith, below, has)))
+    ∙ name_at xs k number d tail (omega arith) has
 
-pub name_absent : (xs : LentEntries) (number : ℕ) → ((k : ℕ) (d : LentEntry) → k < length xs → (get_or xs k d).0 ≢ number) → name_in (entries_of xs) number ≡ None
+pub name_absent : (xs : LentEntries) (number : ℕ) → ((k : ℕ) (d : LentEntry) → k < length xs → (get_or xs k d).0 ≢ number)
+    → name_in (entries_of xs) number ≡ None
 name_absent [] number none = refl
 name_absent (x ∷ xs) number none =
-    ap (λ t. if t then Some x.1.now else name_in (entries_of xs) number) (ne_eqb x.0 number (none 0 x (omega arith))) ∙ name_absent xs number (λ k d h. none (suc k) d (omega arith))
+    ap (λ t. if t then Some x.1.now else name_in (entries_of xs) number) (ne_eqb x.0 number (none 0 x (omega arith)))
+    ∙ name_absent xs number (λ k d h. none (suc k) d (omega arith))
 
 -- what a binary search for a number says
 pub record Found (xs : LentEntries) (number at : ℕ) : Type 0 where
@@ -119,7 +125,8 @@ pub family_missing : (xs : LentLists) (family : CodeFamily) → list_any (λ lis
 family_missing xs family clear (k, list, within, there, same) = family_absent xs family clear k list within (ap (λ l. l.0) there ∙ same)
 
 -- one more list is well formed behind others
-pub names_more : (xs : LentLists) (i : ℕ) (d : CodeFamily × Bor LentEntries) → i < length xs → AreCodeNames (take i xs) → All (λ list. list.0 ≢ (get_or xs i d).0) (take i xs)
+pub names_more : (xs : LentLists) (i : ℕ) (d : CodeFamily × Bor LentEntries) → i < length xs → AreCodeNames (take i xs)
+    → All (λ list. list.0 ≢ (get_or xs i d).0) (take i xs)
     → IsAscending (get_or xs i d).1.now → AreCodeNames (take (i + 1) xs)
 names_more xs i d within before apart up = record {
   ascending = All-more (λ list. IsAscending list.1.now) xs i d within before.ascending up;

@@ -1,6 +1,7 @@
 -- The reason of a crash: a decision table over the system, the processor, the exception record and the listed codes.
 -- Windows' winnt.h and ntstatus.h, Darwin's mach/exception_types.h, Linux' asm/signal.h.
-use Rattle.std.specs.Prelude.{ℕ, ◌%◌, ◌^◌, ◌==◌, nat_le, not, ◌&&◌, Bool, true, false, List, [], ◌∷◌, bit_and, slice_index, Option, Some, None, unwrap_or, if◌then◌else◌}
+use Rattle.std.specs.Prelude.{ℕ, ◌%◌, ◌^◌, ◌==◌, nat_le, not, ◌&&◌, Bool, true, false, List, [], ◌∷◌, bit_and, slice_index, Option, Some, None}
+use Rattle.std.specs.Prelude.{unwrap_or, if◌then◌else◌}
 use Rattle.minidump_format.specs.declared.format.exception.MINIDUMP_EXCEPTION.{MINIDUMP_EXCEPTION}
 use Rattle.minidump_system.specs.declared.os.Os.{Os}
 use Rattle.minidump_system.specs.declared.os.Os.TheVariants.{Windows, MacOs, Ios, Linux, Android}
@@ -52,7 +53,8 @@ windows_refined names k p0 p2 other = other
 
 -- EXCEPTION_RECORD of winnt.h
 abbrev pub windows_reason : Lists → MINIDUMP_EXCEPTION → CrashReason
-windows_reason names r = windows_refined names r.number_parameters (slice_index r.exception_information 0) (slice_index r.exception_information 2) (windows_code names r.exception_code)
+windows_reason names r =
+    windows_refined names r.number_parameters (slice_index r.exception_information 0) (slice_index r.exception_information 2) (windows_code names r.exception_code)
 
 -- ---- macOS and iOS
 

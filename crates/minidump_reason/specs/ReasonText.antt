@@ -1,12 +1,12 @@
 -- The words of a crash reason: Darwin's kern/exc_resource.h and kern/exc_guard.h for what codes and subcodes hold.
 use Rattle.std.specs.Prelude.{ℕ, ◌==◌, List, [], ◌∷◌, ◌++◌, codes, Option, Some, None, unwrap_or, if◌then◌else◌}
 use Rattle.std.specs.Fmt.{decimal}
-use Rattle.std.specs.List.{concat}
+use Rattle.std.specs.List.{concat, flat_map}
 use Rattle.minidump_bytes.specs.Piece.{wide_hex}
 use Rattle.minidump_reason.specs.declared.family.CodeFamily.{CodeFamily}
 use Rattle.minidump_reason.specs.declared.family.CodeFamily.TheVariants as family
 use Rattle.minidump_reason.specs.declared.reason.CrashReason.{CrashReason}
-use Rattle.minidump_reason.specs.declared.reason.CrashReason.TheVariants.{MacGeneral, MacBadAccessKern, MacBadAccessArm, MacBadAccessPpc, MacBadAccessX86, MacBadInstructionArm, MacBadInstructionPpc, MacBadInstructionX86, MacArithmeticArm, MacArithmeticPpc, MacArithmeticX86, MacSoftware, MacBreakpointArm, MacBreakpointPpc, MacBreakpointX86, MacResource, MacGuard, LinuxGeneral, LinuxSigill, LinuxSigtrap, LinuxSigbus, LinuxSigfpe, LinuxSigsegv, LinuxSigsys, WindowsGeneral, WindowsWinError, WindowsWinErrorWithFacility, WindowsNtStatus, WindowsAccessViolation, WindowsInPageError, WindowsStackBufferOverrun, WindowsUnknown, Unknown}
+use Rattle.minidump_reason.specs.declared.reason.CrashReason.TheVariants as reason
 use Rattle.minidump_reason.specs.Bits.{bits_of}
 use Rattle.minidump_reason.specs.Names.{Lists, name_of}
 
@@ -39,41 +39,32 @@ mac_general_text names c f =
     if c == 0x43507378 then codes "Simulated Exception"
     else concat (name_text names family.Mac c ∷ codes " / " ∷ hex8 f ∷ [])
 
--- RESOURCE_TYPE_CPU
-unfoldable pub cpu_text : ℕ → ℕ → List ℕ
-cpu_text code subcode = concat (
-    codes " interval: " ∷ decimal (bits_of code 7 25) ∷ codes "s CPU limit: " ∷ decimal (bits_of code 0 3)
-    ∷ codes "% CPU consumed: " ∷ decimal (bits_of subcode 0 3) ∷ codes "%" ∷ [])
+-- words, and a number in decimal behind them
+abbrev pub detail : List ℕ × ℕ → List ℕ
+detail d = d.0 ++ decimal d.1
 
--- RESOURCE_TYPE_WAKEUPS
-unfoldable pub wakeups_text : ℕ → ℕ → List ℕ
-wakeups_text code subcode = concat (
-    codes " interval: " ∷ decimal (bits_of code 20 20) ∷ codes "s wakeups permitted: " ∷ decimal (bits_of code 0 12)
-    ∷ codes " wakeups observed: " ∷ decimal (bits_of subcode 0 12) ∷ [])
+-- such details, and the last words
+unfoldable pub details : List (List ℕ × ℕ) → List ℕ → List ℕ
+details numbers last = flat_map detail numbers ++ last
 
--- RESOURCE_TYPE_MEMORY
-unfoldable pub memory_text : ℕ → List ℕ
-memory_text code = concat (codes " high watermark limit: " ∷ decimal (bits_of code 0 13) ∷ codes "MiB" ∷ [])
+-- a limit by the name of its flavor, in bits 58 to 60 of the code, and its details
+abbrev limit : Lists → ℕ → ℕ → CodeFamily → List (List ℕ × ℕ) → List ℕ → List ℕ
+limit names code subcode family numbers last = flavored (name_of names family (bits_of code 58 3)) (details numbers last) code subcode
 
--- RESOURCE_TYPE_IO
-unfoldable pub io_text : ℕ → ℕ → List ℕ
-io_text code subcode = concat (
-    codes " interval: " ∷ decimal (bits_of code 15 17) ∷ codes "s I/O limit: " ∷ decimal (bits_of code 0 15)
-    ∷ codes "% I/O observed: " ∷ decimal (bits_of subcode 0 15) ∷ codes "%" ∷ [])
-
--- RESOURCE_TYPE_THREADS
-unfoldable pub threads_text : ℕ → List ℕ
-threads_text code = concat (codes " high watermark limit: " ∷ decimal (bits_of code 0 15) ∷ [])
-
--- the flavor, in bits 58 to 60 of the code, by the type of the resource: 1 CPU, 2 WAKEUPS, 3 MEMORY, 4 IO, 5 THREADS
+-- a limit by the type of the resource: 1 CPU, 2 WAKEUPS, 3 MEMORY, 4 IO, 5 THREADS
 unfoldable pub resource_flavor : Lists → ℕ → ℕ → ℕ → List ℕ
 resource_flavor names kind code subcode =
-    let flavor = bits_of code 58 3 in
-    if kind == 1 then flavored (name_of names family.MacResourceCpu flavor) (cpu_text code subcode) code subcode else (
-    if kind == 2 then flavored (name_of names family.MacResourceWakeups flavor) (wakeups_text code subcode) code subcode else (
-    if kind == 3 then flavored (name_of names family.MacResourceMemory flavor) (memory_text code) code subcode else (
-    if kind == 4 then flavored (name_of names family.MacResourceIo flavor) (io_text code subcode) code subcode else (
-    if kind == 5 then flavored (name_of names family.MacResourceThreads flavor) (threads_text code) code subcode
+    if kind == 1 then limit names code subcode family.MacResourceCpu (
+    (codes " interval: ", bits_of code 7 25) ∷ (codes "s CPU limit: ", bits_of code 0 3)
+    ∷ (codes "% CPU consumed: ", bits_of subcode 0 3) ∷ []) (codes "%") else (
+    if kind == 2 then limit names code subcode family.MacResourceWakeups (
+    (codes " interval: ", bits_of code 20 20) ∷ (codes "s wakeups permitted: ", bits_of code 0 12)
+    ∷ (codes " wakeups observed: ", bits_of subcode 0 12) ∷ []) [] else (
+    if kind == 3 then limit names code subcode family.MacResourceMemory ((codes " high watermark limit: ", bits_of code 0 13) ∷ []) (codes "MiB") else (
+    if kind == 4 then limit names code subcode family.MacResourceIo (
+    (codes " interval: ", bits_of code 15 17) ∷ (codes "s I/O limit: ", bits_of code 0 15)
+    ∷ (codes "% I/O observed: ", bits_of subcode 0 15) ∷ []) (codes "%") else (
+    if kind == 5 then limit names code subcode family.MacResourceThreads ((codes " high watermark limit: ", bits_of code 0 15) ∷ []) []
     else flavored None [] code subcode))))
 
 -- EXC_RESOURCE
@@ -81,49 +72,29 @@ abbrev pub resource_text : Lists → ℕ → ℕ → ℕ → List ℕ
 resource_text names kind code subcode =
     listed names (codes "EXC_RESOURCE / ") family.MacResource kind ++ (codes " / " ++ resource_flavor names kind code subcode)
 
--- GUARD_TYPE_MACH_PORT with a subcode of 0
-unfoldable pub port_text : ℕ → List ℕ
-port_text code = concat (codes " port name: " ∷ decimal (bits_of code 0 28) ∷ [])
+-- a guard by the name of its flavor, in bits 32 to 60 of the code, and its details
+abbrev pub guard : Lists → ℕ → ℕ → CodeFamily → List (List ℕ × ℕ) → List ℕ
+guard names code subcode family numbers = codes " / " ++ flavored (name_of names family (bits_of code 32 29)) (details numbers []) code subcode
 
--- GUARD_TYPE_MACH_PORT with another subcode
-unfoldable pub port_subcode_text : ℕ → ℕ → List ℕ
-port_subcode_text code subcode = concat (codes " port name: " ∷ decimal (bits_of code 0 28) ∷ codes " subcode: " ∷ decimal subcode ∷ [])
+-- a guard that has a flavor, by its type: 1 MACH_PORT, 2 FD, 4 VN, 5 VIRT_MEMORY, 6 REJECTED_SC
+unfoldable pub guard_flavor : Lists → ℕ → ℕ → ℕ → List ℕ
+guard_flavor names kind code subcode =
+    if kind == 1 then guard names code subcode family.MacGuardMachPort (
+    (codes " port name: ", bits_of code 0 28) ∷ (if subcode == 0 then [] else (codes " subcode: ", subcode) ∷ [])) else (
+    if kind == 2 then guard names code subcode family.MacGuardFd (
+    (codes " file descriptor: ", bits_of code 0 28) ∷ (codes " guard identifier: ", subcode) ∷ []) else (
+    if kind == 4 then guard names code subcode family.MacGuardVn (
+    (codes " pid: ", bits_of code 0 28) ∷ (codes " guard identifier: ", subcode) ∷ []) else (
+    if kind == 5 then guard names code subcode family.MacGuardVirtMemory ((codes " offset: ", subcode) ∷ []) else (
+    if kind == 6 then guard names code subcode family.MacGuardRejectedSysCall ((codes " syscall: ", subcode) ∷ [])
+    else codes " / " ++ flavored None [] code subcode))))
 
--- GUARD_TYPE_FD
-unfoldable pub fd_text : ℕ → ℕ → List ℕ
-fd_text code subcode = concat (codes " file descriptor: " ∷ decimal (bits_of code 0 28) ∷ codes " guard identifier: " ∷ decimal subcode ∷ [])
-
--- GUARD_TYPE_USER, which has no flavor
-unfoldable pub user_text : ℕ → ℕ → List ℕ
-user_text code subcode = concat (codes "/ namespace: " ∷ decimal (bits_of code 0 32) ∷ codes " guard identifier: " ∷ decimal subcode ∷ [])
-
--- GUARD_TYPE_VN
-unfoldable pub vn_text : ℕ → ℕ → List ℕ
-vn_text code subcode = concat (codes " pid: " ∷ decimal (bits_of code 0 28) ∷ codes " guard identifier: " ∷ decimal subcode ∷ [])
-
--- GUARD_TYPE_VIRT_MEMORY
-unfoldable pub offset_text : ℕ → List ℕ
-offset_text subcode = concat (codes " offset: " ∷ decimal subcode ∷ [])
-
--- GUARD_TYPE_REJECTED_SC
-unfoldable pub syscall_text : ℕ → List ℕ
-syscall_text subcode = concat (codes " syscall: " ∷ decimal subcode ∷ [])
-
--- the flavor, in bits 32 to 60 of the code, with its details
-unfoldable pub guard_flavor : Lists → CodeFamily → ℕ → ℕ → List ℕ → List ℕ
-guard_flavor names family code subcode details = codes " / " ++ flavored (name_of names family (bits_of code 32 29)) details code subcode
-
--- by the type of the guard: 0 NONE, 1 MACH_PORT, 2 FD, 3 USER, 4 VN, 5 VIRT_MEMORY, 6 REJECTED_SC
+-- a guard by its type: 0 NONE, which has no details, 3 USER, which has no flavor, or one with a flavor
 unfoldable pub guard_detail : Lists → ℕ → ℕ → ℕ → List ℕ
 guard_detail names kind code subcode =
     if kind == 0 then [] else (
-    if kind == 1 then guard_flavor names family.MacGuardMachPort code subcode (if subcode == 0 then port_text code else port_subcode_text code subcode) else (
-    if kind == 2 then guard_flavor names family.MacGuardFd code subcode (fd_text code subcode) else (
-    if kind == 3 then user_text code subcode else (
-    if kind == 4 then guard_flavor names family.MacGuardVn code subcode (vn_text code subcode) else (
-    if kind == 5 then guard_flavor names family.MacGuardVirtMemory code subcode (offset_text subcode) else (
-    if kind == 6 then guard_flavor names family.MacGuardRejectedSysCall code subcode (syscall_text subcode)
-    else codes " / " ++ flavored None [] code subcode))))))
+    if kind == 3 then details ((codes "/ namespace: ", bits_of code 0 32) ∷ (codes " guard identifier: ", subcode) ∷ []) []
+    else guard_flavor names kind code subcode)
 
 -- EXC_GUARD
 abbrev pub guard_text : Lists → ℕ → ℕ → ℕ → List ℕ
@@ -153,36 +124,38 @@ windows_general_text names c =
 
 -- the words of a reason
 abbrev pub reason_text : Lists → CrashReason → List ℕ
-reason_text names (MacGeneral c f) = mac_general_text names c f
-reason_text names (MacBadAccessKern f) = listed names (codes "EXC_BAD_ACCESS / ") family.MacBadAccessKern f
-reason_text names (MacBadAccessArm f) = listed names (codes "EXC_BAD_ACCESS / ") family.MacBadAccessArm f
-reason_text names (MacBadAccessPpc f) = listed names (codes "EXC_BAD_ACCESS / ") family.MacBadAccessPpc f
-reason_text names (MacBadAccessX86 f) = listed names (codes "EXC_BAD_ACCESS / ") family.MacBadAccessX86 f
-reason_text names (MacBadInstructionArm f) = listed names (codes "EXC_BAD_INSTRUCTION / ") family.MacBadInstructionArm f
-reason_text names (MacBadInstructionPpc f) = listed names (codes "EXC_BAD_INSTRUCTION / ") family.MacBadInstructionPpc f
-reason_text names (MacBadInstructionX86 f) = listed names (codes "EXC_BAD_INSTRUCTION / ") family.MacBadInstructionX86 f
-reason_text names (MacArithmeticArm f) = listed names (codes "EXC_ARITHMETIC / ") family.MacArithmeticArm f
-reason_text names (MacArithmeticPpc f) = listed names (codes "EXC_ARITHMETIC / ") family.MacArithmeticPpc f
-reason_text names (MacArithmeticX86 f) = listed names (codes "EXC_ARITHMETIC / ") family.MacArithmeticX86 f
-reason_text names (MacSoftware f) = listed names (codes "EXC_SOFTWARE / ") family.MacSoftware f
-reason_text names (MacBreakpointArm f) = listed names (codes "EXC_BREAKPOINT / ") family.MacBreakpointArm f
-reason_text names (MacBreakpointPpc f) = listed names (codes "EXC_BREAKPOINT / ") family.MacBreakpointPpc f
-reason_text names (MacBreakpointX86 f) = listed names (codes "EXC_BREAKPOINT / ") family.MacBreakpointX86 f
-reason_text names (MacResource kind code subcode) = resource_text names kind code subcode
-reason_text names (MacGuard kind code subcode) = guard_text names kind code subcode
-reason_text names (LinuxGeneral c f) = linux_general_text names c f
-reason_text names (LinuxSigill f) = listed names (codes "SIGILL / ") family.LinuxSigill f
-reason_text names (LinuxSigtrap f) = listed names (codes "SIGTRAP / ") family.LinuxSigtrap f
-reason_text names (LinuxSigbus f) = listed names (codes "SIGBUS / ") family.LinuxSigbus f
-reason_text names (LinuxSigfpe f) = listed names (codes "SIGFPE / ") family.LinuxSigfpe f
-reason_text names (LinuxSigsegv f) = listed names (codes "SIGSEGV / ") family.LinuxSigsegv f
-reason_text names (LinuxSigsys f) = listed names (codes "SIGSYS / ") family.LinuxSigsys f
-reason_text names (WindowsGeneral c) = windows_general_text names c
-reason_text names (WindowsWinError c) = listed names [] family.WinError c
-reason_text names (WindowsWinErrorWithFacility facility c) = listed names [] family.WinErrorFacility facility ++ listed names (codes " / ") family.WinError c
-reason_text names (WindowsNtStatus c) = listed names [] family.NtStatus c
-reason_text names (WindowsAccessViolation kind) = listed names (codes "EXCEPTION_ACCESS_VIOLATION_") family.WindowsAccess kind
-reason_text names (WindowsInPageError kind status) = listed names (codes "EXCEPTION_IN_PAGE_ERROR_") family.WindowsInPageError kind ++ listed names (codes " / ") family.NtStatus status
-reason_text names (WindowsStackBufferOverrun c) = listed names (codes "EXCEPTION_STACK_BUFFER_OVERRUN / ") family.FastFail c
-reason_text names (WindowsUnknown c) = codes "unknown " ++ hex8 c
-reason_text names (Unknown c f) = concat (codes "unknown " ∷ hex8 c ∷ codes " / " ∷ hex8 f ∷ [])
+reason_text names (reason.MacGeneral c f) = mac_general_text names c f
+reason_text names (reason.MacBadAccessKern f) = listed names (codes "EXC_BAD_ACCESS / ") family.MacBadAccessKern f
+reason_text names (reason.MacBadAccessArm f) = listed names (codes "EXC_BAD_ACCESS / ") family.MacBadAccessArm f
+reason_text names (reason.MacBadAccessPpc f) = listed names (codes "EXC_BAD_ACCESS / ") family.MacBadAccessPpc f
+reason_text names (reason.MacBadAccessX86 f) = listed names (codes "EXC_BAD_ACCESS / ") family.MacBadAccessX86 f
+reason_text names (reason.MacBadInstructionArm f) = listed names (codes "EXC_BAD_INSTRUCTION / ") family.MacBadInstructionArm f
+reason_text names (reason.MacBadInstructionPpc f) = listed names (codes "EXC_BAD_INSTRUCTION / ") family.MacBadInstructionPpc f
+reason_text names (reason.MacBadInstructionX86 f) = listed names (codes "EXC_BAD_INSTRUCTION / ") family.MacBadInstructionX86 f
+reason_text names (reason.MacArithmeticArm f) = listed names (codes "EXC_ARITHMETIC / ") family.MacArithmeticArm f
+reason_text names (reason.MacArithmeticPpc f) = listed names (codes "EXC_ARITHMETIC / ") family.MacArithmeticPpc f
+reason_text names (reason.MacArithmeticX86 f) = listed names (codes "EXC_ARITHMETIC / ") family.MacArithmeticX86 f
+reason_text names (reason.MacSoftware f) = listed names (codes "EXC_SOFTWARE / ") family.MacSoftware f
+reason_text names (reason.MacBreakpointArm f) = listed names (codes "EXC_BREAKPOINT / ") family.MacBreakpointArm f
+reason_text names (reason.MacBreakpointPpc f) = listed names (codes "EXC_BREAKPOINT / ") family.MacBreakpointPpc f
+reason_text names (reason.MacBreakpointX86 f) = listed names (codes "EXC_BREAKPOINT / ") family.MacBreakpointX86 f
+reason_text names (reason.MacResource kind code subcode) = resource_text names kind code subcode
+reason_text names (reason.MacGuard kind code subcode) = guard_text names kind code subcode
+reason_text names (reason.LinuxGeneral c f) = linux_general_text names c f
+reason_text names (reason.LinuxSigill f) = listed names (codes "SIGILL / ") family.LinuxSigill f
+reason_text names (reason.LinuxSigtrap f) = listed names (codes "SIGTRAP / ") family.LinuxSigtrap f
+reason_text names (reason.LinuxSigbus f) = listed names (codes "SIGBUS / ") family.LinuxSigbus f
+reason_text names (reason.LinuxSigfpe f) = listed names (codes "SIGFPE / ") family.LinuxSigfpe f
+reason_text names (reason.LinuxSigsegv f) = listed names (codes "SIGSEGV / ") family.LinuxSigsegv f
+reason_text names (reason.LinuxSigsys f) = listed names (codes "SIGSYS / ") family.LinuxSigsys f
+reason_text names (reason.WindowsGeneral c) = windows_general_text names c
+reason_text names (reason.WindowsWinError c) = listed names [] family.WinError c
+reason_text names (reason.WindowsWinErrorWithFacility facility c) =
+    listed names [] family.WinErrorFacility facility ++ listed names (codes " / ") family.WinError c
+reason_text names (reason.WindowsNtStatus c) = listed names [] family.NtStatus c
+reason_text names (reason.WindowsAccessViolation kind) = listed names (codes "EXCEPTION_ACCESS_VIOLATION_") family.WindowsAccess kind
+reason_text names (reason.WindowsInPageError kind status) =
+    listed names (codes "EXCEPTION_IN_PAGE_ERROR_") family.WindowsInPageError kind ++ listed names (codes " / ") family.NtStatus status
+reason_text names (reason.WindowsStackBufferOverrun c) = listed names (codes "EXCEPTION_STACK_BUFFER_OVERRUN / ") family.FastFail c
+reason_text names (reason.WindowsUnknown c) = codes "unknown " ++ hex8 c
+reason_text names (reason.Unknown c f) = concat (codes "unknown " ∷ hex8 c ∷ codes " / " ∷ hex8 f ∷ [])

@@ -1,12 +1,11 @@
-ghost use Rattle.std.specs.Prelude.{◌≡◌, ◌++◌, OnOk, string_bytes};
-ghost use Rattle.std.specs.List.{flat_map};
-ghost use Rattle.minidump_bytes.specs.Piece.{piece_text};
-ghost use Rattle.minidump_reason.specs.ReasonText.{fd_text, guard_detail, guard_flavor, guard_text, offset_text, port_subcode_text, port_text, syscall_text, user_text, vn_text};
+ghost use Rattle.std.specs.Prelude.{◌≡◌, ◌++◌, OnOk, codes, map, string_bytes, []};
+ghost use Rattle.minidump_reason.specs.Names.{name_of};
+ghost use Rattle.minidump_reason.specs.ReasonText.{details, flavored, guard_detail, guard_flavor, guard_text};
 
 use crate::bits::bits_of;
-use crate::text::{push_flavored, push_listed};
+use crate::flavor::{Flavor, push_details};
+use crate::text::push_listed;
 use crate::{CodeFamily, CodeNames};
-use minidump_bytes::{Piece, push_pieces};
 use std::alloc::AllocError;
 
 const GUARD_TYPE_NONE: u32 = 0;
@@ -43,7 +42,7 @@ pub(crate) fn push_guard(
     push_guard_detail(out, names, kind, code, subcode)
 }
 
-// Appends the flavor of a guard, by the type of the guard.
+// Appends the details of a guard, by its type.
 #[tactic(auto, unfolding(crate::specs::ReasonText::guard_detail))]
 fn push_guard_detail(
     out: &mut String,
@@ -56,143 +55,81 @@ fn push_guard_detail(
 {
     match kind {
         GUARD_TYPE_NONE => Ok(()),
-        GUARD_TYPE_MACH_PORT if subcode == 0 => {
-            let family = CodeFamily::MacGuardMachPort;
-            push_guard_flavor(out, names, family, &port(code), code, subcode)
+        GUARD_TYPE_USER => {
+            let namespace = bits_of(code, 0, 32);
+            let numbers = [
+                ("/ namespace: ", namespace),
+                (" guard identifier: ", subcode),
+            ];
+            push_details(out, &numbers, "")
         }
-        GUARD_TYPE_MACH_PORT => {
-            let details = port_subcode(code, subcode);
-            push_guard_flavor(
-                out,
-                names,
-                CodeFamily::MacGuardMachPort,
-                &details,
-                code,
-                subcode,
-            )
-        }
-        GUARD_TYPE_FD => {
-            let details = fd(code, subcode);
-            push_guard_flavor(out, names, CodeFamily::MacGuardFd, &details, code, subcode)
-        }
-        GUARD_TYPE_USER => push_pieces(out, &user(code, subcode)),
-        GUARD_TYPE_VN => {
-            let details = vn(code, subcode);
-            push_guard_flavor(out, names, CodeFamily::MacGuardVn, &details, code, subcode)
-        }
-        GUARD_TYPE_VIRT_MEMORY => {
-            let family = CodeFamily::MacGuardVirtMemory;
-            push_guard_flavor(out, names, family, &offset(subcode), code, subcode)
-        }
-        GUARD_TYPE_REJECTED_SC => {
-            let family = CodeFamily::MacGuardRejectedSysCall;
-            push_guard_flavor(out, names, family, &syscall(subcode), code, subcode)
-        }
-        _ => {
-            out.push_str(" / ")?;
-            push_flavored(out, None, &[], code, subcode)
-        }
+        _ => push_guard_flavor(out, names, kind, code, subcode),
     }
 }
 
-// Appends the flavor of a guard and its details.
+// Appends the flavor of a guard and its details, by the type of the guard.
 #[tactic(auto, unfolding(crate::specs::ReasonText::guard_flavor))]
 fn push_guard_flavor(
     out: &mut String,
     names: &CodeNames<'_>,
-    family: CodeFamily,
-    details: &[Piece<'_>],
+    kind: u32,
     code: u64,
     subcode: u64,
 ) -> Result<(), AllocError>
-    ensures { OnOk result (string_bytes out.new
-        ≡ string_bytes out.old ++ guard_flavor names.now family code subcode (flat_map piece_text details.now)) }
+    ensures { OnOk result (string_bytes out.new ≡ string_bytes out.old ++ guard_flavor names.now kind code subcode) }
 {
-    out.push_str(" / ")?;
-    push_flavored(
-        out,
-        names.name(family, bits_of(code, 32, 29)),
-        details,
+    let flavor = Flavor {
+        number: bits_of(code, 32, 29),
         code,
         subcode,
-    )
+    };
+    let low = bits_of(code, 0, 28);
+    let identifier = (" guard identifier: ", subcode);
+    match kind {
+        GUARD_TYPE_MACH_PORT if subcode == 0 => {
+            let numbers = [(" port name: ", low)];
+            flavor.push_guard(out, names, CodeFamily::MacGuardMachPort, &numbers)
+        }
+        GUARD_TYPE_MACH_PORT => {
+            let numbers = [(" port name: ", low), (" subcode: ", subcode)];
+            flavor.push_guard(out, names, CodeFamily::MacGuardMachPort, &numbers)
+        }
+        GUARD_TYPE_FD => {
+            let numbers = [(" file descriptor: ", low), identifier];
+            flavor.push_guard(out, names, CodeFamily::MacGuardFd, &numbers)
+        }
+        GUARD_TYPE_VN => {
+            let numbers = [(" pid: ", low), identifier];
+            flavor.push_guard(out, names, CodeFamily::MacGuardVn, &numbers)
+        }
+        GUARD_TYPE_VIRT_MEMORY => {
+            let numbers = [(" offset: ", subcode)];
+            flavor.push_guard(out, names, CodeFamily::MacGuardVirtMemory, &numbers)
+        }
+        GUARD_TYPE_REJECTED_SC => {
+            let numbers = [(" syscall: ", subcode)];
+            flavor.push_guard(out, names, CodeFamily::MacGuardRejectedSysCall, &numbers)
+        }
+        _ => {
+            out.push_str(" / ")?;
+            flavor.push_unnamed(out)
+        }
+    }
 }
 
-// Returns the details of a guard of a Mach port.
-#[tactic(auto, unfolding(crate::specs::ReasonText::port_text))]
-fn port(code: u64) -> [Piece<'static>; 2]
-    ensures { flat_map piece_text result ≡ port_text code }
-{
-    [
-        Piece::Words(" port name: "),
-        Piece::Decimal(bits_of(code, 0, 28)),
-    ]
-}
-
-// Returns the details of a guard of a Mach port that has a subcode.
-#[tactic(auto, unfolding(crate::specs::ReasonText::port_subcode_text))]
-fn port_subcode(code: u64, subcode: u64) -> [Piece<'static>; 4]
-    ensures { flat_map piece_text result ≡ port_subcode_text code subcode }
-{
-    [
-        Piece::Words(" port name: "),
-        Piece::Decimal(bits_of(code, 0, 28)),
-        Piece::Words(" subcode: "),
-        Piece::Decimal(subcode),
-    ]
-}
-
-// Returns the details of a guard of a file descriptor.
-#[tactic(auto, unfolding(crate::specs::ReasonText::fd_text))]
-fn fd(code: u64, subcode: u64) -> [Piece<'static>; 4]
-    ensures { flat_map piece_text result ≡ fd_text code subcode }
-{
-    [
-        Piece::Words(" file descriptor: "),
-        Piece::Decimal(bits_of(code, 0, 28)),
-        Piece::Words(" guard identifier: "),
-        Piece::Decimal(subcode),
-    ]
-}
-
-// Returns the details of a program's own guard.
-#[tactic(auto, unfolding(crate::specs::ReasonText::user_text))]
-fn user(code: u64, subcode: u64) -> [Piece<'static>; 4]
-    ensures { flat_map piece_text result ≡ user_text code subcode }
-{
-    [
-        Piece::Words("/ namespace: "),
-        Piece::Decimal(bits_of(code, 0, 32)),
-        Piece::Words(" guard identifier: "),
-        Piece::Decimal(subcode),
-    ]
-}
-
-// Returns the details of a guard of a vnode.
-#[tactic(auto, unfolding(crate::specs::ReasonText::vn_text))]
-fn vn(code: u64, subcode: u64) -> [Piece<'static>; 4]
-    ensures { flat_map piece_text result ≡ vn_text code subcode }
-{
-    [
-        Piece::Words(" pid: "),
-        Piece::Decimal(bits_of(code, 0, 28)),
-        Piece::Words(" guard identifier: "),
-        Piece::Decimal(subcode),
-    ]
-}
-
-// Returns the details of a guard of virtual memory.
-#[tactic(auto, unfolding(crate::specs::ReasonText::offset_text))]
-fn offset(subcode: u64) -> [Piece<'static>; 2]
-    ensures { flat_map piece_text result ≡ offset_text subcode }
-{
-    [Piece::Words(" offset: "), Piece::Decimal(subcode)]
-}
-
-// Returns the details of a guard of a rejected system call.
-#[tactic(auto, unfolding(crate::specs::ReasonText::syscall_text))]
-fn syscall(subcode: u64) -> [Piece<'static>; 2]
-    ensures { flat_map piece_text result ≡ syscall_text subcode }
-{
-    [Piece::Words(" syscall: "), Piece::Decimal(subcode)]
+impl Flavor {
+    // Appends the name of a guard's flavor and its details.
+    fn push_guard(
+        self,
+        out: &mut String,
+        names: &CodeNames<'_>,
+        family: CodeFamily,
+        numbers: &[(&str, u64)],
+    ) -> Result<(), AllocError>
+        ensures { OnOk result (string_bytes out.new ≡ string_bytes out.old
+            ++ (codes " / " ++ flavored (name_of names.now family self.number) (details (map (λ d. (d.0.now, d.1)) numbers.now) []) self.code self.subcode)) }
+    {
+        out.push_str(" / ")?;
+        self.push(out, names, family, numbers, "")
+    }
 }

@@ -30,6 +30,7 @@
 
 mod bits;
 mod family;
+mod flavor;
 mod guard;
 pub mod laws;
 mod linux;

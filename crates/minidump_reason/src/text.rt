@@ -1,9 +1,8 @@
 ghost use Rattle.std.specs.Prelude.{◌≡◌, ◌++◌, IfOk, IsUtf8, OnOk, codes, string_bytes};
-ghost use Rattle.std.specs.Option.{option_copied};
 ghost use Rattle.std.specs.List.{flat_map};
 ghost use Rattle.minidump_bytes.specs.Piece.{piece_text};
 ghost use Rattle.minidump_format.specs.Print.{Prints};
-ghost use Rattle.minidump_reason.specs.ReasonText.{flavored, linux_general_text, listed, mac_general_text, name_text, reason_text, windows_general_text};
+ghost use Rattle.minidump_reason.specs.ReasonText.{linux_general_text, listed, mac_general_text, name_text, reason_text, windows_general_text};
 
 use crate::guard::push_guard;
 use crate::resource::push_resource;
@@ -279,32 +278,5 @@ fn push_windows_general(
         WINDOWS_CPP_EXCEPTION => out.push_str("Unhandled C++ Exception"),
         WINDOWS_SIMULATED => out.push_str("Simulated Exception"),
         _ => push_pieces(out, &[named(names, CodeFamily::Windows, code as u64)]),
-    }
-}
-
-// Appends the name of a flavor and its details, or the code and the subcode if it has no name.
-pub(crate) fn push_flavored(
-    out: &mut String,
-    name: Option<&str>,
-    details: &[Piece<'_>],
-    code: u64,
-    subcode: u64,
-) -> Result<(), AllocError>
-    ensures { OnOk result (string_bytes out.new
-        ≡ string_bytes out.old ++ flavored (option_copied name.entry) (flat_map piece_text details.now) code subcode) }
-{
-    match name {
-        Some(name) => {
-            out.push_str(name)?;
-            push_pieces(out, details)
-        }
-        None => push_pieces(
-            out,
-            &[
-                Piece::Wide(code, 16),
-                Piece::Words(" / "),
-                Piece::Wide(subcode, 16),
-            ],
-        ),
     }
 }

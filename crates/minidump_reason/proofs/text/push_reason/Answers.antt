@@ -1,6 +1,11 @@
 -- Each row of the match says what the reason's words are.
 use Rattle.minidump_reason.proofs.text.push_reason.Goals as goal
-use Rattle.minidump_reason.proofs.text.push_reason.Goals.{in-MacBadAccessKern, in-MacBadAccessArm, in-MacBadAccessPpc, in-MacBadAccessX86, in-MacBadInstructionArm, in-MacBadInstructionPpc, in-MacBadInstructionX86, in-MacArithmeticArm, in-MacArithmeticPpc, in-MacArithmeticX86, in-MacSoftware, in-MacBreakpointArm, in-MacBreakpointPpc, in-MacBreakpointX86, in-LinuxSigill, in-LinuxSigtrap, in-LinuxSigbus, in-LinuxSigfpe, in-LinuxSigsegv, in-LinuxSigsys, in-WindowsWinError, in-WindowsNtStatus, in-WindowsAccessViolation}
+use Rattle.minidump_reason.proofs.text.push_reason.Goals.{in-MacBadAccessKern, in-MacBadAccessArm, in-MacBadAccessPpc, in-MacBadAccessX86}
+use Rattle.minidump_reason.proofs.text.push_reason.Goals.{in-MacBadInstructionArm, in-MacBadInstructionPpc, in-MacBadInstructionX86}
+use Rattle.minidump_reason.proofs.text.push_reason.Goals.{in-MacArithmeticArm, in-MacArithmeticPpc, in-MacArithmeticX86, in-MacSoftware}
+use Rattle.minidump_reason.proofs.text.push_reason.Goals.{in-MacBreakpointArm, in-MacBreakpointPpc, in-MacBreakpointX86, in-LinuxSigill}
+use Rattle.minidump_reason.proofs.text.push_reason.Goals.{in-LinuxSigtrap, in-LinuxSigbus, in-LinuxSigfpe, in-LinuxSigsegv, in-LinuxSigsys}
+use Rattle.minidump_reason.proofs.text.push_reason.Goals.{in-WindowsWinError, in-WindowsNtStatus, in-WindowsAccessViolation}
 
 pub returns : goal.returns
 returns c = let put = c.push_row.ensures in elim c.match-reason.branch [

@@ -3,7 +3,8 @@ use Rattle.std.proofs.Common.{◌≡◌, ℕ, List, Result, Ok, Err, String, IfO
 use Rattle.std.proofs.lemmas.Str.{IsUtf8-string_bytes}
 use Rattle.minidump_reason.proofs.reason.CrashReason.write_to.Goals as goal
 
-of_made : {X E F Z : Type 0} (r : Result X E) (made : Result (String Z) F) (bytes : List ℕ) → IfOk r (λ _. IsOk made) → IfOk made (λ t. string_bytes t ≡ bytes) → IfOk r (λ _. IsUtf8 bytes)
+of_made : {X E F Z : Type 0} (r : Result X E) (made : Result (String Z) F) (bytes : List ℕ) → IfOk r (λ _. IsOk made)
+    → IfOk made (λ t. string_bytes t ≡ bytes) → IfOk r (λ _. IsUtf8 bytes)
 of_made (Ok x) (Ok t) bytes some is = subst IsUtf8 is (IsUtf8-string_bytes t)
 of_made (Ok x) (Err e) bytes some is = absurd (let b : ⊥ = cc in b)
 of_made (Err e) made bytes some is = tt
