@@ -31,13 +31,11 @@
 //!   by `map_line`, and `laws::map_lines_are_the_grammar` by `IsMapLine`.
 //! - Which regions may be read, written to or run: `is_readable`, `is_writable`, `is_executable`, by the
 //!   protection's numbers or by the letters of the line.
-//! - The unified lists answer as the list that they hold: `UnifiedMemoryList`, `UnifiedMemoryInfoList`;
-//!   `laws::the_unified_list_answers_as_the_list_it_holds`, `the_unified_list_answers_as_the_64_list_it_holds`,
-//!   `the_unified_information_answers_as_the_list_it_holds`,
-//!   `the_unified_information_answers_as_the_maps_it_holds`. Information and maps depend on their stream alone:
-//!   `laws::information_depends_on_its_stream_alone`. A clone is the same value, and values compare by what they
-//!   hold: `laws::clones_are_the_same`, `information_compares_and_copies_exactly`,
-//!   `maps_compare_by_what_their_lines_say`.
+//! - A unified list answers as the list that it holds: `UnifiedMemoryList`, `UnifiedMemoryInfoList`;
+//!   `laws::unified_list_is_its_list`.
+//! - Information and maps depend on their stream alone: `laws::information_depends_on_its_stream_alone`.
+//! - A clone is the same value, and values compare by what they hold: `laws::clones_are_the_same`,
+//!   `information_compares_and_copies_exactly`, `maps_compare_by_what_their_lines_say`.
 //!
 //! What isn't: that a forged count reserves no memory (the contracts show that no `OutOfMemory` is returned
 //! for it), and that a region's bytes are the file's own memory and outlive the list, which tests show.
