@@ -7,15 +7,8 @@ use Rattle.std.proofs.lemmas.Bool.{eq-eqb, eqb-true, ne_eqb}
 use Rattle.minidump_bytes.proofs.DigitLemmas.{number_spells, spelled_number}
 use Rattle.minidump_bytes.specs.Digits.{number_of_digits}
 use Rattle.minidump_bytes.specs.LinuxOsStr.{cut_first}
-use Rattle.minidump_memory.specs.MapLine.{AreTwo, IsCut, Lacks, and_then, two_numbers}
-
--- ---- chains
-pub some_same : {A : Type 0} (x y : A) → Some x ≡ Some y → x ≡ y
-some_same x y h = cc
-
-pub given : {A B : Type 0} (o : Option A) (f : A → Option B) (y : B) → and_then o f ≡ Some y → (x : A) × (o ≡ Some x) × (f x ≡ Some y)
-given None f y h = absurd (let k : None ≡ Some y = h in cc)
-given (Some x) f y h = (x, refl, h)
+use Rattle.minidump_memory.proofs.OptionLemmas.{given, some_same}
+use Rattle.minidump_memory.specs.MapLine.{AreTwo, IsCut, Lacks, two_numbers}
 
 -- ---- cuts
 abbrev chosen : Bool → ℕ → List ℕ → Option (List ℕ × List ℕ) → Option (List ℕ × List ℕ)

@@ -9,7 +9,8 @@ use Rattle.minidump_bytes.proofs.DigitLemmas.{number_spells, spelled_number}
 use Rattle.minidump_bytes.specs.Digits.{number_of_digits}
 use Rattle.minidump_bytes.specs.LinuxOsStr.{cut_first}
 use Rattle.minidump_bytes.specs.Text8.{utf8_text}
-use Rattle.minidump_memory.proofs.CutLemmas.{cut_is, given, is_cut, spelled_two, two_spell}
+use Rattle.minidump_memory.proofs.CutLemmas.{cut_is, is_cut, spelled_two, two_spell}
+use Rattle.minidump_memory.proofs.OptionLemmas.{given, passed, some_same}
 use Rattle.minidump_memory.proofs.PathLemmas.{letters_spell, path_spells, spelled_letters, spelled_path}
 use Rattle.minidump_memory.specs.MapLine.{AreFields, IsMapLine, Lacks, MapPath, MapRegion, fields_in, is_capital, map_line, path_in, permissions, two_numbers}
 
@@ -80,13 +81,9 @@ spelled_fields line m h =
     ) refl
 
 -- ---- lines
-utf8_by : (t : Bool) (bytes text : List ℕ) → (if t then Some bytes else None) ≡ Some text → (t ≡ true) × (bytes ≡ text)
-utf8_by true bytes text h = (refl, cc)
-utf8_by false bytes text h = absurd (let k : None ≡ Some text = h in cc)
-
 utf8_is : (bytes text : List ℕ) → utf8_text bytes ≡ Some text → IsUtf8 bytes × (bytes ≡ text)
 unfolding utf8_text
-utf8_is bytes text h = let t = utf8_by (is_utf8 bytes) bytes text h in (IsUtf8-from_is_utf8 bytes t.0, t.1)
+utf8_is bytes text h = let t = passed (is_utf8 bytes) (Some bytes) text h in (IsUtf8-from_is_utf8 bytes t.0, some_same bytes text t.1)
 
 is_utf8_text : (bytes : List ℕ) → IsUtf8 bytes → utf8_text bytes ≡ Some bytes
 unfolding utf8_text

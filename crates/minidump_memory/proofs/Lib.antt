@@ -1,4 +1,5 @@
 -- The lemmas of this crate.
+pub mod OptionLemmas
 pub mod PlacedLemmas
 pub mod UnifiedLemmas
 pub mod MapTextLemmas

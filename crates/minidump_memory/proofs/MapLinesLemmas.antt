@@ -3,12 +3,13 @@ use Rattle.std.proofs.Common.{◌≡◌, ℕ, ◌+◌, ◌<◌, ◌≤◌, Bool,
 use Rattle.std.specs.Prelude.{◌==◌, IsSome, nat_lt, if◌then◌else◌}
 use Rattle.std.specs.List.{after_first, before_first, position_or_len}
 use Rattle.std.proofs.lemmas.Bool.{ltb-true, ltb-false}
-use Rattle.std.proofs.lemmas.List.{append-nil, drop-drop, length-drop, length-take}
+use Rattle.std.proofs.lemmas.List.{append-nil, drop-drop, length-drop, length-take, nil_from_length}
 use Rattle.std.proofs.lemmas.List.Folds.{length-prefix_len}
 use Rattle.minidump_bytes.specs.Line.{line_at}
 use Rattle.minidump_bytes.specs.LinuxOsStr.{split_parts}
 use Rattle.minidump_bytes.proofs.LinuxTextLemmas.{first_line as text_first_line}
 use Rattle.minidump_system.specs.Reads.{all_ok, and_then}
+use Rattle.minidump_memory.proofs.OptionLemmas.{passed, some_same}
 use Rattle.minidump_memory.specs.MapLine.{MapRegion, map_line}
 use Rattle.minidump_memory.specs.LinuxMaps.{BeginsWithRegion, line_region, lines_of, linux_maps_in}
 use Rattle.minidump_format.specs.declared.error.Error.{Error}
@@ -20,13 +21,11 @@ unfolding lines_of split_parts
 first_line bytes some = text_first_line (λ b. b == 10) bytes some
 
 -- ---- what a read of a line says
-line_by : (t : Bool) (place : ℕ) (bytes line : List ℕ) → nat_lt place (length bytes) ≡ t → Some line ≡ (if t then Some (before_first (λ b. b == 10) (drop place bytes)) else None)
+pub line_is : (place : ℕ) (bytes line : List ℕ) → Some line ≡ line_at place bytes
     → (place < length bytes) × (line ≡ before_first (λ b. b == 10) (drop place bytes))
-line_by true place bytes line is e = (ltb-true _ _ is, cc)
-line_by false place bytes line is e = absurd cc
-
-pub line_is : (place : ℕ) (bytes line : List ℕ) → Some line ≡ line_at place bytes → (place < length bytes) × (line ≡ before_first (λ b. b == 10) (drop place bytes))
-line_is place bytes line e = line_by (nat_lt place (length bytes)) place bytes line refl e
+line_is place bytes line e =
+    let t = passed (nat_lt place (length bytes)) (Some (before_first (λ b. b == 10) (drop place bytes))) line (sym e) in
+    (ltb-true _ _ t.0, sym (some_same _ line t.1))
 
 none_by : (t : Bool) (place : ℕ) (bytes : List ℕ) → nat_lt place (length bytes) ≡ t → None ≡ (if t then Some (before_first (λ b. b == 10) (drop place bytes)) else None) → length bytes ≤ place
 none_by true place bytes is e = absurd cc
@@ -46,12 +45,8 @@ next_place place bytes line e =
     let same : length line ≡ position_or_len (λ b. b == 10) (drop place bytes) = rw e (length-prefix_len _ (drop place bytes)) in
     rw same (drop-drop (position_or_len (λ b. b == 10) (drop place bytes) + 1) place bytes)
 
-none_long : (xs : List ℕ) → length xs ≤ 0 → xs ≡ []
-none_long [] h = refl
-none_long (x ∷ xs) h = absurd (omega (arith, h))
-
 nothing_left : (place : ℕ) (bytes : List ℕ) → length bytes ≤ place → drop place bytes ≡ []
-nothing_left place bytes h = none_long (drop place bytes) (omega (arith, length-drop place bytes))
+nothing_left place bytes h = nil_from_length (drop place bytes) (omega (arith, length-drop place bytes))
 
 whole : (r : Result (List MapRegion) Error) → r ≡ and_then r (λ ys. Ok ([] ++ ys))
 whole (Err e) = refl

@@ -4,24 +4,18 @@ use Rattle.std.specs.Prelude.{if◌then◌else◌}
 use Rattle.std.specs.Str.{bytes_eq}
 use Rattle.std.proofs.lemmas.Bool.{false_from_ne_true}
 use Rattle.std.proofs.lemmas.List.{take-append-drop}
+use Rattle.std.proofs.Math.Seq.{drop-append_seam, take-append_seam}
 use Rattle.std.proofs.lemmas.Slice.Eq.{bytes_eq-Decides}
 use Rattle.std.specs.List.{list_any}
 use Rattle.std.specs.Option.{is_some}
 use Rattle.memchr.specs.Find.{IsFirstByte}
 use Rattle.minidump_bytes.proofs.SearchLemmas.{none_there, one_there}
 use Rattle.minidump_bytes.specs.LinuxOsStr.{behind}
+use Rattle.minidump_memory.proofs.OptionLemmas.{passed, some_same}
 
 -- ---- fronts
-pub taken : (xs ys : List ℕ) → take (length xs) (xs ++ ys) ≡ xs
-taken [] ys = refl
-taken (x ∷ xs) ys = ap (λ l. x ∷ l) (taken xs ys)
-
-dropped : (xs ys : List ℕ) → drop (length xs) (xs ++ ys) ≡ ys
-dropped [] ys = refl
-dropped (x ∷ xs) ys = dropped xs ys
-
 pub behind_some : (front text rest : List ℕ) → text ≡ front ++ rest → behind front text ≡ Some rest
-behind_some front text rest e = rw (e, taken front rest, (bytes_eq-Decides front front).1 refl, dropped front rest) refl
+behind_some front text rest e = rw (e, take-append_seam front rest, (bytes_eq-Decides front front).1 refl, drop-append_seam front rest) refl
 
 pub behind_none : (front text : List ℕ) → ((rest : List ℕ) → text ≢ front ++ rest) → behind front text ≡ None
 behind_none front text lacks =
@@ -29,15 +23,12 @@ behind_none front text lacks =
     let same = (bytes_eq-Decides (take (length front) text) front).0 t in
     lacks (drop (length front) text) (sym (take-append-drop (length front) text) ∙ ap (λ l. l ++ drop (length front) text) same))) refl
 
-behind_by : (t : Bool) (front text rest : List ℕ) → bytes_eq (take (length front) text) front ≡ t → (if t then Some (drop (length front) text) else None) ≡ Some rest → text ≡ front ++ rest
-behind_by true front text rest is h =
-    let same = (bytes_eq-Decides (take (length front) text) front).0 is in
-    let back : drop (length front) text ≡ rest = cc in
-    sym (take-append-drop (length front) text) ∙ rw (same, back) refl
-behind_by false front text rest is h = absurd (let k : None ≡ Some rest = h in cc)
-
 pub behind_is : (front text rest : List ℕ) → behind front text ≡ Some rest → text ≡ front ++ rest
-behind_is front text rest h = behind_by (bytes_eq (take (length front) text) front) front text rest refl h
+behind_is front text rest h =
+    let test = passed (bytes_eq (take (length front) text) front) (Some (drop (length front) text)) rest h in
+    let same = (bytes_eq-Decides (take (length front) text) front).0 test.0 in
+    let back = some_same (drop (length front) text) rest test.1 in
+    sym (take-append-drop (length front) text) ∙ rw (same, back) refl
 
 -- ---- line feeds
 pub found_any : (p : ℕ → Bool) (xs : List ℕ) (r : Option ℕ) → IsFirstByte p xs r → is_some r ≡ list_any p xs

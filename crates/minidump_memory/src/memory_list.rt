@@ -142,6 +142,7 @@ fn region_of<'a>(
     ensures value { option_map memory_of result
         ≡ result_ok (described endian (bytes_of all.entry) desc.now) }
     ensures step { steps.new ≡ after steps.old (spans_read desc.now) }
+    ensures within { steps.new ≤ steps.old + 1 }
 {
     MinidumpMemory::read_counted(desc, all, endian, steps).ok()
 }
