@@ -1,5 +1,6 @@
 -- The letters and the path of a line of the map mean what the grammar says.
-use Rattle.std.proofs.Common.{◌≡◌, ◌≢◌, ◌↔◌, ℕ, zero, suc, ◌+◌, ◌-◌, ◌*◌, ◌/◌, ◌%◌, ◌<◌, ◌≤◌, Bool, true, false, List, [], ◌∷◌, ◌++◌, get_or, length, take, Option, Some, None, codes, refl, ap, sym, subst, ◌∙◌, arith}
+use Rattle.std.proofs.Common.{◌≡◌, ◌≢◌, ◌↔◌, ℕ, zero, suc, ◌+◌, ◌-◌, ◌*◌, ◌/◌, ◌%◌, ◌<◌, ◌≤◌, Bool, true, false, List, [], ◌∷◌, ◌++◌, get_or, length}
+use Rattle.std.proofs.Common.{take, Option, Some, None, codes, refl, ap, sym, subst, ◌∙◌, arith}
 use Rattle.std.specs.Bool.{Decides}
 use Rattle.std.specs.Prelude.{◌==◌, ◌||◌, ◌&&◌, Contains, if◌then◌else◌, nat_le}
 use Rattle.std.specs.List.{list_any}
@@ -13,10 +14,12 @@ use Rattle.std.proofs.lemmas.Slice.Eq.{bytes_eq-Decides}
 use Rattle.minidump_bytes.proofs.DigitLemmas.{number_spells, spelled_number}
 use Rattle.minidump_bytes.specs.Digits.{number_of_digits}
 use Rattle.minidump_bytes.specs.LinuxOsStr.{behind, cut_first}
-use Rattle.minidump_memory.proofs.CutLemmas.{cut_is, is_cut}
+use Rattle.minidump_memory.proofs.SeparatorLemmas.{cut_is, is_cut}
 use Rattle.minidump_memory.proofs.OptionLemmas.{given, not_both, passed, some_same}
 use Rattle.minidump_memory.proofs.MapTextLemmas.{behind_is, behind_none, behind_some}
-use Rattle.minidump_memory.specs.MapLine.{Anonymous, ArePermissions, Heap, IsBracketed, IsPath, IsSegment, IsThreadStack, Lacks, MapPath, Other, Path, Rollup, Stack, TStack, Unnamed, Vdso, Vsyscall, Vsys, Vvar, by_brackets, by_name, by_segment, by_stack, in_brackets, named, path_in, permissions, shared_segment, thread_stack}
+use Rattle.minidump_memory.specs.MapLine.{Anonymous, ArePermissions, Heap, IsBracketed, IsPath, IsSegment, IsThreadStack, Lacks, MapPath, Other, Path}
+use Rattle.minidump_memory.specs.MapLine.{Rollup, Stack, TStack, Unnamed, Vdso, Vsyscall, Vsys, Vvar, by_brackets, by_name, by_segment, by_stack}
+use Rattle.minidump_memory.specs.MapLine.{in_brackets, named, path_in, permissions, shared_segment, thread_stack}
 
 -- ---- letters
 abbrev has : List ℕ → ℕ → Bool
@@ -104,7 +107,8 @@ module _ (text : List ℕ) where
       ) refl
 
   -- a test of one name before the others
-  name_by : (t : Bool) (name : List ℕ) (k path : MapPath) (rest : Option MapPath) → bytes_eq text name ≡ t → (text ≡ name → IsPath text k) → (rest ≡ Some path → IsPath text path)
+  name_by : (t : Bool) (name : List ℕ) (k path : MapPath) (rest : Option MapPath) → bytes_eq text name ≡ t → (text ≡ name → IsPath text k)
+      → (rest ≡ Some path → IsPath text path)
       → (if t then Some k else rest) ≡ Some path → IsPath text path
   name_by true name k path rest is this more h = subst (λ p. IsPath text p) (some_same k path h) (this ((bytes_eq-Decides text name).0 is))
   name_by false name k path rest is this more h = more h
@@ -140,7 +144,8 @@ last_put xs some =
     let whole : length xs - 1 + 1 ≡ length xs = omega (arith, some) in
     sym (take_all (length xs) xs (omega arith)) ∙ rw whole at more
 
-bracket_by : (b : ℕ) (rest inside : List ℕ) → 2 ≤ length (b ∷ rest) → b ≡ 91 → get_or (b ∷ rest) (length (b ∷ rest) - 1) 0 ≡ 93 → take (length (b ∷ rest) - 1 - 1) rest ≡ inside → IsBracketed (b ∷ rest) inside
+bracket_by : (b : ℕ) (rest inside : List ℕ) → 2 ≤ length (b ∷ rest) → b ≡ 91 → get_or (b ∷ rest) (length (b ∷ rest) - 1) 0 ≡ 93
+    → take (length (b ∷ rest) - 1 - 1) rest ≡ inside → IsBracketed (b ∷ rest) inside
 bracket_by b rest inside two first last is =
     let some : 0 < length rest = omega (arith, two) in
     let place : length (b ∷ rest) - 1 ≡ suc (length rest - 1) = omega (arith, some) in
@@ -203,14 +208,18 @@ is_segment text n h = rw (behind_some (codes "/SYSV") text h.digits h.joined, eq
 
 -- ---- paths
 module _ (text : List ℕ) (path : MapPath) where
-  segment_path : (o : Option ℕ) → shared_segment text ≡ o → text ≢ [] → ((rest : List ℕ) → text ≢ codes "[stack:" ++ rest) → ((inside : List ℕ) → ¬ (IsBracketed text inside))
+  segment_path : (o : Option ℕ) → shared_segment text ≡ o → text ≢ []
+      → ((rest : List ℕ) → text ≢ codes "[stack:" ++ rest) → ((inside : List ℕ) → ¬ (IsBracketed text inside))
       → by_segment text o ≡ Some path → IsPath text path
   segment_path (Some n) is some no_stack no_bracket h = subst (λ p. IsPath text p) (some_same (Vsys n) path h) (segment_is text n is)
   segment_path None is some no_stack no_bracket h =
-      subst (λ p. IsPath text p) (some_same (Path text) path h) (refl, some, no_stack, no_bracket, (λ n s. not_both (shared_segment text) n is (is_segment text n s)))
+      subst (λ p. IsPath text p) (some_same (Path text) path h)
+      (refl, some, no_stack, no_bracket, (λ n s. not_both (shared_segment text) n is (is_segment text n s)))
 
-  bracket_path : (o : Option (List ℕ)) → in_brackets text ≡ o → text ≢ [] → Unnamed text → ((rest : List ℕ) → text ≢ codes "[stack:" ++ rest) → by_brackets text o ≡ Some path → IsPath text path
-  bracket_path (Some inside) is some no_name no_stack h = subst (λ p. IsPath text p) (some_same (Other inside) path h) (bracketed text inside is, no_name, no_stack)
+  bracket_path : (o : Option (List ℕ)) → in_brackets text ≡ o → text ≢ [] → Unnamed text
+      → ((rest : List ℕ) → text ≢ codes "[stack:" ++ rest) → by_brackets text o ≡ Some path → IsPath text path
+  bracket_path (Some inside) is some no_name no_stack h =
+      subst (λ p. IsPath text p) (some_same (Other inside) path h) (bracketed text inside is, no_name, no_stack)
   bracket_path None is some no_name no_stack h =
       segment_path (shared_segment text) refl some no_stack (λ inside b. not_both (in_brackets text) inside is (in_brackets_is text inside b)) h
 
@@ -221,7 +230,8 @@ module _ (text : List ℕ) (path : MapPath) where
   stack_path : (o : Option (List ℕ)) → behind (codes "[stack:") text ≡ o → text ≢ [] → Unnamed text → by_stack text o ≡ Some path → IsPath text path
   stack_path (Some rest) is some no_name h = thread_path (thread_stack rest) rest refl (behind_is (codes "[stack:") text rest is) h
   stack_path None is some no_name h =
-      bracket_path (in_brackets text) refl some no_name (λ rest e. not_both (behind (codes "[stack:") text) rest is (behind_some (codes "[stack:") text rest e)) h
+      bracket_path (in_brackets text) refl some no_name
+      (λ rest e. not_both (behind (codes "[stack:") text) rest is (behind_some (codes "[stack:") text rest e)) h
 
   name_path : (o : Option MapPath) → named text ≡ o → text ≢ [] → by_name text o ≡ Some path → IsPath text path
   name_path (Some k) is some h = subst (λ p. IsPath text p) (some_same k path h) (named_is text k is)
@@ -284,7 +294,8 @@ spelled_segment text n h =
     let no_bracket : in_brackets text ≡ None = rw h.joined (segment_no_bracket h.digits) in
     rw (not_empty text (λ e. absurd (omega (arith, ap length (sym e ∙ h.joined)))), none, no_stack, no_bracket, is_segment text n h) refl
 
-spelled_other : (text inside : List ℕ) → text ≢ [] → Unnamed text → ((rest : List ℕ) → text ≢ codes "[stack:" ++ rest) → IsBracketed text inside → path_in text ≡ Some (Other inside)
+spelled_other : (text inside : List ℕ) → text ≢ [] → Unnamed text
+    → ((rest : List ℕ) → text ≢ codes "[stack:" ++ rest) → IsBracketed text inside → path_in text ≡ Some (Other inside)
 unfolding path_in
 spelled_other text inside some no_name no_stack bracket =
     rw (not_empty text some, unnamed_is text no_name, behind_none (codes "[stack:") text no_stack, in_brackets_is text inside bracket) refl
@@ -293,11 +304,19 @@ none_by : {A : Type 0} (o p : Option A) → o ≡ p → ((x : A) → ¬ (o ≡ S
 none_by o None is lacks = is
 none_by o (Some x) is lacks = absurd (lacks x is)
 
-spelled_text : (text : List ℕ) → text ≢ [] → ((rest : List ℕ) → text ≢ codes "[stack:" ++ rest) → ((inside : List ℕ) → ¬ (IsBracketed text inside)) → ((n : ℕ) → ¬ (IsSegment text n))
+spelled_text : (text : List ℕ) → text ≢ []
+    → ((rest : List ℕ) → text ≢ codes "[stack:" ++ rest) → ((inside : List ℕ) → ¬ (IsBracketed text inside)) → ((n : ℕ) → ¬ (IsSegment text n))
     → path_in text ≡ Some (Path text)
 unfolding path_in
 spelled_text text some no_stack no_bracket no_segment =
-    let no_name : Unnamed text = (no_bracket (codes "heap"), no_bracket (codes "stack"), no_bracket (codes "vdso"), no_bracket (codes "vvar"), no_bracket (codes "vsyscall"), no_bracket (codes "rollup")) in
+    let no_name : Unnamed text = (
+      no_bracket (codes "heap"),
+      no_bracket (codes "stack"),
+      no_bracket (codes "vdso"),
+      no_bracket (codes "vvar"),
+      no_bracket (codes "vsyscall"),
+      no_bracket (codes "rollup"),
+    ) in
     rw (
       not_empty text some,
       unnamed_is text no_name,
@@ -320,5 +339,7 @@ spelled_path text Vsyscall h = by_own_name text (codes "[vsyscall]") Vsyscall h 
 spelled_path text Rollup h = by_own_name text (codes "[rollup]") Rollup h (λ e. absurd (omega (arith, ap length e))) own_names.5
 spelled_path text (TStack n) h = spelled_thread text n h
 spelled_path text (Vsys n) h = spelled_segment text n h
-spelled_path text (Other inside) (bracket, no_name, no_stack) = spelled_other text inside (nonempty text (inside ++ 93 ∷ []) 91 bracket) no_name no_stack bracket
-spelled_path text (Path path) (same, some, no_stack, no_bracket, no_segment) = spelled_text text some no_stack no_bracket no_segment ∙ ap (λ p. Some (Path p)) (sym same)
+spelled_path text (Other inside) (bracket, no_name, no_stack) =
+    spelled_other text inside (nonempty text (inside ++ 93 ∷ []) 91 bracket) no_name no_stack bracket
+spelled_path text (Path path) (same, some, no_stack, no_bracket, no_segment) =
+    spelled_text text some no_stack no_bracket no_segment ∙ ap (λ p. Some (Path p)) (sym same)

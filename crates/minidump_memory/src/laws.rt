@@ -32,7 +32,7 @@ pub fn region_laws<D>()
     ensures unified_information { (regions : List InfoRegion) → HasRegionLaws info_region_range regions }
 {}
 
-/// A unified list answers as the list that it holds: lookups and the order by address are the same.
+/// A unified list answers as the list that it is: lookups and the order by address give the same regions.
 pub fn unified_list_is_its_list()
     ensures memory { (list : MinidumpMemoryListBase MINIDUMP_MEMORY_DESCRIPTOR) → AnswersAs (λ m. of_kind Memory (memory_of m))
         memory_range (regions_of list) region_range (unified_regions (unified_list (UnifiedMemoryList.Memory list))) }
@@ -54,13 +54,13 @@ pub fn clones_are_the_same()
         → ⟦<UnifiedMemory<'static, 'static> as Clone>⟧.is_clone region other → other ≡ region }
 {}
 
-/// A line is that of a region exactly where the grammar of the map says so.
+/// A line is read as a region exactly if the grammar of the map, `IsMapLine`, has that region for it.
 pub fn map_lines_are_the_grammar()
     ensures { (line : List ℕ) (m : MapRegion) → (map_line line ≡ Some m) ↔ IsMapLine line m }
 {}
 
-/// The memory information and the maps depend on the bytes of their streams and on the byte order alone,
-/// the maps not on that either.
+/// The memory information depends on the bytes of its stream and on the byte order alone, and the maps
+/// depend on the bytes of their stream alone.
 pub fn information_depends_on_its_stream_alone()
     ensures information { (bytes all other : List ℕ) (order : Endian) (s t : Option System)
         → ⟦<MinidumpMemoryInfoList<'static> as MinidumpStream<'static>>⟧.spec.meaning order all bytes s
@@ -70,8 +70,8 @@ pub fn information_depends_on_its_stream_alone()
         ≡ ⟦<MinidumpLinuxMaps<'static> as MinidumpStream<'static>>⟧.spec.meaning another other bytes t }
 {}
 
-/// Permissions equal the same permissions alone, and a clone of them is the same. So it is of information on
-/// a region.
+/// Permissions, and information on a region, compare equal exactly if they are the same. A clone of them is
+/// the same, and so is a clone of a reference to a region of either kind.
 pub fn information_compares_and_copies_exactly()
     ensures permissions { IsExact ⟦<MMPermissions as PartialEq>⟧.eq ⟦<MMPermissions as Clone>⟧.is_clone }
     ensures information { IsExact ⟦<MinidumpMemoryInfo<'static> as PartialEq>⟧.eq ⟦<MinidumpMemoryInfo<'static> as Clone>⟧.is_clone }
@@ -79,7 +79,7 @@ pub fn information_compares_and_copies_exactly()
         → ⟦<UnifiedMemoryInfo<'static, 'static> as Clone>⟧.is_clone region other → other ≡ region }
 {}
 
-/// Mapped regions are equal where their lines say the same, and so are their paths.
+/// Mapped regions, their fields and their paths compare equal exactly if their lines say the same.
 pub fn maps_compare_by_what_their_lines_say()
     ensures path { (one other : MMapPath) → IsTrue (⟦<MMapPath as PartialEq>⟧.eq one other) ↔ (path_of one ≡ path_of other) }
     ensures map { (one other : MemoryMap) → IsTrue (⟦<MemoryMap as PartialEq>⟧.eq one other) ↔ (map_of one ≡ map_of other) }

@@ -1,4 +1,4 @@
--- A unified list answers as the list that it holds.
+-- A unified list answers as the list that it is.
 use Rattle.std.proofs.Common.{refl}
 use Rattle.minidump_memory.specs.LinuxMaps.{map_info_of, map_range, maps_of}
 use Rattle.minidump_memory.specs.Memory.{memory_of, memory_range, region_range}

@@ -14,13 +14,16 @@ loop-desc-preserved-in-Continue-branch-2 c =
     let xs = c.args.descriptors in
     let i = length c.loop-desc.yielded in
     let found = λ (d : MINIDUMP_MEMORY_DESCRIPTOR). result_ok (described c.args.endian (bytes_of c.args.all) d) in
-    let next : IsNext xs i c.in-Some.desc c.in-Some.desc c.next.new.self = next_left xs i c.in-Some.desc _ _ (sym c.loop-desc.invariant.left ∙ c.in-Some.ensures.steps) in
-    rw (one_given c.loop-desc.yielded c.in-Some.desc) (record {
+    let desc = c.in-Some.desc in
+    let next : IsNext xs i desc desc c.next.new.self = next_left xs i desc _ _ (sym c.loop-desc.invariant.left ∙ c.in-Some.ensures.steps) in
+    rw (one_given c.loop-desc.yielded desc) (record {
       left = next.left;
-      items = rw (c.in_ok-push.ensures.items) (kept_some found memory_of xs c.loop-desc.regions.items i c.in-Some.desc _ next.inside c.loop-desc.invariant.items (rw (next.item) (rw c.in-Some-region_of.is at c.region_of.ensures.value)));
+      items = rw (c.in_ok-push.ensures.items)
+          (kept_some found memory_of xs c.loop-desc.regions.items i desc _ next.inside c.loop-desc.invariant.items
+          (rw (next.item) (rw c.in-Some-region_of.is at c.region_of.ensures.value)));
       within = omega (arith, c.region_of.ensures.within, c.loop-desc.invariant.within);
       grows = omega (arith, c.region_of.ensures.step, c.loop-desc.invariant.grows);
-      counted = rw (sum_by_more spans_read xs i c.in-Some.desc next.inside, next.item) (omega (arith, c.region_of.ensures.step, c.loop-desc.invariant.counted));
+      counted = rw (sum_by_more spans_read xs i desc next.inside, next.item) (omega (arith, c.region_of.ensures.step, c.loop-desc.invariant.counted));
     })
 
 pub loop-desc-preserved : goal.loop-desc-preserved
@@ -28,13 +31,15 @@ loop-desc-preserved c =
     let xs = c.args.descriptors in
     let i = length c.loop-desc.yielded in
     let found = λ (d : MINIDUMP_MEMORY_DESCRIPTOR). result_ok (described c.args.endian (bytes_of c.args.all) d) in
-    let next : IsNext xs i c.in-Some.desc c.in-Some.desc c.next.new.self = next_left xs i c.in-Some.desc _ _ (sym c.loop-desc.invariant.left ∙ c.in-Some.ensures.steps) in
-    rw (one_given c.loop-desc.yielded c.in-Some.desc) (record {
+    let desc = c.in-Some.desc in
+    let next : IsNext xs i desc desc c.next.new.self = next_left xs i desc _ _ (sym c.loop-desc.invariant.left ∙ c.in-Some.ensures.steps) in
+    rw (one_given c.loop-desc.yielded desc) (record {
       left = next.left;
-      items = kept_none found memory_of xs c.loop-desc.regions.items i c.in-Some.desc next.inside c.loop-desc.invariant.items (rw (next.item) (rw c.in_default.is at c.region_of.ensures.value));
+      items = kept_none found memory_of xs c.loop-desc.regions.items i desc next.inside c.loop-desc.invariant.items
+          (rw (next.item) (rw c.in_default.is at c.region_of.ensures.value));
       within = omega (arith, c.region_of.ensures.within, c.loop-desc.invariant.within);
       grows = omega (arith, c.region_of.ensures.step, c.loop-desc.invariant.grows);
-      counted = rw (sum_by_more spans_read xs i c.in-Some.desc next.inside, next.item) (omega (arith, c.region_of.ensures.step, c.loop-desc.invariant.counted));
+      counted = rw (sum_by_more spans_read xs i desc next.inside, next.item) (omega (arith, c.region_of.ensures.step, c.loop-desc.invariant.counted));
     })
 
 pub returns-clause-items : goal.returns-clause-items

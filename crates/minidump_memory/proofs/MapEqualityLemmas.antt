@@ -27,7 +27,7 @@ maps_equal one other paths same_path =
     (Decides-and _ _ (Decides-eqb one.inode other.inode) same_path)))) in
     ((λ h. same_region (fields.0 h)), (λ h. fields.1 (rw h ((refl, refl), (refl, (refl, ((refl, refl), (refl, refl))))))))
 
--- the same where something that always holds is asked too
+-- the same with one more test, which always passes
 pub regions_equal : (one other : MapRegion) (paths : Bool) → (IsTrue paths ↔ (one.pathname ≡ other.pathname))
     → IsTrue (fields_equal one other paths && true) ↔ (one ≡ other)
 regions_equal one other paths same_path =
