@@ -40,11 +40,7 @@ pub use minidump_index::laws::{
 pub use minidump_memory::laws::{
     clones_are_the_same as memory_clones_are_the_same, information_compares_and_copies_exactly,
     information_depends_on_its_stream_alone, map_lines_are_the_grammar,
-    maps_compare_by_what_their_lines_say, region_laws,
-    the_unified_information_answers_as_the_list_it_holds,
-    the_unified_information_answers_as_the_maps_it_holds,
-    the_unified_list_answers_as_the_64_list_it_holds,
-    the_unified_list_answers_as_the_list_it_holds,
+    maps_compare_by_what_their_lines_say, region_laws, unified_list_is_its_list,
 };
 use minidump_memory::{
     MinidumpLinuxMaps, MinidumpMemory64List, MinidumpMemoryInfoList, MinidumpMemoryList,

@@ -1,9 +1,10 @@
 -- The lemmas of this crate.
-pub mod PlacedLemmas
+pub mod OptionLemmas
+pub mod Memory64Lemmas
 pub mod UnifiedLemmas
 pub mod MapTextLemmas
 pub mod MapLinesLemmas
-pub mod CutLemmas
+pub mod SeparatorLemmas
 pub mod PathLemmas
 pub mod GrammarLemmas
-pub mod MapsAlike
+pub mod MapEqualityLemmas

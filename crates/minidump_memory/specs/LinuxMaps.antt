@@ -17,7 +17,7 @@ use Rattle.minidump_memory.specs.declared.map_info.MemoryMap.{MemoryMap}
 use Rattle.minidump_memory.specs.declared.map_info.MinidumpLinuxMapInfo.{MinidumpLinuxMapInfo}
 use Rattle.minidump_memory.specs.MapLine.{MapPath, MapRegion, Path, Other, Heap, Stack, Vdso, Vvar, Vsyscall, Rollup, Anonymous, TStack, Vsys, map_line}
 
--- the permissions that letters of a line stand for
+-- the names of the permissions, and their bits
 unfoldable pub map_permissions : List (List ℕ × ℕ)
 map_permissions =
     (codes "NONE", 0) ∷
@@ -28,7 +28,7 @@ map_permissions =
     (codes "PRIVATE", 16) ∷
     []
 
--- a path without its place in memory
+-- what is mapped, with a text as its bytes
 abbrev pub path_of : MMapPath → MapPath
 path_of (owned.Path text) = Path (string_bytes text)
 path_of owned.Heap = Heap
@@ -42,14 +42,14 @@ path_of owned.Anonymous = Anonymous
 path_of (owned.Vsys n) = Vsys n
 path_of (owned.Other text) = Other (string_bytes text)
 
--- the region of a map
+-- the region that fields stand for, and that of a line
 abbrev pub map_of : MemoryMap → MapRegion
 map_of m = record { address = m.address; perms = m.perms.0; offset = m.offset; dev = m.dev; inode = m.inode; pathname = path_of m.pathname }
 
 abbrev pub map_info_of : MinidumpLinuxMapInfo → MapRegion
 map_info_of m = map_of m.map
 
--- its addresses: first to last - 1, where first is below last; else none
+-- its addresses: from the first to the one before the end, if the first is below the end
 abbrev pub region_range : MapRegion → Option Range
 region_range m = range_of m.address.0 (m.address.1 - m.address.0)
 
@@ -60,23 +60,23 @@ map_range m = region_range (map_info_of m)
 abbrev pub maps_of : MinidumpLinuxMaps → List MinidumpLinuxMapInfo
 maps_of l = l.regions
 
--- the same, without their places in memory
+-- the same, as values
 abbrev pub linux_maps_of : MinidumpLinuxMaps → List MapRegion
 linux_maps_of l = map map_info_of (maps_of l)
 
--- the lines of bytes: the parts between line feeds, a last one only where it is not empty
+-- the lines of bytes: the parts between line feeds, but for an empty last one
 unfoldable pub lines_of : List ℕ → List (List ℕ)
 lines_of bytes = but_empty_last (split_parts 10 bytes)
 
--- the region of a line of the stream, which refuses the stream where it is none
+-- the region of a line, or the error where it is not a line of the map
 abbrev pub line_region : List ℕ → Result MapRegion Error
 line_region line = ok_or (map_line line) StreamReadFailure
 
--- Breakpad's MD_LINUX_MAPS: the regions of the lines, where each line is one
+-- Breakpad's MD_LINUX_MAPS: the regions of all lines, or the error of one
 unfoldable pub linux_maps_in : List ℕ → Result (List MapRegion) Error
 linux_maps_in bytes = all_ok line_region (lines_of bytes)
 
--- the first line is that of a region: without it there is no `OutOfMemory`
+-- the first line is that of a region: only then may memory run out
 abbrev pub BeginsWithRegion : List ℕ → Type 0
 BeginsWithRegion bytes = IsSome (option_and_then map_line (line_at 0 bytes))
 

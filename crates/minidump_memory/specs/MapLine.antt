@@ -1,5 +1,6 @@
 -- A line of /proc/PID/maps, as Linux's proc_pid_maps(5) has it: `first-last perms offset major:minor inode pathname`.
-use Rattle.std.specs.Prelude.{◌≡◌, ◌≢◌, ◌↔◌, ◌<◌, ℕ, ◌+◌, ◌-◌, ◌/◌, ◌%◌, Bool, false, ◌&&◌, Contains, List, [], ◌∷◌, ◌++◌, length, codes, slice_index, slice_range, Option, Some, None, ◌==◌, nat_le, if◌then◌else◌}
+use Rattle.std.specs.Prelude.{◌≡◌, ◌≢◌, ◌↔◌, ◌<◌, ℕ, ◌+◌, ◌-◌, ◌/◌, ◌%◌, Bool, false, ◌&&◌, Contains, List, [], ◌∷◌, ◌++◌, length, codes, slice_index}
+use Rattle.std.specs.Prelude.{slice_range, Option, Some, None, ◌==◌, nat_le, if◌then◌else◌}
 use Rattle.std.specs.List.{AllByRecursion, list_any}
 use Rattle.std.specs.Option.{option_and_then, option_map}
 use Rattle.std.specs.Str.{IsUtf8, bytes_eq, trim}
@@ -7,7 +8,7 @@ use Rattle.minidump_bytes.specs.Digits.{IsNumber, number_of_digits}
 use Rattle.minidump_bytes.specs.LinuxOsStr.{behind, cut_first}
 use Rattle.minidump_bytes.specs.Text8.{utf8_text}
 
--- what a part gives is handed to the next one
+-- the next step, with what was found, or nothing where nothing was
 abbrev pub and_then : {A B : Type 0} → Option A → (A → Option B) → Option B
 and_then found next = option_and_then next found
 
@@ -16,11 +17,11 @@ unfoldable pub two_numbers : ℕ → ℕ → List ℕ → Option (ℕ × ℕ)
 two_numbers byte bits bytes =
     and_then (cut_first byte bytes) (λ p. and_then (number_of_digits 16 bits p.0) (λ m. and_then (number_of_digits 16 bits p.1) (λ n. Some (m, n))))
 
--- the bit of a letter, where it is there
+-- the bit of a letter if it is there, else 0
 abbrev pub bit_if : List ℕ → ℕ → ℕ → ℕ
 bit_if letters letter bit = if list_any (λ b. b == letter) letters then bit else 0
 
--- the permissions of a field with the letters r, w, x, s and p: 1, 2, 4, 8 and 16; other bytes say nothing
+-- the permissions of a field with the letters r, w, x, s and p: 1, 2, 4, 8 and 16; other bytes are passed over
 unfoldable pub permissions : List ℕ → ℕ
 permissions letters = bit_if letters 114 1 + bit_if letters 119 2 + bit_if letters 120 4 + bit_if letters 115 8 + bit_if letters 112 16
 
@@ -30,7 +31,7 @@ pub data MapPath : Type 0 where
   Heap Stack Vdso Vvar Vsyscall Rollup Anonymous : MapPath
   TStack Vsys : ℕ → MapPath
 
--- the pseudo-paths with a name of their own
+-- what the six names in brackets stand for
 unfoldable pub named : List ℕ → Option MapPath
 named text =
     if bytes_eq text (codes "[heap]") then Some Heap else (
@@ -44,7 +45,7 @@ named text =
 unfoldable pub thread_stack : List ℕ → Option ℕ
 thread_stack rest = and_then (cut_first 93 rest) (λ p. if length p.1 == 0 then number_of_digits 10 32 p.0 else None)
 
--- what stands between brackets
+-- the text between brackets
 unfoldable pub in_brackets : List ℕ → Option (List ℕ)
 in_brackets text =
     if nat_le 2 (length text) && (slice_index text 0 == 91) && (slice_index text (length text - 1) == 93)
@@ -70,7 +71,7 @@ abbrev pub by_name : List ℕ → Option MapPath → Option MapPath
 by_name text (Some path) = Some path
 by_name text None = by_stack text (behind (codes "[stack:") text)
 
--- what a text without white space at its ends names; none where `[stack:` begins it and no good number and bracket end it
+-- what a text without white space at its ends stands for; one that begins with `[stack:` has to end with a number and a bracket
 unfoldable pub path_in : List ℕ → Option MapPath
 path_in text = if length text == 0 then Some Anonymous else by_name text (named text)
 
@@ -110,11 +111,11 @@ map_line line =
 
 -- ---- the same as a grammar
 
--- no such byte is among these
+-- the byte is not among these
 abbrev pub Lacks : ℕ → List ℕ → Type 0
 Lacks byte bytes = AllByRecursion (λ b. b ≢ byte) bytes
 
--- bytes are cut at the first such byte
+-- the bytes are a front part without the byte, the byte, and a back part
 pub record IsCut (byte : ℕ) (bytes front back : List ℕ) : Type 0 where
   pub joined : bytes ≡ front ++ byte ∷ back
   pub lacks : Lacks byte front
@@ -136,14 +137,15 @@ pub record ArePermissions (letters : List ℕ) (perms : ℕ) : Type 0 where
   pub shared : (perms / 8 % 2 ≡ 1) ↔ Contains letters 115
   pub private : (perms / 16 % 2 ≡ 1) ↔ Contains letters 112
 
--- a text stands between brackets
+-- a text is another one in brackets
 abbrev pub IsBracketed : List ℕ → List ℕ → Type 0
 IsBracketed text inside = text ≡ 91 ∷ inside ++ 93 ∷ []
 
--- a text is none of the names that pseudo-paths have for themselves
+-- a text is none of the six names
 abbrev pub Unnamed : List ℕ → Type 0
 Unnamed text =
-    (text ≢ codes "[heap]") × (text ≢ codes "[stack]") × (text ≢ codes "[vdso]") × (text ≢ codes "[vvar]") × (text ≢ codes "[vsyscall]") × (text ≢ codes "[rollup]")
+    (text ≢ codes "[heap]") × (text ≢ codes "[stack]") × (text ≢ codes "[vdso]")
+    × (text ≢ codes "[vvar]") × (text ≢ codes "[vsyscall]") × (text ≢ codes "[rollup]")
 
 -- the stack of a thread: `[stack:`, a decimal number of 32 bits and a bracket
 pub record IsThreadStack (text : List ℕ) (n : ℕ) : Type 0 where
@@ -159,7 +161,7 @@ pub record IsSegment (text : List ℕ) (n : ℕ) : Type 0 where
   pub eight : length digits ≡ 8
   pub number : IsNumber 16 32 digits n
 
--- what a text without white space at its ends names. What `[stack:` begins is the stack of a thread, or nothing
+-- what a text without white space at its ends stands for; one that begins with `[stack:` is the stack of a thread, or refused
 abbrev pub IsPath : List ℕ → MapPath → Type 0
 IsPath text Anonymous = text ≡ []
 IsPath text Heap = text ≡ codes "[heap]"
@@ -172,7 +174,8 @@ IsPath text (TStack n) = IsThreadStack text n
 IsPath text (Other inside) = IsBracketed text inside × Unnamed text × ((rest : List ℕ) → text ≢ codes "[stack:" ++ rest)
 IsPath text (Vsys n) = IsSegment text n
 IsPath text (Path path) =
-    (path ≡ text) × (text ≢ []) × ((rest : List ℕ) → text ≢ codes "[stack:" ++ rest) × ((inside : List ℕ) → ¬ (IsBracketed text inside)) × ((n : ℕ) → ¬ (IsSegment text n))
+    (path ≡ text) × (text ≢ []) × ((rest : List ℕ) → text ≢ codes "[stack:" ++ rest)
+    × ((inside : List ℕ) → ¬ (IsBracketed text inside)) × ((n : ℕ) → ¬ (IsSegment text n))
 
 -- six fields joined by spaces, the first five without a space: `first-last`, the permissions, the offset, `major:minor`, the inode
 -- and the path

@@ -20,7 +20,7 @@ pub record MemoryRegion (D : Type 0) : Type 0 where
   pub bytes : List ℕ
   pub endian : Endian
 
--- what a region of a list holds
+-- a region of a list, as a value
 abbrev pub memory_of : {D : Type 0} → MinidumpMemoryBase D → MemoryRegion D
 memory_of m = record { desc = m.desc; base_address = m.base_address; size = m.size; bytes = m.bytes.now; endian = m.endian }
 
@@ -28,7 +28,7 @@ memory_of m = record { desc = m.desc; base_address = m.base_address; size = m.si
 abbrev pub region_range : {D : Type 0} → MemoryRegion D → Option Range
 region_range m = range_of m.base_address m.size
 
--- those of a region of a list
+-- the addresses of a region of a list
 abbrev pub memory_range : {D : Type 0} → MinidumpMemoryBase D → Option Range
 memory_range m = region_range (memory_of m)
 
@@ -37,14 +37,14 @@ abbrev pub number_in : {D T : Type 0} → Layout T → MemoryRegion D → ℕ �
 number_in layout m address =
     if nat_le m.base_address address then record_at layout m.endian (address - m.base_address) m.bytes else None
 
--- Microsoft's MINIDUMP_MEMORY_DESCRIPTOR: the region of a descriptor, whose bytes are the span of its location. A location with no
--- place or no size has none.
+-- Microsoft's MINIDUMP_MEMORY_DESCRIPTOR: the region of a descriptor, whose bytes are the span of its location. A location whose RVA
+-- or size is 0 has no region.
 abbrev pub described : Endian → List ℕ → MINIDUMP_MEMORY_DESCRIPTOR → Result (MemoryRegion MINIDUMP_MEMORY_DESCRIPTOR) Error
 described order file d =
     if d.memory.rva == 0 || d.memory.data_size == 0 then Err MemoryReadFailure else
     and_then (ok_or (span d.memory.rva (d.memory.rva + d.memory.data_size) file) StreamReadFailure) (λ bytes.
     Ok (record { desc = d; base_address = d.start_of_memory_range; size = d.memory.data_size; bytes = bytes; endian = order }))
 
--- how many spans are read for it: none where there is no place or no size
+-- the number of spans that are read for it: none if its RVA or its size is 0
 abbrev pub spans_read : MINIDUMP_MEMORY_DESCRIPTOR → ℕ
 spans_read d = if d.memory.rva == 0 || d.memory.data_size == 0 then 0 else 1

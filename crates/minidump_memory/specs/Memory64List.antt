@@ -14,27 +14,27 @@ use Rattle.minidump_memory.specs.MemoryList.{memory_list_of}
 use Rattle.minidump_memory.specs.declared.memory_list.MinidumpMemoryListBase.{MinidumpMemoryListBase}
 use Rattle.minidump_memory.specs.Memory.{MemoryRegion}
 
--- where the bytes of the region of an index begin: those of the regions before it lie between the list's place and there
+-- the offset of the bytes of the region with an index: the list's RVA and the sizes of all regions before it
 abbrev pub place_64 : List64 MINIDUMP_MEMORY_DESCRIPTOR64 → ℕ → ℕ
 place_64 l i = l.rva + sum_by (λ d. d.data_size) (take i l.items)
 
--- the region of a descriptor whose bytes begin at a place
+-- the region of a descriptor whose bytes begin at an offset
 abbrev pub placed : Endian → List ℕ → ℕ → MINIDUMP_MEMORY_DESCRIPTOR64 → MemoryRegion MINIDUMP_MEMORY_DESCRIPTOR64
 placed order file place d =
     record { desc = d; base_address = d.start_of_memory_range; size = d.data_size; bytes = slice_range file place (place + d.data_size); endian = order }
 
--- the regions of a 64 list, one behind another
+-- the regions of a 64-bit list, whose bytes lie one behind another
 abbrev pub all_placed : Endian → List ℕ → List64 MINIDUMP_MEMORY_DESCRIPTOR64 → List (MemoryRegion MINIDUMP_MEMORY_DESCRIPTOR64)
 all_placed order file l = map (λ p. placed order file (place_64 l p.0) p.1) (enumerate_from 0 l.items)
 
--- all of their bytes are in the file; of a list without regions nothing is asked
+-- whether all of their bytes are in the file, or there are no regions
 abbrev pub is_inside : List ℕ → List64 MINIDUMP_MEMORY_DESCRIPTOR64 → Bool
 is_inside file l = length l.items == 0 || nat_le (place_64 l (length l.items)) (length file)
 
 abbrev pub regions_64 : Endian → List ℕ → List64 MINIDUMP_MEMORY_DESCRIPTOR64 → Result (List (MemoryRegion MINIDUMP_MEMORY_DESCRIPTOR64)) Error
 regions_64 order file l = if is_inside file l then Ok (all_placed order file l) else Err StreamReadFailure
 
--- Microsoft's MINIDUMP_MEMORY64_LIST: a 64 list of descriptors
+-- Microsoft's MINIDUMP_MEMORY64_LIST: a 64-bit list of descriptors
 abbrev pub memory64_list_in : Endian → List ℕ → List ℕ → Result (List (MemoryRegion MINIDUMP_MEMORY_DESCRIPTOR64)) Error
 memory64_list_in order file bytes = and_then (list_64 memory_descriptor_64 order bytes) (regions_64 order file)
 

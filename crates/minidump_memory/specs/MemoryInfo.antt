@@ -32,7 +32,7 @@ info_of m = record {
   ty = m.ty.0;
 }
 
--- Microsoft's MINIDUMP_MEMORY_INFO: of its sets the bits that have a name
+-- Microsoft's MINIDUMP_MEMORY_INFO: an entry with those bits of each set that have a name
 abbrev pub info_in : MINIDUMP_MEMORY_INFO → MemoryInfo
 info_in raw = record {
   raw = raw;

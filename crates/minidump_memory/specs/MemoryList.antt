@@ -18,7 +18,7 @@ use Rattle.minidump_memory.specs.Memory.{MemoryRegion, described, memory_of, spa
 abbrev pub regions_of : {D : Type 0} → MinidumpMemoryListBase D → List (MinidumpMemoryBase D)
 regions_of l = l.regions
 
--- the same, without their addresses in memory
+-- the same, as values
 abbrev pub memory_list_of : {D : Type 0} → MinidumpMemoryListBase D → List (MemoryRegion D)
 memory_list_of l = map memory_of (regions_of l)
 
@@ -34,7 +34,7 @@ abbrev spans_in : Result (List MINIDUMP_MEMORY_DESCRIPTOR) Error → ℕ
 spans_in (Err e) = 0
 spans_in (Ok ds) = sum_by spans_read ds
 
--- how many spans are read for the regions of a list
+-- the number of spans that are read for the regions of a list
 abbrev pub spans_of_list : Endian → List ℕ → ℕ
 spans_of_list order bytes = spans_in (plain_list memory_descriptor order bytes)
 

@@ -12,7 +12,7 @@ use Rattle.minidump_memory.specs.LinuxMaps.{map_info_of, linux_maps_of, region_r
 use Rattle.minidump_memory.specs.MapLine.{MapRegion}
 use Rattle.minidump_memory.specs.MemoryInfo.{MemoryInfo, info_of, info_range, memory_info_list_of, page_is_executable, page_is_readable, page_is_writable}
 
--- what is of an MD_LINUX_MAPS stream, or of a MINIDUMP_MEMORY_INFO_LIST
+-- something of an MD_LINUX_MAPS stream, or of a MINIDUMP_MEMORY_INFO_LIST
 pub data UnifiedInfo (A B : Type 0) : Type 0 where
   OfMaps : (of_maps : A) → UnifiedInfo A B
   OfInfo : (of_info : B) → UnifiedInfo A B
@@ -35,7 +35,7 @@ abbrev pub info_region : UnifiedMemoryInfo → InfoRegion
 info_region (region.Map m) = OfMaps (map_info_of m.now)
 info_region (region.Info m) = OfInfo (info_of m.now)
 
--- the regions of the list that is held
+-- the regions of the list that a unified list is
 abbrev pub info_list : UnifiedMemoryInfoList → InfoRegions
 info_list (list.Maps l) = OfMaps (linux_maps_of l)
 info_list (list.Info l) = OfInfo (memory_info_list_of l)
@@ -58,17 +58,17 @@ abbrev pub region_is_executable : InfoRegion → Bool
 region_is_executable (OfMaps m) = has_flag m.perms 4
 region_is_executable (OfInfo m) = page_is_executable m.protection
 
--- the list that is held, of two that may be there: the information before the maps
-abbrev pub held : Option MinidumpMemoryInfoList → Option MinidumpLinuxMaps → Option UnifiedMemoryInfoList
-held (Some info) maps = Some (list.Info info)
-held None (Some maps) = Some (list.Maps maps)
-held None None = None
+-- the unified list of two that may be there: the information, or else the maps
+abbrev pub info_or_maps : Option MinidumpMemoryInfoList → Option MinidumpLinuxMaps → Option UnifiedMemoryInfoList
+info_or_maps (Some info) maps = Some (list.Info info)
+info_or_maps None (Some maps) = Some (list.Maps maps)
+info_or_maps None None = None
 
--- the list of maps, and of information, where one of its kind is held
-abbrev pub held_maps : UnifiedMemoryInfoList → Option MinidumpLinuxMaps
-held_maps (list.Maps l) = Some l
-held_maps (list.Info l) = None
+-- the list as maps and as information, if it is one of them
+abbrev pub as_maps : UnifiedMemoryInfoList → Option MinidumpLinuxMaps
+as_maps (list.Maps l) = Some l
+as_maps (list.Info l) = None
 
-abbrev pub held_info : UnifiedMemoryInfoList → Option MinidumpMemoryInfoList
-held_info (list.Maps l) = None
-held_info (list.Info l) = Some l
+abbrev pub as_info : UnifiedMemoryInfoList → Option MinidumpMemoryInfoList
+as_info (list.Maps l) = None
+as_info (list.Info l) = Some l

@@ -1,16 +1,15 @@
 //! Laws of lists of memory and of information on it, over the definitions that contracts cite.
-ghost use Rattle.std.specs.Prelude.{◌≡◌, ◌↔◌, ℕ, IsTrue, List, Option, Some, map};
-ghost use Rattle.std.specs.Option.{option_map};
+ghost use Rattle.std.specs.Prelude.{◌≡◌, ◌↔◌, ℕ, IsTrue, List, Option, Some};
 ghost use Rattle.minidump_bytes.specs.declared.endian.Endian.{Endian};
 ghost use Rattle.minidump_bytes.specs.Exact.{IsExact};
-ghost use Rattle.minidump_index.specs.Lookup.{HasRegionLaws, IsByAddress, IsLookedUp};
+ghost use Rattle.minidump_index.specs.Lookup.{HasRegionLaws};
 ghost use Rattle.minidump_system.specs.SystemInfo.{System};
 ghost use Rattle.minidump_memory.specs.LinuxMaps.{map_info_of, map_of, map_range, maps_of, path_of};
 ghost use Rattle.minidump_memory.specs.MapLine.{IsMapLine, MapRegion, map_line};
 ghost use Rattle.minidump_memory.specs.Memory.{memory_of, memory_range, region_range};
 ghost use Rattle.minidump_memory.specs.MemoryList.{regions_of};
 ghost use Rattle.minidump_memory.specs.MemoryInfo.{info_of, infos_of, memory_info_range};
-ghost use Rattle.minidump_memory.specs.Unified.{Memory, Memory64, UnifiedRegion, of_kind, unified_list, unified_regions};
+ghost use Rattle.minidump_memory.specs.Unified.{AnswersAs, Memory, Memory64, UnifiedRegion, of_kind, unified_list, unified_regions};
 ghost use Rattle.minidump_memory.specs.UnifiedInfo.{InfoRegion, OfInfo, OfMaps, info_list, info_region_range, info_regions};
 
 use crate::{
@@ -33,32 +32,16 @@ pub fn region_laws<D>()
     ensures unified_information { (regions : List InfoRegion) → HasRegionLaws info_region_range regions }
 {}
 
-/// The lookups and the regions by address of a unified list are those of the memory list that it holds.
-pub fn the_unified_list_answers_as_the_list_it_holds()
-    ensures found { (list : MinidumpMemoryListBase MINIDUMP_MEMORY_DESCRIPTOR) (address : ℕ)
-        (found : Option (MinidumpMemoryBase MINIDUMP_MEMORY_DESCRIPTOR)) (other : Option UnifiedRegion)
-        → IsLookedUp memory_range (regions_of list) address found
-        → IsLookedUp region_range (unified_regions (unified_list (UnifiedMemoryList.Memory list))) address other
-        ↔ (other ≡ option_map (λ m. of_kind Memory (memory_of m)) found) }
-    ensures by_address { (list : MinidumpMemoryListBase MINIDUMP_MEMORY_DESCRIPTOR)
-        (given : List (MinidumpMemoryBase MINIDUMP_MEMORY_DESCRIPTOR)) (other : List UnifiedRegion)
-        → IsByAddress memory_range (regions_of list) given
-        → IsByAddress region_range (unified_regions (unified_list (UnifiedMemoryList.Memory list))) other
-        ↔ (other ≡ map (of_kind Memory) (map memory_of given)) }
-{}
-
-/// The lookups and the regions by address of a unified list are those of the 64-bit list that it holds.
-pub fn the_unified_list_answers_as_the_64_list_it_holds()
-    ensures found { (list : MinidumpMemoryListBase MINIDUMP_MEMORY_DESCRIPTOR64) (address : ℕ)
-        (found : Option (MinidumpMemoryBase MINIDUMP_MEMORY_DESCRIPTOR64)) (other : Option UnifiedRegion)
-        → IsLookedUp memory_range (regions_of list) address found
-        → IsLookedUp region_range (unified_regions (unified_list (UnifiedMemoryList.Memory64 list))) address other
-        ↔ (other ≡ option_map (λ m. of_kind Memory64 (memory_of m)) found) }
-    ensures by_address { (list : MinidumpMemoryListBase MINIDUMP_MEMORY_DESCRIPTOR64)
-        (given : List (MinidumpMemoryBase MINIDUMP_MEMORY_DESCRIPTOR64)) (other : List UnifiedRegion)
-        → IsByAddress memory_range (regions_of list) given
-        → IsByAddress region_range (unified_regions (unified_list (UnifiedMemoryList.Memory64 list))) other
-        ↔ (other ≡ map (of_kind Memory64) (map memory_of given)) }
+/// A unified list answers as the list that it is: lookups and the order by address give the same regions.
+pub fn unified_list_is_its_list()
+    ensures memory { (list : MinidumpMemoryListBase MINIDUMP_MEMORY_DESCRIPTOR) → AnswersAs (λ m. of_kind Memory (memory_of m))
+        memory_range (regions_of list) region_range (unified_regions (unified_list (UnifiedMemoryList.Memory list))) }
+    ensures memory64 { (list : MinidumpMemoryListBase MINIDUMP_MEMORY_DESCRIPTOR64) → AnswersAs (λ m. of_kind Memory64 (memory_of m))
+        memory_range (regions_of list) region_range (unified_regions (unified_list (UnifiedMemoryList.Memory64 list))) }
+    ensures maps { (list : MinidumpLinuxMaps) → AnswersAs (λ m. OfMaps (map_info_of m))
+        map_range (maps_of list) info_region_range (info_regions (info_list (UnifiedMemoryInfoList.Maps list))) }
+    ensures information { (list : MinidumpMemoryInfoList) → AnswersAs (λ m. OfInfo (info_of m))
+        memory_info_range (infos_of list) info_region_range (info_regions (info_list (UnifiedMemoryInfoList.Info list))) }
 {}
 
 /// Clones of a region are the same region.
@@ -71,39 +54,13 @@ pub fn clones_are_the_same()
         → ⟦<UnifiedMemory<'static, 'static> as Clone>⟧.is_clone region other → other ≡ region }
 {}
 
-/// The lookups and the regions by address of a unified list of information are those of the maps that it
-/// holds.
-pub fn the_unified_information_answers_as_the_maps_it_holds()
-    ensures found { (list : MinidumpLinuxMaps) (address : ℕ) (found : Option MinidumpLinuxMapInfo) (other : Option InfoRegion)
-        → IsLookedUp map_range (maps_of list) address found
-        → IsLookedUp info_region_range (info_regions (info_list (UnifiedMemoryInfoList.Maps list))) address other
-        ↔ (other ≡ option_map (λ m. OfMaps (map_info_of m)) found) }
-    ensures by_address { (list : MinidumpLinuxMaps) (given : List MinidumpLinuxMapInfo) (other : List InfoRegion)
-        → IsByAddress map_range (maps_of list) given
-        → IsByAddress info_region_range (info_regions (info_list (UnifiedMemoryInfoList.Maps list))) other
-        ↔ (other ≡ map OfMaps (map map_info_of given)) }
-{}
-
-/// The lookups and the regions by address of a unified list of information are those of the information
-/// that it holds.
-pub fn the_unified_information_answers_as_the_list_it_holds()
-    ensures found { (list : MinidumpMemoryInfoList) (address : ℕ) (found : Option MinidumpMemoryInfo) (other : Option InfoRegion)
-        → IsLookedUp memory_info_range (infos_of list) address found
-        → IsLookedUp info_region_range (info_regions (info_list (UnifiedMemoryInfoList.Info list))) address other
-        ↔ (other ≡ option_map (λ m. OfInfo (info_of m)) found) }
-    ensures by_address { (list : MinidumpMemoryInfoList) (given : List MinidumpMemoryInfo) (other : List InfoRegion)
-        → IsByAddress memory_info_range (infos_of list) given
-        → IsByAddress info_region_range (info_regions (info_list (UnifiedMemoryInfoList.Info list))) other
-        ↔ (other ≡ map OfInfo (map info_of given)) }
-{}
-
-/// A line is that of a region exactly where the grammar of the map says so.
+/// A line is read as a region exactly if the grammar of the map, `IsMapLine`, has that region for it.
 pub fn map_lines_are_the_grammar()
     ensures { (line : List ℕ) (m : MapRegion) → (map_line line ≡ Some m) ↔ IsMapLine line m }
 {}
 
-/// The memory information and the maps depend on the bytes of their streams and on the byte order alone,
-/// the maps not on that either.
+/// The memory information depends on the bytes of its stream and on the byte order alone, and the maps
+/// depend on the bytes of their stream alone.
 pub fn information_depends_on_its_stream_alone()
     ensures information { (bytes all other : List ℕ) (order : Endian) (s t : Option System)
         → ⟦<MinidumpMemoryInfoList<'static> as MinidumpStream<'static>>⟧.spec.meaning order all bytes s
@@ -113,8 +70,8 @@ pub fn information_depends_on_its_stream_alone()
         ≡ ⟦<MinidumpLinuxMaps<'static> as MinidumpStream<'static>>⟧.spec.meaning another other bytes t }
 {}
 
-/// Permissions equal the same permissions alone, and a clone of them is the same. So it is of information on
-/// a region.
+/// Permissions, and information on a region, compare equal exactly if they are the same. A clone of them is
+/// the same, and so is a clone of a reference to a region of either kind.
 pub fn information_compares_and_copies_exactly()
     ensures permissions { IsExact ⟦<MMPermissions as PartialEq>⟧.eq ⟦<MMPermissions as Clone>⟧.is_clone }
     ensures information { IsExact ⟦<MinidumpMemoryInfo<'static> as PartialEq>⟧.eq ⟦<MinidumpMemoryInfo<'static> as Clone>⟧.is_clone }
@@ -122,7 +79,7 @@ pub fn information_compares_and_copies_exactly()
         → ⟦<UnifiedMemoryInfo<'static, 'static> as Clone>⟧.is_clone region other → other ≡ region }
 {}
 
-/// Mapped regions are equal where their lines say the same, and so are their paths.
+/// Mapped regions, their fields and their paths compare equal exactly if their lines say the same.
 pub fn maps_compare_by_what_their_lines_say()
     ensures path { (one other : MMapPath) → IsTrue (⟦<MMapPath as PartialEq>⟧.eq one other) ↔ (path_of one ≡ path_of other) }
     ensures map { (one other : MemoryMap) → IsTrue (⟦<MemoryMap as PartialEq>⟧.eq one other) ↔ (map_of one ≡ map_of other) }

@@ -13,31 +13,30 @@
 //! Reading a list returns `StreamReadFailure` or `StreamSizeMismatch` where the stream is malformed, and
 //! `OutOfMemory` where an allocation fails. In a memory list a descriptor without an RVA, without a size, or
 //! with bytes outside the file is skipped; in a 64-bit list bytes outside the file refuse the whole list. One
-//! line that is none refuses all maps.
+//! line that is not a line of the map refuses all maps.
 //!
 //! # What is proved
 //!
-//! - Each list has the regions that the format assigns to its stream, in its order, or returns the error
-//!   that it assigns, in at most n + 7 reads and at least one for each number, entry, line and region:
-//!   `MinidumpStream::read` of the four lists, by `memory_list_in`, `memory64_list_in`, `memory_info_list_in` and
-//!   `linux_maps_in`. One region by its descriptor: `MinidumpMemory::read`, `read_counted`, by `described`.
+//! - Reading a stream returns the regions that the format assigns to it, in their order, or the error that
+//!   the format assigns: `MinidumpStream::read` of the four lists, by `memory_list_in`, `memory64_list_in`,
+//!   `memory_info_list_in` and `linux_maps_in`. It takes at most n + 7 reads, by n, the longer of stream and
+//!   file, and at least one for each number, entry, line and region. One region by its descriptor:
+//!   `MinidumpMemory::read`, `read_counted`, by `described`.
 //! - A lookup returns the kept region that contains the address, in at most as many comparisons as the
 //!   number of kept regions has binary digits: `memory_at_address`, `memory_info_at_address`, and their
 //!   counted forms. All regions in the list's order: `iter`. The kept ones by address, from both ends:
 //!   `by_addr`. How these fit together: `laws::region_laws`.
-//! - A number in a region is the one at the address's distance from the base, where the region holds all of
-//!   it: `get_memory_at_address`, by `number_in`.
-//! - A line is that of a region exactly where the grammar of the map says so: `MinidumpLinuxMapInfo::from_line`
-//!   by `map_line`, and `laws::map_lines_are_the_grammar` by `IsMapLine`.
+//! - The number at an address stands in the region's bytes at the address's distance from the base address,
+//!   and the region holds all of it: `get_memory_at_address`, by `number_in`.
+//! - A line is read as a region exactly if the grammar of the map has that region for it:
+//!   `MinidumpLinuxMapInfo::from_line` by `map_line`, and `laws::map_lines_are_the_grammar` by `IsMapLine`.
 //! - Which regions may be read, written to or run: `is_readable`, `is_writable`, `is_executable`, by the
 //!   protection's numbers or by the letters of the line.
-//! - The unified lists answer as the list that they hold: `UnifiedMemoryList`, `UnifiedMemoryInfoList`;
-//!   `laws::the_unified_list_answers_as_the_list_it_holds`, `the_unified_list_answers_as_the_64_list_it_holds`,
-//!   `the_unified_information_answers_as_the_list_it_holds`,
-//!   `the_unified_information_answers_as_the_maps_it_holds`. Information and maps depend on their stream alone:
-//!   `laws::information_depends_on_its_stream_alone`. A clone is the same value, and values compare by what they
-//!   hold: `laws::clones_are_the_same`, `information_compares_and_copies_exactly`,
-//!   `maps_compare_by_what_their_lines_say`.
+//! - A unified list answers as the list that it is: `UnifiedMemoryList`, `UnifiedMemoryInfoList`;
+//!   `laws::unified_list_is_its_list`.
+//! - Information and maps depend on their stream alone: `laws::information_depends_on_its_stream_alone`.
+//! - A clone is the same value, and values compare by what they hold: `laws::clones_are_the_same`,
+//!   `information_compares_and_copies_exactly`, `maps_compare_by_what_their_lines_say`.
 //!
 //! What isn't: that a forged count reserves no memory (the contracts show that no `OutOfMemory` is returned
 //! for it), and that a region's bytes are the file's own memory and outlive the list, which tests show.

@@ -19,15 +19,15 @@ use std::slice;
 /// The mapped regions of a process, with lookups by address: the lines of Linux's `/proc/PID/maps`.
 ///
 /// Of overlapping regions one is kept, by the same rule as in a
-/// [`MinidumpMemoryList`](crate::MinidumpMemoryList). A region whose first address is not below the one
-/// behind its last has no addresses and is not kept.
+/// [`MinidumpMemoryList`](crate::MinidumpMemoryList). A region whose end is not above its first address
+/// has no addresses and is not kept.
 #[derive(Drop)]
 pub struct MinidumpLinuxMaps<'a> {
     regions: RegionList<MinidumpLinuxMapInfo<'a>>,
 }
 
 impl<'a> MinidumpLinuxMaps<'a> {
-    /// Makes an empty list. Takes no memory.
+    /// Makes an empty list. Does not allocate.
     pub fn new(alloc: Global) -> MinidumpLinuxMaps<'a>
         ensures { maps_of result ≡ [] }
     {
@@ -36,8 +36,8 @@ impl<'a> MinidumpLinuxMaps<'a> {
         }
     }
 
-    /// Makes a list of regions. The only error is [`Error::OutOfMemory`], and only if there is a region;
-    /// after it they are dropped.
+    /// Makes a list of regions. The only error is [`Error::OutOfMemory`], which comes only if there is a
+    /// region. The regions are then dropped.
     pub fn from_regions(
         alloc: Global,
         regions: Vec<MinidumpLinuxMapInfo<'a>>,
@@ -101,7 +101,8 @@ impl<'a> MinidumpLinuxMaps<'a> {
     }
 }
 
-/// Breakpad's `MD_LINUX_MAPS`: the lines of `/proc/PID/maps`. A line that is none refuses the stream.
+/// Breakpad's `MD_LINUX_MAPS`: the lines of `/proc/PID/maps`. Returns `StreamReadFailure` if one of them is
+/// not a line of the map.
 impl<'a> MinidumpStream<'a> for MinidumpLinuxMaps<'a> {
     ghost use Rattle.std.specs.Prelude.{List};
     ghost use Rattle.minidump_memory.specs.MapLine.{MapRegion};
@@ -135,7 +136,7 @@ impl<'a> MinidumpStream<'a> for MinidumpLinuxMaps<'a> {
     }
 }
 
-// Reads the regions of all lines, where each line is one.
+// Reads the regions of all lines, each of which has to be a line of the map.
 fn read_regions<'a>(
     alloc: Global,
     bytes: Source<'_>,

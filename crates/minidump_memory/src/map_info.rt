@@ -3,9 +3,9 @@ ghost use Rattle.std.specs.Option.{option_map};
 ghost use Rattle.minidump_format.specs.Flags.{has_flag};
 ghost use Rattle.minidump_memory.specs.LinuxMaps.{map_info_of, map_permissions, map_range, path_of};
 ghost use Rattle.minidump_memory.specs.MapLine.{map_line};
-ghost use Rattle.minidump_memory.specs.MapParts.{lent_path};
+ghost use Rattle.minidump_memory.specs.MapParts.{borrowed_path};
 
-use crate::map_line::{LentPath, map_line};
+use crate::map_line::{BorrowedPath, map_line};
 use bitflags::{Flag, Flags, bitflag_items};
 use minidump_format::Error;
 use minidump_index::{Range, Region};
@@ -28,7 +28,7 @@ bitflag_items! {
         const EXECUTE = 4;
         /// The letter `s`.
         const SHARED = 8;
-        /// The letter `p`: what is written is the process's own.
+        /// The letter `p`: other processes don't see what this one writes.
         const PRIVATE = 16;
     }
 }
@@ -79,27 +79,27 @@ pub enum MMapPath {
     Anonymous,
     /// `/SYSV` and eight hexadecimal digits: a segment of System V's shared memory.
     Vsys(u32),
-    /// What stands between brackets, if it is none of these.
+    /// Another text in brackets, without the brackets.
     Other(String),
 }
 
 impl MMapPath {
-    // Copies a lent path.
-    fn of(alloc: Global, path: LentPath<'_>) -> Result<MMapPath, AllocError>
-        ensures { IfOk result (λ made. path_of made ≡ lent_path path.entry) }
+    // Copies a borrowed path.
+    fn of(alloc: Global, path: BorrowedPath<'_>) -> Result<MMapPath, AllocError>
+        ensures { IfOk result (λ copy. path_of copy ≡ borrowed_path path.entry) }
     {
         Ok(match path {
-            LentPath::Path(text) => MMapPath::Path(String::from_str(alloc, text)?),
-            LentPath::Heap => MMapPath::Heap,
-            LentPath::Stack => MMapPath::Stack,
-            LentPath::TStack(number) => MMapPath::TStack(number),
-            LentPath::Vdso => MMapPath::Vdso,
-            LentPath::Vvar => MMapPath::Vvar,
-            LentPath::Vsyscall => MMapPath::Vsyscall,
-            LentPath::Rollup => MMapPath::Rollup,
-            LentPath::Anonymous => MMapPath::Anonymous,
-            LentPath::Vsys(number) => MMapPath::Vsys(number),
-            LentPath::Other(text) => MMapPath::Other(String::from_str(alloc, text)?),
+            BorrowedPath::Path(text) => MMapPath::Path(String::from_str(alloc, text)?),
+            BorrowedPath::Heap => MMapPath::Heap,
+            BorrowedPath::Stack => MMapPath::Stack,
+            BorrowedPath::TStack(number) => MMapPath::TStack(number),
+            BorrowedPath::Vdso => MMapPath::Vdso,
+            BorrowedPath::Vvar => MMapPath::Vvar,
+            BorrowedPath::Vsyscall => MMapPath::Vsyscall,
+            BorrowedPath::Rollup => MMapPath::Rollup,
+            BorrowedPath::Anonymous => MMapPath::Anonymous,
+            BorrowedPath::Vsys(number) => MMapPath::Vsys(number),
+            BorrowedPath::Other(text) => MMapPath::Other(String::from_str(alloc, text)?),
         })
     }
 
@@ -149,8 +149,8 @@ pub struct MinidumpLinuxMapInfo<'a> {
 }
 
 impl<'a> MinidumpLinuxMapInfo<'a> {
-    /// Reads the region of a line, which has no line feed. Returns `None` if the bytes are no line of the
-    /// map. The only error is [`Error::OutOfMemory`], and of a line alone.
+    /// Reads the region of a line, which is passed without its line feed. Returns `None` if the bytes are
+    /// not a line of the map. The only error is [`Error::OutOfMemory`], which comes only if they are one.
     pub fn from_line(alloc: Global, bytes: &[u8]) -> Result<Option<Self>, Error>
         ensures region { IfOk result (λ region. option_map map_info_of region ≡ map_line bytes.now) }
         ensures memory { IsOkUnless result Error.OutOfMemory }
@@ -174,7 +174,7 @@ impl<'a> MinidumpLinuxMapInfo<'a> {
         }))
     }
 
-    /// Returns the range of addresses, or `None` if the first is not below the one behind the last.
+    /// Returns the range of addresses, or `None` if the end is not above the first address.
     pub fn memory_range(&self) -> Option<Range>
         ensures { result ≡ map_range self.now }
     {

@@ -120,7 +120,7 @@ pub struct MinidumpMemoryInfoList<'a> {
 }
 
 impl<'a> MinidumpMemoryInfoList<'a> {
-    /// Makes an empty list. Takes no memory.
+    /// Makes an empty list. Does not allocate.
     pub fn new(alloc: Global) -> MinidumpMemoryInfoList<'a>
         ensures { infos_of result ≡ [] }
     {
@@ -129,8 +129,8 @@ impl<'a> MinidumpMemoryInfoList<'a> {
         }
     }
 
-    /// Makes a list of regions. The only error is [`Error::OutOfMemory`], and only if there is a region;
-    /// after it they are dropped.
+    /// Makes a list of regions. The only error is [`Error::OutOfMemory`], which comes only if there is a
+    /// region. The regions are then dropped.
     pub fn from_regions(
         alloc: Global,
         regions: Vec<MinidumpMemoryInfo<'a>>,
@@ -221,7 +221,7 @@ impl<'a> MinidumpStream<'a> for MinidumpMemoryInfoList<'a> {
     }
 }
 
-// Makes the information of entries.
+// Makes the information of each entry.
 fn infos_of_entries<'a>(
     alloc: Global,
     raws: Entries<'_, MINIDUMP_MEMORY_INFO>,

@@ -37,7 +37,7 @@ pub type MinidumpMemoryList<'a> = MinidumpMemoryListBase<'a, MINIDUMP_MEMORY_DES
 pub type MinidumpMemory64List<'a> = MinidumpMemoryListBase<'a, MINIDUMP_MEMORY_DESCRIPTOR64>;
 
 impl<'a, D: Drop> MinidumpMemoryListBase<'a, D> {
-    /// Makes an empty list. Takes no memory.
+    /// Makes an empty list. Does not allocate.
     pub fn new(alloc: Global) -> MinidumpMemoryListBase<'a, D>
         ensures { regions_of result ≡ [] }
     {
@@ -46,8 +46,8 @@ impl<'a, D: Drop> MinidumpMemoryListBase<'a, D> {
         }
     }
 
-    /// Makes a list of regions. The only error is [`Error::OutOfMemory`], and only if there is a region;
-    /// after it they are dropped.
+    /// Makes a list of regions. The only error is [`Error::OutOfMemory`], which comes only if there is a
+    /// region. The regions are then dropped.
     pub fn from_regions(
         alloc: Global,
         regions: Vec<MinidumpMemoryBase<'a, D>>,
@@ -142,6 +142,7 @@ fn region_of<'a>(
     ensures value { option_map memory_of result
         ≡ result_ok (described endian (bytes_of all.entry) desc.now) }
     ensures step { steps.new ≡ after steps.old (spans_read desc.now) }
+    ensures within { steps.new ≤ steps.old + 1 }
 {
     MinidumpMemory::read_counted(desc, all, endian, steps).ok()
 }

@@ -85,7 +85,7 @@ pub enum UnifiedMemoryList<'a> {
 }
 
 impl<'a> UnifiedMemoryList<'a> {
-    /// Makes an empty [`MinidumpMemoryList`]. Takes no memory.
+    /// Makes an empty list, a [`MinidumpMemoryList`]. Does not allocate.
     pub fn new(alloc: Global) -> UnifiedMemoryList<'a>
         ensures { unified_list result ≡ Memory [] }
     {

@@ -5,7 +5,7 @@ ghost use Rattle.std.specs.Iterator.SizeHint.{IsWithinCount};
 ghost use Rattle.minidump_index.specs.Lookup.{IsByAddress, IsCountedLookup, IsLookedUp};
 ghost use Rattle.minidump_memory.specs.LinuxMaps.{map_info_of};
 ghost use Rattle.minidump_memory.specs.MemoryInfo.{info_of};
-ghost use Rattle.minidump_memory.specs.UnifiedInfo.{OfInfo, OfMaps, held, held_info, held_maps, info_list, info_region, info_region_range, info_regions, region_is_executable, region_is_readable, region_is_writable};
+ghost use Rattle.minidump_memory.specs.UnifiedInfo.{OfInfo, OfMaps, as_info, as_maps, info_list, info_or_maps, info_region, info_region_range, info_regions, region_is_executable, region_is_readable, region_is_writable};
 ghost use Rattle.minidump_memory.specs.UnifiedInfoIter.{infos_by_address, infos_left};
 
 use crate::{MinidumpLinuxMapInfo, MinidumpLinuxMaps, MinidumpMemoryInfo, MinidumpMemoryInfoList};
@@ -76,13 +76,13 @@ pub enum UnifiedMemoryInfoList<'a> {
 }
 
 impl<'a> UnifiedMemoryInfoList<'a> {
-    /// Makes a list of the one that is there. Of two the information is kept. Returns `None` if there is
-    /// none.
+    /// Makes a list of the one that is given. Of two, the information is kept. Returns `None` if none is
+    /// given.
     pub fn new(
         info: Option<MinidumpMemoryInfoList<'a>>,
         maps: Option<MinidumpLinuxMaps<'a>>,
     ) -> Option<Self>
-        ensures { result ≡ held info.entry maps.entry }
+        ensures { result ≡ info_or_maps info.entry maps.entry }
     {
         match (info, maps) {
             (Some(info), _) => Some(UnifiedMemoryInfoList::Info(info)),
@@ -91,7 +91,7 @@ impl<'a> UnifiedMemoryInfoList<'a> {
         }
     }
 
-    /// Makes an empty [`MinidumpMemoryInfoList`]. Takes no memory.
+    /// Makes an empty list, a [`MinidumpMemoryInfoList`]. Does not allocate.
     pub fn empty(alloc: Global) -> Self
         ensures { info_list result ≡ OfInfo [] }
     {
@@ -148,9 +148,9 @@ impl<'a> UnifiedMemoryInfoList<'a> {
         }
     }
 
-    /// Returns the mapped regions, or `None` if the list is the other kind.
+    /// Returns the list as maps, or `None` if it is one of information.
     pub fn maps(&self) -> Option<&MinidumpLinuxMaps<'a>>
-        ensures { option_copied result ≡ held_maps self.now }
+        ensures { option_copied result ≡ as_maps self.now }
     {
         match self {
             UnifiedMemoryInfoList::Maps(list) => Some(list),
@@ -158,9 +158,9 @@ impl<'a> UnifiedMemoryInfoList<'a> {
         }
     }
 
-    /// Returns the information, or `None` if the list is the other kind.
+    /// Returns the list as information, or `None` if it is one of maps.
     pub fn info(&self) -> Option<&MinidumpMemoryInfoList<'a>>
-        ensures { option_copied result ≡ held_info self.now }
+        ensures { option_copied result ≡ as_info self.now }
     {
         match self {
             UnifiedMemoryInfoList::Maps(_) => None,

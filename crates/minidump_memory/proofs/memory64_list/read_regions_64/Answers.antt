@@ -8,24 +8,23 @@ use Rattle.minidump_bytes.proofs.LeftLemmas.{IsNext, all_given, next_left, one_g
 use Rattle.minidump_bytes.proofs.ListLemmas.{numbered_more}
 use Rattle.minidump_memory.specs.Memory.{memory_of}
 use Rattle.minidump_memory.specs.Memory64List.{place_64, placed}
-use Rattle.minidump_memory.proofs.PlacedLemmas.{inside_all, outside_one, place_more}
+use Rattle.minidump_memory.proofs.Memory64Lemmas.{inside_all, outside_one, place_more}
 use Rattle.minidump_memory.proofs.memory64_list.read_regions_64.Goals as goal
-
-abbrev no_descriptor : MINIDUMP_MEMORY_DESCRIPTOR64
-no_descriptor = record { start_of_memory_range = 0; data_size = 0 }
 
 pub loop-desc-preserved : goal.loop-desc-preserved
 loop-desc-preserved c =
     let list : List64 MINIDUMP_MEMORY_DESCRIPTOR64 = record { rva = c.args.rva; items = c.args.descriptors } in
     let i = length c.loop-desc.yielded in
     let region = λ (place : ℕ) (d : MINIDUMP_MEMORY_DESCRIPTOR64). placed c.args.endian (bytes_of c.args.all) place d in
-    let next : IsNext list.items i no_descriptor c.in-Some.desc c.next.new.self = next_left list.items i no_descriptor _ _ (sym c.loop-desc.invariant.left ∙ c.in-Some.ensures.steps) in
-    rw (one_given c.loop-desc.yielded c.in-Some.desc) (record {
+    let desc = c.in-Some.desc in
+    let next : IsNext list.items i desc desc c.next.new.self = next_left list.items i desc _ _ (sym c.loop-desc.invariant.left ∙ c.in-Some.ensures.steps) in
+    rw (one_given c.loop-desc.yielded desc) (record {
       left = next.left;
       items = rw (c.in_ok-push.ensures.items)
-          (numbered_more (λ (p : ℕ × MINIDUMP_MEMORY_DESCRIPTOR64). region (place_64 list p.0) p.1) memory_of list.items c.loop-desc.regions.items i no_descriptor c.in-Some-region_at.region
+          (numbered_more (λ (p : ℕ × MINIDUMP_MEMORY_DESCRIPTOR64). region (place_64 list p.0) p.1)
+          memory_of list.items c.loop-desc.regions.items i desc c.in-Some-region_at.region
           next.inside c.loop-desc.invariant.items (rw (next.item, ← c.loop-desc.invariant.place) c.in-Some-region_at.ensures.value));
-      place = rw (place_more list i no_descriptor next.inside, next.item, c.loop-desc.invariant.place) refl;
+      place = rw (place_more list i desc next.inside, next.item, c.loop-desc.invariant.place) refl;
       inside = λ _. c.in-Some-region_at.ensures.inside;
       within = omega (arith, c.region_at.ensures.step, c.loop-desc.invariant.within);
       grows = omega (arith, c.region_at.ensures.step, c.loop-desc.invariant.grows);
@@ -36,8 +35,9 @@ pub returns-in_default-clause-means : goal.returns-in_default-clause-means
 returns-in_default-clause-means c =
     let list : List64 MINIDUMP_MEMORY_DESCRIPTOR64 = record { rva = c.args.rva; items = c.args.descriptors } in
     let i = length c.loop-desc.yielded in
-    let next : IsNext list.items i no_descriptor c.in-Some.desc c.next.new.self = next_left list.items i no_descriptor _ _ (sym c.loop-desc.invariant.left ∙ c.in-Some.ensures.steps) in
-    rw (outside_one (bytes_of c.args.all) list i no_descriptor next.inside (rw (next.item, ← c.loop-desc.invariant.place) c.in_default.ensures.outside)) refl
+    let desc = c.in-Some.desc in
+    let next : IsNext list.items i desc desc c.next.new.self = next_left list.items i desc _ _ (sym c.loop-desc.invariant.left ∙ c.in-Some.ensures.steps) in
+    rw (outside_one (bytes_of c.args.all) list i desc next.inside (rw (next.item, ← c.loop-desc.invariant.place) c.in_default.ensures.outside)) refl
 
 pub returns-clause-means : goal.returns-clause-means
 returns-clause-means c =

@@ -1,4 +1,4 @@
--- A lookup in a list of either kind is one in the list that is held.
+-- A lookup in a unified list is one in the list that it is.
 use Rattle.std.proofs.Common.{refl}
 use Rattle.minidump_memory.specs.Memory.{memory_of, memory_range, region_range}
 use Rattle.minidump_memory.specs.Unified.{Memory, Memory64, of_kind}

@@ -1,4 +1,4 @@
--- The address order of a list of either kind is that of the list that is held.
+-- The order by address of a unified list is that of the list that it is.
 use Rattle.std.proofs.Common.{refl}
 use Rattle.minidump_memory.specs.LinuxMaps.{map_info_of, map_range}
 use Rattle.minidump_memory.specs.MemoryInfo.{info_of, memory_info_range}

@@ -1,4 +1,4 @@
--- A lookup in a list of either kind is one in the list that is held.
+-- A lookup in a unified list is one in the list that it is.
 use Rattle.std.proofs.Common.{refl}
 use Rattle.minidump_memory.specs.LinuxMaps.{map_info_of, map_range}
 use Rattle.minidump_memory.specs.MemoryInfo.{info_of, memory_info_range}

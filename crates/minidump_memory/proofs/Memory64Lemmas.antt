@@ -17,7 +17,8 @@ pub place_more : (l : List64 MINIDUMP_MEMORY_DESCRIPTOR64) (i : ℕ) (d : MINIDU
 place_more l i d lt = rw (sum_by_more size_64 l.items i d lt) (omega arith)
 
 -- where the bytes of the last end, all of them do
-pub inside_all : (file : List ℕ) (l : List64 MINIDUMP_MEMORY_DESCRIPTOR64) → (0 < length l.items → place_64 l (length l.items) ≤ length file) → is_inside file l ≡ true
+pub inside_all : (file : List ℕ) (l : List64 MINIDUMP_MEMORY_DESCRIPTOR64) → (0 < length l.items → place_64 l (length l.items) ≤ length file)
+    → is_inside file l ≡ true
 inside_all file l ends = elim (cases_lt 0 (length l.items)) [
   | inl some ↦ rw (ne_eqb (length l.items) 0 (λ e. omega arith)) (le-leb _ _ (ends some))
   | inr none ↦ rw (eq-eqb (length l.items) 0 (omega arith)) refl
