@@ -67,7 +67,8 @@ code_view order bytes =
 unfoldable pub code_view_at : Endian → List ℕ → MINIDUMP_LOCATION_DESCRIPTOR → Result (Option View) Error
 code_view_at order file place =
     if place.data_size == 0 then Ok None else
-    and_then (ok_or (span place.rva (place.rva + place.data_size) file) CodeViewReadFailure) (λ bytes. and_then (code_view order bytes) (λ view. Ok (Some view)))
+    and_then (ok_or (span place.rva (place.rva + place.data_size) file) CodeViewReadFailure)
+    (λ bytes. and_then (code_view order bytes) (λ view. Ok (Some view)))
 
 -- how much is read of a record: its signature, and each of its fields; those of an unknown kind are all of its bytes
 abbrev pub record_reads : View → ℕ
