@@ -33,7 +33,11 @@ pub behind_prefix : (word rest : List ℕ) (o : Option ℕ) → word ≡ codes "
     → (n : ℕ) → (o ≡ Some n) ↔ SpellsAddress word n
 behind_prefix word rest o e reads n = (
   (λ is. inr (rest, e, (reads n).0 is)),
-  λ s. elim s [ inl w ↦ absurd (no_prefix word rest e w) | inr p ↦ let same : p.0 ≡ rest = let there = p.1 in cc in (reads n).1 (subst (λ l. WritesHex l n) same p.2) ],
+  λ s. elim s [
+    | inl w ↦ absurd (no_prefix word rest e w)
+    | inr p ↦ let same : p.0 ≡ rest = let there = p.1 in cc in
+        (reads n).1 (subst (λ l. WritesHex l n) same p.2)
+  ],
 )
 
 -- the address of a word with no prefix

@@ -16,7 +16,8 @@ module _ {D : Type 0} (contents : D → Option (List ℕ)) (First Rest : List �
   went_out a b xs ys all = record { front = xs; rest = ys; split = refl; grown = all.grown }
 
   -- a line went out, and the rest was written
-  pub joined : (a b c : Told D) (r : Result (Unit {0}) Error) → (text : List ℕ) × Rest text → TookAll First contents a b → Writes Rest contents b c r → Writes (Joined First Rest) contents a c r
+  pub joined : (a b c : Told D) (r : Result (Unit {0}) Error) → (text : List ℕ) × Rest text → TookAll First contents a b → Writes Rest contents b c r
+      → Writes (Joined First Rest) contents a c r
   joined a b c (Ok u) some (xs, first, all) (ys, rest, more) =
       (xs ++ ys, (xs, ys, first, rest, refl), record { grown = Appends-trans _ _ _ _ _ all.grown more.grown; alive = more.alive })
   joined a b c (Err e) (ys, rest) (xs, first, all) (inl same) =
@@ -34,7 +35,8 @@ module _ {D : Type 0} (contents : D → Option (List ℕ)) (First Rest : List �
       )
 
   -- a line was refused, and with it the rest
-  pub cut : (a b : Told D) (r : Result (Unit {0}) Error) (e : Error) → IsErrAnd r (λ y. y ≡ e) → (text : List ℕ) × Rest text → TookBeginning First contents a b → Writes (Joined First Rest) contents a b r
+  pub cut : (a b : Told D) (r : Result (Unit {0}) Error) (e : Error) → IsErrAnd r (λ y. y ≡ e) → (text : List ℕ) × Rest text
+      → TookBeginning First contents a b → Writes (Joined First Rest) contents a b r
   cut a b (Err x) e refused some (inl same) = inl same
   cut a b (Err x) e refused (ys, rest) (inr (xs, first, part)) = inr (
     xs ++ ys,
@@ -59,7 +61,8 @@ pub both_lines : (First Rest : List ℕ → Type 0) → (text : List ℕ) × Fir
 both_lines First Rest (xs, first) (ys, rest) = (xs ++ ys, (xs, ys, first, rest, refl))
 
 -- a refusal behind a text that went out whole
-pub refused_behind : {D : Type 0} (IsText : List ℕ → Type 0) (contents : D → Option (List ℕ)) (a b c : Told D) (r : Result (Unit {0}) Error) → TookAll IsText contents a b
+pub refused_behind : {D : Type 0} (IsText : List ℕ → Type 0) (contents : D → Option (List ℕ)) (a b c : Told D) (r : Result (Unit {0}) Error)
+    → TookAll IsText contents a b
     → IfErr r (IsOutputRefusal b c) → IfErr r (IsOutputRefusal a c)
 refused_behind IsText contents a b c (Ok u) took is = tt
 refused_behind IsText contents a b c (Err e) (text, is_text, all) (inl (same, is)) = inr (rw (same, is, all.alive) refl)

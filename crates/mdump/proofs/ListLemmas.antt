@@ -9,7 +9,8 @@ two_items (x ∷ y ∷ []) a b least most first second = cc
 two_items (x ∷ y ∷ z ∷ xs) a b least most first second = absurd (omega arith)
 
 -- a list of three items is these three
-pub three_items : {X : Type 0} (xs : List X) (a b c : X) → 3 ≤ length xs → length xs < 4 → a ≡ get_or xs 0 a → b ≡ get_or xs 1 b → c ≡ get_or xs 2 c → xs ≡ a ∷ b ∷ c ∷ []
+pub three_items : {X : Type 0} (xs : List X) (a b c : X) → 3 ≤ length xs → length xs < 4 → a ≡ get_or xs 0 a → b ≡ get_or xs 1 b → c ≡ get_or xs 2 c
+    → xs ≡ a ∷ b ∷ c ∷ []
 three_items [] a b c least most first second third = absurd (omega arith)
 three_items (x ∷ []) a b c least most first second third = absurd (omega arith)
 three_items (x ∷ y ∷ []) a b c least most first second third = absurd (omega arith)

@@ -8,19 +8,16 @@ use Rattle.minidump_format.specs.declared.error.Error.{Error}
 use Rattle.minidump_format.specs.declared.error.Error.TheVariants.{IoError, OutOfMemory}
 use Rattle.minidump_format.specs.Error.{refusal_name}
 use Rattle.minidump_format.specs.Print.{out_of_memory}
-use Rattle.minidump_format.specs.declared.format.stream_type.MINIDUMP_STREAM_TYPE.TheVariants.{LinuxMaps, MemoryInfoListStream, ModuleListStream}
-use Rattle.minidump_format.specs.StreamType.{number_of}
 use Rattle.minidump_memory.specs.Memory.{region_range}
 use Rattle.minidump_memory.specs.Unified.{UnifiedRegion, unified_regions}
-use Rattle.minidump_memory.specs.LinuxMaps.{linux_maps_in}
 use Rattle.minidump_memory.specs.MapLine.{MapRegion}
-use Rattle.minidump_memory.specs.MemoryInfo.{MemoryInfo, memory_info_list_in}
+use Rattle.minidump_memory.specs.MemoryInfo.{MemoryInfo}
 use Rattle.minidump_memory.specs.UnifiedInfo.{InfoRegion, InfoRegions, OfInfo, OfMaps, info_region_range, info_regions}
 use Rattle.minidump_modules.specs.Module.{ModuleValue, value_range}
-use Rattle.minidump_modules.specs.ModuleList.{module_list_in}
-use Rattle.minidump.specs.Dump.{Dump, stream}
+use Rattle.minidump.specs.Dump.{Dump, stream_of}
 use Rattle.minidump.specs.File.{IsFileDump, IsPathRefusal}
 use Rattle.minidump.specs.Memory.{memories_of_dump}
+use Rattle.minidump.specs.Promise.{linux_maps_stream, memory_info_list_stream, module_list_stream}
 use Rattle.minidump.specs.Text.{dump_text}
 use Rattle.mdump.specs.declared.command.Command.{Command}
 use Rattle.mdump.specs.declared.command.Command.TheVariants.{Dir, At}
@@ -41,7 +38,7 @@ IsMemoryLine dump address text =
 
 -- the modules of a dump, where its list of modules can be read
 abbrev pub modules_of_dump : Dump → Option (List ModuleValue)
-modules_of_dump dump = result_ok (stream (number_of ModuleListStream) module_list_in dump)
+modules_of_dump dump = result_ok (stream_of module_list_stream dump)
 
 -- the line of the module that contains an address
 abbrev pub IsModuleLine : Dump → ℕ → List ℕ → Type 0
@@ -53,8 +50,7 @@ information_of (Some info) maps = Some (OfInfo info)
 information_of None maps = option_map OfMaps maps
 
 abbrev pub info_of_dump : Dump → Option InfoRegions
-info_of_dump dump = information_of (result_ok (stream (number_of MemoryInfoListStream) (λ order file bytes system. memory_info_list_in order bytes) dump))
-    (result_ok (stream (number_of LinuxMaps) (λ order file bytes system. linux_maps_in bytes) dump))
+info_of_dump dump = information_of (result_ok (stream_of memory_info_list_stream dump)) (result_ok (stream_of linux_maps_stream dump))
 
 -- the line of the region, by the information on memory, that contains an address
 abbrev pub IsInfoLine : Dump → ℕ → List ℕ → Type 0

@@ -5,7 +5,6 @@ ghost use Rattle.minidump.specs.Seen.{dump_of};
 ghost use Rattle.mdump.specs.Done.{IsInfoLine, IsOutputRefusal, Writes, info_of_dump};
 ghost use Rattle.mdump.specs.Lines.{IsAt, info_line};
 
-use crate::list::readable;
 use minidump::{
     Error, Minidump, MinidumpLinuxMaps, MinidumpMemoryInfoList, Range, Told, UnifiedMemoryInfo,
     UnifiedMemoryInfoList,
@@ -38,9 +37,12 @@ fn information<'a>(
     ensures list { IfOk result (λ list. option_map info_list list ≡ info_of_dump (dump_of dump.now)) }
     ensures memory { IfErr result (λ e. e ≡ Error.OutOfMemory) }
 {
-    match readable::<MinidumpMemoryInfoList>(dump, alloc)? {
+    match dump.find_stream::<MinidumpMemoryInfoList>(alloc)? {
         Some(info) => Ok(Some(UnifiedMemoryInfoList::Info(info))),
-        None => Ok(readable::<MinidumpLinuxMaps>(dump, alloc)?.map(UnifiedMemoryInfoList::Maps)),
+        None => Ok(
+            dump.find_stream::<MinidumpLinuxMaps>(alloc)?
+                .map(UnifiedMemoryInfoList::Maps),
+        ),
     }
 }
 

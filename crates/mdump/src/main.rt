@@ -31,7 +31,6 @@
 mod address;
 mod command;
 mod info;
-mod list;
 mod memory;
 mod module;
 mod program;

@@ -6,7 +6,6 @@ ghost use Rattle.minidump.specs.Seen.{dump_of};
 ghost use Rattle.mdump.specs.Done.{IsModuleLine, IsOutputRefusal, Writes};
 ghost use Rattle.mdump.specs.Lines.{IsAt, module_line};
 
-use crate::list::readable;
 use minidump::{Error, Minidump, MinidumpModule, MinidumpModuleList, Told};
 use minidump_bytes::{Piece, made};
 use minidump_format::put_made;
@@ -23,7 +22,7 @@ pub(crate) fn module_line<O: Write>(
     ensures written { Writes (IsModuleLine (dump_of dump.now) address) O.contents out.old out.new result }
     ensures refusal { IfErr result (IsOutputRefusal out.old out.new) }
 {
-    let modules = readable::<MinidumpModuleList>(dump, alloc)?;
+    let modules = dump.find_stream::<MinidumpModuleList>(alloc)?;
     let found = module_at(modules.as_ref(), address);
     put_made(out, made_module_line(alloc, found))
 }

@@ -16,8 +16,8 @@ pub record Decides (m : BTreeMap ℕ DecidingEntry) (es : List MINIDUMP_DIRECTOR
   pub small : (stream_type : ℕ) → 2 ^ 32 ≤ stream_type → get nat_cmp m stream_type ≡ None
 
 -- `Ok`: each entry is in the file, and the map has the deciding ones. Memory may run out where each entry is there, and there is one
-abbrev pub ReadsDirectory : Endian → MINIDUMP_HEADER → List ℕ → Result (BTreeMap ℕ DecidingEntry) Error → Type 0
-ReadsDirectory order h bytes (Ok m) = (is_readable h bytes ≡ true) × Decides m (directory order bytes h)
-ReadsDirectory order h bytes (Err MissingDirectory) = is_readable h bytes ≡ false
-ReadsDirectory order h bytes (Err OutOfMemory) = (is_readable h bytes ≡ true) × (0 < h.stream_count)
-ReadsDirectory order h bytes (Err _) = ⊥
+abbrev pub ReadsDirectory : Endian → List ℕ → MINIDUMP_HEADER → Result (BTreeMap ℕ DecidingEntry) Error → Type 0
+ReadsDirectory order bytes h (Ok m) = (is_readable bytes h ≡ true) × Decides m (directory order bytes h)
+ReadsDirectory order bytes h (Err MissingDirectory) = is_readable bytes h ≡ false
+ReadsDirectory order bytes h (Err OutOfMemory) = (is_readable bytes h ≡ true) × (0 < h.stream_count)
+ReadsDirectory order bytes h (Err _) = ⊥

@@ -13,8 +13,8 @@ abbrev pub directory : Endian → List ℕ → MINIDUMP_HEADER → List MINIDUMP
 directory order bytes h = entries directory_entry order bytes h.stream_directory_rva h.stream_count
 
 -- each of them is in the file. The place of a directory with none isn't looked at
-abbrev pub is_readable : MINIDUMP_HEADER → List ℕ → Bool
-is_readable h bytes = h.stream_count == 0 || nat_le (h.stream_directory_rva + directory_entry.size * h.stream_count) (length bytes)
+abbrev pub is_readable : List ℕ → MINIDUMP_HEADER → Bool
+is_readable bytes h = h.stream_count == 0 || nat_le (h.stream_directory_rva + directory_entry.size * h.stream_count) (length bytes)
 
 -- the entries, each with its index
 abbrev pub indexed : List MINIDUMP_DIRECTORY → List DecidingEntry

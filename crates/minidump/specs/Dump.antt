@@ -1,12 +1,13 @@
 -- A minidump without its addresses in memory: which files are one, and what their streams are.
 use Rattle.std.specs.Prelude.{ℕ, ◌+◌, ◌^◌, ◌<◌, List, Option, Some, None, Result, Ok, Err, IsOkAnd, if◌then◌else◌}
+use Rattle.std.specs.Option.{option_map}
 use Rattle.std.specs.Result.{result_ok}
 use Rattle.minidump_bytes.specs.declared.endian.Endian.{Endian}
-use Rattle.minidump_bytes.specs.Span.{span}
 use Rattle.minidump_format.specs.declared.error.Error.{Error}
 use Rattle.minidump_format.specs.declared.error.Error.TheVariants.{MissingDirectory, StreamNotFound, StreamReadFailure}
 use Rattle.minidump_format.specs.declared.format.header.MINIDUMP_HEADER.{MINIDUMP_HEADER}
 use Rattle.minidump_format.specs.declared.format.stream_type.MINIDUMP_STREAM_TYPE.TheVariants.{SystemInfoStream}
+use Rattle.minidump_format.specs.Header.{located}
 use Rattle.minidump_format.specs.StreamType.{number_of}
 use Rattle.minidump_format.specs.Answer.{Gives}
 use Rattle.minidump_system.specs.StreamSpec.{Meaning, StreamSpec}
@@ -22,7 +23,7 @@ pub record Dump : Type 0 where
 
 abbrev with_header : List ℕ → Result (Endian × MINIDUMP_HEADER) Error → Result Dump Error
 with_header file (Err e) = Err e
-with_header file (Ok h) = if is_readable h.1 file then Ok (record { file = file; order = h.0; header = h.1 }) else Err MissingDirectory
+with_header file (Ok h) = if is_readable file h.1 then Ok (record { file = file; order = h.0; header = h.1 }) else Err MissingDirectory
 
 -- the minidump that a file is, or the first reason why it is none
 abbrev pub dump_in : List ℕ → Result Dump Error
@@ -43,7 +44,7 @@ spanned (Some bytes) = Ok bytes
 
 abbrev decided_bytes : List ℕ → Option DecidingEntry → Result (List ℕ) Error
 decided_bytes file None = Err StreamNotFound
-decided_bytes file (Some d) = let at = d.entry.location in spanned (span at.rva (at.rva + at.data_size) file)
+decided_bytes file (Some d) = spanned (located file d.entry.location)
 
 -- the bytes of the stream of a type: the span of its deciding entry
 abbrev pub raw_stream : ℕ → Dump → Result (List ℕ) Error
@@ -61,15 +62,15 @@ stream_with system stream_type meaning d = meant meaning d system (raw_stream st
 abbrev pub dump_system : Dump → Option System
 dump_system d = result_ok (stream_with None (number_of SystemInfoStream) system_info_in d)
 
-abbrev reads_of : Result (List ℕ) Error → Option System → ℕ
-reads_of (Err StreamNotFound) system = 0
-reads_of (Err _) system = 1
-reads_of (Ok bytes) None = 2
-reads_of (Ok bytes) (Some system) = 3
+abbrev span_record_and_text : Result (List ℕ) Error → Option System → ℕ
+span_record_and_text (Err StreamNotFound) system = 0
+span_record_and_text (Err _) system = 1
+span_record_and_text (Ok bytes) None = 2
+span_record_and_text (Ok bytes) (Some system) = 3
 
 -- the reads that the system information takes at least: its span, its record and its text, as far as each is there to be read
 abbrev pub system_reads : Dump → ℕ
-system_reads d = reads_of (raw_stream (number_of SystemInfoStream) d) (dump_system d)
+system_reads d = span_record_and_text (raw_stream (number_of SystemInfoStream) d) (dump_system d)
 
 -- the reads that a dump takes at least: one for the header, one for each entry, and those of its system information
 abbrev pub least_reads : Dump → ℕ
@@ -90,3 +91,7 @@ stream_memory spec d = IsOkAnd (raw_stream (number_of spec.stream_type) d) (λ b
 -- a result is the stream of a table or its error; or memory ran out where it may
 abbrev pub IsStreamOf : {S V : Type 0} → StreamSpec S V → Dump → Result S Error → Type 0
 IsStreamOf spec d result = Gives spec.value (stream_memory spec d) result (stream_of spec d)
+
+-- a result is that stream, or none where it is missing or malformed; or memory ran out where it may
+abbrev pub IsFoundStream : {S V : Type 0} → StreamSpec S V → Dump → Result (Option S) Error → Type 0
+IsFoundStream spec d result = Gives (option_map spec.value) (stream_memory spec d) result (Ok (result_ok (stream_of spec d)))

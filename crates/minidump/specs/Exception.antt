@@ -9,6 +9,7 @@ use Rattle.minidump_format.specs.declared.error.Error.TheVariants.{StreamReadFai
 use Rattle.minidump_format.specs.declared.format.exception.MINIDUMP_EXCEPTION.{MINIDUMP_EXCEPTION}
 use Rattle.minidump_format.specs.declared.format.exception.MINIDUMP_EXCEPTION_STREAM.{MINIDUMP_EXCEPTION_STREAM}
 use Rattle.minidump_format.specs.Exception.{exception_stream as exception_layout}
+use Rattle.minidump_format.specs.Header.{located}
 use Rattle.minidump_system.specs.StreamSpec.{StreamSpec, linear}
 use Rattle.minidump_system.specs.declared.cpu.Cpu.{Cpu}
 use Rattle.minidump_system.specs.declared.cpu.PointerWidth.{PointerWidth}
@@ -18,7 +19,6 @@ use Rattle.minidump_system.specs.declared.os.Os.TheVariants.{Windows}
 use Rattle.minidump_system.specs.Cpu.{width_of}
 use Rattle.minidump_system.specs.Reads.{and_then}
 use Rattle.minidump.specs.declared.exception.MinidumpException.{MinidumpException}
-use Rattle.minidump.specs.Thread.{located}
 
 -- an exception: its record, the id of its thread, the bytes of that thread's context, and their byte order
 pub record Exception : Type 0 where

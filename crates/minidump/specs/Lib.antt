@@ -9,7 +9,6 @@ pub mod Text
 pub mod File
 pub mod Promise
 pub mod Memory
-pub mod Answer
 pub mod Thread
 pub mod Exception
 pub mod Below

@@ -9,7 +9,8 @@ use Rattle.minidump.specs.Dump.{Dump, stream_memory, stream_of}
 use Rattle.minidump.specs.Promise.{memory_list_stream, memory64_list_stream}
 
 -- the 64 list, else the plain list where that one is missing or refused, else none
-abbrev first_accepted : Result (List (MemoryRegion MINIDUMP_MEMORY_DESCRIPTOR64)) Error → Result (List (MemoryRegion MINIDUMP_MEMORY_DESCRIPTOR)) Error → Option UnifiedRegions
+abbrev first_accepted : Result (List (MemoryRegion MINIDUMP_MEMORY_DESCRIPTOR64)) Error → Result (List (MemoryRegion MINIDUMP_MEMORY_DESCRIPTOR)) Error
+    → Option UnifiedRegions
 first_accepted (Ok long) plain = Some (Memory64 long)
 first_accepted (Err _) (Ok plain) = Some (Memory plain)
 first_accepted (Err _) (Err _) = None

@@ -19,11 +19,11 @@ pub record Described (T : Type 0) : Type 0 where
   pub location : MINIDUMP_LOCATION_DESCRIPTOR
   pub vendor : List ℕ
 
-abbrev pub unknown_view : MinidumpUnknownStream → Described ℕ
-unknown_view s = record { stream_type = s.stream_type; location = s.location; vendor = s.vendor.now }
+abbrev pub unknown_of : MinidumpUnknownStream → Described ℕ
+unknown_of s = record { stream_type = s.stream_type; location = s.location; vendor = s.vendor.now }
 
-abbrev pub unimplemented_view : MinidumpUnimplementedStream → Described MINIDUMP_STREAM_TYPE
-unimplemented_view s = record { stream_type = s.stream_type; location = s.location; vendor = s.vendor.now }
+abbrev pub unimplemented_of : MinidumpUnimplementedStream → Described MINIDUMP_STREAM_TYPE
+unimplemented_of s = record { stream_type = s.stream_type; location = s.location; vendor = s.vendor.now }
 
 abbrev where_unnamed : MINIDUMP_DIRECTORY → Option MINIDUMP_STREAM_TYPE → Option (Described ℕ)
 where_unnamed e None = Some (record { stream_type = e.stream_type; location = e.location; vendor = vendor_of e.stream_type })

@@ -5,12 +5,11 @@ use Rattle.std.specs.Option.{option_and_then, option_copied, option_map}
 use Rattle.std.specs.Result.{result_ok}
 use Rattle.minidump_bytes.specs.declared.endian.Endian.{Endian}
 use Rattle.minidump_bytes.specs.Layout.{number_layout}
-use Rattle.minidump_bytes.specs.Span.{span}
 use Rattle.minidump_format.specs.declared.format.stream_type.MINIDUMP_STREAM_TYPE.TheVariants.{ThreadListStream}
 use Rattle.minidump_format.specs.declared.error.Error.{Error}
-use Rattle.minidump_format.specs.declared.format.header.MINIDUMP_LOCATION_DESCRIPTOR.{MINIDUMP_LOCATION_DESCRIPTOR}
 use Rattle.minidump_format.specs.declared.format.memory.MINIDUMP_MEMORY_DESCRIPTOR.{MINIDUMP_MEMORY_DESCRIPTOR}
 use Rattle.minidump_format.specs.declared.format.thread.MINIDUMP_THREAD.{MINIDUMP_THREAD}
+use Rattle.minidump_format.specs.Header.{located}
 use Rattle.minidump_format.specs.Thread.{thread}
 use Rattle.minidump_index.specs.Lookup.{IsLookedUp}
 use Rattle.minidump_system.specs.StreamSpec.{StreamSpec, linear}
@@ -27,10 +26,6 @@ use Rattle.minidump_reason.specs.Names.{Lists}
 use Rattle.minidump_reason.specs.Reason.{windows_error}
 use Rattle.minidump.specs.declared.thread.MinidumpThread.{MinidumpThread}
 use Rattle.minidump.specs.declared.thread_list.MinidumpThreadList.{MinidumpThreadList}
-
--- the bytes of a location, where they are in the file
-abbrev pub located : List ℕ → MINIDUMP_LOCATION_DESCRIPTOR → Option (List ℕ)
-located file at = span at.rva (at.rva + at.data_size) file
 
 -- the context that these bytes are on an architecture
 abbrev pub accepted_context : ℕ → Endian → Option (List ℕ) → Option MinidumpRawContext
@@ -69,8 +64,8 @@ IsLastThread id threads (Some last) =
     (earlier later : List Thread) × (threads ≡ earlier ++ (last ∷ later)) × (last.raw.thread_id ≡ id) × All (λ t. t.raw.thread_id ≢ id) later
 
 -- how much is read for a thread: its context, and its stack where that has a place and a size
-abbrev pub reads_of : Thread → ℕ
-reads_of t = 1 + spans_read t.raw.stack
+abbrev pub thread_reads : Thread → ℕ
+thread_reads t = 1 + spans_read t.raw.stack
 
 abbrev IsOwnOrListed : Option (MemoryRegion MINIDUMP_MEMORY_DESCRIPTOR) → Type 0 → Option UnifiedRegion → Type 0
 IsOwnOrListed (Some own) listed found = found ≡ Some (of_kind Memory own)
@@ -105,6 +100,6 @@ thread_list_stream = record {
   value = thread_list_of;
   meaning = λ order file bytes system. thread_list_in order file bytes;
   most = linear;
-  fewest = λ order bytes threads. 1 + length threads + sum_by reads_of threads;
+  fewest = λ order bytes threads. 1 + length threads + sum_by thread_reads threads;
   memory = λ order bytes. IsOkAnd (plain_list thread order bytes) (λ raws. 0 < length raws);
 }

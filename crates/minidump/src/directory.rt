@@ -19,8 +19,8 @@ pub(crate) struct DecidingEntry {
 }
 
 // Tells whether each entry is in the file. The place of a directory with none isn't looked at.
-fn is_readable(header: &MINIDUMP_HEADER, source: Source<'_>) -> bool
-    ensures { result ≡ is_readable header.now (bytes_of source.entry) }
+fn is_readable(source: Source<'_>, header: &MINIDUMP_HEADER) -> bool
+    ensures { result ≡ is_readable (bytes_of source.entry) header.now }
 {
     let count = header.stream_count as u64;
     count == 0 || header.stream_directory_rva as u64 + 12 * count <= source.len() as u64
@@ -35,12 +35,12 @@ pub(crate) fn read_directory(
     header: &MINIDUMP_HEADER,
     steps: &mut Steps,
 ) -> Result<BTreeMap<u32, DecidingEntry>, Error>
-    ensures means { ReadsDirectory endian header.now (bytes_of source.entry) result }
+    ensures means { ReadsDirectory endian (bytes_of source.entry) header.now result }
     ensures within { 12 * (steps.new - steps.old) ≤ length (bytes_of source.entry) + 12 }
     ensures grows { steps.old ≤ steps.new }
     ensures at_least { OnOk result (after steps.old header.now.stream_count ≤ steps.new) }
 {
-    if !is_readable(header, source) {
+    if !is_readable(source, header) {
         return Err(Error::MissingDirectory);
     }
     let mut entries = BTreeMap::new(alloc);

@@ -6,7 +6,7 @@ ghost use Rattle.minidump_reason.specs.Reason.{crash_reason};
 ghost use Rattle.minidump.specs.Exception.{exception_stream, crash_address};
 ghost use Rattle.minidump.specs.Thread.{accepted_context};
 
-use crate::thread::{accepted_context, located};
+use crate::thread::accepted_context;
 use minidump_bytes::{Endian, Source, Steps};
 use minidump_context::MinidumpContext;
 use minidump_format::Error;
@@ -129,7 +129,7 @@ impl<'a> MinidumpStream<'a> for MinidumpException<'a> {
         Ok(MinidumpException {
             raw,
             thread_id: raw.thread_id,
-            context: located(&raw.thread_context, all, steps),
+            context: raw.thread_context.bytes_in(all, steps),
             endian,
         })
     }

@@ -4,9 +4,9 @@
 ghost use Rattle.std.specs.Prelude.{◌≡◌, ◌≢◌, ◌<◌, ◌^◌, ◌+◌, ℕ, ◌++◌, ◌∷◌, All, Contains, List, length, map, Option, Some};
 ghost use Rattle.std.specs.List.Sorted.{IsStrictlyIncreasing};
 ghost use Rattle.std.specs.Result.{result_ok};
-ghost use Rattle.minidump_bytes.specs.Span.{span};
 ghost use Rattle.minidump_format.specs.declared.format.header.MINIDUMP_DIRECTORY.{MINIDUMP_DIRECTORY};
 ghost use Rattle.minidump_format.specs.Guid.{guid_text};
+ghost use Rattle.minidump_format.specs.Header.{located};
 ghost use Rattle.minidump_system.specs.Cpu.{cpu_name};
 ghost use Rattle.minidump_system.specs.Os.{os_name};
 ghost use Rattle.minidump_system.specs.StreamSpec.{IsSame};
@@ -17,7 +17,7 @@ ghost use Rattle.minidump.specs.declared.directory.DecidingEntry.{DecidingEntry}
 ghost use Rattle.minidump.specs.Directory.{deciding, deciding_below, directory};
 ghost use Rattle.minidump.specs.Dump.{Dump, raw_stream, spanned, stream_of, streams_of, dump_system};
 ghost use Rattle.minidump.specs.Promise.{assertion_stream, breakpad_info_stream, crashpad_info_stream, exception_stream, handle_data_stream, linux_cpu_info_stream, linux_environ_stream, linux_lsb_release_stream, linux_maps_stream, linux_proc_limits_stream, linux_proc_status_stream, mac_bootargs_stream, mac_crash_info_stream, memory64_list_stream, memory_info_list_stream, memory_list_stream, misc_info_stream, module_list_stream, soft_errors_stream, stability_report_stream, system_info_stream, thread_info_list_stream, thread_list_stream, thread_names_stream, unloaded_module_list_stream};
-ghost use Rattle.minidump.specs.Streams.{unimplemented_view, unknown_view};
+ghost use Rattle.minidump.specs.Streams.{unimplemented_of, unknown_of};
 ghost use Rattle.minidump.specs.Thread.{IsLastThread, Thread};
 
 use crate::directory::DecidingEntry;
@@ -90,7 +90,7 @@ pub fn last_entry_decides_the_bytes()
     ensures { (d : Dump) (es later : List MINIDUMP_DIRECTORY) (e : MINIDUMP_DIRECTORY)
         → directory d.order d.file d.header ≡ es ++ (e ∷ later)
         → All (λ x. x.stream_type ≢ e.stream_type) later
-        → raw_stream e.stream_type d ≡ spanned (span e.location.rva (e.location.rva + e.location.data_size) d.file) }
+        → raw_stream e.stream_type d ≡ spanned (located d.file e.location) }
 {}
 
 /// The listed streams ascend by type, so that each type is listed at most once.
@@ -164,8 +164,8 @@ pub fn texts_are_as_defined()
 pub fn clones_are_the_same()
     ensures entry { (entry other : DecidingEntry) → ⟦<DecidingEntry as Clone>⟧.is_clone entry other → other ≡ entry }
     ensures unknown { (stream other : MinidumpUnknownStream)
-        → ⟦<MinidumpUnknownStream as Clone>⟧.is_clone stream other → unknown_view other ≡ unknown_view stream }
+        → ⟦<MinidumpUnknownStream as Clone>⟧.is_clone stream other → unknown_of other ≡ unknown_of stream }
     ensures unimplemented { (stream other : MinidumpUnimplementedStream)
         → ⟦<MinidumpUnimplementedStream as Clone>⟧.is_clone stream other
-        → unimplemented_view other ≡ unimplemented_view stream }
+        → unimplemented_of other ≡ unimplemented_of stream }
 {}

@@ -47,7 +47,6 @@
 //! private `read_file`, which tests show.
 #![tactic(auto)]
 
-mod answer;
 mod directory;
 mod dump;
 mod exception;

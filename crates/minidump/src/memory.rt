@@ -6,7 +6,6 @@ ghost use Rattle.minidump.specs.Memory.{TakesMemory, memories_of_dump};
 ghost use Rattle.minidump.specs.Seen.{dump_of};
 
 use crate::Minidump;
-use crate::answer::accepted;
 use minidump_format::Error;
 use minidump_memory::{MinidumpMemory64List, MinidumpMemoryList, UnifiedMemoryList};
 use std::alloc::Global;
@@ -19,10 +18,10 @@ impl<'a> Minidump<'a> {
         ensures { Gives (option_map unified_list) (TakesMemory (dump_of self.now)) result
             (Ok (memories_of_dump (dump_of self.now))) }
     {
-        if let Some(list) = accepted(self.get_stream::<MinidumpMemory64List<'a>>(alloc))? {
+        if let Some(list) = self.find_stream::<MinidumpMemory64List<'a>>(alloc)? {
             return Ok(Some(UnifiedMemoryList::Memory64(list)));
         }
-        match accepted(self.get_stream::<MinidumpMemoryList<'a>>(alloc))? {
+        match self.find_stream::<MinidumpMemoryList<'a>>(alloc)? {
             Some(list) => Ok(Some(UnifiedMemoryList::Memory(list))),
             None => Ok(None),
         }

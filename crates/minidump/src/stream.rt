@@ -1,8 +1,8 @@
-ghost use Rattle.std.specs.Prelude.{◌≡◌, ◌≢◌, ◌+◌, ◌≤◌, length, IfOk};
+ghost use Rattle.std.specs.Prelude.{◌≡◌, ◌≢◌, ◌+◌, ◌≤◌, length, IfOk, IfSome};
 ghost use Rattle.minidump_bytes.specs.Steps.{after};
 ghost use Rattle.minidump_format.specs.Answer.{Gives};
 ghost use Rattle.minidump_format.specs.StreamType.{number_of};
-ghost use Rattle.minidump.specs.Dump.{IsStreamOf, raw_stream};
+ghost use Rattle.minidump.specs.Dump.{IsFoundStream, IsStreamOf, raw_stream};
 ghost use Rattle.minidump.specs.Seen.{dump_of};
 
 use crate::Minidump;
@@ -31,9 +31,10 @@ impl<'a> Minidump<'a> {
         ensures inside { IfOk result (λ b. length b.now ≤ length (dump_of self.now).file) }
     {
         let deciding = self.entries.get(&stream_type).ok_or(Error::StreamNotFound)?;
-        let location = deciding.entry.location;
-        self.source
-            .span(location.rva as u64, location.data_size as u64, steps)
+        deciding
+            .entry
+            .location
+            .bytes_in(self.source, steps)
             .ok_or(Error::StreamReadFailure)
     }
 
@@ -70,5 +71,35 @@ impl<'a> Minidump<'a> {
             self.system_info.as_ref(),
             steps,
         )
+    }
+    /// Reads the stream of the type `S`, or returns `None` if it is missing or malformed. The only error is
+    /// [`Error::OutOfMemory`].
+    pub fn find_stream<S: MinidumpStream<'a>>(&self, alloc: Global) -> Result<Option<S>, Error>
+        ensures { IsFoundStream S.spec (dump_of self.now) result }
+    {
+        self.find_stream_counted(alloc, &mut Steps::new())
+    }
+
+    /// Reads as [`Minidump::find_stream`] does, and counts the reads: as many as
+    /// [`Minidump::get_stream_counted`] makes.
+    pub fn find_stream_counted<S: MinidumpStream<'a>>(
+        &self,
+        alloc: Global,
+        steps: &mut Steps,
+    ) -> Result<Option<S>, Error>
+        ensures means { IsFoundStream S.spec (dump_of self.now) result }
+        ensures within { steps.new ≤ steps.old + S.spec.most (length (dump_of self.now).file) + 1 }
+        ensures grows { steps.old ≤ steps.new }
+        ensures counted { raw_stream (number_of S.spec.stream_type) (dump_of self.now) ≢ Err Error.StreamNotFound
+            → after steps.old 1 ≤ steps.new }
+        ensures at_least { IfOk result (λ found. IfSome found
+            (λ x. IfOk (raw_stream (number_of S.spec.stream_type) (dump_of self.now))
+            (λ b. after steps.old (1 + S.spec.fewest (dump_of self.now).order b (S.spec.value x)) ≤ steps.new))) }
+    {
+        match self.get_stream_counted(alloc, steps) {
+            Ok(stream) => Ok(Some(stream)),
+            Err(Error::OutOfMemory) => Err(Error::OutOfMemory),
+            Err(_) => Ok(None),
+        }
     }
 }

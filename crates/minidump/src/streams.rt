@@ -1,7 +1,7 @@
 ghost use Rattle.std.specs.Prelude.{◌≡◌};
 ghost use Rattle.std.specs.Option.{option_map};
 ghost use Rattle.std.specs.Iterator.{YieldsFirstRef, YieldsFirstBy, item_count};
-ghost use Rattle.minidump.specs.Streams.{streams_left, unknown_left, unimplemented_left, unknown_view, unimplemented_view, as_unknown, as_unimplemented};
+ghost use Rattle.minidump.specs.Streams.{streams_left, unknown_left, unimplemented_left, unknown_of, unimplemented_of, as_unknown, as_unimplemented};
 
 use crate::directory::DecidingEntry;
 use minidump_format::format::{
@@ -69,7 +69,7 @@ pub struct UnknownStreams<'a> {
 impl<'a> Iterator for UnknownStreams<'a> {
     type Item = MinidumpUnknownStream;
 
-    ghost next_gives = { YieldsFirstBy unknown_view unknown_left };
+    ghost next_gives = { YieldsFirstBy unknown_of unknown_left };
 
     ghost remaining = { item_count unknown_left };
 
@@ -85,7 +85,7 @@ impl<'a> Iterator for UnknownStreams<'a> {
 
 // Returns the stream of an entry, if its type has no name.
 fn unknown_stream(entry: &MINIDUMP_DIRECTORY) -> Option<MinidumpUnknownStream>
-    ensures { option_map unknown_view result ≡ as_unknown entry.now }
+    ensures { option_map unknown_of result ≡ as_unknown entry.now }
 {
     match MINIDUMP_STREAM_TYPE::from_u32(entry.stream_type) {
         Some(_) => None,
@@ -106,7 +106,7 @@ pub struct UnimplementedStreams<'a> {
 impl<'a> Iterator for UnimplementedStreams<'a> {
     type Item = MinidumpUnimplementedStream;
 
-    ghost next_gives = { YieldsFirstBy unimplemented_view unimplemented_left };
+    ghost next_gives = { YieldsFirstBy unimplemented_of unimplemented_left };
 
     ghost remaining = { item_count unimplemented_left };
 
@@ -122,7 +122,7 @@ impl<'a> Iterator for UnimplementedStreams<'a> {
 
 // Returns the stream of an entry, if its type has a name, but is never read.
 fn unimplemented_stream(entry: &MINIDUMP_DIRECTORY) -> Option<MinidumpUnimplementedStream>
-    ensures { option_map unimplemented_view result ≡ as_unimplemented entry.now }
+    ensures { option_map unimplemented_of result ≡ as_unimplemented entry.now }
 {
     match MINIDUMP_STREAM_TYPE::from_u32(entry.stream_type) {
         Some(stream_type) if stream_type.is_unimplemented() => Some(MinidumpUnimplementedStream {

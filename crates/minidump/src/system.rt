@@ -7,7 +7,6 @@ ghost use Rattle.minidump.specs.Deciding.{Decides};
 ghost use Rattle.minidump.specs.Directory.{directory};
 ghost use Rattle.minidump.specs.Dump.{dump_system, system_reads};
 
-use crate::answer::accepted;
 use crate::directory::DecidingEntry;
 use minidump_bytes::{Endian, Source, Steps};
 use minidump_format::Error;
@@ -38,9 +37,12 @@ pub(crate) fn read_system_info(
     let Some(deciding) = entries.get(&MinidumpSystemInfo::STREAM_TYPE) else {
         return Ok(None);
     };
-    let location = deciding.entry.location;
-    let Some(bytes) = source.span(location.rva as u64, location.data_size as u64, steps) else {
+    let Some(bytes) = deciding.entry.location.bytes_in(source, steps) else {
         return Ok(None);
     };
-    accepted(MinidumpSystemInfo::read_record(alloc, Source::new(bytes), source, endian, steps))
+    match MinidumpSystemInfo::read_record(alloc, Source::new(bytes), source, endian, steps) {
+        Ok(system_info) => Ok(Some(system_info)),
+        Err(Error::OutOfMemory) => Err(Error::OutOfMemory),
+        Err(_) => Ok(None),
+    }
 }

@@ -5,11 +5,11 @@ ghost use Rattle.minidump_bytes.specs.Steps.{after};
 ghost use Rattle.minidump_context.specs.declared.validity.MinidumpContextValidity.TheVariants.{All};
 ghost use Rattle.minidump_memory.specs.Memory.{memory_of, spans_read};
 ghost use Rattle.minidump_memory.specs.Unified.{unified_list, unified_region};
-ghost use Rattle.minidump.specs.Thread.{IsErrorIn, IsStack, accepted_context, error_at, last_error_address, located, thread_at, thread_of};
+ghost use Rattle.minidump.specs.Thread.{IsErrorIn, IsStack, accepted_context, error_at, last_error_address, thread_at, thread_of};
 
 use minidump_bytes::{Endian, Source, Steps};
 use minidump_context::MinidumpContext;
-use minidump_format::format::{MINIDUMP_LOCATION_DESCRIPTOR, MINIDUMP_THREAD};
+use minidump_format::format::MINIDUMP_THREAD;
 use minidump_memory::{MinidumpMemory, UnifiedMemory, UnifiedMemoryList};
 use minidump_reason::{CodeNames, CrashReason};
 use minidump_system::{Cpu, MinidumpMiscInfo, MinidumpSystemInfo};
@@ -37,7 +37,7 @@ impl<'a> MinidumpThread<'a> {
     {
         MinidumpThread {
             raw,
-            context: located(&raw.thread_context, all, steps),
+            context: raw.thread_context.bytes_in(all, steps),
             stack: MinidumpMemory::read_counted(&raw.stack, all, endian, steps).ok(),
             endian,
         }
@@ -130,18 +130,6 @@ fn error_at(
 {
     let code = region?.get_memory_at_address(address)?;
     Some(CrashReason::from_windows_error(code, names))
-}
-
-// Returns the bytes of a location, or `None` if they are not in the file, and counts the read.
-pub(crate) fn located<'a>(
-    location: &MINIDUMP_LOCATION_DESCRIPTOR,
-    all: Source<'a>,
-    steps: &mut Steps,
-) -> Option<&'a [u8]>
-    ensures value { option_copied result ≡ located (bytes_of all.entry) location.now }
-    ensures step { steps.new ≡ after steps.old 1 }
-{
-    all.span(location.rva as u64, location.data_size as u64, steps)
 }
 
 // Decodes the context that bytes are, or returns `None` if there are none or they are no context.

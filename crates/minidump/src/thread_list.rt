@@ -4,7 +4,7 @@ ghost use Rattle.std.specs.Option.{option_copied, option_map};
 ghost use Rattle.minidump_bytes.specs.Source.{bytes_of};
 ghost use Rattle.minidump_bytes.specs.Steps.{after};
 ghost use Rattle.minidump_format.specs.StreamType.{number_of};
-ghost use Rattle.minidump.specs.Thread.{IsLastThread, reads_of, thread_at, thread_of, thread_list_of, thread_list_stream};
+ghost use Rattle.minidump.specs.Thread.{IsLastThread, thread_reads, thread_at, thread_of, thread_list_of, thread_list_stream};
 
 use crate::MinidumpThread;
 use minidump_bytes::{Endian, Entries, Source, Steps};
@@ -84,7 +84,7 @@ fn read_threads<'a>(
     ensures items { IfOk result (λ v. map thread_of v.items ≡ map (thread_at endian (bytes_of all.entry)) raws.entry) }
     ensures within { steps.new ≤ steps.old + 2 * length raws.entry }
     ensures grows { steps.old ≤ steps.new }
-    ensures steps { IfOk result (λ v. steps.new ≡ after steps.old (sum_by reads_of (map thread_of v.items))) }
+    ensures steps { IfOk result (λ v. steps.new ≡ after steps.old (sum_by thread_reads (map thread_of v.items))) }
 {
     let mut threads = Vec::with_capacity(alloc, raws.len())?;
     for raw in raws {

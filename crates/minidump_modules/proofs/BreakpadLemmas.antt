@@ -15,9 +15,11 @@ either : {X : Type 0} (b : Bool) → ◌≡◌ {A = Option X} (if b then None el
 either true = refl
 either false = refl
 
-pub breakpad_some : (text : List ℕ) (uuid : List ℕ) (n : ℕ) → 33 ≤ length text → length text ≤ 40 → sixteen_bytes (take 32 text) ≡ Some uuid → number_of_digits 16 32 (drop 32 text) ≡ Some n
+pub breakpad_some : (text : List ℕ) (uuid : List ℕ) (n : ℕ) → 33 ≤ length text → length text ≤ 40 → sixteen_bytes (take 32 text) ≡ Some uuid
+    → number_of_digits 16 32 (drop 32 text) ≡ Some n
     → from_breakpad text ≡ Some (by_guid uuid n)
 breakpad_some text uuid n low high one two = rw (le-leb 33 (length text) low, le-leb (length text) 40 high, one, two) refl
 
-pub breakpad_none : (text : List ℕ) (uuid : List ℕ) → sixteen_bytes (take 32 text) ≡ Some uuid → number_of_digits 16 32 (drop 32 text) ≡ None → from_breakpad text ≡ None
+pub breakpad_none : (text : List ℕ) (uuid : List ℕ) → sixteen_bytes (take 32 text) ≡ Some uuid → number_of_digits 16 32 (drop 32 text) ≡ None
+    → from_breakpad text ≡ None
 breakpad_none text uuid one two = rw (one, two) (either (nat_le 33 (length text) && nat_le (length text) 40))

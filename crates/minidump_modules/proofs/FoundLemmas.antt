@@ -1,5 +1,5 @@
 -- The modules at indices, one after another, and the first of them that passes a test.
-use Rattle.std.proofs.Common.{◌≡◌, ℕ, suc, ◌+◌, ◌<◌, ◌≤◌, Bool, false, List, [], ◌∷◌, ◌++◌, length, get_or, take, drop, map, refl, ap, sym, ◌∙◌, arith, inl, inr}
+use Rattle.std.proofs.Common.{◌≡◌, ℕ, suc, ◌+◌, ◌-◌, ◌<◌, ◌≤◌, Bool, false, List, [], ◌∷◌, ◌++◌, length, get_or, take, drop, map, refl, ap, sym, ◌∙◌, arith, inl, inr}
 use Rattle.std.specs.Prelude.{Option, Some, None, filter}
 use Rattle.std.specs.List.{cons_option, position, position_or_len}
 use Rattle.std.proofs.lemmas.Grind.{common_steps}
@@ -10,6 +10,7 @@ use Rattle.std.proofs.lemmas.List.Sums.{fails_before_first}
 use Rattle.std.proofs.lemmas.Option.{slice_get_cases}
 use Rattle.minidump_index.proofs.RegionsLemmas.{fewer_after_first, first_region}
 use Rattle.minidump_modules.specs.declared.unloaded_order.Placed.{Placed}
+use Rattle.minidump_modules.proofs.RestLemmas.{rest_all}
 use Rattle.minidump_modules.specs.UnloadedOrder.{IsInside, modules_of_order}
 
 -- nothing is kept where each fails
@@ -24,8 +25,9 @@ past p xs e = grind (arith, common_steps)
 pub none_passes : {X : Type 0} (p : X → Bool) (xs : List X) → position p xs ≡ None → filter p xs ≡ []
 none_passes p xs e = let far = past p xs e in none_kept p xs (λ k d lt. fails_before_first p xs k d (omega (arith, lt, far)))
 
--- the first that passes is the first that is kept
-pub first_passes : {X : Type 0} (p : X → Bool) (xs : List X) (i : ℕ) (d : X) → position p xs ≡ Some i → filter p xs ≡ get_or xs i d ∷ filter p (drop (i + 1) xs)
+-- the first that passes is the first that is kept; what is left is spelled as a slice from behind it
+pub first_passes : {X : Type 0} (p : X → Bool) (xs : List X) (i : ℕ) (d : X) → position p xs ≡ Some i
+    → filter p xs ≡ get_or xs i d ∷ filter p (take (length xs - (i + 1)) (drop (i + 1) xs))
 first_passes p xs i d e =
     let at = position-Some p xs i d e in
     let before : filter p (take i xs) ≡ [] = none_kept p (take i xs) (λ k c lt.
@@ -33,17 +35,19 @@ first_passes p xs i d e =
     rw (get_or-take i xs k c near) ((position-Some p xs i c e).2 k near)) in
     let split : filter p xs ≡ filter p (take (i + 1) xs) ++ filter p (drop (i + 1) xs) =
     ap (filter p) (sym (take-append-drop (i + 1) xs)) ∙ filter-append p (take (i + 1) xs) (drop (i + 1) xs) in
-    split ∙ rw (filter_more p xs i d at.0, at.1, before) refl
+    split ∙ rw (filter_more p xs i d at.0, at.1, before, rest_all (i + 1) xs) refl
 
 module _ {M : Type 0} (modules : List M) where
   -- the module of the first index
   pub first_module : (m : M) (e : Placed) (all rest : List Placed) → all ≡ e ∷ rest → e.place < length modules → m ≡ get_or modules e.place m
       → modules_of_order modules all ≡ m ∷ modules_of_order modules rest
-  first_module m e all rest is lt at = first_region modules m e.place (map (λ e. e.place) all) (map (λ e. e.place) rest) (ap (map (λ (e : Placed). e.place)) is) lt at
+  first_module m e all rest is lt at =
+      first_region modules m e.place (map (λ e. e.place) all) (map (λ e. e.place) rest) (ap (map (λ (e : Placed). e.place)) is) lt at
 
   pub fewer : (m : M) (e : Placed) (all rest : List Placed) → all ≡ e ∷ rest → e.place < length modules → m ≡ get_or modules e.place m
       → length (modules_of_order modules rest) < length (modules_of_order modules all)
-  fewer m e all rest is lt at = fewer_after_first modules m e.place (map (λ e. e.place) all) (map (λ e. e.place) rest) (ap (map (λ (e : Placed). e.place)) is) lt at
+  fewer m e all rest is lt at =
+      fewer_after_first modules m e.place (map (λ e. e.place) all) (map (λ e. e.place) rest) (ap (map (λ (e : Placed). e.place)) is) lt at
 
   pub first_inside : (e : Placed) (all rest : List Placed) → all ≡ e ∷ rest → IsInside modules all → e.place < length modules
   first_inside e all rest is h = (rw is at h) 0 e (omega arith)
@@ -55,6 +59,7 @@ module _ {M : Type 0} (modules : List M) where
   pub length-modules : (order : List Placed) → IsInside modules order → length (modules_of_order modules order) ≡ length order
   length-modules [] h = refl
   length-modules (e ∷ es) h = elim (slice_get_cases modules e.place).1 [
-    | inl found ↦ ap (λ (o : Option M). length (cons_option o (modules_of_order modules es))) found.2 ∙ ap suc (length-modules es (rest_inside e (e ∷ es) es refl h))
+    | inl found ↦ ap (λ (o : Option M). length (cons_option o (modules_of_order modules es))) found.2
+        ∙ ap suc (length-modules es (rest_inside e (e ∷ es) es refl h))
     | inr none ↦ absurd (let lt = first_inside e (e ∷ es) es refl h in omega (arith, lt, none.0))
   ]

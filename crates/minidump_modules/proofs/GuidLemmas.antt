@@ -29,10 +29,13 @@ pub guid_spells : (r : List ℕ) (a b c : ℕ) (d : List ℕ) → length r ≡ 1
 guid_spells r a b c d len all ea eb ec ed =
     let f = fit r all in
     let one : to_be_bytes w32 a ≡ take 4 r = be_bytes_4 (take 4 r) a (rw (length-take) (omega (arith, len))) (fit_take 4 r f) (sym ea) in
-    let two : to_be_bytes w16 b ≡ take 2 (drop 4 r) = be_bytes_2 (take 2 (drop 4 r)) b (rw (length-take, length-drop) (omega (arith, len))) (fit_take 2 (drop 4 r) (fit_drop 4 r f)) (sym eb) in
-    let three : to_be_bytes w16 c ≡ take 2 (drop 6 r) = be_bytes_2 (take 2 (drop 6 r)) c (rw (length-take, length-drop) (omega (arith, len))) (fit_take 2 (drop 6 r) (fit_drop 6 r f)) (sym ec) in
+    let two : to_be_bytes w16 b ≡ take 2 (drop 4 r) = be_bytes_2 (take 2 (drop 4 r)) b (rw (length-take, length-drop) (omega (arith, len)))
+    (fit_take 2 (drop 4 r) (fit_drop 4 r f)) (sym eb) in
+    let three : to_be_bytes w16 c ≡ take 2 (drop 6 r) = be_bytes_2 (take 2 (drop 6 r)) c (rw (length-take, length-drop) (omega (arith, len)))
+    (fit_take 2 (drop 6 r) (fit_drop 6 r f)) (sym ec) in
     let last : drop 2 (drop 6 r) ≡ d = drop-drop 2 6 r ∙ ed in
-    let third : drop 6 r ≡ to_be_bytes w16 c ++ d = sym (take-append-drop 2 (drop 6 r)) ∙ ap (λ l. take 2 (drop 6 r) ++ l) last ∙ ap (λ l. l ++ d) (sym three) in
+    let third : drop 6 r ≡ to_be_bytes w16 c ++ d = sym (take-append-drop 2 (drop 6 r)) ∙ ap (λ l. take 2 (drop 6 r) ++ l) last
+    ∙ ap (λ l. l ++ d) (sym three) in
     let second : drop 4 r ≡ to_be_bytes w16 b ++ (to_be_bytes w16 c ++ d) =
     sym (take-append-drop 2 (drop 4 r)) ∙ ap (λ l. take 2 (drop 4 r) ++ l) (drop-drop 2 4 r ∙ third) ∙ ap (λ l. l ++ (to_be_bytes w16 c ++ d)) (sym two) in
     sym (take-append-drop 4 r) ∙ ap (λ l. take 4 r ++ l) second ∙ ap (λ l. l ++ (to_be_bytes w16 b ++ (to_be_bytes w16 c ++ d))) (sym one)

@@ -1,18 +1,21 @@
 -- Lists that a loop makes item by item, up to the first refusal.
-use Rattle.std.proofs.Common.{◌≡◌, ℕ, ◌+◌, ◌-◌, ◌<◌, true, false, List, [], ◌∷◌, ◌++◌, length, get_or, take, drop, map, replicate, Result, Ok, Err, refl, ap, sym, ◌∙◌, arith, append-nil, inl, inr}
-use Rattle.std.specs.Prelude.{Bool, filter, min}
-use Rattle.std.proofs.lemmas.Bool.{cases_lt}
-use Rattle.std.proofs.lemmas.List.{drop-replicate, take-append-drop, take_all, take_more, map_push}
+use Rattle.std.proofs.Common.{◌≡◌, ℕ, ◌+◌, ◌<◌, true, false, List, [], ◌∷◌, ◌++◌, length, get_or, take, drop, map, Result, Ok, Err, refl, ap, sym, ◌∙◌, add-one, arith, append-nil, drop-cons}
+use Rattle.std.specs.Prelude.{Bool, filter}
+use Rattle.std.proofs.lemmas.List.{take-append-drop, take_more, map_push}
 use Rattle.std.proofs.lemmas.List.Elements.{filter-append, filter_more}
 use Rattle.std.proofs.lemmas.Result.{err_from_is_err_and}
-use Rattle.std.specs.List.{sum_by}
-use Rattle.std.proofs.lemmas.List.Sums.{sum_by-append}
 use Rattle.std.specs.Result.{IsErrAnd}
+use Rattle.minidump_bytes.proofs.LeftLemmas.{IsNext}
 use Rattle.minidump_format.specs.declared.error.Error.{Error}
 use Rattle.minidump_format.specs.declared.error.Error.TheVariants.{OutOfMemory}
 use Rattle.minidump_format.specs.Answer.{Gives, Refuses}
-use Rattle.minidump_modules.specs.Identity.{padded}
 use Rattle.minidump_system.specs.Reads.{all_ok, and_then}
+
+-- what is behind an index begins with the next item
+split_at : {R : Type 0} (xs : List R) (i : ℕ) (x : R) (rest : List R) → IsNext xs i x x rest → xs ≡ take i xs ++ x ∷ drop (i + 1) xs
+split_at {R = R} xs i x rest next =
+    let behind : drop i xs ≡ x ∷ drop (i + 1) xs = rw (add-one i, ← next.item) (drop-cons xs i x next.inside) in
+    sym (take-append-drop i xs) ∙ ap (λ (l : List R). take i xs ++ l) behind
 
 step : {V : Type 0} (r : Result V Error) (A B W : Result (List V) Error) → W ≡ and_then A (λ vs. and_then B (λ ws. Ok (vs ++ ws)))
     → and_then r (λ v. and_then W (λ vs. Ok (v ∷ vs))) ≡ and_then (and_then r (λ v. and_then A (λ vs. Ok (v ∷ vs)))) (λ us. and_then B (λ ws. Ok (us ++ ws)))
@@ -36,58 +39,54 @@ one_ok : {R V : Type 0} (read : R → Result V Error) (x : R) (v : V) → read x
 unfolding all_ok
 one_ok read x v e = rw e refl
 
-one_err : {R V : Type 0} (read : R → Result V Error) (x : R) (e : Error) → read x ≡ Err e → all_ok read (x ∷ []) ≡ Err e
+first_err : {R V : Type 0} (read : R → Result V Error) (x : R) (rest : List R) (e : Error) → read x ≡ Err e → all_ok read (x ∷ rest) ≡ Err e
 unfolding all_ok
-one_err read x e h = rw h refl
+first_err read x rest e h = rw h refl
 
-module _ {R V M : Type 0} (read : R → Result V Error) (p : R → Bool) (view : M → V) where
-  pub ok_none : all_ok read (filter p []) ≡ Ok []
+module _ {R V M : Type 0} (read : R → Result V Error) (view : M → V) where
+  pub ok_none : all_ok read [] ≡ Ok []
   unfolding all_ok
   ok_none = refl
 
-  -- one value more
-  pub ok_more : (xs : List R) (i : ℕ) (d : R) (ms : List M) (m : M) → i < length xs → p (get_or xs i d) ≡ true
-      → all_ok read (filter p (take i xs)) ≡ Ok (map view ms) → read (get_or xs i d) ≡ Ok (view m) → all_ok read (filter p (take (i + 1) xs)) ≡ Ok (map view (ms ++ m ∷ []))
-  ok_more xs i d ms m lt is before one =
-      rw (filter_more p xs i d lt, is, all_ok-append read (filter p (take i xs)) (get_or xs i d ∷ []), before, one_ok read (get_or xs i d) (view m) one, map_push view ms m) refl
+  one_more : (before : List R) (x : R) (ms : List M) (m : M)
+      → all_ok read before ≡ Ok (map view ms) → read x ≡ Ok (view m) → all_ok read (before ++ x ∷ []) ≡ Ok (map view (ms ++ m ∷ []))
+  one_more before x ms m so_far one = rw (all_ok-append read before (x ∷ []), so_far, one_ok read x (view m) one, map_push view ms m) refl
 
-  -- and one that is skipped
-  pub ok_skip : (xs : List R) (i : ℕ) (d : R) (ms : List M) → i < length xs → p (get_or xs i d) ≡ false
-      → all_ok read (filter p (take i xs)) ≡ Ok (map view ms) → all_ok read (filter p (take (i + 1) xs)) ≡ Ok (map view ms)
-  ok_skip xs i d ms lt is before = rw (filter_more p xs i d lt, is, append-nil) before
+  first_refusal : (before rest : List R) (x : R) (ms : List M) (e : Error)
+      → all_ok read before ≡ Ok (map view ms) → read x ≡ Err e → all_ok read (before ++ x ∷ rest) ≡ Err e
+  first_refusal before rest x ms e so_far one = rw (all_ok-append read before (x ∷ rest), so_far, first_err read x rest e one) refl
 
-  -- the first refusal is that of all
-  pub ok_refused : (xs : List R) (i : ℕ) (d : R) (ms : List M) (e : Error) → i < length xs → p (get_or xs i d) ≡ true
-      → all_ok read (filter p (take i xs)) ≡ Ok (map view ms) → read (get_or xs i d) ≡ Err e → all_ok read (filter p xs) ≡ Err e
-  ok_refused xs i d ms e lt is before one =
-      let here : all_ok read (filter p (take (i + 1) xs)) ≡ Err e =
-      rw (filter_more p xs i d lt, is, all_ok-append read (filter p (take i xs)) (get_or xs i d ∷ []), before, one_err read (get_or xs i d) e one) refl in
-      let split : filter p xs ≡ filter p (take (i + 1) xs) ++ filter p (drop (i + 1) xs) =
-      ap (filter p) (sym (take-append-drop (i + 1) xs)) ∙ filter-append p (take (i + 1) xs) (drop (i + 1) xs) in
-      rw (split, all_ok-append read (filter p (take (i + 1) xs)) (filter p (drop (i + 1) xs)), here) refl
+  module _ (xs : List R) (i : ℕ) (x : R) (rest : List R) (next : IsNext xs i x x rest) (ms : List M) where
+    -- one value more
+    pub ok_next : (m : M) → all_ok read (take i xs) ≡ Ok (map view ms) → read x ≡ Ok (view m)
+        → all_ok read (take (i + 1) xs) ≡ Ok (map view (ms ++ m ∷ []))
+    ok_next m so_far one = rw (take_more xs i x next.inside, next.item) (one_more (take i xs) x ms m so_far one)
 
-module _ {R V M : Type 0} (read : R → Result V Error) (view : M → V) where
-  pub ok_first : all_ok read [] ≡ Ok (map view [])
-  unfolding all_ok
-  ok_first = refl
+    -- the first refusal is that of all
+    pub ok_stopped : (e : Error) → all_ok read (take i xs) ≡ Ok (map view ms) → read x ≡ Err e → all_ok read xs ≡ Err e
+    ok_stopped e so_far one =
+        let split : xs ≡ take i xs ++ x ∷ drop (i + 1) xs = split_at xs i x rest next in
+        rw split (first_refusal (take i xs) (drop (i + 1) xs) x ms e so_far one)
 
-  -- one value more of a list of which none is skipped
-  pub ok_next : (xs : List R) (i : ℕ) (d : R) (ms : List M) (m : M) → i < length xs
-      → all_ok read (take i xs) ≡ Ok (map view ms) → read (get_or xs i d) ≡ Ok (view m) → all_ok read (take (i + 1) xs) ≡ Ok (map view (ms ++ m ∷ []))
-  ok_next xs i d ms m lt before one =
-      rw (take_more xs i d lt, all_ok-append read (take i xs) (get_or xs i d ∷ []), before, one_ok read (get_or xs i d) (view m) one, map_push view ms m) refl
+    -- the same where only the items that pass a test are read
+    module _ (p : R → Bool) where
+      pub ok_more : (m : M) → p x ≡ true → all_ok read (filter p (take i xs)) ≡ Ok (map view ms) → read x ≡ Ok (view m)
+          → all_ok read (filter p (take (i + 1) xs)) ≡ Ok (map view (ms ++ m ∷ []))
+      ok_more m passes so_far one = rw (filter_more p xs i x next.inside, next.item, passes) (one_more (filter p (take i xs)) x ms m so_far one)
 
-  -- its first refusal is that of all
-  pub ok_stopped : (xs : List R) (i : ℕ) (d : R) (ms : List M) (e : Error) → i < length xs
-      → all_ok read (take i xs) ≡ Ok (map view ms) → read (get_or xs i d) ≡ Err e → all_ok read xs ≡ Err e
-  ok_stopped xs i d ms e lt before one =
-      let here : all_ok read (take (i + 1) xs) ≡ Err e =
-      rw (take_more xs i d lt, all_ok-append read (take i xs) (get_or xs i d ∷ []), before, one_err read (get_or xs i d) e one) refl in
-      let split : all_ok read xs ≡ all_ok read (take (i + 1) xs ++ drop (i + 1) xs) = ap (all_ok read) (sym (take-append-drop (i + 1) xs)) in
-      split ∙ rw (all_ok-append read (take (i + 1) xs) (drop (i + 1) xs), here) refl
+      pub ok_skip : p x ≡ false → all_ok read (filter p (take i xs)) ≡ Ok (map view ms) → all_ok read (filter p (take (i + 1) xs)) ≡ Ok (map view ms)
+      ok_skip fails so_far = rw (filter_more p xs i x next.inside, next.item, fails, append-nil) so_far
+
+      pub ok_refused : (e : Error) → p x ≡ true → all_ok read (filter p (take i xs)) ≡ Ok (map view ms) → read x ≡ Err e → all_ok read (filter p xs) ≡ Err e
+      ok_refused e passes so_far one =
+          let kept : filter p (x ∷ drop (i + 1) xs) ≡ x ∷ filter p (drop (i + 1) xs) = rw passes refl in
+          let split : filter p xs ≡ filter p (take i xs) ++ x ∷ filter p (drop (i + 1) xs) =
+          ap (filter p) (split_at xs i x rest next) ∙ filter-append p (take i xs) (x ∷ drop (i + 1) xs) ∙ ap (λ (l : List R). filter p (take i xs) ++ l) kept in
+          rw split (first_refusal (filter p (take i xs)) (filter p (drop (i + 1) xs)) x ms e so_far one)
 
 -- a refusal of a part is that of the whole, where the part is refused by the whole's rule
-refused : {M N A B : Type 0} (e : Error) (part : Result A Error) (whole : Result B Error) → (M → N) → (part ≡ Err e → whole ≡ Err e) → Refuses M e part → Refuses N e whole
+refused : {M N A B : Type 0} (e : Error) (part : Result A Error) (whole : Result B Error) → (M → N) → (part ≡ Err e → whole ≡ Err e) → Refuses M e part
+    → Refuses N e whole
 refused OutOfMemory part whole memory rule h = memory h
 refused e part whole memory rule h = rule h
 
@@ -95,20 +94,3 @@ refused e part whole memory rule h = rule h
 pub gives_exit : {M N X A B : Type 0} (view : X → B) (r : Result X Error) (e : Error) (part : Result A Error) (whole : Result B Error) → IsErrAnd r (λ y. y ≡ e)
     → (M → N) → Refuses M e part → (part ≡ Err e → whole ≡ Err e) → Gives view N r whole
 gives_exit view r e part whole exit memory refusal rule = let p = err_from_is_err_and r exit in rw (p.1, p.2) (refused e part whole memory rule refusal)
-
--- the first 16 bytes of a list, over as many zeros
-pub padded_is : (id : List ℕ) (len : ℕ) → len ≡ min (length id) 16 → take len id ++ drop len (replicate {A = ℕ} 16 0) ≡ padded id
-unfolding padded
-padded_is id len e = rw (drop-replicate {X = ℕ} len 16 0) (elim (cases_lt (length id) 16) [
-  | inl lt ↦
-      let whole : len ≡ length id = omega (arith, e) in
-      rw (take_all len id (omega (arith, whole)), take_all 16 id (omega arith), whole) refl
-  | inr ge ↦
-      let full : len ≡ 16 = omega (arith, e) in
-      let none : 16 - length id ≡ 0 = omega arith in
-      rw (full, none) refl
-])
-
--- the sum over values of one more
-pub sum_pushed : {V M : Type 0} (size : V → ℕ) (view : M → V) (ms : List M) (m : M) → sum_by size (map view (ms ++ m ∷ [])) ≡ sum_by size (map view ms) + size (view m)
-sum_pushed size view ms m = rw (map_push view ms m, sum_by-append size (map view ms) (view m ∷ [])) (omega arith)

@@ -14,7 +14,8 @@ module _ {A : Type 0} (Before : A → A → Type 0) (one_way : (x y : A) → Bef
   ]
 
   -- a member of the rest of one list is one of the rest of the other
-  in_rest : (p q : A) (ps qs : List A) → AllPairs Before (p ∷ ps) → p ≡ q → ((x : A) → Contains (p ∷ ps) x → Contains (q ∷ qs) x) → (x : A) → Contains ps x → Contains qs x
+  in_rest : (p q : A) (ps qs : List A) → AllPairs Before (p ∷ ps) → p ≡ q → ((x : A) → Contains (p ∷ ps) x → Contains (q ∷ qs) x) → (x : A) → Contains ps x
+      → Contains qs x
   in_rest p q ps qs a here same x h = elim (cases q qs x (same x (tail p ps x h))) [
     | inl it ↦ absurd (let self : Before x x = subst (λ (y : A). Before y x) (here ∙ it) (first_pairs Before p ps a x h) in one_way x x self self)
     | inr more ↦ more

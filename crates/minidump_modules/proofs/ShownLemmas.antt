@@ -17,7 +17,8 @@ pub shown_guid : (id : DebugId) (uuid : List ℕ) (n : ℕ) → id.kind ≡ Guid
 unfolding guid_text
 shown_guid id uuid n is zero = rw (is, no_appendix n zero, append-nil) refl
 
-pub shown_guid_with : (id : DebugId) (uuid : List ℕ) (n : ℕ) → id.kind ≡ Guid uuid n → n ≢ 0 → hyphenated_text lower uuid ++ (codes "-" ++ digits 16 false n) ≡ debug_id_text id
+pub shown_guid_with : (id : DebugId) (uuid : List ℕ) (n : ℕ) → id.kind ≡ Guid uuid n → n ≢ 0
+    → hyphenated_text lower uuid ++ (codes "-" ++ digits 16 false n) ≡ debug_id_text id
 unfolding guid_text
 shown_guid_with id uuid n is some = rw (is, appendix n some) refl
 

@@ -75,18 +75,22 @@ module _ (modules : List UnloadedValue) where
     range : unloaded_value_range m ≡ Some e.range
 
   read : (e : Placed) (o : Option UnloadedValue) → slice_get modules e.place ≡ o → HasRange Ranges e.place e.range → (m : UnloadedValue) × IsAt e m
-  read e (Some m) at h = let same : Some (unloaded_value_range m) ≡ Some (Some e.range) = ap (option_map unloaded_value_range) (sym at) ∙ sym (slice_get-map unloaded_value_range modules e.place) ∙ h in
+  read e (Some m) at h = let same : Some (unloaded_value_range m) ≡ Some (Some e.range) = ap (option_map unloaded_value_range) (sym at)
+      ∙ sym (slice_get-map unloaded_value_range modules e.place) ∙ h in
       (m, record { at = at; range = cc })
-  read e None at h = let same : None ≡ Some (Some e.range) = ap (option_map unloaded_value_range) (sym at) ∙ sym (slice_get-map unloaded_value_range modules e.place) ∙ h in absurd (let b : ⊥ = cc in b)
+  read e None at h = let same : None ≡ Some (Some e.range) = ap (option_map unloaded_value_range) (sym at)
+      ∙ sym (slice_get-map unloaded_value_range modules e.place) ∙ h in absurd (let b : ⊥ = cc in b)
 
   module_at : (e : Placed) → HasRange Ranges e.place e.range → (m : UnloadedValue) × IsAt e m
   module_at e h = read e (slice_get modules e.place) refl h
 
   -- a module of the list that has a range stands at an index
-  index_of : (m : UnloadedValue) (r : Range) → Contains modules m → unloaded_value_range m ≡ Some r → (e : Placed) × HasRange Ranges e.place e.range × IsAt e m × (e.range ≡ r)
+  index_of : (m : UnloadedValue) (r : Range) → Contains modules m → unloaded_value_range m ≡ Some r
+      → (e : Placed) × HasRange Ranges e.place e.range × IsAt e m × (e.range ≡ r)
   index_of m r (k, within, at) range =
       let there : slice_get modules k ≡ Some m = slice_get-get_or modules k m within ∙ ap (λ (x : UnloadedValue). Some x) at in
-      let has : HasRange Ranges k r = slice_get-map unloaded_value_range modules k ∙ ap (option_map unloaded_value_range) there ∙ ap (λ (o : Option Range). Some o) range in
+      let has : HasRange Ranges k r = slice_get-map unloaded_value_range modules k ∙ ap (option_map unloaded_value_range) there
+      ∙ ap (λ (o : Option Range). Some o) range in
       (record { range = r; place = k }, has, record { at = there; range = range }, refl)
 
   -- ---- the modules of an order
@@ -111,7 +115,8 @@ module _ (modules : List UnloadedValue) where
       let n = module_at f (has f (head f fs)) in
       let more : modules_of_order modules (f ∷ fs) ≡ n.0 ∷ modules_of_order modules fs = one_more f n.0 fs n.1 in
       subst (λ (ms : List UnloadedValue). Contains ms m) (sym more) (elim (cases f fs e h) [
-        | inl same ↦ (let one : n.0 ≡ m = (let a = n.1.at in let b = at.at in let c = ap (λ (x : Placed). slice_get modules x.place) same in let s : Some n.0 ≡ Some m = sym a ∙ c ∙ b in cc) in
+        | inl same ↦ (let one : n.0 ≡ m = (let a = n.1.at in let b = at.at in let c = ap (λ (x : Placed). slice_get modules x.place) same in
+            let s : Some n.0 ≡ Some m = sym a ∙ c ∙ b in cc) in
             subst (Contains (n.0 ∷ modules_of_order modules fs)) one (head n.0 (modules_of_order modules fs)))
         | inr rest ↦ tail n.0 (modules_of_order modules fs) m (into_order fs e m (λ x k. has x (tail f fs x k)) rest at)
       ])
@@ -141,7 +146,8 @@ module _ (modules : List UnloadedValue) where
     kept_have : (address : ℕ) → AllHave (filter (has address) order)
     kept_have address e h = all_have e (kept_from (has address) order e h).0
 
-    pub found : (address : ℕ) (m : UnloadedValue) → Contains (modules_of_order modules (filter (has address) order)) m ↔ (Contains modules m × HasAddress unloaded_value_range address m)
+    pub found : (address : ℕ) (m : UnloadedValue)
+        → Contains (modules_of_order modules (filter (has address) order)) m ↔ (Contains modules m × HasAddress unloaded_value_range address m)
     found address m = (
       (λ h. let e = from_order (filter (has address) order) m (kept_have address) h in
           let k = kept_from (has address) order e.0 e.1 in (
@@ -158,7 +164,9 @@ unloaded_laws modules = record {
   one_order = λ given other a b. a.2 ∙ ap (modules_of_order modules) (one_placed modules a.0 b.0 a.1 b.1) ∙ sym b.2;
   ranged = λ given m o. rw o.2 (ranged modules o.0 o.1 m);
   ascending = λ given o. rw o.2 (ascend modules o.0 (all_have modules o.0 o.1) o.1.ascending);
-  one_answer = λ address given other a b. a.2 ∙ ap (λ (es : List Placed). modules_of_order modules (filter (has address) es)) (one_placed modules a.0 b.0 a.1 b.1) ∙ sym b.2;
+  one_answer = λ address given other a b. a.2 ∙ ap (λ (es : List Placed). modules_of_order modules (filter (has address) es))
+      (one_placed modules a.0 b.0 a.1 b.1) ∙ sym b.2;
   found = λ address given m o. rw o.2 (found modules o.0 o.1 address m);
-  found_ascend = λ address given o. rw o.2 (ascend modules (filter (has address) o.0) (kept_have modules o.0 o.1 address) (AllPairs-filter Precedes (has address) o.0 o.1.ascending));
+  found_ascend = λ address given o. rw o.2 (ascend modules (filter (has address) o.0) (kept_have modules o.0 o.1 address)
+      (AllPairs-filter Precedes (has address) o.0 o.1.ascending));
 }

@@ -11,7 +11,8 @@ use Rattle.minidump_modules.specs.UnloadedOrder.{AreAt, IsByStart, IsOrderOf, ha
 
 module _ (modules : List MinidumpUnloadedModule) (order : List Placed) (is : IsOrderOf (map unloaded_range modules) order) where
   as_values : IsOrderOf (map unloaded_value_range (unloaded_module_list_of modules)) order
-  as_values = subst (λ (ranges : List (Option Range)). IsOrderOf ranges order) (sym (same_ranges unloaded_of unloaded_range unloaded_value_range (λ m. refl) modules)) is
+  as_values = subst (λ (ranges : List (Option Range)). IsOrderOf ranges order)
+      (sym (same_ranges unloaded_of unloaded_range unloaded_value_range (λ m. refl) modules)) is
 
   -- all of them
   pub by_start : IsByStart (unloaded_module_list_of modules) (map unloaded_of (modules_of_order modules order))

@@ -5,9 +5,9 @@ use Rattle.std.specs.Option.{ok_or}
 use Rattle.std.specs.Str.Lossy.{utf8_lossy}
 use Rattle.minidump_bytes.specs.declared.endian.Endian.{Endian}
 use Rattle.minidump_bytes.specs.Number.{number_at}
-use Rattle.minidump_bytes.specs.Span.{span}
 use Rattle.minidump_format.specs.CodeView.{signature_of}
 use Rattle.minidump_format.specs.Guid.{guid}
+use Rattle.minidump_format.specs.Header.{located}
 use Rattle.minidump_format.specs.declared.error.Error.{Error}
 use Rattle.minidump_format.specs.declared.error.Error.TheVariants.{CodeViewReadFailure}
 use Rattle.minidump_format.specs.declared.format.code_view.CvSignature.{CvSignature}
@@ -67,7 +67,7 @@ code_view order bytes =
 unfoldable pub code_view_at : Endian → List ℕ → MINIDUMP_LOCATION_DESCRIPTOR → Result (Option View) Error
 code_view_at order file place =
     if place.data_size == 0 then Ok None else
-    and_then (ok_or (span place.rva (place.rva + place.data_size) file) CodeViewReadFailure) (λ bytes. and_then (code_view order bytes) (λ view. Ok (Some view)))
+    and_then (ok_or (located file place) CodeViewReadFailure) (λ bytes. and_then (code_view order bytes) (λ view. Ok (Some view)))
 
 -- how much is read of a record: its signature, and each of its fields; those of an unknown kind are all of its bytes
 abbrev pub record_reads : View → ℕ

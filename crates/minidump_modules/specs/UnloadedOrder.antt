@@ -46,7 +46,8 @@ IsByStart modules given = (order : List Placed) × IsOrderOf (map unloaded_value
 
 -- those of them that contain an address
 abbrev pub AreAt : List UnloadedValue → ℕ → List UnloadedValue → Type 0
-AreAt modules address given = (order : List Placed) × IsOrderOf (map unloaded_value_range modules) order × (given ≡ modules_of_order modules (filter (has address) order))
+AreAt modules address given =
+    (order : List Placed) × IsOrderOf (map unloaded_value_range modules) order × (given ≡ modules_of_order modules (filter (has address) order))
 
 -- a module starts before another; or at the same address, and ends no later
 abbrev pub StartsBefore : UnloadedValue → UnloadedValue → Type 0

@@ -71,8 +71,8 @@ pub(crate) fn code_view_at(
     if place.data_size == 0 {
         return Ok(None);
     }
-    let bytes = all
-        .span(place.rva as u64, place.data_size as u64, steps)
+    let bytes = place
+        .bytes_in(all, steps)
         .ok_or(Error::CodeViewReadFailure)?;
     Ok(Some(read_code_view(alloc, Source::new(bytes), endian, steps)?))
 }

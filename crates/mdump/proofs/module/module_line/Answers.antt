@@ -13,9 +13,14 @@ use Rattle.mdump.proofs.module.module_line.Goals as goal
 pub returns-clause-written : goal.returns-clause-written
 returns-clause-written g c =
     let found = option_map module_of (option_copied c.module_at-found.result) in
-    let same : option_map module_list_of c.in_ok-modules.modules ≡ modules_of_dump (dump_of c.args.dump.now) = c.in_ok-modules.ensures.means in
-    written g.O.Write.contents c.args.out.now c.put_made.new.f (IsModuleLine (dump_of c.args.dump.now) c.args.address) (module_line found) c.put_made.result
-    (found, subst (λ (m : Option (List ModuleValue)). IsAt value_range m c.args.address found) (ap (option_map module_list_of) c.as_ref.ensures.value ∙ same) c.module_at-found.ensures, refl) (c.put_made.ensures.prints (module_line found) c.made_module_line.ensures)
+    let same : option_map module_list_of c.in_ok-modules.modules ≡ modules_of_dump (dump_of c.args.dump.now) = cc c.in_ok-modules.ensures in
+    written g.O.Write.contents c.args.out.now c.put_made.new.f (IsModuleLine (dump_of c.args.dump.now) c.args.address) (module_line found) c.put_made.result (
+      found,
+      subst (λ (m : Option (List ModuleValue)). IsAt value_range m c.args.address found)
+          (ap (option_map module_list_of) c.as_ref.ensures.value ∙ same) c.module_at-found.ensures,
+      refl,
+    )
+    (c.put_made.ensures.prints (module_line found) c.made_module_line.ensures)
 
 pub returns-clause-refusal : goal.returns-clause-refusal
 returns-clause-refusal g c =

@@ -7,7 +7,8 @@ use Rattle.mdump.proofs.PrintLemmas.{accounted, path_refusal, print_refusal, wri
 use Rattle.mdump.proofs.program.dir.Goals as goal
 
 pub returns-clause-written : goal.returns-clause-written
-returns-clause-written g c = written g.O.Write.contents c.args.out.now c.print.new.f (IsDirectoryText g.R.File.Read.remaining) (dump_text (dump_of c.in_ok-dump.dump)) c.print.result
+returns-clause-written g c = written g.O.Write.contents c.args.out.now c.print.new.f (IsDirectoryText g.R.File.Read.remaining)
+    (dump_text (dump_of c.in_ok-dump.dump)) c.print.result
     (dump_of c.in_ok-dump.dump, c.in_ok-dump.ensures, refl) c.print.ensures
 
 pub returns-clause-refusal : goal.returns-clause-refusal

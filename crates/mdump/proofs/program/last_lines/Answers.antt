@@ -10,13 +10,15 @@ use Rattle.mdump.proofs.program.last_lines.Goals as goal
 pub returns-in_err-module_line-clause-written : goal.returns-in_err-module_line-clause-written
 returns-in_err-module_line-clause-written g c =
     let dump = dump_of c.args.dump.now in
-    cut g.O.Write.contents (IsModuleLine dump c.args.address) (IsInfoLine dump c.args.address) c.args.out.now c.module_line.new.out c.from_residual.result _ c.from_residual.ensures.1
+    cut g.O.Write.contents (IsModuleLine dump c.args.address)
+    (IsInfoLine dump c.args.address) c.args.out.now c.module_line.new.out c.from_residual.result _ c.from_residual.ensures.1
     (a_line info_region_range (option_map info_regions (info_of_dump dump)) c.args.address info_line c.region_laws.ensures.unified_information) c.in_err-module_line.ensures.written
 
 pub returns-clause-written : goal.returns-clause-written
 returns-clause-written g c =
     let dump = dump_of c.args.dump.now in
-    joined g.O.Write.contents (IsModuleLine dump c.args.address) (IsInfoLine dump c.args.address) c.args.out.now c.module_line.new.out c.info_line.new.out c.info_line.result
+    joined g.O.Write.contents (IsModuleLine dump c.args.address)
+    (IsInfoLine dump c.args.address) c.args.out.now c.module_line.new.out c.info_line.new.out c.info_line.result
     (a_line info_region_range (option_map info_regions (info_of_dump dump)) c.args.address info_line c.region_laws.ensures.unified_information) c.in_ok-module_line.ensures.written c.info_line.ensures.written
 
 pub returns-clause-refusal : goal.returns-clause-refusal

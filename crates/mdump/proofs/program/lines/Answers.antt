@@ -13,7 +13,8 @@ returns-in_err-memory_line-clause-written g c =
     let dump = dump_of c.args.dump.now in
     let a_module = a_line value_range (modules_of_dump dump) c.args.address module_line c.region_laws.ensures in
     let info = a_line info_region_range (option_map info_regions (info_of_dump dump)) c.args.address info_line c.region_laws-2.ensures.unified_information in
-    cut g.O.Write.contents (IsMemoryLine dump c.args.address) (AreLastLines dump c.args.address) c.args.out.now c.memory_line.new.out c.from_residual.result _ c.from_residual.ensures.1
+    cut g.O.Write.contents (IsMemoryLine dump c.args.address)
+    (AreLastLines dump c.args.address) c.args.out.now c.memory_line.new.out c.from_residual.result _ c.from_residual.ensures.1
     (both_lines (IsModuleLine dump c.args.address) (IsInfoLine dump c.args.address) a_module info) c.in_err-memory_line.ensures.written
 
 pub returns-clause-written : goal.returns-clause-written
@@ -21,7 +22,8 @@ returns-clause-written g c =
     let dump = dump_of c.args.dump.now in
     let a_module = a_line value_range (modules_of_dump dump) c.args.address module_line c.region_laws.ensures in
     let info = a_line info_region_range (option_map info_regions (info_of_dump dump)) c.args.address info_line c.region_laws-2.ensures.unified_information in
-    joined g.O.Write.contents (IsMemoryLine dump c.args.address) (AreLastLines dump c.args.address) c.args.out.now c.memory_line.new.out c.last_lines.new.out c.last_lines.result
+    joined g.O.Write.contents (IsMemoryLine dump c.args.address)
+    (AreLastLines dump c.args.address) c.args.out.now c.memory_line.new.out c.last_lines.new.out c.last_lines.result
     (both_lines (IsModuleLine dump c.args.address) (IsInfoLine dump c.args.address) a_module info) c.in_ok-memory_line.ensures.written c.last_lines.ensures.written
 
 pub returns-clause-refusal : goal.returns-clause-refusal

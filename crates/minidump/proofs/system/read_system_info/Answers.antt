@@ -1,10 +1,7 @@
 -- Memory is wanted only where an entry decides.
-use Rattle.std.proofs.Common.{sym, ◌∙◌, ◌<◌, ◌≡◌, length, Some}
-use Rattle.std.proofs.lemmas.Result.{IfErr-weaker}
+use Rattle.std.proofs.Common.{sym, ◌∙◌, ◌<◌, ◌≡◌, length, refl, Some}
 use Rattle.minidump_bytes.specs.Source.{bytes_of}
 use Rattle.minidump_bytes.proofs.EntryLemmas.{length-entries}
-use Rattle.minidump_format.specs.declared.error.Error.{Error}
-use Rattle.minidump_format.specs.declared.error.Error.TheVariants.{OutOfMemory}
 use Rattle.minidump_format.specs.declared.format.stream_type.MINIDUMP_STREAM_TYPE.TheVariants.{SystemInfoStream}
 use Rattle.minidump_format.specs.StreamType.{number_of}
 use Rattle.minidump_format.specs.Header.{directory_entry}
@@ -12,11 +9,12 @@ use Rattle.minidump.specs.Directory.{deciding, directory}
 use Rattle.minidump.proofs.DirectoryLemmas.{deciding-among_some}
 use Rattle.minidump.proofs.system.read_system_info.Goals as goal
 
-pub returns-clause-memory : goal.returns-clause-memory
-returns-clause-memory c =
+pub returns-in-Err-OutOfMemory-clause-memory : goal.returns-in-Err-OutOfMemory-clause-memory
+returns-in-Err-OutOfMemory-clause-memory c =
     let h = c.args.header.now in
-    let es = directory c.args.endian (bytes_of c.args.source) h in
-    let found : deciding (number_of SystemInfoStream) es ≡ Some c.in-Some.deciding.now = sym (c.requires.at (number_of SystemInfoStream)) ∙ sym c.in-Some.ensures.value in
+    let source = bytes_of c.args.source in
+    let es = directory c.args.endian source h in
+    let found : deciding (number_of SystemInfoStream) es ≡ Some c.in-Some.deciding.now =
+    sym (c.requires.at (number_of SystemInfoStream)) ∙ sym c.in-Some.ensures.value in
     let some : 0 < length es = deciding-among_some (number_of SystemInfoStream) es c.in-Some.deciding.now found in
-    let counted : 0 < h.stream_count = rw (length-entries directory_entry c.args.endian (bytes_of c.args.source) h.stream_directory_rva h.stream_count) at some in
-    IfErr-weaker c.accepted.result (λ (e : Error). e ≡ OutOfMemory) (λ (e : Error). (e ≡ OutOfMemory) × (0 < h.stream_count)) (λ e same. (same, counted)) c.accepted.ensures.memory
+    (refl, rw (length-entries directory_entry c.args.endian source h.stream_directory_rva h.stream_count) at some)

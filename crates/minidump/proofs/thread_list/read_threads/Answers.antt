@@ -1,14 +1,13 @@
 -- One entry more: its thread is read.
-use Rattle.std.proofs.Common.{◌≡◌, ℕ, ◌+◌, ◌<◌, ◌≤◌, true, false, List, [], ◌∷◌, ◌++◌, length, map, take, get_or, ap, sym, ◌∙◌, arith}
+use Rattle.std.proofs.Common.{◌≡◌, ℕ, ◌+◌, ◌<◌, ◌≤◌, true, false, List, [], ◌∷◌, ◌++◌, length, map, take, ap, sym, ◌∙◌, arith}
 use Rattle.std.specs.Prelude.{Bool, ◌==◌, ◌||◌, if◌then◌else◌}
-use Rattle.std.specs.List.{sum_by}
-use Rattle.std.proofs.lemmas.List.{map-append, map_push, take_more}
-use Rattle.std.proofs.lemmas.List.Sums.{sum_by-append}
+use Rattle.std.proofs.lemmas.List.{map_push, take_more}
+use Rattle.std.proofs.lemmas.List.Sums.{sum_by_push}
 use Rattle.minidump_bytes.specs.Source.{bytes_of}
 use Rattle.minidump_format.specs.declared.format.memory.MINIDUMP_MEMORY_DESCRIPTOR.{MINIDUMP_MEMORY_DESCRIPTOR}
 use Rattle.minidump_memory.specs.Memory.{spans_read}
 use Rattle.minidump_bytes.proofs.LeftLemmas.{IsNext, all_given, next_left, one_given}
-use Rattle.minidump.specs.Thread.{reads_of, thread_at, thread_of}
+use Rattle.minidump.specs.Thread.{thread_reads, thread_at, thread_of}
 use Rattle.minidump.proofs.thread_list.read_threads.Goals as goal
 
 at_most_one : (none : Bool) → (if none then 0 else 1) ≤ 1
@@ -19,27 +18,21 @@ one_span : (d : MINIDUMP_MEMORY_DESCRIPTOR) → spans_read d ≤ 1
 one_span d = at_most_one (d.memory.rva == 0 || d.memory.data_size == 0)
 
 -- one value more
-made_more : {X Y Z : Type 0} (f : X → Y) (view : Z → Y) (xs : List X) (zs : List Z) (i : ℕ) (d : X) (z : Z) → i < length xs
-    → map view zs ≡ map f (take i xs) → view z ≡ f (get_or xs i d) → map view (zs ++ z ∷ []) ≡ map f (take (i + 1) xs)
-made_more f view xs zs i d z lt so_far e =
-    rw (take_more xs i d lt, map_push view zs z, so_far, e) (sym (map-append f (take i xs) (get_or xs i d ∷ [])))
-
--- and the sum over it
-sum_more : {Y Z : Type 0} (size : Y → ℕ) (view : Z → Y) (zs : List Z) (z : Z) → sum_by size (map view (zs ++ z ∷ [])) ≡ sum_by size (map view zs) + size (view z)
-sum_more size view zs z = rw (map_push view zs z, sum_by-append size (map view zs) (view z ∷ [])) (omega arith)
+made_more : {X Y Z : Type 0} (f : X → Y) (view : Z → Y) (xs : List X) (zs : List Z) (i : ℕ) (x : X) (z : Z) (rest : List X) → IsNext xs i x x rest
+    → map view zs ≡ map f (take i xs) → view z ≡ f x → map view (zs ++ z ∷ []) ≡ map f (take (i + 1) xs)
+made_more f view xs zs i x z rest next so_far e = rw (take_more xs i x next.inside, next.item, map_push view zs z, so_far, e) (sym (map_push f (take i xs) x))
 
 pub loop-raw-preserved : goal.loop-raw-preserved
 loop-raw-preserved c =
-    let xs = c.args.raws in
-    let i = length c.loop-raw.yielded in
-    let raw = c.in-Some.raw in
-    let next : IsNext xs i raw raw c.next.new.self = next_left xs i raw raw _ (sym c.loop-raw.invariant.left ∙ c.in-Some.ensures.steps) in
-    rw (one_given c.loop-raw.yielded raw) (record {
+    let threads = c.loop-raw.threads.items in
+    let next = next_left c.args.raws (length c.loop-raw.yielded) c.in-Some.raw _ _ (sym c.loop-raw.invariant.left ∙ c.in-Some.ensures.steps) in
+    rw (one_given c.loop-raw.yielded c.in-Some.raw, c.in_ok-push.ensures.items) (record {
       left = next.left;
-      items = rw c.in_ok-push.ensures.items (made_more (thread_at c.args.endian (bytes_of c.args.all)) thread_of xs c.loop-raw.threads.items i raw _ next.inside c.loop-raw.invariant.items (rw next.item c.read.ensures.value));
-      within = omega (arith, one_span raw.stack, c.read.ensures.step, c.loop-raw.invariant.within);
+      items = made_more (thread_at c.args.endian (bytes_of c.args.all)) thread_of _ threads _ _ _ _ next c.loop-raw.invariant.items c.read.ensures.value;
+      within = omega (arith, one_span c.in-Some.raw.stack, c.read.ensures.step, c.loop-raw.invariant.within);
       grows = omega (arith, c.read.ensures.step, c.loop-raw.invariant.grows);
-      counted = rw (c.in_ok-push.ensures.items, sum_more reads_of thread_of c.loop-raw.threads.items c.read.result) (omega (arith, c.read.ensures.step, c.loop-raw.invariant.counted, ap reads_of c.read.ensures.value));
+      counted = rw (map_push thread_of threads, sum_by_push thread_reads (map thread_of threads))
+          (omega (arith, c.read.ensures.step, c.loop-raw.invariant.counted, ap thread_reads c.read.ensures.value));
     })
 
 pub returns-clause-items : goal.returns-clause-items

@@ -3,7 +3,7 @@ use Rattle.std.proofs.Common.{◌≡◌, ◌+◌, ◌*◌, ◌≤◌, drop, leng
 use Rattle.std.specs.List.{sum_by}
 use Rattle.minidump_bytes.specs.Source.{bytes_of}
 use Rattle.minidump_bytes.specs.Steps.{after}
-use Rattle.minidump.specs.Thread.{reads_of, thread_at, thread_of}
+use Rattle.minidump.specs.Thread.{thread_reads, thread_at, thread_of}
 use Rattle.minidump.proofs.thread_list.read_threads.Given as goal
 
 abbrev pub invariant-loop-raw : goal.invariant-loop-raw
@@ -12,5 +12,5 @@ invariant-loop-raw l = record {
   items : map thread_of l.threads.items ≡ map (thread_at l.endian (bytes_of l.all)) (take (length l.yielded) l.fn.raws);
   within : l.steps ≤ l.fn.steps + 2 * length l.yielded;
   grows : l.fn.steps ≤ l.steps;
-  counted : l.steps ≡ after l.fn.steps (sum_by reads_of (map thread_of l.threads.items));
+  counted : l.steps ≡ after l.fn.steps (sum_by thread_reads (map thread_of l.threads.items));
 }

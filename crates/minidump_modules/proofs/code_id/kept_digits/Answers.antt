@@ -11,6 +11,9 @@ loop-byte-init c = c.new-digits.ensures.bytes
 
 pub loop-byte-preserved : goal.loop-byte-preserved
 loop-byte-preserved c = elim c.if-is_ascii_hexdigit.branch [
-  | then-is_ascii_hexdigit+in_ok-push w ↦ rw w.digits-is (kept_digit c.args.bytes.now c.loop-byte.byte-index (string_bytes c.loop-byte.digits) (string_bytes w.push.new.self) w.to_ascii_lowercase.result c.loop-byte-test.true c.loop-byte.invariant (sym c.is_ascii_hexdigit.ensures.value ∙ w.if-is_ascii_hexdigit.true) w.to_ascii_lowercase.ensures.value w.in_ok-push.ensures.bytes)
-  | else-is_ascii_hexdigit w ↦ rw w.digits-is (kept_other c.args.bytes.now c.loop-byte.byte-index (string_bytes c.loop-byte.digits) c.loop-byte-test.true c.loop-byte.invariant (sym c.is_ascii_hexdigit.ensures.value ∙ w.if-is_ascii_hexdigit.false))
+  | then-is_ascii_hexdigit+in_ok-push w ↦ rw w.digits-is (kept_digit c.args.bytes.now c.loop-byte.byte-index (string_bytes c.loop-byte.digits)
+      (string_bytes w.push.new.self) w.to_ascii_lowercase.result c.loop-byte-test.true c.loop-byte.invariant
+      (sym c.is_ascii_hexdigit.ensures.value ∙ w.if-is_ascii_hexdigit.true) w.to_ascii_lowercase.ensures.value w.in_ok-push.ensures.bytes)
+  | else-is_ascii_hexdigit w ↦ rw w.digits-is (kept_other c.args.bytes.now c.loop-byte.byte-index
+      (string_bytes c.loop-byte.digits) c.loop-byte-test.true c.loop-byte.invariant (sym c.is_ascii_hexdigit.ensures.value ∙ w.if-is_ascii_hexdigit.false))
 ]

@@ -7,4 +7,5 @@ pub returns : goal.returns
 unfolding guid_bytes
 returns c =
     let whole = rw c.as_bytes.ensures at c.bytes_fit.ensures in
-    guid_spells _ _ _ _ _ whole.0 whole.1 c.from_fields-uuid.ensures.d1 c.from_fields-uuid.ensures.d2 c.from_fields-uuid.ensures.d3 c.from_fields-uuid.ensures.d4
+    guid_spells _ _ _ _ _ whole.0 whole.1
+    c.from_fields-uuid.ensures.d1 c.from_fields-uuid.ensures.d2 c.from_fields-uuid.ensures.d3 c.from_fields-uuid.ensures.d4

@@ -1,6 +1,6 @@
 -- The bytes that were copied, and the zeros behind them.
 use Rattle.std.proofs.Common.{◌≡◌, take}
-use Rattle.minidump_modules.proofs.ListLemmas.{padded_is}
+use Rattle.minidump_modules.proofs.PaddedLemmas.{padded_is}
 use Rattle.minidump_modules.proofs.module.padded.Goals as goal
 
 pub returns : goal.returns

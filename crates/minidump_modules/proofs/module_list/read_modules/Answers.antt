@@ -1,15 +1,17 @@
 -- One entry more: its module is read, refused, or skipped.
-use Rattle.std.proofs.Common.{◌≡◌, ◌∙◌, arith, length, sym, get_or, true, false}
+use Rattle.std.proofs.Common.{◌∙◌, arith, length, map, sym}
+use Rattle.std.proofs.lemmas.List.{map_push}
+use Rattle.std.proofs.lemmas.List.Sums.{sum_by_push}
 use Rattle.minidump_bytes.specs.Source.{bytes_of}
+use Rattle.minidump_bytes.proofs.LeftLemmas.{all_given, next_left, one_given}
 use Rattle.minidump_modules.specs.Module.{has_range, module_of, module_reads, read_module}
-use Rattle.minidump_bytes.proofs.LeftLemmas.{IsNext, all_given, next_left, one_given}
-use Rattle.minidump_modules.proofs.ListLemmas.{gives_exit, ok_more, ok_none, ok_refused, ok_skip, sum_pushed}
+use Rattle.minidump_modules.proofs.ListLemmas.{gives_exit, ok_more, ok_none, ok_refused, ok_skip}
 use Rattle.minidump_modules.proofs.module_list.read_modules.Goals as goal
 
 pub loop-raw-init : goal.loop-raw-init
 loop-raw-init c = record {
   left = c.into_iter-raw-iterator.ensures.into_iter_gives;
-  modules = rw c.in_ok-modules.ensures.items (ok_none (read_module c.args.endian c.args.os (bytes_of c.args.all)) has_range module_of);
+  modules = rw c.in_ok-modules.ensures.items (ok_none (read_module c.args.endian c.args.os (bytes_of c.args.all)) module_of);
   within = omega arith;
   grows = omega arith;
   counted = rw c.in_ok-modules.ensures.items (omega arith);
@@ -17,41 +19,31 @@ loop-raw-init c = record {
 
 pub returns-in_err-read_counted-clause-means : goal.returns-in_err-read_counted-clause-means
 returns-in_err-read_counted-clause-means c =
-    let read = read_module c.args.endian c.args.os (bytes_of c.args.all) in
-    let xs = c.args.raws in
-    let i = length c.loop-raw.yielded in
-    let raw = c.in-Some.raw in
-    let next : IsNext xs i raw raw c.next.new.self = next_left xs i raw raw _ (sym c.loop-raw.invariant.left ∙ c.in-Some.ensures.steps) in
+    let next = next_left c.args.raws (length c.loop-raw.yielded) c.in-Some.raw _ _ (sym c.loop-raw.invariant.left ∙ c.in-Some.ensures.steps) in
     gives_exit _ _ _ _ _ c.from_residual-in_err-read_counted.ensures.1 (λ h. omega (arith, next.inside)) c.in_err-read_counted.ensures.means
-    (λ h. ok_refused read has_range module_of xs i raw c.loop-raw.modules.items _ next.inside (rw next.item (sym c.has_range.ensures ∙ c.if-has_range.true)) c.loop-raw.invariant.modules (rw next.item h))
+    (ok_refused _ module_of _ _ _ _ next c.loop-raw.modules.items has_range _ (sym c.has_range.ensures ∙ c.if-has_range.true) c.loop-raw.invariant.modules)
 
 pub loop-raw-preserved-in_ok-push : goal.loop-raw-preserved-in_ok-push
 loop-raw-preserved-in_ok-push c =
-    let read = read_module c.args.endian c.args.os (bytes_of c.args.all) in
-    let xs = c.args.raws in
-    let i = length c.loop-raw.yielded in
-    let raw = c.in-Some.raw in
-    let next : IsNext xs i raw raw c.next.new.self = next_left xs i raw raw _ (sym c.loop-raw.invariant.left ∙ c.in-Some.ensures.steps) in
-    let is : has_range (get_or xs i raw) ≡ true = rw next.item (sym c.has_range.ensures ∙ c.if-has_range.true) in
-    rw (one_given c.loop-raw.yielded raw) (record {
+    let ms = c.loop-raw.modules.items in
+    let next = next_left c.args.raws (length c.loop-raw.yielded) c.in-Some.raw _ _ (sym c.loop-raw.invariant.left ∙ c.in-Some.ensures.steps) in
+    rw (one_given c.loop-raw.yielded c.in-Some.raw, c.in_ok-push.ensures.items) (record {
       left = next.left;
-      modules = rw c.in_ok-push.ensures.items (ok_more read has_range module_of xs i raw c.loop-raw.modules.items _ next.inside is c.loop-raw.invariant.modules (rw next.item c.in_ok-read_counted.ensures.means));
+      modules = ok_more _ module_of _ _ _ _ next ms has_range _
+          (sym c.has_range.ensures ∙ c.if-has_range.true) c.loop-raw.invariant.modules c.in_ok-read_counted.ensures.means;
       within = omega (arith, c.read_counted.ensures.within, c.loop-raw.invariant.within);
       grows = omega (arith, c.read_counted.ensures.grows, c.loop-raw.invariant.grows);
-      counted = rw (c.in_ok-push.ensures.items, sum_pushed module_reads module_of c.loop-raw.modules.items) (omega (arith, c.in_ok-read_counted.ensures.steps, c.loop-raw.invariant.counted));
+      counted = rw (map_push module_of ms, sum_by_push module_reads (map module_of ms))
+          (omega (arith, c.in_ok-read_counted.ensures.steps, c.loop-raw.invariant.counted));
     })
 
 pub loop-raw-preserved : goal.loop-raw-preserved
 loop-raw-preserved c =
-    let read = read_module c.args.endian c.args.os (bytes_of c.args.all) in
-    let xs = c.args.raws in
-    let i = length c.loop-raw.yielded in
-    let raw = c.in-Some.raw in
-    let next : IsNext xs i raw raw c.next.new.self = next_left xs i raw raw _ (sym c.loop-raw.invariant.left ∙ c.in-Some.ensures.steps) in
-    let is : has_range (get_or xs i raw) ≡ false = rw next.item (sym c.has_range.ensures ∙ c.if-has_range.false) in
-    rw (one_given c.loop-raw.yielded raw) (record {
+    let next = next_left c.args.raws (length c.loop-raw.yielded) c.in-Some.raw _ _ (sym c.loop-raw.invariant.left ∙ c.in-Some.ensures.steps) in
+    rw (one_given c.loop-raw.yielded c.in-Some.raw) (record {
       left = next.left;
-      modules = ok_skip read has_range module_of xs i raw c.loop-raw.modules.items next.inside is c.loop-raw.invariant.modules;
+      modules = ok_skip _ module_of _ _ _ _ next c.loop-raw.modules.items has_range
+          (sym c.has_range.ensures ∙ c.if-has_range.false) c.loop-raw.invariant.modules;
       within = omega (arith, c.loop-raw.invariant.within);
       grows = omega (arith, c.loop-raw.invariant.grows);
       counted = c.loop-raw.invariant.counted;

@@ -10,7 +10,8 @@ loop-place-preserved c =
     let lt = c.loop-place-test.true in
     let at = c.index-modules-place.is in
     elim c.match-memory_range.branch [
-      | in-Some+in_ok-push w ↦ rw (w.order-is, w.in_ok-push.ensures.items) (below_some ms _ _ _ _ _ lt at c.memory_range.ensures w.in-Some.is c.loop-place.invariant)
+      | in-Some+in_ok-push w ↦ rw (w.order-is, w.in_ok-push.ensures.items)
+          (below_some ms _ _ _ _ _ lt at c.memory_range.ensures w.in-Some.is c.loop-place.invariant)
       | in_default w ↦ rw w.order-is (below_none ms _ _ _ _ lt at c.memory_range.ensures w.in_default.is c.loop-place.invariant)
     ]
 

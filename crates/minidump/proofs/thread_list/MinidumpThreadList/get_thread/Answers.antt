@@ -8,4 +8,5 @@ use Rattle.minidump.proofs.thread_list.MinidumpThreadList.get_thread.Goals as go
 pub returns : goal.returns
 returns c =
     let threads = c.args.self.now.threads.items in
-    subst (IsLastThread c.args.id (map thread_of threads)) (sym (ap (option_map thread_of) c.first_from_the_end.ensures ∙ found_as_value c.args.id threads)) (found_is_last c.args.id (map thread_of threads))
+    subst (IsLastThread c.args.id (map thread_of threads)) (sym
+    (ap (option_map thread_of) c.first_from_the_end.ensures ∙ found_as_value c.args.id threads)) (found_is_last c.args.id (map thread_of threads))

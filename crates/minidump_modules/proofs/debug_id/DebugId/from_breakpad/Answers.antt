@@ -15,14 +15,19 @@ sixteen_bytes-requires c = rw (length-take) (omega (arith, c.if-bytes-lt33.false
 
 pub returns-in_err-appendix : goal.returns-in_err-appendix
 returns-in_err-appendix c =
-    let one : sixteen_bytes (take 32 c.args.text.now) ≡ Some c.in_ok-uuid.uuid = rw (← c.as_bytes-bytes.ensures.value) (sym c.sixteen_bytes.ensures ∙ c.in_ok-uuid.was) in
+    let one : sixteen_bytes (take 32 c.args.text.now) ≡ Some c.in_ok-uuid.uuid = rw (← c.as_bytes-bytes.ensures.value)
+    (sym c.sixteen_bytes.ensures ∙ c.in_ok-uuid.was) in
     let rest = rest_all 32 c.as_bytes-bytes.result.now in
-    let two : number_of_digits 16 32 (drop 32 c.args.text.now) ≡ None = rw (← c.as_bytes-bytes.ensures.value, ← rest) (sym c.number_32.ensures ∙ c.in_err-appendix.was) in
+    let two : number_of_digits 16 32 (drop 32 c.args.text.now) ≡ None = rw (← c.as_bytes-bytes.ensures.value, ← rest)
+    (sym c.number_32.ensures ∙ c.in_err-appendix.was) in
     rw c.from_residual-in_err-appendix.ensures (sym (breakpad_none c.args.text.now c.in_ok-uuid.uuid one two))
 
 pub returns : goal.returns
 returns c =
-    let one : sixteen_bytes (take 32 c.args.text.now) ≡ Some c.in_ok-uuid.uuid = rw (← c.as_bytes-bytes.ensures.value) (sym c.sixteen_bytes.ensures ∙ c.in_ok-uuid.was) in
+    let one : sixteen_bytes (take 32 c.args.text.now) ≡ Some c.in_ok-uuid.uuid = rw (← c.as_bytes-bytes.ensures.value)
+    (sym c.sixteen_bytes.ensures ∙ c.in_ok-uuid.was) in
     let rest = rest_all 32 c.as_bytes-bytes.result.now in
-    let two : number_of_digits 16 32 (drop 32 c.args.text.now) ≡ Some c.in_ok-appendix.appendix = rw (← c.as_bytes-bytes.ensures.value, ← rest) (sym c.number_32.ensures ∙ c.in_ok-appendix.was) in
-    rw c.from_parts.ensures (sym (breakpad_some c.args.text.now c.in_ok-uuid.uuid c.in_ok-appendix.appendix (omega (arith, c.if-bytes-lt33.false, c.as_bytes-bytes.ensures.len)) (omega (arith, c.if-bytes-gt40.false, c.as_bytes-bytes.ensures.len)) one two))
+    let two : number_of_digits 16 32 (drop 32 c.args.text.now) ≡ Some c.in_ok-appendix.appendix = rw (← c.as_bytes-bytes.ensures.value, ← rest)
+    (sym c.number_32.ensures ∙ c.in_ok-appendix.was) in
+    rw c.from_parts.ensures (sym (breakpad_some c.args.text.now c.in_ok-uuid.uuid c.in_ok-appendix.appendix
+    (omega (arith, c.if-bytes-lt33.false, c.as_bytes-bytes.ensures.len)) (omega (arith, c.if-bytes-gt40.false, c.as_bytes-bytes.ensures.len)) one two))

@@ -8,4 +8,5 @@ use Rattle.minidump_modules.proofs.module_list.MinidumpModuleList.module_at_addr
 
 pub returns : goal.returns
 returns c =
-    counted module_of module_range value_range (λ m. refl) (modules_of c.args.self.now) c.args.address c.args.steps.now c.at_address.new.steps (option_copied c.at_address.result) c.at_address.ensures
+    counted module_of module_range value_range (λ m. refl) (modules_of c.args.self.now) c.args.address c.args.steps.now c.at_address.new.steps
+    (option_copied c.at_address.result) c.at_address.ensures

@@ -3,7 +3,6 @@ use Rattle.std.proofs.Common.{◌≡◌, ◌∙◌, ◌+◌, ◌∷◌, ap, drop
 use Rattle.std.specs.Prelude.{filter}
 use Rattle.minidump_modules.specs.UnloadedOrder.{has, modules_of_order}
 use Rattle.minidump_modules.proofs.FoundLemmas.{fewer, first_module, first_passes, none_passes}
-use Rattle.minidump_modules.proofs.RestLemmas.{rest_all}
 use Rattle.std.proofs.lemmas.List.Quantifiers.{position-Some}
 use Rattle.minidump_modules.proofs.unloaded_iter.ModulesAtAddressIterator.next.Goals as goal
 
@@ -16,22 +15,20 @@ pub returns-clause-steps : goal.returns-clause-steps
 returns-clause-steps c =
     let p = has c.self.inside.address in
     let xs = c.self.inside.order.now in
-    let found = sym c.first_at.ensures ∙ c.in-Some.is in
     let e = c.index-order-at.result in
-    let split : filter p xs ≡ get_or xs c.in-Some.at e ∷ filter p (take (length xs - (c.in-Some.at + 1)) (drop (c.in-Some.at + 1) xs)) =
-    rw (rest_all (c.in-Some.at + 1) xs) (first_passes p xs c.in-Some.at e found) in
-    rw (← c.self.view_is) (first_module c.self.inside.modules.now _ _ _ _ split (c.self.invariant c.in-Some.at e (position-Some p xs c.in-Some.at e found).0) c.index-modules-order.is)
+    let found = sym c.first_at.ensures ∙ c.in-Some.is in
+    let split = first_passes p xs c.in-Some.at e found in
+    rw (← c.self.view_is) (first_module _ _ _ _ _ split (c.self.invariant c.in-Some.at e (position-Some p xs c.in-Some.at e found).0) c.index-modules-order.is)
 
 pub returns-clause-goes : goal.returns-clause-goes
 returns-clause-goes c =
     let p = has c.self.inside.address in
     let xs = c.self.inside.order.now in
-    let found = sym c.first_at.ensures ∙ c.in-Some.is in
     let e = c.index-order-at.result in
-    let split : filter p xs ≡ get_or xs c.in-Some.at e ∷ filter p (take (length xs - (c.in-Some.at + 1)) (drop (c.in-Some.at + 1) xs)) =
-    rw (rest_all (c.in-Some.at + 1) xs) (first_passes p xs c.in-Some.at e found) in
+    let found = sym c.first_at.ensures ∙ c.in-Some.is in
+    let split = first_passes p xs c.in-Some.at e found in
     rw (← c.self.view_is) (record {
-      on = λ finite. (tt, tt, fewer c.self.inside.modules.now _ _ _ _ split (c.self.invariant c.in-Some.at e (position-Some p xs c.in-Some.at e found).0) c.index-modules-order.is);
+      on = λ finite. (tt, tt, fewer _ _ _ _ _ split (c.self.invariant c.in-Some.at e (position-Some p xs c.in-Some.at e found).0) c.index-modules-order.is);
       keeps = tt;
       rests = λ finite. tt;
     })

@@ -6,11 +6,17 @@ pub invariant_of-self : goal.invariant_of-self
 invariant_of-self c = rest_inside _ _ _ _ c.in_ok-first.ensures.cases.0 c.self.invariant
 
 pub returns-clause-steps : goal.returns-clause-steps
-returns-clause-steps c = rw (← c.self.view_is) (first_module _ _ _ _ _ c.in_ok-first.ensures.cases.0 (first_inside _ _ _ _ c.in_ok-first.ensures.cases.0 c.self.invariant) c.index-modules-first.is)
+returns-clause-steps c = rw (← c.self.view_is) (first_module _ _ _ _ _ c.in_ok-first.ensures.cases.0
+    (first_inside _ _ _ _ c.in_ok-first.ensures.cases.0 c.self.invariant) c.index-modules-first.is)
 
 pub returns-clause-goes : goal.returns-clause-goes
 returns-clause-goes c = rw (← c.self.view_is) (record {
-  on = λ finite. (tt, tt, fewer _ _ _ _ _ c.in_ok-first.ensures.cases.0 (first_inside _ _ _ _ c.in_ok-first.ensures.cases.0 c.self.invariant) c.index-modules-first.is);
+  on = λ finite. (
+    tt,
+    tt,
+    fewer _ _ _ _ _ c.in_ok-first.ensures.cases.0
+        (first_inside _ _ _ _ c.in_ok-first.ensures.cases.0 c.self.invariant) c.index-modules-first.is,
+  );
   keeps = tt;
   rests = λ finite. tt;
 })
