@@ -1,5 +1,4 @@
 -- Lemmas on the records, for this crate and those above.
-pub mod ContextFlags
 pub mod Equality
 pub mod FlagLemmas
 pub mod Printing
