@@ -16,6 +16,7 @@ use Rattle.minidump_format.specs.declared.format.misc.MINIDUMP_MISC_INFO_2.{MINI
 use Rattle.minidump_format.specs.declared.format.misc.MINIDUMP_MISC_INFO_3.{MINIDUMP_MISC_INFO_3}
 use Rattle.minidump_format.specs.declared.format.misc.MINIDUMP_MISC_INFO_4.{MINIDUMP_MISC_INFO_4}
 use Rattle.minidump_format.specs.declared.format.misc.MINIDUMP_MISC_INFO_5.{MINIDUMP_MISC_INFO_5}
+use Rattle.minidump_format.specs.declared.format.misc.SYSTEMTIME.{SYSTEMTIME}
 use Rattle.minidump_format.specs.declared.format.misc.TIME_ZONE_INFORMATION.{TIME_ZONE_INFORMATION}
 use Rattle.minidump_format.specs.declared.format.misc.XSTATE_CONFIG_FEATURE_MSC_INFO.{XSTATE_CONFIG_FEATURE_MSC_INFO}
 use Rattle.minidump_format.specs.Flags.{has_flag}
@@ -240,32 +241,23 @@ shown_units units = or_invalid (λ text. text) (text_before_nul units)
 unfoldable pub bias_line : List ℕ → ℤ → List ℕ
 bias_line words bias = concat (words ∷ signed_decimal bias ∷ codes "\n" ∷ [])
 
--- its standard and its daylight time: a name, and a date as text
-unfoldable pub standard_lines : List ℕ → List ℕ → List ℕ
-standard_lines name date = concat (
-    codes "    standard_name = " ∷ name ∷ codes "\n"
-    ∷ codes "    standard_date = " ∷ date ∷ codes "\n"
-    ∷ [])
-
-unfoldable pub daylight_lines : List ℕ → List ℕ → List ℕ
-daylight_lines name date = concat (
-    codes "    daylight_name = " ∷ name ∷ codes "\n"
-    ∷ codes "    daylight_date = " ∷ date ∷ codes "\n"
-    ∷ [])
+-- two lines, each a label and a text
+unfoldable pub two_lines : List ℕ → List ℕ → List ℕ → List ℕ → List ℕ
+two_lines label text next_label next_text = concat (label ∷ text ∷ codes "\n" ∷ next_label ∷ next_text ∷ codes "\n" ∷ [])
 
 -- the lines of a time zone
 unfoldable pub zone_lines : TIME_ZONE_INFORMATION → List ℕ
 zone_lines z =
     bias_line (codes "\n    bias          = ") z.bias
-    ++ (standard_lines (shown_units z.standard_name) (system_time_text z.standard_date)
+    ++ (two_lines (codes "    standard_name = ") (shown_units z.standard_name) (codes "    standard_date = ") (system_time_text z.standard_date)
     ++ (bias_line (codes "    standard_bias = ") z.standard_bias
-    ++ (daylight_lines (shown_units z.daylight_name) (system_time_text z.daylight_date)
+    ++ (two_lines (codes "    daylight_name = ") (shown_units z.daylight_name) (codes "    daylight_date = ") (system_time_text z.daylight_date)
     ++ bias_line (codes "    daylight_bias = ") z.daylight_bias)))
 
 abbrev pub time_zone_text : RawMiscInfo → List ℕ
 time_zone_text raw = codes "  time_zone                    = " ++ lines_or_invalid zone_lines (time_zone raw)
 
--- the builds of the operating system and of the debug engine, as texts
+-- the builds of the operating system and of the library that wrote the dump
 unfoldable pub lines_of_builds : List ℕ → List ℕ → List ℕ
 lines_of_builds build debug_build = concat (
     codes "  build_string                 = " ∷ build ∷ codes "\n"

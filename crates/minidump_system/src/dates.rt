@@ -16,11 +16,11 @@ pub fn date_text(alloc: Global, seconds: u32) -> Result<String, Error>
     ensures counted { IfOk result (λ t. string_bytes t ≡ date_text_of seconds) }
     ensures memory { IsOkUnless result Error.OutOfMemory }
 {
-    Ok(made_date(alloc, seconds)?)
+    Ok(format_date(alloc, seconds)?)
 }
 
 /// Makes the text of [`date_text`].
-pub(crate) fn made_date(alloc: Global, seconds: u32) -> Result<String, AllocError>
+pub(crate) fn format_date(alloc: Global, seconds: u32) -> Result<String, AllocError>
     ensures civil { IfOk result (λ t. IsDateText seconds (string_bytes t)) }
     ensures counted { IfOk result (λ t. string_bytes t ≡ date_text_of seconds) }
 {
@@ -31,7 +31,7 @@ pub(crate) fn made_date(alloc: Global, seconds: u32) -> Result<String, AllocErro
 
 /// Writes a date and time as `0000-11-01T02:33:51.123Z`, or `<invalid date>` if the calendar or the clock
 /// doesn't have it.
-pub(crate) fn made_system_time(alloc: Global, time: &SYSTEMTIME) -> Result<String, AllocError>
+pub(crate) fn format_system_time(alloc: Global, time: &SYSTEMTIME) -> Result<String, AllocError>
     ensures { IfOk result (λ t. string_bytes t ≡ system_time_text time.now) }
 {
     match civil_of(time) {
