@@ -19,7 +19,7 @@ pub fn date_text(alloc: Global, seconds: u32) -> Result<String, Error>
     Ok(format_date(alloc, seconds)?)
 }
 
-/// Makes the text of [`date_text`].
+/// Formats a date as [`date_text`] does.
 pub(crate) fn format_date(alloc: Global, seconds: u32) -> Result<String, AllocError>
     ensures civil { IfOk result (λ t. IsDateText seconds (string_bytes t)) }
     ensures counted { IfOk result (λ t. string_bytes t ≡ date_text_of seconds) }
@@ -40,7 +40,8 @@ pub(crate) fn format_system_time(alloc: Global, time: &SYSTEMTIME) -> Result<Str
     }
 }
 
-// The bounds come before the casts, which would keep the low bits alone.
+// Returns the date and time, or `None` if the calendar or the clock doesn't have it. The bounds are tested
+// before the casts, which keep the low bits alone.
 fn civil_of(time: &SYSTEMTIME) -> Option<DateTime>
     ensures { MatchOption result (is_moment time.now ≡ false)
         (λ date. (is_moment time.now ≡ true) × IsMomentOf time.now date) }

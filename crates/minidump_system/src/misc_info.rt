@@ -259,7 +259,7 @@ impl<'a> MinidumpStream<'a> for MinidumpMiscInfo {
     }
 }
 
-// The largest layout that the bytes hold.
+// Reads the record in the largest layout that the bytes hold.
 fn read_raw(bytes: Source<'_>, endian: Endian, steps: &mut Steps) -> Option<RawMiscInfo>
     ensures value { result ≡ largest_layout endian (bytes_of bytes.entry) }
     ensures within { steps.new ≤ steps.old + 5 }
@@ -326,7 +326,7 @@ fn read_1(bytes: Source<'_>, endian: Endian, steps: &mut Steps) -> Option<RawMis
     bytes.record(0, endian, steps).map(RawMiscInfo::MiscInfo)
 }
 
-// A field, where its flag is set.
+// Returns a field, or `None` if its flag isn't set.
 fn where_set<T>(flags1: u32, flag: MiscInfoFlags, field: &T) -> Option<&T>
     requires { bit_and 0x3f7 flag.0 ≡ flag.0 }
     ensures { option_copied result ≡ where_set flags1 flag.0 field.now }

@@ -248,7 +248,7 @@ fn push_two_lines<'t>(
     )
 }
 
-// The text of code units up to the first 0, or `(invalid)`.
+// Formats code units up to the first 0, or as `(invalid)` if they are no text.
 fn format_units(alloc: Global, units: &[u16]) -> Result<String, AllocError>
     ensures { IfOk result (λ t. string_bytes t ≡ shown_units units.now) }
 {
