@@ -28,9 +28,9 @@ use Rattle.minidump_format.specs.contracts.format.misc.MINIDUMP_MISC_INFO_4Parti
 use Rattle.minidump_format.specs.contracts.format.misc.MINIDUMP_MISC_INFO_5PartialEq.TheImpl.{ghosts as misc_5}
 
 -- where a test and those behind it hold, so does what it decides
-then : {P Q : Type 0} (s t : Bool) → Decides s P → (s && t) ≡ true → (P → t ≡ true → Q) → Q
-then true t first both next = next (first.0 refl) both
-then false t first both next = absurd (true≢false (sym both))
+then : {P Q : Type 0} (s t : Bool) → Decides s P → (P → t ≡ true → Q) → (s && t) ≡ true → Q
+then true t first next both = next (first.0 refl) both
+then false t first next both = absurd (true≢false (sym both))
 
 -- the smaller records: a feature and a date
 feature_same : (x y : XSTATE_FEATURE) → Decides (feature.eq x y) (x ≡ y)
@@ -45,168 +45,86 @@ time_same x y = (λ h. search rules, λ h. search rules)
 
 -- the time zone
 zone_only : (x y : TIME_ZONE_INFORMATION) → zone.eq x y ≡ true → x ≡ y
-zone_only x y h =
-    then _ _ (Decides-int_eq _ _) h λ bias h.
-    then _ _ (bytes_eq-Decides _ _) h λ standard_name h.
-    then _ _ (time_same _ _) h λ standard_date h.
-    then _ _ (Decides-int_eq _ _) h λ standard_bias h.
-    then _ _ (bytes_eq-Decides _ _) h λ daylight_name h.
-    then _ _ (time_same _ _) h λ daylight_date h.
-    λ i. record {
-      bias = bias i;
-      standard_name = standard_name i;
-      standard_date = standard_date i;
-      standard_bias = standard_bias i;
-      daylight_name = daylight_name i;
-      daylight_date = daylight_date i;
-      daylight_bias = (Decides-int_eq x.daylight_bias y.daylight_bias).0 h i;
-    }
+zone_only x y =
+    then _ _ (Decides-int_eq x.bias y.bias) λ bias.
+    then _ _ (bytes_eq-Decides x.standard_name y.standard_name) λ standard_name.
+    then _ _ (time_same x.standard_date y.standard_date) λ standard_date.
+    then _ _ (Decides-int_eq x.standard_bias y.standard_bias) λ standard_bias.
+    then _ _ (bytes_eq-Decides x.daylight_name y.daylight_name) λ daylight_name.
+    then _ _ (time_same x.daylight_date y.daylight_date) λ daylight_date h.
+    let daylight_bias = (Decides-int_eq x.daylight_bias y.daylight_bias).0 h in
+    search rules
 
 pub zone_same : (x y : TIME_ZONE_INFORMATION) → Decides (zone.eq x y) (x ≡ y)
 zone_same x y = (zone_only x y, λ h. rw h (search (rules, tests, bytes_eq-Decides)))
 
 -- the extended state
 config_only : (x y : XSTATE_CONFIG_FEATURE_MSC_INFO) → config.eq x y ≡ true → x ≡ y
-config_only x y h =
-    then _ _ (Decides-eqb _ _) h λ size_of_info h.
-    then _ _ (Decides-eqb _ _) h λ context_size h.
-    then _ _ (Decides-eqb _ _) h λ enabled_features h.
-    λ i. record {
-      size_of_info = size_of_info i;
-      context_size = context_size i;
-      enabled_features = enabled_features i;
-      features = (pointwise_decides feature_same x.features y.features).0 h i;
-    }
+config_only x y =
+    then _ _ (Decides-eqb x.size_of_info y.size_of_info) λ size_of_info.
+    then _ _ (Decides-eqb x.context_size y.context_size) λ context_size.
+    then _ _ (Decides-eqb x.enabled_features y.enabled_features) λ enabled_features h.
+    let features = (pointwise_decides feature_same x.features y.features).0 h in
+    search rules
 
 pub config_same : (x y : XSTATE_CONFIG_FEATURE_MSC_INFO) → Decides (config.eq x y) (x ≡ y)
 config_same x y = (config_only x y, λ h. rw (h, features_alike y.features) (search (rules, tests, bytes_eq-Decides)))
 
--- the three layouts of the misc information that hold a time zone
+-- the three layouts of the misc information that have a time zone
 misc_3_only : (x y : MINIDUMP_MISC_INFO_3) → misc_3.eq x y ≡ true → x ≡ y
-misc_3_only x y h =
-    then _ _ (Decides-eqb _ _) h λ size_of_info h.
-    then _ _ (Decides-eqb _ _) h λ flags1 h.
-    then _ _ (Decides-eqb _ _) h λ process_id h.
-    then _ _ (Decides-eqb _ _) h λ process_create_time h.
-    then _ _ (Decides-eqb _ _) h λ process_user_time h.
-    then _ _ (Decides-eqb _ _) h λ process_kernel_time h.
-    then _ _ (Decides-eqb _ _) h λ processor_max_mhz h.
-    then _ _ (Decides-eqb _ _) h λ processor_current_mhz h.
-    then _ _ (Decides-eqb _ _) h λ processor_mhz_limit h.
-    then _ _ (Decides-eqb _ _) h λ processor_max_idle_state h.
-    then _ _ (Decides-eqb _ _) h λ processor_current_idle_state h.
-    then _ _ (Decides-eqb _ _) h λ process_integrity_level h.
-    then _ _ (Decides-eqb _ _) h λ process_execute_flags h.
-    then _ _ (Decides-eqb _ _) h λ protected_process h.
-    then _ _ (Decides-eqb _ _) h λ time_zone_id h.
-    λ i. record {
-      size_of_info = size_of_info i;
-      flags1 = flags1 i;
-      process_id = process_id i;
-      process_create_time = process_create_time i;
-      process_user_time = process_user_time i;
-      process_kernel_time = process_kernel_time i;
-      processor_max_mhz = processor_max_mhz i;
-      processor_current_mhz = processor_current_mhz i;
-      processor_mhz_limit = processor_mhz_limit i;
-      processor_max_idle_state = processor_max_idle_state i;
-      processor_current_idle_state = processor_current_idle_state i;
-      process_integrity_level = process_integrity_level i;
-      process_execute_flags = process_execute_flags i;
-      protected_process = protected_process i;
-      time_zone_id = time_zone_id i;
-      time_zone = (zone_same x.time_zone y.time_zone).0 h i;
-    }
+misc_3_only x y h = grind (rules, tests, zone_same)
 
 pub misc_3_same : (x y : MINIDUMP_MISC_INFO_3) → Decides (misc_3.eq x y) (x ≡ y)
 misc_3_same x y = (misc_3_only x y, λ h. rw h (search (rules, tests, bytes_eq-Decides)))
 
 misc_4_only : (x y : MINIDUMP_MISC_INFO_4) → misc_4.eq x y ≡ true → x ≡ y
-misc_4_only x y h =
-    then _ _ (Decides-eqb _ _) h λ size_of_info h.
-    then _ _ (Decides-eqb _ _) h λ flags1 h.
-    then _ _ (Decides-eqb _ _) h λ process_id h.
-    then _ _ (Decides-eqb _ _) h λ process_create_time h.
-    then _ _ (Decides-eqb _ _) h λ process_user_time h.
-    then _ _ (Decides-eqb _ _) h λ process_kernel_time h.
-    then _ _ (Decides-eqb _ _) h λ processor_max_mhz h.
-    then _ _ (Decides-eqb _ _) h λ processor_current_mhz h.
-    then _ _ (Decides-eqb _ _) h λ processor_mhz_limit h.
-    then _ _ (Decides-eqb _ _) h λ processor_max_idle_state h.
-    then _ _ (Decides-eqb _ _) h λ processor_current_idle_state h.
-    then _ _ (Decides-eqb _ _) h λ process_integrity_level h.
-    then _ _ (Decides-eqb _ _) h λ process_execute_flags h.
-    then _ _ (Decides-eqb _ _) h λ protected_process h.
-    then _ _ (Decides-eqb _ _) h λ time_zone_id h.
-    then _ _ (zone_same _ _) h λ time_zone h.
-    then _ _ (bytes_eq-Decides _ _) h λ build_string h.
-    λ i. record {
-      size_of_info = size_of_info i;
-      flags1 = flags1 i;
-      process_id = process_id i;
-      process_create_time = process_create_time i;
-      process_user_time = process_user_time i;
-      process_kernel_time = process_kernel_time i;
-      processor_max_mhz = processor_max_mhz i;
-      processor_current_mhz = processor_current_mhz i;
-      processor_mhz_limit = processor_mhz_limit i;
-      processor_max_idle_state = processor_max_idle_state i;
-      processor_current_idle_state = processor_current_idle_state i;
-      process_integrity_level = process_integrity_level i;
-      process_execute_flags = process_execute_flags i;
-      protected_process = protected_process i;
-      time_zone_id = time_zone_id i;
-      time_zone = time_zone i;
-      build_string = build_string i;
-      dbg_bld_str = (bytes_eq-Decides x.dbg_bld_str y.dbg_bld_str).0 h i;
-    }
+misc_4_only x y =
+    then _ _ (Decides-eqb x.size_of_info y.size_of_info) λ size_of_info.
+    then _ _ (Decides-eqb x.flags1 y.flags1) λ flags1.
+    then _ _ (Decides-eqb x.process_id y.process_id) λ process_id.
+    then _ _ (Decides-eqb x.process_create_time y.process_create_time) λ process_create_time.
+    then _ _ (Decides-eqb x.process_user_time y.process_user_time) λ process_user_time.
+    then _ _ (Decides-eqb x.process_kernel_time y.process_kernel_time) λ process_kernel_time.
+    then _ _ (Decides-eqb x.processor_max_mhz y.processor_max_mhz) λ processor_max_mhz.
+    then _ _ (Decides-eqb x.processor_current_mhz y.processor_current_mhz) λ processor_current_mhz.
+    then _ _ (Decides-eqb x.processor_mhz_limit y.processor_mhz_limit) λ processor_mhz_limit.
+    then _ _ (Decides-eqb x.processor_max_idle_state y.processor_max_idle_state) λ processor_max_idle_state.
+    then _ _ (Decides-eqb x.processor_current_idle_state y.processor_current_idle_state) λ processor_current_idle_state.
+    then _ _ (Decides-eqb x.process_integrity_level y.process_integrity_level) λ process_integrity_level.
+    then _ _ (Decides-eqb x.process_execute_flags y.process_execute_flags) λ process_execute_flags.
+    then _ _ (Decides-eqb x.protected_process y.protected_process) λ protected_process.
+    then _ _ (Decides-eqb x.time_zone_id y.time_zone_id) λ time_zone_id.
+    then _ _ (zone_same x.time_zone y.time_zone) λ time_zone.
+    then _ _ (bytes_eq-Decides x.build_string y.build_string) λ build_string h.
+    let dbg_bld_str = (bytes_eq-Decides x.dbg_bld_str y.dbg_bld_str).0 h in
+    search rules
 
 pub misc_4_same : (x y : MINIDUMP_MISC_INFO_4) → Decides (misc_4.eq x y) (x ≡ y)
 misc_4_same x y = (misc_4_only x y, λ h. rw h (search (rules, tests, bytes_eq-Decides)))
 
 misc_5_only : (x y : MINIDUMP_MISC_INFO_5) → misc_5.eq x y ≡ true → x ≡ y
-misc_5_only x y h =
-    then _ _ (Decides-eqb _ _) h λ size_of_info h.
-    then _ _ (Decides-eqb _ _) h λ flags1 h.
-    then _ _ (Decides-eqb _ _) h λ process_id h.
-    then _ _ (Decides-eqb _ _) h λ process_create_time h.
-    then _ _ (Decides-eqb _ _) h λ process_user_time h.
-    then _ _ (Decides-eqb _ _) h λ process_kernel_time h.
-    then _ _ (Decides-eqb _ _) h λ processor_max_mhz h.
-    then _ _ (Decides-eqb _ _) h λ processor_current_mhz h.
-    then _ _ (Decides-eqb _ _) h λ processor_mhz_limit h.
-    then _ _ (Decides-eqb _ _) h λ processor_max_idle_state h.
-    then _ _ (Decides-eqb _ _) h λ processor_current_idle_state h.
-    then _ _ (Decides-eqb _ _) h λ process_integrity_level h.
-    then _ _ (Decides-eqb _ _) h λ process_execute_flags h.
-    then _ _ (Decides-eqb _ _) h λ protected_process h.
-    then _ _ (Decides-eqb _ _) h λ time_zone_id h.
-    then _ _ (zone_same _ _) h λ time_zone h.
-    then _ _ (bytes_eq-Decides _ _) h λ build_string h.
-    then _ _ (bytes_eq-Decides _ _) h λ dbg_bld_str h.
-    then _ _ (config_same _ _) h λ xstate_data h.
-    λ i. record {
-      size_of_info = size_of_info i;
-      flags1 = flags1 i;
-      process_id = process_id i;
-      process_create_time = process_create_time i;
-      process_user_time = process_user_time i;
-      process_kernel_time = process_kernel_time i;
-      processor_max_mhz = processor_max_mhz i;
-      processor_current_mhz = processor_current_mhz i;
-      processor_mhz_limit = processor_mhz_limit i;
-      processor_max_idle_state = processor_max_idle_state i;
-      processor_current_idle_state = processor_current_idle_state i;
-      process_integrity_level = process_integrity_level i;
-      process_execute_flags = process_execute_flags i;
-      protected_process = protected_process i;
-      time_zone_id = time_zone_id i;
-      time_zone = time_zone i;
-      build_string = build_string i;
-      dbg_bld_str = dbg_bld_str i;
-      xstate_data = xstate_data i;
-      process_cookie = (Decides-eqb x.process_cookie y.process_cookie).0 h i;
-    }
+misc_5_only x y =
+    then _ _ (Decides-eqb x.size_of_info y.size_of_info) λ size_of_info.
+    then _ _ (Decides-eqb x.flags1 y.flags1) λ flags1.
+    then _ _ (Decides-eqb x.process_id y.process_id) λ process_id.
+    then _ _ (Decides-eqb x.process_create_time y.process_create_time) λ process_create_time.
+    then _ _ (Decides-eqb x.process_user_time y.process_user_time) λ process_user_time.
+    then _ _ (Decides-eqb x.process_kernel_time y.process_kernel_time) λ process_kernel_time.
+    then _ _ (Decides-eqb x.processor_max_mhz y.processor_max_mhz) λ processor_max_mhz.
+    then _ _ (Decides-eqb x.processor_current_mhz y.processor_current_mhz) λ processor_current_mhz.
+    then _ _ (Decides-eqb x.processor_mhz_limit y.processor_mhz_limit) λ processor_mhz_limit.
+    then _ _ (Decides-eqb x.processor_max_idle_state y.processor_max_idle_state) λ processor_max_idle_state.
+    then _ _ (Decides-eqb x.processor_current_idle_state y.processor_current_idle_state) λ processor_current_idle_state.
+    then _ _ (Decides-eqb x.process_integrity_level y.process_integrity_level) λ process_integrity_level.
+    then _ _ (Decides-eqb x.process_execute_flags y.process_execute_flags) λ process_execute_flags.
+    then _ _ (Decides-eqb x.protected_process y.protected_process) λ protected_process.
+    then _ _ (Decides-eqb x.time_zone_id y.time_zone_id) λ time_zone_id.
+    then _ _ (zone_same x.time_zone y.time_zone) λ time_zone.
+    then _ _ (bytes_eq-Decides x.build_string y.build_string) λ build_string.
+    then _ _ (bytes_eq-Decides x.dbg_bld_str y.dbg_bld_str) λ dbg_bld_str.
+    then _ _ (config_same x.xstate_data y.xstate_data) λ xstate_data h.
+    let process_cookie = (Decides-eqb x.process_cookie y.process_cookie).0 h in
+    search rules
 
 pub misc_5_same : (x y : MINIDUMP_MISC_INFO_5) → Decides (misc_5.eq x y) (x ≡ y)
 misc_5_same x y = (misc_5_only x y, λ h. rw (h, features_alike y.xstate_data.features) (search (rules, tests, bytes_eq-Decides)))
@@ -222,42 +140,19 @@ version_same x y = (λ h. grind rules, λ h. grind rules)
 
 -- the module
 image_only : (x y : MINIDUMP_MODULE) → image.eq x y ≡ true → x ≡ y
-image_only x y h =
-    then _ _ (Decides-eqb _ _) h λ base_of_image h.
-    then _ _ (Decides-eqb _ _) h λ size_of_image h.
-    then _ _ (Decides-eqb _ _) h λ checksum h.
-    then _ _ (Decides-eqb _ _) h λ time_date_stamp h.
-    then _ _ (Decides-eqb _ _) h λ module_name_rva h.
-    then _ _ (version_same _ _) h λ version_info h.
-    then _ _ (location_same _ _) h λ cv_record h.
-    then _ _ (location_same _ _) h λ misc_record h.
-    λ i. record {
-      base_of_image = base_of_image i;
-      size_of_image = size_of_image i;
-      checksum = checksum i;
-      time_date_stamp = time_date_stamp i;
-      module_name_rva = module_name_rva i;
-      version_info = version_info i;
-      cv_record = cv_record i;
-      misc_record = misc_record i;
-      unused1 = (bytes_eq-Decides x.unused1 y.unused1).0 h i;
-    }
+image_only x y h = grind (rules, tests, bytes_eq-Decides, version_same, location_same)
 
 pub image_same : (x y : MINIDUMP_MODULE) → Decides (image.eq x y) (x ≡ y)
 image_same x y = (image_only x y, λ h. rw h (search (rules, tests, bytes_eq-Decides)))
 
 -- the crash information of macOS
 mac_only : (x y : MINIDUMP_MAC_CRASH_INFO) → mac.eq x y ≡ true → x ≡ y
-mac_only x y h =
-    then _ _ (Decides-eqb _ _) h λ stream_type h.
-    then _ _ (Decides-eqb _ _) h λ record_count h.
-    then _ _ (Decides-eqb _ _) h λ record_start_size h.
-    λ i. record {
-      stream_type = stream_type i;
-      record_count = record_count i;
-      record_start_size = record_start_size i;
-      records = (pointwise_decides location_same x.records y.records).0 h i;
-    }
+mac_only x y =
+    then _ _ (Decides-eqb x.stream_type y.stream_type) λ stream_type.
+    then _ _ (Decides-eqb x.record_count y.record_count) λ record_count.
+    then _ _ (Decides-eqb x.record_start_size y.record_start_size) λ record_start_size h.
+    let records = (pointwise_decides location_same x.records y.records).0 h in
+    search rules
 
 pub mac_same : (x y : MINIDUMP_MAC_CRASH_INFO) → Decides (mac.eq x y) (x ≡ y)
 mac_same x y = (mac_only x y, λ h. rw (h, locations_alike y.records) (search (rules, tests)))

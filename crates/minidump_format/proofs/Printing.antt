@@ -18,7 +18,7 @@ module _ {D : Type 0} (contents : D → Option (List ℕ)) where
     grown = Appends-trans _ _ _ _ _ all.grown some.grown;
   }
 
-  -- a beginning of a text is one of each longer text
+  -- a beginning of a text is a beginning of each longer text
   beginning_longer : (a b : Told D) (xs ys : List ℕ) → PutsBeginning contents a b xs → PutsBeginning contents a b (xs ++ ys)
   beginning_longer a b xs ys some = record {
     front = some.front;
@@ -28,11 +28,12 @@ module _ {D : Type 0} (contents : D → Option (List ℕ)) where
   }
 
   -- one text went out, and then another was printed
-  pub prints_then : (a b c : Told D) (xs ys : List ℕ) (r : Result (Unit {0}) Error) → PutsAll contents a b xs → Prints contents b c ys r → Prints contents a c (xs ++ ys) r
+  pub prints_then : (a b c : Told D) (xs ys : List ℕ) (r : Result (Unit {0}) Error) → PutsAll contents a b xs → Prints contents b c ys r
+      → Prints contents a c (xs ++ ys) r
   prints_then a b c xs ys (Ok _) all then = record { grown = Appends-trans _ _ _ _ _ all.grown then.grown; alive = then.alive }
   prints_then a b c xs ys (Err e) all then = (beginning_after a b c xs ys all then.0, then.1)
 
-  -- a refused text refuses each longer one
+  -- where printing a text fails, printing a longer one fails
   pub prints_longer : (a b : Told D) (xs ys : List ℕ) (e : Error) → Prints contents a b xs (Err e) → Prints contents a b (xs ++ ys) (Err e)
   prints_longer a b xs ys e refused = (beginning_longer a b xs ys refused.0, refused.1)
 
@@ -64,7 +65,7 @@ module _ {D : Type 0} (contents : D → Option (List ℕ)) where
     put = prints_then contents a b c before.front xs (Ok tt) before.put put;
   }
 
-  -- or the next part was refused
+  -- or printing the next part failed
   pub but_exit : (a b c : Told D) (text xs ys : List ℕ) (r : Result (Unit {0}) Error) (e : Error) → PutsAllBut contents a b text (xs ++ ys)
       → IsErrAnd r (λ y. y ≡ e) → Prints contents b c xs (Err e) → Prints contents a c text r
   but_exit a b c text xs ys r e before exit refused =
@@ -72,7 +73,8 @@ module _ {D : Type 0} (contents : D → Option (List ℕ)) where
       (prints_then contents a b c before.front (xs ++ ys) r before.put (prints_exit contents b c xs ys r e exit refused))
 
   -- or the rest was printed
-  pub but_last : (a b c : Told D) (text rest : List ℕ) (r : Result (Unit {0}) Error) → PutsAllBut contents a b text rest → Prints contents b c rest r → Prints contents a c text r
+  pub but_last : (a b c : Told D) (text rest : List ℕ) (r : Result (Unit {0}) Error) → PutsAllBut contents a b text rest → Prints contents b c rest r
+      → Prints contents a c text r
   but_last a b c text rest r before last =
       subst (λ t. Prints contents a c t r) (sym before.split) (prints_then contents a b c before.front rest r before.put last)
 

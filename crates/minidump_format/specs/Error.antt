@@ -1,7 +1,10 @@
 -- The names of the errors.
 use Rattle.std.specs.Prelude.{ℕ, List, codes}
 use Rattle.minidump_format.specs.declared.error.Error.{Error}
-use Rattle.minidump_format.specs.declared.error.Error.TheVariants.{FileNotFound, IoError, MissingHeader, HeaderMismatch, VersionMismatch, MissingDirectory, StreamReadFailure, StreamSizeMismatch, StreamNotFound, ModuleReadFailure, MemoryReadFailure, DataError, CodeViewReadFailure, UknownElementType, OutOfMemory}
+use Rattle.minidump_format.specs.declared.error.Error.TheVariants.{FileNotFound, IoError, MissingHeader, HeaderMismatch, VersionMismatch}
+use Rattle.minidump_format.specs.declared.error.Error.TheVariants.{MissingDirectory, StreamReadFailure, StreamSizeMismatch, StreamNotFound}
+use Rattle.minidump_format.specs.declared.error.Error.TheVariants.{ModuleReadFailure, MemoryReadFailure, DataError, CodeViewReadFailure}
+use Rattle.minidump_format.specs.declared.error.Error.TheVariants.{UknownElementType, OutOfMemory}
 
 abbrev pub refusal_name : Error → List ℕ
 refusal_name FileNotFound = codes "FileNotFound"

@@ -5,7 +5,7 @@ use Rattle.minidump_bytes.specs.Told.{PutsAll, PutsBeginning, has_failed}
 use Rattle.minidump_format.specs.declared.error.Error.{Error}
 use Rattle.minidump_format.specs.declared.error.Error.TheVariants.{IoError, OutOfMemory}
 
--- the error where an allocation failed: a failure of the writer goes first
+-- the error of a call that ran out of memory: IoError if the writer has failed
 abbrev pub out_of_memory : {D : Type 0} → Told D → Error
 out_of_memory t = if has_failed t then IoError else OutOfMemory
 

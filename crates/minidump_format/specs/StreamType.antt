@@ -3,7 +3,29 @@
 -- (StabilityReportStream) and Mozilla.
 use Rattle.std.specs.Prelude.{ℕ, Bool, true, false, List, [], ◌∷◌, codes, find, ◌==◌, Option}
 use Rattle.minidump_format.specs.declared.format.stream_type.MINIDUMP_STREAM_TYPE.{MINIDUMP_STREAM_TYPE}
-use Rattle.minidump_format.specs.declared.format.stream_type.MINIDUMP_STREAM_TYPE.TheVariants.{UnusedStream, ReservedStream0, ReservedStream1, ThreadListStream, ModuleListStream, MemoryListStream, ExceptionStream, SystemInfoStream, ThreadExListStream, Memory64ListStream, CommentStreamA, CommentStreamW, HandleDataStream, FunctionTable, UnloadedModuleListStream, MiscInfoStream, MemoryInfoListStream, ThreadInfoListStream, HandleOperationListStream, TokenStream, JavaScriptDataStream, SystemMemoryInfoStream, ProcessVmCountersStream, IptTraceStream, ThreadNamesStream, ceStreamNull, ceStreamSystemInfo, ceStreamException, ceStreamModuleList, ceStreamProcessList, ceStreamThreadList, ceStreamThreadContextList, ceStreamThreadCallStackList, ceStreamMemoryVirtualList, ceStreamMemoryPhysicalList, ceStreamBucketParameters, ceStreamProcessModuleMap, ceStreamDiagnosisList, LastReservedStream, BreakpadInfoStream, AssertionInfoStream, LinuxCpuInfo, LinuxProcStatus, LinuxLsbRelease, LinuxCmdLine, LinuxEnviron, LinuxAuxv, LinuxMaps, LinuxDsoDebug, CrashpadInfoStream, MozMacosCrashInfoStream, MozMacosBootargsStream, MozLinuxLimits, MozSoftErrors, StabilityReportStream}
+use Rattle.minidump_format.specs.declared.format.stream_type.MINIDUMP_STREAM_TYPE.TheVariants.{UnusedStream, ReservedStream0, ReservedStream1}
+use Rattle.minidump_format.specs.declared.format.stream_type.MINIDUMP_STREAM_TYPE.TheVariants.{ThreadListStream, ModuleListStream, MemoryListStream}
+use Rattle.minidump_format.specs.declared.format.stream_type.MINIDUMP_STREAM_TYPE.TheVariants.{ExceptionStream, SystemInfoStream, ThreadExListStream}
+use Rattle.minidump_format.specs.declared.format.stream_type.MINIDUMP_STREAM_TYPE.TheVariants.{Memory64ListStream, CommentStreamA, CommentStreamW}
+use Rattle.minidump_format.specs.declared.format.stream_type.MINIDUMP_STREAM_TYPE.TheVariants.{HandleDataStream, FunctionTable}
+use Rattle.minidump_format.specs.declared.format.stream_type.MINIDUMP_STREAM_TYPE.TheVariants.{UnloadedModuleListStream, MiscInfoStream}
+use Rattle.minidump_format.specs.declared.format.stream_type.MINIDUMP_STREAM_TYPE.TheVariants.{MemoryInfoListStream, ThreadInfoListStream}
+use Rattle.minidump_format.specs.declared.format.stream_type.MINIDUMP_STREAM_TYPE.TheVariants.{HandleOperationListStream, TokenStream}
+use Rattle.minidump_format.specs.declared.format.stream_type.MINIDUMP_STREAM_TYPE.TheVariants.{JavaScriptDataStream, SystemMemoryInfoStream}
+use Rattle.minidump_format.specs.declared.format.stream_type.MINIDUMP_STREAM_TYPE.TheVariants.{ProcessVmCountersStream, IptTraceStream}
+use Rattle.minidump_format.specs.declared.format.stream_type.MINIDUMP_STREAM_TYPE.TheVariants.{ThreadNamesStream, ceStreamNull, ceStreamSystemInfo}
+use Rattle.minidump_format.specs.declared.format.stream_type.MINIDUMP_STREAM_TYPE.TheVariants.{ceStreamException, ceStreamModuleList}
+use Rattle.minidump_format.specs.declared.format.stream_type.MINIDUMP_STREAM_TYPE.TheVariants.{ceStreamProcessList, ceStreamThreadList}
+use Rattle.minidump_format.specs.declared.format.stream_type.MINIDUMP_STREAM_TYPE.TheVariants.{ceStreamThreadContextList, ceStreamThreadCallStackList}
+use Rattle.minidump_format.specs.declared.format.stream_type.MINIDUMP_STREAM_TYPE.TheVariants.{ceStreamMemoryVirtualList, ceStreamMemoryPhysicalList}
+use Rattle.minidump_format.specs.declared.format.stream_type.MINIDUMP_STREAM_TYPE.TheVariants.{ceStreamBucketParameters, ceStreamProcessModuleMap}
+use Rattle.minidump_format.specs.declared.format.stream_type.MINIDUMP_STREAM_TYPE.TheVariants.{ceStreamDiagnosisList, LastReservedStream}
+use Rattle.minidump_format.specs.declared.format.stream_type.MINIDUMP_STREAM_TYPE.TheVariants.{BreakpadInfoStream, AssertionInfoStream, LinuxCpuInfo}
+use Rattle.minidump_format.specs.declared.format.stream_type.MINIDUMP_STREAM_TYPE.TheVariants.{LinuxProcStatus, LinuxLsbRelease, LinuxCmdLine}
+use Rattle.minidump_format.specs.declared.format.stream_type.MINIDUMP_STREAM_TYPE.TheVariants.{LinuxEnviron, LinuxAuxv, LinuxMaps, LinuxDsoDebug}
+use Rattle.minidump_format.specs.declared.format.stream_type.MINIDUMP_STREAM_TYPE.TheVariants.{CrashpadInfoStream, MozMacosCrashInfoStream}
+use Rattle.minidump_format.specs.declared.format.stream_type.MINIDUMP_STREAM_TYPE.TheVariants.{MozMacosBootargsStream, MozLinuxLimits, MozSoftErrors}
+use Rattle.minidump_format.specs.declared.format.stream_type.MINIDUMP_STREAM_TYPE.TheVariants.{StabilityReportStream}
 
 -- the number of each type
 abbrev pub number_of : MINIDUMP_STREAM_TYPE → ℕ
@@ -181,7 +203,15 @@ is_unimplemented StabilityReportStream = false
 
 -- all types
 abbrev pub every_type : List MINIDUMP_STREAM_TYPE
-every_type = UnusedStream ∷ ReservedStream0 ∷ ReservedStream1 ∷ ThreadListStream ∷ ModuleListStream ∷ MemoryListStream ∷ ExceptionStream ∷ SystemInfoStream ∷ ThreadExListStream ∷ Memory64ListStream ∷ CommentStreamA ∷ CommentStreamW ∷ HandleDataStream ∷ FunctionTable ∷ UnloadedModuleListStream ∷ MiscInfoStream ∷ MemoryInfoListStream ∷ ThreadInfoListStream ∷ HandleOperationListStream ∷ TokenStream ∷ JavaScriptDataStream ∷ SystemMemoryInfoStream ∷ ProcessVmCountersStream ∷ IptTraceStream ∷ ThreadNamesStream ∷ ceStreamNull ∷ ceStreamSystemInfo ∷ ceStreamException ∷ ceStreamModuleList ∷ ceStreamProcessList ∷ ceStreamThreadList ∷ ceStreamThreadContextList ∷ ceStreamThreadCallStackList ∷ ceStreamMemoryVirtualList ∷ ceStreamMemoryPhysicalList ∷ ceStreamBucketParameters ∷ ceStreamProcessModuleMap ∷ ceStreamDiagnosisList ∷ LastReservedStream ∷ BreakpadInfoStream ∷ AssertionInfoStream ∷ LinuxCpuInfo ∷ LinuxProcStatus ∷ LinuxLsbRelease ∷ LinuxCmdLine ∷ LinuxEnviron ∷ LinuxAuxv ∷ LinuxMaps ∷ LinuxDsoDebug ∷ CrashpadInfoStream ∷ MozMacosCrashInfoStream ∷ MozMacosBootargsStream ∷ MozLinuxLimits ∷ MozSoftErrors ∷ StabilityReportStream ∷ []
+every_type = UnusedStream ∷ ReservedStream0 ∷ ReservedStream1 ∷ ThreadListStream ∷ ModuleListStream ∷ MemoryListStream ∷ ExceptionStream
+    ∷ SystemInfoStream ∷ ThreadExListStream ∷ Memory64ListStream ∷ CommentStreamA ∷ CommentStreamW ∷ HandleDataStream ∷ FunctionTable
+    ∷ UnloadedModuleListStream ∷ MiscInfoStream ∷ MemoryInfoListStream ∷ ThreadInfoListStream ∷ HandleOperationListStream ∷ TokenStream
+    ∷ JavaScriptDataStream ∷ SystemMemoryInfoStream ∷ ProcessVmCountersStream ∷ IptTraceStream ∷ ThreadNamesStream ∷ ceStreamNull ∷ ceStreamSystemInfo
+    ∷ ceStreamException ∷ ceStreamModuleList ∷ ceStreamProcessList ∷ ceStreamThreadList ∷ ceStreamThreadContextList ∷ ceStreamThreadCallStackList
+    ∷ ceStreamMemoryVirtualList ∷ ceStreamMemoryPhysicalList ∷ ceStreamBucketParameters ∷ ceStreamProcessModuleMap ∷ ceStreamDiagnosisList
+    ∷ LastReservedStream ∷ BreakpadInfoStream ∷ AssertionInfoStream ∷ LinuxCpuInfo ∷ LinuxProcStatus ∷ LinuxLsbRelease ∷ LinuxCmdLine ∷ LinuxEnviron
+    ∷ LinuxAuxv ∷ LinuxMaps ∷ LinuxDsoDebug ∷ CrashpadInfoStream ∷ MozMacosCrashInfoStream ∷ MozMacosBootargsStream ∷ MozLinuxLimits ∷ MozSoftErrors
+    ∷ StabilityReportStream ∷ []
 
 -- the type that has a number, which is no other's
 abbrev pub stream_type_of : ℕ → Option MINIDUMP_STREAM_TYPE

@@ -1,5 +1,5 @@
--- Whose a type of stream is. Microsoft keeps the numbers up to 0xffff; the high half of another names its vendor by
--- two letters: `Gg`, `CP`, `Mz`.
+-- The vendors of the types of stream. The numbers up to 0xffff are Microsoft's. The high half of any other number is
+-- two letters that name its vendor: `Gg`, `CP`, `Mz`.
 use Rattle.std.specs.Prelude.{ℕ, ◌/◌, ◌^◌, List, codes, nat_le, ◌==◌, if◌then◌else◌}
 
 abbrev by_letters : ℕ → List ℕ

@@ -7,7 +7,9 @@ use Rattle.minidump_format.specs.declared.format.misc.XSTATE_FEATURE.{XSTATE_FEA
 use Rattle.minidump_format.specs.declared.format.misc.XSTATE_CONFIG_FEATURE_MSC_INFO.{XSTATE_CONFIG_FEATURE_MSC_INFO}
 use Rattle.minidump_format.specs.declared.format.xstate.XstateFeatures.{XstateFeatures}
 use Rattle.minidump_format.specs.declared.format.xstate.XstateFeatureIndex.{XstateFeatureIndex}
-use Rattle.minidump_format.specs.declared.format.xstate.XstateFeatureIndex.TheVariants.{LEGACY_FLOATING_POINT, LEGACY_SSE, GSSE, MPX_BNDREGS, MPX_BNDCSR, AVX512_KMASK, AVX512_ZMM_H, AVX512_ZMM, XSTATE_IPT, LWP}
+use Rattle.minidump_format.specs.declared.format.xstate.XstateFeatureIndex.TheVariants.{LEGACY_FLOATING_POINT, LEGACY_SSE, GSSE, MPX_BNDREGS}
+use Rattle.minidump_format.specs.declared.format.xstate.XstateFeatureIndex.TheVariants.{MPX_BNDCSR, AVX512_KMASK, AVX512_ZMM_H, AVX512_ZMM}
+use Rattle.minidump_format.specs.declared.format.xstate.XstateFeatureIndex.TheVariants.{XSTATE_IPT, LWP}
 
 -- of features that are numbered from an index on, those whose bit is set, each with its index
 unfoldable pub enabled_from : ℕ → ℕ → List XSTATE_FEATURE → List (ℕ × XSTATE_FEATURE)
@@ -49,4 +51,5 @@ index_name LWP = codes "LWP"
 
 -- the named feature that has an index, which is no other's
 abbrev pub feature_of : ℕ → Option XstateFeatureIndex
-feature_of n = find (λ f. index_of f == n) (LEGACY_FLOATING_POINT ∷ LEGACY_SSE ∷ GSSE ∷ MPX_BNDREGS ∷ MPX_BNDCSR ∷ AVX512_KMASK ∷ AVX512_ZMM_H ∷ AVX512_ZMM ∷ XSTATE_IPT ∷ LWP ∷ [])
+feature_of n = find (λ f. index_of f == n) (LEGACY_FLOATING_POINT ∷ LEGACY_SSE ∷ GSSE ∷ MPX_BNDREGS ∷ MPX_BNDCSR ∷ AVX512_KMASK ∷ AVX512_ZMM_H
+    ∷ AVX512_ZMM ∷ XSTATE_IPT ∷ LWP ∷ [])

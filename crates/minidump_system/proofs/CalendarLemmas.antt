@@ -7,7 +7,8 @@ use Rattle.std.proofs.lemmas.Int.{ints}
 use Rattle.std.proofs.lemmas.List.Sums.{sum_by-cons}
 use borrow.Author.Tests.{lt-ltb, le-ltb}
 use Rattle.jiff_core.specs.Calendar.{days_in_year, days_in_month, day_count, IsCivilDate}
-use Rattle.jiff_core.proofs.CalendarLemmas.{day_count-day, day_count-last_of_year, day_count-next_month, day_count-next_year, days_in_month_bounds, days_in_year_bounds}
+use Rattle.jiff_core.proofs.CalendarLemmas.{day_count-day, day_count-last_of_year, day_count-next_month, day_count-next_year, days_in_month_bounds}
+use Rattle.jiff_core.proofs.CalendarLemmas.{days_in_year_bounds}
 use Rattle.minidump_system.specs.ExactlyOne.{ExactlyOne}
 use Rattle.minidump_system.specs.Dates.{IsMomentAt, Moment, date_text_of, days_before, is_clock, is_day, month_from, text_at, year_from}
 use Rattle.minidump_system.proofs.DateText.{date_in}
@@ -29,7 +30,8 @@ months_more year m n = sum_by-cons (λ m. days_in_month (pos year) m) m (range_w
 years_are : (n y : ℕ) → day_count (pos (y + n)) 1 1 ≡ day_count (pos y) 1 1 + years y n
 years_are zero y = let same : y + 0 ≡ y = omega arith in rw same (omega arith)
 years_are (suc n) y =
-    let next : day_count (pos (y + 1)) 1 1 ≡ day_count (pos y) 1 1 + days_in_year (pos y) = day_count-next_year (pos y) (pos (y + 1)) (omega (arith, ints)) (omega (arith, ints)) in
+    let next : day_count (pos (y + 1)) 1 1 ≡ day_count (pos y) 1 1 + days_in_year (pos y) =
+    day_count-next_year (pos y) (pos (y + 1)) (omega (arith, ints)) (omega (arith, ints)) in
     let there : y + suc n ≡ y + 1 + n = omega arith in
     rw there (omega (arith, years_are n (y + 1), years_more y n, next))
 
@@ -134,7 +136,8 @@ put_together seconds year month day since shown days = record {
   counted = rw days (omega arith);
 }
 
-days_make : (year month rest of_years of_months days left : ℕ) → year ≡ 1970 + of_years → month ≡ 1 + of_months → years 1970 of_years + left ≡ days → months year 1 of_months + rest ≡ left
+days_make : (year month rest of_years of_months days left : ℕ) → year ≡ 1970 + of_years → month ≡ 1 + of_months → years 1970 of_years + left ≡ days
+    → months year 1 of_months + rest ≡ left
     → days_before year month (rest + 1) ≡ days
 days_make year month rest of_years of_months days left y m all part =
     let a : year - 1970 ≡ of_years = omega (arith, y) in
@@ -150,10 +153,12 @@ some_moment seconds small =
     let month = month_within y.0 14 1 y.1 (omega (arith, year.within, days_in_year_bounds (pos y.0))) in
     let last = twelve y.0 month.count (omega (arith, month.whole, year.within)) in
     put_together seconds y.0 m.0 (m.1 + 1) (omega (arith, year.year))
-    (day_shown y.0 m.0 (m.1 + 1) (omega (arith, year.most)) (omega (arith, month.month)) (omega (arith, month.month, last)) (omega arith) (omega (arith, month.within)))
+    (day_shown y.0 m.0 (m.1 + 1) (omega (arith, year.most)) (omega (arith, month.month))
+    (omega (arith, month.month, last)) (omega arith) (omega (arith, month.within)))
     (days_make y.0 m.0 m.1 year.count month.count n y.1 year.year month.month year.whole month.whole)
 
-same_moment : (m : Moment) (year month day hour minute second : ℕ) → year ≡ m.year → month ≡ m.month → day ≡ m.day → hour ≡ m.hour → minute ≡ m.minute → second ≡ m.second
+same_moment : (m : Moment) (year month day hour minute second : ℕ) → year ≡ m.year → month ≡ m.month → day ≡ m.day → hour ≡ m.hour → minute ≡ m.minute
+    → second ≡ m.second
     → m ≡ record { year = year; month = month; day = day; hour = hour; minute = minute; second = second }
 same_moment m year month day hour minute second y mo d h mi s = rw (y, mo, d, h, mi, s) refl
 
@@ -179,7 +184,8 @@ only_moment seconds m small is =
     let days : n ≡ seconds / 86400 = omega (arith, whole, h, mi, s) in
     let civil : IsCivilDate (pos m.year) m.month m.day = ((omega (arith, ints), omega (arith, ints)), (m1, m2), (d1, d2)) in
     let date = date_in (pos m.year) m.month m.day (seconds / 86400) civil (omega arith) (rw days at (days_are m.year m.month m.day is.since m1 d1)) in
-    same_moment m _ _ _ _ _ _ (omega (arith, ints, date.0)) (sym date.1) (sym date.2) (omega (arith, whole, h, mi, s)) (omega (arith, whole, h, mi, s)) (omega (arith, whole, h, mi, s))
+    same_moment m _ _ _ _ _ _ (omega (arith, ints, date.0)) (sym date.1) (sym date.2) (omega (arith, whole, h, mi, s))
+    (omega (arith, whole, h, mi, s)) (omega (arith, whole, h, mi, s))
 
 pub one_moment : (seconds : ℕ) → seconds < 2 ^ 32 → ExactlyOne (IsMomentAt seconds)
 one_moment seconds small = record {

@@ -54,7 +54,12 @@ moment_fits t is =
     let s : t.second ≤ 59 = leb-true _ _ b2.1 in
     let ms : t.milliseconds ≤ 999 = leb-true _ _ b3.1 in (
       ((omega (arith, ints), omega (arith, ints)), (omega (arith, ints), omega (arith, ints)), (omega (arith, ints), omega (arith, ints))),
-      ((omega (arith, ints), omega (arith, ints)), (omega (arith, ints), omega (arith, ints)), (omega (arith, ints), omega (arith, ints)), (omega (arith, ints), omega (arith, ints))),
+      (
+        (omega (arith, ints), omega (arith, ints)),
+        (omega (arith, ints), omega (arith, ints)),
+        (omega (arith, ints), omega (arith, ints)),
+        (omega (arith, ints), omega (arith, ints)),
+      ),
     )
 
 pub civil_is : {E : Type 0} (t : SYSTEMTIME) (r : Result DateTime E) (y m d h mi s n : ℤ) → t.milliseconds ≤ 999

@@ -1,7 +1,14 @@
 -- The architectures of processors by number and by name.
 use Rattle.std.specs.Prelude.{ℕ, List, codes, Option, Some, None}
 use Rattle.minidump_format.specs.declared.format.system.ProcessorArchitecture.{ProcessorArchitecture}
-use Rattle.minidump_format.specs.declared.format.system.ProcessorArchitecture.TheVariants.{PROCESSOR_ARCHITECTURE_INTEL, PROCESSOR_ARCHITECTURE_MIPS, PROCESSOR_ARCHITECTURE_PPC, PROCESSOR_ARCHITECTURE_ARM, PROCESSOR_ARCHITECTURE_AMD64, PROCESSOR_ARCHITECTURE_IA32_ON_WIN64, PROCESSOR_ARCHITECTURE_ARM64, PROCESSOR_ARCHITECTURE_SPARC, PROCESSOR_ARCHITECTURE_PPC64, PROCESSOR_ARCHITECTURE_ARM64_OLD, PROCESSOR_ARCHITECTURE_MIPS64}
+use Rattle.minidump_format.specs.declared.format.system.ProcessorArchitecture.TheVariants.{PROCESSOR_ARCHITECTURE_INTEL, PROCESSOR_ARCHITECTURE_MIPS}
+use Rattle.minidump_format.specs.declared.format.system.ProcessorArchitecture.TheVariants.{PROCESSOR_ARCHITECTURE_PPC, PROCESSOR_ARCHITECTURE_ARM}
+use Rattle.minidump_format.specs.declared.format.system.ProcessorArchitecture.TheVariants.{PROCESSOR_ARCHITECTURE_AMD64}
+use Rattle.minidump_format.specs.declared.format.system.ProcessorArchitecture.TheVariants.{PROCESSOR_ARCHITECTURE_IA32_ON_WIN64}
+use Rattle.minidump_format.specs.declared.format.system.ProcessorArchitecture.TheVariants.{PROCESSOR_ARCHITECTURE_ARM64, PROCESSOR_ARCHITECTURE_SPARC}
+use Rattle.minidump_format.specs.declared.format.system.ProcessorArchitecture.TheVariants.{PROCESSOR_ARCHITECTURE_PPC64}
+use Rattle.minidump_format.specs.declared.format.system.ProcessorArchitecture.TheVariants.{PROCESSOR_ARCHITECTURE_ARM64_OLD}
+use Rattle.minidump_format.specs.declared.format.system.ProcessorArchitecture.TheVariants.{PROCESSOR_ARCHITECTURE_MIPS64}
 use Rattle.minidump_format.specs.System.{architecture_of}
 use Rattle.minidump_system.specs.declared.cpu.Cpu.{Cpu}
 use Rattle.minidump_system.specs.declared.cpu.Cpu.TheVariants.{X86, X86_64, Ppc, Ppc64, Sparc, Arm, Arm64, Mips, Mips64, Unknown}

@@ -71,20 +71,21 @@ list_header = record {
 abbrev pub list_header_of : Endian → List ℕ → ListHeader
 list_header_of order bytes = list_header.value order (slice_range bytes 0 12)
 
--- the length that the header asks for
-abbrev asked : ListHeader → ℕ
-asked h = h.size_of_header + h.size_of_entry * h.number_of_entries
+-- the length of a stream with this header, if nothing follows its entries
+abbrev expected_length : ListHeader → ℕ
+expected_length h = h.size_of_header + h.size_of_entry * h.number_of_entries
 
 -- entries of the layout's size come behind a header of at least 12 bytes
 abbrev extended : {R : Type 0} → Layout R → Endian → List ℕ → Option ListHeader → Result (List R) Error
 extended layout order bytes None = Err StreamReadFailure
 extended layout order bytes (Some h) =
     if not (h.size_of_entry == layout.size) then Err StreamReadFailure else (
-    if nat_lt (length bytes) (asked h) then Err (StreamSizeMismatch (asked h) (length bytes)) else (
+    if nat_lt (length bytes) (expected_length h) then Err (StreamSizeMismatch (expected_length h) (length bytes)) else (
     if nat_lt h.size_of_header 12 then Err StreamReadFailure else
     Ok (entries layout order bytes h.size_of_header h.number_of_entries)))
 
--- An extended list of entries of a layout: the size of its header, the size of an entry and a count, then the entries, behind the header. More bytes may follow.
+-- An extended list of entries of a layout: the size of its header, the size of an entry and a count, then the entries,
+-- behind the header. More bytes may follow.
 abbrev pub extended_list : {R : Type 0} → Layout R → Endian → List ℕ → Result (List R) Error
 extended_list layout order bytes = extended layout order bytes (record_at list_header order 0 bytes)
 
@@ -92,7 +93,7 @@ extended_list layout order bytes = extended layout order bytes (record_at list_h
 abbrev handles : Endian → List ℕ → Option ListHeader → Result HandleEntries Error
 handles order bytes None = Err StreamReadFailure
 handles order bytes (Some h) =
-    if nat_lt (length bytes) (asked h) then Err (StreamSizeMismatch (asked h) (length bytes)) else (
+    if nat_lt (length bytes) (expected_length h) then Err (StreamSizeMismatch (expected_length h) (length bytes)) else (
     if h.size_of_entry == 40 then Ok (Long (entries handle_descriptor_2 order bytes h.size_of_header h.number_of_entries)) else (
     if h.size_of_entry == 32 || h.number_of_entries == 0 then Ok (Short (entries handle_descriptor order bytes h.size_of_header h.number_of_entries)) else
     Err StreamReadFailure))

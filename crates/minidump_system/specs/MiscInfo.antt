@@ -1,7 +1,7 @@
 -- The misc information: Microsoft's MINIDUMP_MISC_INFO to MINIDUMP_MISC_INFO_5. A layout has the fields of the one before
 -- it and more.
 use Rattle.std.specs.Prelude.{ℕ, List, Option, Some, None, Result, Ok, Err, if◌then◌else◌, ℤ, [], ◌∷◌, ◌++◌, codes}
-use Rattle.std.specs.Option.{option_map, option_or}
+use Rattle.std.specs.Option.{option_and_then, option_map, option_or}
 use Rattle.std.specs.List.{concat, flat_map}
 use Rattle.std.specs.Fmt.{decimal, signed_decimal}
 use Rattle.minidump_bytes.specs.Span.{record_at}
@@ -11,10 +11,16 @@ use Rattle.minidump_bytes.specs.Text16.{text_before_nul}
 use Rattle.minidump_format.specs.declared.format.stream_type.MINIDUMP_STREAM_TYPE.TheVariants.{MiscInfoStream}
 use Rattle.minidump_format.specs.declared.error.Error.{Error}
 use Rattle.minidump_format.specs.declared.error.Error.TheVariants.{StreamReadFailure}
+use Rattle.minidump_format.specs.declared.format.misc.MINIDUMP_MISC_INFO.{MINIDUMP_MISC_INFO}
+use Rattle.minidump_format.specs.declared.format.misc.MINIDUMP_MISC_INFO_2.{MINIDUMP_MISC_INFO_2}
+use Rattle.minidump_format.specs.declared.format.misc.MINIDUMP_MISC_INFO_3.{MINIDUMP_MISC_INFO_3}
+use Rattle.minidump_format.specs.declared.format.misc.MINIDUMP_MISC_INFO_4.{MINIDUMP_MISC_INFO_4}
+use Rattle.minidump_format.specs.declared.format.misc.MINIDUMP_MISC_INFO_5.{MINIDUMP_MISC_INFO_5}
+use Rattle.minidump_format.specs.declared.format.misc.SYSTEMTIME.{SYSTEMTIME}
 use Rattle.minidump_format.specs.declared.format.misc.TIME_ZONE_INFORMATION.{TIME_ZONE_INFORMATION}
 use Rattle.minidump_format.specs.declared.format.misc.XSTATE_CONFIG_FEATURE_MSC_INFO.{XSTATE_CONFIG_FEATURE_MSC_INFO}
 use Rattle.minidump_format.specs.Flags.{has_flag}
-use Rattle.minidump_format.specs.Misc.{misc_info, misc_info_2, misc_info_3, misc_info_4, misc_info_5}
+use Rattle.minidump_format.specs.Misc.{misc_info, misc_info_2, misc_info_3, misc_info_4, misc_info_5, fields_of_1, fields_of_2, fields_of_3, fields_of_4}
 use Rattle.minidump_format.specs.declared.format.misc.XSTATE_FEATURE.{XSTATE_FEATURE}
 use Rattle.minidump_format.specs.declared.format.xstate.XstateFeatureIndex.{XstateFeatureIndex}
 use Rattle.minidump_format.specs.Xstate.{feature_of, index_name, xstate_features}
@@ -78,165 +84,106 @@ misc_info_stream = record {
 abbrev pub where_set : {X : Type 0} → ℕ → ℕ → X → Option X
 where_set flags1 flag x = if has_flag flags1 flag then Some x else None
 
--- in every layout
+-- the fields that a layout has, where the record is of that layout or of a larger one
+abbrev pub from_layout_1 : RawMiscInfo → Option MINIDUMP_MISC_INFO
+from_layout_1 (MiscInfo raw) = Some raw
+from_layout_1 (MiscInfo2 raw) = Some (fields_of_1 raw)
+from_layout_1 (MiscInfo3 raw) = Some (fields_of_1 (fields_of_2 raw))
+from_layout_1 (MiscInfo4 raw) = Some (fields_of_1 (fields_of_2 (fields_of_3 raw)))
+from_layout_1 (MiscInfo5 raw) = Some (fields_of_1 (fields_of_2 (fields_of_3 (fields_of_4 raw))))
+
+abbrev pub from_layout_2 : RawMiscInfo → Option MINIDUMP_MISC_INFO_2
+from_layout_2 (MiscInfo raw) = None
+from_layout_2 (MiscInfo2 raw) = Some raw
+from_layout_2 (MiscInfo3 raw) = Some (fields_of_2 raw)
+from_layout_2 (MiscInfo4 raw) = Some (fields_of_2 (fields_of_3 raw))
+from_layout_2 (MiscInfo5 raw) = Some (fields_of_2 (fields_of_3 (fields_of_4 raw)))
+
+abbrev pub from_layout_3 : RawMiscInfo → Option MINIDUMP_MISC_INFO_3
+from_layout_3 (MiscInfo raw) = None
+from_layout_3 (MiscInfo2 raw) = None
+from_layout_3 (MiscInfo3 raw) = Some raw
+from_layout_3 (MiscInfo4 raw) = Some (fields_of_3 raw)
+from_layout_3 (MiscInfo5 raw) = Some (fields_of_3 (fields_of_4 raw))
+
+abbrev pub from_layout_4 : RawMiscInfo → Option MINIDUMP_MISC_INFO_4
+from_layout_4 (MiscInfo raw) = None
+from_layout_4 (MiscInfo2 raw) = None
+from_layout_4 (MiscInfo3 raw) = None
+from_layout_4 (MiscInfo4 raw) = Some raw
+from_layout_4 (MiscInfo5 raw) = Some (fields_of_4 raw)
+
+abbrev pub from_layout_5 : RawMiscInfo → Option MINIDUMP_MISC_INFO_5
+from_layout_5 (MiscInfo5 raw) = Some raw
+from_layout_5 (MiscInfo4 raw) = None
+from_layout_5 (MiscInfo3 raw) = None
+from_layout_5 (MiscInfo2 raw) = None
+from_layout_5 (MiscInfo raw) = None
+
+-- The fields, by the first layout that has each: the field's value where its flag is set in flags1.
 unfoldable pub size_of_info : RawMiscInfo → Option ℕ
-size_of_info (MiscInfo raw) = Some raw.size_of_info
-size_of_info (MiscInfo2 raw) = Some raw.size_of_info
-size_of_info (MiscInfo3 raw) = Some raw.size_of_info
-size_of_info (MiscInfo4 raw) = Some raw.size_of_info
-size_of_info (MiscInfo5 raw) = Some raw.size_of_info
+size_of_info info = option_and_then (λ raw. Some raw.size_of_info) (from_layout_1 info)
 
--- in every layout
 unfoldable pub flags1 : RawMiscInfo → Option ℕ
-flags1 (MiscInfo raw) = Some raw.flags1
-flags1 (MiscInfo2 raw) = Some raw.flags1
-flags1 (MiscInfo3 raw) = Some raw.flags1
-flags1 (MiscInfo4 raw) = Some raw.flags1
-flags1 (MiscInfo5 raw) = Some raw.flags1
+flags1 info = option_and_then (λ raw. Some raw.flags1) (from_layout_1 info)
 
--- in every layout, with flag 0x1
 unfoldable pub process_id : RawMiscInfo → Option ℕ
-process_id (MiscInfo raw) = where_set raw.flags1 0x1 raw.process_id
-process_id (MiscInfo2 raw) = where_set raw.flags1 0x1 raw.process_id
-process_id (MiscInfo3 raw) = where_set raw.flags1 0x1 raw.process_id
-process_id (MiscInfo4 raw) = where_set raw.flags1 0x1 raw.process_id
-process_id (MiscInfo5 raw) = where_set raw.flags1 0x1 raw.process_id
+process_id info = option_and_then (λ raw. where_set raw.flags1 0x1 raw.process_id) (from_layout_1 info)
 
--- in every layout, with flag 0x2
 unfoldable pub process_create_time : RawMiscInfo → Option ℕ
-process_create_time (MiscInfo raw) = where_set raw.flags1 0x2 raw.process_create_time
-process_create_time (MiscInfo2 raw) = where_set raw.flags1 0x2 raw.process_create_time
-process_create_time (MiscInfo3 raw) = where_set raw.flags1 0x2 raw.process_create_time
-process_create_time (MiscInfo4 raw) = where_set raw.flags1 0x2 raw.process_create_time
-process_create_time (MiscInfo5 raw) = where_set raw.flags1 0x2 raw.process_create_time
+process_create_time info = option_and_then (λ raw. where_set raw.flags1 0x2 raw.process_create_time) (from_layout_1 info)
 
--- in every layout, with flag 0x2
 unfoldable pub process_user_time : RawMiscInfo → Option ℕ
-process_user_time (MiscInfo raw) = where_set raw.flags1 0x2 raw.process_user_time
-process_user_time (MiscInfo2 raw) = where_set raw.flags1 0x2 raw.process_user_time
-process_user_time (MiscInfo3 raw) = where_set raw.flags1 0x2 raw.process_user_time
-process_user_time (MiscInfo4 raw) = where_set raw.flags1 0x2 raw.process_user_time
-process_user_time (MiscInfo5 raw) = where_set raw.flags1 0x2 raw.process_user_time
+process_user_time info = option_and_then (λ raw. where_set raw.flags1 0x2 raw.process_user_time) (from_layout_1 info)
 
--- in every layout, with flag 0x2
 unfoldable pub process_kernel_time : RawMiscInfo → Option ℕ
-process_kernel_time (MiscInfo raw) = where_set raw.flags1 0x2 raw.process_kernel_time
-process_kernel_time (MiscInfo2 raw) = where_set raw.flags1 0x2 raw.process_kernel_time
-process_kernel_time (MiscInfo3 raw) = where_set raw.flags1 0x2 raw.process_kernel_time
-process_kernel_time (MiscInfo4 raw) = where_set raw.flags1 0x2 raw.process_kernel_time
-process_kernel_time (MiscInfo5 raw) = where_set raw.flags1 0x2 raw.process_kernel_time
+process_kernel_time info = option_and_then (λ raw. where_set raw.flags1 0x2 raw.process_kernel_time) (from_layout_1 info)
 
--- from layout 2 on, with flag 0x4
+-- the fields that layout 2 adds
 unfoldable pub processor_max_mhz : RawMiscInfo → Option ℕ
-processor_max_mhz (MiscInfo raw) = None
-processor_max_mhz (MiscInfo2 raw) = where_set raw.flags1 0x4 raw.processor_max_mhz
-processor_max_mhz (MiscInfo3 raw) = where_set raw.flags1 0x4 raw.processor_max_mhz
-processor_max_mhz (MiscInfo4 raw) = where_set raw.flags1 0x4 raw.processor_max_mhz
-processor_max_mhz (MiscInfo5 raw) = where_set raw.flags1 0x4 raw.processor_max_mhz
+processor_max_mhz info = option_and_then (λ raw. where_set raw.flags1 0x4 raw.processor_max_mhz) (from_layout_2 info)
 
--- from layout 2 on, with flag 0x4
 unfoldable pub processor_current_mhz : RawMiscInfo → Option ℕ
-processor_current_mhz (MiscInfo raw) = None
-processor_current_mhz (MiscInfo2 raw) = where_set raw.flags1 0x4 raw.processor_current_mhz
-processor_current_mhz (MiscInfo3 raw) = where_set raw.flags1 0x4 raw.processor_current_mhz
-processor_current_mhz (MiscInfo4 raw) = where_set raw.flags1 0x4 raw.processor_current_mhz
-processor_current_mhz (MiscInfo5 raw) = where_set raw.flags1 0x4 raw.processor_current_mhz
+processor_current_mhz info = option_and_then (λ raw. where_set raw.flags1 0x4 raw.processor_current_mhz) (from_layout_2 info)
 
--- from layout 2 on, with flag 0x4
 unfoldable pub processor_mhz_limit : RawMiscInfo → Option ℕ
-processor_mhz_limit (MiscInfo raw) = None
-processor_mhz_limit (MiscInfo2 raw) = where_set raw.flags1 0x4 raw.processor_mhz_limit
-processor_mhz_limit (MiscInfo3 raw) = where_set raw.flags1 0x4 raw.processor_mhz_limit
-processor_mhz_limit (MiscInfo4 raw) = where_set raw.flags1 0x4 raw.processor_mhz_limit
-processor_mhz_limit (MiscInfo5 raw) = where_set raw.flags1 0x4 raw.processor_mhz_limit
+processor_mhz_limit info = option_and_then (λ raw. where_set raw.flags1 0x4 raw.processor_mhz_limit) (from_layout_2 info)
 
--- from layout 2 on, with flag 0x4
 unfoldable pub processor_max_idle_state : RawMiscInfo → Option ℕ
-processor_max_idle_state (MiscInfo raw) = None
-processor_max_idle_state (MiscInfo2 raw) = where_set raw.flags1 0x4 raw.processor_max_idle_state
-processor_max_idle_state (MiscInfo3 raw) = where_set raw.flags1 0x4 raw.processor_max_idle_state
-processor_max_idle_state (MiscInfo4 raw) = where_set raw.flags1 0x4 raw.processor_max_idle_state
-processor_max_idle_state (MiscInfo5 raw) = where_set raw.flags1 0x4 raw.processor_max_idle_state
+processor_max_idle_state info = option_and_then (λ raw. where_set raw.flags1 0x4 raw.processor_max_idle_state) (from_layout_2 info)
 
--- from layout 2 on, with flag 0x4
 unfoldable pub processor_current_idle_state : RawMiscInfo → Option ℕ
-processor_current_idle_state (MiscInfo raw) = None
-processor_current_idle_state (MiscInfo2 raw) = where_set raw.flags1 0x4 raw.processor_current_idle_state
-processor_current_idle_state (MiscInfo3 raw) = where_set raw.flags1 0x4 raw.processor_current_idle_state
-processor_current_idle_state (MiscInfo4 raw) = where_set raw.flags1 0x4 raw.processor_current_idle_state
-processor_current_idle_state (MiscInfo5 raw) = where_set raw.flags1 0x4 raw.processor_current_idle_state
+processor_current_idle_state info = option_and_then (λ raw. where_set raw.flags1 0x4 raw.processor_current_idle_state) (from_layout_2 info)
 
--- from layout 3 on, with flag 0x10
+-- the fields that layout 3 adds
 unfoldable pub process_integrity_level : RawMiscInfo → Option ℕ
-process_integrity_level (MiscInfo raw) = None
-process_integrity_level (MiscInfo2 raw) = None
-process_integrity_level (MiscInfo3 raw) = where_set raw.flags1 0x10 raw.process_integrity_level
-process_integrity_level (MiscInfo4 raw) = where_set raw.flags1 0x10 raw.process_integrity_level
-process_integrity_level (MiscInfo5 raw) = where_set raw.flags1 0x10 raw.process_integrity_level
+process_integrity_level info = option_and_then (λ raw. where_set raw.flags1 0x10 raw.process_integrity_level) (from_layout_3 info)
 
--- from layout 3 on, with flag 0x20
 unfoldable pub process_execute_flags : RawMiscInfo → Option ℕ
-process_execute_flags (MiscInfo raw) = None
-process_execute_flags (MiscInfo2 raw) = None
-process_execute_flags (MiscInfo3 raw) = where_set raw.flags1 0x20 raw.process_execute_flags
-process_execute_flags (MiscInfo4 raw) = where_set raw.flags1 0x20 raw.process_execute_flags
-process_execute_flags (MiscInfo5 raw) = where_set raw.flags1 0x20 raw.process_execute_flags
+process_execute_flags info = option_and_then (λ raw. where_set raw.flags1 0x20 raw.process_execute_flags) (from_layout_3 info)
 
--- from layout 3 on, with flag 0x80
 unfoldable pub protected_process : RawMiscInfo → Option ℕ
-protected_process (MiscInfo raw) = None
-protected_process (MiscInfo2 raw) = None
-protected_process (MiscInfo3 raw) = where_set raw.flags1 0x80 raw.protected_process
-protected_process (MiscInfo4 raw) = where_set raw.flags1 0x80 raw.protected_process
-protected_process (MiscInfo5 raw) = where_set raw.flags1 0x80 raw.protected_process
+protected_process info = option_and_then (λ raw. where_set raw.flags1 0x80 raw.protected_process) (from_layout_3 info)
 
--- from layout 3 on, with flag 0x40
 unfoldable pub time_zone_id : RawMiscInfo → Option ℕ
-time_zone_id (MiscInfo raw) = None
-time_zone_id (MiscInfo2 raw) = None
-time_zone_id (MiscInfo3 raw) = where_set raw.flags1 0x40 raw.time_zone_id
-time_zone_id (MiscInfo4 raw) = where_set raw.flags1 0x40 raw.time_zone_id
-time_zone_id (MiscInfo5 raw) = where_set raw.flags1 0x40 raw.time_zone_id
+time_zone_id info = option_and_then (λ raw. where_set raw.flags1 0x40 raw.time_zone_id) (from_layout_3 info)
 
--- from layout 3 on, with flag 0x40
 unfoldable pub time_zone : RawMiscInfo → Option TIME_ZONE_INFORMATION
-time_zone (MiscInfo raw) = None
-time_zone (MiscInfo2 raw) = None
-time_zone (MiscInfo3 raw) = where_set raw.flags1 0x40 raw.time_zone
-time_zone (MiscInfo4 raw) = where_set raw.flags1 0x40 raw.time_zone
-time_zone (MiscInfo5 raw) = where_set raw.flags1 0x40 raw.time_zone
+time_zone info = option_and_then (λ raw. where_set raw.flags1 0x40 raw.time_zone) (from_layout_3 info)
 
--- from layout 4 on, with flag 0x100
+-- the fields that layout 4 adds
 unfoldable pub build_string : RawMiscInfo → Option (List ℕ)
-build_string (MiscInfo raw) = None
-build_string (MiscInfo2 raw) = None
-build_string (MiscInfo3 raw) = None
-build_string (MiscInfo4 raw) = where_set raw.flags1 0x100 raw.build_string
-build_string (MiscInfo5 raw) = where_set raw.flags1 0x100 raw.build_string
+build_string info = option_and_then (λ raw. where_set raw.flags1 0x100 raw.build_string) (from_layout_4 info)
 
--- from layout 4 on, with flag 0x100
 unfoldable pub dbg_bld_str : RawMiscInfo → Option (List ℕ)
-dbg_bld_str (MiscInfo raw) = None
-dbg_bld_str (MiscInfo2 raw) = None
-dbg_bld_str (MiscInfo3 raw) = None
-dbg_bld_str (MiscInfo4 raw) = where_set raw.flags1 0x100 raw.dbg_bld_str
-dbg_bld_str (MiscInfo5 raw) = where_set raw.flags1 0x100 raw.dbg_bld_str
+dbg_bld_str info = option_and_then (λ raw. where_set raw.flags1 0x100 raw.dbg_bld_str) (from_layout_4 info)
 
--- from layout 5 on
+-- the fields that layout 5 adds
 unfoldable pub xstate_data : RawMiscInfo → Option XSTATE_CONFIG_FEATURE_MSC_INFO
-xstate_data (MiscInfo raw) = None
-xstate_data (MiscInfo2 raw) = None
-xstate_data (MiscInfo3 raw) = None
-xstate_data (MiscInfo4 raw) = None
-xstate_data (MiscInfo5 raw) = Some raw.xstate_data
+xstate_data info = option_and_then (λ raw. Some raw.xstate_data) (from_layout_5 info)
 
--- from layout 5 on, with flag 0x200
 unfoldable pub process_cookie : RawMiscInfo → Option ℕ
-process_cookie (MiscInfo raw) = None
-process_cookie (MiscInfo2 raw) = None
-process_cookie (MiscInfo3 raw) = None
-process_cookie (MiscInfo4 raw) = None
-process_cookie (MiscInfo5 raw) = where_set raw.flags1 0x200 raw.process_cookie
+process_cookie info = option_and_then (λ raw. where_set raw.flags1 0x200 raw.process_cookie) (from_layout_5 info)
 
 -- The printed text, line by line. A field that is absent is `(invalid)`.
 
@@ -294,32 +241,23 @@ shown_units units = or_invalid (λ text. text) (text_before_nul units)
 unfoldable pub bias_line : List ℕ → ℤ → List ℕ
 bias_line words bias = concat (words ∷ signed_decimal bias ∷ codes "\n" ∷ [])
 
--- its standard and its daylight time: a name, and a date as text
-unfoldable pub standard_lines : List ℕ → List ℕ → List ℕ
-standard_lines name date = concat (
-    codes "    standard_name = " ∷ name ∷ codes "\n"
-    ∷ codes "    standard_date = " ∷ date ∷ codes "\n"
-    ∷ [])
-
-unfoldable pub daylight_lines : List ℕ → List ℕ → List ℕ
-daylight_lines name date = concat (
-    codes "    daylight_name = " ∷ name ∷ codes "\n"
-    ∷ codes "    daylight_date = " ∷ date ∷ codes "\n"
-    ∷ [])
+-- two lines, each a label and a text
+unfoldable pub two_lines : List ℕ → List ℕ → List ℕ → List ℕ → List ℕ
+two_lines label text next_label next_text = concat (label ∷ text ∷ codes "\n" ∷ next_label ∷ next_text ∷ codes "\n" ∷ [])
 
 -- the lines of a time zone
 unfoldable pub zone_lines : TIME_ZONE_INFORMATION → List ℕ
 zone_lines z =
     bias_line (codes "\n    bias          = ") z.bias
-    ++ (standard_lines (shown_units z.standard_name) (system_time_text z.standard_date)
+    ++ (two_lines (codes "    standard_name = ") (shown_units z.standard_name) (codes "    standard_date = ") (system_time_text z.standard_date)
     ++ (bias_line (codes "    standard_bias = ") z.standard_bias
-    ++ (daylight_lines (shown_units z.daylight_name) (system_time_text z.daylight_date)
+    ++ (two_lines (codes "    daylight_name = ") (shown_units z.daylight_name) (codes "    daylight_date = ") (system_time_text z.daylight_date)
     ++ bias_line (codes "    daylight_bias = ") z.daylight_bias)))
 
 abbrev pub time_zone_text : RawMiscInfo → List ℕ
 time_zone_text raw = codes "  time_zone                    = " ++ lines_or_invalid zone_lines (time_zone raw)
 
--- the builds of the operating system and of the debug engine, as texts
+-- the builds of the operating system and of the library that wrote the dump
 unfoldable pub lines_of_builds : List ℕ → List ℕ → List ℕ
 lines_of_builds build debug_build = concat (
     codes "  build_string                 = " ∷ build ∷ codes "\n"

@@ -9,18 +9,22 @@ use Rattle.minidump_system.specs.System.{System}
 abbrev pub Meaning : Type 0 → Type 0
 Meaning V = Endian → List ℕ → List ℕ → Option System → Result V Error
 
--- the table of a type of stream, whose struct is S: its name; its value without addresses, as callers see it; what its bytes mean; the most
--- reads, by n, where neither its bytes nor those of the file are more than n; the fewest reads of one that is read, by the byte order, its
--- bytes and its value; and where memory may run out
+-- the table of a type of stream whose struct is S
 pub record StreamSpec (S V : Type 0) : Type 1 where
+  -- its name
   pub stream_type : MINIDUMP_STREAM_TYPE
+  -- the value of a struct, without addresses, as callers see it
   pub value : S → V
+  -- what the bytes of a stream mean
   pub meaning : Meaning V
+  -- the most reads, by the length of the stream or of the file, whichever is longer
   pub most : ℕ → ℕ
+  -- the fewest reads of a stream that is read without an error, by the byte order, its bytes and its value
   pub fewest : Endian → List ℕ → V → ℕ
+  -- where an allocation may fail, by the byte order and the bytes
   pub memory : Endian → List ℕ → Type 0
 
--- two tables say the same of a type of stream
+-- two tables are the same, field by field
 pub record IsSame {S V : Type 0} (one other : StreamSpec S V) : Type 0 where
   pub stream_type : one.stream_type ≡ other.stream_type
   pub value : one.value ≡ other.value
@@ -29,10 +33,10 @@ pub record IsSame {S V : Type 0} (one other : StreamSpec S V) : Type 0 where
   pub fewest : one.fewest ≡ other.fewest
   pub memory : (order : Endian) (bytes : List ℕ) → one.memory order bytes ↔ other.memory order bytes
 
--- seven more than there are bytes
+-- seven more than the number of bytes
 abbrev pub linear : ℕ → ℕ
 linear n = n + 7
 
--- about the square of the bytes
+-- about the square of the number of bytes
 abbrev pub square : ℕ → ℕ
 square n = (n + 8) * (n + 8) - 1

@@ -8,7 +8,7 @@ use std::alloc::{AllocError, Global};
 
 /// Describes the processor by its level, its revision and the CPU bytes of the system information.
 /// Returns `Ok(None)` if the architecture has no description.
-pub(crate) fn made_cpu_info(
+pub(crate) fn format_cpu_info(
     alloc: Global,
     cpu: Cpu,
     level: u16,

@@ -16,11 +16,11 @@ pub fn date_text(alloc: Global, seconds: u32) -> Result<String, Error>
     ensures counted { IfOk result (λ t. string_bytes t ≡ date_text_of seconds) }
     ensures memory { IsOkUnless result Error.OutOfMemory }
 {
-    Ok(made_date(alloc, seconds)?)
+    Ok(format_date(alloc, seconds)?)
 }
 
-/// Makes the text of [`date_text`].
-pub(crate) fn made_date(alloc: Global, seconds: u32) -> Result<String, AllocError>
+/// Formats a date as [`date_text`] does.
+pub(crate) fn format_date(alloc: Global, seconds: u32) -> Result<String, AllocError>
     ensures civil { IfOk result (λ t. IsDateText seconds (string_bytes t)) }
     ensures counted { IfOk result (λ t. string_bytes t ≡ date_text_of seconds) }
 {
@@ -31,7 +31,7 @@ pub(crate) fn made_date(alloc: Global, seconds: u32) -> Result<String, AllocErro
 
 /// Writes a date and time as `0000-11-01T02:33:51.123Z`, or `<invalid date>` if the calendar or the clock
 /// doesn't have it.
-pub(crate) fn made_system_time(alloc: Global, time: &SYSTEMTIME) -> Result<String, AllocError>
+pub(crate) fn format_system_time(alloc: Global, time: &SYSTEMTIME) -> Result<String, AllocError>
     ensures { IfOk result (λ t. string_bytes t ≡ system_time_text time.now) }
 {
     match civil_of(time) {
@@ -40,7 +40,8 @@ pub(crate) fn made_system_time(alloc: Global, time: &SYSTEMTIME) -> Result<Strin
     }
 }
 
-// The bounds come before the casts, which would keep the low bits alone.
+// Returns the date and time, or `None` if the calendar or the clock doesn't have it. The bounds are tested
+// before the casts, which keep the low bits alone.
 fn civil_of(time: &SYSTEMTIME) -> Option<DateTime>
     ensures { MatchOption result (is_moment time.now ≡ false)
         (λ date. (is_moment time.now ≡ true) × IsMomentOf time.now date) }

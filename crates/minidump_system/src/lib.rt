@@ -29,7 +29,7 @@
 //! - Names, widths, versions, builds and dates: `Os`, `Cpu`, `PointerWidth`, `os_parts`, `date_text`. Dates are
 //!   those of the calendar: `laws::dates_are_the_calendars`. Both prints, byte by byte: `print`.
 //!
-//! What isn't: that a `read` counts on the counter that it is handed each read beyond `fewest`.
+//! What isn't: that a `read` counts each of its reads. Its clauses ask for `fewest` of them.
 #![tactic(auto)]
 
 mod cpu;

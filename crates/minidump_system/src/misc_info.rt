@@ -27,6 +27,28 @@ pub enum RawMiscInfo {
     MiscInfo5(MINIDUMP_MISC_INFO_5),
 }
 
+// A field, by the first layout that has it: `None` in a smaller layout, and where the flag isn't set.
+macro_rules! field {
+    (since 1, $($of:tt)+) => { field!(MiscInfo MiscInfo2 MiscInfo3 MiscInfo4 MiscInfo5: $($of)+;) };
+    (since 2, $($of:tt)+) => { field!(MiscInfo2 MiscInfo3 MiscInfo4 MiscInfo5: $($of)+; None) };
+    (since 3, $($of:tt)+) => { field!(MiscInfo3 MiscInfo4 MiscInfo5: $($of)+; None) };
+    (since 4, $($of:tt)+) => { field!(MiscInfo4 MiscInfo5: $($of)+; None) };
+    (since 5, $($of:tt)+) => { field!(MiscInfo5: $($of)+; None) };
+    ($($layout:ident)+: $raw:ident.$field:ident; $($smaller:ident)?) => {
+        match $raw {
+            $(RawMiscInfo::$layout(raw) => Some(&raw.$field),)+
+            $(_ => $smaller,)?
+        }
+    };
+    ($($layout:ident)+: $raw:ident.$field:ident, $flag:ident; $($smaller:ident)?) => {{
+        let (flags1, field) = match $raw {
+            $(RawMiscInfo::$layout(raw) => (raw.flags1, &raw.$field),)+
+            $(_ => return $smaller,)?
+        };
+        where_set(flags1, MiscInfoFlags::$flag, field)
+    }};
+}
+
 /// The fields, each `None` if the layout doesn't have it or its flag isn't set.
 impl RawMiscInfo {
     /// Returns the size of the record as its writer states it. It does not decide the layout.
@@ -34,13 +56,7 @@ impl RawMiscInfo {
     pub fn size_of_info(&self) -> Option<&u32>
         ensures { option_copied result ≡ size_of_info self.now }
     {
-        match self {
-            RawMiscInfo::MiscInfo(raw) => Some(&raw.size_of_info),
-            RawMiscInfo::MiscInfo2(raw) => Some(&raw.size_of_info),
-            RawMiscInfo::MiscInfo3(raw) => Some(&raw.size_of_info),
-            RawMiscInfo::MiscInfo4(raw) => Some(&raw.size_of_info),
-            RawMiscInfo::MiscInfo5(raw) => Some(&raw.size_of_info),
-        }
+        field!(since 1, self.size_of_info)
     }
 
     /// Returns the flags of the fields that are set, as the number of [`MiscInfoFlags`].
@@ -48,13 +64,7 @@ impl RawMiscInfo {
     pub fn flags1(&self) -> Option<&u32>
         ensures { option_copied result ≡ flags1 self.now }
     {
-        match self {
-            RawMiscInfo::MiscInfo(raw) => Some(&raw.flags1),
-            RawMiscInfo::MiscInfo2(raw) => Some(&raw.flags1),
-            RawMiscInfo::MiscInfo3(raw) => Some(&raw.flags1),
-            RawMiscInfo::MiscInfo4(raw) => Some(&raw.flags1),
-            RawMiscInfo::MiscInfo5(raw) => Some(&raw.flags1),
-        }
+        field!(since 1, self.flags1)
     }
 
     /// Returns the id of the process.
@@ -62,14 +72,7 @@ impl RawMiscInfo {
     pub fn process_id(&self) -> Option<&u32>
         ensures { option_copied result ≡ process_id self.now }
     {
-        let (flags1, field) = match self {
-            RawMiscInfo::MiscInfo(raw) => (raw.flags1, &raw.process_id),
-            RawMiscInfo::MiscInfo2(raw) => (raw.flags1, &raw.process_id),
-            RawMiscInfo::MiscInfo3(raw) => (raw.flags1, &raw.process_id),
-            RawMiscInfo::MiscInfo4(raw) => (raw.flags1, &raw.process_id),
-            RawMiscInfo::MiscInfo5(raw) => (raw.flags1, &raw.process_id),
-        };
-        where_set(flags1, MiscInfoFlags::MINIDUMP_MISC1_PROCESS_ID, field)
+        field!(since 1, self.process_id, MINIDUMP_MISC1_PROCESS_ID)
     }
 
     /// Returns the time at which the process began, in seconds since 1970.
@@ -77,14 +80,7 @@ impl RawMiscInfo {
     pub fn process_create_time(&self) -> Option<&u32>
         ensures { option_copied result ≡ process_create_time self.now }
     {
-        let (flags1, field) = match self {
-            RawMiscInfo::MiscInfo(raw) => (raw.flags1, &raw.process_create_time),
-            RawMiscInfo::MiscInfo2(raw) => (raw.flags1, &raw.process_create_time),
-            RawMiscInfo::MiscInfo3(raw) => (raw.flags1, &raw.process_create_time),
-            RawMiscInfo::MiscInfo4(raw) => (raw.flags1, &raw.process_create_time),
-            RawMiscInfo::MiscInfo5(raw) => (raw.flags1, &raw.process_create_time),
-        };
-        where_set(flags1, MiscInfoFlags::MINIDUMP_MISC1_PROCESS_TIMES, field)
+        field!(since 1, self.process_create_time, MINIDUMP_MISC1_PROCESS_TIMES)
     }
 
     /// Returns the time for which the process ran in user mode, in seconds.
@@ -92,14 +88,7 @@ impl RawMiscInfo {
     pub fn process_user_time(&self) -> Option<&u32>
         ensures { option_copied result ≡ process_user_time self.now }
     {
-        let (flags1, field) = match self {
-            RawMiscInfo::MiscInfo(raw) => (raw.flags1, &raw.process_user_time),
-            RawMiscInfo::MiscInfo2(raw) => (raw.flags1, &raw.process_user_time),
-            RawMiscInfo::MiscInfo3(raw) => (raw.flags1, &raw.process_user_time),
-            RawMiscInfo::MiscInfo4(raw) => (raw.flags1, &raw.process_user_time),
-            RawMiscInfo::MiscInfo5(raw) => (raw.flags1, &raw.process_user_time),
-        };
-        where_set(flags1, MiscInfoFlags::MINIDUMP_MISC1_PROCESS_TIMES, field)
+        field!(since 1, self.process_user_time, MINIDUMP_MISC1_PROCESS_TIMES)
     }
 
     /// Returns the time for which the process ran in kernel mode, in seconds.
@@ -107,14 +96,7 @@ impl RawMiscInfo {
     pub fn process_kernel_time(&self) -> Option<&u32>
         ensures { option_copied result ≡ process_kernel_time self.now }
     {
-        let (flags1, field) = match self {
-            RawMiscInfo::MiscInfo(raw) => (raw.flags1, &raw.process_kernel_time),
-            RawMiscInfo::MiscInfo2(raw) => (raw.flags1, &raw.process_kernel_time),
-            RawMiscInfo::MiscInfo3(raw) => (raw.flags1, &raw.process_kernel_time),
-            RawMiscInfo::MiscInfo4(raw) => (raw.flags1, &raw.process_kernel_time),
-            RawMiscInfo::MiscInfo5(raw) => (raw.flags1, &raw.process_kernel_time),
-        };
-        where_set(flags1, MiscInfoFlags::MINIDUMP_MISC1_PROCESS_TIMES, field)
+        field!(since 1, self.process_kernel_time, MINIDUMP_MISC1_PROCESS_TIMES)
     }
 
     /// Returns the processor's highest clock rate in MHz.
@@ -122,18 +104,7 @@ impl RawMiscInfo {
     pub fn processor_max_mhz(&self) -> Option<&u32>
         ensures { option_copied result ≡ processor_max_mhz self.now }
     {
-        let (flags1, field) = match self {
-            RawMiscInfo::MiscInfo2(raw) => (raw.flags1, &raw.processor_max_mhz),
-            RawMiscInfo::MiscInfo3(raw) => (raw.flags1, &raw.processor_max_mhz),
-            RawMiscInfo::MiscInfo4(raw) => (raw.flags1, &raw.processor_max_mhz),
-            RawMiscInfo::MiscInfo5(raw) => (raw.flags1, &raw.processor_max_mhz),
-            _ => return None,
-        };
-        where_set(
-            flags1,
-            MiscInfoFlags::MINIDUMP_MISC1_PROCESSOR_POWER_INFO,
-            field,
-        )
+        field!(since 2, self.processor_max_mhz, MINIDUMP_MISC1_PROCESSOR_POWER_INFO)
     }
 
     /// Returns the processor's current clock rate in MHz.
@@ -141,18 +112,7 @@ impl RawMiscInfo {
     pub fn processor_current_mhz(&self) -> Option<&u32>
         ensures { option_copied result ≡ processor_current_mhz self.now }
     {
-        let (flags1, field) = match self {
-            RawMiscInfo::MiscInfo2(raw) => (raw.flags1, &raw.processor_current_mhz),
-            RawMiscInfo::MiscInfo3(raw) => (raw.flags1, &raw.processor_current_mhz),
-            RawMiscInfo::MiscInfo4(raw) => (raw.flags1, &raw.processor_current_mhz),
-            RawMiscInfo::MiscInfo5(raw) => (raw.flags1, &raw.processor_current_mhz),
-            _ => return None,
-        };
-        where_set(
-            flags1,
-            MiscInfoFlags::MINIDUMP_MISC1_PROCESSOR_POWER_INFO,
-            field,
-        )
+        field!(since 2, self.processor_current_mhz, MINIDUMP_MISC1_PROCESSOR_POWER_INFO)
     }
 
     /// Returns the processor's clock rate limit in MHz.
@@ -160,18 +120,7 @@ impl RawMiscInfo {
     pub fn processor_mhz_limit(&self) -> Option<&u32>
         ensures { option_copied result ≡ processor_mhz_limit self.now }
     {
-        let (flags1, field) = match self {
-            RawMiscInfo::MiscInfo2(raw) => (raw.flags1, &raw.processor_mhz_limit),
-            RawMiscInfo::MiscInfo3(raw) => (raw.flags1, &raw.processor_mhz_limit),
-            RawMiscInfo::MiscInfo4(raw) => (raw.flags1, &raw.processor_mhz_limit),
-            RawMiscInfo::MiscInfo5(raw) => (raw.flags1, &raw.processor_mhz_limit),
-            _ => return None,
-        };
-        where_set(
-            flags1,
-            MiscInfoFlags::MINIDUMP_MISC1_PROCESSOR_POWER_INFO,
-            field,
-        )
+        field!(since 2, self.processor_mhz_limit, MINIDUMP_MISC1_PROCESSOR_POWER_INFO)
     }
 
     /// Returns the processor's highest idle state.
@@ -179,18 +128,7 @@ impl RawMiscInfo {
     pub fn processor_max_idle_state(&self) -> Option<&u32>
         ensures { option_copied result ≡ processor_max_idle_state self.now }
     {
-        let (flags1, field) = match self {
-            RawMiscInfo::MiscInfo2(raw) => (raw.flags1, &raw.processor_max_idle_state),
-            RawMiscInfo::MiscInfo3(raw) => (raw.flags1, &raw.processor_max_idle_state),
-            RawMiscInfo::MiscInfo4(raw) => (raw.flags1, &raw.processor_max_idle_state),
-            RawMiscInfo::MiscInfo5(raw) => (raw.flags1, &raw.processor_max_idle_state),
-            _ => return None,
-        };
-        where_set(
-            flags1,
-            MiscInfoFlags::MINIDUMP_MISC1_PROCESSOR_POWER_INFO,
-            field,
-        )
+        field!(since 2, self.processor_max_idle_state, MINIDUMP_MISC1_PROCESSOR_POWER_INFO)
     }
 
     /// Returns the processor's current idle state.
@@ -198,18 +136,7 @@ impl RawMiscInfo {
     pub fn processor_current_idle_state(&self) -> Option<&u32>
         ensures { option_copied result ≡ processor_current_idle_state self.now }
     {
-        let (flags1, field) = match self {
-            RawMiscInfo::MiscInfo2(raw) => (raw.flags1, &raw.processor_current_idle_state),
-            RawMiscInfo::MiscInfo3(raw) => (raw.flags1, &raw.processor_current_idle_state),
-            RawMiscInfo::MiscInfo4(raw) => (raw.flags1, &raw.processor_current_idle_state),
-            RawMiscInfo::MiscInfo5(raw) => (raw.flags1, &raw.processor_current_idle_state),
-            _ => return None,
-        };
-        where_set(
-            flags1,
-            MiscInfoFlags::MINIDUMP_MISC1_PROCESSOR_POWER_INFO,
-            field,
-        )
+        field!(since 2, self.processor_current_idle_state, MINIDUMP_MISC1_PROCESSOR_POWER_INFO)
     }
 
     /// Returns the integrity level of the process.
@@ -217,17 +144,7 @@ impl RawMiscInfo {
     pub fn process_integrity_level(&self) -> Option<&u32>
         ensures { option_copied result ≡ process_integrity_level self.now }
     {
-        let (flags1, field) = match self {
-            RawMiscInfo::MiscInfo3(raw) => (raw.flags1, &raw.process_integrity_level),
-            RawMiscInfo::MiscInfo4(raw) => (raw.flags1, &raw.process_integrity_level),
-            RawMiscInfo::MiscInfo5(raw) => (raw.flags1, &raw.process_integrity_level),
-            _ => return None,
-        };
-        where_set(
-            flags1,
-            MiscInfoFlags::MINIDUMP_MISC3_PROCESS_INTEGRITY,
-            field,
-        )
+        field!(since 3, self.process_integrity_level, MINIDUMP_MISC3_PROCESS_INTEGRITY)
     }
 
     /// Returns the execute flags of the process.
@@ -235,17 +152,7 @@ impl RawMiscInfo {
     pub fn process_execute_flags(&self) -> Option<&u32>
         ensures { option_copied result ≡ process_execute_flags self.now }
     {
-        let (flags1, field) = match self {
-            RawMiscInfo::MiscInfo3(raw) => (raw.flags1, &raw.process_execute_flags),
-            RawMiscInfo::MiscInfo4(raw) => (raw.flags1, &raw.process_execute_flags),
-            RawMiscInfo::MiscInfo5(raw) => (raw.flags1, &raw.process_execute_flags),
-            _ => return None,
-        };
-        where_set(
-            flags1,
-            MiscInfoFlags::MINIDUMP_MISC3_PROCESS_EXECUTE_FLAGS,
-            field,
-        )
+        field!(since 3, self.process_execute_flags, MINIDUMP_MISC3_PROCESS_EXECUTE_FLAGS)
     }
 
     /// Returns whether the process is protected, as a number.
@@ -253,17 +160,7 @@ impl RawMiscInfo {
     pub fn protected_process(&self) -> Option<&u32>
         ensures { option_copied result ≡ protected_process self.now }
     {
-        let (flags1, field) = match self {
-            RawMiscInfo::MiscInfo3(raw) => (raw.flags1, &raw.protected_process),
-            RawMiscInfo::MiscInfo4(raw) => (raw.flags1, &raw.protected_process),
-            RawMiscInfo::MiscInfo5(raw) => (raw.flags1, &raw.protected_process),
-            _ => return None,
-        };
-        where_set(
-            flags1,
-            MiscInfoFlags::MINIDUMP_MISC3_PROTECTED_PROCESS,
-            field,
-        )
+        field!(since 3, self.protected_process, MINIDUMP_MISC3_PROTECTED_PROCESS)
     }
 
     /// Returns the time zone id: 0 no daylight saving time, 1 standard time, 2 daylight saving time.
@@ -271,13 +168,7 @@ impl RawMiscInfo {
     pub fn time_zone_id(&self) -> Option<&u32>
         ensures { option_copied result ≡ time_zone_id self.now }
     {
-        let (flags1, field) = match self {
-            RawMiscInfo::MiscInfo3(raw) => (raw.flags1, &raw.time_zone_id),
-            RawMiscInfo::MiscInfo4(raw) => (raw.flags1, &raw.time_zone_id),
-            RawMiscInfo::MiscInfo5(raw) => (raw.flags1, &raw.time_zone_id),
-            _ => return None,
-        };
-        where_set(flags1, MiscInfoFlags::MINIDUMP_MISC3_TIMEZONE, field)
+        field!(since 3, self.time_zone_id, MINIDUMP_MISC3_TIMEZONE)
     }
 
     /// Returns the time zone.
@@ -285,13 +176,7 @@ impl RawMiscInfo {
     pub fn time_zone(&self) -> Option<&TIME_ZONE_INFORMATION>
         ensures { option_copied result ≡ time_zone self.now }
     {
-        let (flags1, field) = match self {
-            RawMiscInfo::MiscInfo3(raw) => (raw.flags1, &raw.time_zone),
-            RawMiscInfo::MiscInfo4(raw) => (raw.flags1, &raw.time_zone),
-            RawMiscInfo::MiscInfo5(raw) => (raw.flags1, &raw.time_zone),
-            _ => return None,
-        };
-        where_set(flags1, MiscInfoFlags::MINIDUMP_MISC3_TIMEZONE, field)
+        field!(since 3, self.time_zone, MINIDUMP_MISC3_TIMEZONE)
     }
 
     /// Returns the build of the operating system, in UTF-16, up to the first 0.
@@ -299,12 +184,7 @@ impl RawMiscInfo {
     pub fn build_string(&self) -> Option<&[u16; 260]>
         ensures { option_copied result ≡ build_string self.now }
     {
-        let (flags1, field) = match self {
-            RawMiscInfo::MiscInfo4(raw) => (raw.flags1, &raw.build_string),
-            RawMiscInfo::MiscInfo5(raw) => (raw.flags1, &raw.build_string),
-            _ => return None,
-        };
-        where_set(flags1, MiscInfoFlags::MINIDUMP_MISC4_BUILDSTRING, field)
+        field!(since 4, self.build_string, MINIDUMP_MISC4_BUILDSTRING)
     }
 
     /// Returns the build of the library that wrote the dump, in UTF-16, up to the first 0.
@@ -312,12 +192,7 @@ impl RawMiscInfo {
     pub fn dbg_bld_str(&self) -> Option<&[u16; 40]>
         ensures { option_copied result ≡ dbg_bld_str self.now }
     {
-        let (flags1, field) = match self {
-            RawMiscInfo::MiscInfo4(raw) => (raw.flags1, &raw.dbg_bld_str),
-            RawMiscInfo::MiscInfo5(raw) => (raw.flags1, &raw.dbg_bld_str),
-            _ => return None,
-        };
-        where_set(flags1, MiscInfoFlags::MINIDUMP_MISC4_BUILDSTRING, field)
+        field!(since 4, self.dbg_bld_str, MINIDUMP_MISC4_BUILDSTRING)
     }
 
     /// Returns the layout of the processor's extended state.
@@ -325,10 +200,7 @@ impl RawMiscInfo {
     pub fn xstate_data(&self) -> Option<&XSTATE_CONFIG_FEATURE_MSC_INFO>
         ensures { option_copied result ≡ xstate_data self.now }
     {
-        match self {
-            RawMiscInfo::MiscInfo5(raw) => Some(&raw.xstate_data),
-            _ => None,
-        }
+        field!(since 5, self.xstate_data)
     }
 
     /// Returns the cookie of the process.
@@ -336,11 +208,7 @@ impl RawMiscInfo {
     pub fn process_cookie(&self) -> Option<&u32>
         ensures { option_copied result ≡ process_cookie self.now }
     {
-        let (flags1, field) = match self {
-            RawMiscInfo::MiscInfo5(raw) => (raw.flags1, &raw.process_cookie),
-            _ => return None,
-        };
-        where_set(flags1, MiscInfoFlags::MINIDUMP_MISC5_PROCESS_COOKIE, field)
+        field!(since 5, self.process_cookie, MINIDUMP_MISC5_PROCESS_COOKIE)
     }
 }
 
@@ -391,7 +259,7 @@ impl<'a> MinidumpStream<'a> for MinidumpMiscInfo {
     }
 }
 
-// The largest layout that the bytes hold.
+// Reads the record in the largest layout that the bytes hold.
 fn read_raw(bytes: Source<'_>, endian: Endian, steps: &mut Steps) -> Option<RawMiscInfo>
     ensures value { result ≡ largest_layout endian (bytes_of bytes.entry) }
     ensures within { steps.new ≤ steps.old + 5 }
@@ -458,7 +326,7 @@ fn read_1(bytes: Source<'_>, endian: Endian, steps: &mut Steps) -> Option<RawMis
     bytes.record(0, endian, steps).map(RawMiscInfo::MiscInfo)
 }
 
-// A field, where its flag is set.
+// Returns a field, or `None` if its flag isn't set.
 fn where_set<T>(flags1: u32, flag: MiscInfoFlags, field: &T) -> Option<&T>
     requires { bit_and 0x3f7 flag.0 ≡ flag.0 }
     ensures { option_copied result ≡ where_set flags1 flag.0 field.now }

@@ -7,7 +7,7 @@ ghost use Rattle.minidump_format.specs.Print.{Prints};
 ghost use Rattle.minidump_system.specs.OsParts.{os_parts_of};
 ghost use Rattle.minidump_system.specs.SystemInfo.{names_text, numbers_text, system_info_stream, system_info_text, system_info_of, system_read};
 
-use crate::cpu_info::made_cpu_info;
+use crate::cpu_info::format_cpu_info;
 use crate::os_parts::os_parts;
 use crate::{Cpu, MinidumpStream, Os};
 use minidump_bytes::{Endian, Piece, Source, Steps, Told, copied, push_pieces};
@@ -50,7 +50,7 @@ impl MinidumpSystemInfo {
             .ok_or(Error::StreamReadFailure)?;
         let cpu = Cpu::from_processor_architecture(raw.processor_architecture);
         let csd_version = all.text16(alloc, raw.csd_version_rva as u64, endian, steps)?;
-        let cpu_info = made_cpu_info(
+        let cpu_info = format_cpu_info(
             alloc,
             cpu,
             raw.processor_level,
@@ -107,7 +107,7 @@ impl MinidumpSystemInfo {
     pub fn print<W: Write>(&self, alloc: Global, f: &mut Told<W>) -> Result<(), Error>
         ensures { Prints W.contents f.old f.new (system_info_text (system_info_of self.now)) result }
     {
-        put_made(f, made_text(alloc, self))
+        put_made(f, format_text(alloc, self))
     }
 
     /// Copies the system information. The only error is `OutOfMemory`.
@@ -153,7 +153,7 @@ impl<'a> MinidumpStream<'a> for MinidumpSystemInfo {
     }
 }
 
-fn made_text(alloc: Global, system: &MinidumpSystemInfo) -> Result<String, AllocError>
+fn format_text(alloc: Global, system: &MinidumpSystemInfo) -> Result<String, AllocError>
     ensures { IfOk result (λ t. string_bytes t ≡ system_info_text (system_info_of system.now)) }
 {
     let mut text = String::new(alloc);

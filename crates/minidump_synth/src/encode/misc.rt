@@ -6,30 +6,54 @@ use minidump_format::format::{
     XSTATE_FEATURE,
 };
 
+// Writes the fields of a layout: those of the one before it, and its own.
+macro_rules! fields {
+    (1, $raw:ident, $into:ident) => {
+        $into
+            .u32($raw.size_of_info)
+            .u32($raw.flags1)
+            .u32($raw.process_id)
+            .u32($raw.process_create_time)
+            .u32($raw.process_user_time)
+            .u32($raw.process_kernel_time)
+    };
+    (2, $raw:ident, $into:ident) => {
+        fields!(1, $raw, $into)
+            .u32($raw.processor_max_mhz)
+            .u32($raw.processor_current_mhz)
+            .u32($raw.processor_mhz_limit)
+            .u32($raw.processor_max_idle_state)
+            .u32($raw.processor_current_idle_state)
+    };
+    (3, $raw:ident, $into:ident) => {
+        fields!(2, $raw, $into)
+            .u32($raw.process_integrity_level)
+            .u32($raw.process_execute_flags)
+            .u32($raw.protected_process)
+            .u32($raw.time_zone_id)
+            .record(&$raw.time_zone)
+    };
+    (4, $raw:ident, $into:ident) => {
+        fields!(3, $raw, $into)
+            .records(&$raw.build_string)
+            .records(&$raw.dbg_bld_str)
+    };
+    (5, $raw:ident, $into:ident) => {
+        fields!(4, $raw, $into)
+            .record(&$raw.xstate_data)
+            .u32($raw.process_cookie)
+    };
+}
+
 impl Encode for MINIDUMP_MISC_INFO {
     fn encode(&self, into: &mut Section) {
-        into.u32(self.size_of_info)
-            .u32(self.flags1)
-            .u32(self.process_id)
-            .u32(self.process_create_time)
-            .u32(self.process_user_time)
-            .u32(self.process_kernel_time);
+        fields!(1, self, into);
     }
 }
 
 impl Encode for MINIDUMP_MISC_INFO_2 {
     fn encode(&self, into: &mut Section) {
-        into.u32(self.size_of_info)
-            .u32(self.flags1)
-            .u32(self.process_id)
-            .u32(self.process_create_time)
-            .u32(self.process_user_time)
-            .u32(self.process_kernel_time)
-            .u32(self.processor_max_mhz)
-            .u32(self.processor_current_mhz)
-            .u32(self.processor_mhz_limit)
-            .u32(self.processor_max_idle_state)
-            .u32(self.processor_current_idle_state);
+        fields!(2, self, into);
     }
 }
 
@@ -60,45 +84,13 @@ impl Encode for TIME_ZONE_INFORMATION {
 
 impl Encode for MINIDUMP_MISC_INFO_3 {
     fn encode(&self, into: &mut Section) {
-        into.u32(self.size_of_info)
-            .u32(self.flags1)
-            .u32(self.process_id)
-            .u32(self.process_create_time)
-            .u32(self.process_user_time)
-            .u32(self.process_kernel_time)
-            .u32(self.processor_max_mhz)
-            .u32(self.processor_current_mhz)
-            .u32(self.processor_mhz_limit)
-            .u32(self.processor_max_idle_state)
-            .u32(self.processor_current_idle_state)
-            .u32(self.process_integrity_level)
-            .u32(self.process_execute_flags)
-            .u32(self.protected_process)
-            .u32(self.time_zone_id)
-            .record(&self.time_zone);
+        fields!(3, self, into);
     }
 }
 
 impl Encode for MINIDUMP_MISC_INFO_4 {
     fn encode(&self, into: &mut Section) {
-        into.u32(self.size_of_info)
-            .u32(self.flags1)
-            .u32(self.process_id)
-            .u32(self.process_create_time)
-            .u32(self.process_user_time)
-            .u32(self.process_kernel_time)
-            .u32(self.processor_max_mhz)
-            .u32(self.processor_current_mhz)
-            .u32(self.processor_mhz_limit)
-            .u32(self.processor_max_idle_state)
-            .u32(self.processor_current_idle_state)
-            .u32(self.process_integrity_level)
-            .u32(self.process_execute_flags)
-            .u32(self.protected_process)
-            .u32(self.time_zone_id)
-            .record(&self.time_zone)
-            .records(&self.build_string)
-            .records(&self.dbg_bld_str);
+        fields!(4, self, into);
     }
 }
 
@@ -119,25 +111,6 @@ impl Encode for XSTATE_CONFIG_FEATURE_MSC_INFO {
 
 impl Encode for MINIDUMP_MISC_INFO_5 {
     fn encode(&self, into: &mut Section) {
-        into.u32(self.size_of_info)
-            .u32(self.flags1)
-            .u32(self.process_id)
-            .u32(self.process_create_time)
-            .u32(self.process_user_time)
-            .u32(self.process_kernel_time)
-            .u32(self.processor_max_mhz)
-            .u32(self.processor_current_mhz)
-            .u32(self.processor_mhz_limit)
-            .u32(self.processor_max_idle_state)
-            .u32(self.processor_current_idle_state)
-            .u32(self.process_integrity_level)
-            .u32(self.process_execute_flags)
-            .u32(self.protected_process)
-            .u32(self.time_zone_id)
-            .record(&self.time_zone)
-            .records(&self.build_string)
-            .records(&self.dbg_bld_str)
-            .record(&self.xstate_data)
-            .u32(self.process_cookie);
+        fields!(5, self, into);
     }
 }

@@ -6,13 +6,14 @@ ghost use Rattle.minidump_bytes.specs.Text16.{text_before_nul};
 ghost use Rattle.minidump_format.specs.Print.{Prints};
 ghost use Rattle.minidump_format.specs.Xstate.{xstate_features, feature_of};
 ghost use Rattle.minidump_system.specs.Dates.{system_time_text};
-ghost use Rattle.minidump_system.specs.MiscInfo.{head_text, create_time_line, create_time_text, times_text, processor_text, policy_text, zone_lines, bias_line, standard_lines, daylight_lines, time_zone_text, shown_units, lines_of_builds, builds_text, feature_name, feature_text, feature_lines, xstate_text, cookie_text, process_text, misc_info_of, settings_text, misc_info_text};
+ghost use Rattle.minidump_system.specs.MiscInfo.{head_text, create_time_line, create_time_text, times_text, processor_text, policy_text, zone_lines, bias_line, two_lines, lines_of_builds, time_zone_text, shown_units, builds_text, feature_name, feature_text, feature_lines, xstate_text, cookie_text, process_text, misc_info_of, settings_text, misc_info_text};
 
-use crate::dates::{made_date, made_system_time};
+use crate::dates::{format_date, format_system_time};
 use crate::{MinidumpMiscInfo, RawMiscInfo};
 use minidump_bytes::{Piece, Told, push_pieces, text_before_nul};
 use minidump_format::format::{
-    TIME_ZONE_INFORMATION, XSTATE_CONFIG_FEATURE_MSC_INFO, XSTATE_FEATURE, XstateFeatureIndex,
+    SYSTEMTIME, TIME_ZONE_INFORMATION, XSTATE_CONFIG_FEATURE_MSC_INFO, XSTATE_FEATURE,
+    XstateFeatureIndex,
 };
 use minidump_format::{Error, put_made};
 use std::alloc::{AllocError, Global};
@@ -23,11 +24,11 @@ impl MinidumpMiscInfo {
     pub fn print<W: Write>(&self, alloc: Global, f: &mut Told<W>) -> Result<(), Error>
         ensures { Prints W.contents f.old f.new (misc_info_text (misc_info_of self.now)) result }
     {
-        put_made(f, made_text(alloc, &self.raw))
+        put_made(f, format_text(alloc, &self.raw))
     }
 }
 
-fn made_text(alloc: Global, raw: &RawMiscInfo) -> Result<String, AllocError>
+fn format_text(alloc: Global, raw: &RawMiscInfo) -> Result<String, AllocError>
     ensures { IfOk result (λ t. string_bytes t ≡ misc_info_text raw.now) }
 {
     let mut text = String::new(alloc);
@@ -145,7 +146,7 @@ fn push_create_time(alloc: Global, out: &mut String, raw: &RawMiscInfo) -> Resul
 fn push_date(alloc: Global, out: &mut String, seconds: u32) -> Result<(), AllocError>
     ensures { OnOk result (string_bytes out.new ≡ string_bytes out.old ++ create_time_line seconds) }
 {
-    let date = made_date(alloc, seconds)?;
+    let date = format_date(alloc, seconds)?;
     push_pieces(
         out,
         &[
@@ -176,9 +177,23 @@ fn push_zone(
     ensures { OnOk result (string_bytes out.new ≡ string_bytes out.old ++ zone_lines zone.now) }
 {
     push_bias(out, "\n    bias          = ", zone.bias)?;
-    push_standard(alloc, out, zone)?;
+    push_season(
+        alloc,
+        out,
+        "    standard_name = ",
+        &zone.standard_name,
+        "    standard_date = ",
+        &zone.standard_date,
+    )?;
     push_bias(out, "    standard_bias = ", zone.standard_bias)?;
-    push_daylight(alloc, out, zone)?;
+    push_season(
+        alloc,
+        out,
+        "    daylight_name = ",
+        &zone.daylight_name,
+        "    daylight_date = ",
+        &zone.daylight_date,
+    )?;
     push_bias(out, "    daylight_bias = ", zone.daylight_bias)
 }
 
@@ -192,66 +207,49 @@ fn push_bias(out: &mut String, words: &'static str, bias: i32) -> Result<(), All
     )
 }
 
-fn push_standard(
+// The name and the date of standard or of daylight saving time, each behind its label.
+fn push_season(
     alloc: Global,
     out: &mut String,
-    zone: &TIME_ZONE_INFORMATION,
+    name_label: &'static str,
+    name: &[u16],
+    date_label: &'static str,
+    date: &SYSTEMTIME,
 ) -> Result<(), AllocError>
     ensures { OnOk result (string_bytes out.new ≡ string_bytes out.old
-        ++ standard_lines (shown_units zone.now.standard_name) (system_time_text zone.now.standard_date)) }
+        ++ two_lines name_label.now (shown_units name.now) date_label.now (system_time_text date.now)) }
 {
-    let name = made_units(alloc, &zone.standard_name)?;
-    let date = made_system_time(alloc, &zone.standard_date)?;
-    push_standard_lines(out, name.as_str(), date.as_str())
+    let name = format_units(alloc, name)?;
+    let date = format_system_time(alloc, date)?;
+    push_two_lines(out, name_label, name.as_str(), date_label, date.as_str())
 }
 
-#[tactic(auto, unfolding(crate::specs::MiscInfo::standard_lines))]
-fn push_standard_lines<'t>(out: &mut String, name: &'t str, date: &'t str) -> Result<(), AllocError>
-    ensures { OnOk result (string_bytes out.new ≡ string_bytes out.old ++ standard_lines name.now date.now) }
+#[tactic(auto, unfolding(crate::specs::MiscInfo::two_lines))]
+fn push_two_lines<'t>(
+    out: &mut String,
+    label: &'t str,
+    text: &'t str,
+    next_label: &'t str,
+    next_text: &'t str,
+) -> Result<(), AllocError>
+    ensures { OnOk result (string_bytes out.new
+        ≡ string_bytes out.old ++ two_lines label.now text.now next_label.now next_text.now) }
 {
     push_pieces(
         out,
         &[
-            Piece::Words("    standard_name = "),
-            Piece::Words(name),
-            Piece::Words("\n    standard_date = "),
-            Piece::Words(date),
+            Piece::Words(label),
+            Piece::Words(text),
+            Piece::Words("\n"),
+            Piece::Words(next_label),
+            Piece::Words(next_text),
             Piece::Words("\n"),
         ],
     )
 }
 
-fn push_daylight(
-    alloc: Global,
-    out: &mut String,
-    zone: &TIME_ZONE_INFORMATION,
-) -> Result<(), AllocError>
-    ensures { OnOk result (string_bytes out.new ≡ string_bytes out.old
-        ++ daylight_lines (shown_units zone.now.daylight_name) (system_time_text zone.now.daylight_date)) }
-{
-    let name = made_units(alloc, &zone.daylight_name)?;
-    let date = made_system_time(alloc, &zone.daylight_date)?;
-    push_daylight_lines(out, name.as_str(), date.as_str())
-}
-
-#[tactic(auto, unfolding(crate::specs::MiscInfo::daylight_lines))]
-fn push_daylight_lines<'t>(out: &mut String, name: &'t str, date: &'t str) -> Result<(), AllocError>
-    ensures { OnOk result (string_bytes out.new ≡ string_bytes out.old ++ daylight_lines name.now date.now) }
-{
-    push_pieces(
-        out,
-        &[
-            Piece::Words("    daylight_name = "),
-            Piece::Words(name),
-            Piece::Words("\n    daylight_date = "),
-            Piece::Words(date),
-            Piece::Words("\n"),
-        ],
-    )
-}
-
-// The text of code units up to the first 0, or `(invalid)`.
-fn made_units(alloc: Global, units: &[u16]) -> Result<String, AllocError>
+// Formats code units up to the first 0, or as `(invalid)` if they are no text.
+fn format_units(alloc: Global, units: &[u16]) -> Result<String, AllocError>
     ensures { IfOk result (λ t. string_bytes t ≡ shown_units units.now) }
 {
     match text_before_nul(alloc, units)? {
@@ -264,11 +262,11 @@ fn push_builds(alloc: Global, out: &mut String, raw: &RawMiscInfo) -> Result<(),
     ensures { OnOk result (string_bytes out.new ≡ string_bytes out.old ++ builds_text raw.now) }
 {
     let build = match raw.build_string() {
-        Some(units) => made_units(alloc, units)?,
+        Some(units) => format_units(alloc, units)?,
         None => String::from_str(alloc, "(invalid)")?,
     };
     let debug_build = match raw.dbg_bld_str() {
-        Some(units) => made_units(alloc, units)?,
+        Some(units) => format_units(alloc, units)?,
         None => String::from_str(alloc, "(invalid)")?,
     };
     push_build_lines(out, build.as_str(), debug_build.as_str())

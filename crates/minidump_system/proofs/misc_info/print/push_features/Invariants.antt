@@ -7,4 +7,5 @@ use Rattle.minidump_system.proofs.misc_info.print.push_features.Given as goal
 
 abbrev pub invariant-loop-index : goal.invariant-loop-index
 invariant-loop-index l =
-    string_bytes l.initial.out ++ flat_map feature_text (xstate_features l.xstate) ≡ string_bytes l.out ++ flat_map feature_text (features_left l.index-iterator)
+    string_bytes l.initial.out ++ flat_map feature_text (xstate_features l.xstate)
+    ≡ string_bytes l.out ++ flat_map feature_text (features_left l.index-iterator)

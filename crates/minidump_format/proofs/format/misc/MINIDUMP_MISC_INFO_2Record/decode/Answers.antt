@@ -1,17 +1,6 @@
 -- Each field is read at its place.
+use Rattle.std.proofs.Common.{rules}
 use Rattle.minidump_format.proofs.format.misc.MINIDUMP_MISC_INFO_2Record.decode.Goals as goal
 
 pub returns : goal.returns
-returns c = λ i. record {
-  size_of_info = c.u32_at.ensures i;
-  flags1 = c.u32_at-2.ensures i;
-  process_id = c.u32_at-3.ensures i;
-  process_create_time = c.u32_at-4.ensures i;
-  process_user_time = c.u32_at-5.ensures i;
-  process_kernel_time = c.u32_at-6.ensures i;
-  processor_max_mhz = c.u32_at-7.ensures i;
-  processor_current_mhz = c.u32_at-8.ensures i;
-  processor_mhz_limit = c.u32_at-9.ensures i;
-  processor_max_idle_state = c.u32_at-10.ensures i;
-  processor_current_idle_state = c.u32_at-11.ensures i;
-}
+returns c = grind rules

@@ -2,7 +2,7 @@
 use Rattle.std.proofs.Common.{◌∙◌}
 use Rattle.std.proofs.lemmas.Result.{IfOk-weaker}
 use Rattle.minidump_system.proofs.MomentText.{moment_text_is, no_moment_text}
-use Rattle.minidump_system.proofs.dates.made_system_time.Goals as goal
+use Rattle.minidump_system.proofs.dates.format_system_time.Goals as goal
 
 pub returns-in-Some : goal.returns-in-Some
 returns-in-Some c =

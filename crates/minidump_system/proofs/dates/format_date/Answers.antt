@@ -5,7 +5,7 @@ use Rattle.std.proofs.lemmas.Int.{ints}
 use Rattle.jiff_core.specs.DateTime.{civil_nanos}
 use Rattle.jiff_tz.specs.Zone.{offset_at}
 use Rattle.minidump_system.proofs.DateText.{date_text_is}
-use Rattle.minidump_system.proofs.dates.made_date.Goals as goal
+use Rattle.minidump_system.proofs.dates.format_date.Goals as goal
 
 pub returns-clause-civil : goal.returns-clause-civil
 unfolding offset_at
