@@ -60,7 +60,7 @@ map_range m = region_range (map_info_of m)
 abbrev pub maps_of : MinidumpLinuxMaps → List MinidumpLinuxMapInfo
 maps_of l = l.regions
 
--- the same, as values
+-- the same regions, as values
 abbrev pub linux_maps_of : MinidumpLinuxMaps → List MapRegion
 linux_maps_of l = map map_info_of (maps_of l)
 
@@ -72,7 +72,7 @@ lines_of bytes = but_empty_last (split_parts 10 bytes)
 abbrev pub line_region : List ℕ → Result MapRegion Error
 line_region line = ok_or (map_line line) StreamReadFailure
 
--- Breakpad's MD_LINUX_MAPS: the regions of all lines, or the error of one
+-- Breakpad's MD_LINUX_MAPS: the regions of all lines, or the error if one is not a line of the map
 unfoldable pub linux_maps_in : List ℕ → Result (List MapRegion) Error
 linux_maps_in bytes = all_ok line_region (lines_of bytes)
 

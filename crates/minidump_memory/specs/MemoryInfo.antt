@@ -65,7 +65,7 @@ page_is_executable p = has_flag p 0x10 || has_flag p 0x20 || has_flag p 0x40 || 
 abbrev pub infos_of : MinidumpMemoryInfoList → List MinidumpMemoryInfo
 infos_of l = l.regions
 
--- the same, as values
+-- the same entries, as values
 abbrev pub memory_info_list_of : MinidumpMemoryInfoList → List MemoryInfo
 memory_info_list_of l = map info_of (infos_of l)
 

@@ -18,7 +18,7 @@ use Rattle.minidump_memory.specs.Memory.{MemoryRegion, described, memory_of, spa
 abbrev pub regions_of : {D : Type 0} → MinidumpMemoryListBase D → List (MinidumpMemoryBase D)
 regions_of l = l.regions
 
--- the same, as values
+-- the same regions, as values
 abbrev pub memory_list_of : {D : Type 0} → MinidumpMemoryListBase D → List (MemoryRegion D)
 memory_list_of l = map memory_of (regions_of l)
 

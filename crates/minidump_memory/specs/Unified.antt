@@ -37,17 +37,17 @@ abbrev pub unified_regions : UnifiedRegions → List UnifiedRegion
 unified_regions (Memory regions) = map (of_kind Memory) regions
 unified_regions (Memory64 regions) = map (of_kind Memory64) regions
 
--- the region that is referred to
+-- the region behind a reference
 abbrev pub unified_region : UnifiedMemory → UnifiedRegion
 unified_region (region.Memory m) = of_kind Memory (memory_of m.now)
 unified_region (region.Memory64 m) = of_kind Memory64 (memory_of m.now)
 
--- the regions of the list that a unified list is
+-- the regions of a unified list, by its kind
 abbrev pub unified_list : UnifiedMemoryList → UnifiedRegions
 unified_list (list.Memory l) = Memory (memory_list_of l)
 unified_list (list.Memory64 l) = Memory64 (memory_list_of l)
 
--- a unified list answers as the list that it is: with the same regions, each made unified by `view`
+-- a unified list answers as the list inside it: with the same regions, each made unified by `view`
 pub record AnswersAs {R U : Type 0} (view : R → U) (range : R → Option Range) (regions : List R)
     (unified_range : U → Option Range) (unified : List U) : Type 0 where
   pub found : (address : ℕ) (found : Option R) (other : Option U) → IsLookedUp range regions address found

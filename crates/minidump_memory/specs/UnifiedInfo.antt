@@ -30,12 +30,12 @@ abbrev pub info_regions : InfoRegions → List InfoRegion
 info_regions (OfMaps regions) = map OfMaps regions
 info_regions (OfInfo regions) = map OfInfo regions
 
--- the region that is referred to
+-- the region behind a reference
 abbrev pub info_region : UnifiedMemoryInfo → InfoRegion
 info_region (region.Map m) = OfMaps (map_info_of m.now)
 info_region (region.Info m) = OfInfo (info_of m.now)
 
--- the regions of the list that a unified list is
+-- the regions of a unified list, by its kind
 abbrev pub info_list : UnifiedMemoryInfoList → InfoRegions
 info_list (list.Maps l) = OfMaps (linux_maps_of l)
 info_list (list.Info l) = OfInfo (memory_info_list_of l)

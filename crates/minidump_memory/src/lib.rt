@@ -19,9 +19,9 @@
 //!
 //! - Reading a stream returns the regions that the format assigns to it, in their order, or the error that
 //!   the format assigns: `MinidumpStream::read` of the four lists, by `memory_list_in`, `memory64_list_in`,
-//!   `memory_info_list_in` and `linux_maps_in`. It takes at most n + 7 reads, by n, the longer of stream and
-//!   file, and at least one for each number, entry, line and region. One region by its descriptor:
-//!   `MinidumpMemory::read`, `read_counted`, by `described`.
+//!   `memory_info_list_in` and `linux_maps_in`. It takes at most n + 7 reads, where n is the length of the
+//!   longer of stream and file, and at least one for each number, entry, line and region. One region by its
+//!   descriptor: `MinidumpMemory::read`, `read_counted`, by `described`.
 //! - A lookup returns the kept region that contains the address, in at most as many comparisons as the
 //!   number of kept regions has binary digits: `memory_at_address`, `memory_info_at_address`, and their
 //!   counted forms. All regions in the list's order: `iter`. The kept ones by address, from both ends:
@@ -32,7 +32,7 @@
 //!   `MinidumpLinuxMapInfo::from_line` by `map_line`, and `laws::map_lines_are_the_grammar` by `IsMapLine`.
 //! - Which regions may be read, written to or run: `is_readable`, `is_writable`, `is_executable`, by the
 //!   protection's numbers or by the letters of the line.
-//! - A unified list answers as the list that it is: `UnifiedMemoryList`, `UnifiedMemoryInfoList`;
+//! - A unified list answers as the list inside it: `UnifiedMemoryList`, `UnifiedMemoryInfoList`;
 //!   `laws::unified_list_is_its_list`.
 //! - Information and maps depend on their stream alone: `laws::information_depends_on_its_stream_alone`.
 //! - A clone is the same value, and values compare by what they hold: `laws::clones_are_the_same`,
