@@ -1,4 +1,5 @@
 -- The lemmas of this crate.
+pub mod ArrayLemmas
 pub mod LeftLemmas
 pub mod ListLemmas
 pub mod EntryLemmas

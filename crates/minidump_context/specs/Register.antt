@@ -1,8 +1,8 @@
 -- Registers by name. A processor has a table of names and places in its record, and aliases of some of these names; beside the table
 -- a context has the list of what its registers hold.
-use Rattle.std.specs.Prelude.{⊤, ◌≡◌, ℕ, ◌*◌, Bool, true, false, ◌||◌, ◌&&◌, List, [], ◌∷◌, ◌++◌, codes, drop, map, Option, Some, None, if◌then◌else◌, position}
+use Rattle.std.specs.Prelude.{⊤, ◌≡◌, ℕ, ◌*◌, Bool, true, false, ◌||◌, ◌&&◌, List, [], ◌∷◌, ◌++◌, codes, drop, map, length, Option, Some, None, IsSome, is_some, if◌then◌else◌, position}
 use Rattle.std.specs.HashSet.{contains_by}
-use Rattle.std.specs.List.{slice_get, slice_set, list_any, filter, zip}
+use Rattle.std.specs.List.{slice_get, slice_set, list_all, list_any, filter, range_with_len, zip}
 use Rattle.std.specs.Option.{option_map_or, option_and_then, option_copied}
 use Rattle.std.specs.Str.{bytes_eq}
 use Rattle.minidump_bytes.specs.Piece.{wide_hex}
@@ -22,6 +22,14 @@ listed_name (alias ∷ rest) name = if bytes_eq alias.0 name then alias.1 else l
 -- which register of the table a name names
 unfoldable pub place_of : List (List ℕ) → List (List ℕ × List ℕ) → List ℕ → Option ℕ
 place_of names aliases name = position (λ n. bytes_eq n (listed_name aliases name)) names
+
+-- what a table's names keep: each is that of its own row, each alias that of the row of its name, and both pointers are registers
+pub record IsNamed (table : List (List ℕ × ℕ)) (aliases : List (List ℕ × List ℕ)) (stack_pointer instruction_pointer : List ℕ) : Type 0 where
+  pub listed : map (place_of (names_of table) aliases) (names_of table) ≡ map Some (range_with_len 0 (length table))
+  pub aliased : map (λ a. place_of (names_of table) aliases a.0) aliases ≡ map (λ a. position (λ n. bytes_eq n a.1) (names_of table)) aliases
+  pub known : list_all (λ a. is_some (place_of (names_of table) aliases a.0)) aliases ≡ true
+  pub stack_pointer_known : IsSome (place_of (names_of table) aliases stack_pointer)
+  pub instruction_pointer_known : IsSome (place_of (names_of table) aliases instruction_pointer)
 
 -- the listed name of that register
 abbrev pub memoized : List (List ℕ) → List (List ℕ × List ℕ) → List ℕ → Option (List ℕ)

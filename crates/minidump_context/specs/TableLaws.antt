@@ -1,7 +1,5 @@
 -- The laws of each processor's table: as many values as names, each name its own row, each value the number at its place.
-use Rattle.std.specs.Prelude.{◌≡◌, refl, ℕ, List, [], codes, map, length, position, Some, IsSome, is_some, true}
-use Rattle.std.specs.Str.{bytes_eq}
-use Rattle.std.specs.List.{range_with_len, list_all}
+use Rattle.std.specs.Prelude.{◌≡◌, refl, ℕ, List, [], codes, map, length}
 use Rattle.minidump_bytes.specs.declared.endian.Endian.{Endian}
 use Rattle.minidump_bytes.specs.Number.{number_at}
 use Rattle.minidump_format.specs.declared.format.context.x86.CONTEXT_X86.{CONTEXT_X86}
@@ -13,12 +11,12 @@ use Rattle.minidump_format.specs.ContextX86.{context_x86}
 use Rattle.minidump_format.specs.ContextAmd64.{context_amd64}
 use Rattle.minidump_format.specs.ContextArm.{context_arm}
 use Rattle.minidump_format.specs.ContextArm64.{context_arm64, context_arm64_old}
-use Rattle.minidump_context.specs.Register.{names_of, listed_name, place_of}
+use Rattle.minidump_context.specs.Register.{IsNamed, listed_name, place_of}
 use Rattle.minidump_context.specs.X86.{x86_registers, x86_values}
 use Rattle.minidump_context.specs.Amd64.{amd64_registers, amd64_values}
 use Rattle.minidump_context.specs.Arm.{arm_registers, arm_aliases, arm_numbers, arm_values}
 use Rattle.minidump_context.specs.Arm64.{arm64_registers, arm64_aliases, arm64_values, arm64_old_values}
-use Rattle.minidump_context.specs.ArrayNumbers.{numbers_by_place}
+use Rattle.minidump_bytes.proofs.ArrayLemmas.{numbers_by_place}
 
 pub x86_as_many : (c : CONTEXT_X86) → length (x86_values c) ≡ length x86_registers
 unfolding x86_registers x86_values
@@ -28,13 +26,9 @@ pub x86_placed : (order : Endian) (bytes : List ℕ) → map (λ n. n) (x86_valu
 unfolding x86_registers x86_values
 x86_placed order bytes = refl
 
-pub x86_own_names : map (place_of (names_of x86_registers) []) (names_of x86_registers) ≡ map Some (range_with_len 0 (length x86_registers))
+pub x86_named : IsNamed x86_registers [] (codes "esp") (codes "eip")
 unfolding x86_registers listed_name place_of
-x86_own_names = refl
-
-pub x86_own_pointers : IsSome (place_of (names_of x86_registers) [] (codes "esp")) × IsSome (place_of (names_of x86_registers) [] (codes "eip"))
-unfolding x86_registers listed_name place_of
-x86_own_pointers = (refl, refl)
+x86_named = record { listed = refl; aliased = refl; known = refl; stack_pointer_known = refl; instruction_pointer_known = refl }
 
 pub amd64_as_many : (c : CONTEXT_AMD64) → length (amd64_values c) ≡ length amd64_registers
 unfolding amd64_registers amd64_values
@@ -44,13 +38,9 @@ pub amd64_placed : (order : Endian) (bytes : List ℕ) → map (λ n. n) (amd64_
 unfolding amd64_registers amd64_values
 amd64_placed order bytes = refl
 
-pub amd64_own_names : map (place_of (names_of amd64_registers) []) (names_of amd64_registers) ≡ map Some (range_with_len 0 (length amd64_registers))
+pub amd64_named : IsNamed amd64_registers [] (codes "rsp") (codes "rip")
 unfolding amd64_registers listed_name place_of
-amd64_own_names = refl
-
-pub amd64_own_pointers : IsSome (place_of (names_of amd64_registers) [] (codes "rsp")) × IsSome (place_of (names_of amd64_registers) [] (codes "rip"))
-unfolding amd64_registers listed_name place_of
-amd64_own_pointers = (refl, refl)
+amd64_named = record { listed = refl; aliased = refl; known = refl; stack_pointer_known = refl; instruction_pointer_known = refl }
 
 pub arm_as_many : (c : CONTEXT_ARM) → length (arm_values c) ≡ length arm_registers
 unfolding arm_registers arm_values arm_numbers
@@ -60,17 +50,9 @@ pub arm_placed : (order : Endian) (bytes : List ℕ) → map (λ n. n) (arm_valu
 unfolding arm_registers arm_values arm_numbers
 arm_placed order bytes = rw (numbers_by_place order 4 bytes 4 16) refl
 
-pub arm_own_names : map (place_of (names_of arm_registers) arm_aliases) (names_of arm_registers) ≡ map Some (range_with_len 0 (length arm_registers))
+pub arm_named : IsNamed arm_registers arm_aliases (codes "sp") (codes "pc")
 unfolding arm_registers arm_aliases listed_name place_of
-arm_own_names = refl
-
-pub arm_own_pointers : IsSome (place_of (names_of arm_registers) arm_aliases (codes "sp")) × IsSome (place_of (names_of arm_registers) arm_aliases (codes "pc"))
-unfolding arm_registers arm_aliases listed_name place_of
-arm_own_pointers = (refl, refl)
-
-pub arm_own_aliases : (map (λ a. place_of (names_of arm_registers) arm_aliases a.0) arm_aliases ≡ map (λ a. position (λ n. bytes_eq n a.1) (names_of arm_registers)) arm_aliases) × (list_all (λ a. is_some (place_of (names_of arm_registers) arm_aliases a.0)) arm_aliases ≡ true)
-unfolding arm_registers arm_aliases listed_name place_of
-arm_own_aliases = (refl, refl)
+arm_named = record { listed = refl; aliased = refl; known = refl; stack_pointer_known = refl; instruction_pointer_known = refl }
 
 pub arm64_as_many : (c : CONTEXT_ARM64) → length (arm64_values c) ≡ length arm64_registers
 unfolding arm64_registers arm64_values
@@ -80,17 +62,9 @@ pub arm64_placed : (order : Endian) (bytes : List ℕ) → map (λ n. n) (arm64_
 unfolding arm64_registers arm64_values
 arm64_placed order bytes = rw (numbers_by_place order 8 bytes 8 31) refl
 
-pub arm64_own_names : map (place_of (names_of arm64_registers) arm64_aliases) (names_of arm64_registers) ≡ map Some (range_with_len 0 (length arm64_registers))
+pub arm64_named : IsNamed arm64_registers arm64_aliases (codes "sp") (codes "pc")
 unfolding arm64_registers arm64_aliases listed_name place_of
-arm64_own_names = refl
-
-pub arm64_own_pointers : IsSome (place_of (names_of arm64_registers) arm64_aliases (codes "sp")) × IsSome (place_of (names_of arm64_registers) arm64_aliases (codes "pc"))
-unfolding arm64_registers arm64_aliases listed_name place_of
-arm64_own_pointers = (refl, refl)
-
-pub arm64_own_aliases : (map (λ a. place_of (names_of arm64_registers) arm64_aliases a.0) arm64_aliases ≡ map (λ a. position (λ n. bytes_eq n a.1) (names_of arm64_registers)) arm64_aliases) × (list_all (λ a. is_some (place_of (names_of arm64_registers) arm64_aliases a.0)) arm64_aliases ≡ true)
-unfolding arm64_registers arm64_aliases listed_name place_of
-arm64_own_aliases = (refl, refl)
+arm64_named = record { listed = refl; aliased = refl; known = refl; stack_pointer_known = refl; instruction_pointer_known = refl }
 
 pub arm64_old_as_many : (c : CONTEXT_ARM64_OLD) → length (arm64_old_values c) ≡ length arm64_registers
 unfolding arm64_registers arm64_old_values

@@ -18,9 +18,9 @@ impl CpuRegisterNames for CONTEXT_AMD64 {
 }
 
 impl CpuContext for CONTEXT_AMD64 {
-    ghost use Rattle.std.specs.Prelude.{[], codes, refl};
+    ghost use Rattle.std.specs.Prelude.{[], codes};
     ghost use Rattle.minidump_context.specs.Amd64.{amd64_values, amd64_rest};
-    ghost use Rattle.minidump_context.specs.TableLaws.{amd64_as_many, amd64_placed, amd64_own_names, amd64_own_pointers};
+    ghost use Rattle.minidump_context.specs.TableLaws.{amd64_as_many, amd64_placed, amd64_named};
 
     type Register = u64;
 
@@ -106,11 +106,7 @@ impl CpuContext for CONTEXT_AMD64 {
 
     ghost as_many = { amd64_as_many };
 
-    ghost own_names = { amd64_own_names };
-
-    ghost own_aliases = { (refl, refl) };
-
-    ghost own_pointers = { amd64_own_pointers };
+    ghost named = { amd64_named };
 
     ghost placed = { amd64_placed };
 }

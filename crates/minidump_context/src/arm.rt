@@ -35,7 +35,7 @@ impl CpuRegisterNames for CONTEXT_ARM {
 impl CpuContext for CONTEXT_ARM {
     ghost use Rattle.std.specs.Prelude.{codes};
     ghost use Rattle.minidump_context.specs.Arm.{arm_aliases, arm_values, arm_rest};
-    ghost use Rattle.minidump_context.specs.TableLaws.{arm_as_many, arm_placed, arm_own_names, arm_own_pointers, arm_own_aliases};
+    ghost use Rattle.minidump_context.specs.TableLaws.{arm_as_many, arm_placed, arm_named};
 
     type Register = u32;
 
@@ -86,11 +86,7 @@ impl CpuContext for CONTEXT_ARM {
 
     ghost as_many = { arm_as_many };
 
-    ghost own_names = { arm_own_names };
-
-    ghost own_aliases = { arm_own_aliases };
-
-    ghost own_pointers = { arm_own_pointers };
+    ghost named = { arm_named };
 
     ghost placed = { arm_placed };
 }

@@ -24,7 +24,7 @@ impl CpuRegisterNames for CONTEXT_ARM64 {
 impl CpuContext for CONTEXT_ARM64 {
     ghost use Rattle.std.specs.Prelude.{codes};
     ghost use Rattle.minidump_context.specs.Arm64.{arm64_aliases, arm64_values, arm64_rest};
-    ghost use Rattle.minidump_context.specs.TableLaws.{arm64_as_many, arm64_placed, arm64_own_names, arm64_own_pointers, arm64_own_aliases};
+    ghost use Rattle.minidump_context.specs.TableLaws.{arm64_as_many, arm64_placed, arm64_named};
 
     type Register = u64;
 
@@ -83,11 +83,7 @@ impl CpuContext for CONTEXT_ARM64 {
 
     ghost as_many = { arm64_as_many };
 
-    ghost own_names = { arm64_own_names };
-
-    ghost own_aliases = { arm64_own_aliases };
-
-    ghost own_pointers = { arm64_own_pointers };
+    ghost named = { arm64_named };
 
     ghost placed = { arm64_placed };
 }
@@ -108,7 +104,7 @@ impl CpuRegisterNames for CONTEXT_ARM64_OLD {
 impl CpuContext for CONTEXT_ARM64_OLD {
     ghost use Rattle.std.specs.Prelude.{codes, ◌%◌, ◌^◌};
     ghost use Rattle.minidump_context.specs.Arm64.{arm64_aliases, arm64_old_values, arm64_old_rest};
-    ghost use Rattle.minidump_context.specs.TableLaws.{arm64_old_as_many, arm64_old_placed, arm64_own_names, arm64_own_pointers, arm64_own_aliases};
+    ghost use Rattle.minidump_context.specs.TableLaws.{arm64_old_as_many, arm64_old_placed, arm64_named};
 
     type Register = u64;
 
@@ -167,11 +163,7 @@ impl CpuContext for CONTEXT_ARM64_OLD {
 
     ghost as_many = { arm64_old_as_many };
 
-    ghost own_names = { arm64_own_names };
-
-    ghost own_aliases = { arm64_own_aliases };
-
-    ghost own_pointers = { arm64_own_pointers };
+    ghost named = { arm64_named };
 
     ghost placed = { arm64_old_placed };
 }

@@ -1,11 +1,14 @@
 ghost use Rattle.std.proofs.Common.{rules};
 ghost use Rattle.std.specs.Prelude.{◌≡◌, IfOk, IfSome, IsOkUnless, IsSome, Some, map, string_bytes};
 ghost use Rattle.std.specs.Option.{option_copied};
-ghost use Rattle.minidump_context.specs.Register.{register_text, set_names};
+ghost use Rattle.minidump_context.specs.Register.{names_of, register_text, set_names, value_of};
 ghost use Rattle.minidump_context.specs.Context.{accepted, context_in, context_of, context_registers_left, held_in, is_of, map_ok, memoized_in, registers_of, valid_in, valid_registers_from};
 
-use crate::{ContextRegisters, CpuContext, MinidumpContextValidity, MinidumpRawContext};
-use minidump_bytes::{Endian, Exact, Source, Steps};
+use crate::raw_context::with_context;
+use crate::{
+    ContextRegisters, CpuContext, MinidumpContextValidity, MinidumpRawContext, RegisterNumber,
+};
+use minidump_bytes::{Endian, Exact, Record, Source, Steps};
 use minidump_format::Error;
 use minidump_format::format::ProcessorArchitecture;
 use minidump_system::{MinidumpMiscInfo, MinidumpSystemInfo};
@@ -66,21 +69,21 @@ impl MinidumpContext {
     pub fn get_instruction_pointer(&self) -> u64
         ensures { held_in (registers_of self.now.raw) (registers_of self.now.raw).instruction_pointer ≡ Some result }
     {
-        self.raw.instruction_pointer()
+        with_context!(&self.raw, context => instruction_pointer_of(context).to_u64())
     }
 
     /// Returns what the stack pointer holds.
     pub fn get_stack_pointer(&self) -> u64
         ensures { held_in (registers_of self.now.raw) (registers_of self.now.raw).stack_pointer ≡ Some result }
     {
-        self.raw.stack_pointer()
+        with_context!(&self.raw, context => stack_pointer_of(context).to_u64())
     }
 
     /// Returns the name in the list of the register that a name names, or `None` if it names none.
     pub fn memoize_register(&self, reg: &str) -> Option<&'static str>
         ensures { option_copied result ≡ memoized_in (registers_of self.now.raw) reg.now }
     {
-        self.raw.memoize_register(reg)
+        with_context!(&self.raw, context => context.memoize_register(reg))
     }
 
     /// Returns what a register holds. Its name is one that `memoize_register` knows.
@@ -88,7 +91,7 @@ impl MinidumpContext {
         requires { IsSome (memoized_in (registers_of self.now.raw) reg.now) }
         ensures { held_in (registers_of self.now.raw) reg.now ≡ Some result }
     {
-        self.raw.get_register_always(reg)
+        with_context!(&self.raw, context => context.get_register_always(reg).to_u64())
     }
 
     /// Returns what a register holds, or `None` if it isn't valid.
@@ -106,7 +109,7 @@ impl MinidumpContext {
             (λ value. string_bytes text ≡ register_text (registers_of self.now.raw).size value)) }
         ensures memory { IsOkUnless result Error.OutOfMemory }
     {
-        self.raw.format_register(alloc, reg)
+        with_context!(&self.raw, context => context.format_register(alloc, reg))
     }
 
     /// Returns the name of each register.
@@ -142,7 +145,7 @@ impl MinidumpContext {
     pub fn register_size(&self) -> usize
         ensures { result ≡ (registers_of self.now.raw).size }
     {
-        self.raw.register_size()
+        with_context!(&self.raw, context => register_size_of(context))
     }
 
     /// Copies the context. The only error is `OutOfMemory`.
@@ -156,6 +159,24 @@ impl MinidumpContext {
             valid: self.valid.try_clone(alloc)?,
         })
     }
+}
+
+fn instruction_pointer_of<C: CpuContext>(context: &C) -> C::Register
+    ensures { value_of (names_of C.table) C.aliases (C.values context.now) C.instruction_pointer ≡ Some result }
+{
+    context.get_register_always(context.instruction_pointer_register_name())
+}
+
+fn stack_pointer_of<C: CpuContext>(context: &C) -> C::Register
+    ensures { value_of (names_of C.table) C.aliases (C.values context.now) C.stack_pointer ≡ Some result }
+{
+    context.get_register_always(context.stack_pointer_register_name())
+}
+
+fn register_size_of<C: CpuContext>(_context: &C) -> usize
+    ensures { result ≡ C.Register.SIZE }
+{
+    <C::Register as Record>::SIZE
 }
 
 // The context of an architecture that some bytes begin with.

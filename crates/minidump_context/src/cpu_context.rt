@@ -4,7 +4,7 @@ ghost use Rattle.std.specs.Option.{option_copied};
 ghost use Rattle.std.specs.Str.{bytes_eq};
 ghost use Rattle.minidump_bytes.specs.declared.endian.Endian.{Endian};
 ghost use Rattle.minidump_bytes.specs.Number.{number_at};
-ghost use Rattle.minidump_context.specs.Register.{place_of, memoized, value_of, is_valid, names_of, valid_from, registers_left, register_text, IsChanged};
+ghost use Rattle.minidump_context.specs.Register.{place_of, memoized, value_of, is_valid, names_of, valid_from, registers_left, register_text, IsChanged, IsNamed};
 
 use crate::names::place_of;
 use crate::{CpuRegisters, MinidumpContextValidity};
@@ -214,17 +214,9 @@ pub trait CpuContext: CpuRegisterNames + Record {
     // each row of the table has a value
     ghost as_many: { (c : Self) → length (values c) ≡ length Self.table };
 
-    // each name of the table is that of its own row, and each alias that of the row of its name
-    ghost own_names: { map (place_of (names_of Self.table) aliases) (names_of Self.table)
-        ≡ map Some (range_with_len 0 (length Self.table)) };
-
-    ghost own_aliases: { (map (λ a. place_of (names_of Self.table) aliases a.0) aliases
-        ≡ map (λ a. position (λ n. bytes_eq n a.1) (names_of Self.table)) aliases)
-        × (list_all (λ a. is_some (place_of (names_of Self.table) aliases a.0)) aliases ≡ true) };
-
-    // both pointers are registers
-    ghost own_pointers: { IsSome (place_of (names_of Self.table) aliases stack_pointer)
-        × IsSome (place_of (names_of Self.table) aliases instruction_pointer) };
+    // each name of the table is that of its own row, each alias that of the row of its name, and both pointers
+    // are registers
+    ghost named: { IsNamed Self.table aliases stack_pointer instruction_pointer };
 
     // each register of a context that is read is the number at its place in the record
     ghost placed: { (order : Endian) (bytes : List ℕ) → map Self.Register.number (values (Self.layout.value order bytes))

@@ -17,9 +17,9 @@ impl CpuRegisterNames for CONTEXT_X86 {
 }
 
 impl CpuContext for CONTEXT_X86 {
-    ghost use Rattle.std.specs.Prelude.{[], codes, refl};
+    ghost use Rattle.std.specs.Prelude.{[], codes};
     ghost use Rattle.minidump_context.specs.X86.{x86_values, x86_rest};
-    ghost use Rattle.minidump_context.specs.TableLaws.{x86_as_many, x86_placed, x86_own_names, x86_own_pointers};
+    ghost use Rattle.minidump_context.specs.TableLaws.{x86_as_many, x86_placed, x86_named};
 
     type Register = u32;
 
@@ -91,11 +91,7 @@ impl CpuContext for CONTEXT_X86 {
 
     ghost as_many = { x86_as_many };
 
-    ghost own_names = { x86_own_names };
-
-    ghost own_aliases = { (refl, refl) };
-
-    ghost own_pointers = { x86_own_pointers };
+    ghost named = { x86_named };
 
     ghost placed = { x86_placed };
 }

@@ -5,4 +5,3 @@ pub use Rattle.minidump_context.specs.Amd64
 pub use Rattle.minidump_context.specs.Arm
 pub use Rattle.minidump_context.specs.Arm64
 pub use Rattle.minidump_context.specs.Context
-pub use Rattle.minidump_context.specs.ArrayNumbers

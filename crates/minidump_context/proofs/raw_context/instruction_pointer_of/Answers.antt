@@ -1,6 +1,0 @@
--- The name of the instruction pointer is one of the list.
-use Rattle.minidump_context.proofs.LawLemmas.{is_remembered}
-use Rattle.minidump_context.proofs.raw_context.instruction_pointer_of.Goals as goal
-
-pub get_register_always-requires : goal.get_register_always-requires
-get_register_always-requires g c = rw c.instruction_pointer_register_name.ensures (is_remembered _ _ _ g.met.C.CpuContext.own_pointers.1)
