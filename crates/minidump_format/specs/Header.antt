@@ -1,8 +1,9 @@
 -- The records at the head of a minidump, each a table of its fields: width in bytes, then place. Microsoft's
 -- minidumpapiset.h: MINIDUMP_HEADER, MINIDUMP_LOCATION_DESCRIPTOR, MINIDUMP_DIRECTORY.
-use Rattle.std.specs.Prelude.{slice_range}
+use Rattle.std.specs.Prelude.{ℕ, List, Option, ◌+◌, slice_range}
 use Rattle.minidump_bytes.specs.Layout.{Layout}
 use Rattle.minidump_bytes.specs.Number.{number_at}
+use Rattle.minidump_bytes.specs.Span.{span}
 use Rattle.minidump_format.specs.declared.format.header.MINIDUMP_HEADER.{MINIDUMP_HEADER}
 use Rattle.minidump_format.specs.declared.format.header.MINIDUMP_LOCATION_DESCRIPTOR.{MINIDUMP_LOCATION_DESCRIPTOR}
 use Rattle.minidump_format.specs.declared.format.header.MINIDUMP_DIRECTORY.{MINIDUMP_DIRECTORY}
@@ -31,6 +32,10 @@ location = record {
     rva = number_at order 4 4 bytes;
   };
 }
+
+-- the bytes of a file at a location, if the file has all of them
+abbrev pub located : List ℕ → MINIDUMP_LOCATION_DESCRIPTOR → Option (List ℕ)
+located file place = span place.rva (place.rva + place.data_size) file
 
 -- Microsoft's MINIDUMP_DIRECTORY
 abbrev pub directory_entry : Layout MINIDUMP_DIRECTORY

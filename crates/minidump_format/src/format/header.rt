@@ -1,6 +1,11 @@
+ghost use Rattle.std.specs.Prelude.{◌≡◌};
+ghost use Rattle.std.specs.Option.{option_copied};
 ghost use Rattle.std.proofs.Common.{rules};
+ghost use Rattle.minidump_bytes.specs.Source.{bytes_of};
+ghost use Rattle.minidump_bytes.specs.Steps.{after};
+ghost use Rattle.minidump_format.specs.Header.{located};
 
-use minidump_bytes::{Endian, Record};
+use minidump_bytes::{Endian, Record, Source, Steps};
 
 /// An offset in the file, in bytes from its beginning.
 pub type RVA = u32;
@@ -58,6 +63,17 @@ pub struct MINIDUMP_LOCATION_DESCRIPTOR {
     pub data_size: u32,
     /// The offset at which it begins.
     pub rva: RVA,
+}
+
+impl MINIDUMP_LOCATION_DESCRIPTOR {
+    /// Returns the bytes of the file at this location, or `None` if the file ends before they do. Counts
+    /// one step either way.
+    pub fn bytes_in<'a>(&self, all: Source<'a>, steps: &mut Steps) -> Option<&'a [u8]>
+        ensures value { option_copied result ≡ located (bytes_of all.entry) self.now }
+        ensures step { steps.new ≡ after steps.old 1 }
+    {
+        all.span(self.rva as u64, self.data_size as u64, steps)
+    }
 }
 
 impl Record for MINIDUMP_LOCATION_DESCRIPTOR {
