@@ -18,8 +18,8 @@
 //!
 //! # Errors
 //!
-//! `StreamReadFailure` or `StreamSizeMismatch` where the stream is malformed, and `OutOfMemory` where an
-//! allocation fails. A name that is no text is left out. `VersionMismatch` for Crashpad's information of version 0
+//! `StreamReadFailure` or `StreamSizeMismatch` if the stream is malformed, and `OutOfMemory` if an allocation
+//! fails. A name that is no text is left out. `VersionMismatch` for Crashpad's information of version 0
 //! and for a record of macOS that has another version than the one before it, `DataError` for soft errors that are
 //! not UTF-8. Linux texts have no error.
 //!

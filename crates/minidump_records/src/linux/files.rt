@@ -5,19 +5,19 @@ ghost use Rattle.minidump_format.specs.declared.format.stream_type.MINIDUMP_STRE
 use super::text::{LinuxFile, LinuxPairsFile, LinuxText};
 use minidump_bytes::{Lines, LinuxOsStr};
 
-/// The text of `/proc/cpuinfo`: a key and a value a line, around a colon.
+/// The text of `/proc/cpuinfo`. Each line is a key and a value around a colon.
 pub type MinidumpLinuxCpuInfo<'a> = LinuxText<'a, CpuInfo>;
 
-/// The text of `/proc/PID/status`: a key and a value a line, around a colon.
+/// The text of `/proc/PID/status`. Each line is a key and a value around a colon.
 pub type MinidumpLinuxProcStatus<'a> = LinuxText<'a, ProcStatus>;
 
-/// The text of `/etc/lsb-release`: a key and a value a line, around an equals sign.
+/// The text of `/etc/lsb-release`. Each line is a key and a value around an equals sign.
 pub type MinidumpLinuxLsbRelease<'a> = LinuxText<'a, LsbRelease>;
 
-/// The text of `/proc/PID/environ`: a key and a value around an equals sign, each pair up to a NUL.
+/// The text of `/proc/PID/environ`. Each line is a key and a value around an equals sign, and ends with a NUL.
 pub type MinidumpLinuxEnviron<'a> = LinuxText<'a, Environ>;
 
-/// The text of `/proc/PID/limits`: a line for each limit.
+/// The text of `/proc/PID/limits`. Each line is a limit.
 pub type MinidumpLinuxProcLimits<'a> = LinuxText<'a, ProcLimits>;
 
 /// Breakpad's `MD_LINUX_CPU_INFO`, the text of `/proc/cpuinfo`.
@@ -110,7 +110,7 @@ impl LinuxFile for ProcLimits {
 }
 
 impl<'a> LinuxText<'a, ProcLimits> {
-    ghost use Rattle.minidump_records.specs.LinuxTexts.{linux_text_of};
+    ghost use Rattle.minidump_records.specs.Linux.{linux_text_of};
 
     /// Returns an iterator over its lines.
     pub fn iter(&self) -> Lines<'a>

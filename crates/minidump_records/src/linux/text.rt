@@ -1,7 +1,7 @@
 ghost use Rattle.std.specs.Prelude.{◌≡◌, [], ℕ};
 ghost use Rattle.minidump_format.specs.declared.format.stream_type.MINIDUMP_STREAM_TYPE.{MINIDUMP_STREAM_TYPE};
 ghost use Rattle.minidump_format.specs.StreamType.{number_of};
-ghost use Rattle.minidump_records.specs.LinuxPairs.{pairs_of};
+ghost use Rattle.minidump_records.specs.Linux.Pairs.{pairs_of};
 
 use crate::LinuxPairs;
 use minidump_bytes::{Endian, Source, Steps};
@@ -31,7 +31,7 @@ pub trait LinuxPairsFile: LinuxFile {
     const SEPARATOR: u8;
 }
 
-/// The text of one of Linux's files.
+/// The text of a file of Linux.
 #[derive(Drop)]
 pub struct LinuxText<'a, F> {
     data: &'a [u8],
@@ -39,7 +39,7 @@ pub struct LinuxText<'a, F> {
 }
 
 impl<'a, F> LinuxText<'a, F> {
-    ghost use Rattle.minidump_records.specs.LinuxTexts.{linux_text_of};
+    ghost use Rattle.minidump_records.specs.Linux.{linux_text_of};
 
     /// Makes an empty text.
     pub fn new() -> Self
@@ -60,9 +60,9 @@ impl<'a, F> LinuxText<'a, F> {
 }
 
 impl<'a, F: LinuxPairsFile> LinuxText<'a, F> {
-    ghost use Rattle.minidump_records.specs.LinuxTexts.{linux_text_of};
+    ghost use Rattle.minidump_records.specs.Linux.{linux_text_of};
 
-    /// Returns an iterator over the pairs of its lines, each cut at the first separator.
+    /// Returns an iterator over the pairs of its lines. Each line is cut at the first separator.
     pub fn iter(&self) -> LinuxPairs<'a>
         ensures { result ≡ pairs_of F.SEPARATOR (linux_text_of self.now) }
     {
@@ -70,10 +70,11 @@ impl<'a, F: LinuxPairsFile> LinuxText<'a, F> {
     }
 }
 
-/// The stream is the text, whatever its bytes are. Reads no number of it, takes no memory, and has no error.
+/// Reads the text, which is the whole stream, whatever its bytes are. Counts no step, takes no memory, and has no
+/// error.
 impl<'a, F: LinuxFile> MinidumpStream<'a> for LinuxText<'a, F> {
     ghost use Rattle.std.specs.Prelude.{List, ℕ};
-    ghost use Rattle.minidump_records.specs.LinuxTexts.{linux_text_stream};
+    ghost use Rattle.minidump_records.specs.Linux.{linux_text_stream};
 
     ghost Value = { List ℕ };
 

@@ -14,13 +14,14 @@ use Rattle.std.proofs.lemmas.Cmp.{ranked}
 use Rattle.std.proofs.lemmas.Map.Entries.{lookup_head, lookup_tail}
 use Rattle.std.proofs.lemmas.Map.Keys.{sorted_head, sorted_tail}
 
--- whether a number as a query finds a key
+-- a query finds a key exactly if the numbers are equal
 pub at_is_equal : (t k : ℕ) → is_at (nat_cmp t) k ≡ (k == t)
 at_is_equal t k = elim (cases_lt t k) [
   | inl lt ↦ ap is_eq (sym (nat_cmp_is t k Less lt)) ∙ sym (ne_eqb k t (λ e. omega arith))
   | inr ge ↦ elim (cases_lt k t) [
     | inl lt ↦ ap is_eq (sym (nat_cmp_is t k Greater lt)) ∙ sym (ne_eqb k t (λ e. omega arith))
-    | inr le ↦ let same : t ≡ k = omega arith in subst (λ q. is_at (nat_cmp t) q ≡ (q == t)) same (ap is_eq (sym (nat_cmp_is t t Equal refl)) ∙ sym (eq-eqb t t refl))
+    | inr le ↦ let same : t ≡ k =
+        omega arith in subst (λ q. is_at (nat_cmp t) q ≡ (q == t)) same (ap is_eq (sym (nat_cmp_is t t Equal refl)) ∙ sym (eq-eqb t t refl))
   ]
 ]
 
@@ -30,9 +31,9 @@ lookup_number t [] = refl
 lookup_number t (e ∷ es) = rw (at_is_equal t e.0) (ap (cond (e.0 == t) (Some e.1)) (lookup_number t es))
 
 -- the keys of entries whose values are mapped
-pub keys_of-map : {X Y : Type 0} (seen : X → Y) (es : List (ℕ × X)) → keys_of (map (λ e. (e.0, seen e.1)) es) ≡ keys_of es
-keys_of-map seen [] = refl
-keys_of-map seen (e ∷ es) = ap (λ ks. e.0 ∷ ks) (keys_of-map seen es)
+pub keys_of-map : {X Y : Type 0} (value : X → Y) (es : List (ℕ × X)) → keys_of (map (λ e. (e.0, value e.1)) es) ≡ keys_of es
+keys_of-map value [] = refl
+keys_of-map value (e ∷ es) = ap (λ ks. e.0 ∷ ks) (keys_of-map value es)
 
 module _ {X : Type 0} where
   -- no entry behind a key has it, or a smaller one
@@ -109,7 +110,8 @@ module _ {X : Type 0} where
       behind None other rest = rest
       behind (Some x) other rest = rw other rest
 
-      here_is : (o : Option X) → (a == t) ≡ true → o ≡ f t → lookup (λ k. k == t) (filter_map (λ q. option_map (λ x. (q, x)) (f q)) (range_with_len (a + 1) n)) ≡ None
+      here_is : (o : Option X) → (a == t) ≡ true → o ≡ f t
+          → lookup (λ k. k == t) (filter_map (λ q. option_map (λ x. (q, x)) (f q)) (range_with_len (a + 1) n)) ≡ None
           → lookup (λ k. k == t) (cons_option (option_map (λ x. (a, x)) o) (filter_map (λ q. option_map (λ x. (q, x)) (f q)) (range_with_len (a + 1) n))) ≡ f t
       here_is None own is rest = rest ∙ is
       here_is (Some x) own is rest = rw own is
