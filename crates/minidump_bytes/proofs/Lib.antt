@@ -4,6 +4,7 @@ pub mod ListLemmas
 pub mod EntryLemmas
 pub mod DigitLemmas
 pub mod HexLemmas
+pub mod KeyLemmas
 pub mod LinuxTextLemmas
 pub mod NumberLemmas
 pub mod SearchLemmas

@@ -3,17 +3,13 @@ use Rattle.std.proofs.Common.{◌≡◌, ℕ, zero, suc, ◌<◌, ◌≤◌, ◌
 use Rattle.std.specs.Prelude.{Option, Some, None, nat_le, nat_lt, ◌==◌, ◌&&◌, if◌then◌else◌}
 use Rattle.std.specs.Option.{option_and_then, option_map}
 use Rattle.std.proofs.lemmas.Bool.Decides.{nat_tests}
-use Rattle.std.proofs.lemmas.List.{drop-drop, take-append-drop, length-drop, length-take-le}
+use Rattle.std.proofs.lemmas.Bool.{le-ltb, lt-ltb}
+use Rattle.std.proofs.lemmas.List.{take-append-drop, length-drop, length-take-le}
+use Rattle.std.proofs.lemmas.List.Folds.{drop_split}
 use Rattle.std.proofs.Math.Seq.{drop-append_seam, take-append_seam}
 use Rattle.minidump_bytes.specs.declared.endian.Endian.TheVariants.{Little}
 use Rattle.minidump_bytes.specs.Number.{number_at}
 use Rattle.minidump_bytes.specs.Wire.{number_of, IsGrouped, IsVarint, Payload, Varint, Eight, Bytes, Four, Field, wire_type, SpellsPayload, SpellsField, SpellsFields, groups_in, small, varint_in, front_in, payload_in, keyed, field_in, field_at, IsFieldAt}
-
-lt_true : (m n : ℕ) → m < n → nat_lt m n ≡ true
-lt_true m n h = grind (arith, nat_tests)
-
-lt_false : (m n : ℕ) → n ≤ m → nat_lt m n ≡ false
-lt_false m n h = grind (arith, nat_tests)
 
 le_true : (m n : ℕ) → m ≤ n → nat_le m n ≡ true
 le_true m n h = grind (arith, nat_tests)
@@ -33,11 +29,11 @@ above b r = (b % 128 + 128 * r.0, r.1)
 -- ---- groups
 group_last : (most b : ℕ) (bs : List ℕ) → b < 128 → groups_in (suc most) (b ∷ bs) ≡ Some (pair (b % 128) bs)
 unfolding groups_in
-group_last most b bs h = rw (lt_true b 128 h) refl
+group_last most b bs h = rw (lt-ltb b 128 h) refl
 
 group_more : (most b n : ℕ) (bs rest : List ℕ) → 128 ≤ b → groups_in most bs ≡ Some (pair n rest) → groups_in (suc most) (b ∷ bs) ≡ Some (pair (b % 128 + 128 * n) rest)
 unfolding groups_in
-group_more most b n bs rest h e = rw (lt_false b 128 h, e) refl
+group_more most b n bs rest h e = rw (le-ltb b 128 h, e) refl
 
 last_is : (most b : ℕ) (bs rest : List ℕ) → b < 128 → bs ≡ [] → groups_in (suc most) (b ∷ bs ++ rest) ≡ Some (pair (number_of (b ∷ bs)) rest)
 last_is most b bs rest h e = rw e (group_last most b rest h ∙ ap (λ n. Some (pair n rest)) (omega arith))
@@ -84,7 +80,7 @@ groups_gives (suc most) (b ∷ bs) n rest e = gives_by most b n bs rest (nat_lt 
 -- ---- varints
 varint_some : (front rest : List ℕ) (n : ℕ) → IsVarint front n → varint_in (front ++ rest) ≡ Some (pair n rest)
 unfolding varint_in
-varint_some front rest n v = rw (groups_some 10 front rest v.grouped v.short, v.value, lt_true n (2 ^ 64) v.fits) refl
+varint_some front rest n v = rw (groups_some 10 front rest v.grouped v.short, v.value, lt-ltb n (2 ^ 64) v.fits) refl
 
 abbrev IsVarintOf : List ℕ → ℕ → List ℕ → Type 0
 IsVarintOf bytes n rest = (front : List ℕ) × IsVarint front n × (bytes ≡ front ++ rest)
@@ -226,7 +222,7 @@ type_below (Bytes bytes) = omega arith
 type_below (Four n) = omega arith
 
 keyed_some : (k : ℕ) (behind rest : List ℕ) (p : Payload) → k < 2 ^ 32 → 0 < k / 8 → payload_in (k % 8) behind ≡ Some (holds p rest) → keyed (pair k behind) ≡ Some (found (named (k / 8) p) rest)
-keyed_some k behind rest p low some e = rw (lt_true k (2 ^ 32) low, lt_true 0 (k / 8) some, e) refl
+keyed_some k behind rest p low some e = rw (lt-ltb k (2 ^ 32) low, lt-ltb 0 (k / 8) some, e) refl
 
 key_parts : (number kind : ℕ) → kind < 8 → ((8 * number + kind) / 8 ≡ number) × ((8 * number + kind) % 8 ≡ kind)
 key_parts number kind below = (omega (arith, below), omega (arith, below))
@@ -280,7 +276,7 @@ grouped_some : (bytes : List ℕ) → IsGrouped bytes → 0 < length bytes
 grouped_some [] g = absurd g
 grouped_some (b ∷ bs) g = omega arith
 
-field_long : (front : List ℕ) (f : Field) → SpellsField front f → 0 < length front
+pub field_long : (front : List ℕ) (f : Field) → SpellsField front f → 0 < length front
 field_long front f s = omega (arith, ap length s.joined, length-append s.key s.rest, grouped_some s.key s.is_key.grouped)
 
 abbrev placed : Field → ℕ → Field × ℕ
@@ -308,15 +304,10 @@ at_by bytes place f next (Some r) is e =
 pub field_there : (bytes : List ℕ) (place : ℕ) (f : Field) (next : ℕ) → field_at place bytes ≡ Some (f, next) → IsFieldAt bytes place f next
 field_there bytes place f next e = at_by bytes place f next (field_in (drop place bytes)) refl e
 
-rest_at : (bytes : List ℕ) (place next : ℕ) → place ≤ next → drop place bytes ≡ slice_range bytes place next ++ drop next bytes
-rest_at bytes place next forward =
-    let sum : place + (next - place) ≡ next = omega arith in
-    sym (take-append-drop (next - place) (drop place bytes)) ∙ ap (λ l. slice_range bytes place next ++ l) (drop-drop (next - place) place bytes ∙ ap (λ k. drop k bytes) sum)
-
 pub there_field : (bytes : List ℕ) (place : ℕ) (f : Field) (next : ℕ) → IsFieldAt bytes place f next → field_at place bytes ≡ Some (f, next)
 there_field bytes place f next is =
     let behind : length bytes - length (drop next bytes) ≡ next = omega (arith, is.within, length-drop next bytes) in
-    rw (rest_at bytes place next is.forward, field_some (slice_range bytes place next) (drop next bytes) f is.spelled) (ap (λ n. Some (placed f n)) behind)
+    rw (drop_split bytes place next is.forward, field_some (slice_range bytes place next) (drop next bytes) f is.spelled) (ap (λ n. Some (placed f n)) behind)
 
 pub one_there : (bytes : List ℕ) (place : ℕ) (f : Field) (next : ℕ) (g : Field) (other : ℕ) → IsFieldAt bytes place f next → IsFieldAt bytes place g other → (f ≡ g) × (next ≡ other)
 one_there bytes place f next g other one two =

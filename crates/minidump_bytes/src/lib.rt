@@ -31,7 +31,7 @@
 //!   `laws::linux_texts_compare_by_their_bytes`, `parts_make_the_text`.
 //! - A writer took all of the bytes, or a beginning and has failed; a reader's answer is its next bytes;
 //!   after a failure nothing changes: `Told::put`, `take`. Pieces are written as `{}`, `{:#x}` and so on
-//!   write them: `push_pieces`, `push_hex`; bytes as two digits each: `write_bytes`.
+//!   write them: `push_pieces`; bytes as two digits each: `write_bytes`.
 //!
 //! What isn't: that `put` and `take` fail only where the device does, which tests show.
 #![tactic(auto)]
@@ -68,7 +68,7 @@ pub use exact::Exact;
 pub use hex::write_bytes;
 pub use linux_os_iter::{Lines, Split, SplitAsciiWhitespace};
 pub use linux_os_str::{LinuxOsStr, LinuxOsString};
-pub use piece::{Piece, made, push_hex, push_pieces};
+pub use piece::{Piece, made, push_pieces};
 pub use record::{FixedRead, Record};
 pub use source::Source;
 pub use steps::Steps;

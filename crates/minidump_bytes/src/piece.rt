@@ -127,9 +127,9 @@ fn push_decimal(out: &mut String, n: u64) -> Result<(), AllocError>
     out.push_str(buffer.format(n))
 }
 
-/// Appends a number in lower-case hexadecimal, as `{:x}` writes it.
+// Appends a number in lower-case hexadecimal, as `{:x}` writes it.
 #[tactic(auto, using(crate::proofs::HexLemmas::hex_last, crate::proofs::HexLemmas::hex_one))]
-pub fn push_hex(out: &mut String, n: u64) -> Result<(), AllocError>
+fn push_hex(out: &mut String, n: u64) -> Result<(), AllocError>
     ensures { OnOk result (string_bytes out.new ≡ string_bytes out.old ++ digits 16 false n) }
 {
     if n < 16 {
