@@ -1,4 +1,5 @@
 -- Lemmas on the records, for this crate and those above.
+pub mod AnswerLemmas
 pub mod ContextFlags
 pub mod Equality
 pub mod FlagLemmas
