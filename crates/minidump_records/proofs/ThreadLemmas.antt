@@ -1,30 +1,23 @@
 -- The names of threads in a sorted map, and the last of each.
-pub mod Keys
-use Rattle.std.proofs.Common.{◌≡◌, ◌≢◌, ℕ, ◌+◌, ◌<◌, ◌≤◌, cond, Bool, true, false, List, [], ◌∷◌, ◌++◌, length, get_or, map, take, Option, Some, None, refl, ap, sym, ◌∙◌, arith, append_assoc, append-nil, inl, inr}
+use Rattle.std.proofs.Common.{◌≡◌, ◌≢◌, ℕ, ◌<◌, ◌≤◌, cond, Bool, true, false, List, [], ◌∷◌, ◌++◌, map, Option, Some, None, refl, ap, sym, ◌∙◌, arith, append_assoc, append-nil}
 use Rattle.std.specs.Prelude.{◌==◌, All}
 use Rattle.std.specs.BTreeMap.{BTreeMap, IsOrdered, Updates, get, is_at}
 use Rattle.std.specs.List.{AllZip, filter_map, range_with_len}
 use Rattle.std.specs.Map.{lookup}
 use Rattle.std.specs.Option.{option_map}
 use Rattle.std.specs.Ordering.{nat_cmp}
-use Rattle.std.proofs.lemmas.Bool.{cases_eq, eq-eqb, ne_eqb}
-use Rattle.std.proofs.lemmas.List.{reverse-append, take_more}
-use Rattle.std.proofs.lemmas.List.Elements.{All-head, All-tail, filter_map-append}
+use Rattle.std.proofs.lemmas.Bool.{eq-eqb, ne_eqb}
+use Rattle.std.proofs.lemmas.List.{reverse-append}
+use Rattle.std.proofs.lemmas.List.Elements.{All-head, All-tail}
 use Rattle.std.proofs.lemmas.Map.Made.{lookup-map_values}
 use Rattle.minidump_records.specs.declared.thread_info.MinidumpThreadInfo.{MinidumpThreadInfo}
 use Rattle.minidump_records.specs.ThreadInfo.{last_info}
 use Rattle.minidump_records.specs.ThreadNames.{ThreadName, last_name, last_names, name_of_thread}
-use Rattle.minidump_records.proofs.ThreadLemmas.Keys.{at_is_equal, entries_by_key, keys_of-map, lookup_by_key, lookup_number}
+use Rattle.minidump_bytes.proofs.KeyLemmas.{at_is_equal, entries_by_key, keys_of-map, lookup_by_key, lookup_number}
 
 -- one name more is the last of its own thread, and changes the last name of no other
 pub last_name-more : (names : List ThreadName) (n : ThreadName) (id : ℕ) → last_name (names ++ n ∷ []) id ≡ cond (n.0 == id) (Some n.1) (last_name names id)
 last_name-more names n id = rw (reverse-append names (n ∷ [])) refl
-
-eqb_sym : (a b : ℕ) → (a == b) ≡ (b == a)
-eqb_sym a b = elim (cases_eq a b) [
-  | inl e ↦ rw e refl
-  | inr ne ↦ ne_eqb a b ne ∙ sym (ne_eqb b a (λ e. ne (sym e)))
-]
 
 -- names of other threads change nothing
 last_name-others : (id : ℕ) (later names : List ThreadName) → All (λ n. n.0 ≢ id) later → last_name (names ++ later) id ≡ last_name names id
@@ -88,15 +81,6 @@ same_texts text [] (f ∷ fs) h = absurd h
 same_texts text (e ∷ es) [] h = absurd h
 same_texts text (e ∷ es) (f ∷ fs) h = rw (h.0.0, h.0.1, same_texts text es fs h.1) refl
 
--- one entry more that names a thread, and one that does not
-pub named_more : {X Y : Type 0} (h : X → Option Y) (xs : List X) (i : ℕ) (d : X) (y : Y) → i < length xs → h (get_or xs i d) ≡ Some y
-    → filter_map h (take (i + 1) xs) ≡ filter_map h (take i xs) ++ y ∷ []
-named_more h xs i d y lt is = rw (take_more xs i d lt, filter_map-append h (take i xs) (get_or xs i d ∷ []), is) refl
-
-pub unnamed_more : {X Y : Type 0} (h : X → Option Y) (xs : List X) (i : ℕ) (d : X) → i < length xs → h (get_or xs i d) ≡ None
-    → filter_map h (take (i + 1) xs) ≡ filter_map h (take i xs)
-unnamed_more h xs i d lt is = rw (take_more xs i d lt, filter_map-append h (take i xs) (get_or xs i d ∷ []), is, append-nil) refl
-
 module _ {X : Type 0} (text : X → List ℕ) (limit : ℕ) where
   text_put : (b : Bool) (x : X) (o : Option X) → option_map text (cond b (Some x) o) ≡ cond b (Some (text x)) (option_map text o)
   text_put true x o = refl
@@ -115,10 +99,10 @@ module _ {X : Type 0} (text : X → List ℕ) (limit : ℕ) where
   pub has_more : (m n : BTreeMap ℕ X) (names : List ThreadName) (id : ℕ) (x : X) → HasLast m names → id < limit
       → Updates nat_cmp m n id (Some x) → IsOrdered nat_cmp n → HasLast n (names ++ (id, text x) ∷ [])
   has_more m n names id x before small update ordered = record {
-    at = λ t. ap (option_map text) (update.0 t ∙ rw (at_is_equal id t, eqb_sym t id) refl)
+    at = λ t. ap (option_map text) (update.0 t ∙ rw (at_is_equal id t) refl)
         ∙ text_put (id == t) x (get nat_cmp m t) ∙ ap (cond (id == t) (Some (text x))) (before.at t) ∙ sym (last_name-more names (id, text x) t);
     small = λ t large.
-        let other : is_at (nat_cmp id) t ≡ false = at_is_equal id t ∙ ne_eqb t id (λ same. omega arith) in
+        let other : is_at (nat_cmp id) t ≡ false = at_is_equal id t ∙ ne_eqb id t (λ same. omega arith) in
         update.0 t ∙ rw (other, before.small t large) refl;
     ordered = ordered;
   }

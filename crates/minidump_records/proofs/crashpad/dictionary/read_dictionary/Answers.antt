@@ -7,13 +7,13 @@ use Rattle.std.proofs.lemmas.Iterator.Consumers.{YieldsList-end}
 use Rattle.minidump_records.specs.Crashpad.Dictionary.{dictionary, pair_of}
 use Rattle.minidump_system.proofs.OneDictionary.{dictionary_none}
 use Rattle.minidump_records.proofs.CrashpadLemmas.Dictionary.{the_dictionary}
-use Rattle.minidump_records.proofs.CrashpadLemmas.Each.{gives_exit}
+use Rattle.minidump_format.proofs.AnswerLemmas.{gives_exit}
 use Rattle.minidump_records.proofs.CrashpadLemmas.Put.{put_dictionary, put_weighs}
 use Rattle.minidump_records.proofs.crashpad.dictionary.read_dictionary.Goals as goal
 
 pub returns-in_err-pairs-clause-means : goal.returns-in_err-pairs-clause-means
 unfolding dictionary
-returns-in_err-pairs-clause-means g c = gives_exit _ _ _ _ _ _ c.from_residual.ensures.1 c.in_err-pairs.ensures.means (λ h. rw h refl)
+returns-in_err-pairs-clause-means g c = gives_exit _ _ _ _ _ c.from_residual.ensures.1 (λ h. tt) c.in_err-pairs.ensures.means (λ h. rw h refl)
 
 pub loop-pair-init : goal.loop-pair-init
 loop-pair-init g c = rw c.new-dictionary.ensures.empty (record { dictionary = dictionary_none; least = omega arith })

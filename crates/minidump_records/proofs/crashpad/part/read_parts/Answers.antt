@@ -4,7 +4,8 @@ use Rattle.std.proofs.lemmas.List.{map_push}
 use Rattle.std.proofs.lemmas.List.Sums.{sum_by_push}
 use Rattle.minidump_bytes.specs.Source.{bytes_of}
 use Rattle.minidump_records.specs.Crashpad.Parts.{part_at}
-use Rattle.minidump_records.proofs.CrashpadLemmas.Each.{each-none, each-more, each-refused, gives_err, gives_exit, at_entry, at_none}
+use Rattle.minidump_format.proofs.AnswerLemmas.{gives_err, gives_exit}
+use Rattle.minidump_records.proofs.CrashpadLemmas.Each.{each-none, each-more, each-refused, at_entry, at_none}
 use Rattle.minidump_records.proofs.crashpad.part.read_parts.Goals as goal
 
 pub loop-i-init : goal.loop-i-init
@@ -29,7 +30,7 @@ returns-in_err-part-clause-means g c =
     let read = part_at g.E.Record.layout g.P.Part.part c.args.endian (bytes_of c.args.all) (bytes_of c.args.bytes) in
     let size : c.SIZE.result ≡ g.E.Record.layout.size = c.SIZE.ensures ∙ g.met.E.Record.fits.same in
     let entry = rw (c.record.ensures.value, size) at c.in_ok-entry.ensures.ok_part in
-    gives_exit _ _ _ _ _ _ c.from_residual-in_err-part.ensures.1 c.in_err-part.ensures.means
+    gives_exit _ _ _ _ _ c.from_residual-in_err-part.ensures.1 (λ h. tt) c.in_err-part.ensures.means
     (λ h. each-refused read c.loop-i.i c.args.count _ _ c.loop-i-test.true c.loop-i.invariant.parts
     (at_entry g.E.Record.layout g.P.Part.part c.args.endian (bytes_of c.args.all) (bytes_of c.args.bytes) c.loop-i.i _ _ entry h))
 

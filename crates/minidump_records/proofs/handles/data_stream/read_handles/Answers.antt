@@ -5,7 +5,7 @@ use Rattle.std.proofs.lemmas.List.Sums.{sum_by_push}
 use Rattle.minidump_bytes.specs.Source.{bytes_of}
 use Rattle.minidump_bytes.proofs.LeftLemmas.{IsNext, all_given, next_left, one_given}
 use Rattle.minidump_records.specs.Handles.{handle_in, handle_of, handle_reads}
-use Rattle.minidump_records.proofs.HandleLemmas.{mapped_more}
+use Rattle.minidump_bytes.proofs.ListLemmas.{mapped_more}
 use Rattle.minidump_records.proofs.handles.data_stream.read_handles.Goals as goal
 
 pub loop-raw-preserved : goal.loop-raw-preserved
