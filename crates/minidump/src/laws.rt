@@ -12,7 +12,7 @@ ghost use Rattle.minidump_system.specs.Os.{os_name};
 ghost use Rattle.minidump_system.specs.StreamSpec.{IsSame};
 ghost use Rattle.minidump_modules.specs.CodeId.{text_of};
 ghost use Rattle.minidump_modules.specs.DebugId.{debug_id_text};
-ghost use Rattle.minidump_records.specs.ObjectChain.{information_text};
+ghost use Rattle.minidump_records.specs.Handles.ObjectChain.{information_text};
 ghost use Rattle.minidump.specs.declared.directory.DecidingEntry.{DecidingEntry};
 ghost use Rattle.minidump.specs.Directory.{deciding, deciding_below, directory};
 ghost use Rattle.minidump.specs.Dump.{Dump, raw_stream, spanned, stream_of, streams_of, dump_system};

@@ -1,15 +1,10 @@
--- Lists of handles: one handle more, and how many reads they take.
-use Rattle.std.proofs.Common.{◌≡◌, ℕ, ◌+◌, ◌-◌, ◌*◌, ◌<◌, ◌≤◌, List, [], ◌∷◌, ◌++◌, length, get_or, map, take, arith, sym}
-use Rattle.std.proofs.lemmas.List.{take_more, map-append, map_push}
+-- How many reads the list of handles takes.
+pub mod Offsets
+pub mod Chain
+use Rattle.std.proofs.Common.{ℕ, ◌+◌, ◌-◌, ◌*◌, ◌≤◌, arith}
 use Rattle.std.proofs.Math.Nat.{mul-le-mul_left}
 
--- what is made of one item more
-pub mapped_more : {X Y Z : Type 0} (f : X → Y) (view : Z → Y) (xs : List X) (zs : List Z) (i : ℕ) (d : X) (z : Z) → i < length xs
-    → map view zs ≡ map f (take i xs) → view z ≡ f (get_or xs i d) → map view (zs ++ z ∷ []) ≡ map f (take (i + 1) xs)
-mapped_more f view xs zs i d z lt so_far e =
-    rw (take_more xs i d lt, map_push view zs z, so_far, e) (sym (map-append f (take i xs) (get_or xs i d ∷ [])))
-
--- the list, and so many descriptors, each with two names and a chain
+-- the reads of the list, and of so many descriptors, each with two names and a chain
 pub handles_steps : (old one new k bytes file n : ℕ) → bytes ≤ n → file ≤ n → 32 * k ≤ bytes → one ≤ old + bytes + 1 → new ≤ one + k * (file + 3)
     → new ≤ old + ((n + 8) * (n + 8) - 1)
 handles_steps old one new k bytes file n within all some first last =

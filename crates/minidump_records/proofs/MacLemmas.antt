@@ -6,10 +6,10 @@ use Rattle.minidump_bytes.specs.declared.endian.Endian.{Endian}
 use Rattle.minidump_format.specs.declared.error.Error.{Error}
 use Rattle.minidump_format.specs.declared.format.header.MINIDUMP_LOCATION_DESCRIPTOR.{MINIDUMP_LOCATION_DESCRIPTOR}
 use Rattle.minidump_system.specs.Reads.{all_ok, and_then}
-use Rattle.minidump_records.specs.MacRecord.{MacRecord}
+use Rattle.minidump_records.specs.MacCrashInfo.Record.{MacRecord}
 use Rattle.minidump_records.specs.MacCrashInfo.{located_record, located_records, located_version, neighbouring_record}
 
--- some records, and what is left
+-- the records so far, and then those that are left
 abbrev pub behind_these : List MacRecord → Result (List MacRecord) Error → Result (List MacRecord) Error
 behind_these done left = and_then left (λ rest. Ok (done ++ rest))
 
@@ -17,7 +17,8 @@ none_yet : (left : Result (List MacRecord) Error) → left ≡ behind_these [] l
 none_yet (Ok rs) = refl
 none_yet (Err e) = refl
 
-skipped : (done : List MacRecord) (tail : Result (List MacRecord) Error) → behind_these done (and_then tail (λ rs. Ok (cons_option None rs))) ≡ behind_these done tail
+skipped : (done : List MacRecord) (tail : Result (List MacRecord) Error)
+    → behind_these done (and_then tail (λ rs. Ok (cons_option None rs))) ≡ behind_these done tail
 skipped done (Ok rs) = refl
 skipped done (Err e) = refl
 
@@ -26,7 +27,7 @@ one_more : (done : List MacRecord) (r : MacRecord) (tail : Result (List MacRecor
 one_more done r (Ok rs) = ap Ok (sym (append_assoc done (r ∷ []) rs))
 one_more done r (Err e) = refl
 
--- readings without those that are none
+-- the records of readings, without those that are left out
 abbrev kept : Result (List (Option MacRecord)) Error → Result (List MacRecord) Error
 kept read = and_then read (λ rs. Ok (filter_map (λ r. r) rs))
 
@@ -43,7 +44,7 @@ module _ (order : Endian) (file : List ℕ) (start : ℕ) where
   left before (l ∷ ls) =
       and_then (located_record order file start before l) (λ r. and_then (left (located_version order file l) ls) (λ rs. Ok (cons_option r rs)))
 
-  -- they go by their neighbours
+  -- the records at locations, each by the location before it, are the same
   by_neighbours : (before : Option MINIDUMP_LOCATION_DESCRIPTOR) (ls : List MINIDUMP_LOCATION_DESCRIPTOR)
       → kept (all_ok (neighbouring_record order file start) (zip (before ∷ map Some ls) ls)) ≡ left (option_and_then (located_version order file) before) ls
   unfolding left all_ok
@@ -62,18 +63,21 @@ module _ (order : Endian) (file : List ℕ) (start : ℕ) where
   module _ (whole : Result (List MacRecord) Error) (before : Option ℕ) (done : List MacRecord) (ls : List MINIDUMP_LOCATION_DESCRIPTOR) where
     module _ (i : ℕ) (d : MINIDUMP_LOCATION_DESCRIPTOR) (lt : i < length ls) (so_far : whole ≡ behind_these done (left before (drop i ls))) where
       -- a record that is left out
-      pub left_none : (version : ℕ) → Some version ≡ located_version order file (get_or ls i d) → located_record order file start before (get_or ls i d) ≡ Ok None
+      pub left_none : (version : ℕ) → Some version ≡ located_version order file (get_or ls i d)
+          → located_record order file start before (get_or ls i d) ≡ Ok None
           → whole ≡ behind_these done (left (Some version) (drop (i + 1) ls))
       unfolding left
       left_none version at is = so_far ∙ rw (next_one ls i d lt, is, at) (skipped done (left (located_version order file (get_or ls i d)) (drop (i + 1) ls)))
 
       -- one that is kept
-      pub left_some : (version : ℕ) (r : MacRecord) → Some version ≡ located_version order file (get_or ls i d) → located_record order file start before (get_or ls i d) ≡ Ok (Some r)
+      pub left_some : (version : ℕ) (r : MacRecord) → Some version ≡ located_version order file (get_or ls i d)
+          → located_record order file start before (get_or ls i d) ≡ Ok (Some r)
           → whole ≡ behind_these (done ++ r ∷ []) (left (Some version) (drop (i + 1) ls))
       unfolding left
-      left_some version r at is = so_far ∙ rw (next_one ls i d lt, is, at) (one_more done r (left (located_version order file (get_or ls i d)) (drop (i + 1) ls)))
+      left_some version r at is =
+          so_far ∙ rw (next_one ls i d lt, is, at) (one_more done r (left (located_version order file (get_or ls i d)) (drop (i + 1) ls)))
 
-      -- one that is refused refuses all
+      -- a record that is an error is the error of all
       pub left_refused : (e : Error) → located_record order file start before (get_or ls i d) ≡ Err e → whole ≡ Err e
       unfolding left
       left_refused e is = so_far ∙ rw (next_one ls i d lt, is) refl

@@ -46,7 +46,7 @@ abbrev pub mac_bootargs_in : Endian → List ℕ → List ℕ → Result BootArg
 mac_bootargs_in order file bytes =
     and_then (ok_or (boot_args_record order bytes) StreamReadFailure) (λ raw. Ok (record { raw = raw; text = text16 order raw.bootargs file }))
 
--- how much is read: the long form, then the short one where that isn't there, and the text
+-- the reads: the long form, then the short form where the long one isn't there, and the text
 abbrev pub boot_args_reads : List ℕ → ℕ
 boot_args_reads bytes = if nat_le 12 (length bytes) then 2 else 3
 

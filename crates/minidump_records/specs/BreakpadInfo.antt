@@ -17,8 +17,8 @@ abbrev pub where_valid : ℕ → ℕ → ℕ → Option ℕ
 where_valid validity flag id = if bit_and validity flag == flag then Some id else None
 
 -- MD_BREAKPAD_INFO_VALID_DUMP_THREAD_ID is 1, MD_BREAKPAD_INFO_VALID_REQUESTING_THREAD_ID is 2
-abbrev pub breakpad_of : MINIDUMP_BREAKPAD_INFO → MinidumpBreakpadInfo
-breakpad_of raw = record {
+abbrev pub breakpad_in : MINIDUMP_BREAKPAD_INFO → MinidumpBreakpadInfo
+breakpad_in raw = record {
   raw = raw;
   dump_thread_id = where_valid raw.validity 1 raw.dump_thread_id;
   requesting_thread_id = where_valid raw.validity 2 raw.requesting_thread_id;
@@ -26,7 +26,7 @@ breakpad_of raw = record {
 
 -- Breakpad's MDRawBreakpadInfo: a record
 abbrev pub breakpad_info_in : Endian → List ℕ → Result MinidumpBreakpadInfo Error
-breakpad_info_in order bytes = and_then (ok_or (record_at breakpad_info order 0 bytes) StreamReadFailure) (λ raw. Ok (breakpad_of raw))
+breakpad_info_in order bytes = and_then (ok_or (record_at breakpad_info order 0 bytes) StreamReadFailure) (λ raw. Ok (breakpad_in raw))
 
 -- the stream of type BreakpadInfoStream
 abbrev pub breakpad_info_stream : StreamSpec MinidumpBreakpadInfo MinidumpBreakpadInfo

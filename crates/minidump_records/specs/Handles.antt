@@ -1,4 +1,7 @@
 -- The open handles of a process: Microsoft's MINIDUMP_HANDLE_DATA_STREAM.
+pub mod Descriptor
+pub mod ObjectChain
+pub mod OneObjectChain
 use Rattle.std.specs.Prelude.{ℕ, ◌+◌, ◌==◌, List, Option, Some, None, Result, Ok, map, string_bytes, if◌then◌else◌, IsOkAnd, ◌<◌, length}
 use Rattle.std.specs.List.{sum_by, filter_map}
 use Rattle.std.specs.Option.{option_map, unwrap_or}
@@ -16,47 +19,13 @@ use Rattle.minidump_records.specs.declared.handles.descriptor.MinidumpHandleDesc
 use Rattle.minidump_records.specs.declared.handles.information.MinidumpHandleObjectInformation.{MinidumpHandleObjectInformation}
 use Rattle.minidump_records.specs.declared.handles.raw.RawHandleDescriptor.{RawHandleDescriptor}
 use Rattle.minidump_records.specs.declared.handles.raw.RawHandleDescriptor.TheVariants.{HandleDescriptor, HandleDescriptor2}
-use Rattle.minidump_records.specs.ObjectChain.{chain_reads, information_at, reads_at}
-use Rattle.minidump_records.specs.OneChain.{one_object_chain}
-
--- ---- the fields of MINIDUMP_HANDLE_DESCRIPTOR and of MINIDUMP_HANDLE_DESCRIPTOR_2
-
-abbrev pub handle : RawHandleDescriptor → Option ℕ
-handle (HandleDescriptor raw) = Some raw.handle
-handle (HandleDescriptor2 raw) = Some raw.handle
-
-abbrev pub type_name_rva : RawHandleDescriptor → Option ℕ
-type_name_rva (HandleDescriptor raw) = Some raw.type_name_rva
-type_name_rva (HandleDescriptor2 raw) = Some raw.type_name_rva
-
-abbrev pub object_name_rva : RawHandleDescriptor → Option ℕ
-object_name_rva (HandleDescriptor raw) = Some raw.object_name_rva
-object_name_rva (HandleDescriptor2 raw) = Some raw.object_name_rva
-
-abbrev pub attributes : RawHandleDescriptor → Option ℕ
-attributes (HandleDescriptor raw) = Some raw.attributes
-attributes (HandleDescriptor2 raw) = Some raw.attributes
-
-abbrev pub granted_access : RawHandleDescriptor → Option ℕ
-granted_access (HandleDescriptor raw) = Some raw.granted_access
-granted_access (HandleDescriptor2 raw) = Some raw.granted_access
-
-abbrev pub handle_count : RawHandleDescriptor → Option ℕ
-handle_count (HandleDescriptor raw) = Some raw.handle_count
-handle_count (HandleDescriptor2 raw) = Some raw.handle_count
-
-abbrev pub pointer_count : RawHandleDescriptor → Option ℕ
-pointer_count (HandleDescriptor raw) = Some raw.pointer_count
-pointer_count (HandleDescriptor2 raw) = Some raw.pointer_count
-
--- the first has no such field
-abbrev pub object_info_rva : RawHandleDescriptor → Option ℕ
-object_info_rva (HandleDescriptor raw) = None
-object_info_rva (HandleDescriptor2 raw) = Some raw.object_info_rva
+use Rattle.minidump_records.specs.Handles.Descriptor.{object_info_rva, object_name_rva, type_name_rva}
+use Rattle.minidump_records.specs.Handles.ObjectChain.{chain_reads, information_at, reads_at}
+use Rattle.minidump_records.specs.Handles.OneObjectChain.{one_object_chain}
 
 -- ---- a handle
 
--- its descriptor, its names in UTF-8, and what is known of its object
+-- its descriptor, its names in UTF-8, and the information on its object
 pub record Handle : Type 0 where
   pub raw : RawHandleDescriptor
   pub type_name : Option (List ℕ)
@@ -71,15 +40,15 @@ handle_of h = record {
   object_infos = h.object_infos.items;
 }
 
--- a number of a descriptor, 0 where there is none
+-- an RVA of a descriptor, or 0 where its layout has no such field
 abbrev pub or_zero : Option ℕ → ℕ
 or_zero rva = unwrap_or rva 0
 
 -- the name at an RVA: none at 0, and where no text is
-unfoldable pub name_at : Endian → List ℕ → ℕ → Option (List ℕ)
-name_at order file rva = if rva == 0 then None else text16 order rva file
+unfoldable pub name_at_rva : Endian → List ℕ → ℕ → Option (List ℕ)
+name_at_rva order file rva = if rva == 0 then None else text16 order rva file
 
--- the offsets of the object chain from a link: the one list that is `IsChain` of ObjectChain.antt
+-- the offsets of the object chain from a link: the one list that meets `IsChain` of `minidump_system`'s Chain.antt
 unfoldable pub chain_offsets : Endian → List ℕ → ℕ → List ℕ
 chain_offsets order file link = (one_object_chain order file link).the
 
@@ -91,14 +60,15 @@ object_chain order file link = filter_map (information_at order file) (chain_off
 abbrev pub handle_in : Endian → List ℕ → RawHandleDescriptor → Handle
 handle_in order file raw = record {
   raw = raw;
-  type_name = name_at order file (or_zero (type_name_rva raw));
-  object_name = name_at order file (or_zero (object_name_rva raw));
+  type_name = name_at_rva order file (or_zero (type_name_rva raw));
+  object_name = name_at_rva order file (or_zero (object_name_rva raw));
   object_infos = object_chain order file (or_zero (object_info_rva raw));
 }
 
--- how much is read for the names and the object of a handle
+-- the reads of the names of a handle and of the information on its object
 abbrev pub handle_reads : Handle → ℕ
-handle_reads h = reads_at (or_zero (type_name_rva h.raw)) + reads_at (or_zero (object_name_rva h.raw)) + chain_reads (or_zero (object_info_rva h.raw)) h.object_infos
+handle_reads h =
+    reads_at (or_zero (type_name_rva h.raw)) + reads_at (or_zero (object_name_rva h.raw)) + chain_reads (or_zero (object_info_rva h.raw)) h.object_infos
 
 -- ---- the stream
 

@@ -1,20 +1,11 @@
--- What the contracts of this crate cite.
-pub mod Parts
-pub mod LastValues
-pub mod OneDictionary
-pub mod Dictionary
-pub mod Annotation
-pub mod CrashpadInfo
+-- What the contracts of this crate cite: a module for each stream.
 pub mod ThreadNames
 pub mod ThreadInfo
+pub mod Handles
+pub mod Crashpad
 pub mod BreakpadInfo
 pub mod Assertion
 pub mod BootArgs
-pub mod SoftErrors
-pub mod LinuxPairs
-pub mod LinuxTexts
-pub mod ObjectChain
-pub mod OneChain
-pub mod Handles
-pub mod MacRecord
 pub mod MacCrashInfo
+pub mod Linux
+pub mod SoftErrors

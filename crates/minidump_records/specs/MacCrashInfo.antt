@@ -1,18 +1,20 @@
 -- The crash information of macOS: Mozilla's MDRawMacCrashInfo.
+pub mod Record
 use Rattle.std.specs.Prelude.{ℕ, ◌+◌, ◌==◌, List, ◌∷◌, map, min, take, Option, Some, None, Result, Ok, Err, slice_range, if◌then◌else◌, IsSome, ◌*◌}
 use Rattle.std.specs.List.{filter_map, sum_by, zip}
 use Rattle.std.specs.Option.{ok_or, option_and_then, option_map}
 use Rattle.minidump_bytes.specs.declared.endian.Endian.{Endian}
 use Rattle.minidump_bytes.specs.Number.{number_at}
-use Rattle.minidump_bytes.specs.Span.{record_at, span}
+use Rattle.minidump_bytes.specs.Span.{record_at}
 use Rattle.minidump_format.specs.declared.format.stream_type.MINIDUMP_STREAM_TYPE.TheVariants.{MozMacosCrashInfoStream}
+use Rattle.minidump_format.specs.Header.{located}
 use Rattle.minidump_format.specs.declared.error.Error.{Error}
 use Rattle.minidump_format.specs.declared.error.Error.TheVariants.{StreamReadFailure, VersionMismatch}
 use Rattle.minidump_format.specs.declared.format.header.MINIDUMP_LOCATION_DESCRIPTOR.{MINIDUMP_LOCATION_DESCRIPTOR}
 use Rattle.minidump_format.specs.Mac.{mac_crash_info, mac_record}
 use Rattle.minidump_system.specs.StreamSpec.{StreamSpec, linear}
 use Rattle.minidump_system.specs.Reads.{all_ok, and_then}
-use Rattle.minidump_records.specs.MacRecord.{MacRecord, by_version, mac_record_of, record_reads}
+use Rattle.minidump_records.specs.MacCrashInfo.Record.{MacRecord, by_version, mac_record_of, record_reads}
 use Rattle.minidump_records.specs.declared.mac_crash_info.MinidumpMacCrashInfo.{MinidumpMacCrashInfo}
 use Rattle.minidump_records.specs.declared.mac_crash_info.raw.RawMacCrashInfo.{RawMacCrashInfo}
 
@@ -29,12 +31,12 @@ record_if (Some r) = Some (mac_record_of r)
 abbrev pub stated_version : Endian → List ℕ → Option ℕ
 stated_version order bytes = option_map (λ head. head.version) (record_at mac_record order 0 bytes)
 
--- a version has to be that of the record before, if there is one
+-- the version of a record, which has to be that of the record before it, if there is one
 abbrev pub follows : Option ℕ → ℕ → Result ℕ Error
 follows None version = Ok version
 follows (Some before) version = if version == before then Ok version else Err VersionMismatch
 
--- the record that bytes are, behind one of a version, where the texts begin at a place; one of version 0 is none
+-- the record of these bytes, by the place where its texts begin and the version of the record before it; a record of version 0 is left out
 abbrev pub behind_version : Endian → ℕ → Option ℕ → List ℕ → Result (Option MacRecord) Error
 behind_version order start before bytes =
     and_then (ok_or (record_at mac_record order 0 bytes) StreamReadFailure) (λ head.
@@ -42,18 +44,18 @@ behind_version order start before bytes =
 
 -- the version of the record at a location
 unfoldable pub located_version : Endian → List ℕ → MINIDUMP_LOCATION_DESCRIPTOR → Option ℕ
-located_version order file l = option_and_then (stated_version order) (span l.rva (l.rva + l.data_size) file)
+located_version order file l = option_and_then (stated_version order) (located file l)
 
 -- the record at a location
 unfoldable pub located_record : Endian → List ℕ → ℕ → Option ℕ → MINIDUMP_LOCATION_DESCRIPTOR → Result (Option MacRecord) Error
 located_record order file start before l =
-    and_then (ok_or (span l.rva (l.rva + l.data_size) file) StreamReadFailure) (behind_version order start before)
+    and_then (ok_or (located file l) StreamReadFailure) (behind_version order start before)
 
 -- each location with the one before it, if there is one
 abbrev pub with_neighbours : List MINIDUMP_LOCATION_DESCRIPTOR → List (Option MINIDUMP_LOCATION_DESCRIPTOR × MINIDUMP_LOCATION_DESCRIPTOR)
 with_neighbours ls = zip (None ∷ map Some ls) ls
 
--- the record at a location, whose version is that of its neighbour
+-- the record at a location, whose version has to be that of the record before it
 abbrev pub neighbouring_record : Endian → List ℕ → ℕ → Option MINIDUMP_LOCATION_DESCRIPTOR × MINIDUMP_LOCATION_DESCRIPTOR → Result (Option MacRecord) Error
 neighbouring_record order file start p = located_record order file start (option_and_then (located_version order file) p.0) p.1
 

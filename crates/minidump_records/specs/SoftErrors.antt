@@ -1,4 +1,4 @@
--- Errors that the writer of a dump met and went on after: Mozilla's stream of JSON in UTF-8.
+-- Errors that did not keep the writer of a dump from writing it: Mozilla's stream of JSON in UTF-8.
 use Rattle.std.specs.Prelude.{ℕ, List, Result}
 use Rattle.std.specs.Option.{ok_or}
 use Rattle.minidump_bytes.specs.Text8.{utf8_text}

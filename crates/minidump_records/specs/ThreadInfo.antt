@@ -18,7 +18,7 @@ thread_info_list_of l = map (λ i. i.raw) l.thread_infos.items
 abbrev pub thread_info_list_in : Endian → List ℕ → Result (List MINIDUMP_THREAD_INFO) Error
 thread_info_list_in order bytes = extended_list thread_info order bytes
 
--- the last information of a thread
+-- the last information that has the id of a thread
 abbrev pub last_info : List MinidumpThreadInfo → ℕ → Option MinidumpThreadInfo
 last_info infos id = find (λ i. i.raw.thread_id == id) (reverse infos)
 

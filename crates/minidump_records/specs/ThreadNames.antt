@@ -26,7 +26,7 @@ thread_names_of n = map (λ e. (e.0, string_bytes e.1)) n.names.entries
 abbrev pub named : Endian → List ℕ → MINIDUMP_THREAD_NAME → Option ThreadName
 named order file raw = option_map (λ name. (raw.thread_id, name)) (text16 order raw.thread_name_rva file)
 
--- the last of the names that a thread has
+-- the last name that has the id of a thread
 abbrev pub last_name : List ThreadName → ℕ → Option (List ℕ)
 last_name names id = lookup (λ t. t == id) (reverse names)
 
@@ -34,13 +34,13 @@ last_name names id = lookup (λ t. t == id) (reverse names)
 unfoldable pub last_names : ℕ → List ThreadName → List ThreadName
 last_names limit names = filter_map (λ id. option_map (λ name. (id, name)) (last_name names id)) (range_with_len 0 limit)
 
--- Microsoft's MINIDUMP_THREAD_NAME_LIST: a plain list of entries, of which one whose name is no text does not count
+-- Microsoft's MINIDUMP_THREAD_NAME_LIST: a plain list of entries, without those whose name is no text
 abbrev pub thread_names_in : Endian → List ℕ → List ℕ → Result (List ThreadName) Error
 thread_names_in order file bytes = and_then (plain_list thread_name order bytes) (λ raws. Ok (last_names (2 ^ 32) (filter_map (named order file) raws)))
 
--- the name of a thread, of several the first
-abbrev pub name_at : List ThreadName → ℕ → Option (List ℕ)
-name_at names id = lookup (λ t. t == id) names
+-- the name of a thread: the first that has its id
+abbrev pub name_of_thread : List ThreadName → ℕ → Option (List ℕ)
+name_of_thread names id = lookup (λ t. t == id) names
 
 -- the stream of type ThreadNamesStream
 abbrev pub thread_names_stream : StreamSpec MinidumpThreadNames (List ThreadName)

@@ -15,10 +15,10 @@ pub struct MinidumpAssertion {
     pub raw: MINIDUMP_ASSERTION_INFO,
 }
 
-/// The texts, each up to its first NUL, or `Ok(None)` if a surrogate lacks its partner before that. The only
-/// error is [`Error::OutOfMemory`].
+/// The texts. Each ends at its first NUL, and is `Ok(None)` if a surrogate before that NUL lacks its partner.
+/// The only error is [`Error::OutOfMemory`].
 impl MinidumpAssertion {
-    /// Returns the assertion.
+    /// Returns the expression that was false.
     pub fn expression(&self, alloc: Global) -> Result<Option<String>, Error>
         ensures value { IfOk result (λ text. option_map string_bytes text ≡ text_before_nul self.now.raw.expression) }
         ensures memory { IsOkUnless result Error.OutOfMemory }
@@ -26,7 +26,7 @@ impl MinidumpAssertion {
         Ok(text_before_nul(alloc, &self.raw.expression)?)
     }
 
-    /// Returns the function that has the assertion.
+    /// Returns the name of the function in which the assertion stands.
     pub fn function(&self, alloc: Global) -> Result<Option<String>, Error>
         ensures value { IfOk result (λ text. option_map string_bytes text ≡ text_before_nul self.now.raw.function) }
         ensures memory { IsOkUnless result Error.OutOfMemory }
@@ -34,7 +34,7 @@ impl MinidumpAssertion {
         Ok(text_before_nul(alloc, &self.raw.function)?)
     }
 
-    /// Returns the source file that has the assertion.
+    /// Returns the name of the source file in which the assertion stands.
     pub fn file(&self, alloc: Global) -> Result<Option<String>, Error>
         ensures value { IfOk result (λ text. option_map string_bytes text ≡ text_before_nul self.now.raw.file) }
         ensures memory { IsOkUnless result Error.OutOfMemory }
@@ -43,7 +43,8 @@ impl MinidumpAssertion {
     }
 }
 
-/// Breakpad's `MDRawAssertionInfo`. `StreamReadFailure` if the stream is shorter than that. Takes no memory.
+/// Reads Breakpad's `MDRawAssertionInfo`. Returns `StreamReadFailure` if the stream is shorter than the record.
+/// Takes no memory.
 impl<'a> MinidumpStream<'a> for MinidumpAssertion {
     ghost use Rattle.minidump_format.specs.declared.format.assertion.MINIDUMP_ASSERTION_INFO.{MINIDUMP_ASSERTION_INFO};
     ghost use Rattle.minidump_records.specs.Assertion.{assertion_stream};

@@ -13,7 +13,7 @@ use std::alloc::Global;
 /// The arguments that macOS was booted with.
 #[derive(Drop)]
 pub struct MinidumpMacBootargs {
-    /// The record of the stream. In its short form the RVA has 32 bits, and is widened.
+    /// The record of the stream. The RVA of the short form has 32 bits, and is widened to 64.
     pub raw: MINIDUMP_MAC_BOOTARGS,
     /// The arguments, or `None` if no text is at their RVA.
     pub bootargs: Option<String>,
@@ -58,8 +58,8 @@ impl Record for ShortBootArgs {
     ghost fits = { Prim.search rules };
 }
 
-/// Mozilla's `MDRawMacBootargs`, in the form of 12 bytes, or of 8 bytes where the stream is shorter.
-/// `StreamReadFailure` if it is shorter than that too.
+/// Reads Mozilla's `MDRawMacBootargs`: the form of 12 bytes, or the form of 8 bytes if the stream is shorter than 12.
+/// Returns `StreamReadFailure` if the stream is shorter than 8 bytes.
 impl<'a> MinidumpStream<'a> for MinidumpMacBootargs {
     ghost use Rattle.minidump_records.specs.BootArgs.{BootArgs, mac_bootargs_stream};
 

@@ -1,5 +1,5 @@
 ghost use Rattle.std.specs.Prelude.{◌≡◌};
-ghost use Rattle.minidump_records.specs.BreakpadInfo.{breakpad_of, where_valid};
+ghost use Rattle.minidump_records.specs.BreakpadInfo.{breakpad_in, where_valid};
 
 use minidump_bytes::{Endian, Source, Steps};
 use minidump_format::Error;
@@ -17,13 +17,14 @@ const REQUESTING_THREAD_ID: u32 = 0x2;
 pub struct MinidumpBreakpadInfo {
     /// The record of the stream.
     pub raw: MINIDUMP_BREAKPAD_INFO,
-    /// The id of the thread that wrote the dump, if it is set.
+    /// The id of the thread that wrote the dump, or `None` if its flag is not set.
     pub dump_thread_id: Option<u32>,
-    /// The id of the thread that requested the dump, if it is set.
+    /// The id of the thread that requested the dump, or `None` if its flag is not set.
     pub requesting_thread_id: Option<u32>,
 }
 
-/// Breakpad's `MDRawBreakpadInfo`. `StreamReadFailure` if the stream is shorter than that. Takes no memory.
+/// Reads Breakpad's `MDRawBreakpadInfo`. Returns `StreamReadFailure` if the stream is shorter than the record.
+/// Takes no memory.
 impl<'a> MinidumpStream<'a> for MinidumpBreakpadInfo {
     ghost use Rattle.minidump_records.specs.declared.breakpad_info.MinidumpBreakpadInfo.{MinidumpBreakpadInfo};
     ghost use Rattle.minidump_records.specs.BreakpadInfo.{breakpad_info_stream};
@@ -53,9 +54,9 @@ impl<'a> MinidumpStream<'a> for MinidumpBreakpadInfo {
     }
 }
 
-// Tells which threads a record names.
+// Returns the record with the ids whose flags are set.
 fn info_of(raw: MINIDUMP_BREAKPAD_INFO) -> MinidumpBreakpadInfo
-    ensures { result ≡ breakpad_of raw }
+    ensures { result ≡ breakpad_in raw }
 {
     MinidumpBreakpadInfo {
         raw,

@@ -5,15 +5,16 @@ ghost use Rattle.minidump_format.specs.declared.format.crashpad.MINIDUMP_ANNOTAT
 ghost use Rattle.minidump_system.specs.Meaning.{DependsOnItsBytesAlone};
 ghost use Rattle.minidump_records.specs.declared.thread_info.MinidumpThreadInfo.{MinidumpThreadInfo};
 ghost use Rattle.minidump_records.specs.declared.breakpad_info.MinidumpBreakpadInfo.{MinidumpBreakpadInfo};
-ghost use Rattle.minidump_records.specs.Annotation.{Annotation, AreSame, unsupported, user_defined};
-ghost use Rattle.minidump_records.specs.Dictionary.{dictionary_of};
+ghost use Rattle.minidump_records.specs.Crashpad.Annotations.{Annotation, AreSame, unsupported, user_defined};
+ghost use Rattle.minidump_records.specs.Crashpad.Dictionary.{dictionary_of};
 ghost use Rattle.minidump_records.specs.Handles.{chain_offsets, object_chain};
-ghost use Rattle.minidump_records.specs.LastValues.{IsDictionaryOf};
+ghost use Rattle.minidump_system.specs.LastValues.{IsDictionaryOf};
 ghost use Rattle.minidump_records.specs.ThreadInfo.{last_info};
-ghost use Rattle.minidump_records.specs.ThreadNames.{ThreadName, last_names, name_at};
+ghost use Rattle.minidump_records.specs.ThreadNames.{ThreadName, last_names, name_of_thread};
 ghost use Rattle.minidump_records.specs.declared.handles.information.MinidumpHandleObjectInformation.{MinidumpHandleObjectInformation};
 ghost use Rattle.minidump_records.specs.declared.handles.raw.RawHandleDescriptor.{RawHandleDescriptor};
-ghost use Rattle.minidump_records.specs.ObjectChain.{IsChain, information_at, next_of};
+ghost use Rattle.minidump_system.specs.Chain.{IsChain};
+ghost use Rattle.minidump_records.specs.Handles.ObjectChain.{information_at, next_of};
 
 use crate::{
     MinidumpAssertion, MinidumpBreakpadInfo, MinidumpHandleObjectInformation, MinidumpLinuxCpuInfo,
@@ -23,29 +24,29 @@ use crate::{
 };
 use minidump_system::MinidumpStream;
 
-/// The entries of a dictionary: the keys ascend by their bytes, and each has the value of its last pair. No
-/// other list of entries has this.
+/// In a dictionary the keys ascend by their bytes, and each key has the value of its last pair. No other list
+/// of entries does this.
 pub fn dictionaries_have_the_last_values()
     ensures texts { (pairs es : List (List ℕ × List ℕ)) → IsDictionaryOf pairs es ↔ (es ≡ dictionary_of pairs) }
     ensures annotations { (pairs es : List (List ℕ × Annotation)) → IsDictionaryOf pairs es ↔ (es ≡ dictionary_of pairs) }
 {}
 
-/// `same_as` is no equality: an annotation whose value is not read is not the same as itself.
+/// `same_as` is no equality: an annotation whose value is not read is never the same as itself.
 pub fn an_annotation_need_not_be_the_same_as_itself()
     ensures user_defined { (raw : MINIDUMP_ANNOTATION) → AreSame (user_defined raw) (user_defined raw) → ⊥ }
     ensures unsupported { (raw : MINIDUMP_ANNOTATION) → AreSame (unsupported raw) (unsupported raw) → ⊥ }
 {}
 
-/// Of the names of one thread the last is kept. A thread that no name is of has none.
+/// If several names have the id of a thread, the last one is kept. A thread whose id no name has gets none.
 pub fn last_name_of_a_thread_is_kept()
     ensures last { (before later : List ThreadName) (n : ThreadName) → n.0 < 2 ^ 32
         → All (λ x. x.0 ≢ n.0) later
-        → name_at (last_names (2 ^ 32) (before ++ (n ∷ later))) n.0 ≡ Some n.1 }
+        → name_of_thread (last_names (2 ^ 32) (before ++ (n ∷ later))) n.0 ≡ Some n.1 }
     ensures none { (names : List ThreadName) (id : ℕ) → id < 2 ^ 32
-        → All (λ x. x.0 ≢ id) names → name_at (last_names (2 ^ 32) names) id ≡ None }
+        → All (λ x. x.0 ≢ id) names → name_of_thread (last_names (2 ^ 32) names) id ≡ None }
 {}
 
-/// Of the information of one thread the last is found. For a thread that none is of there is none.
+/// If several entries have the id of a thread, the last one is found. For an id that no entry has, none is.
 pub fn last_info_of_a_thread_is_found()
     ensures last { (before later : List MinidumpThreadInfo) (i : MinidumpThreadInfo)
         → All (λ x. x.raw.thread_id ≢ i.raw.thread_id) later
@@ -54,8 +55,8 @@ pub fn last_info_of_a_thread_is_found()
         → All (λ x. x.raw.thread_id ≢ id) infos → last_info infos id ≡ None }
 {}
 
-/// These streams depend on their bytes and the byte order alone, not on the rest of the file or the system
-/// information.
+/// What these streams mean depends on their bytes and the byte order alone, not on the rest of the file or the
+/// system information.
 pub fn streams_depend_on_their_bytes_alone()
     ensures thread_infos { DependsOnItsBytesAlone ⟦<MinidumpThreadInfoList as MinidumpStream<'static>>⟧.spec.meaning }
     ensures breakpad_info { DependsOnItsBytesAlone ⟦<MinidumpBreakpadInfo as MinidumpStream<'static>>⟧.spec.meaning }
@@ -73,8 +74,8 @@ pub fn breakpad_info_clones_are_the_same()
     ensures { (x y : MinidumpBreakpadInfo) → ⟦<MinidumpBreakpadInfo as Clone>⟧.is_clone x y → y ≡ x }
 {}
 
-/// The pieces of information on an object stand at the longest list of distinct offsets that follow a link,
-/// each named by the piece before it: one at each offset, of which none is skipped.
+/// The pieces of information on an object stand at the longest list of distinct offsets that begins at a link,
+/// where each later offset is the one that the piece before it names. A piece stands at each of these offsets.
 pub fn object_chain_is_the_longest()
     ensures offsets { (order : Endian) (file : List ℕ) (link : ℕ)
         → IsChain (information_at order file) next_of link (chain_offsets order file link) }
@@ -82,8 +83,8 @@ pub fn object_chain_is_the_longest()
         → map (information_at order file) (chain_offsets order file link) ≡ map Some (object_chain order file link) }
 {}
 
-/// There is one such list.
-#[tactic(auto, using(crate::specs::OneChain::chain_is_one))]
+/// There is only one such list.
+#[tactic(auto, using(minidump_system::proofs::OneChain::chain_is_one))]
 pub fn object_chain_is_one()
     ensures { (order : Endian) (file : List ℕ) (link : ℕ) (offsets other : List ℕ)
         → IsChain (information_at order file) next_of link offsets

@@ -4,7 +4,7 @@ ghost use Rattle.minidump_bytes.specs.Source.{bytes_of};
 ghost use Rattle.minidump_bytes.specs.Steps.{after};
 ghost use Rattle.minidump_format.specs.Answer.{Gives};
 ghost use Rattle.minidump_format.specs.StreamType.{number_of};
-ghost use Rattle.minidump_records.specs.MacRecord.{mac_record_of, record_reads};
+ghost use Rattle.minidump_records.specs.MacCrashInfo.Record.{mac_record_of, record_reads};
 ghost use Rattle.minidump_records.specs.MacCrashInfo.{located_records, mac_crash_info_of};
 
 mod raw;
@@ -21,7 +21,7 @@ use std::alloc::Global;
 /// The crash information of macOS: what the modules of the process said of the crash.
 #[derive(Drop)]
 pub struct MinidumpMacCrashInfo {
-    /// The records, but for those of version 0.
+    /// The records. Those of version 0 are left out.
     pub raw: Vec<RawMacCrashInfo>,
 }
 
@@ -39,14 +39,15 @@ impl MinidumpMacCrashInfo {
     }
 }
 
-/// Mozilla's `MDRawMacCrashInfo`: the first 20 records of those that it counts. All have one version; those of
-/// version 0 are left out.
+/// Reads Mozilla's `MDRawMacCrashInfo`: of the records that it counts, the first 20. Records of version 0 are left
+/// out.
 ///
-/// The errors: `StreamReadFailure` if the stream has no 172 bytes, and if the bytes of a record, its fixed part
-/// or one of its texts is missing; `VersionMismatch` if a record has another version than the one before it.
+/// Returns `StreamReadFailure` if the stream is shorter than 172 bytes, or if the bytes of a record, its fixed
+/// part or one of its texts is missing. Returns `VersionMismatch` if a record has another version than the record
+/// before it.
 impl<'a> MinidumpStream<'a> for MinidumpMacCrashInfo {
     ghost use Rattle.std.specs.Prelude.{List};
-    ghost use Rattle.minidump_records.specs.MacRecord.{MacRecord};
+    ghost use Rattle.minidump_records.specs.MacCrashInfo.Record.{MacRecord};
     ghost use Rattle.minidump_records.specs.MacCrashInfo.{mac_crash_info_stream};
 
     ghost Value = { List MacRecord };
@@ -77,7 +78,7 @@ impl<'a> MinidumpStream<'a> for MinidumpMacCrashInfo {
     }
 }
 
-// Reads the records at locations, whose texts begin at `start`.
+// Reads the records at locations. The texts of each begin `start` bytes behind the beginning of the record.
 fn read_records(
     alloc: Global,
     locations: &[MINIDUMP_LOCATION_DESCRIPTOR],

@@ -7,7 +7,7 @@ use minidump_format::Error;
 use minidump_system::{MinidumpStream, MinidumpSystemInfo};
 use std::alloc::Global;
 
-/// The errors that the writer of a dump met and went on after, as a text in JSON.
+/// The errors that did not keep the writer of a dump from writing it, as a text in JSON.
 #[derive(Drop)]
 pub struct MinidumpSoftErrors<'a> {
     text: &'a str,
@@ -29,8 +29,8 @@ impl<'a> MinidumpSoftErrors<'a> {
     }
 }
 
-/// Mozilla's soft errors: the stream is one text in UTF-8, else `DataError`. Reads no number of it, and takes no
-/// memory.
+/// Reads Mozilla's soft errors: the stream is one text. Returns `DataError` if its bytes are not UTF-8. Counts no
+/// step, and takes no memory.
 impl<'a> MinidumpStream<'a> for MinidumpSoftErrors<'a> {
     ghost use Rattle.std.specs.Prelude.{List, ℕ};
     ghost use Rattle.minidump_records.specs.SoftErrors.{soft_errors_stream};

@@ -32,8 +32,7 @@ impl MinidumpThreadInfoList {
         }
     }
 
-    /// Returns the information of the thread with an id, the last if there are several, or `None` if there is
-    /// none.
+    /// Returns the last entry that has the id of a thread, or `None` if no entry has it.
     pub fn get_thread_info(&self, id: u32) -> Option<&MinidumpThreadInfo>
         ensures { option_copied result ≡ last_info self.now.thread_infos.items id }
     {
@@ -42,7 +41,7 @@ impl MinidumpThreadInfoList {
     }
 }
 
-/// Microsoft's `MINIDUMP_THREAD_INFO_LIST`: an extended list of entries.
+/// Reads Microsoft's `MINIDUMP_THREAD_INFO_LIST`: an extended list of entries.
 impl<'a> MinidumpStream<'a> for MinidumpThreadInfoList {
     ghost use Rattle.std.specs.Prelude.{List};
     ghost use Rattle.minidump_format.specs.declared.format.thread.MINIDUMP_THREAD_INFO.{MINIDUMP_THREAD_INFO};

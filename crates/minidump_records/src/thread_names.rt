@@ -6,7 +6,7 @@ ghost use Rattle.std.specs.Ordering.{nat_cmp};
 ghost use Rattle.minidump_bytes.specs.Source.{bytes_of};
 ghost use Rattle.minidump_bytes.specs.Steps.{after};
 ghost use Rattle.minidump_bytes.specs.Text16.{text16};
-ghost use Rattle.minidump_records.specs.ThreadNames.{last_names, name_at, named, thread_names_of, thread_names_stream};
+ghost use Rattle.minidump_records.specs.ThreadNames.{last_names, name_of_thread, named, thread_names_of, thread_names_stream};
 
 use minidump_bytes::{Endian, Entries, Source, Steps};
 use minidump_format::Error;
@@ -23,7 +23,7 @@ pub struct MinidumpThreadNames {
 }
 
 impl MinidumpThreadNames {
-    /// Makes names of no thread. Takes no memory.
+    /// Makes an empty map. Takes no memory.
     pub fn new(alloc: Global) -> MinidumpThreadNames
         ensures { thread_names_of result ≡ [] }
     {
@@ -34,7 +34,7 @@ impl MinidumpThreadNames {
 
     /// Returns the name of a thread, or `None` if it has none.
     pub fn get_name(&self, thread_id: u32) -> Option<&str>
-        ensures { option_copied result ≡ name_at (thread_names_stream.value self.now) thread_id }
+        ensures { option_copied result ≡ name_of_thread (thread_names_stream.value self.now) thread_id }
     {
         let name = self.names.get(&thread_id)?;
         Some(name.as_str())
@@ -51,8 +51,8 @@ impl MinidumpThreadNames {
     }
 }
 
-/// Microsoft's `MINIDUMP_THREAD_NAME_LIST`: a plain list of entries. One whose name is no text is skipped; of
-/// several names of one thread the last is kept.
+/// Reads Microsoft's `MINIDUMP_THREAD_NAME_LIST`: a plain list of entries. An entry whose name is no text is
+/// skipped. If several entries name one thread, the last name is kept.
 impl<'a> MinidumpStream<'a> for MinidumpThreadNames {
     ghost use Rattle.std.specs.Prelude.{List};
     ghost use Rattle.minidump_records.specs.ThreadNames.{ThreadName, thread_names_stream};
@@ -85,7 +85,7 @@ impl<'a> MinidumpStream<'a> for MinidumpThreadNames {
     }
 }
 
-// Reads the names of entries, and keeps the last of each thread.
+// Reads the names of entries, and keeps the last name of each thread.
 fn read_names(
     alloc: Global,
     raws: Entries<'_, MINIDUMP_THREAD_NAME>,
@@ -122,7 +122,7 @@ fn read_name(
     all.text16(alloc, raw.thread_name_rva, endian, steps)
 }
 
-// Puts in the name of a thread, in place of an earlier one.
+// Inserts the name of a thread, in place of an earlier one.
 fn put_name(
     names: &mut BTreeMap<u32, String>,
     thread_id: u32,

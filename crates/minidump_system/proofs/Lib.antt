@@ -7,3 +7,5 @@ pub mod MomentText
 pub mod HexLemmas
 pub mod FeatureLemmas
 pub mod OsPartsLemmas
+pub mod OneChain
+pub mod OneDictionary

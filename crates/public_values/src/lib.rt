@@ -22,7 +22,7 @@ ghost use Rattle.minidump.specs.Below.Modules.CodeView.{view_of};
 ghost use Rattle.minidump.specs.Below.Modules.Module.{module_of};
 ghost use Rattle.minidump.specs.Below.Modules.UnloadedModule.{unloaded_of};
 ghost use Rattle.minidump.specs.Promise.{exception_stream, linux_cpu_info_stream, linux_environ_stream, linux_lsb_release_stream, linux_maps_stream, linux_proc_limits_stream, linux_proc_status_stream, memory64_list_stream, memory_info_list_stream, memory_list_stream, module_list_stream, soft_errors_stream, system_info_stream, thread_list_stream, thread_names_stream, unloaded_module_list_stream};
-ghost use Rattle.minidump.specs.Below.Records.ThreadNames.{name_at};
+ghost use Rattle.minidump.specs.Below.Records.ThreadNames.{name_of_thread};
 ghost use Rattle.minidump.specs.Thread.{thread_of};
 
 use bitflags::Flags;
@@ -180,7 +180,7 @@ pub fn exception<'a>(exception: &MinidumpException<'a>) -> (Option<&'a [u8]>, En
 
 /// Returns the name of a thread.
 pub fn thread_name(names: &MinidumpThreadNames, thread_id: u32) -> Option<&str>
-    ensures { option_copied result ≡ name_at (thread_names_stream.value names.now) thread_id }
+    ensures { option_copied result ≡ name_of_thread (thread_names_stream.value names.now) thread_id }
 {
     names.get_name(thread_id)
 }

@@ -1,5 +1,5 @@
 ghost use Rattle.std.specs.Prelude.{◌≡◌, ◌↔◌, ◌+◌, ◌≤◌, IfOk, IsOkUnless, IsTrue};
-ghost use Rattle.minidump_records.specs.Annotation.{AreSame, annotation_of};
+ghost use Rattle.minidump_records.specs.Crashpad.Annotations.{AreSame, annotation_of};
 
 use super::dictionary::Valued;
 use minidump_bytes::{Endian, Source, Steps};
@@ -14,15 +14,15 @@ pub enum MinidumpAnnotation {
     Invalid,
     /// A text.
     String(String),
-    /// A value of a type from 0x8000 on, which the program that crashed has chosen.
+    /// A value of a type from 0x8000 on. Such types are the choice of the program that crashed.
     UserDefined(MINIDUMP_ANNOTATION),
     /// A value of another type.
     Unsupported(MINIDUMP_ANNOTATION),
 }
 
 impl MinidumpAnnotation {
-    /// Tells whether both are invalid, or equal texts. This is no equality: an annotation of another kind is
-    /// not the same as itself, since its value is not read.
+    /// Returns `true` if both are `Invalid`, or are equal texts. This is no equality: an annotation of another
+    /// kind is not the same as itself, since its value is not read.
     pub fn same_as(&self, other: &MinidumpAnnotation) -> bool
         ensures { IsTrue result ↔ AreSame (annotation_of self.now) (annotation_of other.now) }
     {
@@ -49,9 +49,9 @@ impl MinidumpAnnotation {
     }
 }
 
-/// The value of an annotation is read by its type.
+/// Reads the value of an annotation by its type.
 impl Valued<MINIDUMP_ANNOTATION> for MinidumpAnnotation {
-    ghost use Rattle.minidump_records.specs.Annotation.{Annotation, annotation_in, annotation_of, annotation_reads};
+    ghost use Rattle.minidump_records.specs.Crashpad.Annotations.{Annotation, annotation_in, annotation_of, annotation_reads};
 
     ghost Value = { Annotation };
 

@@ -5,8 +5,8 @@ ghost use Rattle.minidump_bytes.specs.Source.{bytes_of};
 ghost use Rattle.minidump_bytes.specs.Steps.{after};
 ghost use Rattle.minidump_format.specs.declared.error.Error.{Error};
 ghost use Rattle.minidump_format.specs.Answer.{Gives};
-ghost use Rattle.minidump_records.specs.Dictionary.{dictionary, entries_of};
-ghost use Rattle.minidump_records.specs.Parts.{opened_reads, WithinParts};
+ghost use Rattle.minidump_records.specs.Crashpad.Dictionary.{dictionary, entries_of};
+ghost use Rattle.minidump_records.specs.Crashpad.Parts.{opened_reads, WithinParts};
 
 use super::part::{Part, read_untested};
 use super::text::read_text;
@@ -18,7 +18,7 @@ use minidump_format::format::{
 use std::alloc::Global;
 use std::collections::BTreeMap;
 
-/// What an entry of a dictionary names beside its key.
+/// The value that an entry of a dictionary names, beside its key.
 pub(crate) trait Valued<E>: Sized {
     ghost Value: { Type 0 };
 
@@ -51,10 +51,10 @@ pub(crate) trait Valued<E>: Sized {
         ensures at_least { IfOk result (λ v. after steps.old (fewest (value v)) ≤ steps.new) };
 }
 
-/// The value of an entry of a plain dictionary is a text.
+/// Reads the value of an entry of a plain dictionary, which is a text.
 impl Valued<MINIDUMP_SIMPLE_STRING_DICTIONARY_ENTRY> for String {
     ghost use Rattle.std.specs.Prelude.{ℕ, List, string_bytes};
-    ghost use Rattle.minidump_records.specs.Dictionary.{text_in};
+    ghost use Rattle.minidump_records.specs.Crashpad.Dictionary.{text_in};
 
     ghost Value = { List ℕ };
 
@@ -90,7 +90,7 @@ pub(crate) struct Keyed<V> {
 
 impl<E, V: Valued<E>> Part<E> for Keyed<V> {
     ghost use Rattle.std.specs.Prelude.{ℕ, ◌+◌, List};
-    ghost use Rattle.minidump_records.specs.Dictionary.{HasText, keyed, pair_of};
+    ghost use Rattle.minidump_records.specs.Crashpad.Dictionary.{HasText, keyed, pair_of};
 
     ghost Value = { List ℕ × V.Value };
 
@@ -117,7 +117,7 @@ impl<E, V: Valued<E>> Part<E> for Keyed<V> {
     }
 }
 
-/// Reads the dictionary at a location. Of entries with one key the last is kept; all are read.
+/// Reads the dictionary at a location. All entries are read; if several have one key, the last one is kept.
 pub(crate) fn read_dictionary<E: Record + Drop, V: Valued<E> + Drop>(
     alloc: Global,
     location: MINIDUMP_LOCATION_DESCRIPTOR,

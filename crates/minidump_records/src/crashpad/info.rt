@@ -2,7 +2,7 @@ ghost use Rattle.std.specs.Prelude.{◌≡◌, ◌+◌, ◌≤◌};
 ghost use Rattle.minidump_bytes.specs.Source.{bytes_of};
 ghost use Rattle.minidump_bytes.specs.Steps.{after};
 ghost use Rattle.minidump_format.specs.Answer.{Gives};
-ghost use Rattle.minidump_records.specs.CrashpadInfo.{crashpad_record};
+ghost use Rattle.minidump_records.specs.Crashpad.{crashpad_record};
 
 use super::MinidumpModuleCrashpadInfo;
 use super::dictionary::read_dictionary;
@@ -28,8 +28,8 @@ pub struct MinidumpCrashpadInfo {
     pub module_list: Vec<MinidumpModuleCrashpadInfo>,
 }
 
-// Reads the record, whose version is not 0.
-#[tactic(auto, unfolding(crate::specs::CrashpadInfo::crashpad_record))]
+// Reads the record. Returns `VersionMismatch` if its version is 0.
+#[tactic(auto, unfolding(crate::specs::Crashpad::crashpad_record))]
 fn read_record(
     bytes: Source<'_>,
     endian: Endian,
@@ -47,10 +47,10 @@ fn read_record(
     Ok(raw)
 }
 
-/// Crashpad's `MinidumpCrashpadInfo`: a record, whose version is not 0, then its dictionary and its list of
-/// links to modules.
+/// Reads Crashpad's `MinidumpCrashpadInfo`: a record, then its dictionary and its list of links to modules.
+/// Returns `VersionMismatch` if the version of the record is 0.
 impl<'a> MinidumpStream<'a> for MinidumpCrashpadInfo {
-    ghost use Rattle.minidump_records.specs.CrashpadInfo.{Crashpad, crashpad_info_stream};
+    ghost use Rattle.minidump_records.specs.Crashpad.{Crashpad, crashpad_info_stream};
 
     ghost Value = { Crashpad };
 
@@ -62,7 +62,7 @@ impl<'a> MinidumpStream<'a> for MinidumpCrashpadInfo {
         Self::STREAM_TYPE
     }
 
-    #[tactic(auto, unfolding(crate::specs::CrashpadInfo::crashpad_info_in))]
+    #[tactic(auto, unfolding(crate::specs::Crashpad::crashpad_info_in))]
     fn read(
         alloc: Global,
         bytes: Source<'a>,

@@ -1,5 +1,5 @@
 ghost use Rattle.minidump_format.specs.Answer.{Gives};
-ghost use Rattle.minidump_records.specs.CrashpadInfo.{HasModule, module_in, module_of};
+ghost use Rattle.minidump_records.specs.Crashpad.{HasModule, module_in, module_of};
 
 use super::MinidumpAnnotation;
 use super::dictionary::read_dictionary;
@@ -18,7 +18,7 @@ use std::collections::BTreeMap;
 pub struct MinidumpModuleCrashpadInfo {
     /// Its record.
     pub raw: MINIDUMP_MODULE_CRASHPAD_INFO,
-    /// The index of the module in the module list, as the link has it.
+    /// The index of the module in the module list, which the link states.
     pub module_index: usize,
     /// The texts of its list, in the order of the list.
     pub list_annotations: Vec<String>,
@@ -29,13 +29,12 @@ pub struct MinidumpModuleCrashpadInfo {
 }
 
 impl MinidumpModuleCrashpadInfo {
-    /// Reads the information that a link names from the bytes of the file. The size of the link's location is
-    /// not looked at, nor is the version of the information. Its three lists are read in the order of its
-    /// record.
+    /// Reads the information that a link names from the bytes of the file, `all`: the record, and then its three
+    /// lists in the order of the record. Ignores the size that the link states, and the version of the record.
     ///
     /// Returns `StreamReadFailure` if a record, a location, a text or an entry is not in the file,
-    /// `StreamSizeMismatch` if the list of texts counts more bytes of entries than the file has, and
-    /// `OutOfMemory` if an allocation fails, and only where the record is in the file.
+    /// `StreamSizeMismatch` if the entries that the list of texts counts would be more bytes than the file
+    /// has, and `OutOfMemory` if an allocation fails. Memory is taken only if the record is in the file.
     pub fn read(
         alloc: Global,
         link: MINIDUMP_MODULE_CRASHPAD_INFO_LINK,
@@ -54,10 +53,10 @@ impl MinidumpModuleCrashpadInfo {
     }
 }
 
-/// A link of the list of modules names the information on one.
+/// Reads the information on a module that a link of the list names.
 impl Part<MINIDUMP_MODULE_CRASHPAD_INFO_LINK> for MinidumpModuleCrashpadInfo {
     ghost use Rattle.std.specs.Prelude.{◌+◌, ◌*◌};
-    ghost use Rattle.minidump_records.specs.CrashpadInfo.{HasModule, Module, module_in, module_of, module_reads};
+    ghost use Rattle.minidump_records.specs.Crashpad.{HasModule, Module, module_in, module_of, module_reads};
 
     ghost Value = { Module };
 
@@ -71,7 +70,7 @@ impl Part<MINIDUMP_MODULE_CRASHPAD_INFO_LINK> for MinidumpModuleCrashpadInfo {
 
     ghost fewest = { module_reads };
 
-    #[tactic(auto, unfolding(crate::specs::CrashpadInfo::module_in))]
+    #[tactic(auto, unfolding(crate::specs::Crashpad::module_in))]
     fn read_part(
         alloc: Global,
         entry: &MINIDUMP_MODULE_CRASHPAD_INFO_LINK,

@@ -5,14 +5,14 @@ ghost use Rattle.minidump_bytes.specs.Source.{bytes_of};
 ghost use Rattle.minidump_bytes.specs.Steps.{after};
 ghost use Rattle.minidump_format.specs.declared.error.Error.{Error};
 ghost use Rattle.minidump_format.specs.Answer.{Gives};
-ghost use Rattle.minidump_records.specs.Parts.{list_of, opened, opened_reads, parts, tested_list, untested_list, WithinParts};
+ghost use Rattle.minidump_records.specs.Crashpad.Parts.{list_of, opened, opened_reads, parts, tested_list, untested_list, WithinParts};
 
 use minidump_bytes::{Endian, Record, Source, Steps};
 use minidump_format::Error;
 use minidump_format::format::MINIDUMP_LOCATION_DESCRIPTOR;
 use std::alloc::Global;
 
-/// What an entry of a list names in the file.
+/// The part of the file that an entry of a list names.
 pub(crate) trait Part<E>: Sized {
     ghost Value: { Type 0 };
 
@@ -21,7 +21,7 @@ pub(crate) trait Part<E>: Sized {
     // the value or the error, by the byte order, the file's bytes and the entry
     ghost part: { Endian → List ℕ → E → Result Value Error };
 
-    // where a read may run out of memory, by the same
+    // where a read may run out of memory, by the byte order, the file's bytes and the entry
     ghost memory: { Endian → List ℕ → E → Type 0 };
 
     // the most reads, by the file's length
@@ -30,7 +30,7 @@ pub(crate) trait Part<E>: Sized {
     // the fewest reads of a value that is read
     ghost fewest: { Value → ℕ };
 
-    /// Reads it from the bytes of the file, `all`.
+    /// Reads the part from the bytes of the file, `all`.
     fn read_part(
         alloc: Global,
         entry: &E,
@@ -44,8 +44,8 @@ pub(crate) trait Part<E>: Sized {
         ensures at_least { IfOk result (λ p. after steps.old (fewest (value p)) ≤ steps.new) };
 }
 
-// Reads the bytes of the list at a location, and the count that they begin with. Without bytes the count is 0.
-#[tactic(auto, unfolding(crate::specs::Parts::opened))]
+// Reads the bytes of the list at a location, and the count that they begin with. The count of no bytes is 0.
+#[tactic(auto, unfolding(crate::specs::Crashpad::Parts::opened))]
 fn open_list<'a>(
     location: MINIDUMP_LOCATION_DESCRIPTOR,
     all: Source<'a>,
@@ -58,8 +58,8 @@ fn open_list<'a>(
     ensures grows { steps.old ≤ steps.new }
     ensures at_least { IfOk result (λ _. after steps.old (opened_reads location) ≤ steps.new) }
 {
-    let bytes = all
-        .span(location.rva as u64, location.data_size as u64, steps)
+    let bytes = location
+        .bytes_in(all, steps)
         .ok_or(Error::StreamReadFailure)?;
     let bytes = Source::new(bytes);
     if location.data_size == 0 {
@@ -71,8 +71,8 @@ fn open_list<'a>(
     Ok((bytes, count))
 }
 
-// Reads the parts that `count` entries name, which stand behind the count. The list grows entry by entry, so
-// that a forged count reserves no memory.
+// Reads the parts that the `count` entries behind the count name. The list grows entry by entry, so that a
+// forged count reserves no memory.
 fn read_parts<E: Record + Drop, P: Part<E> + Drop>(
     alloc: Global,
     bytes: Source<'_>,
@@ -100,7 +100,7 @@ fn read_parts<E: Record + Drop, P: Part<E> + Drop>(
 }
 
 /// Reads the parts of the list at a location, whatever its count says.
-#[tactic(auto, unfolding(crate::specs::Parts::untested_list))]
+#[tactic(auto, unfolding(crate::specs::Crashpad::Parts::untested_list))]
 pub(crate) fn read_untested<E: Record + Drop, P: Part<E> + Drop>(
     alloc: Global,
     location: MINIDUMP_LOCATION_DESCRIPTOR,
@@ -121,7 +121,7 @@ pub(crate) fn read_untested<E: Record + Drop, P: Part<E> + Drop>(
 
 /// Reads the parts of the list at a location. Returns `StreamSizeMismatch` if `count` entries are more bytes
 /// than the whole file has.
-#[tactic(auto, unfolding(crate::specs::Parts::tested_list))]
+#[tactic(auto, unfolding(crate::specs::Crashpad::Parts::tested_list))]
 pub(crate) fn read_list<E: Record + Drop, P: Part<E> + Drop>(
     alloc: Global,
     location: MINIDUMP_LOCATION_DESCRIPTOR,

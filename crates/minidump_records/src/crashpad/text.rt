@@ -2,14 +2,14 @@ ghost use Rattle.std.specs.Prelude.{◌+◌, ◌≤◌, IfOk, string_bytes};
 ghost use Rattle.minidump_bytes.specs.Source.{bytes_of};
 ghost use Rattle.minidump_bytes.specs.Steps.{after};
 ghost use Rattle.minidump_format.specs.Answer.{Gives};
-ghost use Rattle.minidump_records.specs.Dictionary.{HasText, text_in};
+ghost use Rattle.minidump_records.specs.Crashpad.Dictionary.{HasText, text_in};
 
 use super::part::Part;
 use minidump_bytes::{Endian, Source, Steps};
 use minidump_format::Error;
 use std::alloc::Global;
 
-// Reads the text at an RVA, which has a NUL behind it.
+// Reads the text at an RVA. A NUL has to stand behind the text.
 pub(crate) fn read_text(
     alloc: Global,
     rva: u32,
@@ -27,10 +27,10 @@ pub(crate) fn read_text(
     Ok(String::from_str(alloc, text)?)
 }
 
-/// An entry of a list of texts is the RVA of one.
+/// Reads the text that an entry of a list of texts names. The entry is the RVA of the text.
 impl Part<u32> for String {
     ghost use Rattle.std.specs.Prelude.{ℕ, List, string_bytes};
-    ghost use Rattle.minidump_records.specs.Dictionary.{HasText, text_in};
+    ghost use Rattle.minidump_records.specs.Crashpad.Dictionary.{HasText, text_in};
 
     ghost Value = { List ℕ };
 

@@ -5,15 +5,16 @@ ghost use Rattle.std.specs.Ordering.{nat_cmp};
 ghost use Rattle.minidump_bytes.specs.Source.{bytes_of};
 ghost use Rattle.minidump_bytes.specs.Steps.{after};
 ghost use Rattle.minidump_records.specs.Handles.{object_chain};
-ghost use Rattle.minidump_records.specs.ObjectChain.{chain_reads};
+ghost use Rattle.minidump_records.specs.Handles.ObjectChain.{chain_reads};
 
 use super::information::{MinidumpHandleObjectInformation, information_at};
 use minidump_bytes::{Endian, Source, Steps};
 use std::alloc::{AllocError, Global};
 use std::collections::BTreeSet;
 
-// Reads the pieces of information from a link on, each of which names the next, up to an offset that was
-// met before or has no piece. Counts a read for each, and one where the chain ends at another RVA than 0.
+// Reads the pieces of information from the offset `link` on. Each piece names the offset of the next; the chain
+// ends at an offset that came before, and at one where no piece can be read. Counts one step for each piece, and
+// one more if the chain ends at another offset than 0.
 pub(super) fn read_chain(
     alloc: Global,
     link: u32,
@@ -40,8 +41,9 @@ pub(super) fn read_chain(
     Ok(infos)
 }
 
-// Tells whether an offset was not met before, and keeps it; but it is not kept if no piece follows, so that
-// a chain of one takes no memory for the set.
+// Inserts the offset of a piece into the set of those that came before. Returns `true` if the set did not have
+// it. The offset of a last piece, whose `next` is 0, is only looked up: so a chain of one piece takes no memory
+// for the set.
 fn is_new(met: &mut BTreeSet<u32>, place: u32, next: u32) -> Result<bool, AllocError>
     ensures new { IfOk result (λ new. new ≡ not (contains nat_cmp met.old place)) }
     ensures keeps { IfOk result (λ new. 0 < next → (q : ℕ)

@@ -60,8 +60,8 @@ impl MinidumpHandleDataStream {
     }
 }
 
-/// Microsoft's `MINIDUMP_HANDLE_DATA_STREAM`: a list of descriptors of 32 or 40 bytes. A name at RVA 0, or
-/// one that is no text, is `None`; descriptors of 40 bytes name information on their objects.
+/// Reads Microsoft's `MINIDUMP_HANDLE_DATA_STREAM`: a list of descriptors of 32 or 40 bytes. A name is `None` if its
+/// RVA is 0 or no text is there. Descriptors of 40 bytes also name information on their objects.
 impl<'a> MinidumpStream<'a> for MinidumpHandleDataStream {
     ghost use Rattle.std.specs.Prelude.{List};
     ghost use Rattle.minidump_records.specs.Handles.{Handle, handle_data_stream};
@@ -92,13 +92,13 @@ impl<'a> MinidumpStream<'a> for MinidumpHandleDataStream {
     }
 }
 
-// The layout of a descriptor in a list.
+// A layout of the descriptors of a list.
 trait Descriptor: Record {
     ghost use Rattle.minidump_records.specs.declared.handles.raw.RawHandleDescriptor.{RawHandleDescriptor};
 
     ghost raw: { Self → RawHandleDescriptor };
 
-    // Names the layout.
+    // Wraps the descriptor in the variant of its layout.
     fn raw(self) -> RawHandleDescriptor
         ensures { result ≡ raw self };
 }
@@ -123,7 +123,7 @@ impl Descriptor for MINIDUMP_HANDLE_DESCRIPTOR_2 {
     }
 }
 
-// Reads the handles of descriptors.
+// Reads the handle of each descriptor.
 fn read_handles<R: Descriptor>(
     alloc: Global,
     raws: Entries<'_, R>,

@@ -2,8 +2,8 @@ ghost use Rattle.std.specs.Prelude.{◌≡◌, ◌+◌, ◌≤◌, length, strin
 ghost use Rattle.std.specs.Option.{option_copied, option_map};
 ghost use Rattle.minidump_bytes.specs.Source.{bytes_of};
 ghost use Rattle.minidump_bytes.specs.Steps.{after};
-ghost use Rattle.minidump_records.specs.Handles.{handle_in, handle_of, handle_reads, name_at, or_zero};
-ghost use Rattle.minidump_records.specs.ObjectChain.{reads_at};
+ghost use Rattle.minidump_records.specs.Handles.{handle_in, handle_of, handle_reads, name_at_rva, or_zero};
+ghost use Rattle.minidump_records.specs.Handles.ObjectChain.{reads_at};
 
 use super::chain::read_chain;
 use super::{MinidumpHandleObjectInformation, RawHandleDescriptor};
@@ -11,17 +11,17 @@ use minidump_bytes::{Endian, Source, Steps, copied};
 use minidump_format::Error;
 use std::alloc::{AllocError, Global};
 
-/// An open handle of the process, with what the file has on its object.
+/// An open handle of the process, with its names and the information on its object.
 #[derive(Drop)]
 pub struct MinidumpHandleDescriptor {
     /// The entry in the stream.
     pub raw: RawHandleDescriptor,
-    /// The name of its type, or `None` if the entry names none or what it names is no text.
+    /// The name of its type, or `None` if the RVA is 0 or no text is there.
     pub type_name: Option<String>,
-    /// The name of its object, or `None` if the entry names none or what it names is no text.
+    /// The name of its object, or `None` if the RVA is 0 or no text is there.
     pub object_name: Option<String>,
-    /// The pieces of information on its object. Each names the next; the list ends before the first that
-    /// is repeated, unreadable or of an unknown type.
+    /// The pieces of information on its object. Each piece names the next; the list ends before the first one
+    /// that is repeated, cannot be read or has an unknown type.
     pub object_infos: Vec<MinidumpHandleObjectInformation>,
 }
 
@@ -53,8 +53,8 @@ pub(super) fn read_handle(
     ensures grows { steps.old ≤ steps.new }
     ensures at_least { IfOk result (λ h. after steps.old (handle_reads (handle_of h)) ≤ steps.new) }
 {
-    let type_name = name_at(alloc, raw.type_name_rva(), all, endian, steps)?;
-    let object_name = name_at(alloc, raw.object_name_rva(), all, endian, steps)?;
+    let type_name = read_name(alloc, raw.type_name_rva(), all, endian, steps)?;
+    let object_name = read_name(alloc, raw.object_name_rva(), all, endian, steps)?;
     let link = raw.object_info_rva().copied().unwrap_or(0);
     let object_infos = read_chain(alloc, link, all, endian, steps)?;
     Ok(MinidumpHandleDescriptor {
@@ -65,16 +65,16 @@ pub(super) fn read_handle(
     })
 }
 
-// Reads the name at an RVA. Returns `Ok(None)` at 0, and if there is no text.
-#[tactic(auto, unfolding(crate::specs::Handles::name_at))]
-fn name_at(
+// Reads the name at an RVA. Returns `Ok(None)` if the RVA is 0 or no text is there.
+#[tactic(auto, unfolding(crate::specs::Handles::name_at_rva))]
+fn read_name(
     alloc: Global,
     rva: Option<&u32>,
     all: Source<'_>,
     endian: Endian,
     steps: &mut Steps,
 ) -> Result<Option<String>, AllocError>
-    ensures value { IfOk result (λ text. option_map string_bytes text ≡ name_at endian (bytes_of all.entry) (or_zero (option_copied rva.entry))) }
+    ensures value { IfOk result (λ text. option_map string_bytes text ≡ name_at_rva endian (bytes_of all.entry) (or_zero (option_copied rva.entry))) }
     ensures step { steps.new ≡ after steps.old (reads_at (or_zero (option_copied rva.entry))) }
 {
     let rva = rva.copied().unwrap_or(0);

@@ -1,7 +1,7 @@
 ghost use Rattle.std.specs.Prelude.{◌≡◌, ◌+◌, ◌≤◌, IfSome};
 ghost use Rattle.minidump_bytes.specs.Source.{bytes_of};
 ghost use Rattle.minidump_bytes.specs.Steps.{after};
-ghost use Rattle.minidump_records.specs.ObjectChain.{information_at, reads_at};
+ghost use Rattle.minidump_records.specs.Handles.ObjectChain.{information_at, reads_at};
 
 use minidump_bytes::{Endian, Source, Steps};
 use minidump_format::format::{
@@ -21,7 +21,7 @@ pub struct MinidumpHandleObjectInformation {
 /// Formats the fields of the record: the RVA in hexadecimal, the others in decimal.
 impl fmt::Display for MinidumpHandleObjectInformation {
     ghost use Rattle.std.specs.Prelude.{Some};
-    ghost use Rattle.minidump_records.specs.ObjectChain.{information_text};
+    ghost use Rattle.minidump_records.specs.Handles.ObjectChain.{information_text};
 
     ghost output = { λ information. Some (information_text information) };
 
@@ -36,9 +36,9 @@ impl fmt::Display for MinidumpHandleObjectInformation {
     }
 }
 
-// Reads the piece of information at an offset. Returns `None` at 0, where no record can be read, and where
-// its type is not known.
-#[tactic(auto, unfolding(crate::specs::ObjectChain::information_at))]
+// Reads the piece of information at an offset. Returns `None` if the offset is 0, if no record can be read there,
+// and if its type is not known.
+#[tactic(auto, unfolding(crate::specs::Handles::ObjectChain::information_at))]
 pub(super) fn information_at(
     place: u32,
     all: Source<'_>,

@@ -1,89 +1,78 @@
 ghost use Rattle.std.specs.Prelude.{◌≡◌};
 ghost use Rattle.std.specs.Option.{option_copied};
-ghost use Rattle.minidump_records.specs.Handles.{handle, type_name_rva, object_name_rva, attributes, granted_access, handle_count, pointer_count, object_info_rva};
+ghost use Rattle.minidump_records.specs.Handles.Descriptor.{handle, type_name_rva, object_name_rva, attributes, granted_access, handle_count, pointer_count, object_info_rva};
 
 use minidump_format::format::{MINIDUMP_HANDLE_DESCRIPTOR, MINIDUMP_HANDLE_DESCRIPTOR_2, RVA};
 
-/// The two layouts of the descriptor of a handle. The second has the fields of the first, and two more.
+/// The descriptor of a handle, in one of two layouts. The second has the fields of the first, and two more.
 #[derive(Clone, Copy)]
 pub enum RawHandleDescriptor {
     HandleDescriptor(MINIDUMP_HANDLE_DESCRIPTOR),
     HandleDescriptor2(MINIDUMP_HANDLE_DESCRIPTOR_2),
 }
 
-/// The fields, each `None` if the layout doesn't have it.
+// One body for both layouts.
+macro_rules! of_either {
+    ($descriptor:expr, $raw:ident => $body:expr) => {
+        match $descriptor {
+            RawHandleDescriptor::HandleDescriptor($raw) => $body,
+            RawHandleDescriptor::HandleDescriptor2($raw) => $body,
+        }
+    };
+}
+
+/// The fields. Each is `None` if the layout doesn't have it.
 impl RawHandleDescriptor {
     /// Returns the value of the handle.
     pub fn handle(&self) -> Option<&u64>
         ensures { option_copied result ≡ handle self.now }
     {
-        match self {
-            RawHandleDescriptor::HandleDescriptor(raw) => Some(&raw.handle),
-            RawHandleDescriptor::HandleDescriptor2(raw) => Some(&raw.handle),
-        }
+        of_either!(self, raw => Some(&raw.handle))
     }
 
-    /// Returns the RVA of the name of its type, which is 0 if there is none.
+    /// Returns the RVA of the name of its type, or 0 if it has no such name.
     pub fn type_name_rva(&self) -> Option<&RVA>
         ensures { option_copied result ≡ type_name_rva self.now }
     {
-        match self {
-            RawHandleDescriptor::HandleDescriptor(raw) => Some(&raw.type_name_rva),
-            RawHandleDescriptor::HandleDescriptor2(raw) => Some(&raw.type_name_rva),
-        }
+        of_either!(self, raw => Some(&raw.type_name_rva))
     }
 
-    /// Returns the RVA of the name of its object, which is 0 if there is none.
+    /// Returns the RVA of the name of its object, or 0 if it has no name.
     pub fn object_name_rva(&self) -> Option<&RVA>
         ensures { option_copied result ≡ object_name_rva self.now }
     {
-        match self {
-            RawHandleDescriptor::HandleDescriptor(raw) => Some(&raw.object_name_rva),
-            RawHandleDescriptor::HandleDescriptor2(raw) => Some(&raw.object_name_rva),
-        }
+        of_either!(self, raw => Some(&raw.object_name_rva))
     }
 
     /// Returns the attributes of the handle.
     pub fn attributes(&self) -> Option<&u32>
         ensures { option_copied result ≡ attributes self.now }
     {
-        match self {
-            RawHandleDescriptor::HandleDescriptor(raw) => Some(&raw.attributes),
-            RawHandleDescriptor::HandleDescriptor2(raw) => Some(&raw.attributes),
-        }
+        of_either!(self, raw => Some(&raw.attributes))
     }
 
     /// Returns the access that was granted.
     pub fn granted_access(&self) -> Option<&u32>
         ensures { option_copied result ≡ granted_access self.now }
     {
-        match self {
-            RawHandleDescriptor::HandleDescriptor(raw) => Some(&raw.granted_access),
-            RawHandleDescriptor::HandleDescriptor2(raw) => Some(&raw.granted_access),
-        }
+        of_either!(self, raw => Some(&raw.granted_access))
     }
 
     /// Returns the number of handles of its object.
     pub fn handle_count(&self) -> Option<&u32>
         ensures { option_copied result ≡ handle_count self.now }
     {
-        match self {
-            RawHandleDescriptor::HandleDescriptor(raw) => Some(&raw.handle_count),
-            RawHandleDescriptor::HandleDescriptor2(raw) => Some(&raw.handle_count),
-        }
+        of_either!(self, raw => Some(&raw.handle_count))
     }
 
     /// Returns the number of pointers that the kernel has to its object.
     pub fn pointer_count(&self) -> Option<&u32>
         ensures { option_copied result ≡ pointer_count self.now }
     {
-        match self {
-            RawHandleDescriptor::HandleDescriptor(raw) => Some(&raw.pointer_count),
-            RawHandleDescriptor::HandleDescriptor2(raw) => Some(&raw.pointer_count),
-        }
+        of_either!(self, raw => Some(&raw.pointer_count))
     }
 
-    /// Returns the RVA of the first piece of information on its object, which is 0 if there is none.
+    /// Returns the RVA of the first piece of information on its object, or 0 if there is none.
     pub fn object_info_rva(&self) -> Option<&RVA>
         ensures { option_copied result ≡ object_info_rva self.now }
     {

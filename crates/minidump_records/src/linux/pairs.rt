@@ -2,13 +2,13 @@ ghost use Rattle.std.specs.Prelude.{◌≡◌};
 ghost use Rattle.std.specs.Option.{option_map};
 ghost use Rattle.std.specs.Iterator.{YieldsFirstBy, item_count};
 ghost use Rattle.minidump_bytes.specs.LinuxOsStr.{parts_of, text_of};
-ghost use Rattle.minidump_records.specs.LinuxPairs.{pair_of, pair_side, pairs_of, unquoted};
+ghost use Rattle.minidump_records.specs.Linux.Pairs.{pair_of, pair_side, pairs_of, unquoted};
 
 use minidump_bytes::{Lines, LinuxOsStr};
 use std::marker::Model;
 
-/// An iterator over the pairs of a text that Linux wrote: a key and a value for each line that has the
-/// separator, cut at the first one. Both are trimmed, and then lose their quotes.
+/// An iterator over the pairs of a text that Linux wrote. Each line that has the separator is cut at the first
+/// one into a key and a value. Both are trimmed, and then lose their quotes.
 #[derive(Drop)]
 pub struct LinuxPairs<'a> {
     lines: Lines<'a>,
@@ -18,7 +18,7 @@ pub struct LinuxPairs<'a> {
 impl<'a> Model for LinuxPairs<'a> {
     ghost use Rattle.std.specs.Prelude.{ℕ, List};
     ghost use Rattle.std.specs.List.{filter_map};
-    ghost use Rattle.minidump_records.specs.LinuxPairs.{pair_of};
+    ghost use Rattle.minidump_records.specs.Linux.Pairs.{pair_of};
 
     ghost Value = { List (List ℕ × List ℕ) };
 
@@ -54,7 +54,7 @@ impl<'a> Iterator for LinuxPairs<'a> {
     }
 }
 
-// The pair of a line, if it has the separator.
+// Returns the pair of a line, or `None` if the line lacks the separator.
 fn pair_in(line: LinuxOsStr<'_>, separator: u8) -> Option<(LinuxOsStr<'_>, LinuxOsStr<'_>)>
     ensures { option_map parts_of result ≡ pair_of separator (text_of line.entry) }
 {
@@ -62,15 +62,15 @@ fn pair_in(line: LinuxOsStr<'_>, separator: u8) -> Option<(LinuxOsStr<'_>, Linux
     Some((side(key), side(value)))
 }
 
-// A key or a value, trimmed, and then without its quotes.
+// Returns a key or a value trimmed, and then without its quotes.
 fn side(text: LinuxOsStr<'_>) -> LinuxOsStr<'_>
     ensures { text_of result ≡ pair_side (text_of text.entry) }
 {
     unquoted(text.trim_ascii_whitespace())
 }
 
-// A text without the quotes at its ends, if it has both.
-#[tactic(auto, unfolding(crate::specs::LinuxPairs::unquoted))]
+// Returns a text without the quotes at its ends, or as it is if one of them is missing.
+#[tactic(auto, unfolding(crate::specs::Linux::Pairs::unquoted))]
 fn unquoted(text: LinuxOsStr<'_>) -> LinuxOsStr<'_>
     ensures { text_of result ≡ unquoted (text_of text.entry) }
 {

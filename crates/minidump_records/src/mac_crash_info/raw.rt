@@ -1,6 +1,6 @@
 ghost use Rattle.std.specs.Prelude.{◌≡◌, IfOk, IsOkUnless};
 ghost use Rattle.std.specs.Option.{option_copied};
-ghost use Rattle.minidump_records.specs.MacRecord.{abort_cause, dialog_mode, if_nonzero, if_some, mac_record_of, text_of, texts_4, texts_5, thread, version};
+ghost use Rattle.minidump_records.specs.MacCrashInfo.Record.{abort_cause, dialog_mode, if_nonzero, if_some, mac_record_of, text_of, texts_4, texts_5, thread, version};
 
 use minidump_format::Error;
 use minidump_format::format::{
@@ -10,7 +10,7 @@ use minidump_format::format::{
 };
 use std::alloc::Global;
 
-/// A record of the crash information of macOS, with its texts. Version 1 has none.
+/// A record of the crash information of macOS, with its texts. Before version 4 there are none.
 #[derive(Drop)]
 pub enum RawMacCrashInfo {
     /// A record of version 1 to 3.
@@ -21,7 +21,18 @@ pub enum RawMacCrashInfo {
     V5(MINIDUMP_MAC_CRASH_INFO_RECORD_5, MINIDUMP_MAC_CRASH_INFO_RECORD_STRINGS_5),
 }
 
-/// The fields, each `None` if the version doesn't have it, and if it is 0 or an empty text.
+// One body for the layouts of version 4 and above. Version 1 has no such field.
+macro_rules! from_version_4 {
+    ($record:expr, ($raw:pat, $texts:pat) => $body:expr) => {
+        match $record {
+            RawMacCrashInfo::V1(_, _) => None,
+            RawMacCrashInfo::V4($raw, $texts) => $body,
+            RawMacCrashInfo::V5($raw, $texts) => $body,
+        }
+    };
+}
+
+/// The fields. Each is `None` if the version doesn't have it, and if it is 0 or an empty text.
 impl RawMacCrashInfo {
     /// Returns the version of the record.
     pub fn version(&self) -> Option<&u64>
@@ -38,22 +49,14 @@ impl RawMacCrashInfo {
     pub fn thread(&self) -> Option<&u64>
         ensures { option_copied result ≡ thread (mac_record_of self.now) }
     {
-        match self {
-            RawMacCrashInfo::V1(_, _) => None,
-            RawMacCrashInfo::V4(raw, _) => if_nonzero(&raw.thread),
-            RawMacCrashInfo::V5(raw, _) => if_nonzero(&raw.thread),
-        }
+        from_version_4!(self, (raw, _) => if_nonzero(&raw.thread))
     }
 
     /// Returns the mode of the dialog that was shown.
     pub fn dialog_mode(&self) -> Option<&u64>
         ensures { option_copied result ≡ dialog_mode (mac_record_of self.now) }
     {
-        match self {
-            RawMacCrashInfo::V1(_, _) => None,
-            RawMacCrashInfo::V4(raw, _) => if_nonzero(&raw.dialog_mode),
-            RawMacCrashInfo::V5(raw, _) => if_nonzero(&raw.dialog_mode),
-        }
+        from_version_4!(self, (raw, _) => if_nonzero(&raw.dialog_mode))
     }
 
     /// Returns the cause of an abort.
@@ -70,55 +73,35 @@ impl RawMacCrashInfo {
     pub fn module_path(&self) -> Option<&str>
         ensures { option_copied result ≡ text_of (λ t. t.module_path) (mac_record_of self.now) }
     {
-        match self {
-            RawMacCrashInfo::V1(_, _) => None,
-            RawMacCrashInfo::V4(_, texts) => if_some(texts.module_path.as_str()),
-            RawMacCrashInfo::V5(_, texts) => if_some(texts.module_path.as_str()),
-        }
+        from_version_4!(self, (_, texts) => if_some(texts.module_path.as_str()))
     }
 
     /// Returns the first message.
     pub fn message(&self) -> Option<&str>
         ensures { option_copied result ≡ text_of (λ t. t.message) (mac_record_of self.now) }
     {
-        match self {
-            RawMacCrashInfo::V1(_, _) => None,
-            RawMacCrashInfo::V4(_, texts) => if_some(texts.message.as_str()),
-            RawMacCrashInfo::V5(_, texts) => if_some(texts.message.as_str()),
-        }
+        from_version_4!(self, (_, texts) => if_some(texts.message.as_str()))
     }
 
     /// Returns the signature.
     pub fn signature_string(&self) -> Option<&str>
         ensures { option_copied result ≡ text_of (λ t. t.signature_string) (mac_record_of self.now) }
     {
-        match self {
-            RawMacCrashInfo::V1(_, _) => None,
-            RawMacCrashInfo::V4(_, texts) => if_some(texts.signature_string.as_str()),
-            RawMacCrashInfo::V5(_, texts) => if_some(texts.signature_string.as_str()),
-        }
+        from_version_4!(self, (_, texts) => if_some(texts.signature_string.as_str()))
     }
 
     /// Returns the backtrace.
     pub fn backtrace(&self) -> Option<&str>
         ensures { option_copied result ≡ text_of (λ t. t.backtrace) (mac_record_of self.now) }
     {
-        match self {
-            RawMacCrashInfo::V1(_, _) => None,
-            RawMacCrashInfo::V4(_, texts) => if_some(texts.backtrace.as_str()),
-            RawMacCrashInfo::V5(_, texts) => if_some(texts.backtrace.as_str()),
-        }
+        from_version_4!(self, (_, texts) => if_some(texts.backtrace.as_str()))
     }
 
     /// Returns the second message.
     pub fn message2(&self) -> Option<&str>
         ensures { option_copied result ≡ text_of (λ t. t.message2) (mac_record_of self.now) }
     {
-        match self {
-            RawMacCrashInfo::V1(_, _) => None,
-            RawMacCrashInfo::V4(_, texts) => if_some(texts.message2.as_str()),
-            RawMacCrashInfo::V5(_, texts) => if_some(texts.message2.as_str()),
-        }
+        from_version_4!(self, (_, texts) => if_some(texts.message2.as_str()))
     }
 
     /// Copies the record. The only error is [`Error::OutOfMemory`].

@@ -3,7 +3,7 @@ ghost use Rattle.std.specs.Option.{option_map};
 ghost use Rattle.minidump_bytes.specs.Source.{bytes_of};
 ghost use Rattle.minidump_bytes.specs.Steps.{after};
 ghost use Rattle.minidump_format.specs.Answer.{Gives};
-ghost use Rattle.minidump_records.specs.MacRecord.{behind, by_version, fixed_part, item_reads, text_at, texts_4, texts_5, texts_in, texts_of};
+ghost use Rattle.minidump_records.specs.MacCrashInfo.Record.{behind, by_version, fixed_part, item_reads, text_at, texts_4, texts_5, texts_in, texts_of};
 ghost use Rattle.minidump_records.specs.MacCrashInfo.{behind_version, located_record, located_version, record_if, stated_version};
 
 use super::RawMacCrashInfo;
@@ -16,7 +16,7 @@ use minidump_format::format::{
 };
 use std::alloc::Global;
 
-// The version of a record, and the record; one of version 0 is none.
+// The version of a record, and the record, or `None` for version 0.
 #[derive(Drop)]
 pub(super) struct Versioned {
     pub(super) version: u64,
@@ -59,7 +59,7 @@ impl Texts {
     }
 }
 
-// Reads the record at a location, which has to have the version before it, if there is one.
+// Reads the record at a location. `before` is the version of the record before it, which it has to have too.
 #[tactic(auto, unfolding(crate::specs::MacCrashInfo::located_record, crate::specs::MacCrashInfo::located_version))]
 pub(super) fn read_located(
     alloc: Global,
@@ -76,13 +76,13 @@ pub(super) fn read_located(
     ensures grows { steps.old ≤ steps.new }
     ensures at_least { IfOk result (λ v. after steps.old (2 + item_reads (record_if v.record)) ≤ steps.new) }
 {
-    let bytes = all
-        .span(location.rva as u64, location.data_size as u64, steps)
+    let bytes = location
+        .bytes_in(all, steps)
         .ok_or(Error::StreamReadFailure)?;
     read_behind(alloc, Source::new(bytes), start, before, endian, steps)
 }
 
-// Reads the record that bytes are, behind one of a version.
+// Reads the record of these bytes. `before` is the version of the record before it.
 fn read_behind(
     alloc: Global,
     bytes: Source<'_>,
@@ -110,7 +110,7 @@ fn read_behind(
     Ok(Versioned { version, record })
 }
 
-// Reads what a record has behind its head, by its version. The texts begin at `start`.
+// Reads the record of a head by its version. The texts begin at `start`.
 fn read_by_version(
     alloc: Global,
     head: MINIDUMP_MAC_CRASH_INFO_RECORD,
@@ -146,8 +146,8 @@ fn read_by_version(
     }
 }
 
-// Reads the fixed part of a record, which ends at `start` or before.
-#[tactic(auto, unfolding(crate::specs::MacRecord::fixed_part))]
+// Reads the fixed part of a record, which has to end at `start` or before.
+#[tactic(auto, unfolding(crate::specs::MacCrashInfo::Record::fixed_part))]
 fn fixed_part<R: Record>(
     start: u32,
     bytes: Source<'_>,
@@ -168,7 +168,7 @@ fn fixed_part<R: Record>(
 }
 
 // Reads the five texts, of which the first begins at `start`.
-#[tactic(auto, unfolding(crate::specs::MacRecord::texts_in))]
+#[tactic(auto, unfolding(crate::specs::MacCrashInfo::Record::texts_in))]
 fn read_texts(
     alloc: Global,
     start: u32,
@@ -195,7 +195,7 @@ fn read_texts(
     })
 }
 
-// Reads the text at `place`, which then is the place behind it and its NUL.
+// Reads the text at `place`, and moves `place` behind the text and its NUL.
 fn next_text(
     alloc: Global,
     bytes: Source<'_>,

@@ -1,5 +1,5 @@
 -- Pairs put into a map are the one dictionary of them.
-use Rattle.minidump_records.proofs.DictionaryLemmas.{the_dictionary}
+use Rattle.minidump_records.proofs.CrashpadLemmas.Dictionary.{the_dictionary}
 use Rattle.minidump_records.proofs.laws.dictionaries_have_the_last_values.Goals as goal
 
 pub returns-clause-texts : goal.returns-clause-texts

@@ -1,6 +1,6 @@
 -- The lemmas on the last name of a thread.
 use Rattle.std.proofs.Common.{◌^◌}
-use Rattle.minidump_records.proofs.NameLemmas.{last_name-found, last_name-none}
+use Rattle.minidump_records.proofs.ThreadLemmas.{last_name-found, last_name-none}
 use Rattle.minidump_records.proofs.laws.last_name_of_a_thread_is_kept.Goals as goal
 
 pub returns-clause-last : goal.returns-clause-last

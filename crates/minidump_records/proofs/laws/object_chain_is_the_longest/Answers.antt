@@ -1,8 +1,8 @@
 -- The offsets are the longest chain, and a piece stands at each.
 use Rattle.minidump_records.specs.Handles.{chain_offsets, object_chain}
-use Rattle.minidump_records.specs.ObjectChain.{information_at, next_of}
-use Rattle.minidump_records.proofs.InformationLemmas.{chain_is_longest}
-use Rattle.minidump_records.proofs.ObjectChainLemmas.{none_skipped}
+use Rattle.minidump_records.specs.Handles.ObjectChain.{information_at, next_of}
+use Rattle.minidump_records.proofs.HandleLemmas.Chain.{chain_is_longest}
+use Rattle.minidump_records.proofs.HandleLemmas.Offsets.{none_skipped}
 use Rattle.minidump_records.proofs.laws.object_chain_is_the_longest.Goals as goal
 
 pub returns-clause-offsets : goal.returns-clause-offsets

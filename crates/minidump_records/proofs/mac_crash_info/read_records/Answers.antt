@@ -1,10 +1,10 @@
--- No record yet, and one record more: it is kept, left out, or refused.
+-- No record yet, and one record more: it is kept, it is left out, or it is an error.
 use Rattle.std.proofs.Common.{arith, map}
 use Rattle.std.proofs.lemmas.List.{drop_all, map_push}
 use Rattle.std.proofs.lemmas.List.Sums.{sum_by_push}
 use Rattle.minidump_bytes.specs.Source.{bytes_of}
-use Rattle.minidump_records.specs.MacRecord.{mac_record_of, record_reads}
-use Rattle.minidump_records.proofs.EachLemmas.{gives_exit}
+use Rattle.minidump_records.specs.MacCrashInfo.Record.{mac_record_of, record_reads}
+use Rattle.minidump_format.proofs.AnswerLemmas.{gives_exit}
 use Rattle.minidump_records.proofs.MacLemmas.{all_left, left_end, left_none, left_refused, left_some}
 use Rattle.minidump_records.proofs.mac_crash_info.read_records.Goals as goal
 use Rattle.minidump_records.proofs.mac_crash_info.read_records.Goals.{in-Some+in_ok-push, in_default}
@@ -19,13 +19,16 @@ loop-location-init c = record {
 
 pub returns-in_err-version-clause-means : goal.returns-in_err-version-clause-means
 returns-in_err-version-clause-means c =
-    gives_exit _ _ _ _ _ _ c.from_residual-in_err-version.ensures.1 c.in_err-version.ensures.means
-    (λ h. left_refused c.args.endian (bytes_of c.args.all) c.args.start _ _ _ c.args.locations.now c.loop-location.location-index _ c.loop-location-test.true c.loop-location.invariant.whole _ h)
+    gives_exit _ _ _ _ _ c.from_residual-in_err-version.ensures.1 (λ h. tt) c.in_err-version.ensures.means
+    (λ h. left_refused c.args.endian (bytes_of c.args.all) c.args.start _ _ _ c.args.locations.now c.loop-location.location-index _
+    c.loop-location-test.true c.loop-location.invariant.whole _ h)
 
 pub loop-location-preserved : goal.loop-location-preserved
 loop-location-preserved c = elim c.match-record.branch [
   | in-Some+in_ok-push w ↦ rw (w.records-is, w.in_ok-push.ensures.items, map_push) (record {
-    whole = left_some c.args.endian (bytes_of c.args.all) c.args.start _ _ _ c.args.locations.now c.loop-location.location-index _ c.loop-location-test.true c.loop-location.invariant.whole
+    whole =
+        left_some c.args.endian (bytes_of c.args.all) c.args.start _ _ _ c.args.locations.now c.loop-location.location-index _
+        c.loop-location-test.true c.loop-location.invariant.whole
         _ _ c.in_ok-version.ensures.version (rw w.in-Some.is at c.in_ok-version.ensures.means);
     within = omega (arith, c.read_located.ensures.within, c.loop-location.invariant.within);
     grows = omega (arith, c.read_located.ensures.grows, c.loop-location.invariant.grows);
@@ -33,7 +36,9 @@ loop-location-preserved c = elim c.match-record.branch [
         (omega (arith, rw w.in-Some.is at c.in_ok-version.ensures.at_least, c.loop-location.invariant.least));
   })
   | in_default w ↦ rw w.records-is (record {
-    whole = left_none c.args.endian (bytes_of c.args.all) c.args.start _ _ _ c.args.locations.now c.loop-location.location-index _ c.loop-location-test.true c.loop-location.invariant.whole
+    whole =
+        left_none c.args.endian (bytes_of c.args.all) c.args.start _ _ _ c.args.locations.now c.loop-location.location-index _
+        c.loop-location-test.true c.loop-location.invariant.whole
         _ c.in_ok-version.ensures.version (rw w.in_default.is at c.in_ok-version.ensures.means);
     within = omega (arith, c.read_located.ensures.within, c.loop-location.invariant.within);
     grows = omega (arith, c.read_located.ensures.grows, c.loop-location.invariant.grows);
@@ -43,4 +48,5 @@ loop-location-preserved c = elim c.match-record.branch [
 
 pub returns-clause-means : goal.returns-clause-means
 returns-clause-means c =
-    left_end c.args.endian (bytes_of c.args.all) c.args.start _ _ _ _ (drop_all c.loop-location.location-index c.args.locations.now c.loop-location-test.false) c.loop-location.invariant.whole
+    left_end c.args.endian (bytes_of c.args.all) c.args.start _ _ _ _ (drop_all c.loop-location.location-index c.args.locations.now
+    c.loop-location-test.false) c.loop-location.invariant.whole

@@ -1,9 +1,9 @@
--- The records so far, behind which the others stand, and the reads made for them.
+-- The records so far, those that are left, and the reads so far.
 use Rattle.std.proofs.Common.{◌≡◌, ◌+◌, ◌*◌, ◌≤◌, drop, map}
 use Rattle.std.specs.List.{sum_by}
 use Rattle.minidump_bytes.specs.Source.{bytes_of}
 use Rattle.minidump_bytes.specs.Steps.{after}
-use Rattle.minidump_records.specs.MacRecord.{mac_record_of, record_reads}
+use Rattle.minidump_records.specs.MacCrashInfo.Record.{mac_record_of, record_reads}
 use Rattle.minidump_records.specs.MacCrashInfo.{located_records}
 use Rattle.minidump_records.proofs.MacLemmas.{behind_these, left}
 use Rattle.minidump_records.proofs.mac_crash_info.read_records.Given as goal

@@ -4,9 +4,10 @@ use Rattle.std.specs.Prelude.{string_bytes}
 use Rattle.std.proofs.lemmas.Grind.{common_steps}
 use Rattle.std.specs.Option.{option_map}
 use Rattle.minidump_bytes.specs.Source.{bytes_of}
+use Rattle.minidump_bytes.proofs.ListLemmas.{filtered_more, filtered_skip}
 use Rattle.minidump_bytes.proofs.LeftLemmas.{IsNext, all_given, next_left, one_given}
 use Rattle.minidump_records.specs.ThreadNames.{ThreadName, named}
-use Rattle.minidump_records.proofs.NameLemmas.{has_all, has_more, named_more, named_skip}
+use Rattle.minidump_records.proofs.ThreadLemmas.{has_all, has_more}
 use Rattle.minidump_records.proofs.thread_names.read_names.Goals as goal
 
 pub loop-raw-preserved-in-Continue-branch-3 : goal.loop-raw-preserved-in-Continue-branch-3
@@ -21,8 +22,9 @@ loop-raw-preserved-in-Continue-branch-3 c =
     let is : name_in raw ≡ Some (raw.thread_id, string_bytes c.in-Some-2.name) = ap (option_map {U = ThreadName} (λ name. (raw.thread_id, name))) (sym text) in
     rw (one_given c.loop-raw.yielded raw) (record {
       left = next.left;
-      last = rw (named_more name_in xs i raw (raw.thread_id, string_bytes c.in-Some-2.name) next.inside (rw next.item is))
-          (has_more string_bytes (2 ^ 32) _ _ _ raw.thread_id c.in-Some-2.name c.loop-raw.invariant.last small c.in_ok-put_name.ensures.updates c.put_name.ensures.ordered);
+      last = rw (filtered_more name_in xs i raw (raw.thread_id, string_bytes c.in-Some-2.name) next.inside (rw next.item is))
+          (has_more string_bytes (2 ^ 32) _ _ _ raw.thread_id c.in-Some-2.name c.loop-raw.invariant.last small c.in_ok-put_name.ensures.updates
+          c.put_name.ensures.ordered);
       within = omega (arith, c.read_name.ensures.step, c.loop-raw.invariant.within);
       grows = omega (arith, c.read_name.ensures.step, c.loop-raw.invariant.grows);
       counted = omega (arith, c.read_name.ensures.step, c.loop-raw.invariant.counted);
@@ -39,7 +41,7 @@ loop-raw-preserved c =
     let is : name_in raw ≡ None = ap (option_map {U = ThreadName} (λ name. (raw.thread_id, name))) (sym text) in
     rw (one_given c.loop-raw.yielded raw) (record {
       left = next.left;
-      last = rw (named_skip name_in xs i raw next.inside (rw next.item is)) c.loop-raw.invariant.last;
+      last = rw (filtered_skip name_in xs i raw next.inside (rw next.item is)) c.loop-raw.invariant.last;
       within = omega (arith, c.read_name.ensures.step, c.loop-raw.invariant.within);
       grows = omega (arith, c.read_name.ensures.step, c.loop-raw.invariant.grows);
       counted = omega (arith, c.read_name.ensures.step, c.loop-raw.invariant.counted);

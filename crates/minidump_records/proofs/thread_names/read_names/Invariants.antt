@@ -5,7 +5,7 @@ use Rattle.std.specs.List.{filter_map}
 use Rattle.minidump_bytes.specs.Source.{bytes_of}
 use Rattle.minidump_bytes.specs.Steps.{after}
 use Rattle.minidump_records.specs.ThreadNames.{named}
-use Rattle.minidump_records.proofs.NameLemmas.{HasLast}
+use Rattle.minidump_records.proofs.ThreadLemmas.{HasLast}
 use Rattle.minidump_records.proofs.thread_names.read_names.Given as goal
 
 abbrev pub invariant-loop-raw : goal.invariant-loop-raw

@@ -1,10 +1,11 @@
--- One entry more: what it names is read, or refused.
+-- One entry more: the part that it names is read, or is an error.
 use Rattle.std.proofs.Common.{◌≡◌, ◌+◌, ◌*◌, ◌≤◌, ◌∙◌, refl, arith, length, map}
 use Rattle.std.proofs.lemmas.List.{map_push}
 use Rattle.std.proofs.lemmas.List.Sums.{sum_by_push}
 use Rattle.minidump_bytes.specs.Source.{bytes_of}
-use Rattle.minidump_records.specs.Parts.{part_at}
-use Rattle.minidump_records.proofs.EachLemmas.{each-none, each-more, each-refused, gives_err, gives_exit, at_entry, at_none}
+use Rattle.minidump_records.specs.Crashpad.Parts.{part_at}
+use Rattle.minidump_format.proofs.AnswerLemmas.{gives_err, gives_exit}
+use Rattle.minidump_records.proofs.CrashpadLemmas.Each.{each-none, each-more, each-refused, at_entry, at_none}
 use Rattle.minidump_records.proofs.crashpad.part.read_parts.Goals as goal
 
 pub loop-i-init : goal.loop-i-init
@@ -29,7 +30,7 @@ returns-in_err-part-clause-means g c =
     let read = part_at g.E.Record.layout g.P.Part.part c.args.endian (bytes_of c.args.all) (bytes_of c.args.bytes) in
     let size : c.SIZE.result ≡ g.E.Record.layout.size = c.SIZE.ensures ∙ g.met.E.Record.fits.same in
     let entry = rw (c.record.ensures.value, size) at c.in_ok-entry.ensures.ok_part in
-    gives_exit _ _ _ _ _ _ c.from_residual-in_err-part.ensures.1 c.in_err-part.ensures.means
+    gives_exit _ _ _ _ _ c.from_residual-in_err-part.ensures.1 (λ h. tt) c.in_err-part.ensures.means
     (λ h. each-refused read c.loop-i.i c.args.count _ _ c.loop-i-test.true c.loop-i.invariant.parts
     (at_entry g.E.Record.layout g.P.Part.part c.args.endian (bytes_of c.args.all) (bytes_of c.args.bytes) c.loop-i.i _ _ entry h))
 
@@ -38,14 +39,18 @@ loop-i-preserved g c =
     let read = part_at g.E.Record.layout g.P.Part.part c.args.endian (bytes_of c.args.all) (bytes_of c.args.bytes) in
     let size : c.SIZE.result ≡ g.E.Record.layout.size = c.SIZE.ensures ∙ g.met.E.Record.fits.same in
     let entry = rw (c.record.ensures.value, size) at c.in_ok-entry.ensures.ok_part in
-    let one = at_entry g.E.Record.layout g.P.Part.part c.args.endian (bytes_of c.args.all) (bytes_of c.args.bytes) c.loop-i.i _ _ entry c.in_ok-part.ensures.means in
+    let one = at_entry g.E.Record.layout g.P.Part.part c.args.endian (bytes_of c.args.all)
+    (bytes_of c.args.bytes) c.loop-i.i _ _ entry c.in_ok-part.ensures.means in
     record {
       parts = rw (c.in_ok-push.ensures.items, map_push) (each-more read c.loop-i.i _ _ c.loop-i.invariant.parts one);
       within = omega (arith, c.in_ok-part.ensures.within, c.record.ensures.step, c.loop-i.invariant.within);
       room =
-          let fits : 4 + c.SIZE.result * c.loop-i.i + g.E.Record.layout.size ≤ length (bytes_of c.args.bytes) = c.record.ensures.readable.0 (rw c.in_ok-entry.ensures.ok_part refl) in
+          let fits : 4 + c.SIZE.result * c.loop-i.i + g.E.Record.layout.size ≤ length (bytes_of c.args.bytes) =
+          c.record.ensures.readable.0 (rw c.in_ok-entry.ensures.ok_part refl) in
           omega (arith, rw size at fits);
       grows = omega (arith, c.read_part.ensures.grows, c.record.ensures.step, c.loop-i.invariant.grows);
-      least = rw (c.in_ok-push.ensures.items, map_push, sum_by_push (λ p. 1 + g.P.Part.fewest p) (map g.P.Part.value c.loop-i.parts.items) (g.P.Part.value c.in_ok-part.part))
+      least =
+          let longer = sum_by_push (λ p. 1 + g.P.Part.fewest p) (map g.P.Part.value c.loop-i.parts.items) (g.P.Part.value c.in_ok-part.part) in
+          rw (c.in_ok-push.ensures.items, map_push, longer)
           (omega (arith, c.in_ok-part.ensures.at_least, c.record.ensures.step, c.loop-i.invariant.least));
     }

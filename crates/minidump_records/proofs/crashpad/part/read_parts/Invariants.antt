@@ -1,9 +1,9 @@
--- The parts of the entries so far, and the reads made for them.
+-- The parts of the entries so far, and the reads so far.
 use Rattle.std.proofs.Common.{◌≡◌, ◌+◌, ◌*◌, ◌≤◌, length, map, Ok}
 use Rattle.std.specs.List.{sum_by}
 use Rattle.minidump_bytes.specs.Source.{bytes_of}
 use Rattle.minidump_bytes.specs.Steps.{after}
-use Rattle.minidump_records.specs.Parts.{each, part_at}
+use Rattle.minidump_records.specs.Crashpad.Parts.{each, part_at}
 use Rattle.minidump_records.proofs.crashpad.part.read_parts.Given as goal
 
 abbrev pub invariant-loop-i : goal.invariant-loop-i

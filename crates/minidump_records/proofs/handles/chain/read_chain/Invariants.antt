@@ -2,8 +2,8 @@
 use Rattle.std.proofs.Common.{◌≡◌, ◌+◌, ◌-◌, ◌≤◌, length}
 use Rattle.minidump_bytes.specs.Source.{bytes_of}
 use Rattle.minidump_bytes.specs.Steps.{after}
-use Rattle.minidump_records.specs.ObjectChain.{last_link}
-use Rattle.minidump_records.proofs.InformationLemmas.{Chaining}
+use Rattle.minidump_records.specs.Handles.ObjectChain.{last_link}
+use Rattle.minidump_records.proofs.HandleLemmas.Chain.{Chaining}
 use Rattle.minidump_records.proofs.handles.chain.read_chain.Given as goal
 
 abbrev pub invariant-loop-info : goal.invariant-loop-info

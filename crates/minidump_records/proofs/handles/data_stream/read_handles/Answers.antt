@@ -5,7 +5,7 @@ use Rattle.std.proofs.lemmas.List.Sums.{sum_by_push}
 use Rattle.minidump_bytes.specs.Source.{bytes_of}
 use Rattle.minidump_bytes.proofs.LeftLemmas.{IsNext, all_given, next_left, one_given}
 use Rattle.minidump_records.specs.Handles.{handle_in, handle_of, handle_reads}
-use Rattle.minidump_records.proofs.HandleLemmas.{mapped_more}
+use Rattle.minidump_bytes.proofs.ListLemmas.{mapped_more}
 use Rattle.minidump_records.proofs.handles.data_stream.read_handles.Goals as goal
 
 pub loop-raw-preserved : goal.loop-raw-preserved
@@ -17,7 +17,9 @@ loop-raw-preserved g c =
     let next : IsNext xs i raw raw c.next.new.self = next_left xs i raw raw _ (sym c.loop-raw.invariant.left ∙ c.in-Some.ensures.steps) in
     rw (one_given c.loop-raw.yielded raw) (record {
       left = next.left;
-      items = rw c.in_ok-push.ensures.items (mapped_more (λ r. handle_in c.args.endian (bytes_of c.args.all) (g.R.Descriptor.raw r)) handle_of xs c.loop-raw.handles.items i raw one
+      items =
+          rw c.in_ok-push.ensures.items (mapped_more (λ r. handle_in c.args.endian (bytes_of c.args.all) (g.R.Descriptor.raw r)) handle_of xs
+          c.loop-raw.handles.items i raw one
           next.inside c.loop-raw.invariant.items (rw (next.item, ← c.raw.ensures) c.in_ok-read_handle.ensures.value));
       within = omega (arith, c.read_handle.ensures.within, c.loop-raw.invariant.within);
       grows = omega (arith, c.read_handle.ensures.grows, c.loop-raw.invariant.grows);

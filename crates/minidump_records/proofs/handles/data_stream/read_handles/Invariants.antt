@@ -1,4 +1,4 @@
--- The handles of the descriptors so far, and the reads made for them.
+-- The handles of the descriptors so far, and the reads so far.
 use Rattle.std.proofs.Common.{◌≡◌, ◌+◌, ◌*◌, ◌≤◌, drop, length, map, take}
 use Rattle.std.specs.List.{sum_by}
 use Rattle.minidump_bytes.specs.Source.{bytes_of}

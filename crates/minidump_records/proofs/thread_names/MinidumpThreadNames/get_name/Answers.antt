@@ -2,7 +2,7 @@
 use Rattle.std.proofs.Common.{◌∙◌, ap, sym}
 use Rattle.std.specs.Prelude.{string_bytes}
 use Rattle.std.specs.Option.{option_map}
-use Rattle.minidump_records.proofs.NameLemmas.{name_found}
+use Rattle.minidump_records.proofs.ThreadLemmas.{name_found}
 use Rattle.minidump_records.proofs.thread_names.MinidumpThreadNames.get_name.Goals as goal
 
 pub returns-in_err-name : goal.returns-in_err-name

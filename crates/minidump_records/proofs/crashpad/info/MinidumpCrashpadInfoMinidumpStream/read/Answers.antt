@@ -2,7 +2,7 @@
 use Rattle.std.proofs.Common.{◌≤◌, ◌+◌, length, arith}
 use Rattle.std.specs.Prelude.{max}
 use Rattle.minidump_bytes.specs.Source.{bytes_of}
-use Rattle.minidump_records.proofs.CrashpadSteps.{crashpad_steps}
+use Rattle.minidump_records.proofs.CrashpadLemmas.{crashpad_steps}
 use Rattle.minidump_records.proofs.crashpad.info.MinidumpCrashpadInfoMinidumpStream.read.Goals as goal
 
 pub returns-in_err-module_list-clause-within : goal.returns-in_err-module_list-clause-within

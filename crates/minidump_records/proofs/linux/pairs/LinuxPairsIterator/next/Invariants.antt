@@ -1,7 +1,7 @@
 -- Each line that is passed over has no pair.
 use Rattle.std.proofs.Common.{◌≡◌, length}
 use Rattle.std.specs.List.{filter_map}
-use Rattle.minidump_records.specs.LinuxPairs.{pair_of}
+use Rattle.minidump_records.specs.Linux.Pairs.{pair_of}
 use Rattle.minidump_records.proofs.linux.pairs.LinuxPairsIterator.next.Given as goal
 
 abbrev pub invariant-loop-line : goal.invariant-loop-line

@@ -5,8 +5,8 @@ use Rattle.std.specs.Cmp.Lexicographic.{slice_cmp}
 use Rattle.std.specs.List.{sum_by}
 use Rattle.std.specs.Ordering.{match_ordering, nat_cmp}
 use Rattle.std.proofs.lemmas.List.Sums.{sum_by-cons, sum_by_push}
-use Rattle.minidump_records.specs.LastValues.{IsDictionaryOf}
-use Rattle.minidump_records.specs.OneDictionary.{dictionary_more}
+use Rattle.minidump_system.specs.LastValues.{IsDictionaryOf}
+use Rattle.minidump_system.proofs.OneDictionary.{dictionary_more}
 
 -- one pair more adds no more than its weight, where a weight is that of the value
 module _ {V : Type 0} (weight : V → ℕ) where
@@ -33,28 +33,32 @@ module _ {V : Type 0} (weight : V → ℕ) where
       let q : sum_by weighed ((k, v) ∷ []) ≤ sum_by weighed [] + weight v = omega (arith, p) in q
   insert_weighs (e ∷ es) k v = by_order (slice_cmp nat_cmp k e.0) e es (insert_entry (slice_cmp nat_cmp) es k v) k v (insert_weighs es k v)
 
--- what is put beside others is seen as what is put beside their views
-module _ {K V W : Type 0} (cmp : K → K → Ordering) (key : K → List ℕ) (view : V → W) (same : (j k : K) → cmp j k ≡ slice_cmp nat_cmp (key j) (key k)) where
-  abbrev seen : K × V → List ℕ × W
-  seen e = (key e.0, view e.1)
+-- to insert a pair, and then to take each key as bytes and each value as its value, is to insert what is taken of the pair
+module _ {K V W : Type 0} (cmp : K → K → Ordering) (key : K → List ℕ) (value : V → W) (same : (j k : K) → cmp j k ≡ slice_cmp nat_cmp (key j) (key k)) where
+  abbrev pair : K × V → List ℕ × W
+  pair e = (key e.0, value e.1)
 
-  here : (o : Ordering) (e : K × V) (es : List (K × V)) (k : K) (v : V) → map seen (insert_entry cmp es k v) ≡ insert_entry (slice_cmp nat_cmp) (map seen es) (key k) (view v)
-      → map seen (match_ordering o ((k, v) ∷ e ∷ es) ((e.0, v) ∷ es) (e ∷ insert_entry cmp es k v))
-      ≡ match_ordering o ((key k, view v) ∷ seen e ∷ map seen es) ((key e.0, view v) ∷ map seen es) (seen e ∷ insert_entry (slice_cmp nat_cmp) (map seen es) (key k) (view v))
+  here : (o : Ordering) (e : K × V) (es : List (K × V)) (k : K) (v : V)
+      → map pair (insert_entry cmp es k v) ≡ insert_entry (slice_cmp nat_cmp) (map pair es) (key k) (value v)
+      → map pair (match_ordering o ((k, v) ∷ e ∷ es) ((e.0, v) ∷ es) (e ∷ insert_entry cmp es k v))
+      ≡ match_ordering o ((key k, value v) ∷ pair e ∷ map pair es) ((key e.0, value v) ∷ map pair es)
+      (pair e ∷ insert_entry (slice_cmp nat_cmp) (map pair es) (key k) (value v))
   here Less e es k v rest = refl
   here Equal e es k v rest = refl
-  here Greater e es k v rest = ap (λ l. seen e ∷ l) rest
+  here Greater e es k v rest = ap (λ l. pair e ∷ l) rest
 
-  pub insert_seen : (es : List (K × V)) (k : K) (v : V) → map seen (insert_entry cmp es k v) ≡ insert_entry (slice_cmp nat_cmp) (map seen es) (key k) (view v)
-  insert_seen [] k v = refl
-  insert_seen (e ∷ es) k v = rw (← same k e.0) (here (cmp k e.0) e es k v (insert_seen es k v))
+  pub insert_pair : (es : List (K × V)) (k : K) (v : V) → map pair (insert_entry cmp es k v) ≡ insert_entry (slice_cmp nat_cmp) (map pair es) (key k) (value v)
+  insert_pair [] k v = refl
+  insert_pair (e ∷ es) k v = rw (← same k e.0) (here (cmp k e.0) e es k v (insert_pair es k v))
 
-  -- one pair more goes in
-  pub put_seen : (es : List (K × V)) (xs : List (List ℕ × W)) (k : K) (v : V) → IsDictionaryOf xs (map seen es) → IsDictionaryOf (xs ++ (key k, view v) ∷ []) (map seen (insert_entry cmp es k v))
-  put_seen es xs k v d = rw (insert_seen es k v) (dictionary_more xs (map seen es) (key k, view v) d)
+  -- the map of one pair more is the dictionary of one pair more
+  pub put_dictionary : (es : List (K × V)) (xs : List (List ℕ × W)) (k : K) (v : V) → IsDictionaryOf xs (map pair es)
+      → IsDictionaryOf (xs ++ (key k, value v) ∷ []) (map pair (insert_entry cmp es k v))
+  put_dictionary es xs k v d = rw (insert_pair es k v) (dictionary_more xs (map pair es) (key k, value v) d)
 
   -- it adds no more than its weight, where a weight is that of the value
-  pub put_weighs : (weight : W → ℕ) (es : List (K × V)) (xs : List (List ℕ × W)) (k : K) (v : V) → sum_by (λ e. weight e.1) (map seen es) ≤ sum_by (λ e. weight e.1) xs
-      → sum_by (λ e. weight e.1) (map seen (insert_entry cmp es k v)) ≤ sum_by (λ e. weight e.1) (xs ++ (key k, view v) ∷ [])
+  pub put_weighs : (weight : W → ℕ) (es : List (K × V)) (xs : List (List ℕ × W)) (k : K) (v : V)
+      → sum_by (λ e. weight e.1) (map pair es) ≤ sum_by (λ e. weight e.1) xs
+      → sum_by (λ e. weight e.1) (map pair (insert_entry cmp es k v)) ≤ sum_by (λ e. weight e.1) (xs ++ (key k, value v) ∷ [])
   put_weighs weight es xs k v le =
-      rw (insert_seen es k v, sum_by_push (λ e. weight e.1) xs (key k, view v)) (omega (arith, le, insert_weighs weight (map seen es) (key k) (view v)))
+      rw (insert_pair es k v, sum_by_push (λ e. weight e.1) xs (key k, value v)) (omega (arith, le, insert_weighs weight (map pair es) (key k) (value v)))

@@ -1,10 +1,10 @@
--- The set of the offsets that were met, beside the list of them, and the pieces that stand at these.
+-- The set of the offsets so far, beside the list of them, and the pieces that stand at these offsets.
 use Rattle.std.proofs.Common.{◌≡◌, ℕ, List, [], ◌∷◌, ◌++◌, map, refl, ap, sym, ◌∙◌, Bool, true, false, nat_eq, cond, Option, Some}
 use Rattle.std.specs.Prelude.{◌||◌, not}
 use Rattle.std.specs.List.{filter_map, list_any}
 use Rattle.std.proofs.lemmas.List.Folds.{list_any-append}
-use Rattle.minidump_records.specs.ObjectChain.{Follow}
-use Rattle.minidump_records.specs.OneChain.{right_false, same_test}
+use Rattle.minidump_system.specs.Chain.{Follow}
+use Rattle.minidump_system.proofs.OneChain.{right_false, same_test}
 
 cond_or : (a b : Bool) → cond a true b ≡ (b || a)
 cond_or true true = refl
@@ -12,13 +12,15 @@ cond_or true false = refl
 cond_or false true = refl
 cond_or false false = refl
 
--- a set beside the list
-pub same_push : (done : List ℕ) (place q : ℕ) (new old : Bool) → new ≡ cond (nat_eq place q) true old → old ≡ list_any (nat_eq q) done → new ≡ list_any (nat_eq q) (done ++ place ∷ [])
+-- the set and the list after one offset more
+pub same_push : (done : List ℕ) (place q : ℕ) (new old : Bool) → new ≡ cond (nat_eq place q) true old → old ≡ list_any (nat_eq q) done
+    → new ≡ list_any (nat_eq q) (done ++ place ∷ [])
 same_push done place q new old e f =
-    e ∙ cond_or (nat_eq place q) old ∙ ap (λ b. b || nat_eq place q) f ∙ ap (λ b. list_any (nat_eq q) done || b) (same_test place q ∙ sym (right_false (nat_eq q place)))
+    e ∙ cond_or (nat_eq place q) old ∙ ap (λ b. b || nat_eq place q) f ∙ ap (λ b. list_any (nat_eq q) done || b)
+    (same_test place q ∙ sym (right_false (nat_eq q place)))
     ∙ sym (list_any-append (nat_eq q) done (place ∷ []))
 
--- whether a set had a key, by whether it was new
+-- a set had a key exactly if to add it changed nothing
 pub was_there : (added had : Bool) → added ≡ not had → added ≡ false → had ≡ true
 was_there added true e h = refl
 was_there added false e h = (let k : false ≡ true = sym h ∙ e in cc)

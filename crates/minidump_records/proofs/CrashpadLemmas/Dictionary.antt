@@ -1,8 +1,8 @@
--- A list is the dictionary of some pairs exactly where it meets the relation of it.
+-- A list is the dictionary of pairs exactly if it meets `IsDictionaryOf` them.
 use Rattle.std.proofs.Common.{◌≡◌, ◌↔◌, ℕ, List, sym, subst}
-use Rattle.minidump_records.specs.Dictionary.{dictionary_of}
-use Rattle.minidump_records.specs.LastValues.{IsDictionaryOf}
-use Rattle.minidump_records.specs.OneDictionary.{one_dictionary}
+use Rattle.minidump_records.specs.Crashpad.Dictionary.{dictionary_of}
+use Rattle.minidump_system.specs.LastValues.{IsDictionaryOf}
+use Rattle.minidump_system.proofs.OneDictionary.{one_dictionary}
 
 pub the_dictionary : {V : Type 0} (pairs es : List (List ℕ × V)) → IsDictionaryOf pairs es ↔ (es ≡ dictionary_of pairs)
 unfolding dictionary_of

@@ -1,29 +1,23 @@
 -- The names of threads in a sorted map, and the last of each.
-use Rattle.std.proofs.Common.{◌≡◌, ◌≢◌, ℕ, ◌+◌, ◌<◌, ◌≤◌, cond, Bool, true, false, List, [], ◌∷◌, ◌++◌, length, get_or, map, take, Option, Some, None, refl, ap, sym, ◌∙◌, arith, append_assoc, append-nil, inl, inr}
+use Rattle.std.proofs.Common.{◌≡◌, ◌≢◌, ℕ, ◌<◌, ◌≤◌, cond, Bool, true, false, List, [], ◌∷◌, ◌++◌, map, Option, Some, None, refl, ap, sym, ◌∙◌, arith, append_assoc, append-nil}
 use Rattle.std.specs.Prelude.{◌==◌, All}
 use Rattle.std.specs.BTreeMap.{BTreeMap, IsOrdered, Updates, get, is_at}
 use Rattle.std.specs.List.{AllZip, filter_map, range_with_len}
 use Rattle.std.specs.Map.{lookup}
 use Rattle.std.specs.Option.{option_map}
 use Rattle.std.specs.Ordering.{nat_cmp}
-use Rattle.std.proofs.lemmas.Bool.{cases_eq, eq-eqb, ne_eqb}
-use Rattle.std.proofs.lemmas.List.{reverse-append, take_more}
-use Rattle.std.proofs.lemmas.List.Elements.{All-head, All-tail, filter_map-append}
+use Rattle.std.proofs.lemmas.Bool.{eq-eqb, ne_eqb}
+use Rattle.std.proofs.lemmas.List.{reverse-append}
+use Rattle.std.proofs.lemmas.List.Elements.{All-head, All-tail}
 use Rattle.std.proofs.lemmas.Map.Made.{lookup-map_values}
 use Rattle.minidump_records.specs.declared.thread_info.MinidumpThreadInfo.{MinidumpThreadInfo}
 use Rattle.minidump_records.specs.ThreadInfo.{last_info}
-use Rattle.minidump_records.specs.ThreadNames.{ThreadName, last_name, last_names, name_at}
-use Rattle.minidump_records.proofs.KeyLemmas.{at_is_equal, entries_by_key, keys_of-map, lookup_by_key, lookup_number}
+use Rattle.minidump_records.specs.ThreadNames.{ThreadName, last_name, last_names, name_of_thread}
+use Rattle.minidump_bytes.proofs.KeyLemmas.{at_is_equal, entries_by_key, keys_of-map, lookup_by_key, lookup_number}
 
--- one name more is the last of its thread, and of no other
+-- one name more is the last of its own thread, and changes the last name of no other
 pub last_name-more : (names : List ThreadName) (n : ThreadName) (id : ℕ) → last_name (names ++ n ∷ []) id ≡ cond (n.0 == id) (Some n.1) (last_name names id)
 last_name-more names n id = rw (reverse-append names (n ∷ [])) refl
-
-eqb_sym : (a b : ℕ) → (a == b) ≡ (b == a)
-eqb_sym a b = elim (cases_eq a b) [
-  | inl e ↦ rw e refl
-  | inr ne ↦ ne_eqb a b ne ∙ sym (ne_eqb b a (λ e. ne (sym e)))
-]
 
 -- names of other threads change nothing
 last_name-others : (id : ℕ) (later names : List ThreadName) → All (λ n. n.0 ≢ id) later → last_name (names ++ later) id ≡ last_name names id
@@ -36,7 +30,7 @@ last_name-others id (n ∷ later) names others =
 
 -- the last name of a thread is found among the last names
 pub last_name-found : (limit : ℕ) (before later : List ThreadName) (n : ThreadName) → n.0 < limit → All (λ x. x.0 ≢ n.0) later
-    → name_at (last_names limit (before ++ (n ∷ later))) n.0 ≡ Some n.1
+    → name_of_thread (last_names limit (before ++ (n ∷ later))) n.0 ≡ Some n.1
 unfolding last_names
 last_name-found limit before later n small others =
     lookup_by_key (last_name (before ++ (n ∷ later))) limit 0 n.0 (omega arith) (omega (arith, small))
@@ -45,7 +39,7 @@ last_name-found limit before later n small others =
     ∙ last_name-more before n n.0 ∙ rw (eq-eqb n.0 n.0 refl) refl
 
 -- and none is, where all names are of other threads
-pub last_name-none : (limit : ℕ) (names : List ThreadName) (id : ℕ) → id < limit → All (λ x. x.0 ≢ id) names → name_at (last_names limit names) id ≡ None
+pub last_name-none : (limit : ℕ) (names : List ThreadName) (id : ℕ) → id < limit → All (λ x. x.0 ≢ id) names → name_of_thread (last_names limit names) id ≡ None
 unfolding last_names
 last_name-none limit names id small others = lookup_by_key (last_name names) limit 0 id (omega arith) (omega arith) ∙ last_name-others id names [] others
 
@@ -79,31 +73,22 @@ last_info-found before later i others =
 pub last_info-none : (infos : List MinidumpThreadInfo) (id : ℕ) → All (λ i. i.raw.thread_id ≢ id) infos → last_info infos id ≡ None
 last_info-none infos id others = last_info-others id infos [] others
 
--- clones of entries are seen alike
-pub seen_alike : {X : Type 0} (seen : X → List ℕ) (es fs : List (ℕ × X)) → AllZip (λ e f. (f.0 ≡ e.0) × (seen f.1 ≡ seen e.1)) es fs
-    → map {B = ThreadName} (λ e. (e.0, seen e.1)) fs ≡ map (λ e. (e.0, seen e.1)) es
-seen_alike seen [] [] h = refl
-seen_alike seen [] (f ∷ fs) h = absurd h
-seen_alike seen (e ∷ es) [] h = absurd h
-seen_alike seen (e ∷ es) (f ∷ fs) h = rw (h.0.0, h.0.1, seen_alike seen es fs h.1) refl
+-- clones of entries have the same names
+pub same_texts : {X : Type 0} (text : X → List ℕ) (es fs : List (ℕ × X)) → AllZip (λ e f. (f.0 ≡ e.0) × (text f.1 ≡ text e.1)) es fs
+    → map {B = ThreadName} (λ e. (e.0, text e.1)) fs ≡ map (λ e. (e.0, text e.1)) es
+same_texts text [] [] h = refl
+same_texts text [] (f ∷ fs) h = absurd h
+same_texts text (e ∷ es) [] h = absurd h
+same_texts text (e ∷ es) (f ∷ fs) h = rw (h.0.0, h.0.1, same_texts text es fs h.1) refl
 
--- one entry more that names a thread, and one that does not
-pub named_more : {X Y : Type 0} (h : X → Option Y) (xs : List X) (i : ℕ) (d : X) (y : Y) → i < length xs → h (get_or xs i d) ≡ Some y
-    → filter_map h (take (i + 1) xs) ≡ filter_map h (take i xs) ++ y ∷ []
-named_more h xs i d y lt is = rw (take_more xs i d lt, filter_map-append h (take i xs) (get_or xs i d ∷ []), is) refl
-
-pub named_skip : {X Y : Type 0} (h : X → Option Y) (xs : List X) (i : ℕ) (d : X) → i < length xs → h (get_or xs i d) ≡ None
-    → filter_map h (take (i + 1) xs) ≡ filter_map h (take i xs)
-named_skip h xs i d lt is = rw (take_more xs i d lt, filter_map-append h (take i xs) (get_or xs i d ∷ []), is, append-nil) refl
-
-module _ {X : Type 0} (seen : X → List ℕ) (limit : ℕ) where
-  put_seen : (b : Bool) (x : X) (o : Option X) → option_map seen (cond b (Some x) o) ≡ cond b (Some (seen x)) (option_map seen o)
-  put_seen true x o = refl
-  put_seen false x o = refl
+module _ {X : Type 0} (text : X → List ℕ) (limit : ℕ) where
+  text_put : (b : Bool) (x : X) (o : Option X) → option_map text (cond b (Some x) o) ≡ cond b (Some (text x)) (option_map text o)
+  text_put true x o = refl
+  text_put false x o = refl
 
   -- a map has the last of some names, at ids below a limit
   pub record HasLast (m : BTreeMap ℕ X) (names : List ThreadName) : Type 0 where
-    pub at : (t : ℕ) → option_map seen (get nat_cmp m t) ≡ last_name names t
+    pub at : (t : ℕ) → option_map text (get nat_cmp m t) ≡ last_name names t
     pub small : (t : ℕ) → limit ≤ t → get nat_cmp m t ≡ None
     pub ordered : IsOrdered nat_cmp m
 
@@ -112,27 +97,28 @@ module _ {X : Type 0} (seen : X → List ℕ) (limit : ℕ) where
 
   -- it has them after one name more, if that one is put in at its thread
   pub has_more : (m n : BTreeMap ℕ X) (names : List ThreadName) (id : ℕ) (x : X) → HasLast m names → id < limit
-      → Updates nat_cmp m n id (Some x) → IsOrdered nat_cmp n → HasLast n (names ++ (id, seen x) ∷ [])
+      → Updates nat_cmp m n id (Some x) → IsOrdered nat_cmp n → HasLast n (names ++ (id, text x) ∷ [])
   has_more m n names id x before small update ordered = record {
-    at = λ t. ap (option_map seen) (update.0 t ∙ rw (at_is_equal id t, eqb_sym t id) refl)
-        ∙ put_seen (id == t) x (get nat_cmp m t) ∙ ap (cond (id == t) (Some (seen x))) (before.at t) ∙ sym (last_name-more names (id, seen x) t);
+    at = λ t. ap (option_map text) (update.0 t ∙ rw (at_is_equal id t) refl)
+        ∙ text_put (id == t) x (get nat_cmp m t) ∙ ap (cond (id == t) (Some (text x))) (before.at t) ∙ sym (last_name-more names (id, text x) t);
     small = λ t large.
-        let other : is_at (nat_cmp id) t ≡ false = at_is_equal id t ∙ ne_eqb t id (λ same. omega arith) in
+        let other : is_at (nat_cmp id) t ≡ false = at_is_equal id t ∙ ne_eqb id t (λ same. omega arith) in
         update.0 t ∙ rw (other, before.small t large) refl;
     ordered = ordered;
   }
 
-  pub has_all : (m : BTreeMap ℕ X) (names : List ThreadName) → HasLast m names → map {B = ThreadName} (λ e. (e.0, seen e.1)) m.entries ≡ last_names limit names
+  pub has_all : (m : BTreeMap ℕ X) (names : List ThreadName) → HasLast m names → map {B = ThreadName} (λ e. (e.0, text e.1)) m.entries ≡ last_names limit names
   unfolding last_names
   has_all m names h =
-      let es : List ThreadName = map (λ e. (e.0, seen e.1)) m.entries in
-      let at : (t : ℕ) → lookup (λ k. k == t) es ≡ option_map seen (get nat_cmp m t) =
-      λ t. lookup-map_values seen (λ k. k == t) m.entries ∙ ap (option_map seen) (sym (lookup_number t m.entries)) in
-      entries_by_key (last_name names) limit 0 es (rw (keys_of-map seen m.entries) h.ordered)
+      let es : List ThreadName = map (λ e. (e.0, text e.1)) m.entries in
+      let at : (t : ℕ) → lookup (λ k. k == t) es ≡ option_map text (get nat_cmp m t) =
+      λ t. lookup-map_values text (λ k. k == t) m.entries ∙ ap (option_map text) (sym (lookup_number t m.entries)) in
+      entries_by_key (last_name names) limit 0 es (rw (keys_of-map text m.entries) h.ordered)
       (λ t l. sym (at t ∙ h.at t))
       (λ t l. absurd (omega arith))
       (λ t l. at t ∙ rw (h.small t (omega (arith, l))) refl)
 
--- a look-up in a map is one among what is seen of it
-pub name_found : {X : Type 0} (seen : X → List ℕ) (m : BTreeMap ℕ X) (id : ℕ) → name_at (map (λ e. (e.0, seen e.1)) m.entries) id ≡ option_map seen (get nat_cmp m id)
-name_found seen m id = lookup-map_values seen (λ k. k == id) m.entries ∙ ap (option_map seen) (sym (lookup_number id m.entries))
+-- a look-up in a map finds the name that a look-up among its names does
+pub name_found : {X : Type 0} (text : X → List ℕ) (m : BTreeMap ℕ X) (id : ℕ)
+    → name_of_thread (map (λ e. (e.0, text e.1)) m.entries) id ≡ option_map text (get nat_cmp m id)
+name_found text m id = lookup-map_values text (λ k. k == id) m.entries ∙ ap (option_map text) (sym (lookup_number id m.entries))

@@ -1,15 +1,16 @@
--- Crashpad's lists: a location, whose bytes are a 32-bit count and that many entries; each entry names a part of the file.
+-- Crashpad's lists: the bytes at a location are a 32-bit count and that many entries. Each entry names a part of the file.
 use Rattle.std.specs.Prelude.{ℕ, zero, suc, ◌+◌, ◌*◌, ◌≤◌, ◌==◌, List, [], ◌∷◌, ◌++◌, length, Result, Ok, Err, nat_lt, if◌then◌else◌}
 use Rattle.std.specs.Option.{ok_or}
 use Rattle.minidump_bytes.specs.declared.endian.Endian.{Endian}
 use Rattle.minidump_bytes.specs.Layout.{Layout, number_layout}
-use Rattle.minidump_bytes.specs.Span.{record_at, span}
+use Rattle.minidump_bytes.specs.Span.{record_at}
+use Rattle.minidump_format.specs.Header.{located}
 use Rattle.minidump_format.specs.declared.error.Error.{Error}
 use Rattle.minidump_format.specs.declared.error.Error.TheVariants.{StreamReadFailure, StreamSizeMismatch}
 use Rattle.minidump_format.specs.declared.format.header.MINIDUMP_LOCATION_DESCRIPTOR.{MINIDUMP_LOCATION_DESCRIPTOR}
 use Rattle.minidump_system.specs.Reads.{and_then}
 
--- the values of the first so many readings, by index, or the refusal of the first that is refused
+-- the values of a reading at the indices below a number, or the error of the first index that has one
 unfoldable pub each : {V : Type 0} → (ℕ → Result V Error) → ℕ → Result (List V) Error
 each read zero = Ok []
 each read (suc n) = and_then (each read n) (λ vs. and_then (read n) (λ v. Ok (vs ++ v ∷ [])))
@@ -25,32 +26,32 @@ list_of bytes count = record { bytes = bytes; count = count }
 -- the list at a location: without bytes it has no count, and no entries
 unfoldable pub opened : Endian → List ℕ → MINIDUMP_LOCATION_DESCRIPTOR → Result CountedList Error
 opened order file l =
-    and_then (ok_or (span l.rva (l.rva + l.data_size) file) StreamReadFailure) (λ bytes.
+    and_then (ok_or (located file l) StreamReadFailure) (λ bytes.
     if l.data_size == 0 then Ok (list_of bytes 0) else
     and_then (ok_or (record_at (number_layout 4) order 0 bytes) StreamReadFailure) (λ count. Ok (list_of bytes count)))
 
--- its reads: its bytes, and its count where it has one
+-- the reads of a list before its entries: its bytes, and its count where it has one
 abbrev pub opened_reads : MINIDUMP_LOCATION_DESCRIPTOR → ℕ
 opened_reads l = if l.data_size == 0 then 1 else 2
 
 module _ {R V : Type 0} (layout : Layout R) (part : Endian → List ℕ → R → Result V Error) (order : Endian) (file : List ℕ) where
-  -- what the entry of an index names; the entries stand behind the count
+  -- the part that the entry at an index names; the entries stand behind the count
   abbrev pub part_at : List ℕ → ℕ → Result V Error
   part_at bytes i = and_then (ok_or (record_at layout order (4 + layout.size * i) bytes) StreamReadFailure) (part order file)
 
-  -- what the entries name, entry by entry
+  -- the parts that the entries name, in the order of the entries
   abbrev pub parts : CountedList → Result (List V) Error
   parts list = each (part_at list.bytes) list.count
 
-  -- what the entries of the list at a location name
+  -- the parts of the list at a location, whatever its count is
   unfoldable pub untested_list : MINIDUMP_LOCATION_DESCRIPTOR → Result (List V) Error
   untested_list l = and_then (opened order file l) parts
 
-  -- the same, where so many entries are no more bytes than the whole file has
+  -- the parts of the list at a location, where the entries that it counts are no more bytes than the whole file has
   unfoldable pub tested_list : MINIDUMP_LOCATION_DESCRIPTOR → Result (List V) Error
   tested_list l = and_then (opened order file l) (λ list.
       if nat_lt (length file) (layout.size * list.count) then Err (StreamSizeMismatch (layout.size * list.count) (length file)) else parts list)
 
--- the reads of entries of a size in so many bytes: one for each, so many for what it names, and one more
+-- the reads of a list in so many bytes: one at most before its entries; for each entry one, and those of the part that it names
 abbrev pub WithinParts : ℕ → ℕ → ℕ → ℕ → ℕ → Type 0
-WithinParts size room limit old new = (k : ℕ) × (size * k ≤ room) × (new ≤ old + 1 + k * (1 + limit))
+WithinParts entry_size bytes part_reads old new = (k : ℕ) × (entry_size * k ≤ bytes) × (new ≤ old + 1 + k * (1 + part_reads))

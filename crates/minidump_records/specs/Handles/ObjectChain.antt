@@ -1,8 +1,7 @@
 -- The pieces of information on the object of a handle, each of which names the next: Microsoft's
 -- MINIDUMP_HANDLE_OBJECT_INFORMATION.
-use Rattle.std.specs.Prelude.{◌≡◌, ℕ, ◌+◌, ◌≤◌, ◌==◌, List, [], ◌∷◌, ◌++◌, codes, length, false, Option, Some, None, nat_eq, if◌then◌else◌}
+use Rattle.std.specs.Prelude.{ℕ, ◌+◌, ◌==◌, List, [], ◌∷◌, ◌++◌, codes, length, false, Option, None, if◌then◌else◌}
 use Rattle.std.specs.Fmt.{digits}
-use Rattle.std.specs.List.{IsDistinct}
 use Rattle.std.specs.Option.{option_and_then, option_map}
 use Rattle.minidump_bytes.specs.declared.endian.Endian.{Endian}
 use Rattle.minidump_bytes.specs.Span.{record_at}
@@ -23,19 +22,7 @@ information_at order file place =
 abbrev pub next_of : MinidumpHandleObjectInformation → ℕ
 next_of i = i.raw.next_info_rva
 
-module _ {I : Type 0} (at : ℕ → Option I) (next : I → ℕ) where
-  -- offsets at which pieces are, the first the link and each later one named by the one before
-  abbrev pub Follow : ℕ → List ℕ → Type 0
-  Follow link [] = Unit {0}
-  Follow link (p ∷ ps) = (p ≡ link) × (i : I) × (at p ≡ Some i) × Follow (next i) ps
-
-  -- the longest list of such offsets of which none is repeated
-  pub record IsChain (link : ℕ) (chain : List ℕ) : Type 0 where
-    pub follow : Follow link chain
-    pub distinct : IsDistinct nat_eq chain
-    pub longest : (other : List ℕ) → Follow link other → IsDistinct nat_eq other → length other ≤ length chain
-
--- how much is read at an RVA: nothing at 0
+-- the reads at an RVA: none at 0
 abbrev pub reads_at : ℕ → ℕ
 reads_at rva = if rva == 0 then 0 else 1
 
@@ -44,7 +31,7 @@ abbrev pub last_link : ℕ → List MinidumpHandleObjectInformation → ℕ
 last_link link [] = link
 last_link link (i ∷ is) = last_link (next_of i) is
 
--- how much is read for the pieces behind a link: each, and the place where the chain ends, where that is not 0
+-- the reads of the pieces from a link on: one for each, and one at the offset where the chain ends, if that is not 0
 abbrev pub chain_reads : ℕ → List MinidumpHandleObjectInformation → ℕ
 chain_reads link infos = length infos + reads_at (last_link link infos)
 

@@ -10,29 +10,29 @@ use Rattle.minidump_format.specs.declared.error.Error.TheVariants.{StreamReadFai
 use Rattle.minidump_format.specs.declared.format.header.MINIDUMP_LOCATION_DESCRIPTOR.{MINIDUMP_LOCATION_DESCRIPTOR}
 use Rattle.minidump_system.specs.Reads.{and_then}
 use Rattle.minidump_records.specs.declared.crashpad.dictionary.Keyed.{Keyed}
-use Rattle.minidump_records.specs.OneDictionary.{one_dictionary}
-use Rattle.minidump_records.specs.Parts.{untested_list}
+use Rattle.minidump_system.proofs.OneDictionary.{one_dictionary}
+use Rattle.minidump_records.specs.Crashpad.Parts.{untested_list}
 
 -- the text at an RVA, which has a NUL behind it
 abbrev pub text_in : Endian → List ℕ → ℕ → Result (List ℕ) Error
 text_in order file rva = ok_or (text8_nul order rva file) StreamReadFailure
 
--- an RVA has a text: without it there is no `OutOfMemory`
+-- a text is at an RVA; only then memory is taken, and may run out
 abbrev pub HasText : Endian → List ℕ → ℕ → Type 0
 HasText order file rva = IsOk (text_in order file rva)
 
--- a key and its value, by the entry that names both
+-- the key and the value that an entry names
 abbrev pub keyed : {E V : Type 0} → (E → ℕ) → (Endian → List ℕ → E → Result V Error) → Endian → List ℕ → E → Result (List ℕ × V) Error
 keyed key value order file e = and_then (text_in order file (key e)) (λ k. and_then (value order file e) (λ v. Ok (k, v)))
 
 abbrev pub pair_of : {V W : Type 0} → (V → W) → Keyed V → List ℕ × W
-pair_of view p = (string_bytes p.key, view p.value)
+pair_of value p = (string_bytes p.key, value p.value)
 
 -- the entries of a map of texts, ascending by the bytes of the key
 abbrev pub entries_of : {V W : Type 0} → (V → W) → List (String Global × V) → List (List ℕ × W)
-entries_of view es = map (λ e. (string_bytes e.0, view e.1)) es
+entries_of value es = map (λ e. (string_bytes e.0, value e.1)) es
 
--- the dictionary of pairs: the one list that is `IsDictionaryOf` of LastValues.antt
+-- the dictionary of pairs: the one list that meets `IsDictionaryOf` of `minidump_system`'s LastValues.antt
 unfoldable pub dictionary_of : {V : Type 0} → List (List ℕ × V) → List (List ℕ × V)
 dictionary_of pairs = (one_dictionary pairs).the
 

@@ -1,4 +1,7 @@
--- Crashpad's MinidumpCrashpadInfo and MinidumpModuleCrashpadInfo: what they know of a process and of its modules.
+-- Crashpad's information on a process and on its modules: MinidumpCrashpadInfo and MinidumpModuleCrashpadInfo.
+pub mod Parts
+pub mod Dictionary
+pub mod Annotations
 use Rattle.std.specs.Prelude.{ℕ, ◌+◌, ◌==◌, IsSome, List, Result, Ok, Err, map, string_bytes, if◌then◌else◌, IsOk}
 use Rattle.std.specs.List.{sum_by}
 use Rattle.std.specs.Option.{ok_or}
@@ -17,11 +20,11 @@ use Rattle.minidump_system.specs.StreamSpec.{StreamSpec, square}
 use Rattle.minidump_system.specs.Reads.{and_then}
 use Rattle.minidump_records.specs.declared.crashpad.info.MinidumpCrashpadInfo.{MinidumpCrashpadInfo}
 use Rattle.minidump_records.specs.declared.crashpad.module_info.MinidumpModuleCrashpadInfo.{MinidumpModuleCrashpadInfo}
-use Rattle.minidump_records.specs.Annotation.{Annotation, annotation_in, annotation_of, annotation_reads}
-use Rattle.minidump_records.specs.Dictionary.{dictionary, entries_of, text_in}
-use Rattle.minidump_records.specs.Parts.{opened_reads, tested_list}
+use Rattle.minidump_records.specs.Crashpad.Annotations.{Annotation, annotation_in, annotation_of, annotation_reads}
+use Rattle.minidump_records.specs.Crashpad.Dictionary.{dictionary, entries_of, text_in}
+use Rattle.minidump_records.specs.Crashpad.Parts.{opened_reads, tested_list}
 
--- the list of texts at a location, MinidumpRVAList: an entry is the RVA of one
+-- the list of texts at a location, MinidumpRVAList: an entry is the RVA of a text
 abbrev pub texts_at : Endian → List ℕ → MINIDUMP_LOCATION_DESCRIPTOR → Result (List (List ℕ)) Error
 texts_at = tested_list (number_layout 4) text_in
 
@@ -50,7 +53,7 @@ module_of m = record {
   annotation_objects = entries_of annotation_of m.annotation_objects.entries;
 }
 
--- a link names a record in the file: without it there is no `OutOfMemory`
+-- the record that a link names is in the file; only then memory is taken, and may run out
 abbrev pub HasModule : Endian → List ℕ → MINIDUMP_MODULE_CRASHPAD_INFO_LINK → Type 0
 HasModule order file link = IsSome (record_at module_crashpad_info order link.location.rva file)
 
@@ -69,7 +72,8 @@ module_in order file link =
       annotation_objects = objects;
     })))))
 
--- its fewest reads, by what there is: its record and its lists; for a text its entry too, for a value its entry and its key
+-- the fewest reads of the information on a module: its record and its lists; for a text of a list the entry and the text, for a pair the entry,
+-- the key and the value
 abbrev pub module_reads : Module → ℕ
 module_reads m = 1
     + (opened_reads m.raw.list_annotations + sum_by (λ text. 2) m.list_annotations)
@@ -95,7 +99,7 @@ crashpad_record order bytes =
     and_then (ok_or (record_at crashpad_info order 0 bytes) StreamReadFailure) (λ raw.
     if raw.version == 0 then Err VersionMismatch else Ok raw)
 
--- what the bytes of the stream say: its record, then its dictionary and its MinidumpModuleCrashpadInfoList
+-- the information that the bytes of the stream give: the record, then its dictionary and its MinidumpModuleCrashpadInfoList
 unfoldable pub crashpad_info_in : Endian → List ℕ → List ℕ → Result Crashpad Error
 crashpad_info_in order file bytes =
     and_then (crashpad_record order bytes) (λ raw.
@@ -103,7 +107,7 @@ crashpad_info_in order file bytes =
     and_then (tested_list module_link module_in order file raw.module_list) (λ modules.
     Ok (record { raw = raw; simple_annotations = simple; module_list = modules }))))
 
--- its fewest reads, by what there is: its record, its dictionary, and a link with its module for each module
+-- the fewest reads of the information on a process: its record, its dictionary, and for each module the link and the information on it
 abbrev pub crashpad_reads : Crashpad → ℕ
 crashpad_reads c = 1
     + (opened_reads c.raw.simple_annotations + sum_by (λ e. 3) c.simple_annotations)

@@ -12,11 +12,11 @@ is_quoted text = nat_le 2 (length text) && (slice_index text 0 == 34 && slice_in
 unfoldable pub unquoted : List ℕ → List ℕ
 unquoted text = if is_quoted text then slice_range text 1 (length text - 1) else text
 
--- a side of a pair: trimmed, and then without quotes
+-- the key or the value of a pair: trimmed, and then without quotes
 abbrev pub pair_side : List ℕ → List ℕ
 pair_side text = unquoted (trimmed text)
 
--- the pair of a line: its sides before and behind the first separator; none where there is no separator
+-- the pair of a line: what stands before the first separator, and what stands behind it; none where there is no separator
 abbrev pub pair_of : ℕ → List ℕ → Option (List ℕ × List ℕ)
 pair_of separator line = option_map (λ sides. (pair_side sides.0, pair_side sides.1)) (cut_first separator line)
 

@@ -28,7 +28,7 @@ pub record MacTexts : Type 0 where
   pub backtrace : List ℕ
   pub message2 : List ℕ
 
--- of version 1 to 3, of version 4, and of version 5 and above
+-- a record of version 1 to 3, of version 4, and of version 5 and above
 pub data MacRecord : Type 0 where
   v1 : MINIDUMP_MAC_CRASH_INFO_RECORD → MacRecord
   v4 : MINIDUMP_MAC_CRASH_INFO_RECORD_4 → MacTexts → MacRecord
@@ -106,11 +106,11 @@ text_of field (v5 raw texts) = if_some (field texts)
 abbrev pub text_at : ℕ → List ℕ → Result (List ℕ) Error
 text_at place bytes = ok_or (cstring place bytes) StreamReadFailure
 
--- the place behind a text and its NUL
+-- the place behind the text at a place and its NUL
 abbrev pub behind : ℕ → List ℕ → ℕ
 behind place text = place + length text + 1
 
--- the five texts, of which the first is at a place and each other behind the one before it
+-- the five texts: the first is at a place, and each other one is behind the text before it
 unfoldable pub texts_in : ℕ → List ℕ → Result MacTexts Error
 texts_in first bytes =
     and_then (text_at first bytes) (λ module_path. let second = behind first module_path in
@@ -130,7 +130,7 @@ unfoldable pub fixed_part : {R : Type 0} → Layout R → Endian → ℕ → Lis
 fixed_part layout order start bytes =
     if nat_lt start layout.size then Err StreamReadFailure else ok_or (record_at layout order 0 bytes) StreamReadFailure
 
--- the record of a head, by its version, where the texts begin at a place; one of version 0 is none
+-- the record of a head, by its version, where the texts begin at `start`; a record of version 0 is left out
 abbrev pub by_version : Endian → ℕ → MINIDUMP_MAC_CRASH_INFO_RECORD → List ℕ → Result (Option MacRecord) Error
 by_version order start head bytes =
     if head.version == 0 then Ok None else (
@@ -139,7 +139,7 @@ by_version order start head bytes =
     then and_then (fixed_part mac_record_4 order start bytes) (λ raw. and_then (texts_in start bytes) (λ texts. Ok (Some (v4 raw texts))))
     else and_then (fixed_part mac_record_5 order start bytes) (λ raw. and_then (texts_in start bytes) (λ texts. Ok (Some (v5 raw texts))))))
 
--- its reads behind its head, at least: from version 4 on the fixed part and the texts
+-- the fewest reads of a record behind its head: from version 4 on the fixed part and five texts
 abbrev pub record_reads : MacRecord → ℕ
 record_reads (v1 raw) = 0
 record_reads (v4 raw texts) = 6

@@ -1,4 +1,4 @@
--- Lemmas: of each list of pairs there is exactly one dictionary.
+-- Of each list of pairs there is exactly one dictionary.
 use Rattle.std.proofs.Common.{◌≡◌, ℕ, Bool, true, false, cond, if◌then◌else◌, Ordering, Less, Equal, Greater, List, [], ◌∷◌, ◌++◌, append_assoc, append-nil, Option, Some, None, refl, ap, sym, ◌∙◌, subst}
 use Rattle.std.specs.BTreeMap.{insert_entry, is_at}
 use Rattle.std.specs.Cmp.{IsTotalOrder, tied_itself}
@@ -12,7 +12,7 @@ use Rattle.std.proofs.lemmas.Cmp.{alike_right, nat_list_cmp_total}
 use Rattle.std.proofs.lemmas.Map.Text.{is_eq-slice_cmp}
 use Rattle.std.proofs.lemmas.Slice.Eq.{bytes_eq-Decides}
 use Rattle.minidump_system.specs.ExactlyOne.{ExactlyOne}
-use Rattle.minidump_records.specs.LastValues.{IsDictionaryOf, last_value}
+use Rattle.minidump_system.specs.LastValues.{IsDictionaryOf, last_value}
 
 module _ {K : Type 0} (cmp : K → K → Ordering) (total : IsTotalOrder cmp) where
   below_all : (k x : K) (ys : List K) → cmp k x ≡ Less → AllByRecursion (λ y. cmp x y ≡ Less) ys → AllByRecursion (λ y. cmp k y ≡ Less) ys
@@ -22,16 +22,19 @@ module _ {K : Type 0} (cmp : K → K → Ordering) (total : IsTotalOrder cmp) wh
 module _ {K V : Type 0} (cmp : K → K → Ordering) (total : IsTotalOrder cmp) where
   -- ---- the keys ascend
   above_by : (x : K) (o : Ordering) (e : K × V) (es : List (K × V)) (k : K) (v : V) → cmp x k ≡ Less → AllByRecursion (λ y. cmp x y ≡ Less) (keys_of (e ∷ es))
-      → AllByRecursion (λ y. cmp x y ≡ Less) (keys_of (insert_entry cmp es k v)) → AllByRecursion (λ y. cmp x y ≡ Less) (keys_of (match_ordering o ((k, v) ∷ e ∷ es) ((e.0, v) ∷ es) (e ∷ insert_entry cmp es k v)))
+      → AllByRecursion (λ y. cmp x y ≡ Less) (keys_of (insert_entry cmp es k v))
+      → AllByRecursion (λ y. cmp x y ≡ Less) (keys_of (match_ordering o ((k, v) ∷ e ∷ es) ((e.0, v) ∷ es) (e ∷ insert_entry cmp es k v)))
   above_by x Less e es k v lt h more = (lt, h)
   above_by x Equal e es k v lt h more = h
   above_by x Greater e es k v lt h more = (h.0, more)
 
-  above : (x : K) (es : List (K × V)) (k : K) (v : V) → cmp x k ≡ Less → AllByRecursion (λ y. cmp x y ≡ Less) (keys_of es) → AllByRecursion (λ y. cmp x y ≡ Less) (keys_of (insert_entry cmp es k v))
+  above : (x : K) (es : List (K × V)) (k : K) (v : V) → cmp x k ≡ Less → AllByRecursion (λ y. cmp x y ≡ Less) (keys_of es)
+      → AllByRecursion (λ y. cmp x y ≡ Less) (keys_of (insert_entry cmp es k v))
   above x [] k v lt h = (lt, tt)
   above x (e ∷ es) k v lt h = above_by x (cmp k e.0) e es k v lt h (above x es k v lt h.1)
 
-  ascends_by : (o : Ordering) (e : K × V) (es : List (K × V)) (k : K) (v : V) → cmp k e.0 ≡ o → IsStrictlySortedBy cmp (keys_of (e ∷ es)) → IsStrictlySortedBy cmp (keys_of (insert_entry cmp es k v))
+  ascends_by : (o : Ordering) (e : K × V) (es : List (K × V)) (k : K) (v : V) → cmp k e.0 ≡ o → IsStrictlySortedBy cmp (keys_of (e ∷ es))
+      → IsStrictlySortedBy cmp (keys_of (insert_entry cmp es k v))
       → IsStrictlySortedBy cmp (keys_of (match_ordering o ((k, v) ∷ e ∷ es) ((e.0, v) ∷ es) (e ∷ insert_entry cmp es k v)))
   unfolding IsStrictlySortedBy
   ascends_by Less e es k v is h more = ((is, below_all cmp total k e.0 (keys_of es) is h.0), h)
@@ -48,7 +51,8 @@ module _ {K V : Type 0} (cmp : K → K → Ordering) (total : IsTotalOrder cmp) 
   twice true v w o = refl
   twice false v w o = refl
 
-  swapped : (p q : Ordering) (v w : V) (o : Option V) → (p ≡ Equal → q ≡ Equal → ⊥) → cond (is_eq p) (Some w) (cond (is_eq q) (Some v) o) ≡ cond (is_eq q) (Some v) (cond (is_eq p) (Some w) o)
+  swapped : (p q : Ordering) (v w : V) (o : Option V) → (p ≡ Equal → q ≡ Equal → ⊥)
+      → cond (is_eq p) (Some w) (cond (is_eq q) (Some v) o) ≡ cond (is_eq q) (Some v) (cond (is_eq p) (Some w) o)
   swapped Less q v w o h = refl
   swapped Greater q v w o h = refl
   swapped Equal Less v w o h = refl
@@ -57,14 +61,16 @@ module _ {K V : Type 0} (cmp : K → K → Ordering) (total : IsTotalOrder cmp) 
 
   lookup_by : (q : K) (o : Ordering) (e : K × V) (es : List (K × V)) (k : K) (v : V) → cmp k e.0 ≡ o
       → lookup (is_at (cmp q)) (insert_entry cmp es k v) ≡ cond (is_eq (cmp q k)) (Some v) (lookup (is_at (cmp q)) es)
-      → lookup (is_at (cmp q)) (match_ordering o ((k, v) ∷ e ∷ es) ((e.0, v) ∷ es) (e ∷ insert_entry cmp es k v)) ≡ cond (is_eq (cmp q k)) (Some v) (lookup (is_at (cmp q)) (e ∷ es))
+      → lookup (is_at (cmp q)) (match_ordering o ((k, v) ∷ e ∷ es) ((e.0, v) ∷ es) (e ∷ insert_entry cmp es k v))
+      ≡ cond (is_eq (cmp q k)) (Some v) (lookup (is_at (cmp q)) (e ∷ es))
   lookup_by q Less e es k v is more = refl
   lookup_by q Equal e es k v is more = rw (alike_right total k e.0 q is) (twice (is_eq (cmp q e.0)) v e.1 (lookup (is_at (cmp q)) es))
   lookup_by q Greater e es k v is more =
       rw more (swapped (cmp q e.0) (cmp q k) v e.1 (lookup (is_at (cmp q)) es)
       (λ a b. let same : cmp k e.0 ≡ Equal = sym (total.congr q k e.0 b) ∙ a in let clash : Greater ≡ Equal = sym is ∙ same in cc))
 
-  lookup_put : (q : K) (es : List (K × V)) (k : K) (v : V) → lookup (is_at (cmp q)) (insert_entry cmp es k v) ≡ cond (is_eq (cmp q k)) (Some v) (lookup (is_at (cmp q)) es)
+  lookup_put : (q : K) (es : List (K × V)) (k : K) (v : V)
+      → lookup (is_at (cmp q)) (insert_entry cmp es k v) ≡ cond (is_eq (cmp q k)) (Some v) (lookup (is_at (cmp q)) es)
   lookup_put q [] k v = refl
   lookup_put q (e ∷ es) k v = lookup_by q (cmp k e.0) e es k v refl (lookup_put q es k v)
 
@@ -80,7 +86,8 @@ module _ {K V : Type 0} (cmp : K → K → Ordering) (total : IsTotalOrder cmp) 
   found e es = rw (tied_itself total e.0) refl
 
   module _ (same : (x y : K) → cmp x y ≡ Equal → x ≡ y) where
-    tail_by : (q : K) (o : Ordering) (e f : K × V) (es fs : List (K × V)) → cmp q e.0 ≡ o → cmp q f.0 ≡ o → (o ≡ Equal → lookup (is_at (cmp q)) es ≡ lookup (is_at (cmp q)) fs)
+    tail_by : (q : K) (o : Ordering) (e f : K × V) (es fs : List (K × V)) → cmp q e.0 ≡ o → cmp q f.0 ≡ o
+        → (o ≡ Equal → lookup (is_at (cmp q)) es ≡ lookup (is_at (cmp q)) fs)
         → lookup (is_at (cmp q)) (e ∷ es) ≡ lookup (is_at (cmp q)) (f ∷ fs) → lookup (is_at (cmp q)) es ≡ lookup (is_at (cmp q)) fs
     tail_by q Less e f es fs a b none h = rw (a, b) at h
     tail_by q Equal e f es fs a b none h = none refl
@@ -89,7 +96,8 @@ module _ {K V : Type 0} (cmp : K → K → Ordering) (total : IsTotalOrder cmp) 
     without : (q k : K) (es : List (K × V)) → cmp q k ≡ Equal → AllByRecursion (λ y. cmp k y ≡ Less) (keys_of es) → lookup (is_at (cmp q)) es ≡ None
     without q k es is h = let P : K → Type 0 = λ x. AllByRecursion (λ y. cmp x y ≡ Less) (keys_of es) in missing q es (subst P (sym (same q k is)) h)
 
-    by_heads : (o : Ordering) (e f : K × V) (es fs : List (K × V)) → cmp e.0 f.0 ≡ o → IsStrictlySortedBy cmp (keys_of (e ∷ es)) → IsStrictlySortedBy cmp (keys_of (f ∷ fs))
+    by_heads : (o : Ordering) (e f : K × V) (es fs : List (K × V)) → cmp e.0 f.0 ≡ o → IsStrictlySortedBy cmp (keys_of (e ∷ es))
+        → IsStrictlySortedBy cmp (keys_of (f ∷ fs))
         → Alike (e ∷ es) (f ∷ fs) → (Alike es fs → es ≡ fs) → e ∷ es ≡ f ∷ fs
     unfolding IsStrictlySortedBy
     by_heads Less e f es fs is s t h rest =
@@ -128,7 +136,8 @@ module _ {V : Type 0} where
   over true v o p = refl
   over false v o p = refl
 
-  last_more : (key : List ℕ) (pairs : List (List ℕ × V)) (p : List ℕ × V) → last_value key (pairs ++ p ∷ []) ≡ cond (is_eq (slice_cmp nat_cmp key p.0)) (Some p.1) (last_value key pairs)
+  last_more : (key : List ℕ) (pairs : List (List ℕ × V)) (p : List ℕ × V)
+      → last_value key (pairs ++ p ∷ []) ≡ cond (is_eq (slice_cmp nat_cmp key p.0)) (Some p.1) (last_value key pairs)
   last_more key [] p = first_or (is_eq (slice_cmp nat_cmp key p.0)) p.1
   last_more key (q ∷ qs) p =
       ap (λ o. option_or o (if is_at (slice_cmp nat_cmp key) q.0 then Some q.1 else None)) (last_more key qs p)
@@ -139,10 +148,12 @@ module _ {V : Type 0} where
   dictionary_none = record { ascending = tt; last = λ key. refl }
 
   -- the dictionary of one pair more
-  pub dictionary_more : (pairs es : List (List ℕ × V)) (p : List ℕ × V) → IsDictionaryOf pairs es → IsDictionaryOf (pairs ++ p ∷ []) (insert_entry (slice_cmp nat_cmp) es p.0 p.1)
+  pub dictionary_more : (pairs es : List (List ℕ × V)) (p : List ℕ × V) → IsDictionaryOf pairs es
+      → IsDictionaryOf (pairs ++ p ∷ []) (insert_entry (slice_cmp nat_cmp) es p.0 p.1)
   dictionary_more pairs es p d = record {
     ascending = ascends (slice_cmp nat_cmp) nat_list_cmp_total es p.0 p.1 d.ascending;
-    last = λ key. lookup_put (slice_cmp nat_cmp) nat_list_cmp_total key es p.0 p.1 ∙ ap (cond (is_eq (slice_cmp nat_cmp key p.0)) (Some p.1)) (d.last key) ∙ sym (last_more key pairs p);
+    last = λ key. lookup_put (slice_cmp nat_cmp) nat_list_cmp_total key es p.0 p.1
+        ∙ ap (cond (is_eq (slice_cmp nat_cmp key p.0)) (Some p.1)) (d.last key) ∙ sym (last_more key pairs p);
   }
 
   some_dictionary : (more pairs es : List (List ℕ × V)) → IsDictionaryOf pairs es → (all : List (List ℕ × V)) × IsDictionaryOf (pairs ++ more) all
@@ -157,5 +168,6 @@ module _ {V : Type 0} where
       record {
         the = some.0;
         is = some.1;
-        only = λ other d. unique (slice_cmp nat_cmp) nat_list_cmp_total same_bytes other some.0 d.ascending some.1.ascending (λ key. d.last key ∙ sym (some.1.last key));
+        only = λ other d. unique (slice_cmp nat_cmp) nat_list_cmp_total same_bytes other some.0 d.ascending some.1.ascending
+            (λ key. d.last key ∙ sym (some.1.last key));
       }

@@ -10,7 +10,7 @@ use Rattle.minidump_system.specs.Reads.{and_then}
 use Rattle.minidump_records.specs.declared.crashpad.annotation.MinidumpAnnotation.{MinidumpAnnotation}
 use Rattle.minidump_records.specs.declared.crashpad.annotation.MinidumpAnnotation.TheVariants.{Invalid, String, UserDefined, Unsupported}
 
--- the value of an annotation; of a type that is not read, the record is all there is
+-- the value of an annotation; of types that are not read it is the record
 pub data Annotation : Type 0 where
   invalid : Annotation
   text : List ℕ → Annotation
@@ -30,7 +30,7 @@ annotation_in order file raw =
     if raw.ty == 1 then and_then (ok_or (text8 order raw.value file) StreamReadFailure) (λ bytes. Ok (text bytes)) else (
     if nat_le 0x8000 raw.ty then Ok (user_defined raw) else Ok (unsupported raw)))
 
--- its reads: that of a text
+-- the reads of a value: that of a text
 abbrev pub annotation_reads : Annotation → ℕ
 annotation_reads (text bytes) = 1
 annotation_reads _ = 0

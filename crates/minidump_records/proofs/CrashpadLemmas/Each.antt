@@ -1,0 +1,44 @@
+-- Readings by index: none, one more, and one that fails.
+use Rattle.std.proofs.Common.{◌≡◌, ℕ, zero, suc, ◌+◌, ◌-◌, ◌*◌, ◌<◌, List, [], ◌∷◌, ◌++◌, Ok, Err, refl, arith, add-one, add-zero, add-suc}
+use Rattle.std.specs.Prelude.{Some, Result}
+use Rattle.std.specs.Option.{ok_or}
+use Rattle.minidump_bytes.specs.declared.endian.Endian.{Endian}
+use Rattle.minidump_bytes.specs.Layout.{Layout}
+use Rattle.minidump_bytes.specs.Span.{record_at}
+use Rattle.minidump_format.specs.declared.error.Error.{Error}
+use Rattle.minidump_format.specs.declared.error.Error.TheVariants.{StreamReadFailure}
+use Rattle.minidump_records.specs.Crashpad.Parts.{each, part_at}
+
+pub each-none : {V : Type 0} (read : ℕ → Result V Error) → each read 0 ≡ Ok []
+unfolding each
+each-none read = refl
+
+pub each-more : {V : Type 0} (read : ℕ → Result V Error) (n : ℕ) (vs : List V) (v : V) → each read n ≡ Ok vs → read n ≡ Ok v
+    → each read (n + 1) ≡ Ok (vs ++ v ∷ [])
+unfolding each
+each-more read n vs v before one = rw (add-one, before, one) refl
+
+stays : {V : Type 0} (read : ℕ → Result V Error) (n k : ℕ) (e : Error) → each read n ≡ Err e → each read (n + k) ≡ Err e
+unfolding each
+stays read n zero e h = rw (add-zero) h
+stays read n (suc k) e h = rw (add-suc, stays read n k e h) refl
+
+-- the error of the first index that has one is that of all
+pub each-refused : {V : Type 0} (read : ℕ → Result V Error) (i n : ℕ) (vs : List V) (e : Error) → i < n → each read i ≡ Ok vs → read i ≡ Err e
+    → each read n ≡ Err e
+unfolding each
+each-refused read i n vs e lt before one =
+    let here : each read (suc i) ≡ Err e = rw (before, one) refl in
+    let so : suc i + (n - suc i) ≡ n = omega arith in
+    rw so at (stays read (suc i) (n - suc i) e here)
+
+module _ {R V : Type 0} (layout : Layout R) (part : Endian → List ℕ → R → Result V Error) (order : Endian) (file bytes : List ℕ) where
+  -- the part of an entry that is there
+  pub at_entry : (i : ℕ) (x : R) (r : Result V Error) → record_at layout order (4 + layout.size * i) bytes ≡ Some x → part order file x ≡ r
+      → part_at layout part order file bytes i ≡ r
+  at_entry i x r e h = rw e h
+
+  -- and of one that is not
+  pub at_none : (i : ℕ) (e : Error) → Err e ≡ ok_or (record_at layout order (4 + layout.size * i) bytes) StreamReadFailure
+      → part_at layout part order file bytes i ≡ Err e
+  at_none i e h = rw (← h) refl

@@ -1,0 +1,31 @@
+-- Lemmas: from each link there is exactly one object chain.
+use Rattle.std.specs.Prelude.{◌≡◌, ℕ, ◌<◌, ◌+◌, List, length, refl, Bool, true, false, nat_le, ◌==◌, if◌then◌else◌, Some, None}
+use Rattle.std.specs.Option.{option_and_then}
+use Rattle.std.proofs.Common.{arith}
+use Rattle.std.proofs.lemmas.Bool.Decides.{nat_tests}
+use Rattle.minidump_bytes.specs.declared.endian.Endian.{Endian}
+use Rattle.minidump_bytes.specs.Span.{record_at}
+use Rattle.minidump_format.specs.Handle.{object_information}
+use Rattle.minidump_system.specs.Chain.{IsChain}
+use Rattle.minidump_system.specs.ExactlyOne.{ExactlyOne}
+use Rattle.minidump_system.proofs.OneChain.{one_chain}
+use Rattle.minidump_records.specs.declared.handles.information.MinidumpHandleObjectInformation.{MinidumpHandleObjectInformation}
+use Rattle.minidump_records.specs.Handles.ObjectChain.{information_at, next_of, typed}
+
+-- a piece of information stands within the file
+pub readable : (order : Endian) (file : List ℕ) (place : ℕ) (i : MinidumpHandleObjectInformation) → information_at order file place ≡ Some i
+    → place < length file
+unfolding information_at
+readable order file place i h = by_zero (place == 0) h
+  where
+    by_room : (b : Bool) → nat_le (place + 12) (length file) ≡ b → option_and_then typed (record_at object_information order place file) ≡ Some i
+        → place < length file
+    by_room true e k = grind (arith, nat_tests, e)
+    by_room false e k = (let j = rw e at k in cc)
+
+    by_zero : (b : Bool) → (if b then None else option_and_then typed (record_at object_information order place file)) ≡ Some i → place < length file
+    by_zero true k = cc
+    by_zero false k = by_room (nat_le (place + 12) (length file)) refl k
+
+pub one_object_chain : (order : Endian) (file : List ℕ) (link : ℕ) → ExactlyOne (IsChain (information_at order file) next_of link)
+one_object_chain order file link = one_chain (information_at order file) next_of (length file) (readable order file) link

@@ -1,0 +1,121 @@
+ghost use Rattle.std.specs.Prelude.{◌≡◌};
+ghost use Rattle.minidump_bytes.specs.LinuxOsStr.{text_lines};
+ghost use Rattle.minidump_format.specs.declared.format.stream_type.MINIDUMP_STREAM_TYPE.TheVariants.{LinuxCpuInfo, LinuxEnviron, LinuxLsbRelease, LinuxProcStatus, MozLinuxLimits};
+
+use super::text::{LinuxFile, LinuxPairsFile, LinuxText};
+use minidump_bytes::{Lines, LinuxOsStr};
+
+/// The text of `/proc/cpuinfo`. Each line is a key and a value around a colon.
+pub type MinidumpLinuxCpuInfo<'a> = LinuxText<'a, CpuInfo>;
+
+/// The text of `/proc/PID/status`. Each line is a key and a value around a colon.
+pub type MinidumpLinuxProcStatus<'a> = LinuxText<'a, ProcStatus>;
+
+/// The text of `/etc/lsb-release`. Each line is a key and a value around an equals sign.
+pub type MinidumpLinuxLsbRelease<'a> = LinuxText<'a, LsbRelease>;
+
+/// The text of `/proc/PID/environ`. Each line is a key and a value around an equals sign, and ends with a NUL.
+pub type MinidumpLinuxEnviron<'a> = LinuxText<'a, Environ>;
+
+/// The text of `/proc/PID/limits`. Each line is a limit.
+pub type MinidumpLinuxProcLimits<'a> = LinuxText<'a, ProcLimits>;
+
+/// Breakpad's `MD_LINUX_CPU_INFO`, the text of `/proc/cpuinfo`.
+pub struct CpuInfo;
+
+impl LinuxFile for CpuInfo {
+    ghost stream_type = { LinuxCpuInfo };
+
+    const STREAM_TYPE: u32 = 0x4767_0003;
+
+    fn number_of_type() -> u32 {
+        Self::STREAM_TYPE
+    }
+}
+
+impl LinuxPairsFile for CpuInfo {
+    ghost SEPARATOR = { 58 };
+
+    const SEPARATOR: u8 = b':';
+}
+
+/// Breakpad's `MD_LINUX_PROC_STATUS`, the text of `/proc/PID/status`.
+pub struct ProcStatus;
+
+impl LinuxFile for ProcStatus {
+    ghost stream_type = { LinuxProcStatus };
+
+    const STREAM_TYPE: u32 = 0x4767_0004;
+
+    fn number_of_type() -> u32 {
+        Self::STREAM_TYPE
+    }
+}
+
+impl LinuxPairsFile for ProcStatus {
+    ghost SEPARATOR = { 58 };
+
+    const SEPARATOR: u8 = b':';
+}
+
+/// Breakpad's `MD_LINUX_LSB_RELEASE`, the text of `/etc/lsb-release`.
+pub struct LsbRelease;
+
+impl LinuxFile for LsbRelease {
+    ghost stream_type = { LinuxLsbRelease };
+
+    const STREAM_TYPE: u32 = 0x4767_0005;
+
+    fn number_of_type() -> u32 {
+        Self::STREAM_TYPE
+    }
+}
+
+impl LinuxPairsFile for LsbRelease {
+    ghost SEPARATOR = { 61 };
+
+    const SEPARATOR: u8 = b'=';
+}
+
+/// Breakpad's `MD_LINUX_ENVIRON`, the text of `/proc/PID/environ`.
+pub struct Environ;
+
+impl LinuxFile for Environ {
+    ghost stream_type = { LinuxEnviron };
+
+    const STREAM_TYPE: u32 = 0x4767_0007;
+
+    fn number_of_type() -> u32 {
+        Self::STREAM_TYPE
+    }
+}
+
+impl LinuxPairsFile for Environ {
+    ghost SEPARATOR = { 61 };
+
+    const SEPARATOR: u8 = b'=';
+}
+
+/// Mozilla's `MozLinuxLimits`, the text of `/proc/PID/limits`.
+pub struct ProcLimits;
+
+impl LinuxFile for ProcLimits {
+    ghost stream_type = { MozLinuxLimits };
+
+    const STREAM_TYPE: u32 = 0x4d7a_0003;
+
+    fn number_of_type() -> u32 {
+        Self::STREAM_TYPE
+    }
+}
+
+impl<'a> LinuxText<'a, ProcLimits> {
+    ghost use Rattle.minidump_records.specs.Linux.{linux_text_of};
+
+    /// Returns an iterator over its lines.
+    pub fn iter(&self) -> Lines<'a>
+        ensures { result ≡ text_lines (linux_text_of self.now) }
+    {
+        LinuxOsStr::from_bytes(self.raw_bytes()).lines()
+    }
+}
