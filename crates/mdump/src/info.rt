@@ -10,7 +10,7 @@ use minidump::{
     UnifiedMemoryInfoList,
 };
 use minidump_bytes::{Piece, made};
-use minidump_format::put_made;
+use minidump_format::put_formatted;
 use std::alloc::{AllocError, Global};
 use std::io::Write;
 
@@ -26,7 +26,7 @@ pub(crate) fn info_line<O: Write>(
 {
     let infos = information(dump, alloc)?;
     let found = info_at(infos.as_ref(), address);
-    put_made(out, made_info_line(alloc, found))
+    put_formatted(out, made_info_line(alloc, found))
 }
 
 // Reads the memory information of a dump, or its maps where that is missing or malformed.

@@ -8,7 +8,7 @@ ghost use Rattle.mdump.specs.Lines.{IsAt, memory_line, region_line};
 
 use minidump::{Error, Minidump, Told, UnifiedMemory, UnifiedMemoryList};
 use minidump_bytes::{Piece, made};
-use minidump_format::put_made;
+use minidump_format::put_formatted;
 use std::alloc::{AllocError, Global};
 use std::io::Write;
 
@@ -24,7 +24,7 @@ pub(crate) fn memory_line<O: Write>(
 {
     let memory = dump.get_memory(alloc)?;
     let found = memory_at(memory.as_ref(), address);
-    put_made(out, made_memory_line(alloc, found))
+    put_formatted(out, made_memory_line(alloc, found))
 }
 
 // Finds the region of memory that contains the address.

@@ -8,7 +8,7 @@ ghost use Rattle.mdump.specs.Lines.{IsAt, module_line};
 
 use minidump::{Error, Minidump, MinidumpModule, MinidumpModuleList, Told};
 use minidump_bytes::{Piece, made};
-use minidump_format::put_made;
+use minidump_format::put_formatted;
 use std::alloc::{AllocError, Global};
 use std::io::Write;
 
@@ -24,7 +24,7 @@ pub(crate) fn module_line<O: Write>(
 {
     let modules = dump.find_stream::<MinidumpModuleList>(alloc)?;
     let found = module_at(modules.as_ref(), address);
-    put_made(out, made_module_line(alloc, found))
+    put_formatted(out, made_module_line(alloc, found))
 }
 
 // Finds the module that contains the address.

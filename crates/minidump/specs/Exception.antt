@@ -8,7 +8,7 @@ use Rattle.minidump_format.specs.declared.error.Error.{Error}
 use Rattle.minidump_format.specs.declared.error.Error.TheVariants.{StreamReadFailure}
 use Rattle.minidump_format.specs.declared.format.exception.MINIDUMP_EXCEPTION.{MINIDUMP_EXCEPTION}
 use Rattle.minidump_format.specs.declared.format.exception.MINIDUMP_EXCEPTION_STREAM.{MINIDUMP_EXCEPTION_STREAM}
-use Rattle.minidump_format.specs.Exception.{exception_stream as exception_layout}
+use Rattle.minidump_format.specs.Exception.{exception_layout}
 use Rattle.minidump_format.specs.Header.{located}
 use Rattle.minidump_system.specs.StreamSpec.{StreamSpec, linear}
 use Rattle.minidump_system.specs.declared.cpu.Cpu.{Cpu}

@@ -9,7 +9,7 @@ use crate::Minidump;
 use crate::directory::DecidingEntry;
 use minidump_bytes::{Piece, Told, made};
 use minidump_format::format::{MINIDUMP_HEADER, MINIDUMP_STREAM_TYPE};
-use minidump_format::{Error, TextOf, print_values, put_made, put_text};
+use minidump_format::{Error, TextOf, print_values, put_formatted, put_text};
 use std::alloc::{AllocError, Global};
 use std::io::Write;
 
@@ -36,7 +36,7 @@ impl<'a> Minidump<'a> {
     fn print_header<W: Write>(&self, alloc: Global, f: &mut Told<W>) -> Result<(), Error>
         ensures { Prints W.contents f.old f.new (header_text self.now.header) result }
     {
-        put_made(f, made_header(alloc, &self.header))
+        put_formatted(f, made_header(alloc, &self.header))
     }
 
     #[tactic(auto, using(minidump_format::proofs::Printing::prints_then, minidump_format::proofs::Printing::prints_exit))]

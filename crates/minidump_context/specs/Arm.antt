@@ -2,7 +2,7 @@
 use Rattle.std.specs.Prelude.{ℕ, List, [], ◌∷◌, codes, map, slice_index}
 use Rattle.minidump_format.specs.declared.format.context.arm.CONTEXT_ARM.{CONTEXT_ARM}
 
--- the name of each and its place in the record, in bytes
+-- the canonical name of each register and its place in the record, in bytes
 unfoldable pub arm_registers : List (List ℕ × ℕ)
 arm_registers =
     (codes "r0", 4) ∷
@@ -23,15 +23,15 @@ arm_registers =
     (codes "pc", 64) ∷
     []
 
--- the other names, each with the one of the table
+-- the aliases, each with the canonical name of its register
 unfoldable pub arm_aliases : List (List ℕ × List ℕ)
 arm_aliases = (codes "r11", codes "fp") ∷ (codes "r13", codes "sp") ∷ (codes "r14", codes "lr") ∷ (codes "r15", codes "pc") ∷ []
 
--- which of the numbered registers each is
+-- the place in `iregs` of each register of the table
 unfoldable pub arm_numbers : List ℕ
 arm_numbers = 0 ∷ 1 ∷ 2 ∷ 3 ∷ 4 ∷ 5 ∷ 6 ∷ 7 ∷ 8 ∷ 9 ∷ 10 ∷ 12 ∷ 11 ∷ 13 ∷ 14 ∷ 15 ∷ []
 
--- what each holds, in the order of the table
+-- the value of each register, in the order of the table
 unfoldable pub arm_values : CONTEXT_ARM → List ℕ
 arm_values c = map (slice_index c.iregs) arm_numbers
 

@@ -5,7 +5,7 @@ use Rattle.std.specs.List.{range_with_len}
 use Rattle.minidump_format.specs.declared.format.context.arm64.CONTEXT_ARM64.{CONTEXT_ARM64}
 use Rattle.minidump_format.specs.declared.format.context.arm64.CONTEXT_ARM64_OLD.{CONTEXT_ARM64_OLD}
 
--- the name of each and its place in the record, in bytes
+-- the canonical name of each register and its place in the record, in bytes
 unfoldable pub arm64_registers : List (List ℕ × ℕ)
 arm64_registers =
     (codes "x0", 8) ∷
@@ -43,11 +43,11 @@ arm64_registers =
     (codes "pc", 264) ∷
     []
 
--- the other names, each with the one of the table
+-- the aliases, each with the canonical name of its register
 unfoldable pub arm64_aliases : List (List ℕ × List ℕ)
 arm64_aliases = (codes "x29", codes "fp") ∷ (codes "x30", codes "lr") ∷ []
 
--- what each holds, in the order of the table
+-- the value of each register, in the order of the table
 unfoldable pub arm64_values : CONTEXT_ARM64 → List ℕ
 arm64_values c = map (slice_index c.iregs) (range_with_len 0 31) ++ c.sp ∷ c.pc ∷ []
 
@@ -55,7 +55,7 @@ arm64_values c = map (slice_index c.iregs) (range_with_len 0 31) ++ c.sp ∷ c.p
 unfoldable pub arm64_rest : CONTEXT_ARM64 → CONTEXT_ARM64
 arm64_rest c = record c { iregs = []; sp = 0; pc = 0 }
 
--- the same of the layout that Breakpad had first
+-- the values and the rest in Breakpad's first layout
 unfoldable pub arm64_old_values : CONTEXT_ARM64_OLD → List ℕ
 arm64_old_values c = map (slice_index c.iregs) (range_with_len 0 31) ++ c.sp ∷ c.pc ∷ []
 

@@ -26,7 +26,7 @@ use Rattle.minidump_context.specs.Amd64.{amd64_registers, amd64_values}
 use Rattle.minidump_context.specs.Arm.{arm_registers, arm_aliases, arm_values}
 use Rattle.minidump_context.specs.Arm64.{arm64_registers, arm64_aliases, arm64_values, arm64_old_values}
 
--- an answer with its value changed
+-- a result with its value mapped
 abbrev pub map_ok : {A B E : Type 0} → (A → B) → Result A E → Result B E
 map_ok f (Ok x) = Ok (f x)
 map_ok f (Err e) = Err e
@@ -36,16 +36,16 @@ abbrev pub is_of : ℕ → ℕ → Bool
 is_of processor flags = has_flag flags processor
     && list_all (λ row. nat_le 0x1000_0000 row.1 || (processor == row.1) || not (has_flag flags row.1)) context_flags
 
--- a context that is there, where its flags are those of its processor
+-- a context with the flags of its processor; a missing one and one with other flags are refused
 abbrev pub of_processor : {C : Type 0} → ℕ → (C → ℕ) → Option C → Result C ContextError
 of_processor processor flags None = Err ReadFailure
 of_processor processor flags (Some c) = if is_of processor (flags c) then Ok c else Err ReadFailure
 
--- the context of a processor that some bytes begin with
+-- the context of a processor at the beginning of the bytes
 unfoldable pub accepted : {C : Type 0} → Layout C → ℕ → (C → ℕ) → Endian → List ℕ → Result C ContextError
 accepted layout processor flags order bytes = of_processor processor flags (record_at layout order 0 bytes)
 
--- the context of an architecture that some bytes begin with; the flags of the old layout of ARM64 are the low half of its number
+-- the context of an architecture at the beginning of the bytes; in ARM64's old layout the flags are the low 32 bits of a field of 64
 abbrev pub context_of : Option ProcessorArchitecture → Endian → List ℕ → Result MinidumpRawContext ContextError
 context_of (Some PROCESSOR_ARCHITECTURE_INTEL) order bytes = map_ok X86 (accepted context_x86 0x1_0000 (λ c. c.context_flags) order bytes)
 context_of (Some PROCESSOR_ARCHITECTURE_IA32_ON_WIN64) order bytes = map_ok X86 (accepted context_x86 0x1_0000 (λ c. c.context_flags) order bytes)
@@ -55,7 +55,7 @@ context_of (Some PROCESSOR_ARCHITECTURE_ARM64) order bytes = map_ok Arm64 (accep
 context_of (Some PROCESSOR_ARCHITECTURE_ARM64_OLD) order bytes = map_ok OldArm64 (accepted context_arm64_old 0x8000_0000 (λ c. c.context_flags % 2 ^ 32) order bytes)
 context_of architecture order bytes = Err UnknownCpuContext
 
--- the same by the architecture's number
+-- the context at the beginning of the bytes, by the number of the architecture
 abbrev pub context_in : ℕ → Endian → List ℕ → Result MinidumpRawContext ContextError
 context_in architecture order bytes = context_of (architecture_of architecture) order bytes
 
@@ -68,7 +68,7 @@ pub record Registers : Type 0 where
   pub instruction_pointer : List ℕ
   pub size : ℕ
 
--- those of each processor
+-- the registers of a context of each processor
 abbrev pub registers_of : MinidumpRawContext → Registers
 registers_of (X86 c) = record { names = names_of x86_registers; aliases = []; values = x86_values c; stack_pointer = codes "esp"; instruction_pointer = codes "eip"; size = 4 }
 registers_of (Amd64 c) = record { names = names_of amd64_registers; aliases = []; values = amd64_values c; stack_pointer = codes "rsp"; instruction_pointer = codes "rip"; size = 8 }
@@ -76,15 +76,15 @@ registers_of (Arm c) = record { names = names_of arm_registers; aliases = arm_al
 registers_of (Arm64 c) = record { names = names_of arm64_registers; aliases = arm64_aliases; values = arm64_values c; stack_pointer = codes "sp"; instruction_pointer = codes "pc"; size = 8 }
 registers_of (OldArm64 c) = record { names = names_of arm64_registers; aliases = arm64_aliases; values = arm64_old_values c; stack_pointer = codes "sp"; instruction_pointer = codes "pc"; size = 8 }
 
--- the listed name of the register that a name names
+-- the canonical name of the register that has a name or alias
 abbrev pub memoized_in : Registers → List ℕ → Option (List ℕ)
 memoized_in r name = memoized r.names r.aliases name
 
--- what that register holds
+-- the value of the register that has a name or alias
 abbrev pub held_in : Registers → List ℕ → Option ℕ
 held_in r name = value_of r.names r.aliases r.values name
 
--- what it holds, where it is valid
+-- the value of the register that has a name or alias, if the register is valid
 abbrev pub valid_in : MinidumpContextValidity → Registers → List ℕ → Option ℕ
 valid_in valid r name = if is_valid valid r.names r.aliases name then held_in r name else None
 
@@ -92,6 +92,6 @@ valid_in valid r name = if is_valid valid r.names r.aliases name then held_in r 
 unfoldable pub valid_registers_from : MinidumpContextValidity → Registers → ℕ → List (List ℕ × ℕ)
 valid_registers_from valid r place = filter_map (λ name. option_map (λ value. (name, value)) (valid_in valid r name)) (drop place r.names)
 
--- what an iterator of them has left
+-- the names and values that an iterator of registers has yet to return
 abbrev pub context_registers_left : ContextRegisters → List (List ℕ × ℕ)
 context_registers_left s = valid_registers_from (asked (option_copied s.valid)) (registers_of s.raw.now) s.place

@@ -46,12 +46,12 @@ impl MinidumpContext {
         }
     }
 
-    /// Reads the context at the beginning of the bytes, in the layout that the architecture of the system
-    /// picks; the misc information decides nothing. All of its registers are valid. Takes no memory.
+    /// Reads the context at the beginning of `bytes`. The architecture of the system picks the layout; the
+    /// miscellaneous information is ignored. All registers of the context are valid. Takes no memory.
     ///
-    /// Returns `UnknownCpuContext` if the architecture has no known layout, and `ReadFailure` if there are too
-    /// few bytes, or the low 32 bits of the flags lack the bit of the processor or have that of another one
-    /// below 0x10000000.
+    /// Returns `UnknownCpuContext` if the architecture has no known layout. Returns `ReadFailure` if there are
+    /// too few bytes, if the low 32 bits of the flags lack the processor's bit, or if they have another
+    /// processor's bit below 0x10000000.
     pub fn read(
         bytes: &[u8],
         endian: Endian,
@@ -65,28 +65,30 @@ impl MinidumpContext {
         Ok(MinidumpContext::from_raw(read_raw(bytes, endian, architecture)?))
     }
 
-    /// Returns what the instruction pointer holds.
+    /// Returns the value of the instruction pointer.
     pub fn get_instruction_pointer(&self) -> u64
         ensures { held_in (registers_of self.now.raw) (registers_of self.now.raw).instruction_pointer ≡ Some result }
     {
         with_context!(&self.raw, context => instruction_pointer_of(context).to_u64())
     }
 
-    /// Returns what the stack pointer holds.
+    /// Returns the value of the stack pointer.
     pub fn get_stack_pointer(&self) -> u64
         ensures { held_in (registers_of self.now.raw) (registers_of self.now.raw).stack_pointer ≡ Some result }
     {
         with_context!(&self.raw, context => stack_pointer_of(context).to_u64())
     }
 
-    /// Returns the name in the list of the register that a name names, or `None` if it names none.
+    /// Returns the canonical name of the register `reg`, which is its name in `general_purpose_registers`.
+    /// Returns `None` if `reg` is neither a canonical name nor an alias.
     pub fn memoize_register(&self, reg: &str) -> Option<&'static str>
         ensures { option_copied result ≡ memoized_in (registers_of self.now.raw) reg.now }
     {
         with_context!(&self.raw, context => context.memoize_register(reg))
     }
 
-    /// Returns what a register holds. Its name is one that `memoize_register` knows.
+    /// Returns the value of the register `reg`, valid or not. `reg` must be a name that `memoize_register`
+    /// knows.
     pub fn get_register_always(&self, reg: &str) -> u64
         requires { IsSome (memoized_in (registers_of self.now.raw) reg.now) }
         ensures { held_in (registers_of self.now.raw) reg.now ≡ Some result }
@@ -94,15 +96,15 @@ impl MinidumpContext {
         with_context!(&self.raw, context => context.get_register_always(reg).to_u64())
     }
 
-    /// Returns what a register holds, or `None` if it isn't valid.
+    /// Returns the value of the register `reg`, or `None` if `reg` names no valid register.
     pub fn get_register(&self, reg: &str) -> Option<u64>
         ensures { result ≡ valid_in self.now.valid (registers_of self.now.raw) reg.now }
     {
         self.raw.get_register(reg, &self.valid)
     }
 
-    /// Formats what a register holds as `0x` and two digits a byte. Its name is one that `memoize_register`
-    /// knows. The only error is `OutOfMemory`.
+    /// Formats the value of the register `reg` as `0x` and two hexadecimal digits for each byte. `reg` must be
+    /// a name that `memoize_register` knows. The only error is `OutOfMemory`.
     pub fn format_register(&self, alloc: Global, reg: &str) -> Result<String, Error>
         requires { IsSome (memoized_in (registers_of self.now.raw) reg.now) }
         ensures text { IfOk result (λ text. IfSome (held_in (registers_of self.now.raw) reg.now)
@@ -112,14 +114,15 @@ impl MinidumpContext {
         with_context!(&self.raw, context => context.format_register(alloc, reg))
     }
 
-    /// Returns the name of each register.
+    /// Returns the canonical name of each register.
     pub fn general_purpose_registers(&self) -> &'static [&'static str]
         ensures { map (λ n. n.now) result.now ≡ (registers_of self.now.raw).names }
     {
         self.raw.names()
     }
 
-    /// Returns an iterator over all registers, each with its name and what it holds, in the order of the list of names.
+    /// Returns an iterator over the names and values of all registers, in the order of
+    /// `general_purpose_registers`.
     pub fn registers(&self) -> ContextRegisters<'_>
         ensures { context_registers_left result ≡ valid_registers_from MinidumpContextValidity.All (registers_of self.now.raw) 0 }
     {
@@ -130,7 +133,8 @@ impl MinidumpContext {
         }
     }
 
-    /// Returns an iterator over the valid registers, each with its name and what it holds, in the order of the list of names.
+    /// Returns an iterator over the names and values of the valid registers, in the order of
+    /// `general_purpose_registers`.
     pub fn valid_registers(&self) -> ContextRegisters<'_>
         ensures { context_registers_left result ≡ valid_registers_from self.now.valid (registers_of self.now.raw) 0 }
     {
@@ -141,7 +145,7 @@ impl MinidumpContext {
         }
     }
 
-    /// Returns how many bytes a register has.
+    /// Returns the size of a register in bytes.
     pub fn register_size(&self) -> usize
         ensures { result ≡ (registers_of self.now.raw).size }
     {
@@ -179,7 +183,7 @@ fn register_size_of<C: CpuContext>(_context: &C) -> usize
     <C::Register as Record>::SIZE
 }
 
-// The context of an architecture that some bytes begin with.
+// Reads the context of an architecture at the beginning of the bytes.
 fn read_raw(
     bytes: &[u8],
     endian: Endian,
@@ -208,7 +212,7 @@ fn read_raw(
     }
 }
 
-// The context of a processor that some bytes begin with.
+// Reads the context of a processor at the beginning of the bytes.
 #[tactic(auto, unfolding(crate::specs::Context::accepted))]
 fn accepted<C: CpuContext + Drop>(bytes: &[u8], endian: Endian) -> Result<C, ContextError>
     ensures { result ≡ accepted C.layout C.processor C.flags endian bytes.now }
@@ -223,8 +227,8 @@ fn accepted<C: CpuContext + Drop>(bytes: &[u8], endian: Endian) -> Result<C, Con
     }
 }
 
-// Whether flags have the bit of a processor, and no other processor's below 0x1000_0000: of X86, MIPS, MIPS64,
-// AMD64, ARM64 and PPC64, in this order.
+// Tests whether flags have the bit of a processor, and no other processor's bit below 0x1000_0000. Those bits are,
+// in this order, of X86, MIPS, MIPS64, AMD64, ARM64 and PPC64.
 #[tactic(auto, unfolding(minidump_format::specs::ContextFlags::context_flags))]
 fn is_of(processor: u32, flags: u32) -> bool
     ensures { result ≡ is_of processor flags }

@@ -12,15 +12,15 @@ use minidump_bytes::{FixedRead, Piece, Record, made};
 use minidump_format::Error;
 use std::alloc::Global;
 
-/// The number that a register holds.
+/// The type of a register's value.
 pub trait RegisterNumber: FixedRead {
     ghost number: { Self → ℕ };
 
-    /// Returns the number in 64 bits.
+    /// Returns the value in 64 bits.
     fn to_u64(self) -> u64
         ensures { result ≡ number self };
 
-    /// Returns how many hexadecimal digits it has at most.
+    /// Returns how many hexadecimal digits the greatest value has.
     fn hex_digits() -> usize
         ensures { result ≡ 2 * Self.SIZE };
 }
@@ -51,10 +51,10 @@ impl RegisterNumber for u64 {
 
 /// The names of the registers of a context.
 pub trait CpuRegisterNames {
-    // the name of each register and its place in the record, in bytes
+    // the canonical name of each register and its place in the record, in bytes
     ghost table: { List (List ℕ × ℕ) };
 
-    /// The name of each general-purpose register.
+    /// The canonical name of each general-purpose register.
     const REGISTERS: &'static [&'static str];
 
     /// Returns [`REGISTERS`](CpuRegisterNames::REGISTERS), which a contract can't name.
@@ -64,16 +64,16 @@ pub trait CpuRegisterNames {
 
 /// The context of a processor: its registers by name.
 pub trait CpuContext: CpuRegisterNames + Record {
-    /// What a register holds.
+    /// The value of a register.
     type Register: RegisterNumber;
 
-    // the aliases of registers, each with the name of the table
+    // the aliases of registers, each with the canonical name of its register
     ghost aliases: { List (List ℕ × List ℕ) };
 
-    // what the registers hold, in the order of the table
+    // the values of the registers, in the order of the table
     ghost values: { Self → List Self.Register };
 
-    // what the context holds beside them
+    // what the context holds beside its registers
     ghost rest: { Self → Self };
 
     // the bit of the processor in the flags, and the flags of a context
@@ -86,16 +86,16 @@ pub trait CpuContext: CpuRegisterNames + Record {
 
     ghost instruction_pointer: { List ℕ };
 
-    /// Returns the aliases of registers, each with its name in the list.
+    /// Returns the aliases of registers, each with the canonical name of its register.
     fn aliases() -> &'static [(&'static str, &'static str)]
         ensures { map (λ a. (a.0.now, a.1.now)) result.now ≡ aliases };
 
-    /// Returns what the register at a place of the list holds.
+    /// Returns the value of the register at a place of [`REGISTERS`](CpuRegisterNames::REGISTERS).
     fn register_at(&self, place: usize) -> Self::Register
         requires { place < length Self.table }
         ensures { slice_get (values self.now) place ≡ Some result };
 
-    /// Changes the register at a place of the list, and nothing else.
+    /// Changes the register at a place of [`REGISTERS`](CpuRegisterNames::REGISTERS), and nothing else.
     fn set_register_at(&mut self, place: usize, value: Self::Register)
         requires { place < length Self.table }
         ensures set { values self.new ≡ slice_set (values self.old) place value }
@@ -117,7 +117,9 @@ pub trait CpuContext: CpuRegisterNames + Record {
     fn instruction_pointer_register_name(&self) -> &'static str
         ensures { result.now ≡ instruction_pointer };
 
-    /// Returns the name in the list of the register that a name names, or `None` if it names none.
+    /// Returns the canonical name of the register `reg`, which is its name in
+    /// [`REGISTERS`](CpuRegisterNames::REGISTERS). Returns `None` if `reg` is neither a canonical name nor an
+    /// alias.
     final fn memoize_register(&self, reg: &str) -> Option<&'static str>
         ensures { option_copied result ≡ memoized (names_of Self.table) aliases reg.now }
     {
@@ -126,7 +128,8 @@ pub trait CpuContext: CpuRegisterNames + Record {
         Some(names[place])
     }
 
-    /// Returns whether a name is that of a valid register: one of which the set has any of the names.
+    /// Returns whether `reg` names a valid register. A register is valid if `valid` is `All` or has any of its
+    /// names.
     final fn register_is_valid(&self, reg: &str, valid: &MinidumpContextValidity) -> bool
         ensures { result ≡ is_valid valid.now (names_of Self.table) aliases reg.now }
     {
@@ -136,7 +139,8 @@ pub trait CpuContext: CpuRegisterNames + Record {
         }
     }
 
-    /// Returns what a register holds. Its name is one that `memoize_register` knows.
+    /// Returns the value of the register `reg`, valid or not. `reg` must be a name that `memoize_register`
+    /// knows.
     final fn get_register_always(&self, reg: &str) -> Self::Register
         requires { IsSome (memoized (names_of Self.table) aliases reg.now) }
         ensures { value_of (names_of Self.table) aliases (values self.now) reg.now ≡ Some result }
@@ -145,7 +149,7 @@ pub trait CpuContext: CpuRegisterNames + Record {
         self.register_at(place)
     }
 
-    /// Returns what a register holds, or `None` if it isn't valid.
+    /// Returns the value of the register `reg`, or `None` if `reg` names no valid register.
     final fn get_register(
         &self,
         reg: &str,
@@ -161,8 +165,8 @@ pub trait CpuContext: CpuRegisterNames + Record {
         }
     }
 
-    /// Changes a register under all of its names, and nothing else. Returns `None`, and changes nothing, if no
-    /// register has the name.
+    /// Sets the register `reg` to `val`, and changes nothing else. All names of the register show the new
+    /// value. Returns `None`, and changes nothing, if `reg` names no register.
     final fn set_register(&mut self, reg: &str, val: Self::Register) -> Option<()>
         ensures named { IsSome result ↔ IsSome (place_of (names_of Self.table) aliases reg.now) }
         ensures changed { IsChanged values rest self.old self.new val (place_of (names_of Self.table) aliases reg.now) }
@@ -172,8 +176,8 @@ pub trait CpuContext: CpuRegisterNames + Record {
         Some(())
     }
 
-    /// Formats what a register holds as `0x` and two digits a byte. Its name is one that `memoize_register`
-    /// knows. The only error is `OutOfMemory`.
+    /// Formats the value of the register `reg` as `0x` and two hexadecimal digits for each byte. `reg` must be
+    /// a name that `memoize_register` knows. The only error is `OutOfMemory`.
     final fn format_register(&self, alloc: Global, reg: &str) -> Result<String, Error>
         requires { IsSome (memoized (names_of Self.table) aliases reg.now) }
         ensures text { IfOk result (λ text. IfSome (value_of (names_of Self.table) aliases (values self.now) reg.now)
@@ -184,7 +188,8 @@ pub trait CpuContext: CpuRegisterNames + Record {
         Ok(made(alloc, &[Piece::Wide(value, Self::Register::hex_digits())])?)
     }
 
-    /// Returns an iterator over all registers, each with its name and what it holds, in the order of the list.
+    /// Returns an iterator over the names and values of all registers, in the order of
+    /// [`REGISTERS`](CpuRegisterNames::REGISTERS).
     final fn registers(&self) -> CpuRegisters<'_, Self>
         ensures { registers_left (names_of Self.table) aliases values result
             ≡ valid_from MinidumpContextValidity.All (names_of Self.table) aliases (values self.now) 0 }
@@ -196,7 +201,8 @@ pub trait CpuContext: CpuRegisterNames + Record {
         }
     }
 
-    /// Returns an iterator over the valid registers, each with its name and what it holds, in the order of the list.
+    /// Returns an iterator over the names and values of the registers that are valid by `valid`, in the order
+    /// of [`REGISTERS`](CpuRegisterNames::REGISTERS).
     final fn valid_registers<'a>(
         &'a self,
         valid: &'a MinidumpContextValidity,

@@ -5,13 +5,13 @@ ghost use Rattle.minidump_context.specs.Register.{names_of, registers_left, is_v
 
 use crate::{CpuContext, MinidumpContextValidity};
 
-/// Registers of a context, each with its name and what it holds, in the order of the list of names.
+/// An iterator over the names and values of registers of a context, in the order of the list of names.
 #[derive(Clone, Drop)]
 pub struct CpuRegisters<'a, T> {
     pub(crate) context: &'a T,
-    // The valid ones; all where there is no set.
+    // The registers to return; `None` stands for all.
     pub(crate) valid: Option<&'a MinidumpContextValidity>,
-    // The first of the list that has not been looked at.
+    // The place in the list of the next name to look at.
     pub(crate) place: usize,
 }
 

@@ -26,8 +26,8 @@ pub fn a_change_is_seen_under_all_names<T: CpuContext>()
         → value_of (names_of T.table) T.aliases (T.values after) name ≡ Some value }
 {}
 
-/// Every other register holds what it held, and what the context holds beside registers is as it was. With a
-/// name that is no register's the whole context is.
+/// A change of a register leaves every other register, and what the context holds beside registers, as it was.
+/// A change under a name that names no register leaves the whole context as it was.
 pub fn nothing_else_is_changed<T: CpuContext>()
     ensures registers { (before after : T) (value : T.Register) (place : ℕ) (name : List ℕ)
         → IsChanged T.values T.rest before after value (Some place)
@@ -46,7 +46,8 @@ pub fn registers_stand_at_their_places<T: CpuContext>()
         ≡ map (λ row. number_at order T.Register.SIZE row.1 bytes) T.table }
 {}
 
-/// Each name of the list names the register of its own place, and each alias that of its name in the list.
+/// Each canonical name names the register at its own place in the list. Each alias names the register of its
+/// canonical name.
 pub fn names_name_their_registers<T: CpuContext>()
     ensures listed { map (place_of (names_of T.table) T.aliases) (names_of T.table)
         ≡ map Some (range_with_len 0 (length T.table)) }
@@ -55,7 +56,7 @@ pub fn names_name_their_registers<T: CpuContext>()
     ensures known { list_all (λ a. is_some (place_of (names_of T.table) T.aliases a.0)) T.aliases ≡ true }
 {}
 
-/// A register is valid under each of its names where the set has any of them.
+/// If the set has any name of a register, the register is valid under all of its names.
 pub fn any_name_makes_a_register_valid<T: CpuContext>()
     ensures { (valid : MinidumpContextValidity) (name held : List ℕ) (place : ℕ)
         → place_of (names_of T.table) T.aliases name ≡ Some place
@@ -79,8 +80,8 @@ pub fn clones_are_the_same<T: CpuContext + Clone + 'static>()
         → ⟦<ContextRegisters<'static> as Clone>⟧.is_clone registers other → other ≡ registers }
 {}
 
-/// The context of each processor has its own table of registers, the aliases, the values and what it holds
-/// beside them.
+/// The context of each processor has the table of registers, the aliases, the values and the rest that are
+/// defined for the processor.
 pub fn contexts_are_as_defined()
     ensures x86_table { ⟦<CONTEXT_X86 as CpuRegisterNames>⟧.table ≡ x86_registers }
     ensures x86_aliases { ⟦<CONTEXT_X86 as CpuContext>⟧.aliases ≡ [] }

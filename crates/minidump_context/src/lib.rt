@@ -1,9 +1,10 @@
 //! The contexts of threads: the registers of a processor by name.
 //!
-//! - [`CpuContext`] is a context of a processor. It is met by `CONTEXT_X86`, `CONTEXT_AMD64`, `CONTEXT_ARM`,
-//!   `CONTEXT_ARM64` and `CONTEXT_ARM64_OLD`; [`CpuRegisters`] iterates over its registers.
-//! - [`MinidumpContext`] is a context of any of them, a [`MinidumpRawContext`], with the registers that are
-//!   valid, a [`MinidumpContextValidity`]; [`ContextRegisters`] iterates over its registers.
+//! - [`CpuContext`] is the context of one processor. `CONTEXT_X86`, `CONTEXT_AMD64`, `CONTEXT_ARM`,
+//!   `CONTEXT_ARM64` and `CONTEXT_ARM64_OLD` implement it. [`CpuRegisters`] iterates over its registers.
+//! - [`MinidumpContext`] is the context of any of these processors, a [`MinidumpRawContext`]. Its
+//!   [`MinidumpContextValidity`] tells which registers are valid. [`ContextRegisters`] iterates over its
+//!   registers.
 //!
 //! # Errors
 //!
@@ -18,11 +19,11 @@
 //! - A register is found by each of its names, and is the number at its place in the record:
 //!   `get_register_always`, `memoize_register`; `laws::registers_stand_at_their_places`,
 //!   `names_name_their_registers`.
-//! - A register is valid where the set is all, or has any of its names; a name that is none is never valid:
+//! - A register is valid if all are, or if the set has any of its names. A name of no register is never valid:
 //!   `register_is_valid`, `get_register`, by `is_valid`; `laws::any_name_makes_a_register_valid`. The valid
 //!   registers come in the order of the list: `registers`, `valid_registers`.
-//! - `set_register` changes that one register under all of its names and nothing else, and nothing with a name
-//!   that is none: by `IsChanged`; `laws::a_change_is_seen_under_all_names`, `nothing_else_is_changed`.
+//! - `set_register` changes one register, under all of its names, and nothing else. With a name of no register
+//!   it changes nothing: by `IsChanged`; `laws::a_change_is_seen_under_all_names`, `nothing_else_is_changed`.
 //!   The tables, the values and the rest of each context: `laws::contexts_are_as_defined`.
 //! - Copies are the same, and sets of valid registers are equal by their names: `try_clone`,
 //!   `laws::clones_are_the_same`, `sets_are_equal_by_their_names`.

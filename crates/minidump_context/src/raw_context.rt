@@ -7,14 +7,14 @@ use minidump_format::format::{
     CONTEXT_AMD64, CONTEXT_ARM, CONTEXT_ARM64, CONTEXT_ARM64_OLD, CONTEXT_X86,
 };
 
-/// The registers of a thread, by the processor.
+/// The registers of a thread, in the layout of its processor.
 #[derive(Clone, Copy)]
 pub enum MinidumpRawContext {
     X86(CONTEXT_X86),
     Amd64(CONTEXT_AMD64),
     Arm(CONTEXT_ARM),
     Arm64(CONTEXT_ARM64),
-    /// ARM64, in the layout that Breakpad had first.
+    /// ARM64, in Breakpad's first layout.
     OldArm64(CONTEXT_ARM64_OLD),
 }
 

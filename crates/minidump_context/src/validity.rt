@@ -10,9 +10,9 @@ use std::collections::HashSet;
 /// Which registers of a context are valid.
 #[derive(PartialEq, Eq, Drop)]
 pub enum MinidumpContextValidity {
-    /// All of them.
+    /// All registers.
     All,
-    /// Those of which the set has the name or an alias.
+    /// The registers with the canonical name or an alias in the set.
     Some(HashSet<&'static str>),
 }
 
@@ -30,7 +30,7 @@ impl MinidumpContextValidity {
         }
     }
 
-    // Whether the set has a name.
+    // Tests whether the set has a name.
     fn holds(&self, name: &str) -> bool
         ensures { result ≡ holds self.now name.now }
     {
@@ -40,14 +40,14 @@ impl MinidumpContextValidity {
         }
     }
 
-    // Whether the set has a listed name or an alias of it.
+    // Tests whether the set has a canonical name or one of its aliases.
     pub(crate) fn holds_any(&self, aliases: &[(&'static str, &'static str)], listed: &str) -> bool
         ensures { result ≡ holds_any self.now (map (λ a. (a.0.now, a.1.now)) aliases.now) listed.now }
     {
         self.holds(listed) || self.holds_alias(aliases, listed)
     }
 
-    // Whether the set has an alias of a listed name.
+    // Tests whether the set has an alias of a canonical name.
     fn holds_alias(&self, aliases: &[(&'static str, &'static str)], listed: &str) -> bool
         ensures { result ≡ list_any (λ a. bytes_eq a.1.now listed.now && holds self.now a.0.now) aliases.now }
     {

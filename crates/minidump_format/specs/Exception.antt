@@ -23,8 +23,8 @@ exception = record {
 }
 
 -- Microsoft's MINIDUMP_EXCEPTION_STREAM
-abbrev pub exception_stream : Layout MINIDUMP_EXCEPTION_STREAM
-exception_stream = record {
+abbrev pub exception_layout : Layout MINIDUMP_EXCEPTION_STREAM
+exception_layout = record {
   size = 168;
   value = λ order bytes. record {
     thread_id = number_at order 4 0 bytes;

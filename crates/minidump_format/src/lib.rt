@@ -3,7 +3,7 @@
 //! - [`format`] has the records, enumerations and sets of flags, by the names of Microsoft's, Breakpad's and
 //!   Crashpad's headers. Each record is a `minidump_bytes::Record`.
 //! - [`Error`] is the one error of all crates. [`stream_vendor`] names the vendor of a stream type.
-//! - [`put_text`] and [`put_made`] print a text. A value that prints itself is [`Printed`], and
+//! - [`put_text`] and [`put_formatted`] print a text. A value that prints itself is [`Printed`], and
 //!   [`print_all`] prints several; [`TextOf`] and [`print_values`] do so for the values of a map.
 //!
 //! # Errors
@@ -28,7 +28,7 @@
 //! - The constants: `laws::header_numbers`, `file_info_numbers`, `annotation_numbers`. The name of an error:
 //!   `Error::name`.
 //! - A call that prints wrote all of its text, or a beginning, and returned the error above: the word
-//!   `Prints` at `put_text`, `put_made`, `print_all`, `print_values`.
+//!   `Prints` at `put_text`, `put_formatted`, `print_all`, `print_values`.
 //!
 //! What isn't: the messages of the errors, which tests show. `CV_INFO_PDB70`, `CV_INFO_PDB20` and
 //! `CV_INFO_ELF` are no records: `minidump_modules` reads them.
@@ -42,5 +42,5 @@ mod print;
 mod vendor;
 
 pub use error::Error;
-pub use print::{Printed, TextOf, print_all, print_values, put_made, put_text};
+pub use print::{Printed, TextOf, print_all, print_values, put_formatted, put_text};
 pub use vendor::stream_vendor;

@@ -21,7 +21,10 @@ pub fn put_text<W: Write>(f: &mut Told<W>, text: &str) -> Result<(), Error>
 
 /// Prints a text that was made in memory. If it could not be made, returns [`Error::OutOfMemory`], or
 /// [`Error::IoError`] if the writer has failed.
-pub fn put_made<W: Write>(f: &mut Told<W>, text: Result<String, AllocError>) -> Result<(), Error>
+pub fn put_formatted<W: Write>(
+    f: &mut Told<W>,
+    text: Result<String, AllocError>,
+) -> Result<(), Error>
     ensures prints { (bytes : List ℕ) → IfOk text (λ t. string_bytes t ≡ bytes)
         → Prints W.contents f.old f.new bytes result }
     ensures made { IfOk result (λ _. IsOk text) }
@@ -93,7 +96,7 @@ pub fn print_values<P: TextOf<T>, K, T, W: Write>(
         return Err(Error::IoError);
     }
     for value in values {
-        put_made(f, P::made(alloc, value))?;
+        put_formatted(f, P::made(alloc, value))?;
     }
     Ok(())
 }

@@ -3,12 +3,8 @@ use Rattle.std.proofs.Common.{◌≡◌, ℕ, ◌+◌, ◌<◌, true, false, Lis
 use Rattle.std.specs.Prelude.{Bool, filter}
 use Rattle.std.proofs.lemmas.List.{take-append-drop, take_more, map_push}
 use Rattle.std.proofs.lemmas.List.Elements.{filter-append, filter_more}
-use Rattle.std.proofs.lemmas.Result.{err_from_is_err_and}
-use Rattle.std.specs.Result.{IsErrAnd}
 use Rattle.minidump_bytes.proofs.LeftLemmas.{IsNext}
 use Rattle.minidump_format.specs.declared.error.Error.{Error}
-use Rattle.minidump_format.specs.declared.error.Error.TheVariants.{OutOfMemory}
-use Rattle.minidump_format.specs.Answer.{Gives, Refuses}
 use Rattle.minidump_system.specs.Reads.{all_ok, and_then}
 
 -- what is behind an index begins with the next item

@@ -8,7 +8,7 @@ use crate::guard::push_guard;
 use crate::resource::push_resource;
 use crate::{CodeFamily, CodeNames, CrashReason};
 use minidump_bytes::{Piece, Told, push_pieces};
-use minidump_format::{Error, put_made};
+use minidump_format::{Error, put_formatted};
 use std::alloc::{AllocError, Global};
 use std::io::Write;
 
@@ -36,7 +36,7 @@ impl CrashReason {
         ensures prints { Prints W.contents f.old f.new (reason_text names.now self.now) result }
         ensures utf8 { IfOk result (λ _. IsUtf8 (reason_text names.now self.now)) }
     {
-        put_made(f, made_reason(alloc, names, self))
+        put_formatted(f, made_reason(alloc, names, self))
     }
 }
 

@@ -12,7 +12,7 @@ use crate::os_parts::os_parts;
 use crate::{Cpu, MinidumpStream, Os};
 use minidump_bytes::{Endian, Piece, Source, Steps, Told, copied, push_pieces};
 use minidump_format::format::MINIDUMP_SYSTEM_INFO;
-use minidump_format::{Error, put_made};
+use minidump_format::{Error, put_formatted};
 use std::alloc::{AllocError, Global};
 use std::io::Write;
 
@@ -107,7 +107,7 @@ impl MinidumpSystemInfo {
     pub fn print<W: Write>(&self, alloc: Global, f: &mut Told<W>) -> Result<(), Error>
         ensures { Prints W.contents f.old f.new (system_info_text (system_info_of self.now)) result }
     {
-        put_made(f, format_text(alloc, self))
+        put_formatted(f, format_text(alloc, self))
     }
 
     /// Copies the system information. The only error is `OutOfMemory`.

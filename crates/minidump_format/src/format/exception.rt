@@ -63,13 +63,13 @@ pub struct MINIDUMP_EXCEPTION_STREAM {
 }
 
 impl Record for MINIDUMP_EXCEPTION_STREAM {
-    ghost use Rattle.minidump_format.specs.Exception.{exception_stream};
+    ghost use Rattle.minidump_format.specs.Exception.{exception_layout};
 
     ghost SIZE = { 168 };
 
     const SIZE: usize = 168;
 
-    ghost layout = { exception_stream };
+    ghost layout = { exception_layout };
 
     fn decode(bytes: &[u8], endian: Endian) -> Self {
         MINIDUMP_EXCEPTION_STREAM {

@@ -15,7 +15,7 @@ use minidump_format::format::{
     SYSTEMTIME, TIME_ZONE_INFORMATION, XSTATE_CONFIG_FEATURE_MSC_INFO, XSTATE_FEATURE,
     XstateFeatureIndex,
 };
-use minidump_format::{Error, put_made};
+use minidump_format::{Error, put_formatted};
 use std::alloc::{AllocError, Global};
 use std::io::Write;
 
@@ -24,7 +24,7 @@ impl MinidumpMiscInfo {
     pub fn print<W: Write>(&self, alloc: Global, f: &mut Told<W>) -> Result<(), Error>
         ensures { Prints W.contents f.old f.new (misc_info_text (misc_info_of self.now)) result }
     {
-        put_made(f, format_text(alloc, &self.raw))
+        put_formatted(f, format_text(alloc, &self.raw))
     }
 }
 

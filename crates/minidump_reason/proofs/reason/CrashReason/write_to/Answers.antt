@@ -10,4 +10,4 @@ of_made (Ok x) (Err e) bytes some is = absurd (let b : ⊥ = cc in b)
 of_made (Err e) made bytes some is = tt
 
 pub returns-clause-utf8 : goal.returns-clause-utf8
-returns-clause-utf8 g c = of_made c.put_made.result c.made_reason.result _ c.put_made.ensures.made c.made_reason.ensures
+returns-clause-utf8 g c = of_made c.put_formatted.result c.made_reason.result _ c.put_formatted.ensures.made c.made_reason.ensures
