@@ -14,6 +14,8 @@
 //! # What is proved
 //!
 //! - Each record is its table of offsets and widths in `specs/`: `Record::decode` of each.
+//! - The bytes at a location are those of the file from its RVA on, and reading them counts one step:
+//!   `MINIDUMP_LOCATION_DESCRIPTOR::bytes_in`.
 //! - The enumerations have the format's numbers: `MINIDUMP_STREAM_TYPE::from_u32`, `PlatformId::from_u32`,
 //!   `ProcessorArchitecture::from_u16`, `XstateFeatureIndex::from_index`, `CvSignature::from_u32`,
 //!   `MINIDUMP_HANDLE_OBJECT_INFORMATION_TYPE::from_u32`, and `number` of each. The stream types have their
