@@ -4,13 +4,7 @@ use Rattle.std.specs.Prelude.{Bool, filter, min}
 use Rattle.std.proofs.lemmas.Bool.{cases_lt}
 use Rattle.std.proofs.lemmas.List.{drop-replicate, take-append-drop, take_all, take_more, map_push}
 use Rattle.std.proofs.lemmas.List.Elements.{filter-append, filter_more}
-use Rattle.std.proofs.lemmas.Result.{err_from_is_err_and}
-use Rattle.std.specs.List.{sum_by}
-use Rattle.std.proofs.lemmas.List.Sums.{sum_by-append}
-use Rattle.std.specs.Result.{IsErrAnd}
 use Rattle.minidump_format.specs.declared.error.Error.{Error}
-use Rattle.minidump_format.specs.declared.error.Error.TheVariants.{OutOfMemory}
-use Rattle.minidump_format.specs.Answer.{Gives, Refuses}
 use Rattle.minidump_modules.specs.Identity.{padded}
 use Rattle.minidump_system.specs.Reads.{all_ok, and_then}
 
@@ -86,16 +80,6 @@ module _ {R V M : Type 0} (read : R → Result V Error) (view : M → V) where
       let split : all_ok read xs ≡ all_ok read (take (i + 1) xs ++ drop (i + 1) xs) = ap (all_ok read) (sym (take-append-drop (i + 1) xs)) in
       split ∙ rw (all_ok-append read (take (i + 1) xs) (drop (i + 1) xs), here) refl
 
--- a refusal of a part is that of the whole, where the part is refused by the whole's rule
-refused : {M N A B : Type 0} (e : Error) (part : Result A Error) (whole : Result B Error) → (M → N) → (part ≡ Err e → whole ≡ Err e) → Refuses M e part → Refuses N e whole
-refused OutOfMemory part whole memory rule h = memory h
-refused e part whole memory rule h = rule h
-
--- the exit of a `?`: where a part was refused
-pub gives_exit : {M N X A B : Type 0} (view : X → B) (r : Result X Error) (e : Error) (part : Result A Error) (whole : Result B Error) → IsErrAnd r (λ y. y ≡ e)
-    → (M → N) → Refuses M e part → (part ≡ Err e → whole ≡ Err e) → Gives view N r whole
-gives_exit view r e part whole exit memory refusal rule = let p = err_from_is_err_and r exit in rw (p.1, p.2) (refused e part whole memory rule refusal)
-
 -- the first 16 bytes of a list, over as many zeros
 pub padded_is : (id : List ℕ) (len : ℕ) → len ≡ min (length id) 16 → take len id ++ drop len (replicate {A = ℕ} 16 0) ≡ padded id
 unfolding padded
@@ -108,7 +92,3 @@ padded_is id len e = rw (drop-replicate {X = ℕ} len 16 0) (elim (cases_lt (len
       let none : 16 - length id ≡ 0 = omega arith in
       rw (full, none) refl
 ])
-
--- the sum over values of one more
-pub sum_pushed : {V M : Type 0} (size : V → ℕ) (view : M → V) (ms : List M) (m : M) → sum_by size (map view (ms ++ m ∷ [])) ≡ sum_by size (map view ms) + size (view m)
-sum_pushed size view ms m = rw (map_push view ms m, sum_by-append size (map view ms) (view m ∷ [])) (omega arith)

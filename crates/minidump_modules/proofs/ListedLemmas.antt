@@ -1,7 +1,7 @@
 -- There is one list of the same members in an order that no two members have both ways.
 use Rattle.std.proofs.Common.{◌≡◌, List, [], ◌∷◌, ap, sym, subst, ◌∙◌, refl, inl, inr}
 use Rattle.std.specs.Prelude.{◌↔◌, AllPairs, Contains}
-use Rattle.minidump_index.proofs.Members.{cases, first_pairs, head, nothing, rest_pairs, tail}
+use Rattle.minidump_index.proofs.ContainsLemmas.{cases, first_pairs, head, nothing, rest_pairs, tail}
 
 module _ {A : Type 0} (Before : A → A → Type 0) (one_way : (x y : A) → Before x y → Before y x → ⊥) where
   same_first : (p q : A) (ps qs : List A) → AllPairs Before (p ∷ ps) → AllPairs Before (q ∷ qs) → ((x : A) → Contains (p ∷ ps) x ↔ Contains (q ∷ qs) x) → p ≡ q

@@ -16,8 +16,8 @@ use Rattle.std.proofs.lemmas.Option.{slice_get_read}
 use Rattle.std.specs.List.{swap}
 use Rattle.minidump_index.specs.declared.range.Range.{Range}
 use Rattle.minidump_index.specs.Overlap.{HasRange, range_cmp}
-use Rattle.minidump_index.proofs.Apart.{by_start}
-use Rattle.minidump_index.proofs.Ranged.{at_region, entry, in_list, one_range, place_within}
+use Rattle.minidump_index.proofs.KeptEntries.{by_start}
+use Rattle.minidump_index.proofs.RangedEntries.{at_region, entry, in_list, one_range, place_within}
 use Rattle.minidump_index.specs.declared.index.Entry.{Entry}
 use Rattle.minidump_modules.specs.declared.unloaded_module.MinidumpUnloadedModule.{MinidumpUnloadedModule}
 use Rattle.minidump_modules.specs.declared.unloaded_order.Placed.{Placed}

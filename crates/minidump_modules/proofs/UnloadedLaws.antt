@@ -10,7 +10,7 @@ use Rattle.std.proofs.lemmas.Option.{get_or_from_slice_get, slice_get-get_or, sl
 use Rattle.minidump_index.specs.declared.range.Range.{Range}
 use Rattle.minidump_index.specs.Lookup.{HasAddress}
 use Rattle.minidump_index.specs.Overlap.{HasRange, IsIn}
-use Rattle.minidump_index.proofs.Members.{all_from, cases, first_pairs, head, nothing, rest_pairs, tail}
+use Rattle.minidump_index.proofs.ContainsLemmas.{all_from, cases, first_pairs, head, nothing, rest_pairs, tail}
 use Rattle.minidump_modules.specs.declared.unloaded_order.Placed.{Placed}
 use Rattle.minidump_modules.specs.UnloadedModule.{UnloadedValue, unloaded_value_range}
 use Rattle.minidump_modules.specs.UnloadedOrder.{HasUnloadedLaws, IsOrderOf, Precedes, StartsBefore, has, modules_of_order}

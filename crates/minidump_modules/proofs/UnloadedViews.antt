@@ -2,7 +2,7 @@
 use Rattle.std.proofs.Common.{ℕ, List, map, refl, subst, sym}
 use Rattle.std.specs.Prelude.{Option, filter}
 use Rattle.minidump_index.specs.declared.range.Range.{Range}
-use Rattle.minidump_index.proofs.Views.{same_ranges, views_at}
+use Rattle.minidump_index.proofs.RegionViews.{same_ranges, views_at}
 use Rattle.minidump_modules.specs.declared.unloaded_module.MinidumpUnloadedModule.{MinidumpUnloadedModule}
 use Rattle.minidump_modules.specs.declared.unloaded_order.Placed.{Placed}
 use Rattle.minidump_modules.specs.UnloadedModule.{unloaded_of, unloaded_range, unloaded_value_range}

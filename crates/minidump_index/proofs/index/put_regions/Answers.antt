@@ -3,8 +3,8 @@ use Rattle.std.proofs.Common.{rules, arith, ◌≡◌, ◌<◌, ◌^◌, refl, l
 use Rattle.std.proofs.lemmas.List.{length-map}
 use Rattle.std.proofs.lemmas.Nat.{pow_pos}
 use Rattle.minidump_index.specs.Digits.{digits}
-use Rattle.minidump_index.proofs.Listed.{put_none, put_within, put_one, put_skip, put_all, put_tree}
-use Rattle.minidump_index.proofs.Ranged.{has_region}
+use Rattle.minidump_index.proofs.AscendingRegions.{put_none, put_within, put_one, put_skip, put_all, put_tree}
+use Rattle.minidump_index.proofs.RangedEntries.{has_region}
 use Rattle.minidump_index.proofs.WalkLemmas.{total-few, total_of}
 use Rattle.minidump_index.proofs.index.put_regions.Goals as goal
 use Rattle.minidump_index.proofs.index.put_regions.Goals.{then-place-len+in-Some+else-rank-gt0, else-rank-gt0-via-then-rank-gt0+else-range-end, else-rank-gt0-via-else-rank-gt0, else-place-len}

@@ -3,7 +3,9 @@ use Rattle.std.proofs.Common.{◌≡◌, ◌∙◌, arith, length, sym, get_or, 
 use Rattle.minidump_bytes.specs.Source.{bytes_of}
 use Rattle.minidump_modules.specs.Module.{has_range, module_of, module_reads, read_module}
 use Rattle.minidump_bytes.proofs.LeftLemmas.{IsNext, all_given, next_left, one_given}
-use Rattle.minidump_modules.proofs.ListLemmas.{gives_exit, ok_more, ok_none, ok_refused, ok_skip, sum_pushed}
+use Rattle.minidump_format.proofs.AnswerLemmas.{gives_exit}
+use Rattle.minidump_bytes.proofs.ListLemmas.{sum_pushed}
+use Rattle.minidump_modules.proofs.ListLemmas.{ok_more, ok_none, ok_refused, ok_skip}
 use Rattle.minidump_modules.proofs.module_list.read_modules.Goals as goal
 
 pub loop-raw-init : goal.loop-raw-init

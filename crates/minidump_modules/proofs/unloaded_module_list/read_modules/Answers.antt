@@ -3,7 +3,8 @@ use Rattle.std.proofs.Common.{◌∙◌, arith, length, sym}
 use Rattle.minidump_bytes.specs.Source.{bytes_of}
 use Rattle.minidump_modules.specs.UnloadedModule.{listed_unloaded, unloaded_of}
 use Rattle.minidump_bytes.proofs.LeftLemmas.{IsNext, all_given, next_left, one_given}
-use Rattle.minidump_modules.proofs.ListLemmas.{gives_exit, ok_first, ok_next, ok_stopped}
+use Rattle.minidump_format.proofs.AnswerLemmas.{gives_exit}
+use Rattle.minidump_modules.proofs.ListLemmas.{ok_first, ok_next, ok_stopped}
 use Rattle.minidump_modules.proofs.unloaded_module_list.read_modules.Goals as goal
 
 pub loop-raw-init : goal.loop-raw-init

@@ -1,6 +1,6 @@
 -- The modules in the order of their addresses, as values.
 use Rattle.std.proofs.Common.{refl}
-use Rattle.minidump_index.proofs.Views.{by_address}
+use Rattle.minidump_index.proofs.RegionViews.{by_address}
 use Rattle.minidump_modules.specs.Module.{module_of, module_range, value_range}
 use Rattle.minidump_modules.specs.ModuleList.{modules_of}
 use Rattle.minidump_modules.proofs.module_list.MinidumpModuleList.by_addr.Goals as goal

@@ -1,7 +1,7 @@
 -- What is found among the modules is found among their values.
 use Rattle.std.proofs.Common.{refl}
 use Rattle.std.specs.Option.{option_copied}
-use Rattle.minidump_index.proofs.Views.{counted}
+use Rattle.minidump_index.proofs.RegionViews.{counted}
 use Rattle.minidump_modules.specs.Module.{module_of, module_range, value_range}
 use Rattle.minidump_modules.specs.ModuleList.{modules_of}
 use Rattle.minidump_modules.proofs.module_list.MinidumpModuleList.module_at_address_counted.Goals as goal

@@ -11,9 +11,9 @@ use Rattle.minidump_index.specs.Kept.{IsFound, IsIndexOf}
 use Rattle.minidump_index.specs.Lookup.{IsLookedUp}
 use Rattle.minidump_index.specs.Overlap.{IsIn}
 use Rattle.minidump_index.proofs.DigitsLemmas.{digits-half}
-use Rattle.minidump_index.proofs.Exists.{an_index}
-use Rattle.minidump_index.proofs.Looked.{counted_none, counted_some, found_within}
-use Rattle.minidump_index.proofs.Members.{cases, head, nothing, tail}
+use Rattle.minidump_index.proofs.KeptSetExists.{an_index}
+use Rattle.minidump_index.proofs.LookupLemmas.{counted_none, counted_some, found_within}
+use Rattle.minidump_index.proofs.ContainsLemmas.{cases, head, nothing, tail}
 
 -- an address is in a range or is not
 in_or_out : (address : ℕ) (r : Range) → IsIn address r ⊎ (¬ IsIn address r)

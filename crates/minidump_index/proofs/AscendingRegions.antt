@@ -11,8 +11,8 @@ use Rattle.minidump_index.specs.Overlap.{HasRange, from_to}
 use Rattle.minidump_index.specs.Kept.{HoldsRanged, IsAscending, IsIndexOf}
 use Rattle.minidump_index.specs.Digits.{digits}
 use Rattle.minidump_index.specs.Tree.{IsSearchTree, place_at, walk}
-use Rattle.minidump_index.proofs.Ranged.{entry, in_list, one_range}
-use Rattle.minidump_index.proofs.Apart.{index_from}
+use Rattle.minidump_index.proofs.RangedEntries.{entry, in_list, one_range}
+use Rattle.minidump_index.proofs.KeptEntries.{index_from}
 use Rattle.minidump_index.proofs.WalkLemmas.{FilledTo, filled_start, filled_put, filled_skip, filled_all, rank_at, rank_end, ranks_at, total_of}
 
 -- the entry of a place, with some range where it holds none
