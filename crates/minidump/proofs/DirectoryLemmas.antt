@@ -11,7 +11,7 @@ use Rattle.std.specs.Ordering.{nat_cmp}
 use Rattle.std.specs.BTreeMap.{BTreeMap, Updates, is_at}
 use Rattle.std.proofs.lemmas.Bool.{ne_eqb}
 use Rattle.minidump_bytes.proofs.ListLemmas.{enumerate_from-append}
-use Rattle.minidump.proofs.KeyLemmas.{at_is_equal}
+use Rattle.minidump_bytes.proofs.KeyLemmas.{at_is_equal}
 
 abbrev at_index : ℕ × MINIDUMP_DIRECTORY → DecidingEntry
 at_index p = record { index = p.0; entry = p.1 }

@@ -1,6 +1,5 @@
 -- The lemmas of this crate.
 pub mod DirectoryLemmas
-pub mod KeyLemmas
 pub mod LawsLemmas
 pub mod StreamsLemmas
 pub mod ThreadLemmas

@@ -1,13 +1,11 @@
 -- One entry more: its thread is read.
 use Rattle.std.proofs.Common.{◌≡◌, ℕ, ◌+◌, ◌<◌, ◌≤◌, true, false, List, [], ◌∷◌, ◌++◌, length, map, take, get_or, ap, sym, ◌∙◌, arith}
 use Rattle.std.specs.Prelude.{Bool, ◌==◌, ◌||◌, if◌then◌else◌}
-use Rattle.std.specs.List.{sum_by}
-use Rattle.std.proofs.lemmas.List.{map-append, map_push, take_more}
-use Rattle.std.proofs.lemmas.List.Sums.{sum_by-append}
 use Rattle.minidump_bytes.specs.Source.{bytes_of}
 use Rattle.minidump_format.specs.declared.format.memory.MINIDUMP_MEMORY_DESCRIPTOR.{MINIDUMP_MEMORY_DESCRIPTOR}
 use Rattle.minidump_memory.specs.Memory.{spans_read}
 use Rattle.minidump_bytes.proofs.LeftLemmas.{IsNext, all_given, next_left, one_given}
+use Rattle.minidump_bytes.proofs.ListLemmas.{mapped_more, sum_pushed}
 use Rattle.minidump.specs.Thread.{reads_of, thread_at, thread_of}
 use Rattle.minidump.proofs.thread_list.read_threads.Goals as goal
 
@@ -18,16 +16,6 @@ at_most_one false = omega arith
 one_span : (d : MINIDUMP_MEMORY_DESCRIPTOR) → spans_read d ≤ 1
 one_span d = at_most_one (d.memory.rva == 0 || d.memory.data_size == 0)
 
--- one value more
-made_more : {X Y Z : Type 0} (f : X → Y) (view : Z → Y) (xs : List X) (zs : List Z) (i : ℕ) (d : X) (z : Z) → i < length xs
-    → map view zs ≡ map f (take i xs) → view z ≡ f (get_or xs i d) → map view (zs ++ z ∷ []) ≡ map f (take (i + 1) xs)
-made_more f view xs zs i d z lt so_far e =
-    rw (take_more xs i d lt, map_push view zs z, so_far, e) (sym (map-append f (take i xs) (get_or xs i d ∷ [])))
-
--- and the sum over it
-sum_more : {Y Z : Type 0} (size : Y → ℕ) (view : Z → Y) (zs : List Z) (z : Z) → sum_by size (map view (zs ++ z ∷ [])) ≡ sum_by size (map view zs) + size (view z)
-sum_more size view zs z = rw (map_push view zs z, sum_by-append size (map view zs) (view z ∷ [])) (omega arith)
-
 pub loop-raw-preserved : goal.loop-raw-preserved
 loop-raw-preserved c =
     let xs = c.args.raws in
@@ -36,10 +24,10 @@ loop-raw-preserved c =
     let next : IsNext xs i raw raw c.next.new.self = next_left xs i raw raw _ (sym c.loop-raw.invariant.left ∙ c.in-Some.ensures.steps) in
     rw (one_given c.loop-raw.yielded raw) (record {
       left = next.left;
-      items = rw c.in_ok-push.ensures.items (made_more (thread_at c.args.endian (bytes_of c.args.all)) thread_of xs c.loop-raw.threads.items i raw _ next.inside c.loop-raw.invariant.items (rw next.item c.read.ensures.value));
+      items = rw c.in_ok-push.ensures.items (mapped_more (thread_at c.args.endian (bytes_of c.args.all)) thread_of xs c.loop-raw.threads.items i raw _ next.inside c.loop-raw.invariant.items (rw next.item c.read.ensures.value));
       within = omega (arith, one_span raw.stack, c.read.ensures.step, c.loop-raw.invariant.within);
       grows = omega (arith, c.read.ensures.step, c.loop-raw.invariant.grows);
-      counted = rw (c.in_ok-push.ensures.items, sum_more reads_of thread_of c.loop-raw.threads.items c.read.result) (omega (arith, c.read.ensures.step, c.loop-raw.invariant.counted, ap reads_of c.read.ensures.value));
+      counted = rw (c.in_ok-push.ensures.items, sum_pushed reads_of thread_of c.loop-raw.threads.items c.read.result) (omega (arith, c.read.ensures.step, c.loop-raw.invariant.counted, ap reads_of c.read.ensures.value));
     })
 
 pub returns-clause-items : goal.returns-clause-items
