@@ -3,10 +3,11 @@ use Rattle.std.proofs.Common.{◌≡◌, ◌↔◌, ℕ, zero, suc, ◌<◌, ◌
 use Rattle.std.specs.Prelude.{Option, Some, None, Result, MatchResult}
 use Rattle.std.specs.Option.{ok_or, option_and_then, option_map}
 use Rattle.std.proofs.Math.Nat.{eq-or-lt_of_le}
-use Rattle.std.proofs.lemmas.List.{drop-drop, drop_all, length-drop, take-append-drop}
+use Rattle.std.proofs.lemmas.List.{drop-drop, drop_all, length-drop}
+use Rattle.std.proofs.lemmas.List.Folds.{drop_split}
 use Rattle.std.proofs.Math.Seq.{drop-append_seam, take-append_seam}
-use Rattle.minidump_bytes.specs.Wire.{Field, IsFieldAt, IsGrouped, SpellsField, SpellsFields, field_at}
-use Rattle.minidump_bytes.proofs.WireFieldLemmas.{field_there, there_field}
+use Rattle.minidump_bytes.specs.Wire.{Field, IsFieldAt, SpellsField, SpellsFields, field_at}
+use Rattle.minidump_bytes.proofs.WireFieldLemmas.{field_long, field_there, there_field}
 use Rattle.minidump_format.specs.declared.error.Error.{Error}
 use Rattle.minidump_format.specs.declared.error.Error.TheVariants.{DataError}
 use Rattle.minidump_stability.specs.Fields.{fields_from, fields_in}
@@ -14,12 +15,6 @@ use Rattle.minidump_stability.specs.StabilityReport.{Report, report, stability_r
 use Rattle.minidump_stability.proofs.MergeLemmas.{fields_end, fields_more}
 
 -- ---- what is found is spelled
-rest_at : (bytes : List ℕ) (place next : ℕ) → place ≤ next → drop place bytes ≡ slice_range bytes place next ++ drop next bytes
-rest_at bytes place next forward =
-    let sum : place + (next - place) ≡ next = omega arith in
-    sym (take-append-drop (next - place) (drop place bytes))
-    ∙ ap (λ l. slice_range bytes place next ++ l) (drop-drop (next - place) place bytes ∙ ap (λ k. drop k bytes) sum)
-
 some_is : {A : Type 0} (x y : A) → Some x ≡ Some y → x ≡ y
 some_is x y h = cc
 
@@ -28,7 +23,7 @@ spelled_more : (bytes : List ℕ) (place next : ℕ) (f : Field) (gs : List Fiel
 spelled_more bytes place next f gs None at more h = (let k : None ≡ Some gs = h in cc)
 spelled_more bytes place next f gs (Some hs) at more h =
     subst (SpellsFields (drop place bytes)) (some_is (f ∷ hs) gs h)
-    (slice_range bytes place next, drop next bytes, rest_at bytes place next at.forward, at.spelled, more hs refl)
+    (slice_range bytes place next, drop next bytes, drop_split bytes place next at.forward, at.spelled, more hs refl)
 
 spelled_by : (most place : ℕ) (bytes : List ℕ) (gs : List Field) (o : Option (Field × ℕ)) → field_at place bytes ≡ o
     → ((next : ℕ) (hs : List Field) → next ≤ length bytes → fields_from most next bytes ≡ Some hs → SpellsFields (drop next bytes) hs)
@@ -54,13 +49,6 @@ spelled (suc most) place bytes fs within h = elim (eq-or-lt_of_le within) [
 ]
 
 -- ---- what is spelled is found
-grouped_some : (bytes : List ℕ) → IsGrouped bytes → 0 < length bytes
-grouped_some [] g = absurd g
-grouped_some (b ∷ bs) g = omega arith
-
-field_long : (front : List ℕ) (f : Field) → SpellsField front f → 0 < length front
-field_long front f s = omega (arith, ap length s.joined, length-append s.key s.rest, grouped_some s.key s.is_key.grouped)
-
 none_left : (place : ℕ) (bytes : List ℕ) → place ≤ length bytes → drop place bytes ≡ [] → place ≡ length bytes
 none_left place bytes within none = omega (arith, within, ap length none, length-drop place bytes)
 
