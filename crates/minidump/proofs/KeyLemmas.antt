@@ -1,4 +1,4 @@
--- Whether a number as a query finds a key.
+-- Whether a query by a number finds a key that is a number.
 use Rattle.std.proofs.Common.{◌≡◌, ℕ, ◌<◌, true, false, ap, sym, ◌∙◌, refl, arith, inl, inr, subst}
 use Rattle.std.specs.Prelude.{◌==◌}
 use Rattle.std.specs.Ordering.{nat_cmp, is_eq}
