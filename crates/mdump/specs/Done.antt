@@ -106,8 +106,10 @@ IsTold contents old new text = PutsAll contents old new text ⊎ (PutsBeginning 
 abbrev pub refusal_line : Error → List ℕ
 refusal_line e = refusal_name e ++ codes "\n"
 
--- What a run of the program with these words wrote, by its status. 0: the output took what the words ask for. 1: there was a refusal,
--- whose name the errors took; the output is as it was, unless it failed, which is IoError, or memory ran out. 2: the words are no command, and the errors took the usage.
+-- What a run of the program with these words wrote, by its status.
+-- 0: the output took what the words ask for.
+-- 1: there was a refusal, whose name the errors took. The output is as it was, unless it failed, which is IoError, or memory ran out.
+-- 2: the words are no command, and the errors took the usage.
 pub record IsRun {F O E : Type 0} (files : F → Option (List ℕ)) (output : O → Option (List ℕ)) (errors : E → Option (List ℕ))
     (words : List (List ℕ)) (out_old out_new : Told O) (err_old err_new : Told E) (status : ℕ) : Type 0 where
   pub known : status ≤ 2

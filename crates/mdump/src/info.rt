@@ -1,7 +1,7 @@
 ghost use Rattle.std.specs.Prelude.{◌≡◌, ◌⊎◌, IfErr, IfOk, string_bytes};
 ghost use Rattle.std.specs.Option.{option_and_then, option_copied, option_map};
 ghost use Rattle.minidump_memory.specs.UnifiedInfo.{info_list, info_region, info_region_range, info_regions};
-ghost use Rattle.minidump.specs.Seen.{dump_of};
+ghost use Rattle.minidump.specs.DumpValue.{dump_of};
 ghost use Rattle.mdump.specs.Done.{IsInfoLine, IsOutputRefusal, Writes, info_of_dump};
 ghost use Rattle.mdump.specs.Lines.{IsAt, info_line};
 
@@ -26,7 +26,7 @@ pub(crate) fn info_line<O: Write>(
 {
     let infos = information(dump, alloc)?;
     let found = info_at(infos.as_ref(), address);
-    put_formatted(out, made_info_line(alloc, found))
+    put_formatted(out, info_text(alloc, found))
 }
 
 // Reads the memory information of a dump, or its maps where that is missing or malformed.
@@ -58,10 +58,7 @@ fn info_at<'s, 'a>(
 }
 
 // Makes the line of a region, or the line that there is none.
-fn made_info_line(
-    alloc: Global,
-    found: Option<UnifiedMemoryInfo<'_, '_>>,
-) -> Result<String, AllocError>
+fn info_text(alloc: Global, found: Option<UnifiedMemoryInfo<'_, '_>>) -> Result<String, AllocError>
     ensures { IfOk result (λ t. string_bytes t ≡ info_line (option_map info_region found.entry)) }
 {
     match range_of(found) {

@@ -2,7 +2,7 @@ ghost use Rattle.std.specs.Prelude.{◌≡◌, ◌⊎◌, IfErr, IfOk, string_by
 ghost use Rattle.std.specs.Option.{option_copied, option_map};
 ghost use Rattle.minidump_memory.specs.Memory.{region_range};
 ghost use Rattle.minidump_memory.specs.Unified.{unified_list, unified_region, unified_regions};
-ghost use Rattle.minidump.specs.Seen.{dump_of};
+ghost use Rattle.minidump.specs.DumpValue.{dump_of};
 ghost use Rattle.mdump.specs.Done.{IsMemoryLine, IsOutputRefusal, Writes};
 ghost use Rattle.mdump.specs.Lines.{IsAt, memory_line, region_line};
 
@@ -24,7 +24,7 @@ pub(crate) fn memory_line<O: Write>(
 {
     let memory = dump.get_memory(alloc)?;
     let found = memory_at(memory.as_ref(), address);
-    put_formatted(out, made_memory_line(alloc, found))
+    put_formatted(out, memory_text(alloc, found))
 }
 
 // Finds the region of memory that contains the address.
@@ -39,10 +39,7 @@ fn memory_at<'s, 'a>(
 }
 
 // Makes the line of a region of memory, or the line that there is none.
-fn made_memory_line(
-    alloc: Global,
-    found: Option<UnifiedMemory<'_, '_>>,
-) -> Result<String, AllocError>
+fn memory_text(alloc: Global, found: Option<UnifiedMemory<'_, '_>>) -> Result<String, AllocError>
     ensures { IfOk result (λ t. string_bytes t ≡ memory_line (option_map unified_region found.entry)) }
 {
     match found {

@@ -2,7 +2,7 @@ ghost use Rattle.std.specs.Prelude.{◌≡◌, ◌⊎◌, IfErr, IfOk, string_by
 ghost use Rattle.std.specs.Option.{option_copied, option_map};
 ghost use Rattle.minidump_modules.specs.Module.{module_of, value_range};
 ghost use Rattle.minidump_modules.specs.ModuleList.{module_list_of};
-ghost use Rattle.minidump.specs.Seen.{dump_of};
+ghost use Rattle.minidump.specs.DumpValue.{dump_of};
 ghost use Rattle.mdump.specs.Done.{IsModuleLine, IsOutputRefusal, Writes};
 ghost use Rattle.mdump.specs.Lines.{IsAt, module_line};
 
@@ -24,7 +24,7 @@ pub(crate) fn module_line<O: Write>(
 {
     let modules = dump.find_stream::<MinidumpModuleList>(alloc)?;
     let found = module_at(modules.as_ref(), address);
-    put_formatted(out, made_module_line(alloc, found))
+    put_formatted(out, module_text(alloc, found))
 }
 
 // Finds the module that contains the address.
@@ -36,7 +36,7 @@ fn module_at(modules: Option<&MinidumpModuleList>, address: u64) -> Option<&Mini
 }
 
 // Makes the line of a module, or the line that there is none.
-fn made_module_line(alloc: Global, found: Option<&MinidumpModule>) -> Result<String, AllocError>
+fn module_text(alloc: Global, found: Option<&MinidumpModule>) -> Result<String, AllocError>
     ensures { IfOk result (λ t. string_bytes t ≡ module_line (option_map module_of (option_copied found.entry))) }
 {
     match found {

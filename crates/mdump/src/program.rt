@@ -2,7 +2,7 @@ ghost use Rattle.std.specs.Prelude.{◌≡◌, ◌<◌, ◌⊎◌, true, IfErr, 
 ghost use Rattle.minidump_bytes.specs.Told.{has_failed};
 ghost use Rattle.minidump_format.specs.Print.{Prints};
 ghost use Rattle.minidump.specs.File.{IsPathRefusal};
-ghost use Rattle.minidump.specs.Seen.{dump_of};
+ghost use Rattle.minidump.specs.DumpValue.{dump_of};
 ghost use Rattle.mdump.specs.Command.{IsCommand};
 ghost use Rattle.mdump.specs.Done.{AccountsFor, AreLastLines, AreLines, AreLinesOf, IsAnswer, IsDirectoryText, IsOutputRefusal, IsRun, IsTextOf, IsTold, Writes, refusal_line, usage};
 
@@ -56,7 +56,7 @@ fn answered<R: Files + AllocGlobal, O: Write>(
     ensures refusal { IfSome result (λ r. IfErr r (IsPathRefusal R.File.remaining)) }
     ensures accounted { IfSome result (λ r. IfErr r (AccountsFor out.old out.new)) }
     ensures shown { length words.now ≡ 0 → IfSome result (λ r. IfErr r (λ e. (e ≡ Error.IoError) × (has_failed out.new ≡ true))) }
-    ensures asked { IfSome result
+    ensures command { IfSome result
         (λ _. (0 < length words.now) → ¬ (IsCommand (map string_bytes words.now)) → ⊥) }
     ensures none { IfNone result ((0 < length words.now) × ¬ (IsCommand (map string_bytes words.now))
         × (out.new ≡ out.old)) }

@@ -10,12 +10,12 @@ use Rattle.minidump_format.specs.declared.format.header.MINIDUMP_DIRECTORY.{MINI
 use Rattle.minidump.specs.declared.directory.DecidingEntry.{DecidingEntry}
 use Rattle.minidump.specs.Directory.{deciding, directory, is_readable}
 
--- it has these, and no type of more than 32 bits
+-- the map has the deciding entries, and no type of 2^32 or more
 pub record Decides (m : BTreeMap ℕ DecidingEntry) (es : List MINIDUMP_DIRECTORY) : Type 0 where
   pub at : (stream_type : ℕ) → get nat_cmp m stream_type ≡ deciding stream_type es
   pub small : (stream_type : ℕ) → 2 ^ 32 ≤ stream_type → get nat_cmp m stream_type ≡ None
 
--- `Ok`: each entry is in the file, and the map has the deciding ones. Memory may run out where each entry is there, and there is one
+-- `Ok`: every entry is in the file, and the map has the deciding ones. Memory may run out only where every entry is in the file, and there is one
 abbrev pub ReadsDirectory : Endian → List ℕ → MINIDUMP_HEADER → Result (BTreeMap ℕ DecidingEntry) Error → Type 0
 ReadsDirectory order bytes h (Ok m) = (is_readable bytes h ≡ true) × Decides m (directory order bytes h)
 ReadsDirectory order bytes h (Err MissingDirectory) = is_readable bytes h ≡ false

@@ -58,7 +58,7 @@ meant meaning d system (Err e) = Err e
 abbrev pub stream_with : {V : Type 0} → Option System → ℕ → Meaning V → Dump → Result V Error
 stream_with system stream_type meaning d = meant meaning d system (raw_stream stream_type d)
 
--- the system information, where its stream is one with none handed in
+-- the system information, where its stream parses with none handed in
 abbrev pub dump_system : Dump → Option System
 dump_system d = result_ok (stream_with None (number_of SystemInfoStream) system_info_in d)
 
@@ -84,7 +84,7 @@ stream stream_type meaning d = stream_with (dump_system d) stream_type meaning d
 abbrev pub stream_of : {S V : Type 0} → StreamSpec S V → Dump → Result V Error
 stream_of spec d = stream (number_of spec.stream_type) spec.meaning d
 
--- where it may run out of memory
+-- where reading that stream may run out of memory
 abbrev pub stream_memory : {S V : Type 0} → StreamSpec S V → Dump → Type 0
 stream_memory spec d = IsOkAnd (raw_stream (number_of spec.stream_type) d) (λ b. spec.memory d.order b)
 

@@ -44,7 +44,7 @@ abbrev has_address : Os → MINIDUMP_EXCEPTION → Bool
 has_address Windows r = (r.exception_code == 0xc0000005 || r.exception_code == 0xc0000006) && nat_le 2 r.number_parameters
 has_address _ r = false
 
--- an address of this width
+-- an address in as many bits as a pointer has
 abbrev as_wide : PointerWidth → ℕ → ℕ
 as_wide Bits32 address = address % 2 ^ 32
 as_wide _ address = address

@@ -4,7 +4,7 @@ use Rattle.minidump_format.specs.declared.error.Error.{Error}
 use Rattle.minidump_format.specs.declared.error.Error.TheVariants.{FileNotFound, IoError, MissingHeader, HeaderMismatch, VersionMismatch, MissingDirectory, OutOfMemory}
 use Rattle.minidump.specs.declared.dump.Minidump.{Minidump}
 use Rattle.minidump.specs.Dump.{Dump, dump_in}
-use Rattle.minidump.specs.Seen.{dump_of}
+use Rattle.minidump.specs.DumpValue.{dump_of}
 
 -- the bytes are all that the reader had left, as far as it tells
 abbrev pub IsWhole : {F : Type 0} → (F → Option (List ℕ)) → F → List ℕ → Type 0

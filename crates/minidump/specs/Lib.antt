@@ -3,7 +3,7 @@ pub mod Header
 pub mod Directory
 pub mod Deciding
 pub mod Dump
-pub mod Seen
+pub mod DumpValue
 pub mod Streams
 pub mod Text
 pub mod File

@@ -8,7 +8,7 @@ use Rattle.minidump_memory.specs.Unified.{Memory, Memory64, UnifiedRegions}
 use Rattle.minidump.specs.Dump.{Dump, stream_memory, stream_of}
 use Rattle.minidump.specs.Promise.{memory_list_stream, memory64_list_stream}
 
--- the 64 list, else the plain list where that one is missing or refused, else none
+-- the 64-bit list; the memory list where that one is missing or refused; none where both are
 abbrev first_accepted : Result (List (MemoryRegion MINIDUMP_MEMORY_DESCRIPTOR64)) Error → Result (List (MemoryRegion MINIDUMP_MEMORY_DESCRIPTOR)) Error
     → Option UnifiedRegions
 first_accepted (Ok long) plain = Some (Memory64 long)

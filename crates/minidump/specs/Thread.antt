@@ -27,7 +27,7 @@ use Rattle.minidump_reason.specs.Reason.{windows_error}
 use Rattle.minidump.specs.declared.thread.MinidumpThread.{MinidumpThread}
 use Rattle.minidump.specs.declared.thread_list.MinidumpThreadList.{MinidumpThreadList}
 
--- the context that these bytes are on an architecture
+-- the context that bytes hold on an architecture, where they hold one
 abbrev pub accepted_context : ℕ → Endian → Option (List ℕ) → Option MinidumpRawContext
 accepted_context architecture order bytes = option_and_then (λ b. result_ok (context_in architecture order b)) bytes
 
@@ -44,7 +44,7 @@ thread_of t = record { raw = t.raw; context = option_copied t.context; stack = o
 abbrev pub thread_list_of : MinidumpThreadList → List Thread
 thread_list_of l = map thread_of l.threads.items
 
--- the thread of an entry: a context or a stack whose bytes are not in the file is absent, and so is a stack without a place or a size
+-- the thread of an entry: a context or a stack whose bytes are not in the file is absent, and so is a stack without an RVA or a size
 abbrev pub thread_at : Endian → List ℕ → MINIDUMP_THREAD → Thread
 thread_at order file raw = record {
   raw = raw;
@@ -63,7 +63,7 @@ IsLastThread id threads None = All (λ t. t.raw.thread_id ≢ id) threads
 IsLastThread id threads (Some last) =
     (earlier later : List Thread) × (threads ≡ earlier ++ (last ∷ later)) × (last.raw.thread_id ≡ id) × All (λ t. t.raw.thread_id ≢ id) later
 
--- how much is read for a thread: its context, and its stack where that has a place and a size
+-- the reads that a thread takes: one for its context, and one for its stack if that has an RVA and a size
 abbrev pub thread_reads : Thread → ℕ
 thread_reads t = 1 + spans_read t.raw.stack
 

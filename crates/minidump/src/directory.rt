@@ -18,7 +18,7 @@ pub(crate) struct DecidingEntry {
     pub(crate) entry: MINIDUMP_DIRECTORY,
 }
 
-// Tells whether each entry is in the file. The place of a directory with none isn't looked at.
+// Tells whether every entry is in the file. If there is none, the offset of the directory is not looked at.
 fn is_readable(source: Source<'_>, header: &MINIDUMP_HEADER) -> bool
     ensures { result ≡ is_readable (bytes_of source.entry) header.now }
 {
@@ -26,7 +26,7 @@ fn is_readable(source: Source<'_>, header: &MINIDUMP_HEADER) -> bool
     count == 0 || header.stream_directory_rva as u64 + 12 * count <= source.len() as u64
 }
 
-// Reads the directory, and returns the deciding entries by type. Takes memory only where each entry is in
+// Reads the directory, and returns the deciding entries by type. Takes memory only if every entry is in
 // the file.
 pub(crate) fn read_directory(
     alloc: Global,

@@ -41,7 +41,7 @@ impl<'a> Minidump<'a> {
     ghost use Rattle.minidump_bytes.specs.Steps.{after};
     ghost use Rattle.minidump_format.specs.Answer.{Gives};
     ghost use Rattle.minidump.specs.Dump.{HasEntries, dump_in, least_reads, raw_stream, streams_of};
-    ghost use Rattle.minidump.specs.Seen.{dump_of};
+    ghost use Rattle.minidump.specs.DumpValue.{dump_of};
     ghost use Rattle.minidump.specs.Streams.{as_unknown, as_unimplemented, entries_of, streams_left, unknown_left, unimplemented_left};
 
     /// Reads the header, the directory and the system information of a minidump.

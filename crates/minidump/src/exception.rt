@@ -40,7 +40,7 @@ impl<'a> MinidumpException<'a> {
         self.context
     }
 
-    /// Returns the byte order of the dump, in which the context is.
+    /// Returns the byte order of the dump, which is that of the context too.
     pub fn endian(&self) -> Endian
         ensures { result ≡ (exception_stream.value self.now).order }
     {

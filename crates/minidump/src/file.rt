@@ -10,7 +10,7 @@ use std::fs;
 use std::io::Read;
 use std::rt::Files;
 
-// Empties the vector, and reads into it up to the end. After an error it is empty.
+// Empties the vector, and reads into it up to the end of the reader. Leaves it empty after an error.
 fn read_all<R: Read>(reader: &mut Told<R>, into: &mut Vec<u8>) -> Result<(), Error>
     ensures all { OnOk result (IsWhole R.remaining (device_of reader.old) into.new.items) }
     ensures alive { OnOk result (has_failed reader.new ≡ false) }

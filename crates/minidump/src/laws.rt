@@ -78,7 +78,7 @@ pub use minidump_system::laws::{
 use minidump_system::{Cpu, MinidumpMiscInfo, MinidumpStream, MinidumpSystemInfo, Os};
 use std::fmt;
 
-/// Of the entries with one type the last decides. Its index is the number of entries before it.
+/// The last entry of a type decides it. The index of that entry is the number of entries before it.
 pub fn last_entry_decides()
     ensures { (es later : List MINIDUMP_DIRECTORY) (e : MINIDUMP_DIRECTORY)
         → All (λ x. x.stream_type ≢ e.stream_type) later
@@ -106,7 +106,7 @@ pub fn listed_streams_decide()
         → deciding stream_type (directory d.order d.file d.header) ≡ Some s → Contains (streams_of d) s }
 {}
 
-/// Exactly one thread, or none, is the last of an id: it has the id, and none behind it has.
+/// Exactly one thread, or none, is the last of an id: it has the id, and no later thread has.
 pub fn one_last_thread()
     ensures one { (id : ℕ) (threads : List Thread) (last other : Option Thread)
         → IsLastThread id threads last → IsLastThread id threads other → last ≡ other }

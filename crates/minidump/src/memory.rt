@@ -3,7 +3,7 @@ ghost use Rattle.std.specs.Option.{option_map};
 ghost use Rattle.minidump_format.specs.Answer.{Gives};
 ghost use Rattle.minidump_memory.specs.Unified.{unified_list};
 ghost use Rattle.minidump.specs.Memory.{TakesMemory, memories_of_dump};
-ghost use Rattle.minidump.specs.Seen.{dump_of};
+ghost use Rattle.minidump.specs.DumpValue.{dump_of};
 
 use crate::Minidump;
 use minidump_format::Error;

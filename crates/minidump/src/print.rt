@@ -3,7 +3,7 @@ ghost use Rattle.std.specs.List.{flat_map};
 ghost use Rattle.minidump_format.specs.Print.{Prints};
 ghost use Rattle.minidump.specs.Text.{dump_text, entry_text, header_text, line_end, shown_type, stream_text, streams_heading};
 ghost use Rattle.minidump.specs.Dump.{streams_of};
-ghost use Rattle.minidump.specs.Seen.{dump_of};
+ghost use Rattle.minidump.specs.DumpValue.{dump_of};
 
 use crate::Minidump;
 use crate::directory::DecidingEntry;
@@ -36,7 +36,7 @@ impl<'a> Minidump<'a> {
     fn print_header<W: Write>(&self, alloc: Global, f: &mut Told<W>) -> Result<(), Error>
         ensures { Prints W.contents f.old f.new (header_text self.now.header) result }
     {
-        put_formatted(f, made_header(alloc, &self.header))
+        put_formatted(f, header_text(alloc, &self.header))
     }
 
     #[tactic(auto, using(minidump_format::proofs::Printing::prints_then, minidump_format::proofs::Printing::prints_exit))]
@@ -78,7 +78,7 @@ impl TextOf<DecidingEntry> for EntryText {
     ghost text = { entry_text };
 
     fn made(alloc: Global, deciding: &DecidingEntry) -> Result<String, AllocError> {
-        made_entry(alloc, deciding)
+        entry_text(alloc, deciding)
     }
 }
 
@@ -88,12 +88,12 @@ impl TextOf<DecidingEntry> for StreamText {
     ghost text = { stream_text };
 
     fn made(alloc: Global, deciding: &DecidingEntry) -> Result<String, AllocError> {
-        made_stream(alloc, deciding)
+        stream_text(alloc, deciding)
     }
 }
 
 #[tactic(auto, unfolding(crate::specs::Text::header_text))]
-fn made_header(alloc: Global, h: &MINIDUMP_HEADER) -> Result<String, AllocError>
+fn header_text(alloc: Global, h: &MINIDUMP_HEADER) -> Result<String, AllocError>
     ensures { IfOk result (λ t. string_bytes t ≡ header_text h.now) }
 {
     made(
@@ -119,7 +119,7 @@ fn made_header(alloc: Global, h: &MINIDUMP_HEADER) -> Result<String, AllocError>
 }
 
 #[tactic(auto, unfolding(crate::specs::Text::entry_text))]
-fn made_entry(alloc: Global, deciding: &DecidingEntry) -> Result<String, AllocError>
+fn entry_text(alloc: Global, deciding: &DecidingEntry) -> Result<String, AllocError>
     ensures { IfOk result (λ t. string_bytes t ≡ entry_text deciding.now) }
 {
     let entry = &deciding.entry;
@@ -142,7 +142,7 @@ fn made_entry(alloc: Global, deciding: &DecidingEntry) -> Result<String, AllocEr
 }
 
 #[tactic(auto, unfolding(crate::specs::Text::stream_text))]
-fn made_stream(alloc: Global, deciding: &DecidingEntry) -> Result<String, AllocError>
+fn stream_text(alloc: Global, deciding: &DecidingEntry) -> Result<String, AllocError>
     ensures { IfOk result (λ t. string_bytes t ≡ stream_text deciding.now) }
 {
     let entry = &deciding.entry;

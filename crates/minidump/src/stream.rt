@@ -3,7 +3,7 @@ ghost use Rattle.minidump_bytes.specs.Steps.{after};
 ghost use Rattle.minidump_format.specs.Answer.{Gives};
 ghost use Rattle.minidump_format.specs.StreamType.{number_of};
 ghost use Rattle.minidump.specs.Dump.{IsFoundStream, IsStreamOf, raw_stream};
-ghost use Rattle.minidump.specs.Seen.{dump_of};
+ghost use Rattle.minidump.specs.DumpValue.{dump_of};
 
 use crate::Minidump;
 use minidump_bytes::{Source, Steps};

@@ -58,7 +58,7 @@ impl<'a> MinidumpThread<'a> {
         self.stack.as_ref()
     }
 
-    /// Returns the byte order of the dump, in which the context is.
+    /// Returns the byte order of the dump, which is that of the context too.
     pub fn endian(&self) -> Endian
         ensures { result ≡ (thread_of self.now).order }
     {

@@ -22,8 +22,8 @@ pub struct MinidumpThreadList<'a> {
 }
 
 impl<'a> MinidumpThreadList<'a> {
-    /// Returns the last thread with an id, or `None` if no thread has it. It compares ids from the end of
-    /// the list on.
+    /// Returns the last thread with an id, or `None` if no thread has it. Searches from the end of the
+    /// list.
     pub fn get_thread(&self, id: u32) -> Option<&MinidumpThread<'a>>
         ensures { IsLastThread id (thread_list_of self.now) (option_map thread_of (option_copied result)) }
     {

@@ -7,7 +7,7 @@ use Rattle.minidump_bytes.proofs.LeftLemmas.{IsNext}
 use Rattle.minidump_format.specs.declared.error.Error.{Error}
 use Rattle.minidump_system.specs.Reads.{all_ok, and_then}
 
--- what is behind an index begins with the next item
+-- a list is what stands before an index, the item there, and what stands behind it
 split_at : {R : Type 0} (xs : List R) (i : ℕ) (x : R) (rest : List R) → IsNext xs i x x rest → xs ≡ take i xs ++ x ∷ drop (i + 1) xs
 split_at {R = R} xs i x rest next =
     let behind : drop i xs ≡ x ∷ drop (i + 1) xs = rw (add-one i, ← next.item) (drop-cons xs i x next.inside) in

@@ -1,4 +1,4 @@
--- What stands behind a place of a list, as a slice of it is spelled.
+-- The rest of a list from an index on, as a slice spells it.
 use Rattle.std.proofs.Common.{◌≡◌, ℕ, ◌-◌, List, length, arith, take, drop}
 use Rattle.std.proofs.lemmas.List.{length-drop, take_all}
 

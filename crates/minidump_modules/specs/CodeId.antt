@@ -5,7 +5,7 @@ use Rattle.std.specs.Fmt.{digits}
 use Rattle.minidump_bytes.specs.Piece.{wide_hex}
 use Rattle.minidump_modules.specs.declared.code_id.CodeId.{CodeId}
 
--- its digits
+-- the digits of an identifier
 abbrev pub text_of : CodeId → List ℕ
 text_of id = string_bytes id.text
 

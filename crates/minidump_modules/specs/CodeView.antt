@@ -69,14 +69,14 @@ code_view_at order file place =
     if place.data_size == 0 then Ok None else
     and_then (ok_or (located file place) CodeViewReadFailure) (λ bytes. and_then (code_view order bytes) (λ view. Ok (Some view)))
 
--- how much is read of a record: its signature, and each of its fields; those of an unknown kind are all of its bytes
+-- the reads that a record takes: one for its signature, and one for each field; a record of an unknown kind has one field, all of its bytes
 abbrev pub record_reads : View → ℕ
 record_reads (pdb70 s g age name) = 4
 record_reads (pdb20 s offset signature age name) = 5
 record_reads (elf s id) = 2
 record_reads (unknown bytes) = 2
 
--- how much is read at a location: the span of the record, and the record
+-- the reads that a location takes: one for the span of the record, and those of the record
 abbrev pub view_reads : Option View → ℕ
 view_reads None = 0
 view_reads (Some view) = 1 + record_reads view

@@ -13,7 +13,7 @@ use Rattle.minidump_modules.specs.CodeView.{View, pdb70, pdb20, elf, unknown, lo
 use Rattle.minidump_modules.specs.DebugId.{by_guid, by_stamp, guid_bytes}
 use Rattle.minidump_modules.specs.Version.{is_apple, is_windows}
 
--- all that it is known by, and where it was in memory
+-- all that a module is known by, and where it was in memory
 pub record Identity : Type 0 where
   pub base : ℕ
   pub size : ℕ

@@ -55,9 +55,9 @@ entry_of base size = record {
   unused1 = replicate 16 0;
 }
 
--- a module that was not read: of no known system, without a CodeView record
-abbrev pub made_module : ℕ → ℕ → List ℕ → ModuleValue
-made_module base size name = record { raw = entry_of base size; name = name; view = None; order = Little; os = None }
+-- a module that was made, not read: of no known system, without a CodeView record
+abbrev pub new_module : ℕ → ℕ → List ℕ → ModuleValue
+new_module base size name = record { raw = entry_of base size; name = name; view = None; order = Little; os = None }
 
 -- what a module is known by
 abbrev pub identity_of : ModuleValue → Identity
@@ -78,7 +78,7 @@ module_identity m = identity_of (module_of m)
 abbrev pub value_range : ModuleValue → Option Range
 value_range m = range_of m.raw.base_of_image m.raw.size_of_image
 
--- its addresses
+-- the addresses of a module
 abbrev pub module_range : MinidumpModule → Option Range
 module_range m = range_of m.raw.base_of_image m.raw.size_of_image
 
@@ -89,7 +89,7 @@ read_module order os file raw =
     and_then (code_view_at order file raw.cv_record) (λ view.
     Ok (record { raw = raw; name = name; view = view; order = order; os = os })))
 
--- how much is read for a module: its name, and its CodeView record where it has one
+-- the reads that a module takes: one for its name, and those of its CodeView record
 abbrev pub module_reads : ModuleValue → ℕ
 module_reads m = 1 + view_reads m.view
 

@@ -16,7 +16,7 @@ use Rattle.minidump_modules.specs.declared.module.MinidumpModule.{MinidumpModule
 use Rattle.minidump_modules.specs.declared.module_list.MinidumpModuleList.{MinidumpModuleList}
 use Rattle.minidump_modules.specs.Module.{ModuleValue, has_range, module_of, module_reads, read_module}
 
--- its modules, in the order of the list
+-- the modules of a list, in its order
 abbrev pub modules_of : MinidumpModuleList → List MinidumpModule
 modules_of l = l.modules
 
@@ -32,7 +32,7 @@ modules_in order os file raws = all_ok (read_module order os file) (filter has_r
 abbrev pub module_list_in : Endian → List ℕ → List ℕ → Option System → Result (List ModuleValue) Error
 module_list_in order file bytes system = and_then (plain_list module_entry order bytes) (modules_in order (option_map (λ s. s.os) system) file)
 
--- how much is read for modules
+-- the reads that modules take
 abbrev pub modules_read : List ModuleValue → ℕ
 modules_read modules = sum_by module_reads modules
 

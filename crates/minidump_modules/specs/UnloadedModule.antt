@@ -25,11 +25,11 @@ unloaded_of m = record { raw = m.raw; name = string_bytes m.name }
 abbrev entry_of : ℕ → ℕ → MINIDUMP_UNLOADED_MODULE
 entry_of base size = record { base_of_image = base; size_of_image = size; checksum = 0; time_date_stamp = 0; module_name_rva = 0 }
 
--- a module that was not read
-abbrev pub made_unloaded : ℕ → ℕ → List ℕ → UnloadedValue
-made_unloaded base size name = record { raw = entry_of base size; name = name }
+-- a module that was made, not read
+abbrev pub new_unloaded : ℕ → ℕ → List ℕ → UnloadedValue
+new_unloaded base size name = record { raw = entry_of base size; name = name }
 
--- what it is known by: it has no debug file and no version
+-- what an unloaded module is known by: it has no debug file and no version
 abbrev pub unloaded_identity : MinidumpUnloadedModule → Identity
 unloaded_identity m = record {
   base = m.raw.base_of_image;
@@ -45,11 +45,11 @@ unloaded_identity m = record {
 abbrev pub unloaded_value_range : UnloadedValue → Option Range
 unloaded_value_range m = range_of m.raw.base_of_image m.raw.size_of_image
 
--- its addresses
+-- the addresses of an unloaded module
 abbrev pub unloaded_range : MinidumpUnloadedModule → Option Range
 unloaded_range m = range_of m.raw.base_of_image m.raw.size_of_image
 
--- the module of an entry with its name
+-- the module of an entry: its name is read
 unfoldable pub read_unloaded : Endian → List ℕ → MINIDUMP_UNLOADED_MODULE → Result UnloadedValue Error
 read_unloaded order file raw =
     and_then (ok_or (text16 order raw.module_name_rva file) DataError) (λ name. Ok (record { raw = raw; name = name }))

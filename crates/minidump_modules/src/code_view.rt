@@ -77,7 +77,7 @@ pub(crate) fn code_view_at(
     Ok(Some(read_code_view(alloc, Source::new(bytes), endian, steps)?))
 }
 
-// Reads the record that bytes are: its signature, and then each of its fields.
+// Reads the record in bytes: its signature, and then each of its fields.
 #[tactic(auto, unfolding(crate::specs::CodeView::code_view))]
 fn read_code_view(
     alloc: Global,
@@ -114,7 +114,7 @@ fn read_code_view(
     }
 }
 
-// Reads what `RSDS` has behind its signature.
+// Reads the fields of a Pdb70 record that follow its signature, `RSDS`.
 #[tactic(auto, unfolding(crate::specs::CodeView::pdb70_in, crate::specs::CodeView::pdb70_guid))]
 fn read_pdb70(
     alloc: Global,
@@ -142,7 +142,7 @@ fn read_pdb70(
     })
 }
 
-// Reads what `NB10` has behind its signature.
+// Reads the fields of a Pdb20 record that follow its signature, `NB10`.
 #[tactic(auto, unfolding(crate::specs::CodeView::pdb20_in))]
 fn read_pdb20(
     alloc: Global,
@@ -208,7 +208,7 @@ pub(crate) fn lossy_name(alloc: Global, bytes: &[u8]) -> Result<String, AllocErr
     String::from_utf8_lossy(alloc, before_nul(bytes))
 }
 
-// Returns the bytes before the first that is 0, or all if none is.
+// Returns the bytes before the first NUL, or all of them if there is none.
 fn before_nul(bytes: &[u8]) -> &[u8]
     ensures { result.now ≡ before_first (λ b. b == 0) bytes.now }
 {

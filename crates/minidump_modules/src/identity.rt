@@ -7,7 +7,7 @@ use crate::{CodeId, DebugId};
 use minidump_format::Error;
 use std::alloc::Global;
 
-/// A module, loaded or unloaded, by what symbol tools ask of it.
+/// What symbol tools ask of a module, loaded or unloaded.
 pub trait Module {
     ghost identity: { Self → Identity };
 
@@ -15,7 +15,7 @@ pub trait Module {
     fn base_address(&self) -> u64
         ensures { result ≡ (identity self.now).base };
 
-    /// Returns the number of bytes of memory that it takes.
+    /// Returns the number of bytes of memory that the module takes.
     fn size(&self) -> u64
         ensures { result ≡ (identity self.now).size };
 

@@ -9,7 +9,7 @@ ghost use Rattle.minidump_format.specs.declared.error.Error.TheVariants.{CodeVie
 ghost use Rattle.minidump_format.specs.Guid.{guid};
 ghost use Rattle.minidump_modules.specs.DebugId.{guid_bytes};
 ghost use Rattle.minidump_modules.specs.Identity.{is_blank, padded};
-ghost use Rattle.minidump_modules.specs.Module.{made_module, module_of, module_range, module_reads, read_module};
+ghost use Rattle.minidump_modules.specs.Module.{new_module, module_of, module_range, module_reads, read_module};
 
 use crate::code_view::{code_view_at, lossy_name};
 use crate::debug_id::uuid_of;
@@ -42,7 +42,7 @@ impl MinidumpModule {
     /// Makes a module of a base address, a size and a name, with nothing else. The only error is
     /// [`Error::OutOfMemory`].
     pub fn new(alloc: Global, base: u64, size: u32, name: &str) -> Result<MinidumpModule, Error>
-        ensures value { IfOk result (λ m. module_of m ≡ made_module base size name.now) }
+        ensures value { IfOk result (λ m. module_of m ≡ new_module base size name.now) }
         ensures memory { IsOkUnless result Error.OutOfMemory }
     {
         Ok(MinidumpModule {
@@ -230,7 +230,7 @@ impl Region for MinidumpModule {
 
 // Makes the entry of a base address and a size, with zeros everywhere else.
 fn empty_entry(base: u64, size: u32) -> MINIDUMP_MODULE
-    ensures { result ≡ (made_module base size []).raw }
+    ensures { result ≡ (new_module base size []).raw }
 {
     let nowhere = MINIDUMP_LOCATION_DESCRIPTOR {
         data_size: 0,

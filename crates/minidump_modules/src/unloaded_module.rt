@@ -3,7 +3,7 @@ ghost use Rattle.minidump_bytes.specs.Source.{bytes_of};
 ghost use Rattle.minidump_bytes.specs.Steps.{after};
 ghost use Rattle.minidump_bytes.specs.Text16.{HoldsText16};
 ghost use Rattle.minidump_format.specs.Answer.{Gives};
-ghost use Rattle.minidump_modules.specs.UnloadedModule.{made_unloaded, read_unloaded, unloaded_of, unloaded_range};
+ghost use Rattle.minidump_modules.specs.UnloadedModule.{new_unloaded, read_unloaded, unloaded_of, unloaded_range};
 
 use crate::{CodeId, DebugId, Module};
 use minidump_bytes::{Endian, Source, Steps};
@@ -30,7 +30,7 @@ impl MinidumpUnloadedModule {
         size: u32,
         name: &str,
     ) -> Result<MinidumpUnloadedModule, Error>
-        ensures value { IfOk result (λ m. unloaded_of m ≡ made_unloaded base size name.now) }
+        ensures value { IfOk result (λ m. unloaded_of m ≡ new_unloaded base size name.now) }
         ensures memory { IsOkUnless result Error.OutOfMemory }
     {
         Ok(MinidumpUnloadedModule {

@@ -3,17 +3,25 @@ use Rattle.std.proofs.Common.{◌≡◌, ◌∙◌, ap, sym, refl, subst, ℕ, L
 use Rattle.std.specs.Option.{option_map}
 use Rattle.minidump.specs.Memory.{memories_of_dump}
 use Rattle.minidump.specs.Below.MemoryLists.Unified.{UnifiedRegions, unified_list}
-use Rattle.minidump.specs.Seen.{dump_of}
+use Rattle.minidump.specs.DumpValue.{dump_of}
 use Rattle.region_at.specs.RegionAt.{IsInMemory}
 use Rattle.region_at.proofs.region_at.Goals as goal
 
 pub returns-in-Some-clause-found : goal.returns-in-Some-clause-found
 returns-in-Some-clause-found c =
     let same : option_map unified_list c.in_ok-memory.field-0 ≡ memories_of_dump (dump_of c.in_ok-dump.dump) = cc c.in_ok-memory.ensures in
-    let found : Option (ℕ × List ℕ) = option_map (λ r. (r.0, r.1.now)) c.region_in.result in
-    (dump_of c.in_ok-dump.dump, c.in_ok-dump.ensures, subst (λ (m : Option UnifiedRegions). IsInMemory m c.args.address found) (ap (option_map unified_list) (sym c.in-Some.is) ∙ same) c.region_in.ensures)
+    let found : Option (ℕ × List ℕ) = option_map (λ r. (r.0, r.1.now)) c.region_in.result in (
+      dump_of c.in_ok-dump.dump,
+      c.in_ok-dump.ensures,
+      subst (λ (m : Option UnifiedRegions). IsInMemory m c.args.address found)
+          (ap (option_map unified_list) (sym c.in-Some.is) ∙ same) c.region_in.ensures,
+    )
 
 pub returns-clause-found : goal.returns-clause-found
 returns-clause-found c =
-    let same : option_map unified_list c.in_ok-memory.field-0 ≡ memories_of_dump (dump_of c.in_ok-dump.dump) = cc c.in_ok-memory.ensures in
-    (dump_of c.in_ok-dump.dump, c.in_ok-dump.ensures, subst (λ (m : Option UnifiedRegions). IsInMemory m c.args.address None) (ap (option_map unified_list) (sym c.in-None.is) ∙ same) refl)
+    let same : option_map unified_list c.in_ok-memory.field-0 ≡ memories_of_dump (dump_of c.in_ok-dump.dump) = cc c.in_ok-memory.ensures in (
+      dump_of c.in_ok-dump.dump,
+      c.in_ok-dump.ensures,
+      subst (λ (m : Option UnifiedRegions). IsInMemory m c.args.address None)
+          (ap (option_map unified_list) (sym c.in-None.is) ∙ same) refl,
+    )

@@ -3,7 +3,7 @@ use Rattle.std.proofs.Common.{◌≡◌, ap, ◌∙◌, refl, subst}
 use Rattle.std.specs.Prelude.{Option}
 use Rattle.std.specs.Option.{option_map}
 use Rattle.minidump_memory.specs.UnifiedInfo.{InfoRegions, info_list, info_region, info_region_range, info_regions}
-use Rattle.minidump.specs.Seen.{dump_of}
+use Rattle.minidump.specs.DumpValue.{dump_of}
 use Rattle.mdump.specs.Done.{IsInfoLine, info_of_dump}
 use Rattle.mdump.specs.Lines.{IsAt, info_line}
 use Rattle.mdump.proofs.PrintLemmas.{print_refusal, written}
@@ -19,9 +19,9 @@ returns-clause-written g c =
           (ap (option_map info_list) c.as_ref.ensures.value ∙ same) c.info_at-found.ensures,
       refl,
     )
-    (c.put_formatted.ensures.prints (info_line found) c.made_info_line.ensures)
+    (c.put_formatted.ensures.prints (info_line found) c.info_text.ensures)
 
 pub returns-clause-refusal : goal.returns-clause-refusal
 returns-clause-refusal g c =
     let text = info_line (option_map info_region c.info_at-found.result) in
-    print_refusal g.O.Write.contents c.args.out.now c.put_formatted.new.f text c.put_formatted.result (c.put_formatted.ensures.prints text c.made_info_line.ensures)
+    print_refusal g.O.Write.contents c.args.out.now c.put_formatted.new.f text c.put_formatted.result (c.put_formatted.ensures.prints text c.info_text.ensures)

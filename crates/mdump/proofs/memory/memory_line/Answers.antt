@@ -5,7 +5,7 @@ use Rattle.std.specs.Option.{option_map}
 use Rattle.minidump_memory.specs.Memory.{region_range}
 use Rattle.minidump_memory.specs.Unified.{UnifiedRegions, unified_list, unified_region, unified_regions}
 use Rattle.minidump.specs.Memory.{memories_of_dump}
-use Rattle.minidump.specs.Seen.{dump_of}
+use Rattle.minidump.specs.DumpValue.{dump_of}
 use Rattle.mdump.specs.Done.{IsMemoryLine}
 use Rattle.mdump.specs.Lines.{IsAt, memory_line}
 use Rattle.mdump.proofs.PrintLemmas.{print_refusal, written}
@@ -21,9 +21,9 @@ returns-clause-written g c =
           (ap (option_map unified_list) c.as_ref.ensures.value ∙ same) c.memory_at-found.ensures,
       refl,
     )
-    (c.put_formatted.ensures.prints (memory_line found) c.made_memory_line.ensures)
+    (c.put_formatted.ensures.prints (memory_line found) c.memory_text.ensures)
 
 pub returns-clause-refusal : goal.returns-clause-refusal
 returns-clause-refusal g c =
     let text = memory_line (option_map unified_region c.memory_at-found.result) in
-    print_refusal g.O.Write.contents c.args.out.now c.put_formatted.new.f text c.put_formatted.result (c.put_formatted.ensures.prints text c.made_memory_line.ensures)
+    print_refusal g.O.Write.contents c.args.out.now c.put_formatted.new.f text c.put_formatted.result (c.put_formatted.ensures.prints text c.memory_text.ensures)

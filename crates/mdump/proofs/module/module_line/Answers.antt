@@ -4,7 +4,7 @@ use Rattle.std.specs.Prelude.{Option}
 use Rattle.std.specs.Option.{option_copied, option_map}
 use Rattle.minidump_modules.specs.Module.{ModuleValue, module_of, value_range}
 use Rattle.minidump_modules.specs.ModuleList.{module_list_of}
-use Rattle.minidump.specs.Seen.{dump_of}
+use Rattle.minidump.specs.DumpValue.{dump_of}
 use Rattle.mdump.specs.Done.{IsModuleLine, modules_of_dump}
 use Rattle.mdump.specs.Lines.{IsAt, module_line}
 use Rattle.mdump.proofs.PrintLemmas.{print_refusal, written}
@@ -20,9 +20,9 @@ returns-clause-written g c =
           (ap (option_map module_list_of) c.as_ref.ensures.value ∙ same) c.module_at-found.ensures,
       refl,
     )
-    (c.put_formatted.ensures.prints (module_line found) c.made_module_line.ensures)
+    (c.put_formatted.ensures.prints (module_line found) c.module_text.ensures)
 
 pub returns-clause-refusal : goal.returns-clause-refusal
 returns-clause-refusal g c =
     let text = module_line (option_map module_of (option_copied c.module_at-found.result)) in
-    print_refusal g.O.Write.contents c.args.out.now c.put_formatted.new.f text c.put_formatted.result (c.put_formatted.ensures.prints text c.made_module_line.ensures)
+    print_refusal g.O.Write.contents c.args.out.now c.put_formatted.new.f text c.put_formatted.result (c.put_formatted.ensures.prints text c.module_text.ensures)

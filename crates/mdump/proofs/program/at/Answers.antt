@@ -1,5 +1,5 @@
 -- The lines of the minidump that was read.
-use Rattle.minidump.specs.Seen.{dump_of}
+use Rattle.minidump.specs.DumpValue.{dump_of}
 use Rattle.mdump.specs.Done.{AreLines, AreLinesOf}
 use Rattle.mdump.proofs.PrintLemmas.{accounted, path_refusal, writes_wider}
 use Rattle.mdump.proofs.program.at.Goals as goal

@@ -1,6 +1,6 @@
 -- The text of the minidump that was read.
 use Rattle.std.proofs.Common.{refl}
-use Rattle.minidump.specs.Seen.{dump_of}
+use Rattle.minidump.specs.DumpValue.{dump_of}
 use Rattle.minidump.specs.Text.{dump_text}
 use Rattle.mdump.specs.Done.{IsDirectoryText}
 use Rattle.mdump.proofs.PrintLemmas.{accounted, path_refusal, print_refusal, written}

@@ -1,5 +1,5 @@
 -- The lines, one after another.
-use Rattle.minidump.specs.Seen.{dump_of}
+use Rattle.minidump.specs.DumpValue.{dump_of}
 use Rattle.std.specs.Option.{option_map}
 use Rattle.minidump_memory.specs.UnifiedInfo.{info_region_range, info_regions}
 use Rattle.minidump_modules.specs.Module.{value_range}
@@ -13,18 +13,20 @@ returns-in_err-memory_line-clause-written g c =
     let dump = dump_of c.args.dump.now in
     let a_module = a_line value_range (modules_of_dump dump) c.args.address module_line c.region_laws.ensures in
     let info = a_line info_region_range (option_map info_regions (info_of_dump dump)) c.args.address info_line c.region_laws-2.ensures.unified_information in
-    cut g.O.Write.contents (IsMemoryLine dump c.args.address)
-    (AreLastLines dump c.args.address) c.args.out.now c.memory_line.new.out c.from_residual.result _ c.from_residual.ensures.1
-    (both_lines (IsModuleLine dump c.args.address) (IsInfoLine dump c.args.address) a_module info) c.in_err-memory_line.ensures.written
+    let both = both_lines (IsModuleLine dump c.args.address) (IsInfoLine dump c.args.address) a_module info in
+    cut g.O.Write.contents (IsMemoryLine dump c.args.address) (AreLastLines dump c.args.address) _ _ _ _ c.from_residual.ensures.1
+    both c.in_err-memory_line.ensures.written
 
 pub returns-clause-written : goal.returns-clause-written
 returns-clause-written g c =
     let dump = dump_of c.args.dump.now in
     let a_module = a_line value_range (modules_of_dump dump) c.args.address module_line c.region_laws.ensures in
     let info = a_line info_region_range (option_map info_regions (info_of_dump dump)) c.args.address info_line c.region_laws-2.ensures.unified_information in
-    joined g.O.Write.contents (IsMemoryLine dump c.args.address)
-    (AreLastLines dump c.args.address) c.args.out.now c.memory_line.new.out c.last_lines.new.out c.last_lines.result
-    (both_lines (IsModuleLine dump c.args.address) (IsInfoLine dump c.args.address) a_module info) c.in_ok-memory_line.ensures.written c.last_lines.ensures.written
+    let both = both_lines (IsModuleLine dump c.args.address) (IsInfoLine dump c.args.address) a_module info in
+    joined g.O.Write.contents (IsMemoryLine dump c.args.address) (AreLastLines dump c.args.address) _ _ _ c.last_lines.result
+    both c.in_ok-memory_line.ensures.written c.last_lines.ensures.written
 
 pub returns-clause-refusal : goal.returns-clause-refusal
-returns-clause-refusal g c = refused_behind (IsMemoryLine (dump_of c.args.dump.now) c.args.address) g.O.Write.contents c.args.out.now c.memory_line.new.out c.last_lines.new.out c.last_lines.result c.in_ok-memory_line.ensures.written c.last_lines.ensures.refusal
+returns-clause-refusal g c =
+    refused_behind (IsMemoryLine (dump_of c.args.dump.now) c.args.address) g.O.Write.contents _ _ _ c.last_lines.result
+    c.in_ok-memory_line.ensures.written c.last_lines.ensures.refusal

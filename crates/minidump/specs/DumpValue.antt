@@ -1,4 +1,4 @@
--- What a clause sees of a minidump.
+-- The value of a minidump, which clauses speak of: it has no addresses in memory.
 use Rattle.minidump_bytes.specs.Source.{bytes_of}
 use Rattle.minidump.specs.declared.dump.Minidump.{Minidump}
 use Rattle.minidump.specs.Dump.{Dump}
