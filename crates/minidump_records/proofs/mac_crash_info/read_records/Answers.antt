@@ -3,8 +3,8 @@ use Rattle.std.proofs.Common.{arith, map}
 use Rattle.std.proofs.lemmas.List.{drop_all, map_push}
 use Rattle.std.proofs.lemmas.List.Sums.{sum_by_push}
 use Rattle.minidump_bytes.specs.Source.{bytes_of}
-use Rattle.minidump_records.specs.MacCrashInfo.Record.{mac_record_of, record_reads}
 use Rattle.minidump_format.proofs.AnswerLemmas.{gives_exit}
+use Rattle.minidump_records.specs.MacCrashInfo.Record.{mac_record_of, record_reads}
 use Rattle.minidump_records.proofs.MacLemmas.{all_left, left_end, left_none, left_refused, left_some}
 use Rattle.minidump_records.proofs.mac_crash_info.read_records.Goals as goal
 use Rattle.minidump_records.proofs.mac_crash_info.read_records.Goals.{in-Some+in_ok-push, in_default}

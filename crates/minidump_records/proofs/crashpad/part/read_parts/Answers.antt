@@ -1,7 +1,7 @@
 -- One entry more: the part that it names is read, or is an error.
-use Rattle.std.proofs.Common.{◌≡◌, ◌+◌, ◌*◌, ◌≤◌, ◌∙◌, refl, arith, length, map}
+use Rattle.std.proofs.Common.{◌≡◌, ◌+◌, ◌*◌, ◌≤◌, ◌∙◌, refl, arith, length}
 use Rattle.std.proofs.lemmas.List.{map_push}
-use Rattle.std.proofs.lemmas.List.Sums.{sum_by_push}
+use Rattle.minidump_bytes.proofs.ListLemmas.{sum_pushed}
 use Rattle.minidump_bytes.specs.Source.{bytes_of}
 use Rattle.minidump_records.specs.Crashpad.Parts.{part_at}
 use Rattle.minidump_format.proofs.AnswerLemmas.{gives_err, gives_exit}
@@ -50,7 +50,6 @@ loop-i-preserved g c =
           omega (arith, rw size at fits);
       grows = omega (arith, c.read_part.ensures.grows, c.record.ensures.step, c.loop-i.invariant.grows);
       least =
-          let longer = sum_by_push (λ p. 1 + g.P.Part.fewest p) (map g.P.Part.value c.loop-i.parts.items) (g.P.Part.value c.in_ok-part.part) in
-          rw (c.in_ok-push.ensures.items, map_push, longer)
+          rw (c.in_ok-push.ensures.items, sum_pushed (λ p. 1 + g.P.Part.fewest p) g.P.Part.value c.loop-i.parts.items c.in_ok-part.part)
           (omega (arith, c.in_ok-part.ensures.at_least, c.record.ensures.step, c.loop-i.invariant.least));
     }

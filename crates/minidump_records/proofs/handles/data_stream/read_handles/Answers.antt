@@ -1,11 +1,9 @@
 -- One handle more, and the end of the list.
-use Rattle.std.proofs.Common.{◌∙◌, arith, length, map, sym}
-use Rattle.std.proofs.lemmas.List.{map_push}
-use Rattle.std.proofs.lemmas.List.Sums.{sum_by_push}
+use Rattle.std.proofs.Common.{◌∙◌, arith, length, sym}
 use Rattle.minidump_bytes.specs.Source.{bytes_of}
+use Rattle.minidump_bytes.proofs.ListLemmas.{mapped_more, sum_pushed}
 use Rattle.minidump_bytes.proofs.LeftLemmas.{IsNext, all_given, next_left, one_given}
 use Rattle.minidump_records.specs.Handles.{handle_in, handle_of, handle_reads}
-use Rattle.minidump_bytes.proofs.ListLemmas.{mapped_more}
 use Rattle.minidump_records.proofs.handles.data_stream.read_handles.Goals as goal
 
 pub loop-raw-preserved : goal.loop-raw-preserved
@@ -23,7 +21,7 @@ loop-raw-preserved g c =
           next.inside c.loop-raw.invariant.items (rw (next.item, ← c.raw.ensures) c.in_ok-read_handle.ensures.value));
       within = omega (arith, c.read_handle.ensures.within, c.loop-raw.invariant.within);
       grows = omega (arith, c.read_handle.ensures.grows, c.loop-raw.invariant.grows);
-      least = rw (c.in_ok-push.ensures.items, map_push, sum_by_push handle_reads (map handle_of c.loop-raw.handles.items) (handle_of one))
+      least = rw (c.in_ok-push.ensures.items, sum_pushed handle_reads handle_of c.loop-raw.handles.items one)
           (omega (arith, c.in_ok-read_handle.ensures.at_least, c.loop-raw.invariant.least));
     })
 
