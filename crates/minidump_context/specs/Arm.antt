@@ -2,7 +2,7 @@
 use Rattle.std.specs.Prelude.{ℕ, List, [], ◌∷◌, codes, map, slice_index}
 use Rattle.minidump_format.specs.declared.format.context.arm.CONTEXT_ARM.{CONTEXT_ARM}
 
--- the name of each and its place in the record, in bytes
+-- the canonical name of each register and its offset in the record
 unfoldable pub arm_registers : List (List ℕ × ℕ)
 arm_registers =
     (codes "r0", 4) ∷
@@ -23,18 +23,18 @@ arm_registers =
     (codes "pc", 64) ∷
     []
 
--- the other names, each with the one of the table
+-- each alias with the canonical name that it stands for
 unfoldable pub arm_aliases : List (List ℕ × List ℕ)
 arm_aliases = (codes "r11", codes "fp") ∷ (codes "r13", codes "sp") ∷ (codes "r14", codes "lr") ∷ (codes "r15", codes "pc") ∷ []
 
--- which of the numbered registers each is
+-- the number of each register of the table: its index in iregs
 unfoldable pub arm_numbers : List ℕ
 arm_numbers = 0 ∷ 1 ∷ 2 ∷ 3 ∷ 4 ∷ 5 ∷ 6 ∷ 7 ∷ 8 ∷ 9 ∷ 10 ∷ 12 ∷ 11 ∷ 13 ∷ 14 ∷ 15 ∷ []
 
--- what each holds, in the order of the table
+-- their values, in the order of the table
 unfoldable pub arm_values : CONTEXT_ARM → List ℕ
 arm_values c = map (slice_index c.iregs) arm_numbers
 
--- the context without its registers
+-- the context without the values of its registers
 unfoldable pub arm_rest : CONTEXT_ARM → CONTEXT_ARM
 arm_rest c = record c { iregs = [] }

@@ -1,11 +1,11 @@
 -- The registers of an ARM64 processor, by name: Microsoft's ARM64_NT_CONTEXT, and Breakpad's MDRawContextARM64_Old, which
--- has them at the same places.
+-- has them at the same offsets.
 use Rattle.std.specs.Prelude.{ℕ, List, [], ◌∷◌, ◌++◌, codes, map, slice_index}
 use Rattle.std.specs.List.{range_with_len}
 use Rattle.minidump_format.specs.declared.format.context.arm64.CONTEXT_ARM64.{CONTEXT_ARM64}
 use Rattle.minidump_format.specs.declared.format.context.arm64.CONTEXT_ARM64_OLD.{CONTEXT_ARM64_OLD}
 
--- the name of each and its place in the record, in bytes
+-- the canonical name of each register and its offset in the record
 unfoldable pub arm64_registers : List (List ℕ × ℕ)
 arm64_registers =
     (codes "x0", 8) ∷
@@ -43,19 +43,19 @@ arm64_registers =
     (codes "pc", 264) ∷
     []
 
--- the other names, each with the one of the table
+-- each alias with the canonical name that it stands for
 unfoldable pub arm64_aliases : List (List ℕ × List ℕ)
 arm64_aliases = (codes "x29", codes "fp") ∷ (codes "x30", codes "lr") ∷ []
 
--- what each holds, in the order of the table
+-- their values, in the order of the table
 unfoldable pub arm64_values : CONTEXT_ARM64 → List ℕ
 arm64_values c = map (slice_index c.iregs) (range_with_len 0 31) ++ c.sp ∷ c.pc ∷ []
 
--- the context without its registers
+-- the context without the values of its registers
 unfoldable pub arm64_rest : CONTEXT_ARM64 → CONTEXT_ARM64
 arm64_rest c = record c { iregs = []; sp = 0; pc = 0 }
 
--- the same of the layout that Breakpad had first
+-- the same of Breakpad's first layout
 unfoldable pub arm64_old_values : CONTEXT_ARM64_OLD → List ℕ
 arm64_old_values c = map (slice_index c.iregs) (range_with_len 0 31) ++ c.sp ∷ c.pc ∷ []
 

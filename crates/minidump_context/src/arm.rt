@@ -4,7 +4,7 @@ ghost use Rattle.minidump_context.specs.Arm.{arm_numbers};
 use crate::{CpuContext, CpuRegisterNames};
 use minidump_format::format::CONTEXT_ARM;
 
-// Which of the numbered registers each listed one is.
+// The number of each register of the list: its index in `iregs`.
 const NUMBERS: [usize; 16] = [0, 1, 2, 3, 4, 5, 6, 7, 8, 9, 10, 12, 11, 13, 14, 15];
 
 #[tactic(auto, unfolding(crate::specs::Arm::arm_numbers))]

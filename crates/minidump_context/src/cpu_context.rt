@@ -12,15 +12,15 @@ use minidump_bytes::{FixedRead, Piece, Record, made};
 use minidump_format::Error;
 use std::alloc::Global;
 
-/// The number that a register holds.
+/// The value of a register: a number.
 pub trait RegisterNumber: FixedRead {
     ghost number: { Self → ℕ };
 
-    /// Returns the number in 64 bits.
+    /// Converts the value to 64 bits.
     fn to_u64(self) -> u64
         ensures { result ≡ number self };
 
-    /// Returns how many hexadecimal digits it has at most.
+    /// Returns how many hexadecimal digits a value has at most.
     fn hex_digits() -> usize
         ensures { result ≡ 2 * Self.SIZE };
 }
@@ -51,10 +51,10 @@ impl RegisterNumber for u64 {
 
 /// The names of the registers of a context.
 pub trait CpuRegisterNames {
-    // the name of each register and its place in the record, in bytes
+    // the canonical name of each register and its offset in the record
     ghost table: { List (List ℕ × ℕ) };
 
-    /// The name of each general-purpose register.
+    /// The canonical names of the general-purpose registers.
     const REGISTERS: &'static [&'static str];
 
     /// Returns [`REGISTERS`](CpuRegisterNames::REGISTERS), which a contract can't name.
@@ -64,19 +64,19 @@ pub trait CpuRegisterNames {
 
 /// The context of a processor: its registers by name.
 pub trait CpuContext: CpuRegisterNames + Record {
-    /// What a register holds.
+    /// The value of a register: `u32` or `u64`.
     type Register: RegisterNumber;
 
-    // the aliases of registers, each with the name of the table
+    // each alias with the canonical name that it stands for
     ghost aliases: { List (List ℕ × List ℕ) };
 
-    // what the registers hold, in the order of the table
+    // the values of the registers, in the order of the table
     ghost values: { Self → List Self.Register };
 
-    // what the context holds beside them
+    // the context without the values of its registers
     ghost rest: { Self → Self };
 
-    // the bit of the processor in the flags, and the flags of a context
+    // the processor's bit in the flags, and the flags of a context
     ghost processor: { ℕ };
 
     ghost flags: { Self → ℕ };
@@ -86,26 +86,26 @@ pub trait CpuContext: CpuRegisterNames + Record {
 
     ghost instruction_pointer: { List ℕ };
 
-    /// Returns the aliases of registers, each with its name in the list.
+    /// Returns each alias with the canonical name that it stands for.
     fn aliases() -> &'static [(&'static str, &'static str)]
         ensures { map (λ a. (a.0.now, a.1.now)) result.now ≡ aliases };
 
-    /// Returns what the register at a place of the list holds.
+    /// Returns the value of the register at a place of the list of names.
     fn register_at(&self, place: usize) -> Self::Register
         requires { place < length Self.table }
         ensures { slice_get (values self.now) place ≡ Some result };
 
-    /// Changes the register at a place of the list, and nothing else.
+    /// Sets the register at a place of the list of names, and changes nothing else.
     fn set_register_at(&mut self, place: usize, value: Self::Register)
         requires { place < length Self.table }
         ensures set { values self.new ≡ slice_set (values self.old) place value }
         ensures rest { rest self.new ≡ rest self.old };
 
-    /// Returns the bit of the processor in the flags of its contexts.
+    /// Returns the processor's bit in the flags of its contexts.
     fn processor() -> u32
         ensures { result ≡ processor };
 
-    /// Returns the flags of the context.
+    /// Returns the low 32 bits of the context's flags.
     fn flags(&self) -> u32
         ensures { result ≡ flags self.now };
 
@@ -117,7 +117,7 @@ pub trait CpuContext: CpuRegisterNames + Record {
     fn instruction_pointer_register_name(&self) -> &'static str
         ensures { result.now ≡ instruction_pointer };
 
-    /// Returns the name in the list of the register that a name names, or `None` if it names none.
+    /// Returns the canonical name of a register, or `None` if `reg` is not one.
     final fn memoize_register(&self, reg: &str) -> Option<&'static str>
         ensures { option_copied result ≡ memoized (names_of Self.table) aliases reg.now }
     {
@@ -126,17 +126,17 @@ pub trait CpuContext: CpuRegisterNames + Record {
         Some(names[place])
     }
 
-    /// Returns whether a name is that of a valid register: one of which the set has any of the names.
+    /// Returns whether `reg` is a name of a valid register. A register is valid if the set has any of its names.
     final fn register_is_valid(&self, reg: &str, valid: &MinidumpContextValidity) -> bool
         ensures { result ≡ is_valid valid.now (names_of Self.table) aliases reg.now }
     {
         match self.memoize_register(reg) {
-            Some(listed) => valid.holds_any(Self::aliases(), listed),
+            Some(canonical) => valid.holds_any(Self::aliases(), canonical),
             None => false,
         }
     }
 
-    /// Returns what a register holds. Its name is one that `memoize_register` knows.
+    /// Returns the value of a register. `memoize_register` must know its name.
     final fn get_register_always(&self, reg: &str) -> Self::Register
         requires { IsSome (memoized (names_of Self.table) aliases reg.now) }
         ensures { value_of (names_of Self.table) aliases (values self.now) reg.now ≡ Some result }
@@ -145,7 +145,7 @@ pub trait CpuContext: CpuRegisterNames + Record {
         self.register_at(place)
     }
 
-    /// Returns what a register holds, or `None` if it isn't valid.
+    /// Returns the value of a register, or `None` if it isn't valid.
     final fn get_register(
         &self,
         reg: &str,
@@ -161,8 +161,8 @@ pub trait CpuContext: CpuRegisterNames + Record {
         }
     }
 
-    /// Changes a register under all of its names, and nothing else. Returns `None`, and changes nothing, if no
-    /// register has the name.
+    /// Sets a register, under all of its names, and changes nothing else. Returns `None`, and changes nothing,
+    /// if `reg` is not a register.
     final fn set_register(&mut self, reg: &str, val: Self::Register) -> Option<()>
         ensures named { IsSome result ↔ IsSome (place_of (names_of Self.table) aliases reg.now) }
         ensures changed { IsChanged values rest self.old self.new val (place_of (names_of Self.table) aliases reg.now) }
@@ -172,8 +172,8 @@ pub trait CpuContext: CpuRegisterNames + Record {
         Some(())
     }
 
-    /// Formats what a register holds as `0x` and two digits a byte. Its name is one that `memoize_register`
-    /// knows. The only error is `OutOfMemory`.
+    /// Formats the value of a register as `0x` and two hexadecimal digits a byte. `memoize_register` must know
+    /// its name. The only error is `OutOfMemory`.
     final fn format_register(&self, alloc: Global, reg: &str) -> Result<String, Error>
         requires { IsSome (memoized (names_of Self.table) aliases reg.now) }
         ensures text { IfOk result (λ text. IfSome (value_of (names_of Self.table) aliases (values self.now) reg.now)
@@ -184,7 +184,7 @@ pub trait CpuContext: CpuRegisterNames + Record {
         Ok(made(alloc, &[Piece::Wide(value, Self::Register::hex_digits())])?)
     }
 
-    /// Returns an iterator over all registers, each with its name and what it holds, in the order of the list.
+    /// Returns an iterator over the names and values of all registers, in the order of the list of names.
     final fn registers(&self) -> CpuRegisters<'_, Self>
         ensures { registers_left (names_of Self.table) aliases values result
             ≡ valid_from MinidumpContextValidity.All (names_of Self.table) aliases (values self.now) 0 }
@@ -196,7 +196,7 @@ pub trait CpuContext: CpuRegisterNames + Record {
         }
     }
 
-    /// Returns an iterator over the valid registers, each with its name and what it holds, in the order of the list.
+    /// Returns an iterator over the names and values of the valid registers, in the order of the list of names.
     final fn valid_registers<'a>(
         &'a self,
         valid: &'a MinidumpContextValidity,
@@ -214,11 +214,11 @@ pub trait CpuContext: CpuRegisterNames + Record {
     // each row of the table has a value
     ghost as_many: { (c : Self) → length (values c) ≡ length Self.table };
 
-    // each name of the table is that of its own row, each alias that of the row of its name, and both pointers
-    // are registers
+    // each name stands for the register of its own row, each alias for that of its canonical name, and both
+    // pointers are registers
     ghost named: { IsNamed Self.table aliases stack_pointer instruction_pointer };
 
-    // each register of a context that is read is the number at its place in the record
+    // the value of each register that is read is the number at its offset in the record
     ghost placed: { (order : Endian) (bytes : List ℕ) → map Self.Register.number (values (Self.layout.value order bytes))
         ≡ map (λ row. number_at order Self.Register.SIZE row.1 bytes) Self.table };
 }

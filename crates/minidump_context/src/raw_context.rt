@@ -1,20 +1,20 @@
 ghost use Rattle.std.specs.Prelude.{◌≡◌, map};
 ghost use Rattle.minidump_context.specs.Register.{names_of};
-ghost use Rattle.minidump_context.specs.Context.{registers_of, valid_in};
+ghost use Rattle.minidump_context.specs.Context.{registers_of, valid_value_in};
 
 use crate::{CpuContext, MinidumpContextValidity, RegisterNumber};
 use minidump_format::format::{
     CONTEXT_AMD64, CONTEXT_ARM, CONTEXT_ARM64, CONTEXT_ARM64_OLD, CONTEXT_X86,
 };
 
-/// The registers of a thread, by the processor.
+/// The context of a thread, in the record of its processor.
 #[derive(Clone, Copy)]
 pub enum MinidumpRawContext {
     X86(CONTEXT_X86),
     Amd64(CONTEXT_AMD64),
     Arm(CONTEXT_ARM),
     Arm64(CONTEXT_ARM64),
-    /// ARM64, in the layout that Breakpad had first.
+    /// ARM64, in Breakpad's first layout.
     OldArm64(CONTEXT_ARM64_OLD),
 }
 
@@ -43,7 +43,7 @@ impl MinidumpRawContext {
 
     // Returns the value of a register, or `None` if it isn't valid.
     pub(crate) fn get_register(&self, reg: &str, valid: &MinidumpContextValidity) -> Option<u64>
-        ensures { result ≡ valid_in valid.now (registers_of self.now) reg.now }
+        ensures { result ≡ valid_value_in valid.now (registers_of self.now) reg.now }
     {
         with_context!(self, context => context.get_register(reg, valid).map(|n| n.to_u64()))
     }
