@@ -29,7 +29,7 @@ use Rattle.minidump.specs.declared.thread_list.MinidumpThreadList.{MinidumpThrea
 
 -- the context that bytes hold on an architecture, where they hold one
 abbrev pub accepted_context : ℕ → Endian → Option (List ℕ) → Option MinidumpRawContext
-accepted_context architecture order bytes = option_and_then (λ b. result_ok (context_in architecture order b)) bytes
+accepted_context architecture order bytes = option_and_then (λ b. result_ok (context_in order b architecture)) bytes
 
 -- a thread: its entry, the bytes of its context, its own stack, and their byte order
 pub record Thread : Type 0 where

@@ -1,11 +1,15 @@
 -- The registers of an ARM64 processor, by name: Microsoft's ARM64_NT_CONTEXT, and Breakpad's MDRawContextARM64_Old, which
--- has them at the same places.
+-- has them at the same offsets.
 use Rattle.std.specs.Prelude.{ℕ, List, [], ◌∷◌, ◌++◌, codes, map, slice_index}
 use Rattle.std.specs.List.{range_with_len}
 use Rattle.minidump_format.specs.declared.format.context.arm64.CONTEXT_ARM64.{CONTEXT_ARM64}
 use Rattle.minidump_format.specs.declared.format.context.arm64.CONTEXT_ARM64_OLD.{CONTEXT_ARM64_OLD}
 
+<<<<<<< HEAD
 -- the canonical name of each register and its place in the record, in bytes
+=======
+-- the canonical name of each register and its offset in the record
+>>>>>>> 2977cc3dba978631c1d8ab5cb81cca3d5b74b9b8
 unfoldable pub arm64_registers : List (List ℕ × ℕ)
 arm64_registers =
     (codes "x0", 8) ∷
@@ -43,19 +47,31 @@ arm64_registers =
     (codes "pc", 264) ∷
     []
 
+<<<<<<< HEAD
 -- the aliases, each with the canonical name of its register
 unfoldable pub arm64_aliases : List (List ℕ × List ℕ)
 arm64_aliases = (codes "x29", codes "fp") ∷ (codes "x30", codes "lr") ∷ []
 
 -- the value of each register, in the order of the table
+=======
+-- each alias with the canonical name that it stands for
+unfoldable pub arm64_aliases : List (List ℕ × List ℕ)
+arm64_aliases = (codes "x29", codes "fp") ∷ (codes "x30", codes "lr") ∷ []
+
+-- their values, in the order of the table
+>>>>>>> 2977cc3dba978631c1d8ab5cb81cca3d5b74b9b8
 unfoldable pub arm64_values : CONTEXT_ARM64 → List ℕ
 arm64_values c = map (slice_index c.iregs) (range_with_len 0 31) ++ c.sp ∷ c.pc ∷ []
 
--- the context without its registers
+-- the context without the values of its registers
 unfoldable pub arm64_rest : CONTEXT_ARM64 → CONTEXT_ARM64
 arm64_rest c = record c { iregs = []; sp = 0; pc = 0 }
 
+<<<<<<< HEAD
 -- the values and the rest in Breakpad's first layout
+=======
+-- the same of Breakpad's first layout
+>>>>>>> 2977cc3dba978631c1d8ab5cb81cca3d5b74b9b8
 unfoldable pub arm64_old_values : CONTEXT_ARM64_OLD → List ℕ
 arm64_old_values c = map (slice_index c.iregs) (range_with_len 0 31) ++ c.sp ∷ c.pc ∷ []
 

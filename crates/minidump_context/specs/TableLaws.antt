@@ -1,4 +1,4 @@
--- The laws of each processor's table: as many values as names, each name its own row, each value the number at its place.
+-- The laws of each processor's table: there are as many values as names, each name stands for its own row, and each value is the number at its offset.
 use Rattle.std.specs.Prelude.{◌≡◌, refl, ℕ, List, [], codes, map, length}
 use Rattle.minidump_bytes.specs.declared.endian.Endian.{Endian}
 use Rattle.minidump_bytes.specs.Number.{number_at}
@@ -11,7 +11,7 @@ use Rattle.minidump_format.specs.ContextX86.{context_x86}
 use Rattle.minidump_format.specs.ContextAmd64.{context_amd64}
 use Rattle.minidump_format.specs.ContextArm.{context_arm}
 use Rattle.minidump_format.specs.ContextArm64.{context_arm64, context_arm64_old}
-use Rattle.minidump_context.specs.Register.{IsNamed, listed_name, place_of}
+use Rattle.minidump_context.specs.Register.{IsNamed, canonical_name, place_of}
 use Rattle.minidump_context.specs.X86.{x86_registers, x86_values}
 use Rattle.minidump_context.specs.Amd64.{amd64_registers, amd64_values}
 use Rattle.minidump_context.specs.Arm.{arm_registers, arm_aliases, arm_numbers, arm_values}
@@ -22,54 +22,59 @@ pub x86_as_many : (c : CONTEXT_X86) → length (x86_values c) ≡ length x86_reg
 unfolding x86_registers x86_values
 x86_as_many c = refl
 
-pub x86_placed : (order : Endian) (bytes : List ℕ) → map (λ n. n) (x86_values (context_x86.value order bytes)) ≡ map (λ row. number_at order 4 row.1 bytes) x86_registers
+pub x86_placed : (order : Endian) (bytes : List ℕ)
+    → map (λ n. n) (x86_values (context_x86.value order bytes)) ≡ map (λ row. number_at order 4 row.1 bytes) x86_registers
 unfolding x86_registers x86_values
 x86_placed order bytes = refl
 
 pub x86_named : IsNamed x86_registers [] (codes "esp") (codes "eip")
-unfolding x86_registers listed_name place_of
+unfolding x86_registers canonical_name place_of
 x86_named = record { listed = refl; aliased = refl; known = refl; stack_pointer_known = refl; instruction_pointer_known = refl }
 
 pub amd64_as_many : (c : CONTEXT_AMD64) → length (amd64_values c) ≡ length amd64_registers
 unfolding amd64_registers amd64_values
 amd64_as_many c = refl
 
-pub amd64_placed : (order : Endian) (bytes : List ℕ) → map (λ n. n) (amd64_values (context_amd64.value order bytes)) ≡ map (λ row. number_at order 8 row.1 bytes) amd64_registers
+pub amd64_placed : (order : Endian) (bytes : List ℕ)
+    → map (λ n. n) (amd64_values (context_amd64.value order bytes)) ≡ map (λ row. number_at order 8 row.1 bytes) amd64_registers
 unfolding amd64_registers amd64_values
 amd64_placed order bytes = refl
 
 pub amd64_named : IsNamed amd64_registers [] (codes "rsp") (codes "rip")
-unfolding amd64_registers listed_name place_of
+unfolding amd64_registers canonical_name place_of
 amd64_named = record { listed = refl; aliased = refl; known = refl; stack_pointer_known = refl; instruction_pointer_known = refl }
 
 pub arm_as_many : (c : CONTEXT_ARM) → length (arm_values c) ≡ length arm_registers
 unfolding arm_registers arm_values arm_numbers
 arm_as_many c = refl
 
-pub arm_placed : (order : Endian) (bytes : List ℕ) → map (λ n. n) (arm_values (context_arm.value order bytes)) ≡ map (λ row. number_at order 4 row.1 bytes) arm_registers
+pub arm_placed : (order : Endian) (bytes : List ℕ)
+    → map (λ n. n) (arm_values (context_arm.value order bytes)) ≡ map (λ row. number_at order 4 row.1 bytes) arm_registers
 unfolding arm_registers arm_values arm_numbers
 arm_placed order bytes = rw (numbers_by_place order 4 bytes 4 16) refl
 
 pub arm_named : IsNamed arm_registers arm_aliases (codes "sp") (codes "pc")
-unfolding arm_registers arm_aliases listed_name place_of
+unfolding arm_registers arm_aliases canonical_name place_of
 arm_named = record { listed = refl; aliased = refl; known = refl; stack_pointer_known = refl; instruction_pointer_known = refl }
 
 pub arm64_as_many : (c : CONTEXT_ARM64) → length (arm64_values c) ≡ length arm64_registers
 unfolding arm64_registers arm64_values
 arm64_as_many c = refl
 
-pub arm64_placed : (order : Endian) (bytes : List ℕ) → map (λ n. n) (arm64_values (context_arm64.value order bytes)) ≡ map (λ row. number_at order 8 row.1 bytes) arm64_registers
+pub arm64_placed : (order : Endian) (bytes : List ℕ)
+    → map (λ n. n) (arm64_values (context_arm64.value order bytes)) ≡ map (λ row. number_at order 8 row.1 bytes) arm64_registers
 unfolding arm64_registers arm64_values
 arm64_placed order bytes = rw (numbers_by_place order 8 bytes 8 31) refl
 
 pub arm64_named : IsNamed arm64_registers arm64_aliases (codes "sp") (codes "pc")
-unfolding arm64_registers arm64_aliases listed_name place_of
+unfolding arm64_registers arm64_aliases canonical_name place_of
 arm64_named = record { listed = refl; aliased = refl; known = refl; stack_pointer_known = refl; instruction_pointer_known = refl }
 
 pub arm64_old_as_many : (c : CONTEXT_ARM64_OLD) → length (arm64_old_values c) ≡ length arm64_registers
 unfolding arm64_registers arm64_old_values
 arm64_old_as_many c = refl
 
-pub arm64_old_placed : (order : Endian) (bytes : List ℕ) → map (λ n. n) (arm64_old_values (context_arm64_old.value order bytes)) ≡ map (λ row. number_at order 8 row.1 bytes) arm64_registers
+pub arm64_old_placed : (order : Endian) (bytes : List ℕ)
+    → map (λ n. n) (arm64_old_values (context_arm64_old.value order bytes)) ≡ map (λ row. number_at order 8 row.1 bytes) arm64_registers
 unfolding arm64_registers arm64_old_values
 arm64_old_placed order bytes = rw (numbers_by_place order 8 bytes 8 31) refl

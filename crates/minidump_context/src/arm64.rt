@@ -1,12 +1,15 @@
 use crate::{CpuContext, CpuRegisterNames};
 use minidump_format::format::{CONTEXT_ARM64, CONTEXT_ARM64_OLD};
 
-// The names of the registers, in both layouts.
+// The canonical names of the registers, the same for both layouts.
 const REGISTERS: &'static [&'static str] = &[
     "x0", "x1", "x2", "x3", "x4", "x5", "x6", "x7", "x8", "x9", "x10", "x11", "x12", "x13", "x14",
     "x15", "x16", "x17", "x18", "x19", "x20", "x21", "x22", "x23", "x24", "x25", "x26", "x27",
     "x28", "fp", "lr", "sp", "pc",
 ];
+
+// Each alias with the canonical name that it stands for, the same for both layouts.
+const ALIASES: &'static [(&'static str, &'static str)] = &[("x29", "fp"), ("x30", "lr")];
 
 impl CpuRegisterNames for CONTEXT_ARM64 {
     ghost use Rattle.minidump_context.specs.Arm64.{arm64_registers};
@@ -44,7 +47,7 @@ impl CpuContext for CONTEXT_ARM64 {
 
     #[tactic(auto, unfolding(crate::specs::Arm64::arm64_aliases))]
     fn aliases() -> &'static [(&'static str, &'static str)] {
-        &[("x29", "fp"), ("x30", "lr")]
+        ALIASES
     }
 
     #[tactic(auto, unfolding(crate::specs::Arm64::arm64_registers, crate::specs::Arm64::arm64_values))]
@@ -124,7 +127,7 @@ impl CpuContext for CONTEXT_ARM64_OLD {
 
     #[tactic(auto, unfolding(crate::specs::Arm64::arm64_aliases))]
     fn aliases() -> &'static [(&'static str, &'static str)] {
-        &[("x29", "fp"), ("x30", "lr")]
+        ALIASES
     }
 
     #[tactic(auto, unfolding(crate::specs::Arm64::arm64_registers, crate::specs::Arm64::arm64_old_values))]

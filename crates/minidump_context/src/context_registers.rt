@@ -1,11 +1,12 @@
 ghost use Rattle.std.specs.Prelude.{◌≡◌};
 ghost use Rattle.std.specs.Iterator.{YieldsFirstBy, item_count};
 ghost use Rattle.std.specs.Option.{option_copied};
-ghost use Rattle.minidump_context.specs.Register.{asked};
-ghost use Rattle.minidump_context.specs.Context.{context_registers_left, registers_of, valid_in};
+ghost use Rattle.minidump_context.specs.Register.{all_or};
+ghost use Rattle.minidump_context.specs.Context.{context_registers_left, registers_of, valid_value_in};
 
 use crate::{MinidumpContextValidity, MinidumpRawContext};
 
+<<<<<<< HEAD
 /// An iterator over the names and values of registers of a context, in the order of the list of names.
 #[derive(Clone, Drop)]
 pub struct ContextRegisters<'a> {
@@ -13,13 +14,22 @@ pub struct ContextRegisters<'a> {
     // The registers to return; `None` stands for all.
     pub(crate) valid: Option<&'a MinidumpContextValidity>,
     // The place in the list of the next name to look at.
+=======
+/// An iterator over the names and values of a context's registers, in the order of the list of names.
+#[derive(Clone, Drop)]
+pub struct ContextRegisters<'a> {
+    pub(crate) raw: &'a MinidumpRawContext,
+    // Which registers are yielded; `None` for all.
+    pub(crate) valid: Option<&'a MinidumpContextValidity>,
+    // The place in the list of names at which the search for the next register starts.
+>>>>>>> 2977cc3dba978631c1d8ab5cb81cca3d5b74b9b8
     pub(crate) place: usize,
 }
 
 impl<'a> ContextRegisters<'a> {
-    // What a register holds, where it is asked for.
-    fn asked(&self, name: &str) -> Option<u64>
-        ensures { result ≡ valid_in (asked (option_copied self.now.valid)) (registers_of self.now.raw.now) name.now }
+    // Returns the value of a register, or `None` if the iterator doesn't yield it.
+    fn yielded(&self, name: &str) -> Option<u64>
+        ensures { result ≡ valid_value_in (all_or (option_copied self.now.valid)) (registers_of self.now.raw.now) name.now }
     {
         match self.valid {
             Some(valid) => self.raw.get_register(name, valid),
@@ -40,7 +50,7 @@ impl<'a> Iterator for ContextRegisters<'a> {
         while self.place < names.len() {
             let name = names[self.place];
             self.place += 1;
-            if let Some(value) = self.asked(name) {
+            if let Some(value) = self.yielded(name) {
                 return Some((name, value));
             }
         }

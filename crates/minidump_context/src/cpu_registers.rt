@@ -1,10 +1,11 @@
 ghost use Rattle.std.specs.Prelude.{◌≡◌};
 ghost use Rattle.std.specs.Iterator.{YieldsFirstBy, item_count};
 ghost use Rattle.std.specs.Option.{option_copied};
-ghost use Rattle.minidump_context.specs.Register.{names_of, registers_left, is_valid, asked};
+ghost use Rattle.minidump_context.specs.Register.{names_of, registers_left, is_valid, all_or};
 
 use crate::{CpuContext, MinidumpContextValidity};
 
+<<<<<<< HEAD
 /// An iterator over the names and values of registers of a context, in the order of the list of names.
 #[derive(Clone, Drop)]
 pub struct CpuRegisters<'a, T> {
@@ -12,6 +13,15 @@ pub struct CpuRegisters<'a, T> {
     // The registers to return; `None` stands for all.
     pub(crate) valid: Option<&'a MinidumpContextValidity>,
     // The place in the list of the next name to look at.
+=======
+/// An iterator over the names and values of a context's registers, in the order of the list of names.
+#[derive(Clone, Drop)]
+pub struct CpuRegisters<'a, T> {
+    pub(crate) context: &'a T,
+    // Which registers are yielded; `None` for all.
+    pub(crate) valid: Option<&'a MinidumpContextValidity>,
+    // The place in the list of names at which the search for the next register starts.
+>>>>>>> 2977cc3dba978631c1d8ab5cb81cca3d5b74b9b8
     pub(crate) place: usize,
 }
 
@@ -30,7 +40,7 @@ impl<'a, T: CpuContext> Iterator for CpuRegisters<'a, T> {
             let place = self.place;
             self.place += 1;
             let name = names[place];
-            if is_asked(self.context, name, self.valid) {
+            if is_yielded(self.context, name, self.valid) {
                 return Some((name, self.context.register_at(place)));
             }
         }
@@ -38,9 +48,13 @@ impl<'a, T: CpuContext> Iterator for CpuRegisters<'a, T> {
     }
 }
 
-// Whether a name is that of a register that is asked for.
-fn is_asked<T: CpuContext>(context: &T, name: &str, valid: Option<&MinidumpContextValidity>) -> bool
-    ensures { result ≡ is_valid (asked (option_copied valid.entry)) (names_of T.table) T.aliases name.now }
+// Returns whether the iterator yields the register of a name.
+fn is_yielded<T: CpuContext>(
+    context: &T,
+    name: &str,
+    valid: Option<&MinidumpContextValidity>,
+) -> bool
+    ensures { result ≡ is_valid (all_or (option_copied valid.entry)) (names_of T.table) T.aliases name.now }
 {
     match valid {
         Some(valid) => context.register_is_valid(name, valid),

@@ -1,13 +1,17 @@
 ghost use Rattle.std.specs.Prelude.{◌≡◌, map};
 ghost use Rattle.minidump_context.specs.Register.{names_of};
-ghost use Rattle.minidump_context.specs.Context.{registers_of, valid_in};
+ghost use Rattle.minidump_context.specs.Context.{registers_of, valid_value_in};
 
 use crate::{CpuContext, MinidumpContextValidity, RegisterNumber};
 use minidump_format::format::{
     CONTEXT_AMD64, CONTEXT_ARM, CONTEXT_ARM64, CONTEXT_ARM64_OLD, CONTEXT_X86,
 };
 
+<<<<<<< HEAD
 /// The registers of a thread, in the layout of its processor.
+=======
+/// The context of a thread, in the record of its processor.
+>>>>>>> 2977cc3dba978631c1d8ab5cb81cca3d5b74b9b8
 #[derive(Clone, Copy)]
 pub enum MinidumpRawContext {
     X86(CONTEXT_X86),
@@ -43,7 +47,7 @@ impl MinidumpRawContext {
 
     // Returns the value of a register, or `None` if it isn't valid.
     pub(crate) fn get_register(&self, reg: &str, valid: &MinidumpContextValidity) -> Option<u64>
-        ensures { result ≡ valid_in valid.now (registers_of self.now) reg.now }
+        ensures { result ≡ valid_value_in valid.now (registers_of self.now) reg.now }
     {
         with_context!(self, context => context.get_register(reg, valid).map(|n| n.to_u64()))
     }

@@ -10,9 +10,9 @@ use std::collections::HashSet;
 /// Which registers of a context are valid.
 #[derive(PartialEq, Eq, Drop)]
 pub enum MinidumpContextValidity {
-    /// All registers.
+    /// All registers are valid.
     All,
-    /// The registers with the canonical name or an alias in the set.
+    /// The registers with a name in the set are valid, be it the canonical name or an alias.
     Some(HashSet<&'static str>),
 }
 
@@ -30,7 +30,7 @@ impl MinidumpContextValidity {
         }
     }
 
-    // Tests whether the set has a name.
+    // Returns whether the set has a name.
     fn holds(&self, name: &str) -> bool
         ensures { result ≡ holds self.now name.now }
     {
@@ -40,19 +40,23 @@ impl MinidumpContextValidity {
         }
     }
 
-    // Tests whether the set has a canonical name or one of its aliases.
-    pub(crate) fn holds_any(&self, aliases: &[(&'static str, &'static str)], listed: &str) -> bool
-        ensures { result ≡ holds_any self.now (map (λ a. (a.0.now, a.1.now)) aliases.now) listed.now }
+    // Returns whether the set has a canonical name or an alias of it.
+    pub(crate) fn holds_any(
+        &self,
+        aliases: &[(&'static str, &'static str)],
+        canonical: &str,
+    ) -> bool
+        ensures { result ≡ holds_any self.now (map (λ a. (a.0.now, a.1.now)) aliases.now) canonical.now }
     {
-        self.holds(listed) || self.holds_alias(aliases, listed)
+        self.holds(canonical) || self.holds_alias(aliases, canonical)
     }
 
-    // Tests whether the set has an alias of a canonical name.
-    fn holds_alias(&self, aliases: &[(&'static str, &'static str)], listed: &str) -> bool
-        ensures { result ≡ list_any (λ a. bytes_eq a.1.now listed.now && holds self.now a.0.now) aliases.now }
+    // Returns whether the set has an alias of a canonical name.
+    fn holds_alias(&self, aliases: &[(&'static str, &'static str)], canonical: &str) -> bool
+        ensures { result ≡ list_any (λ a. bytes_eq a.1.now canonical.now && holds self.now a.0.now) aliases.now }
     {
         aliases
             .iter()
-            .any(|alias| alias.1 == listed && self.holds(alias.0))
+            .any(|alias| alias.1 == canonical && self.holds(alias.0))
     }
 }

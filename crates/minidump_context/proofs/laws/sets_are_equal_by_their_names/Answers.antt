@@ -1,4 +1,4 @@
--- The names of two sets, as the sets see them.
+-- Two sets are equal if each name is in both or in neither.
 use Rattle.std.proofs.Common.{refl, Bor, List, ℕ}
 use Rattle.std.specs.Cmp.{IsEquivalence}
 use Rattle.std.specs.Str.{bytes_eq}

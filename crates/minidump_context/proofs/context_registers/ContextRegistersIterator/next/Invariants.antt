@@ -1,4 +1,4 @@
--- What is left stays the same over registers that are passed over.
+-- Passing over a register that is not yielded keeps what is left.
 use Rattle.std.proofs.Common.{length, ◌-◌, ◌≡◌, map}
 use Rattle.minidump_context.specs.Context.{context_registers_left, registers_of}
 use Rattle.minidump_context.proofs.context_registers.ContextRegistersIterator.next.Given as goal

@@ -1,4 +1,4 @@
--- What is left stays the same over registers that are passed over.
+-- Passing over a register that is not yielded keeps what is left.
 use Rattle.std.proofs.Common.{length, ◌-◌, ◌≡◌}
 use Rattle.minidump_context.specs.Register.{names_of, registers_left}
 use Rattle.minidump_context.proofs.cpu_registers.CpuRegistersIterator.next.Given as goal

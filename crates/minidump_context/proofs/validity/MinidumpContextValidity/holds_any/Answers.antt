@@ -1,4 +1,4 @@
--- The aliases, as they are seen.
+-- The borrowed aliases, mapped to what is borrowed.
 use Rattle.std.proofs.Common.{refl, List, ℕ}
 use Rattle.minidump_context.specs.Register.{holds_any}
 use Rattle.minidump_context.proofs.NameLemmas.{list_any-map}
