@@ -2,11 +2,7 @@
 use Rattle.std.specs.Prelude.{ℕ, List, [], ◌∷◌, codes}
 use Rattle.minidump_format.specs.declared.format.context.amd64.CONTEXT_AMD64.{CONTEXT_AMD64}
 
-<<<<<<< HEAD
--- the canonical name of each register and its place in the record, in bytes
-=======
 -- the canonical name of each register and its offset in the record
->>>>>>> 2977cc3dba978631c1d8ab5cb81cca3d5b74b9b8
 unfoldable pub amd64_registers : List (List ℕ × ℕ)
 amd64_registers =
     (codes "rax", 120) ∷
@@ -28,11 +24,7 @@ amd64_registers =
     (codes "rip", 248) ∷
     []
 
-<<<<<<< HEAD
--- the value of each register, in the order of the table
-=======
 -- their values, in the order of the table
->>>>>>> 2977cc3dba978631c1d8ab5cb81cca3d5b74b9b8
 unfoldable pub amd64_values : CONTEXT_AMD64 → List ℕ
 amd64_values c = c.rax ∷ c.rdx ∷ c.rcx ∷ c.rbx ∷ c.rsi ∷ c.rdi ∷ c.rbp ∷ c.rsp ∷ c.r8 ∷ c.r9 ∷ c.r10 ∷ c.r11 ∷ c.r12 ∷ c.r13 ∷ c.r14 ∷ c.r15 ∷ c.rip ∷ []
 

@@ -2,11 +2,7 @@
 use Rattle.std.specs.Prelude.{ℕ, List, [], ◌∷◌, codes, map, slice_index}
 use Rattle.minidump_format.specs.declared.format.context.arm.CONTEXT_ARM.{CONTEXT_ARM}
 
-<<<<<<< HEAD
--- the canonical name of each register and its place in the record, in bytes
-=======
 -- the canonical name of each register and its offset in the record
->>>>>>> 2977cc3dba978631c1d8ab5cb81cca3d5b74b9b8
 unfoldable pub arm_registers : List (List ℕ × ℕ)
 arm_registers =
     (codes "r0", 4) ∷
@@ -27,17 +23,6 @@ arm_registers =
     (codes "pc", 64) ∷
     []
 
-<<<<<<< HEAD
--- the aliases, each with the canonical name of its register
-unfoldable pub arm_aliases : List (List ℕ × List ℕ)
-arm_aliases = (codes "r11", codes "fp") ∷ (codes "r13", codes "sp") ∷ (codes "r14", codes "lr") ∷ (codes "r15", codes "pc") ∷ []
-
--- the place in `iregs` of each register of the table
-unfoldable pub arm_numbers : List ℕ
-arm_numbers = 0 ∷ 1 ∷ 2 ∷ 3 ∷ 4 ∷ 5 ∷ 6 ∷ 7 ∷ 8 ∷ 9 ∷ 10 ∷ 12 ∷ 11 ∷ 13 ∷ 14 ∷ 15 ∷ []
-
--- the value of each register, in the order of the table
-=======
 -- each alias with the canonical name that it stands for
 unfoldable pub arm_aliases : List (List ℕ × List ℕ)
 arm_aliases = (codes "r11", codes "fp") ∷ (codes "r13", codes "sp") ∷ (codes "r14", codes "lr") ∷ (codes "r15", codes "pc") ∷ []
@@ -47,7 +32,6 @@ unfoldable pub arm_numbers : List ℕ
 arm_numbers = 0 ∷ 1 ∷ 2 ∷ 3 ∷ 4 ∷ 5 ∷ 6 ∷ 7 ∷ 8 ∷ 9 ∷ 10 ∷ 12 ∷ 11 ∷ 13 ∷ 14 ∷ 15 ∷ []
 
 -- their values, in the order of the table
->>>>>>> 2977cc3dba978631c1d8ab5cb81cca3d5b74b9b8
 unfoldable pub arm_values : CONTEXT_ARM → List ℕ
 arm_values c = map (slice_index c.iregs) arm_numbers
 

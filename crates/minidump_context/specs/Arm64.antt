@@ -5,11 +5,7 @@ use Rattle.std.specs.List.{range_with_len}
 use Rattle.minidump_format.specs.declared.format.context.arm64.CONTEXT_ARM64.{CONTEXT_ARM64}
 use Rattle.minidump_format.specs.declared.format.context.arm64.CONTEXT_ARM64_OLD.{CONTEXT_ARM64_OLD}
 
-<<<<<<< HEAD
--- the canonical name of each register and its place in the record, in bytes
-=======
 -- the canonical name of each register and its offset in the record
->>>>>>> 2977cc3dba978631c1d8ab5cb81cca3d5b74b9b8
 unfoldable pub arm64_registers : List (List ℕ × ℕ)
 arm64_registers =
     (codes "x0", 8) ∷
@@ -47,19 +43,11 @@ arm64_registers =
     (codes "pc", 264) ∷
     []
 
-<<<<<<< HEAD
--- the aliases, each with the canonical name of its register
-unfoldable pub arm64_aliases : List (List ℕ × List ℕ)
-arm64_aliases = (codes "x29", codes "fp") ∷ (codes "x30", codes "lr") ∷ []
-
--- the value of each register, in the order of the table
-=======
 -- each alias with the canonical name that it stands for
 unfoldable pub arm64_aliases : List (List ℕ × List ℕ)
 arm64_aliases = (codes "x29", codes "fp") ∷ (codes "x30", codes "lr") ∷ []
 
 -- their values, in the order of the table
->>>>>>> 2977cc3dba978631c1d8ab5cb81cca3d5b74b9b8
 unfoldable pub arm64_values : CONTEXT_ARM64 → List ℕ
 arm64_values c = map (slice_index c.iregs) (range_with_len 0 31) ++ c.sp ∷ c.pc ∷ []
 
@@ -67,11 +55,7 @@ arm64_values c = map (slice_index c.iregs) (range_with_len 0 31) ++ c.sp ∷ c.p
 unfoldable pub arm64_rest : CONTEXT_ARM64 → CONTEXT_ARM64
 arm64_rest c = record c { iregs = []; sp = 0; pc = 0 }
 
-<<<<<<< HEAD
--- the values and the rest in Breakpad's first layout
-=======
 -- the same of Breakpad's first layout
->>>>>>> 2977cc3dba978631c1d8ab5cb81cca3d5b74b9b8
 unfoldable pub arm64_old_values : CONTEXT_ARM64_OLD → List ℕ
 arm64_old_values c = map (slice_index c.iregs) (range_with_len 0 31) ++ c.sp ∷ c.pc ∷ []
 

@@ -26,11 +26,7 @@ use Rattle.minidump_context.specs.Amd64.{amd64_registers, amd64_values}
 use Rattle.minidump_context.specs.Arm.{arm_registers, arm_aliases, arm_values}
 use Rattle.minidump_context.specs.Arm64.{arm64_registers, arm64_aliases, arm64_values, arm64_old_values}
 
-<<<<<<< HEAD
--- a result with its value mapped
-=======
 -- a result, with a function applied to its value
->>>>>>> 2977cc3dba978631c1d8ab5cb81cca3d5b74b9b8
 abbrev pub map_ok : {A B E : Type 0} → (A → B) → Result A E → Result B E
 map_ok f (Ok x) = Ok (f x)
 map_ok f (Err e) = Err e
@@ -40,34 +36,11 @@ abbrev pub is_of : ℕ → ℕ → Bool
 is_of processor flags = has_flag flags processor
     && list_all (λ row. nat_le 0x1000_0000 row.1 || (processor == row.1) || not (has_flag flags row.1)) context_flags
 
-<<<<<<< HEAD
--- a context with the flags of its processor; a missing one and one with other flags are refused
-=======
 -- a context that was read, if its flags are those of its processor
->>>>>>> 2977cc3dba978631c1d8ab5cb81cca3d5b74b9b8
 abbrev pub of_processor : {C : Type 0} → ℕ → (C → ℕ) → Option C → Result C ContextError
 of_processor processor flags None = Err ReadFailure
 of_processor processor flags (Some c) = if is_of processor (flags c) then Ok c else Err ReadFailure
 
-<<<<<<< HEAD
--- the context of a processor at the beginning of the bytes
-unfoldable pub accepted : {C : Type 0} → Layout C → ℕ → (C → ℕ) → Endian → List ℕ → Result C ContextError
-accepted layout processor flags order bytes = of_processor processor flags (record_at layout order 0 bytes)
-
--- the context of an architecture at the beginning of the bytes; in ARM64's old layout the flags are the low 32 bits of a field of 64
-abbrev pub context_of : Option ProcessorArchitecture → Endian → List ℕ → Result MinidumpRawContext ContextError
-context_of (Some PROCESSOR_ARCHITECTURE_INTEL) order bytes = map_ok X86 (accepted context_x86 0x1_0000 (λ c. c.context_flags) order bytes)
-context_of (Some PROCESSOR_ARCHITECTURE_IA32_ON_WIN64) order bytes = map_ok X86 (accepted context_x86 0x1_0000 (λ c. c.context_flags) order bytes)
-context_of (Some PROCESSOR_ARCHITECTURE_AMD64) order bytes = map_ok Amd64 (accepted context_amd64 0x10_0000 (λ c. c.context_flags) order bytes)
-context_of (Some PROCESSOR_ARCHITECTURE_ARM) order bytes = map_ok Arm (accepted context_arm 0x4000_0000 (λ c. c.context_flags) order bytes)
-context_of (Some PROCESSOR_ARCHITECTURE_ARM64) order bytes = map_ok Arm64 (accepted context_arm64 0x40_0000 (λ c. c.context_flags) order bytes)
-context_of (Some PROCESSOR_ARCHITECTURE_ARM64_OLD) order bytes = map_ok OldArm64 (accepted context_arm64_old 0x8000_0000 (λ c. c.context_flags % 2 ^ 32) order bytes)
-context_of architecture order bytes = Err UnknownCpuContext
-
--- the context at the beginning of the bytes, by the number of the architecture
-abbrev pub context_in : ℕ → Endian → List ℕ → Result MinidumpRawContext ContextError
-context_in architecture order bytes = context_of (architecture_of architecture) order bytes
-=======
 -- the context of one processor at the start of the bytes
 unfoldable pub accepted : {C : Type 0} → Layout C → ℕ → (C → ℕ) → Endian → List ℕ → Result C ContextError
 accepted layout processor flags order bytes = of_processor processor flags (record_at layout order 0 bytes)
@@ -86,7 +59,6 @@ context_of order bytes architecture = Err UnknownCpuContext
 -- the same, by the number of the architecture
 abbrev pub context_in : Endian → List ℕ → ℕ → Result MinidumpRawContext ContextError
 context_in order bytes architecture = context_of order bytes (architecture_of architecture)
->>>>>>> 2977cc3dba978631c1d8ab5cb81cca3d5b74b9b8
 
 -- the registers of a context: canonical names, aliases, values in the order of the names, the names of the pointers, and the size of each in bytes
 pub record Registers : Type 0 where
@@ -97,11 +69,7 @@ pub record Registers : Type 0 where
   pub instruction_pointer : List ℕ
   pub size : ℕ
 
-<<<<<<< HEAD
--- the registers of a context of each processor
-=======
 -- the registers of each processor's context
->>>>>>> 2977cc3dba978631c1d8ab5cb81cca3d5b74b9b8
 abbrev pub registers_of : MinidumpRawContext → Registers
 registers_of (X86 c) = record {
   names = names_of x86_registers;
@@ -144,19 +112,6 @@ registers_of (OldArm64 c) = record {
   size = 8;
 }
 
-<<<<<<< HEAD
--- the canonical name of the register that has a name or alias
-abbrev pub memoized_in : Registers → List ℕ → Option (List ℕ)
-memoized_in r name = memoized r.names r.aliases name
-
--- the value of the register that has a name or alias
-abbrev pub held_in : Registers → List ℕ → Option ℕ
-held_in r name = value_of r.names r.aliases r.values name
-
--- the value of the register that has a name or alias, if the register is valid
-abbrev pub valid_in : MinidumpContextValidity → Registers → List ℕ → Option ℕ
-valid_in valid r name = if is_valid valid r.names r.aliases name then held_in r name else None
-=======
 -- the canonical name of the register that has a name
 abbrev pub memoized_in : Registers → List ℕ → Option (List ℕ)
 memoized_in r name = memoized r.names r.aliases name
@@ -168,16 +123,11 @@ value_in r name = value_of r.names r.aliases r.values name
 -- its value, if it is valid
 abbrev pub valid_value_in : MinidumpContextValidity → Registers → List ℕ → Option ℕ
 valid_value_in valid r name = if is_valid valid r.names r.aliases name then value_in r name else None
->>>>>>> 2977cc3dba978631c1d8ab5cb81cca3d5b74b9b8
 
 -- the names and values of the valid registers, from a place of the list of names on
 unfoldable pub valid_registers_from : MinidumpContextValidity → Registers → ℕ → List (List ℕ × ℕ)
 valid_registers_from valid r place = filter_map (λ name. option_map (λ value. (name, value)) (valid_value_in valid r name)) (drop place r.names)
 
-<<<<<<< HEAD
--- the names and values that an iterator of registers has yet to return
-=======
 -- what an iterator over registers has left
->>>>>>> 2977cc3dba978631c1d8ab5cb81cca3d5b74b9b8
 abbrev pub context_registers_left : ContextRegisters → List (List ℕ × ℕ)
 context_registers_left s = valid_registers_from (all_or (option_copied s.valid)) (registers_of s.raw.now) s.place

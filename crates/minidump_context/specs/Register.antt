@@ -1,10 +1,5 @@
-<<<<<<< HEAD
--- Registers by name. The table of a processor has the canonical name of each register and its place in the record. An alias is
--- another name of a register of the table. A context has the value of each register, in the order of the table.
-=======
 -- Registers by name. A processor has a table of canonical names, each with its offset in the record, and aliases of some of them. A
 -- context has the list of its registers' values, in the order of the table.
->>>>>>> 2977cc3dba978631c1d8ab5cb81cca3d5b74b9b8
 use Rattle.std.specs.Prelude.{⊤, ◌≡◌, ℕ, ◌*◌, Bool, true, false, ◌||◌, ◌&&◌, List, [], ◌∷◌, ◌++◌, codes, drop, map, length, Option, Some, None, IsSome, is_some, if◌then◌else◌, position}
 use Rattle.std.specs.HashSet.{contains_by}
 use Rattle.std.specs.List.{slice_get, slice_set, list_all, list_any, filter, range_with_len, zip}
@@ -19,21 +14,12 @@ use Rattle.minidump_context.specs.declared.validity.MinidumpContextValidity.TheV
 abbrev pub names_of : List (List ℕ × ℕ) → List (List ℕ)
 names_of table = map (λ row. row.0) table
 
-<<<<<<< HEAD
--- the canonical name that an alias stands for, or the name itself if it is no alias
-unfoldable pub listed_name : List (List ℕ × List ℕ) → List ℕ → List ℕ
-listed_name [] name = name
-listed_name (alias ∷ rest) name = if bytes_eq alias.0 name then alias.1 else listed_name rest name
-
--- the place in the table of the register that has a name or alias
-=======
 -- the canonical name that a name is an alias of, or the name itself if it is none
 unfoldable pub canonical_name : List (List ℕ × List ℕ) → List ℕ → List ℕ
 canonical_name [] name = name
 canonical_name (alias ∷ rest) name = if bytes_eq alias.0 name then alias.1 else canonical_name rest name
 
 -- the place in the table of the register that has a name
->>>>>>> 2977cc3dba978631c1d8ab5cb81cca3d5b74b9b8
 unfoldable pub place_of : List (List ℕ) → List (List ℕ × List ℕ) → List ℕ → Option ℕ
 place_of names aliases name = position (λ n. bytes_eq n (canonical_name aliases name)) names
 
@@ -45,19 +31,11 @@ pub record IsNamed (table : List (List ℕ × ℕ)) (aliases : List (List ℕ ×
   pub stack_pointer_known : IsSome (place_of (names_of table) aliases stack_pointer)
   pub instruction_pointer_known : IsSome (place_of (names_of table) aliases instruction_pointer)
 
-<<<<<<< HEAD
--- the canonical name of the register that has a name or alias
-abbrev pub memoized : List (List ℕ) → List (List ℕ × List ℕ) → List ℕ → Option (List ℕ)
-memoized names aliases name = option_and_then (slice_get names) (place_of names aliases name)
-
--- the value of the register that has a name or alias, of the values of all registers
-=======
 -- the canonical name of the register that has a name
 abbrev pub memoized : List (List ℕ) → List (List ℕ × List ℕ) → List ℕ → Option (List ℕ)
 memoized names aliases name = option_and_then (slice_get names) (place_of names aliases name)
 
 -- its value, out of the values of all
->>>>>>> 2977cc3dba978631c1d8ab5cb81cca3d5b74b9b8
 abbrev pub value_of : {V : Type 0} → List (List ℕ) → List (List ℕ × List ℕ) → List V → List ℕ → Option V
 value_of names aliases values name = option_and_then (slice_get values) (place_of names aliases name)
 
@@ -66,11 +44,7 @@ abbrev pub holds : MinidumpContextValidity → List ℕ → Bool
 holds All name = true
 holds (These set) name = contains_by (λ k. bytes_eq name k.now) set
 
-<<<<<<< HEAD
--- whether a set of valid registers has a canonical name or one of its aliases
-=======
 -- whether it has a canonical name or an alias of it
->>>>>>> 2977cc3dba978631c1d8ab5cb81cca3d5b74b9b8
 unfoldable pub holds_any : MinidumpContextValidity → List (List ℕ × List ℕ) → List ℕ → Bool
 holds_any valid aliases canonical = holds valid canonical || list_any (λ a. bytes_eq a.1 canonical && holds valid a.0) aliases
 
@@ -82,11 +56,7 @@ is_valid valid names aliases name = option_map_or (holds_any valid aliases) (mem
 unfoldable pub valid_from : {V : Type 0} → MinidumpContextValidity → List (List ℕ) → List (List ℕ × List ℕ) → List V → ℕ → List (List ℕ × V)
 valid_from valid names aliases values place = filter (λ r. is_valid valid names aliases r.0) (drop place (zip names values))
 
-<<<<<<< HEAD
--- the register at a place of the table is changed, and nothing else; without a place nothing is changed
-=======
 -- only the register at a place of the table is changed; without a place nothing is
->>>>>>> 2977cc3dba978631c1d8ab5cb81cca3d5b74b9b8
 abbrev pub IsChanged : {C V : Type 0} → (C → List V) → (C → C) → C → C → V → Option ℕ → Type 0
 IsChanged values rest before after value None = after ≡ before
 IsChanged values rest before after value (Some place) = (values after ≡ slice_set (values before) place value) × (rest after ≡ rest before)
@@ -96,19 +66,11 @@ abbrev pub all_or : Option MinidumpContextValidity → MinidumpContextValidity
 all_or None = All
 all_or (Some valid) = valid
 
-<<<<<<< HEAD
--- the names and values that an iterator of registers has yet to return
-=======
 -- what an iterator over registers has left
->>>>>>> 2977cc3dba978631c1d8ab5cb81cca3d5b74b9b8
 abbrev pub registers_left : {C V : Type 0} → List (List ℕ) → List (List ℕ × List ℕ) → (C → List V) → CpuRegisters C → List (List ℕ × V)
 registers_left names aliases values s = valid_from (all_or (option_copied s.valid)) names aliases (values s.context.now) s.place
 
-<<<<<<< HEAD
--- the names of a set of valid registers, or none if all registers are valid
-=======
 -- the names of a set of valid registers, unless it is all
->>>>>>> 2977cc3dba978631c1d8ab5cb81cca3d5b74b9b8
 abbrev pub set_names : MinidumpContextValidity → Option (List (List ℕ))
 set_names All = None
 set_names (These set) = Some (map (λ k. k.now) set.keys)
@@ -119,10 +81,6 @@ IsSameValidity All All = ⊤
 IsSameValidity (These s) (These t) = (name : List ℕ) → contains_by (λ k. bytes_eq name k.now) s ≡ contains_by (λ k. bytes_eq name k.now) t
 IsSameValidity a b = ⊥
 
-<<<<<<< HEAD
--- the text of the value n of a register of `size` bytes: `0x` and two digits a byte
-=======
 -- the text of a register of so many bytes: `0x` and two hexadecimal digits a byte
->>>>>>> 2977cc3dba978631c1d8ab5cb81cca3d5b74b9b8
 abbrev pub register_text : ℕ → ℕ → List ℕ
 register_text size n = codes "0x" ++ wide_hex (2 * size) n

@@ -2,11 +2,7 @@
 use Rattle.std.specs.Prelude.{ℕ, List, [], ◌∷◌, codes}
 use Rattle.minidump_format.specs.declared.format.context.x86.CONTEXT_X86.{CONTEXT_X86}
 
-<<<<<<< HEAD
--- the canonical name of each register and its place in the record, in bytes
-=======
 -- the canonical name of each register and its offset in the record
->>>>>>> 2977cc3dba978631c1d8ab5cb81cca3d5b74b9b8
 unfoldable pub x86_registers : List (List ℕ × ℕ)
 x86_registers =
     (codes "eip", 184) ∷
@@ -21,11 +17,7 @@ x86_registers =
     (codes "eflags", 192) ∷
     []
 
-<<<<<<< HEAD
--- the value of each register, in the order of the table
-=======
 -- their values, in the order of the table
->>>>>>> 2977cc3dba978631c1d8ab5cb81cca3d5b74b9b8
 unfoldable pub x86_values : CONTEXT_X86 → List ℕ
 x86_values c = c.eip ∷ c.esp ∷ c.ebp ∷ c.ebx ∷ c.esi ∷ c.edi ∷ c.eax ∷ c.ecx ∷ c.edx ∷ c.eflags ∷ []
 

@@ -4,11 +4,7 @@ ghost use Rattle.minidump_context.specs.Arm.{arm_numbers};
 use crate::{CpuContext, CpuRegisterNames};
 use minidump_format::format::CONTEXT_ARM;
 
-<<<<<<< HEAD
-// The place in `iregs` of each register of the table.
-=======
 // The number of each register of the list: its index in `iregs`.
->>>>>>> 2977cc3dba978631c1d8ab5cb81cca3d5b74b9b8
 const NUMBERS: [usize; 16] = [0, 1, 2, 3, 4, 5, 6, 7, 8, 9, 10, 12, 11, 13, 14, 15];
 
 #[tactic(auto, unfolding(crate::specs::Arm::arm_numbers))]

@@ -46,19 +46,11 @@ impl MinidumpContext {
         }
     }
 
-<<<<<<< HEAD
-    /// Reads the context at the beginning of `bytes`. The architecture of the system picks the layout; the
-    /// miscellaneous information is ignored. All registers of the context are valid. Takes no memory.
-    ///
-    /// Returns `UnknownCpuContext` if the architecture has no known layout. Returns `ReadFailure` if there are
-    /// too few bytes, if the low 32 bits of the flags lack the processor's bit, or if they have another
-=======
     /// Reads the context at the start of the bytes, in the layout of the system's architecture. All of its
     /// registers are valid. The misc information is not used. Takes no memory.
     ///
     /// Returns `UnknownCpuContext` if no layout is known for the architecture. Returns `ReadFailure` if there
     /// are too few bytes, or if the low 32 bits of the flags lack the processor's bit or have another
->>>>>>> 2977cc3dba978631c1d8ab5cb81cca3d5b74b9b8
     /// processor's bit below 0x10000000.
     pub fn read(
         bytes: &[u8],
@@ -87,24 +79,14 @@ impl MinidumpContext {
         with_context!(&self.raw, context => stack_pointer_of(context).to_u64())
     }
 
-<<<<<<< HEAD
-    /// Returns the canonical name of the register `reg`, which is its name in `general_purpose_registers`.
-    /// Returns `None` if `reg` is neither a canonical name nor an alias.
-=======
     /// Returns the canonical name of a register, or `None` if `reg` is not one.
->>>>>>> 2977cc3dba978631c1d8ab5cb81cca3d5b74b9b8
     pub fn memoize_register(&self, reg: &str) -> Option<&'static str>
         ensures { option_copied result ≡ memoized_in (registers_of self.now.raw) reg.now }
     {
         with_context!(&self.raw, context => context.memoize_register(reg))
     }
 
-<<<<<<< HEAD
-    /// Returns the value of the register `reg`, valid or not. `reg` must be a name that `memoize_register`
-    /// knows.
-=======
     /// Returns the value of a register. `memoize_register` must know its name.
->>>>>>> 2977cc3dba978631c1d8ab5cb81cca3d5b74b9b8
     pub fn get_register_always(&self, reg: &str) -> u64
         requires { IsSome (memoized_in (registers_of self.now.raw) reg.now) }
         ensures { value_in (registers_of self.now.raw) reg.now ≡ Some result }
@@ -112,24 +94,15 @@ impl MinidumpContext {
         with_context!(&self.raw, context => context.get_register_always(reg).to_u64())
     }
 
-<<<<<<< HEAD
-    /// Returns the value of the register `reg`, or `None` if `reg` names no valid register.
-=======
     /// Returns the value of a register, or `None` if it isn't valid.
->>>>>>> 2977cc3dba978631c1d8ab5cb81cca3d5b74b9b8
     pub fn get_register(&self, reg: &str) -> Option<u64>
         ensures { result ≡ valid_value_in self.now.valid (registers_of self.now.raw) reg.now }
     {
         self.raw.get_register(reg, &self.valid)
     }
 
-<<<<<<< HEAD
-    /// Formats the value of the register `reg` as `0x` and two hexadecimal digits for each byte. `reg` must be
-    /// a name that `memoize_register` knows. The only error is `OutOfMemory`.
-=======
     /// Formats the value of a register as `0x` and two hexadecimal digits a byte. `memoize_register` must know
     /// its name. The only error is `OutOfMemory`.
->>>>>>> 2977cc3dba978631c1d8ab5cb81cca3d5b74b9b8
     pub fn format_register(&self, alloc: Global, reg: &str) -> Result<String, Error>
         requires { IsSome (memoized_in (registers_of self.now.raw) reg.now) }
         ensures text { IfOk result (λ text. IfSome (value_in (registers_of self.now.raw) reg.now)
@@ -139,11 +112,7 @@ impl MinidumpContext {
         with_context!(&self.raw, context => context.format_register(alloc, reg))
     }
 
-<<<<<<< HEAD
-    /// Returns the canonical name of each register.
-=======
     /// Returns the canonical names of the registers.
->>>>>>> 2977cc3dba978631c1d8ab5cb81cca3d5b74b9b8
     pub fn general_purpose_registers(&self) -> &'static [&'static str]
         ensures { map (λ n. n.now) result.now ≡ (registers_of self.now.raw).names }
     {
@@ -215,11 +184,7 @@ fn register_size_of<C: CpuContext>(_context: &C) -> usize
     <C::Register as Record>::SIZE
 }
 
-<<<<<<< HEAD
-// Reads the context of an architecture at the beginning of the bytes.
-=======
 // Reads the context of an architecture at the start of the bytes.
->>>>>>> 2977cc3dba978631c1d8ab5cb81cca3d5b74b9b8
 fn read_raw(
     bytes: &[u8],
     endian: Endian,
@@ -248,11 +213,7 @@ fn read_raw(
     }
 }
 
-<<<<<<< HEAD
-// Reads the context of a processor at the beginning of the bytes.
-=======
 // Reads the context of one processor at the start of the bytes, and checks its flags.
->>>>>>> 2977cc3dba978631c1d8ab5cb81cca3d5b74b9b8
 #[tactic(auto, unfolding(crate::specs::Context::accepted))]
 fn accepted<C: CpuContext + Drop>(bytes: &[u8], endian: Endian) -> Result<C, ContextError>
     ensures { result ≡ accepted C.layout C.processor C.flags endian bytes.now }
@@ -267,13 +228,8 @@ fn accepted<C: CpuContext + Drop>(bytes: &[u8], endian: Endian) -> Result<C, Con
     }
 }
 
-<<<<<<< HEAD
-// Tests whether flags have the bit of a processor, and no other processor's bit below 0x1000_0000. Those bits are,
-// in this order, of X86, MIPS, MIPS64, AMD64, ARM64 and PPC64.
-=======
 // Returns whether flags have the bit of `processor`, and of no other one below 0x1000_0000: X86, MIPS, MIPS64,
 // AMD64, ARM64 and PPC64, in this order.
->>>>>>> 2977cc3dba978631c1d8ab5cb81cca3d5b74b9b8
 #[tactic(auto, unfolding(minidump_format::specs::ContextFlags::context_flags))]
 fn is_of(processor: u32, flags: u32) -> bool
     ensures { result ≡ is_of processor flags }

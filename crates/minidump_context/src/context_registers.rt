@@ -6,15 +6,6 @@ ghost use Rattle.minidump_context.specs.Context.{context_registers_left, registe
 
 use crate::{MinidumpContextValidity, MinidumpRawContext};
 
-<<<<<<< HEAD
-/// An iterator over the names and values of registers of a context, in the order of the list of names.
-#[derive(Clone, Drop)]
-pub struct ContextRegisters<'a> {
-    pub(crate) raw: &'a MinidumpRawContext,
-    // The registers to return; `None` stands for all.
-    pub(crate) valid: Option<&'a MinidumpContextValidity>,
-    // The place in the list of the next name to look at.
-=======
 /// An iterator over the names and values of a context's registers, in the order of the list of names.
 #[derive(Clone, Drop)]
 pub struct ContextRegisters<'a> {
@@ -22,7 +13,6 @@ pub struct ContextRegisters<'a> {
     // Which registers are yielded; `None` for all.
     pub(crate) valid: Option<&'a MinidumpContextValidity>,
     // The place in the list of names at which the search for the next register starts.
->>>>>>> 2977cc3dba978631c1d8ab5cb81cca3d5b74b9b8
     pub(crate) place: usize,
 }
 

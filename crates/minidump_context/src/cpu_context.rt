@@ -12,17 +12,6 @@ use minidump_bytes::{FixedRead, Piece, Record, made};
 use minidump_format::Error;
 use std::alloc::Global;
 
-<<<<<<< HEAD
-/// The type of a register's value.
-pub trait RegisterNumber: FixedRead {
-    ghost number: { Self → ℕ };
-
-    /// Returns the value in 64 bits.
-    fn to_u64(self) -> u64
-        ensures { result ≡ number self };
-
-    /// Returns how many hexadecimal digits the greatest value has.
-=======
 /// The value of a register: a number.
 pub trait RegisterNumber: FixedRead {
     ghost number: { Self → ℕ };
@@ -32,7 +21,6 @@ pub trait RegisterNumber: FixedRead {
         ensures { result ≡ number self };
 
     /// Returns how many hexadecimal digits a value has at most.
->>>>>>> 2977cc3dba978631c1d8ab5cb81cca3d5b74b9b8
     fn hex_digits() -> usize
         ensures { result ≡ 2 * Self.SIZE };
 }
@@ -63,17 +51,10 @@ impl RegisterNumber for u64 {
 
 /// The names of the registers of a context.
 pub trait CpuRegisterNames {
-<<<<<<< HEAD
-    // the canonical name of each register and its place in the record, in bytes
-    ghost table: { List (List ℕ × ℕ) };
-
-    /// The canonical name of each general-purpose register.
-=======
     // the canonical name of each register and its offset in the record
     ghost table: { List (List ℕ × ℕ) };
 
     /// The canonical names of the general-purpose registers.
->>>>>>> 2977cc3dba978631c1d8ab5cb81cca3d5b74b9b8
     const REGISTERS: &'static [&'static str];
 
     /// Returns [`REGISTERS`](CpuRegisterNames::REGISTERS), which a contract can't name.
@@ -83,27 +64,16 @@ pub trait CpuRegisterNames {
 
 /// The context of a processor: its registers by name.
 pub trait CpuContext: CpuRegisterNames + Record {
-<<<<<<< HEAD
-    /// The value of a register.
-    type Register: RegisterNumber;
-
-    // the aliases of registers, each with the canonical name of its register
-=======
     /// The value of a register: `u32` or `u64`.
     type Register: RegisterNumber;
 
     // each alias with the canonical name that it stands for
->>>>>>> 2977cc3dba978631c1d8ab5cb81cca3d5b74b9b8
     ghost aliases: { List (List ℕ × List ℕ) };
 
     // the values of the registers, in the order of the table
     ghost values: { Self → List Self.Register };
 
-<<<<<<< HEAD
-    // what the context holds beside its registers
-=======
     // the context without the values of its registers
->>>>>>> 2977cc3dba978631c1d8ab5cb81cca3d5b74b9b8
     ghost rest: { Self → Self };
 
     // the processor's bit in the flags, and the flags of a context
@@ -116,28 +86,16 @@ pub trait CpuContext: CpuRegisterNames + Record {
 
     ghost instruction_pointer: { List ℕ };
 
-<<<<<<< HEAD
-    /// Returns the aliases of registers, each with the canonical name of its register.
-    fn aliases() -> &'static [(&'static str, &'static str)]
-        ensures { map (λ a. (a.0.now, a.1.now)) result.now ≡ aliases };
-
-    /// Returns the value of the register at a place of [`REGISTERS`](CpuRegisterNames::REGISTERS).
-=======
     /// Returns each alias with the canonical name that it stands for.
     fn aliases() -> &'static [(&'static str, &'static str)]
         ensures { map (λ a. (a.0.now, a.1.now)) result.now ≡ aliases };
 
     /// Returns the value of the register at a place of the list of names.
->>>>>>> 2977cc3dba978631c1d8ab5cb81cca3d5b74b9b8
     fn register_at(&self, place: usize) -> Self::Register
         requires { place < length Self.table }
         ensures { slice_get (values self.now) place ≡ Some result };
 
-<<<<<<< HEAD
-    /// Changes the register at a place of [`REGISTERS`](CpuRegisterNames::REGISTERS), and nothing else.
-=======
     /// Sets the register at a place of the list of names, and changes nothing else.
->>>>>>> 2977cc3dba978631c1d8ab5cb81cca3d5b74b9b8
     fn set_register_at(&mut self, place: usize, value: Self::Register)
         requires { place < length Self.table }
         ensures set { values self.new ≡ slice_set (values self.old) place value }
@@ -159,13 +117,7 @@ pub trait CpuContext: CpuRegisterNames + Record {
     fn instruction_pointer_register_name(&self) -> &'static str
         ensures { result.now ≡ instruction_pointer };
 
-<<<<<<< HEAD
-    /// Returns the canonical name of the register `reg`, which is its name in
-    /// [`REGISTERS`](CpuRegisterNames::REGISTERS). Returns `None` if `reg` is neither a canonical name nor an
-    /// alias.
-=======
     /// Returns the canonical name of a register, or `None` if `reg` is not one.
->>>>>>> 2977cc3dba978631c1d8ab5cb81cca3d5b74b9b8
     final fn memoize_register(&self, reg: &str) -> Option<&'static str>
         ensures { option_copied result ≡ memoized (names_of Self.table) aliases reg.now }
     {
@@ -174,12 +126,7 @@ pub trait CpuContext: CpuRegisterNames + Record {
         Some(names[place])
     }
 
-<<<<<<< HEAD
-    /// Returns whether `reg` names a valid register. A register is valid if `valid` is `All` or has any of its
-    /// names.
-=======
     /// Returns whether `reg` is a name of a valid register. A register is valid if the set has any of its names.
->>>>>>> 2977cc3dba978631c1d8ab5cb81cca3d5b74b9b8
     final fn register_is_valid(&self, reg: &str, valid: &MinidumpContextValidity) -> bool
         ensures { result ≡ is_valid valid.now (names_of Self.table) aliases reg.now }
     {
@@ -189,12 +136,7 @@ pub trait CpuContext: CpuRegisterNames + Record {
         }
     }
 
-<<<<<<< HEAD
-    /// Returns the value of the register `reg`, valid or not. `reg` must be a name that `memoize_register`
-    /// knows.
-=======
     /// Returns the value of a register. `memoize_register` must know its name.
->>>>>>> 2977cc3dba978631c1d8ab5cb81cca3d5b74b9b8
     final fn get_register_always(&self, reg: &str) -> Self::Register
         requires { IsSome (memoized (names_of Self.table) aliases reg.now) }
         ensures { value_of (names_of Self.table) aliases (values self.now) reg.now ≡ Some result }
@@ -203,11 +145,7 @@ pub trait CpuContext: CpuRegisterNames + Record {
         self.register_at(place)
     }
 
-<<<<<<< HEAD
-    /// Returns the value of the register `reg`, or `None` if `reg` names no valid register.
-=======
     /// Returns the value of a register, or `None` if it isn't valid.
->>>>>>> 2977cc3dba978631c1d8ab5cb81cca3d5b74b9b8
     final fn get_register(
         &self,
         reg: &str,
@@ -223,13 +161,8 @@ pub trait CpuContext: CpuRegisterNames + Record {
         }
     }
 
-<<<<<<< HEAD
-    /// Sets the register `reg` to `val`, and changes nothing else. All names of the register show the new
-    /// value. Returns `None`, and changes nothing, if `reg` names no register.
-=======
     /// Sets a register, under all of its names, and changes nothing else. Returns `None`, and changes nothing,
     /// if `reg` is not a register.
->>>>>>> 2977cc3dba978631c1d8ab5cb81cca3d5b74b9b8
     final fn set_register(&mut self, reg: &str, val: Self::Register) -> Option<()>
         ensures named { IsSome result ↔ IsSome (place_of (names_of Self.table) aliases reg.now) }
         ensures changed { IsChanged values rest self.old self.new val (place_of (names_of Self.table) aliases reg.now) }
@@ -239,13 +172,8 @@ pub trait CpuContext: CpuRegisterNames + Record {
         Some(())
     }
 
-<<<<<<< HEAD
-    /// Formats the value of the register `reg` as `0x` and two hexadecimal digits for each byte. `reg` must be
-    /// a name that `memoize_register` knows. The only error is `OutOfMemory`.
-=======
     /// Formats the value of a register as `0x` and two hexadecimal digits a byte. `memoize_register` must know
     /// its name. The only error is `OutOfMemory`.
->>>>>>> 2977cc3dba978631c1d8ab5cb81cca3d5b74b9b8
     final fn format_register(&self, alloc: Global, reg: &str) -> Result<String, Error>
         requires { IsSome (memoized (names_of Self.table) aliases reg.now) }
         ensures text { IfOk result (λ text. IfSome (value_of (names_of Self.table) aliases (values self.now) reg.now)
@@ -256,12 +184,7 @@ pub trait CpuContext: CpuRegisterNames + Record {
         Ok(made(alloc, &[Piece::Wide(value, Self::Register::hex_digits())])?)
     }
 
-<<<<<<< HEAD
-    /// Returns an iterator over the names and values of all registers, in the order of
-    /// [`REGISTERS`](CpuRegisterNames::REGISTERS).
-=======
     /// Returns an iterator over the names and values of all registers, in the order of the list of names.
->>>>>>> 2977cc3dba978631c1d8ab5cb81cca3d5b74b9b8
     final fn registers(&self) -> CpuRegisters<'_, Self>
         ensures { registers_left (names_of Self.table) aliases values result
             ≡ valid_from MinidumpContextValidity.All (names_of Self.table) aliases (values self.now) 0 }
@@ -273,12 +196,7 @@ pub trait CpuContext: CpuRegisterNames + Record {
         }
     }
 
-<<<<<<< HEAD
-    /// Returns an iterator over the names and values of the registers that are valid by `valid`, in the order
-    /// of [`REGISTERS`](CpuRegisterNames::REGISTERS).
-=======
     /// Returns an iterator over the names and values of the valid registers, in the order of the list of names.
->>>>>>> 2977cc3dba978631c1d8ab5cb81cca3d5b74b9b8
     final fn valid_registers<'a>(
         &'a self,
         valid: &'a MinidumpContextValidity,

@@ -5,15 +5,6 @@ ghost use Rattle.minidump_context.specs.Register.{names_of, registers_left, is_v
 
 use crate::{CpuContext, MinidumpContextValidity};
 
-<<<<<<< HEAD
-/// An iterator over the names and values of registers of a context, in the order of the list of names.
-#[derive(Clone, Drop)]
-pub struct CpuRegisters<'a, T> {
-    pub(crate) context: &'a T,
-    // The registers to return; `None` stands for all.
-    pub(crate) valid: Option<&'a MinidumpContextValidity>,
-    // The place in the list of the next name to look at.
-=======
 /// An iterator over the names and values of a context's registers, in the order of the list of names.
 #[derive(Clone, Drop)]
 pub struct CpuRegisters<'a, T> {
@@ -21,7 +12,6 @@ pub struct CpuRegisters<'a, T> {
     // Which registers are yielded; `None` for all.
     pub(crate) valid: Option<&'a MinidumpContextValidity>,
     // The place in the list of names at which the search for the next register starts.
->>>>>>> 2977cc3dba978631c1d8ab5cb81cca3d5b74b9b8
     pub(crate) place: usize,
 }
 

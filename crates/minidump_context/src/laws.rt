@@ -26,13 +26,8 @@ pub fn a_change_is_seen_under_all_names<T: CpuContext>()
         → value_of (names_of T.table) T.aliases (T.values after) name ≡ Some value }
 {}
 
-<<<<<<< HEAD
-/// A change of a register leaves every other register, and what the context holds beside registers, as it was.
-/// A change under a name that names no register leaves the whole context as it was.
-=======
 /// Every other register keeps its value, and so does what the context holds beside registers. A name of no
 /// register changes nothing.
->>>>>>> 2977cc3dba978631c1d8ab5cb81cca3d5b74b9b8
 pub fn nothing_else_is_changed<T: CpuContext>()
     ensures registers { (before after : T) (value : T.Register) (place : ℕ) (name : List ℕ)
         → IsChanged T.values T.rest before after value (Some place)
@@ -51,12 +46,7 @@ pub fn registers_stand_at_their_places<T: CpuContext>()
         ≡ map (λ row. number_at order T.Register.SIZE row.1 bytes) T.table }
 {}
 
-<<<<<<< HEAD
-/// Each canonical name names the register at its own place in the list. Each alias names the register of its
-/// canonical name.
-=======
 /// Each canonical name stands for the register of its own row, and each alias for that of its canonical name.
->>>>>>> 2977cc3dba978631c1d8ab5cb81cca3d5b74b9b8
 pub fn names_name_their_registers<T: CpuContext>()
     ensures listed { map (place_of (names_of T.table) T.aliases) (names_of T.table)
         ≡ map Some (range_with_len 0 (length T.table)) }
@@ -65,11 +55,7 @@ pub fn names_name_their_registers<T: CpuContext>()
     ensures known { list_all (λ a. is_some (place_of (names_of T.table) T.aliases a.0)) T.aliases ≡ true }
 {}
 
-<<<<<<< HEAD
-/// If the set has any name of a register, the register is valid under all of its names.
-=======
 /// A register is valid under each of its names if the set has any of them.
->>>>>>> 2977cc3dba978631c1d8ab5cb81cca3d5b74b9b8
 pub fn any_name_makes_a_register_valid<T: CpuContext>()
     ensures { (valid : MinidumpContextValidity) (name member : List ℕ) (place : ℕ)
         → place_of (names_of T.table) T.aliases name ≡ Some place
@@ -93,13 +79,8 @@ pub fn clones_are_the_same<T: CpuContext + Clone + 'static>()
         → ⟦<ContextRegisters<'static> as Clone>⟧.is_clone registers other → other ≡ registers }
 {}
 
-<<<<<<< HEAD
-/// The context of each processor has the table of registers, the aliases, the values and the rest that are
-/// defined for the processor.
-=======
 /// The table, the aliases, the values and the rest of each processor's context are those that the crate
 /// defines for that processor.
->>>>>>> 2977cc3dba978631c1d8ab5cb81cca3d5b74b9b8
 pub fn contexts_are_as_defined()
     ensures x86_table { ⟦<CONTEXT_X86 as CpuRegisterNames>⟧.table ≡ x86_registers }
     ensures x86_aliases { ⟦<CONTEXT_X86 as CpuContext>⟧.aliases ≡ [] }

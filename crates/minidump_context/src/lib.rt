@@ -1,17 +1,9 @@
 //! The contexts of threads: the registers of a processor by name.
 //!
-<<<<<<< HEAD
-//! - [`CpuContext`] is the context of one processor. `CONTEXT_X86`, `CONTEXT_AMD64`, `CONTEXT_ARM`,
-//!   `CONTEXT_ARM64` and `CONTEXT_ARM64_OLD` implement it. [`CpuRegisters`] iterates over its registers.
-//! - [`MinidumpContext`] is the context of any of these processors, a [`MinidumpRawContext`]. Its
-//!   [`MinidumpContextValidity`] tells which registers are valid. [`ContextRegisters`] iterates over its
-//!   registers.
-=======
 //! - [`CpuContext`] is the trait of one processor's context. `CONTEXT_X86`, `CONTEXT_AMD64`, `CONTEXT_ARM`,
 //!   `CONTEXT_ARM64` and `CONTEXT_ARM64_OLD` implement it. [`CpuRegisters`] iterates over the registers.
 //! - [`MinidumpContext`] is the context of any of these processors: its record, a [`MinidumpRawContext`], and
 //!   which registers are valid, a [`MinidumpContextValidity`]. [`ContextRegisters`] iterates over the registers.
->>>>>>> 2977cc3dba978631c1d8ab5cb81cca3d5b74b9b8
 //!
 //! # Errors
 //!
@@ -29,21 +21,12 @@
 //!   `names_name_their_registers`.
 //! - A register is valid if all are, or if the set has any of its names. A name of no register is never valid:
 //!   `register_is_valid`, `get_register`, by `is_valid`; `laws::any_name_makes_a_register_valid`. The valid
-<<<<<<< HEAD
-//!   registers come in the order of the list: `registers`, `valid_registers`.
-//! - `set_register` changes one register, under all of its names, and nothing else. With a name of no register
-//!   it changes nothing: by `IsChanged`; `laws::a_change_is_seen_under_all_names`, `nothing_else_is_changed`.
-//!   The tables, the values and the rest of each context: `laws::contexts_are_as_defined`.
-//! - Copies are the same, and sets of valid registers are equal by their names: `try_clone`,
-//!   `laws::clones_are_the_same`, `sets_are_equal_by_their_names`.
-=======
 //!   registers come in the order of the list of names: `registers`, `valid_registers`.
 //! - `set_register` changes one register, under all of its names, and nothing else. With a name of no register
 //!   it changes nothing: by `IsChanged`; `laws::a_change_is_seen_under_all_names`, `nothing_else_is_changed`.
 //!   What the table, the values and the rest of each context are: `laws::contexts_are_as_defined`.
 //! - A copy equals what it copies, and two sets of valid registers are equal if they have the same names:
 //!   `try_clone`, `laws::clones_are_the_same`, `sets_are_equal_by_their_names`.
->>>>>>> 2977cc3dba978631c1d8ab5cb81cca3d5b74b9b8
 //!
 //! It is not proved that the tables of names and offsets are those of the processors' makers: tests compare
 //! each register. Contexts have no `print` yet.

@@ -7,11 +7,7 @@ use minidump_format::format::{
     CONTEXT_AMD64, CONTEXT_ARM, CONTEXT_ARM64, CONTEXT_ARM64_OLD, CONTEXT_X86,
 };
 
-<<<<<<< HEAD
-/// The registers of a thread, in the layout of its processor.
-=======
 /// The context of a thread, in the record of its processor.
->>>>>>> 2977cc3dba978631c1d8ab5cb81cca3d5b74b9b8
 #[derive(Clone, Copy)]
 pub enum MinidumpRawContext {
     X86(CONTEXT_X86),
