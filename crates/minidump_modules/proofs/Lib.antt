@@ -7,6 +7,7 @@ mod KeptLemmas
 mod ListLemmas
 mod ListedLemmas
 mod OrderLemmas
+mod PaddedLemmas
 mod RestLemmas
 mod ShownLemmas
 pub mod UnloadedLaws

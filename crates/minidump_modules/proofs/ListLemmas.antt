@@ -79,14 +79,3 @@ module _ {R V M : Type 0} (read : R → Result V Error) (view : M → V) where
           let split : filter p xs ≡ filter p (take i xs) ++ x ∷ filter p (drop (i + 1) xs) =
           ap (filter p) (split_at xs i x rest next) ∙ filter-append p (take i xs) (x ∷ drop (i + 1) xs) ∙ ap (λ (l : List R). filter p (take i xs) ++ l) kept in
           rw split (first_refusal (filter p (take i xs)) (filter p (drop (i + 1) xs)) x ms e so_far one)
-
--- a refusal of a part is that of the whole, where the part is refused by the whole's rule
-refused : {M N A B : Type 0} (e : Error) (part : Result A Error) (whole : Result B Error) → (M → N) → (part ≡ Err e → whole ≡ Err e) → Refuses M e part
-    → Refuses N e whole
-refused OutOfMemory part whole memory rule h = memory h
-refused e part whole memory rule h = rule h
-
--- the exit of a `?`: where a part was refused
-pub gives_exit : {M N X A B : Type 0} (view : X → B) (r : Result X Error) (e : Error) (part : Result A Error) (whole : Result B Error) → IsErrAnd r (λ y. y ≡ e)
-    → (M → N) → Refuses M e part → (part ≡ Err e → whole ≡ Err e) → Gives view N r whole
-gives_exit view r e part whole exit memory refusal rule = let p = err_from_is_err_and r exit in rw (p.1, p.2) (refused e part whole memory rule refusal)
