@@ -1,6 +1,7 @@
 -- The valid registers of any context, from a place of the list of names on.
-use Rattle.std.proofs.Common.{◌≡◌, refl, ℕ, zero, suc, ◌+◌, ◌≤◌, List, [], ◌∷◌, length, drop, Some, None, arith, add-one}
+use Rattle.std.proofs.Common.{◌≡◌, refl, ℕ, zero, suc, ◌+◌, ◌≤◌, List, [], ◌∷◌, length, drop, Some, None, add-one}
 use Rattle.std.specs.List.{slice_get}
+use Rattle.std.proofs.lemmas.List.{drop_all}
 use Rattle.minidump_context.specs.declared.validity.MinidumpContextValidity.{MinidumpContextValidity}
 use Rattle.minidump_context.specs.Context.{Registers, valid_value_in, valid_registers_from}
 
@@ -10,23 +11,18 @@ from_place [] i x at = cc
 from_place (y ∷ xs) zero x at = let same : y ≡ x = cc in rw same refl
 from_place (y ∷ xs) (suc i) x at = from_place xs i x at
 
-past : {X : Type 0} (xs : List X) (i : ℕ) → length xs ≤ i → drop i xs ≡ []
-past [] zero within = refl
-past [] (suc i) within = refl
-past (x ∷ xs) zero within = absurd (omega arith)
-past (x ∷ xs) (suc i) within = past xs i (omega arith)
-
 pub valid_registers_more : (valid : MinidumpContextValidity) (r : Registers) (i : ℕ) (n : List ℕ) (v : ℕ)
     → slice_get r.names i ≡ Some n → valid_value_in valid r n ≡ Some v
     → valid_registers_from valid r i ≡ (n, v) ∷ valid_registers_from valid r (i + 1)
 unfolding valid_registers_from
 valid_registers_more valid r i n v at known = rw (from_place r.names i n at, known, add-one) refl
 
-pub valid_registers_skip : (valid : MinidumpContextValidity) (r : Registers) (i : ℕ) (n : List ℕ) → slice_get r.names i ≡ Some n → valid_value_in valid r n ≡ None
+pub valid_registers_skip : (valid : MinidumpContextValidity) (r : Registers) (i : ℕ) (n : List ℕ)
+    → slice_get r.names i ≡ Some n → valid_value_in valid r n ≡ None
     → valid_registers_from valid r i ≡ valid_registers_from valid r (i + 1)
 unfolding valid_registers_from
 valid_registers_skip valid r i n at unknown = rw (from_place r.names i n at, unknown, add-one) refl
 
 pub valid_registers_end : (valid : MinidumpContextValidity) (r : Registers) (i : ℕ) → length r.names ≤ i → valid_registers_from valid r i ≡ []
 unfolding valid_registers_from
-valid_registers_end valid r i within = rw (past r.names i within) refl
+valid_registers_end valid r i within = rw (drop_all i r.names within) refl
