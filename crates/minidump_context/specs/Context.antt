@@ -69,48 +69,24 @@ pub record Registers : Type 0 where
   pub instruction_pointer : List ℕ
   pub size : ℕ
 
+-- the registers of a context, by the table, the aliases, the values, the names of the stack and the instruction pointer, and the size of each
+abbrev pub registers_by : List (List ℕ × ℕ) → List (List ℕ × List ℕ) → List ℕ → List ℕ → List ℕ → ℕ → Registers
+registers_by table aliases values stack_pointer instruction_pointer size = record {
+  names = names_of table;
+  aliases = aliases;
+  values = values;
+  stack_pointer = stack_pointer;
+  instruction_pointer = instruction_pointer;
+  size = size;
+}
+
 -- the registers of each processor's context
 abbrev pub registers_of : MinidumpRawContext → Registers
-registers_of (X86 c) = record {
-  names = names_of x86_registers;
-  aliases = [];
-  values = x86_values c;
-  stack_pointer = codes "esp";
-  instruction_pointer = codes "eip";
-  size = 4;
-}
-registers_of (Amd64 c) = record {
-  names = names_of amd64_registers;
-  aliases = [];
-  values = amd64_values c;
-  stack_pointer = codes "rsp";
-  instruction_pointer = codes "rip";
-  size = 8;
-}
-registers_of (Arm c) = record {
-  names = names_of arm_registers;
-  aliases = arm_aliases;
-  values = arm_values c;
-  stack_pointer = codes "sp";
-  instruction_pointer = codes "pc";
-  size = 4;
-}
-registers_of (Arm64 c) = record {
-  names = names_of arm64_registers;
-  aliases = arm64_aliases;
-  values = arm64_values c;
-  stack_pointer = codes "sp";
-  instruction_pointer = codes "pc";
-  size = 8;
-}
-registers_of (OldArm64 c) = record {
-  names = names_of arm64_registers;
-  aliases = arm64_aliases;
-  values = arm64_old_values c;
-  stack_pointer = codes "sp";
-  instruction_pointer = codes "pc";
-  size = 8;
-}
+registers_of (X86 c) = registers_by x86_registers [] (x86_values c) (codes "esp") (codes "eip") 4
+registers_of (Amd64 c) = registers_by amd64_registers [] (amd64_values c) (codes "rsp") (codes "rip") 8
+registers_of (Arm c) = registers_by arm_registers arm_aliases (arm_values c) (codes "sp") (codes "pc") 4
+registers_of (Arm64 c) = registers_by arm64_registers arm64_aliases (arm64_values c) (codes "sp") (codes "pc") 8
+registers_of (OldArm64 c) = registers_by arm64_registers arm64_aliases (arm64_old_values c) (codes "sp") (codes "pc") 8
 
 -- the canonical name of the register that has a name
 abbrev pub memoized_in : Registers → List ℕ → Option (List ℕ)

@@ -1,4 +1,5 @@
--- The laws of each processor's table: there are as many values as names, each name stands for its own row, and each value is the number at its offset.
+-- The laws of each processor's table, which its `impl` of `CpuContext` cites: there are as many values as names, each name stands for
+-- its own row, and each value is the number at its offset.
 use Rattle.std.specs.Prelude.{◌≡◌, refl, ℕ, List, [], codes, map, length}
 use Rattle.minidump_bytes.specs.declared.endian.Endian.{Endian}
 use Rattle.minidump_bytes.specs.Number.{number_at}
@@ -16,7 +17,7 @@ use Rattle.minidump_context.specs.X86.{x86_registers, x86_values}
 use Rattle.minidump_context.specs.Amd64.{amd64_registers, amd64_values}
 use Rattle.minidump_context.specs.Arm.{arm_registers, arm_aliases, arm_numbers, arm_values}
 use Rattle.minidump_context.specs.Arm64.{arm64_registers, arm64_aliases, arm64_values, arm64_old_values}
-use Rattle.minidump_bytes.proofs.ArrayLemmas.{numbers_by_place}
+use Rattle.minidump_bytes.proofs.ArrayLemmas.{numbers_by_offset}
 
 pub x86_as_many : (c : CONTEXT_X86) → length (x86_values c) ≡ length x86_registers
 unfolding x86_registers x86_values
@@ -51,7 +52,7 @@ arm_as_many c = refl
 pub arm_placed : (order : Endian) (bytes : List ℕ)
     → map (λ n. n) (arm_values (context_arm.value order bytes)) ≡ map (λ row. number_at order 4 row.1 bytes) arm_registers
 unfolding arm_registers arm_values arm_numbers
-arm_placed order bytes = rw (numbers_by_place order 4 bytes 4 16) refl
+arm_placed order bytes = rw (numbers_by_offset order 4 bytes 4 16) refl
 
 pub arm_named : IsNamed arm_registers arm_aliases (codes "sp") (codes "pc")
 unfolding arm_registers arm_aliases canonical_name place_of
@@ -64,7 +65,7 @@ arm64_as_many c = refl
 pub arm64_placed : (order : Endian) (bytes : List ℕ)
     → map (λ n. n) (arm64_values (context_arm64.value order bytes)) ≡ map (λ row. number_at order 8 row.1 bytes) arm64_registers
 unfolding arm64_registers arm64_values
-arm64_placed order bytes = rw (numbers_by_place order 8 bytes 8 31) refl
+arm64_placed order bytes = rw (numbers_by_offset order 8 bytes 8 31) refl
 
 pub arm64_named : IsNamed arm64_registers arm64_aliases (codes "sp") (codes "pc")
 unfolding arm64_registers arm64_aliases canonical_name place_of
@@ -77,4 +78,4 @@ arm64_old_as_many c = refl
 pub arm64_old_placed : (order : Endian) (bytes : List ℕ)
     → map (λ n. n) (arm64_old_values (context_arm64_old.value order bytes)) ≡ map (λ row. number_at order 8 row.1 bytes) arm64_registers
 unfolding arm64_registers arm64_old_values
-arm64_old_placed order bytes = rw (numbers_by_place order 8 bytes 8 31) refl
+arm64_old_placed order bytes = rw (numbers_by_offset order 8 bytes 8 31) refl

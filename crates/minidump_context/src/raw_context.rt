@@ -18,7 +18,7 @@ pub enum MinidumpRawContext {
     OldArm64(CONTEXT_ARM64_OLD),
 }
 
-// Evaluates one expression for the context of whichever processor.
+// Evaluates an expression with the context record, whichever processor's it is.
 macro_rules! with_context {
     ($raw:expr, $context:ident => $body:expr) => {
         match $raw {
@@ -34,7 +34,7 @@ macro_rules! with_context {
 pub(crate) use with_context;
 
 impl MinidumpRawContext {
-    // Returns the name of each register.
+    // Returns the canonical names of the registers.
     pub(crate) fn names(&self) -> &'static [&'static str]
         ensures { map (λ n. n.now) result.now ≡ (registers_of self.now).names }
     {

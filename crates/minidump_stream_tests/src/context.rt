@@ -12,7 +12,7 @@ use std::alloc::{AllocError, Global};
 use std::collections::HashSet;
 use std::test::Fail;
 
-// The context of an architecture, of a dump in some byte order.
+// Reads the context of an architecture, in a dump of some byte order.
 fn read(
     alloc: Global,
     bytes: &[u8],
@@ -23,7 +23,7 @@ fn read(
     Ok(MinidumpContext::read(bytes, endian, &system, None))
 }
 
-// An architecture, the flags of a context and its length, and why it is refused, if it is.
+// In each row: an architecture, the flags and the length of a context, and why it is refused, if it is.
 #[rattlefmt::skip]
 const REFUSED: &[(u16, u64, usize, Option<ContextError>)] = &[
     (0, 0x1003f, 715, Some(ContextError::ReadFailure)),
@@ -47,7 +47,7 @@ const REFUSED: &[(u16, u64, usize, Option<ContextError>)] = &[
     (0x8003, 0x8000_0006_0000_0000, 796, Some(ContextError::ReadFailure)),
 ];
 
-// Whether a context of zeros but for its flags is answered so.
+// Whether a context that is zero but for its flags is read or refused as the row says.
 fn is_answered(
     alloc: Global,
     row: &(u16, u64, usize, Option<ContextError>),
@@ -67,7 +67,7 @@ fn a_context_is_accepted_by_its_length_and_flags(rt: HostRuntime) -> Result<(), 
     Ok(())
 }
 
-// The registers of each context, with their places in the record.
+// The registers of each context, with their offsets in the record.
 type Table = &'static [(&'static str, usize)];
 
 #[rattlefmt::skip]
@@ -104,7 +104,7 @@ fn has_names<C: CpuRegisterNames>(table: Table) -> bool {
     C::REGISTERS.len() == table.len() && C::REGISTERS.iter().zip(table).all(is_it)
 }
 
-// Bytes that each are their place, counted again from 0 after 250.
+// Bytes that each hold their own offset, modulo 251.
 fn marked<const N: usize>() -> [u8; N] {
     let mut bytes = [0; N];
     for i in 0..N {
@@ -113,7 +113,7 @@ fn marked<const N: usize>() -> [u8; N] {
     bytes
 }
 
-// The big-endian number of so many bytes at a place of marked bytes.
+// The big-endian number of `size` bytes at an offset of marked bytes.
 fn number_at(place: usize, size: usize) -> u64 {
     let mut number = 0;
     for i in 0..size {
@@ -122,7 +122,7 @@ fn number_at(place: usize, size: usize) -> u64 {
     number
 }
 
-// An architecture, the place of the flags of its contexts and the flags, the size of its registers, and these.
+// In each row: an architecture, the offset and the bytes of the flags, the size of a register, and the registers.
 #[rattlefmt::skip]
 const CONTEXTS: &[(u16, usize, &[u8], usize, Table)] = &[
     (0, 0, &[0, 1, 0, 0], 4, X86),
@@ -181,7 +181,7 @@ fn arm64() -> CONTEXT_ARM64 {
     CONTEXT_ARM64::decode(&[0; 912], Endian::Little)
 }
 
-// Names, each with the name of the list for it.
+// Names of registers, each with its canonical name, and names that are none.
 #[rattlefmt::skip]
 const ARM_NAMES: &[(&str, Option<&str>)] = &[
     ("r11", Some("fp")), ("fp", Some("fp")), ("r13", Some("sp")), ("r14", Some("lr")), ("r15", Some("pc")),
@@ -193,14 +193,16 @@ const ARM64_NAMES: &[(&str, Option<&str>)] = &[
     ("x29", Some("fp")), ("x30", Some("lr")), ("r11", None), ("x31", None),
 ];
 
-fn are_listed<C: CpuContext>(context: &C, rows: &[(&str, Option<&str>)]) -> bool {
+fn have_canonical_names<C: CpuContext>(context: &C, rows: &[(&str, Option<&str>)]) -> bool {
     rows.iter()
         .all(|row| context.memoize_register(row.0) == row.1)
 }
 
 #[test]
-fn an_alias_stands_for_its_listed_name(rt: HostRuntime) {
-    assert!(rt; are_listed(&arm(), ARM_NAMES) && are_listed(&arm64(), ARM64_NAMES));
+fn an_alias_stands_for_its_canonical_name(rt: HostRuntime) {
+    assert!(rt;
+        have_canonical_names(&arm(), ARM_NAMES) && have_canonical_names(&arm64(), ARM64_NAMES)
+    );
     let context = MinidumpContext::from_raw(MinidumpRawContext::Arm64(arm64()));
     assert!(rt; context.memoize_register("x30") == Some("lr"));
 }
