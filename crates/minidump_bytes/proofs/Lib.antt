@@ -4,6 +4,7 @@ pub mod LeftLemmas
 pub mod ListLemmas
 pub mod EntryLemmas
 pub mod DigitLemmas
+pub mod FixedHexLemmas
 pub mod HexLemmas
 pub mod KeyLemmas
 pub mod LinuxTextLemmas

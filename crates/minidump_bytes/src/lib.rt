@@ -6,7 +6,8 @@
 //! - [`Record`] is a type that takes a fixed number of bytes, [`Entries`] yields consecutive ones,
 //!   [`Endian`] is the byte order, [`WireField`] a field of a Protocol Buffers message.
 //! - [`LinuxOsStr`] and [`LinuxOsString`] are bytes that Linux wrote as text.
-//! - [`Told`] wraps a reader or a writer. [`Piece`], [`made`] and [`push_pieces`] make text.
+//! - [`Told`] wraps a reader or a writer. [`Piece`], [`made`] and [`push_pieces`] make text in a [`TextBuffer`]:
+//!   a `String`, or bytes.
 //! - [`number_64`] and [`number_32`] read digits. [`probe`] compares an address with a range. [`Exact`] is a type with an honest `==` and `clone`.
 //!
 //! # Errors
@@ -44,6 +45,7 @@ mod endian;
 mod entries;
 mod exact;
 mod hex;
+mod hexadecimal;
 pub mod laws;
 mod line;
 mod linux_os_iter;
@@ -54,6 +56,7 @@ mod source;
 mod steps;
 mod text16;
 mod text8;
+mod text_buffer;
 mod told;
 mod utf16;
 mod wire;
@@ -72,6 +75,7 @@ pub use piece::{Piece, made, push_pieces};
 pub use record::{FixedRead, Record};
 pub use source::Source;
 pub use steps::Steps;
+pub use text_buffer::TextBuffer;
 pub use text16::text_before_nul;
 pub use told::{Refused, Told};
 pub use wire::{WireField, WireValue};

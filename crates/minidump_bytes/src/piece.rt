@@ -3,6 +3,8 @@ ghost use Rattle.std.specs.List.{flat_map};
 ghost use Rattle.std.specs.Fmt.{decimal, digits, digit_glyph};
 ghost use Rattle.minidump_bytes.specs.Piece.{piece_text, right, wide_hex};
 
+use crate::TextBuffer;
+use crate::hexadecimal::{digits_16, hex_len};
 use itoa::Buffer;
 use std::alloc::{AllocError, Global};
 
@@ -44,106 +46,92 @@ pub fn made(alloc: Global, pieces: &[Piece<'_>]) -> Result<String, AllocError>
 }
 
 /// Appends the text of the pieces, one behind another.
-pub fn push_pieces(out: &mut String, pieces: &[Piece<'_>]) -> Result<(), AllocError>
-    ensures { OnOk result (string_bytes out.new ≡ string_bytes out.old ++ flat_map piece_text pieces.now) }
+pub fn push_pieces<T: TextBuffer>(out: &mut T, pieces: &[Piece<'_>]) -> Result<(), AllocError>
+    ensures { OnOk result (T.bytes out.new ≡ T.bytes out.old ++ flat_map piece_text pieces.now) }
 {
     for piece in pieces {
         match *piece {
-            Piece::Words(words) => out.push_str(words)?,
+            Piece::Words(words) => out.push_text(words)?,
             Piece::Decimal(n) => push_decimal(out, n)?,
             Piece::Hex(n) => {
-                out.push_str("0x")?;
+                out.push_text("0x")?;
                 push_hex(out, n)?
             }
             Piece::Digits(n) => push_hex(out, n)?,
             Piece::Wide(n, width) => {
-                out.push_str("0x")?;
+                out.push_text("0x")?;
                 push_wide_hex(out, n, width)?
             }
             Piece::WideDigits(n, width) => push_wide_hex(out, n, width)?,
             Piece::Signed(n) => {
                 let mut buffer = Buffer::new();
-                out.push_str(buffer.format(n))?
+                out.push_text(buffer.format(n))?
             }
             Piece::Right(n, width) => push_right(out, n, width)?,
             Piece::Left(words, width) => {
-                out.push_str(words)?;
+                out.push_text(words)?;
                 push_blanks(out, width.saturating_sub(words.len()))?
             }
             Piece::Optional(Some(n)) => push_decimal(out, n as u64)?,
             Piece::OptionalDigits(Some(n)) => push_hex(out, n as u64)?,
-            Piece::Optional(None) | Piece::OptionalDigits(None) => out.push_str("(invalid)")?,
+            Piece::Optional(None) | Piece::OptionalDigits(None) => out.push_text("(invalid)")?,
         }
     }
     Ok(())
 }
 
 // Appends a number in decimal behind the blanks that fill it up to a width.
-fn push_right(out: &mut String, n: u64, width: usize) -> Result<(), AllocError>
-    ensures { OnOk result (string_bytes out.new ≡ string_bytes out.old ++ right width (decimal n)) }
+fn push_right<T: TextBuffer>(out: &mut T, n: u64, width: usize) -> Result<(), AllocError>
+    ensures { OnOk result (T.bytes out.new ≡ T.bytes out.old ++ right width (decimal n)) }
 {
     let mut buffer = Buffer::new();
     let digits = buffer.format(n);
     push_blanks(out, width.saturating_sub(digits.len()))?;
-    out.push_str(digits)
+    out.push_text(digits)
 }
 
-fn push_blanks(out: &mut String, count: usize) -> Result<(), AllocError>
-    ensures { OnOk result (string_bytes out.new ≡ string_bytes out.old ++ replicate count 32) }
+fn push_blanks<T: TextBuffer>(out: &mut T, count: usize) -> Result<(), AllocError>
+    ensures { OnOk result (T.bytes out.new ≡ T.bytes out.old ++ replicate count 32) }
 {
     for _ in 0..count {
-        out.push(' ')?;
+        out.push_text(" ")?;
     }
     Ok(())
 }
 
-fn push_zeros(out: &mut String, count: usize) -> Result<(), AllocError>
-    ensures { OnOk result (string_bytes out.new ≡ string_bytes out.old ++ replicate count 48) }
+fn push_zeros<T: TextBuffer>(out: &mut T, count: usize) -> Result<(), AllocError>
+    ensures { OnOk result (T.bytes out.new ≡ T.bytes out.old ++ replicate count 48) }
 {
     for _ in 0..count {
-        out.push('0')?;
+        out.push_text("0")?;
     }
     Ok(())
+}
+
+// Appends the digits of a number in decimal.
+fn push_decimal<T: TextBuffer>(out: &mut T, n: u64) -> Result<(), AllocError>
+    ensures { OnOk result (T.bytes out.new ≡ T.bytes out.old ++ decimal n) }
+{
+    let mut buffer = Buffer::new();
+    out.push_text(buffer.format(n))
 }
 
 // Appends the digits of a number in lower-case hexadecimal behind the zeros that fill them up to a width, as
 // `{:08x}` does for eight.
-fn push_wide_hex(out: &mut String, n: u64, width: usize) -> Result<(), AllocError>
-    ensures { OnOk result (string_bytes out.new ≡ string_bytes out.old ++ wide_hex width n) }
+fn push_wide_hex<T: TextBuffer>(out: &mut T, n: u64, width: usize) -> Result<(), AllocError>
+    ensures { OnOk result (T.bytes out.new ≡ T.bytes out.old ++ wide_hex width n) }
 {
-    if n < 16 {
-        push_zeros(out, width.saturating_sub(1))?;
-        return push_digit(out, n as u8);
-    }
-    push_wide_hex(out, n / 16, width.saturating_sub(1))?;
-    push_digit(out, (n % 16) as u8)
-}
-
-// Appends the digits of a number in decimal.
-fn push_decimal(out: &mut String, n: u64) -> Result<(), AllocError>
-    ensures { OnOk result (string_bytes out.new ≡ string_bytes out.old ++ decimal n) }
-{
-    let mut buffer = Buffer::new();
-    out.push_str(buffer.format(n))
+    push_zeros(out, width.saturating_sub(hex_len(n)))?;
+    push_hex(out, n)
 }
 
 // Appends a number in lower-case hexadecimal, as `{:x}` writes it.
-#[tactic(auto, using(crate::proofs::HexLemmas::hex_last, crate::proofs::HexLemmas::hex_one))]
-fn push_hex(out: &mut String, n: u64) -> Result<(), AllocError>
-    ensures { OnOk result (string_bytes out.new ≡ string_bytes out.old ++ digits 16 false n) }
+fn push_hex<T: TextBuffer>(out: &mut T, n: u64) -> Result<(), AllocError>
+    ensures { OnOk result (T.bytes out.new ≡ T.bytes out.old ++ digits 16 false n) }
 {
-    if n < 16 {
-        return push_digit(out, n as u8);
-    }
-    push_hex(out, n / 16)?;
-    push_digit(out, (n % 16) as u8)
-}
-
-fn push_digit(out: &mut String, value: u8) -> Result<(), AllocError>
-    requires { value < 16 }
-    ensures { OnOk result (string_bytes out.new ≡ string_bytes out.old ++ (digit_glyph false value ∷ [])) }
-{
-    out.push(char::from(digit(value)))
+    let all = digits_16(n);
+    let (_, digits) = all.split_at(16 - hex_len(n));
+    out.push_ascii(digits)
 }
 
 // The character of a digit.

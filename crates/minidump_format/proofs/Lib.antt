@@ -3,5 +3,6 @@ pub mod AnswerLemmas
 pub mod Equality
 pub mod FlagLemmas
 pub mod Printing
+pub mod Blocking
 pub mod XstateLemmas
 pub mod GuidLemmas

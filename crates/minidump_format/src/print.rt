@@ -35,8 +35,9 @@ pub fn put_formatted<W: Write>(
     }
 }
 
-// Returns the error of a call that ran out of memory.
-fn no_memory<W: Write>(f: &Told<W>) -> Error
+/// Returns the error of a call that prints and ran out of memory: [`Error::IoError`] if the writer has
+/// failed, and else [`Error::OutOfMemory`].
+pub fn no_memory<W: Write>(f: &Told<W>) -> Error
     ensures { result ≡ out_of_memory f.now }
 {
     if f.failed() {

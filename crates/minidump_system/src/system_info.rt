@@ -12,7 +12,7 @@ use crate::os_parts::os_parts;
 use crate::{Cpu, MinidumpStream, Os};
 use minidump_bytes::{Endian, Piece, Source, Steps, Told, copied, push_pieces};
 use minidump_format::format::MINIDUMP_SYSTEM_INFO;
-use minidump_format::{Error, put_formatted};
+use minidump_format::{Error, Pushed, print_item};
 use std::alloc::{AllocError, Global};
 use std::io::Write;
 
@@ -107,7 +107,7 @@ impl MinidumpSystemInfo {
     pub fn print<W: Write>(&self, alloc: Global, f: &mut Told<W>) -> Result<(), Error>
         ensures { Prints W.contents f.old f.new (system_info_text (system_info_of self.now)) result }
     {
-        put_formatted(f, format_text(alloc, self))
+        print_item(self, alloc, f)
     }
 
     /// Copies the system information. The only error is `OutOfMemory`.
@@ -153,20 +153,20 @@ impl<'a> MinidumpStream<'a> for MinidumpSystemInfo {
     }
 }
 
-fn format_text(alloc: Global, system: &MinidumpSystemInfo) -> Result<String, AllocError>
-    ensures { IfOk result (λ t. string_bytes t ≡ system_info_text (system_info_of system.now)) }
-{
-    let mut text = String::new(alloc);
-    push_numbers(&mut text, &system.raw)?;
-    let csd_version = system.csd_version().unwrap_or("");
-    let cpu_info = system.cpu_info().unwrap_or("");
-    push_names(&mut text, &system.raw, csd_version, cpu_info)?;
-    Ok(text)
+impl Pushed for MinidumpSystemInfo {
+    ghost text = { λ system. system_info_text (system_info_of system) };
+
+    fn push(&self, out: &mut Vec<u8>) -> Result<(), AllocError> {
+        push_numbers(out, &self.raw)?;
+        let csd_version = self.csd_version().unwrap_or("");
+        let cpu_info = self.cpu_info().unwrap_or("");
+        push_names(out, &self.raw, csd_version, cpu_info)
+    }
 }
 
 #[tactic(auto, unfolding(crate::specs::SystemInfo::numbers_text))]
-fn push_numbers(out: &mut String, raw: &MINIDUMP_SYSTEM_INFO) -> Result<(), AllocError>
-    ensures { OnOk result (string_bytes out.new ≡ string_bytes out.old ++ numbers_text raw.now) }
+fn push_numbers(out: &mut Vec<u8>, raw: &MINIDUMP_SYSTEM_INFO) -> Result<(), AllocError>
+    ensures { OnOk result (out.new.items ≡ out.old.items ++ numbers_text raw.now) }
 {
     push_pieces(
         out,
@@ -200,13 +200,12 @@ fn push_numbers(out: &mut String, raw: &MINIDUMP_SYSTEM_INFO) -> Result<(), Allo
 
 #[tactic(auto, unfolding(crate::specs::SystemInfo::names_text))]
 fn push_names<'t>(
-    out: &mut String,
+    out: &mut Vec<u8>,
     raw: &MINIDUMP_SYSTEM_INFO,
     csd_version: &'t str,
     cpu_info: &'t str,
 ) -> Result<(), AllocError>
-    ensures { OnOk result (string_bytes out.new
-        ≡ string_bytes out.old ++ names_text raw.now csd_version.now cpu_info.now) }
+    ensures { OnOk result (out.new.items ≡ out.old.items ++ names_text raw.now csd_version.now cpu_info.now) }
 {
     push_pieces(
         out,
