@@ -27,7 +27,7 @@ placed order file place d =
 abbrev pub all_placed : Endian → List ℕ → List64 MINIDUMP_MEMORY_DESCRIPTOR64 → List (MemoryRegion MINIDUMP_MEMORY_DESCRIPTOR64)
 all_placed order file l = map (λ p. placed order file (place_64 l p.0) p.1) (enumerate_from 0 l.items)
 
--- whether all of their bytes are in the file, or there are no regions, where the list's RVA is not looked at. All are in the file exactly
+-- whether all of their bytes are in the file, or there are no regions; then the list's RVA is not looked at. All are in the file exactly
 -- where the last one ends in it, also if that one has no size. A region outside the file refuses the list
 abbrev pub is_inside : List ℕ → List64 MINIDUMP_MEMORY_DESCRIPTOR64 → Bool
 is_inside file l = length l.items == 0 || nat_le (place_64 l (length l.items)) (length file)

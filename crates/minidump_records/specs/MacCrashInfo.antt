@@ -31,7 +31,7 @@ record_if (Some r) = Some (mac_record_of r)
 abbrev pub stated_version : Endian → List ℕ → Option ℕ
 stated_version order bytes = option_map (λ head. head.version) (record_at mac_record order 0 bytes)
 
--- the version of a record, which has to be that of the record before it, if there is one. So has a version of 0
+-- the version of a record, which has to be that of the record before it, if there is one; this is asked of version 0 too
 abbrev pub follows : Option ℕ → ℕ → Result ℕ Error
 follows None version = Ok version
 follows (Some before) version = if version == before then Ok version else Err VersionMismatch
