@@ -36,7 +36,7 @@ abbrev pub IsMemoryLine : Dump → ℕ → List ℕ → Type 0
 IsMemoryLine dump address text =
     (found : Option UnifiedRegion) × IsAt region_range (option_map unified_regions (memories_of_dump dump)) address found × (text ≡ memory_line found)
 
--- the modules of a dump, where its list of modules can be read
+-- the modules of a dump, where its list of modules can be read; unloaded modules play no part
 abbrev pub modules_of_dump : Dump → Option (List ModuleValue)
 modules_of_dump dump = result_ok (stream_of module_list_stream dump)
 
@@ -44,7 +44,8 @@ modules_of_dump dump = result_ok (stream_of module_list_stream dump)
 abbrev pub IsModuleLine : Dump → ℕ → List ℕ → Type 0
 IsModuleLine dump address text = (found : Option ModuleValue) × IsAt value_range (modules_of_dump dump) address found × (text ≡ module_line found)
 
--- the memory information of a dump, where it can be read; else its map lines, where they can be
+-- the memory information of a dump, where it can be read; else its map lines, where they can be. After a miss in the information the lines
+-- are not asked
 abbrev pub information_of : Option (List MemoryInfo) → Option (List MapRegion) → Option InfoRegions
 information_of (Some info) maps = Some (OfInfo info)
 information_of None maps = option_map OfMaps maps

@@ -13,12 +13,12 @@ use Rattle.minidump_modules.specs.Module.{ModuleValue}
 abbrev pub region_line : ℕ → ℕ → List ℕ
 region_line base size = concat (codes "memory " ∷ hex base ∷ codes " " ∷ hex size ∷ codes "\n" ∷ [])
 
--- the region of memory that was found, or that there is none
+-- the region of memory that was found, or that there is none. The size of a 64-bit list's region is in full
 abbrev pub memory_line : Option UnifiedRegion → List ℕ
 memory_line (Some region) = region_line region.base_address region.size
 memory_line None = codes "memory none\n"
 
--- the module that was found, by its first address, its size and its name, or that there is none
+-- the module that was found, by its first address, its size and its name, or that there is none. The name is as it is, line feeds included
 abbrev pub module_line : Option ModuleValue → List ℕ
 module_line (Some m) = concat (codes "module " ∷ hex m.raw.base_of_image ∷ codes " " ∷ hex m.raw.size_of_image ∷ codes " " ∷ m.name ∷ codes "\n" ∷ [])
 module_line None = codes "module none\n"
@@ -32,7 +32,7 @@ range_line None = codes "info none\n"
 abbrev pub info_line : Option InfoRegion → List ℕ
 info_line found = range_line (option_and_then info_region_range found)
 
--- what a lookup in the list of a dump answers, and none of a dump without the list
+-- what a lookup in the list of a dump answers, and none of a dump whose list is missing or malformed
 abbrev pub IsAt : {R : Type 0} → (R → Option Range) → Option (List R) → ℕ → Option R → Type 0
 IsAt range (Some regions) address found = IsLookedUp range regions address found
 IsAt range None address found = found ≡ None

@@ -12,7 +12,7 @@ use Rattle.minidump.specs.declared.directory.DecidingEntry.{DecidingEntry}
 abbrev pub directory : Endian → List ℕ → MINIDUMP_HEADER → List MINIDUMP_DIRECTORY
 directory order bytes h = entries directory_entry order bytes h.stream_directory_rva h.stream_count
 
--- every entry is in the file. Where there is none, the offset of the directory is not looked at
+-- every entry is in the file; it may lie in the header too. Where there is none, the offset of the directory is not looked at
 abbrev pub is_readable : List ℕ → MINIDUMP_HEADER → Bool
 is_readable bytes h = h.stream_count == 0 || nat_le (h.stream_directory_rva + directory_entry.size * h.stream_count) (length bytes)
 

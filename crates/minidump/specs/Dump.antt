@@ -25,7 +25,7 @@ abbrev with_header : List ℕ → Result (Endian × MINIDUMP_HEADER) Error → R
 with_header file (Err e) = Err e
 with_header file (Ok h) = if is_readable file h.1 then Ok (record { file = file; order = h.0; header = h.1 }) else Err MissingDirectory
 
--- the minidump that a file is, or the first reason why it is none
+-- the minidump that a file is, or the first reason why it is none: that of its header, or an entry outside the file
 abbrev pub dump_in : List ℕ → Result Dump Error
 dump_in file = with_header file (header_of file)
 
@@ -58,7 +58,7 @@ meant meaning d system (Err e) = Err e
 abbrev pub stream_with : {V : Type 0} → Option System → ℕ → Meaning V → Dump → Result V Error
 stream_with system stream_type meaning d = meant meaning d system (raw_stream stream_type d)
 
--- the system information, where its stream parses with none handed in
+-- the system information, where its stream parses with none handed in. Else it is absent, and the dump is still read
 abbrev pub dump_system : Dump → Option System
 dump_system d = result_ok (stream_with None (number_of SystemInfoStream) system_info_in d)
 

@@ -39,12 +39,13 @@ abbrev pub exception_in : Endian → List ℕ → List ℕ → Result Exception 
 exception_in order file bytes =
     and_then (ok_or (record_at exception_layout order 0 bytes) StreamReadFailure) (λ raw. Ok (exception_at order file raw))
 
--- EXCEPTION_ACCESS_VIOLATION and EXCEPTION_IN_PAGE_ERROR of winnt.h, whose second parameter is the address that was accessed
+-- EXCEPTION_ACCESS_VIOLATION and EXCEPTION_IN_PAGE_ERROR of winnt.h, whose second parameter is the address that was accessed. Any number of
+-- parameters from two on has a second one, also one above 15
 abbrev has_address : Os → MINIDUMP_EXCEPTION → Bool
 has_address Windows r = (r.exception_code == 0xc0000005 || r.exception_code == 0xc0000006) && nat_le 2 r.number_parameters
 has_address _ r = false
 
--- an address in as many bits as a pointer has
+-- an address in as many bits as a pointer has, and whole where that is unknown
 abbrev as_wide : PointerWidth → ℕ → ℕ
 as_wide Bits32 address = address % 2 ^ 32
 as_wide _ address = address

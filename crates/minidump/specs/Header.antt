@@ -17,7 +17,7 @@ order_of bytes =
     if (header_in Little bytes).signature == 0x504d444d then Some Little else (
     if (header_in Big bytes).signature == 0x504d444d then Some Big else None)
 
--- the low 16 bits of the version are those of a minidump
+-- the low 16 bits of the version are those of a minidump. The high half is the writer's own
 abbrev checked : Endian → MINIDUMP_HEADER → Result (Endian × MINIDUMP_HEADER) Error
 checked order h = if h.version % 2 ^ 16 == 0xa793 then Ok (order, h) else Err VersionMismatch
 
@@ -25,6 +25,6 @@ abbrev in_order : List ℕ → Option Endian → Result (Endian × MINIDUMP_HEAD
 in_order bytes None = Err HeaderMismatch
 in_order bytes (Some order) = checked order (header_in order bytes)
 
--- the byte order and the header, or the first refusal
+-- the byte order and the header, or the first refusal: too few bytes, a signature in neither byte order, another version
 abbrev pub header_of : List ℕ → Result (Endian × MINIDUMP_HEADER) Error
 header_of bytes = if nat_lt (length bytes) 32 then Err MissingHeader else in_order bytes (order_of bytes)

@@ -8,7 +8,8 @@ use Rattle.minidump_memory.specs.Unified.{Memory, Memory64, UnifiedRegions}
 use Rattle.minidump.specs.Dump.{Dump, stream_memory, stream_of}
 use Rattle.minidump.specs.Promise.{memory_list_stream, memory64_list_stream}
 
--- the 64-bit list; the memory list where that one is missing or refused; none where both are
+-- the 64-bit list; the memory list where that one is missing or refused; none where both are. A 64-bit list that was read hides the memory
+-- list also where it does not have an address
 abbrev first_accepted : Result (List (MemoryRegion MINIDUMP_MEMORY_DESCRIPTOR64)) Error → Result (List (MemoryRegion MINIDUMP_MEMORY_DESCRIPTOR)) Error
     → Option UnifiedRegions
 first_accepted (Ok long) plain = Some (Memory64 long)

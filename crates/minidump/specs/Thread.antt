@@ -27,7 +27,7 @@ use Rattle.minidump_reason.specs.Reason.{windows_error}
 use Rattle.minidump.specs.declared.thread.MinidumpThread.{MinidumpThread}
 use Rattle.minidump.specs.declared.thread_list.MinidumpThreadList.{MinidumpThreadList}
 
--- the context that bytes hold on an architecture, where they hold one
+-- the context that bytes hold on an architecture, where they hold one. An empty span holds none
 abbrev pub accepted_context : ℕ → Endian → Option (List ℕ) → Option MinidumpRawContext
 accepted_context architecture order bytes = option_and_then (λ b. result_ok (context_in order b architecture)) bytes
 
@@ -76,8 +76,8 @@ abbrev pub IsStack : Thread → UnifiedRegions → Option UnifiedRegion → Type
 IsStack t memory found =
     IsOwnOrListed t.stack (IsLookedUp region_range (unified_regions memory) t.raw.stack.start_of_memory_range found) found
 
--- the address of LastErrorValue in Windows' thread environment block, 13 pointers behind its beginning: none without a width of pointers, or
--- beyond the addresses of 64 bits
+-- the address of LastErrorValue in Windows' thread environment block, 13 pointers behind its beginning, on every system: none without a
+-- width of pointers, or beyond the addresses of 64 bits
 abbrev pub last_error_address : Cpu → ℕ → Option ℕ
 last_error_address cpu teb =
     option_and_then (λ width. if nat_lt (teb + 13 * width) (2 ^ 64) then Some (teb + 13 * width) else None) (pointer_bytes (width_of cpu))
@@ -87,7 +87,7 @@ abbrev pub error_at : Lists → ℕ → Option UnifiedRegion → Option CrashRea
 error_at names address region =
     option_map (windows_error names) (option_and_then (λ r. number_in (number_layout 4) r address) region)
 
--- the error at an address of a list of memory: that of the region that contains the address
+-- the error at an address of a list of memory: that of the region that contains the address. A thread's own stack is no part of the list
 abbrev pub IsErrorIn : Lists → UnifiedRegions → Option ℕ → Option CrashReason → Type 0
 IsErrorIn names memory None found = found ≡ None
 IsErrorIn names memory (Some address) found =

@@ -21,7 +21,7 @@ parts_of parts = (text_of parts.0, text_of parts.1)
 abbrev pub is_white : ℕ → Bool
 is_white b = is_ascii_whitespace b
 
--- a line ends at a line feed or a NUL
+-- a line ends at a line feed or a NUL; a carriage return is a byte of its line
 abbrev pub ends_line : ℕ → Bool
 ends_line b = b == 10 || b == 0
 

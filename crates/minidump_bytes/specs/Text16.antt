@@ -22,7 +22,8 @@ IsUtf16 units = (characters : List ℕ) × Spells units characters
 abbrev pub IsTextOf : List ℕ → List ℕ → Type 0
 IsTextOf units bytes = (characters : List ℕ) × Spells units characters × (bytes ≡ encode_utf8_all characters)
 
--- the text of code units, in UTF-8: none where a surrogate lacks its partner
+-- the text of code units, in UTF-8: none where a surrogate lacks its partner: nothing is put in the place of one. A byte order mark
+-- is a character as others
 unfoldable pub utf16_text : List ℕ → Option (List ℕ)
 utf16_text units = if has_unpaired_surrogate units then None else Some (encode_utf8_all (utf16_lossy_chars units))
 

@@ -22,13 +22,14 @@ utf8_text bytes = if is_utf8 bytes then Some bytes else None
 abbrev pub sized_text8 : ℕ → ℕ → List ℕ → Option (List ℕ)
 sized_text8 place size bytes = if nat_le (place + size) (length bytes) then utf8_text (slice_range bytes place (place + size)) else None
 
--- Crashpad's `MinidumpUTF8String`: the text's size in bytes, a number of four bytes, and the text behind it
+-- Crashpad's `MinidumpUTF8String`: the text's size in bytes, a number of four bytes, and the text behind it. The size does not count a
+-- byte 0 behind the text
 abbrev pub text8 : Endian → ℕ → List ℕ → Option (List ℕ)
 text8 order place bytes =
     if nat_le (place + 4) (length bytes) then sized_text8 (place + 4) (number_at order 4 0 (slice_range bytes place (place + 4))) bytes
     else None
 
--- the text that begins at a place, where a byte 0 stands behind it
+-- the text that begins at a place, where a byte 0 stands behind it: none where the bytes end with the text
 abbrev pub ended : ℕ → List ℕ → Option (List ℕ) → Option (List ℕ)
 ended start bytes None = None
 ended start bytes (Some text) =
@@ -38,7 +39,7 @@ ended start bytes (Some text) =
 abbrev pub text8_nul : Endian → ℕ → List ℕ → Option (List ℕ)
 text8_nul order place bytes = ended (place + 4) bytes (text8 order place bytes)
 
--- C's string at a place: the text of the bytes before the first 0 there, none where there is no 0
+-- C's string at a place: the text of the bytes before the first 0 there, none where there is no 0, so at the end of the bytes
 abbrev pub cstring : ℕ → List ℕ → Option (List ℕ)
 cstring place bytes =
     if list_any (λ b. b == 0) (drop place bytes) then utf8_text (before_first (λ b. b == 0) (drop place bytes)) else None

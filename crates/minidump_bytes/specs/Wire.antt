@@ -35,7 +35,7 @@ pub record Field : Type 0 where
   pub number : ℕ
   pub payload : Payload
 
--- the wire types
+-- the wire types; 3, 4, 6 and 7 are those of no field
 abbrev pub wire_type : Payload → ℕ
 wire_type (Varint n) = 0
 wire_type (Eight n) = 1

@@ -41,7 +41,7 @@ abbrev pub of_processor : {C : Type 0} → ℕ → (C → ℕ) → Option C → 
 of_processor processor flags None = Err ReadFailure
 of_processor processor flags (Some c) = if is_of processor (flags c) then Ok c else Err ReadFailure
 
--- the context of one processor at the start of the bytes
+-- the context of one processor at the start of the bytes; more bytes may follow
 unfoldable pub accepted : {C : Type 0} → Layout C → ℕ → (C → ℕ) → Endian → List ℕ → Result C ContextError
 accepted layout processor flags order bytes = of_processor processor flags (record_at layout order 0 bytes)
 
@@ -56,7 +56,7 @@ context_of order bytes (Some PROCESSOR_ARCHITECTURE_ARM64_OLD) =
     map_ok OldArm64 (accepted context_arm64_old 0x8000_0000 (λ c. c.context_flags % 2 ^ 32) order bytes)
 context_of order bytes architecture = Err UnknownCpuContext
 
--- the same, by the number of the architecture
+-- the same, by the number of the architecture. The misc information decides nothing
 abbrev pub context_in : Endian → List ℕ → ℕ → Result MinidumpRawContext ContextError
 context_in order bytes architecture = context_of order bytes (architecture_of architecture)
 

@@ -48,7 +48,7 @@ holds (These set) name = contains_by (λ k. bytes_eq name k.now) set
 unfoldable pub holds_any : MinidumpContextValidity → List (List ℕ × List ℕ) → List ℕ → Bool
 holds_any valid aliases canonical = holds valid canonical || list_any (λ a. bytes_eq a.1 canonical && holds valid a.0) aliases
 
--- whether a name is one of a valid register
+-- whether a name is one of a valid register; a name that is no register's is not
 abbrev pub is_valid : MinidumpContextValidity → List (List ℕ) → List (List ℕ × List ℕ) → List ℕ → Bool
 is_valid valid names aliases name = option_map_or (holds_any valid aliases) (memoized names aliases name) false
 

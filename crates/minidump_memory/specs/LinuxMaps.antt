@@ -72,7 +72,8 @@ lines_of bytes = but_empty_last (split_parts 10 bytes)
 abbrev pub line_region : List ℕ → Result MapRegion Error
 line_region line = ok_or (map_line line) StreamReadFailure
 
--- Breakpad's MD_LINUX_MAPS: the regions of all lines, or the error if one is not a line of the map
+-- Breakpad's MD_LINUX_MAPS: the regions of all lines, or the error if one is not a line of the map, as a blank one is not. A stream of no
+-- bytes has no regions
 unfoldable pub linux_maps_in : List ℕ → Result (List MapRegion) Error
 linux_maps_in bytes = all_ok line_region (lines_of bytes)
 

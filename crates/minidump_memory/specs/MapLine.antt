@@ -21,7 +21,7 @@ two_numbers byte bits bytes =
 abbrev pub bit_if : List ℕ → ℕ → ℕ → ℕ
 bit_if letters letter bit = if list_any (λ b. b == letter) letters then bit else 0
 
--- the permissions of a field with the letters r, w, x, s and p: 1, 2, 4, 8 and 16; other bytes are passed over
+-- the permissions of a field with the letters r, w, x, s and p: 1, 2, 4, 8 and 16; other bytes are passed over, and an empty field has none
 unfoldable pub permissions : List ℕ → ℕ
 permissions letters = bit_if letters 114 1 + bit_if letters 119 2 + bit_if letters 120 4 + bit_if letters 115 8 + bit_if letters 112 16
 
@@ -84,7 +84,7 @@ pub record MapRegion : Type 0 where
   pub inode : ℕ
   pub pathname : MapPath
 
--- the region of six fields, cut at the first five spaces
+-- the region of six fields, cut at the first five spaces; the path is trimmed of the white space of Unicode
 unfoldable pub fields_in : List ℕ → Option MapRegion
 fields_in line =
     and_then (cut_first 32 line) (λ range.

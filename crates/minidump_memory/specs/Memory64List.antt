@@ -23,11 +23,12 @@ abbrev pub placed : Endian → List ℕ → ℕ → MINIDUMP_MEMORY_DESCRIPTOR64
 placed order file place d =
     record { desc = d; base_address = d.start_of_memory_range; size = d.data_size; bytes = slice_range file place (place + d.data_size); endian = order }
 
--- the regions of a 64-bit list, whose bytes lie one behind another
+-- the regions of a 64-bit list, whose bytes lie one behind another. One of no size is a region, with no addresses
 abbrev pub all_placed : Endian → List ℕ → List64 MINIDUMP_MEMORY_DESCRIPTOR64 → List (MemoryRegion MINIDUMP_MEMORY_DESCRIPTOR64)
 all_placed order file l = map (λ p. placed order file (place_64 l p.0) p.1) (enumerate_from 0 l.items)
 
--- whether all of their bytes are in the file, or there are no regions
+-- whether all of their bytes are in the file, or there are no regions; then the list's RVA is not looked at. All are in the file exactly
+-- where the last one ends in it, also if that one has no size. A region outside the file refuses the list
 abbrev pub is_inside : List ℕ → List64 MINIDUMP_MEMORY_DESCRIPTOR64 → Bool
 is_inside file l = length l.items == 0 || nat_le (place_64 l (length l.items)) (length file)
 
@@ -38,7 +39,7 @@ regions_64 order file l = if is_inside file l then Ok (all_placed order file l) 
 abbrev pub memory64_list_in : Endian → List ℕ → List ℕ → Result (List (MemoryRegion MINIDUMP_MEMORY_DESCRIPTOR64)) Error
 memory64_list_in order file bytes = and_then (list_64 memory_descriptor_64 order bytes) (regions_64 order file)
 
--- the stream of type Memory64ListStream
+-- the stream of type Memory64ListStream. Its reads are two numbers, and an entry and a span for each region
 abbrev pub memory64_list_stream : StreamSpec (MinidumpMemoryListBase MINIDUMP_MEMORY_DESCRIPTOR64) (List (MemoryRegion MINIDUMP_MEMORY_DESCRIPTOR64))
 memory64_list_stream = record {
   stream_type = Memory64ListStream;

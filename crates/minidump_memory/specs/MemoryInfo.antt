@@ -32,7 +32,7 @@ info_of m = record {
   ty = m.ty.0;
 }
 
--- Microsoft's MINIDUMP_MEMORY_INFO: an entry with those bits of each set that have a name
+-- Microsoft's MINIDUMP_MEMORY_INFO: an entry with those bits of each set that have a name; `raw` has all of them
 abbrev pub info_in : MINIDUMP_MEMORY_INFO → MemoryInfo
 info_in raw = record {
   raw = raw;
@@ -49,7 +49,7 @@ info_range m = range_of m.raw.base_address m.raw.region_size
 abbrev pub memory_info_range : MinidumpMemoryInfo → Option Range
 memory_info_range m = info_range (info_of m)
 
--- PAGE_READONLY, PAGE_READWRITE, PAGE_EXECUTE_READ or PAGE_EXECUTE_READWRITE
+-- PAGE_READONLY, PAGE_READWRITE, PAGE_EXECUTE_READ or PAGE_EXECUTE_READWRITE. Bits beyond PAGE_EXECUTE_WRITECOPY change no access
 abbrev pub page_is_readable : ℕ → Bool
 page_is_readable p = has_flag p 0x2 || has_flag p 0x4 || has_flag p 0x20 || has_flag p 0x40
 

@@ -38,7 +38,7 @@ spans_in (Ok ds) = sum_by spans_read ds
 abbrev pub spans_of_list : Endian → List ℕ → ℕ
 spans_of_list order bytes = spans_in (plain_list memory_descriptor order bytes)
 
--- the stream of type MemoryListStream
+-- the stream of type MemoryListStream. Its reads are the count, the entries, and the spans of the regions
 abbrev pub memory_list_stream : StreamSpec (MinidumpMemoryListBase MINIDUMP_MEMORY_DESCRIPTOR) (List (MemoryRegion MINIDUMP_MEMORY_DESCRIPTOR))
 memory_list_stream = record {
   stream_type = MemoryListStream;

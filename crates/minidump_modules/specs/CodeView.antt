@@ -76,11 +76,12 @@ record_reads (pdb20 s offset signature age name) = 5
 record_reads (elf s id) = 2
 record_reads (unknown bytes) = 2
 
--- the reads that a location takes: one for the span of the record, and those of the record
+-- the reads that a location takes: one for the span of the record, and those of the record; 5 for `RSDS`, 6 for `NB10`, and 3 for others
 abbrev pub view_reads : Option View → ℕ
 view_reads None = 0
 view_reads (Some view) = 1 + record_reads view
 
--- the bytes before the first NUL as a text, with U+FFFD for what is not UTF-8
+-- the bytes before the first NUL as a text, with U+FFFD for what is not UTF-8: one for each longest beginning of a well-formed sequence
+-- that can't go on, and else one for each byte
 unfoldable pub lossy_name : List ℕ → List ℕ
 lossy_name bytes = utf8_lossy (before_first (λ b. b == 0) bytes)

@@ -50,7 +50,7 @@ mac_bootargs_in order file bytes =
 abbrev pub boot_args_reads : List ℕ → ℕ
 boot_args_reads bytes = if nat_le 12 (length bytes) then 2 else 3
 
--- the stream of type MozMacosBootargsStream
+-- the stream of type MozMacosBootargsStream. It may take memory also where no text is at its RVA
 abbrev pub mac_bootargs_stream : StreamSpec MinidumpMacBootargs BootArgs
 mac_bootargs_stream = record {
   stream_type = MozMacosBootargsStream;

@@ -12,7 +12,7 @@ use Rattle.minidump_system.specs.StreamSpec.{StreamSpec}
 use Rattle.minidump_system.specs.Reads.{and_then}
 use Rattle.minidump_records.specs.declared.breakpad_info.MinidumpBreakpadInfo.{MinidumpBreakpadInfo}
 
--- a field, where its flag is set
+-- a field, where its flag is set; other bits are ignored
 abbrev pub where_valid : ℕ → ℕ → ℕ → Option ℕ
 where_valid validity flag id = if bit_and validity flag == flag then Some id else None
 

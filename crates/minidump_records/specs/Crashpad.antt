@@ -57,7 +57,8 @@ module_of m = record {
 abbrev pub HasModule : Endian → List ℕ → MINIDUMP_MODULE_CRASHPAD_INFO_LINK → Type 0
 HasModule order file link = IsSome (record_at module_crashpad_info order link.location.rva file)
 
--- the information that a link names: its record, then its lists in the record's order
+-- the information that a link names: its record, then its lists in the record's order. The size in the link and the version in the record
+-- are not looked at
 unfoldable pub module_in : Endian → List ℕ → MINIDUMP_MODULE_CRASHPAD_INFO_LINK → Result Module Error
 module_in order file link =
     and_then (ok_or (record_at module_crashpad_info order link.location.rva file) StreamReadFailure) (λ raw.
@@ -113,7 +114,7 @@ crashpad_reads c = 1
     + (opened_reads c.raw.simple_annotations + sum_by (λ e. 3) c.simple_annotations)
     + (opened_reads c.raw.module_list + sum_by (λ m. 1 + module_reads m) c.module_list)
 
--- the stream of type CrashpadInfoStream
+-- the stream of type CrashpadInfoStream. It may take memory wherever its record is accepted, also where its lists are empty
 abbrev pub crashpad_info_stream : StreamSpec MinidumpCrashpadInfo Crashpad
 crashpad_info_stream = record {
   stream_type = CrashpadInfoStream;

@@ -44,11 +44,12 @@ handle_of h = record {
 abbrev pub or_zero : Option ℕ → ℕ
 or_zero rva = unwrap_or rva 0
 
--- the name at an RVA: none at 0, and where no text is
+-- the name at an RVA: none at 0, and where no text is. The RVA of a text in another stream is looked at also where it is 0
 unfoldable pub name_at_rva : Endian → List ℕ → ℕ → Option (List ℕ)
 name_at_rva order file rva = if rva == 0 then None else text16 order rva file
 
--- the offsets of the object chain from a link: the one list that meets `IsChain` of `minidump_system`'s Chain.antt
+-- the offsets of the object chain from a link: the one list that meets `IsChain` of `minidump_system`'s Chain.antt. An offset without a
+-- piece of information ends it, and is no error
 unfoldable pub chain_offsets : Endian → List ℕ → ℕ → List ℕ
 chain_offsets order file link = (one_object_chain order file link).the
 

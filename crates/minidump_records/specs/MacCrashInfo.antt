@@ -31,12 +31,13 @@ record_if (Some r) = Some (mac_record_of r)
 abbrev pub stated_version : Endian → List ℕ → Option ℕ
 stated_version order bytes = option_map (λ head. head.version) (record_at mac_record order 0 bytes)
 
--- the version of a record, which has to be that of the record before it, if there is one
+-- the version of a record, which has to be that of the record before it, if there is one; this is asked of version 0 too
 abbrev pub follows : Option ℕ → ℕ → Result ℕ Error
 follows None version = Ok version
 follows (Some before) version = if version == before then Ok version else Err VersionMismatch
 
--- the record of these bytes, by the place where its texts begin and the version of the record before it; a record of version 0 is left out
+-- the record of these bytes, by the place where its texts begin and the version of the record before it; a record of version 0 is left out,
+-- and only its first 16 bytes are tested
 abbrev pub behind_version : Endian → ℕ → Option ℕ → List ℕ → Result (Option MacRecord) Error
 behind_version order start before bytes =
     and_then (ok_or (record_at mac_record order 0 bytes) StreamReadFailure) (λ head.
@@ -64,7 +65,8 @@ unfoldable pub located_records : Endian → List ℕ → ℕ → List MINIDUMP_L
 located_records order file start ls =
     and_then (all_ok (neighbouring_record order file start) (with_neighbours ls)) (λ rs. Ok (filter_map (λ r. r) rs))
 
--- Mozilla's MDRawMacCrashInfo: a count of records, of which the first 20 are read, and their locations
+-- Mozilla's MDRawMacCrashInfo: a count of records, of which the first 20 are read, and their locations. The numbers in it and in its
+-- records that name a type of stream are not tested
 abbrev pub mac_crash_info_in : Endian → List ℕ → List ℕ → Result (List MacRecord) Error
 mac_crash_info_in order file bytes =
     and_then (ok_or (record_at mac_crash_info order 0 bytes) StreamReadFailure) (λ info.
@@ -74,7 +76,8 @@ mac_crash_info_in order file bytes =
 abbrev pub count_of_records : Endian → List ℕ → ℕ
 count_of_records order bytes = min (number_at order 4 4 (slice_range bytes 0 172)) 20
 
--- the stream of type MozMacosCrashInfoStream
+-- the stream of type MozMacosCrashInfoStream. Its reads are the record, the bytes and the head of each record that is counted, and those
+-- of the records' versions. It may take memory wherever the record is there, also with no records
 abbrev pub mac_crash_info_stream : StreamSpec MinidumpMacCrashInfo (List MacRecord)
 mac_crash_info_stream = record {
   stream_type = MozMacosCrashInfoStream;

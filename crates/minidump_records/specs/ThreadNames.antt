@@ -34,7 +34,8 @@ last_name names id = lookup (λ t. t == id) (reverse names)
 unfoldable pub last_names : ℕ → List ThreadName → List ThreadName
 last_names limit names = filter_map (λ id. option_map (λ name. (id, name)) (last_name names id)) (range_with_len 0 limit)
 
--- Microsoft's MINIDUMP_THREAD_NAME_LIST: a plain list of entries, without those whose name is no text
+-- Microsoft's MINIDUMP_THREAD_NAME_LIST: a plain list of entries, without those whose name is no text. An earlier name of such a thread
+-- stays
 abbrev pub thread_names_in : Endian → List ℕ → List ℕ → Result (List ThreadName) Error
 thread_names_in order file bytes = and_then (plain_list thread_name order bytes) (λ raws. Ok (last_names (2 ^ 32) (filter_map (named order file) raws)))
 
@@ -42,7 +43,7 @@ thread_names_in order file bytes = and_then (plain_list thread_name order bytes)
 abbrev pub name_of_thread : List ThreadName → ℕ → Option (List ℕ)
 name_of_thread names id = lookup (λ t. t == id) names
 
--- the stream of type ThreadNamesStream
+-- the stream of type ThreadNamesStream. Its reads are the count, each entry and the name of each
 abbrev pub thread_names_stream : StreamSpec MinidumpThreadNames (List ThreadName)
 thread_names_stream = record {
   stream_type = ThreadNamesStream;

@@ -71,7 +71,7 @@ report fs =
     option_map (λ v. record { process_states = v.0; system_memory_state = v.1 })
     (both (repeated process_state 2 fs) (nested system_memory_state 7 fs))
 
--- the report that a stream holds
+-- the report that a stream holds. A field of a message that has another wire type than its own is `DataError`
 abbrev pub stability_report_in : List ℕ → Result Report Error
 stability_report_in bytes = ok_or (option_and_then report (fields_in bytes)) DataError
 

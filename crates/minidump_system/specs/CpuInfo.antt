@@ -96,7 +96,7 @@ features_text word = listed (features_below 19 word)
 unfoldable pub arm_text : ℕ → ℕ → ℕ → List ℕ
 arm_text level cpuid elf_hwcaps = codes "ARMv" ++ (decimal level ++ (identity_text cpuid ++ features_text elf_hwcaps))
 
--- what a processor says of itself, of the 24 bytes that the system information has for it
+-- what a processor says of itself, of the 24 bytes that the system information has for it. Numbers among them have the file's byte order
 abbrev pub cpu_info_text : Endian → Cpu → ℕ → ℕ → List ℕ → Option (List ℕ)
 cpu_info_text order X86 level revision bytes = Some (vendor_text order bytes ++ (codes " " ++ family_text level revision))
 cpu_info_text order X86_64 level revision bytes = Some (family_text level revision)

@@ -51,7 +51,7 @@ date_text_of seconds =
     let m = month_from 14 y.0 1 y.1 in
     moment_text y.0 m.0 (m.1 + 1) (seconds % 86400 / 3600) (seconds % 3600 / 60) (seconds % 60) []
 
--- the calendar has the day, in a year up to 9999
+-- the calendar has the day, in a year up to 9999; the year 0 is one
 abbrev pub is_day : ℕ → ℕ → ℕ → Bool
 is_day year month day =
     nat_le year 9999 && nat_le 1 month && nat_le month 12 && nat_le 1 day && nat_le day (days_in_month (pos year) month)
@@ -77,7 +77,7 @@ thousandths n =
     if n % 100 == 0 then codes "." ++ one_digit (n / 100) else (
     if n % 10 == 0 then codes "." ++ two_digits (n / 10) else codes "." ++ three_digits n))
 
--- the text of a moment, if there is such a moment
+-- the text of a moment, or `<invalid date>` where there is no such moment
 unfoldable pub system_time_text : SYSTEMTIME → List ℕ
 system_time_text t =
     if is_moment t then moment_text t.year t.month t.day t.hour t.minute t.second (thousandths t.milliseconds)

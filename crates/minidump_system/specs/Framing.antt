@@ -17,7 +17,8 @@ use Rattle.minidump_system.specs.declared.framing.ListHeader.{ListHeader}
 abbrev pub count_of : Endian → List ℕ → ℕ
 count_of order bytes = number_at order 4 0 (slice_range bytes 0 4)
 
--- the list by its count: the length must be 4 + size * count, or four more
+-- the list by its count: the length must be 4 + size * count, or four more, which align the entries behind the count. Another length is
+-- refused with the one that the count asks for and the one that is there
 abbrev counted : {R : Type 0} → Layout R → Endian → List ℕ → Option ℕ → Result (List R) Error
 counted layout order bytes None = Err StreamReadFailure
 counted layout order bytes (Some count) =
@@ -42,7 +43,7 @@ pub record List64 (R : Type 0) : Type 0 where
 abbrev pub list_64_left : {R : Type 0} → ℕ × List R → List64 R
 list_64_left l = record { rva = l.0; items = l.1 }
 
--- the 64 list by count and place: its length must be 16 + size * count, below 2^64
+-- the 64 list by count and place: its length must be 16 + size * count, below 2^64. The length is tested after both numbers are read
 abbrev counted_64 : {R : Type 0} → Layout R → Endian → List ℕ → Option ℕ → Option ℕ → Result (List64 R) Error
 counted_64 layout order bytes None rva = Err StreamReadFailure
 counted_64 layout order bytes (Some count) None = Err StreamReadFailure
@@ -75,7 +76,8 @@ list_header_of order bytes = list_header.value order (slice_range bytes 0 12)
 abbrev expected_length : ListHeader → ℕ
 expected_length h = h.size_of_header + h.size_of_entry * h.number_of_entries
 
--- entries of the layout's size come behind a header of at least 12 bytes
+-- entries of the layout's size come behind a header of at least 12 bytes. The first of these refuses: a number that is missing, entries
+-- of another size, a stream that is too short, a header that is too short
 abbrev extended : {R : Type 0} → Layout R → Endian → List ℕ → Option ListHeader → Result (List R) Error
 extended layout order bytes None = Err StreamReadFailure
 extended layout order bytes (Some h) =
@@ -89,7 +91,8 @@ extended layout order bytes (Some h) =
 abbrev pub extended_list : {R : Type 0} → Layout R → Endian → List ℕ → Result (List R) Error
 extended_list layout order bytes = extended layout order bytes (record_at list_header order 0 bytes)
 
--- entries of 32 or of 40 bytes come behind the header; of none the size does not matter
+-- entries of 32 or of 40 bytes come behind the header; of none the size does not matter. The first of these refuses: a number that is
+-- missing, a stream that is too short, entries of another size. The header may be shorter than its numbers
 abbrev handles : Endian → List ℕ → Option ListHeader → Result HandleEntries Error
 handles order bytes None = Err StreamReadFailure
 handles order bytes (Some h) =

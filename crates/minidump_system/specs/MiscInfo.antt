@@ -120,7 +120,8 @@ from_layout_5 (MiscInfo3 raw) = None
 from_layout_5 (MiscInfo2 raw) = None
 from_layout_5 (MiscInfo raw) = None
 
--- The fields, by the first layout that has each: the field's value where its flag is set in flags1.
+-- The fields, by the first layout that has each: the field's value where its flag is set in flags1. The fields size_of_info, flags1 and
+-- xstate_data need no flag.
 unfoldable pub size_of_info : RawMiscInfo → Option ℕ
 size_of_info info = option_and_then (λ raw. Some raw.size_of_info) (from_layout_1 info)
 
@@ -233,7 +234,7 @@ create_time_line seconds = concat (hex seconds ∷ codes " " ∷ date_text_of se
 abbrev pub create_time_text : RawMiscInfo → List ℕ
 create_time_text raw = codes "  process_create_time          = " ++ lines_or_invalid create_time_line (process_create_time raw)
 
--- a text of code units up to the first 0
+-- a text of code units up to the first 0, or of all where none is 0; `(invalid)` where a surrogate lacks its partner
 abbrev pub shown_units : List ℕ → List ℕ
 shown_units units = or_invalid (λ text. text) (text_before_nul units)
 

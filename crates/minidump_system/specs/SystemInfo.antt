@@ -28,7 +28,7 @@ system_info_of s = record {
   cpu_info = option_map string_bytes s.cpu_info;
 }
 
--- the system of a record. A service pack that is no text is none
+-- the system of a record. A service pack that is no text is none. An RVA of 0 is looked at as any other
 abbrev with_record : Endian → List ℕ → Option MINIDUMP_SYSTEM_INFO → Result System Error
 with_record order file None = Err StreamReadFailure
 with_record order file (Some raw) = Ok (record {
@@ -48,7 +48,7 @@ abbrev pub system_info_in : Endian → List ℕ → List ℕ → Option System �
 system_info_in order file bytes (Some system) = Ok system
 system_info_in order file bytes None = system_read order file bytes
 
--- the stream of type SystemInfoStream
+-- the stream of type SystemInfoStream. It may take memory for all bytes, since a copy of one that is handed in does
 abbrev pub system_info_stream : StreamSpec MinidumpSystemInfo System
 system_info_stream = record {
   stream_type = SystemInfoStream;

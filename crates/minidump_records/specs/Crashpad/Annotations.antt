@@ -23,7 +23,8 @@ annotation_of (String s) = text (string_bytes s)
 annotation_of (UserDefined raw) = user_defined raw
 annotation_of (Unsupported raw) = unsupported raw
 
--- by the type: 0 is invalid, 1 is a text, which needs no NUL behind it, and from 0x8000 on it is user-defined
+-- by the type: 0 is invalid, 1 is a text, which needs no NUL behind it, and from 0x8000 on it is user-defined. A value that is no text is
+-- not looked at
 abbrev pub annotation_in : Endian → List ℕ → MINIDUMP_ANNOTATION → Result Annotation Error
 annotation_in order file raw =
     if raw.ty == 0 then Ok invalid else (

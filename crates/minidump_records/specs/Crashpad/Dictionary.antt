@@ -36,7 +36,8 @@ entries_of value es = map (λ e. (string_bytes e.0, value e.1)) es
 unfoldable pub dictionary_of : {V : Type 0} → List (List ℕ × V) → List (List ℕ × V)
 dictionary_of pairs = (one_dictionary pairs).the
 
--- the dictionary at a location
+-- the dictionary at a location: of entries with one key the last is kept. Each entry is read, so that a malformed one is an error also
+-- where a later one has its key
 unfoldable pub dictionary : {R V : Type 0} → Layout R → (R → ℕ) → (Endian → List ℕ → R → Result V Error) → Endian → List ℕ → MINIDUMP_LOCATION_DESCRIPTOR
     → Result (List (List ℕ × V)) Error
 dictionary layout key value order file l = and_then (untested_list layout (keyed key value) order file l) (λ pairs. Ok (dictionary_of pairs))

@@ -23,7 +23,8 @@ pub record CountedList : Type 0 where
 abbrev pub list_of : List ℕ → ℕ → CountedList
 list_of bytes count = record { bytes = bytes; count = count }
 
--- the list at a location: without bytes it has no count, and no entries
+-- the list at a location: without bytes it has no count, and no entries, but its RVA has to be in the file. In 1 to 3 bytes there is no
+-- count, which is an error
 unfoldable pub opened : Endian → List ℕ → MINIDUMP_LOCATION_DESCRIPTOR → Result CountedList Error
 opened order file l =
     and_then (ok_or (located file l) StreamReadFailure) (λ bytes.
@@ -35,7 +36,8 @@ abbrev pub opened_reads : MINIDUMP_LOCATION_DESCRIPTOR → ℕ
 opened_reads l = if l.data_size == 0 then 1 else 2
 
 module _ {R V : Type 0} (layout : Layout R) (part : Endian → List ℕ → R → Result V Error) (order : Endian) (file : List ℕ) where
-  -- the part that the entry at an index names; the entries stand behind the count
+  -- the part that the entry at an index names; the entries stand behind the count, in the bytes of the location, and the parts anywhere
+  -- in the file
   abbrev pub part_at : List ℕ → ℕ → Result V Error
   part_at bytes i = and_then (ok_or (record_at layout order (4 + layout.size * i) bytes) StreamReadFailure) (part order file)
 
@@ -43,7 +45,7 @@ module _ {R V : Type 0} (layout : Layout R) (part : Endian → List ℕ → R �
   abbrev pub parts : CountedList → Result (List V) Error
   parts list = each (part_at list.bytes) list.count
 
-  -- the parts of the list at a location, whatever its count is
+  -- the parts of the list at a location, whatever its count is; the first entry that is not there is an error
   unfoldable pub untested_list : MINIDUMP_LOCATION_DESCRIPTOR → Result (List V) Error
   untested_list l = and_then (opened order file l) parts
 

@@ -31,7 +31,8 @@ abbrev pub last_link : ℕ → List MinidumpHandleObjectInformation → ℕ
 last_link link [] = link
 last_link link (i ∷ is) = last_link (next_of i) is
 
--- the reads of the pieces from a link on: one for each, and one at the offset where the chain ends, if that is not 0
+-- the reads of the pieces from a link on: one for each, and one at the offset where the chain ends, if that is not 0. An offset that was
+-- met before is read again
 abbrev pub chain_reads : ℕ → List MinidumpHandleObjectInformation → ℕ
 chain_reads link infos = length infos + reads_at (last_link link infos)
 

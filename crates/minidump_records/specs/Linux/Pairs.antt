@@ -12,7 +12,7 @@ is_quoted text = nat_le 2 (length text) && (slice_index text 0 == 34 && slice_in
 unfoldable pub unquoted : List ℕ → List ℕ
 unquoted text = if is_quoted text then slice_range text 1 (length text - 1) else text
 
--- the key or the value of a pair: trimmed, and then without quotes
+-- the key or the value of a pair: trimmed, and then without quotes. What stood between quotes is not trimmed again
 abbrev pub pair_side : List ℕ → List ℕ
 pair_side text = unquoted (trimmed text)
 
@@ -20,6 +20,7 @@ pair_side text = unquoted (trimmed text)
 abbrev pub pair_of : ℕ → List ℕ → Option (List ℕ × List ℕ)
 pair_of separator line = option_map (λ sides. (pair_side sides.0, pair_side sides.1)) (cut_first separator line)
 
--- the pairs of a text, in the order of its lines
+-- the pairs of a text, in the order of its lines. The separator is a colon in cpuinfo and status, and an equals sign in the environment
+-- and lsb-release
 abbrev pub pairs_of : ℕ → List ℕ → List (List ℕ × List ℕ)
 pairs_of separator text = filter_map (pair_of separator) (text_lines text)

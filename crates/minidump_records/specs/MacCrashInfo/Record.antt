@@ -102,7 +102,7 @@ text_of field (v5 raw texts) = if_some (field texts)
 
 -- ---- its bytes
 
--- the text at a place, up to its NUL
+-- the text at a place of the bytes of a record, up to its NUL, which has to be among them too
 abbrev pub text_at : ℕ → List ℕ → Result (List ℕ) Error
 text_at place bytes = ok_or (cstring place bytes) StreamReadFailure
 
@@ -125,12 +125,13 @@ texts_in first bytes =
       message2 = message2;
     }))))))
 
--- the fixed part, which has to end where the texts begin, or before
+-- the fixed part, which has to end where the texts begin, or before; bytes between the two are not read
 unfoldable pub fixed_part : {R : Type 0} → Layout R → Endian → ℕ → List ℕ → Result R Error
 fixed_part layout order start bytes =
     if nat_lt start layout.size then Err StreamReadFailure else ok_or (record_at layout order 0 bytes) StreamReadFailure
 
--- the record of a head, by its version, where the texts begin at `start`; a record of version 0 is left out
+-- the record of a head, by its version, where the texts begin at `start`; a record of version 0 is left out. In versions 1 to 3, which have
+-- no texts, `start` may lie behind the record
 abbrev pub by_version : Endian → ℕ → MINIDUMP_MAC_CRASH_INFO_RECORD → List ℕ → Result (Option MacRecord) Error
 by_version order start head bytes =
     if head.version == 0 then Ok None else (
