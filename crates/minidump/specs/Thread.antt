@@ -1,5 +1,6 @@
 -- The threads of a minidump: Microsoft's MINIDUMP_THREAD_LIST, with the context and the stack of each.
-use Rattle.std.specs.Prelude.{◌≡◌, ◌≢◌, ℕ, ◌+◌, All, List, ◌∷◌, ◌++◌, map, Option, Some, None, Result, Ok, if◌then◌else◌, nat_lt, ◌*◌, ◌^◌, IsOkAnd, ◌<◌, length}
+use Rattle.std.specs.Prelude.{◌≡◌, ◌≢◌, ℕ, ◌+◌, All, List, ◌∷◌, ◌++◌, map, Option, Some, None, Result, Ok, if◌then◌else◌, nat_lt, ◌*◌, ◌^◌, IsOkAnd}
+use Rattle.std.specs.Prelude.{◌<◌, length}
 use Rattle.std.specs.List.{sum_by}
 use Rattle.std.specs.Option.{option_and_then, option_copied, option_map}
 use Rattle.std.specs.Result.{result_ok}

@@ -1,5 +1,6 @@
 -- Numbers in hexadecimal by a fixed count of digits, and how many digits a number has.
-use Rattle.std.proofs.Common.{◌≡◌, ℕ, zero, suc, ◌+◌, ◌-◌, ◌/◌, ◌%◌, ◌^◌, ◌<◌, ◌≤◌, false, [], ◌∷◌, ◌++◌, length, replicate, drop, length-append, refl, sym, ap, ◌∙◌, arith, inl, inr, rules}
+use Rattle.std.proofs.Common.{◌≡◌, ℕ, zero, suc, ◌+◌, ◌-◌, ◌/◌, ◌%◌, ◌^◌, ◌<◌, ◌≤◌, false, [], ◌∷◌, ◌++◌, length, replicate, drop, length-append}
+use Rattle.std.proofs.Common.{refl, sym, ap, ◌∙◌, arith, inl, inr, rules}
 use Rattle.std.specs.Fmt.{digits, digit_glyph}
 use Rattle.std.proofs.lemmas.Bool.{cases_lt}
 use Rattle.std.proofs.lemmas.List.{replicate-append-replicate, length-replicate}
@@ -56,7 +57,8 @@ pub wide_fixed : (w n : ℕ) → n < 16 ^ suc w → n < 2 ^ 64 → wide_hex (suc
 wide_fixed zero n h small = short zero n (omega (arith, h))
 wide_fixed (suc w) n h small = elim (cases_lt n 16) [
   | inl l ↦ short (suc w) n l
-  | inr l ↦ wide_step (suc (suc w)) n l small ∙ ap (λ k. (replicate (k - length (digits 16 false (n / 16))) 48 ++ digits 16 false (n / 16)) ++ (digit_glyph false (n % 16) ∷ [])) (two w)
+  | inr l ↦ wide_step (suc (suc w)) n l small
+      ∙ ap (λ k. (replicate (k - length (digits 16 false (n / 16))) 48 ++ digits 16 false (n / 16)) ++ (digit_glyph false (n % 16) ∷ [])) (two w)
       ∙ ap (λ t. t ++ digit_glyph false (n % 16) ∷ []) (wide_fixed w (n / 16) (omega (arith, h)) (omega (arith, small)))
 ]
 

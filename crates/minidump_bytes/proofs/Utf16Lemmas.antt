@@ -1,5 +1,6 @@
 -- Lemmas on UTF-16.
-use Rattle.std.proofs.Common.{◌≡◌, ℕ, suc, ◌+◌, ◌-◌, ◌*◌, ◌/◌, ◌%◌, ◌<◌, ◌≤◌, List, [], ◌∷◌, ◌++◌, Bool, true, false, not, cond, ◌⊎◌, inl, inr, Some, None, is_some, refl, sym, ap, ◌∙◌, arith, add_assoc, length, get_or, map}
+use Rattle.std.proofs.Common.{◌≡◌, ℕ, suc, ◌+◌, ◌-◌, ◌*◌, ◌/◌, ◌%◌, ◌<◌, ◌≤◌, List, [], ◌∷◌, ◌++◌, Bool, true, false, not, cond, ◌⊎◌, inl, inr, Some}
+use Rattle.std.proofs.Common.{None, is_some, refl, sym, ap, ◌∙◌, arith, add_assoc, length, get_or, map}
 use Rattle.std.specs.Prelude.{encode_utf8_all, MatchOption, All}
 use Rattle.std.specs.Option.{unwrap_or}
 use Rattle.std.specs.List.{flat_map, list_any}
@@ -10,7 +11,8 @@ use Rattle.std.proofs.lemmas.Bool.{cases_lt}
 use Rattle.std.proofs.lemmas.Grind.{common_steps}
 use Rattle.std.proofs.Math.Utf8.{scalar, scalar_cases, low_scalar}
 use Rattle.std.proofs.str.Laws.{both}
-use Rattle.std.proofs.str.Utf16.{IsPair, one_unit, two_units, pair_units, lone_unit_char_low, lone_unit_char_high, lone_unit_char_surrogate, utf16_chars_lone, utf16_chars_pair, utf16_chars-nil}
+use Rattle.std.proofs.str.Utf16.{IsPair, one_unit, two_units, pair_units, lone_unit_char_low, lone_unit_char_high, lone_unit_char_surrogate}
+use Rattle.std.proofs.str.Utf16.{utf16_chars_lone, utf16_chars_pair, utf16_chars-nil}
 use borrow.Author.Tests.{lt-ltb, le-ltb, le-leb}
 use Rattle.minidump_bytes.specs.Text16.{Spells, IsUtf16, IsTextOf, utf16_text}
 

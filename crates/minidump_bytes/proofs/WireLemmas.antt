@@ -1,5 +1,6 @@
 -- A varint is read group by group.
-use Rattle.std.proofs.Common.{◌≡◌, ℕ, zero, suc, ◌<◌, ◌≤◌, ◌+◌, ◌-◌, ◌*◌, ◌%◌, ◌^◌, true, false, List, [], ◌∷◌, length, take, drop, get_or, Option, Some, None, arith, add-one, refl, sym, ap, ◌∙◌}
+use Rattle.std.proofs.Common.{◌≡◌, ℕ, zero, suc, ◌<◌, ◌≤◌, ◌+◌, ◌-◌, ◌*◌, ◌%◌, ◌^◌, true, false, List, [], ◌∷◌, length, take, drop, get_or, Option}
+use Rattle.std.proofs.Common.{Some, None, arith, add-one, refl, sym, ap, ◌∙◌}
 use Rattle.std.specs.Prelude.{nat_lt}
 use Rattle.std.specs.Option.{option_map}
 use Rattle.std.proofs.Math.Nat.{mul-le-mul_left}

@@ -1,5 +1,6 @@
 -- Texts in UTF-16 (RFC 2781): Microsoft's MINIDUMP_STRING, and code units up to a zero.
-use Rattle.std.specs.Prelude.{◌≡◌, ℕ, ◌+◌, ◌≤◌, ◌/◌, ◌%◌, ◌==◌, true, ◌&&◌, List, length, slice_range, Option, Some, None, nat_le, if◌then◌else◌, encode_utf8_all}
+use Rattle.std.specs.Prelude.{◌≡◌, ℕ, ◌+◌, ◌≤◌, ◌/◌, ◌%◌, ◌==◌, true, ◌&&◌, List, length, slice_range, Option, Some, None, nat_le, if◌then◌else◌}
+use Rattle.std.specs.Prelude.{encode_utf8_all}
 use Rattle.std.specs.List.{before_first, flat_map}
 use Rattle.std.specs.Str.{all_scalars}
 use Rattle.std.specs.Char.Escape.{encode_utf16}

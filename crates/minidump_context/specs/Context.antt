@@ -13,7 +13,11 @@ use Rattle.minidump_format.specs.ContextArm.{context_arm}
 use Rattle.minidump_format.specs.ContextArm64.{context_arm64, context_arm64_old}
 use Rattle.minidump_format.specs.System.{architecture_of}
 use Rattle.minidump_format.specs.declared.format.system.ProcessorArchitecture.{ProcessorArchitecture}
-use Rattle.minidump_format.specs.declared.format.system.ProcessorArchitecture.TheVariants.{PROCESSOR_ARCHITECTURE_INTEL, PROCESSOR_ARCHITECTURE_ARM, PROCESSOR_ARCHITECTURE_AMD64, PROCESSOR_ARCHITECTURE_IA32_ON_WIN64, PROCESSOR_ARCHITECTURE_ARM64, PROCESSOR_ARCHITECTURE_ARM64_OLD}
+use Rattle.minidump_format.specs.declared.format.system.ProcessorArchitecture.TheVariants.{PROCESSOR_ARCHITECTURE_INTEL, PROCESSOR_ARCHITECTURE_ARM}
+use Rattle.minidump_format.specs.declared.format.system.ProcessorArchitecture.TheVariants.{PROCESSOR_ARCHITECTURE_AMD64}
+use Rattle.minidump_format.specs.declared.format.system.ProcessorArchitecture.TheVariants.{PROCESSOR_ARCHITECTURE_IA32_ON_WIN64}
+use Rattle.minidump_format.specs.declared.format.system.ProcessorArchitecture.TheVariants.{PROCESSOR_ARCHITECTURE_ARM64}
+use Rattle.minidump_format.specs.declared.format.system.ProcessorArchitecture.TheVariants.{PROCESSOR_ARCHITECTURE_ARM64_OLD}
 use Rattle.minidump_context.specs.declared.context.ContextError.{ContextError}
 use Rattle.minidump_context.specs.declared.context.ContextError.TheVariants.{ReadFailure, UnknownCpuContext}
 use Rattle.minidump_context.specs.declared.context_registers.ContextRegisters.{ContextRegisters}

@@ -7,7 +7,8 @@ use Rattle.minidump_format.specs.Answer.{Gives, Refuses}
 use Rattle.minidump_format.specs.declared.error.Error.{Error}
 use Rattle.minidump_format.specs.declared.error.Error.TheVariants.{OutOfMemory}
 
-refused : {M N A B : Type 0} (e : Error) (part : Result A Error) (whole : Result B Error) → (M → N) → (part ≡ Err e → whole ≡ Err e) → Refuses M e part → Refuses N e whole
+refused : {M N A B : Type 0} (e : Error) (part : Result A Error) (whole : Result B Error) → (M → N) → (part ≡ Err e → whole ≡ Err e) → Refuses M e part
+    → Refuses N e whole
 refused OutOfMemory part whole memory rule h = memory h
 refused e part whole memory rule h = rule h
 
@@ -21,5 +22,6 @@ refuses OutOfMemory whole h = tt
 refuses e whole h = h
 
 -- the whole is known to be refused
-pub gives_err : {X B : Type 0} (view : X → B) (r : Result X Error) (e : Error) (whole : Result B Error) → IsErrAnd r (λ y. y ≡ e) → whole ≡ Err e → Gives view ⊤ r whole
+pub gives_err : {X B : Type 0} (view : X → B) (r : Result X Error) (e : Error) (whole : Result B Error) → IsErrAnd r (λ y. y ≡ e) → whole ≡ Err e
+    → Gives view ⊤ r whole
 gives_err view r e whole exit h = let p = err_from_is_err_and r exit in rw (p.1, p.2) (refuses e whole h)

@@ -8,7 +8,8 @@ use Rattle.minidump_format.proofs.Printing.{PutsAllBut}
 
 module _ {D : Type 0} (contents : D → Option (List ℕ)) where
   -- the next item's text waits behind the block
-  pub but_joined : (a b : Told D) (whole block text rest new : List ℕ) → new ≡ block ++ text → PutsAllBut contents a b whole (block ++ (text ++ rest)) → PutsAllBut contents a b whole (new ++ rest)
+  pub but_joined : (a b : Told D) (whole block text rest new : List ℕ) → new ≡ block ++ text → PutsAllBut contents a b whole (block ++ (text ++ rest))
+      → PutsAllBut contents a b whole (new ++ rest)
   but_joined a b whole block text rest new e before = rw e (subst (PutsAllBut contents a b whole) (sym (append_assoc block text rest)) before)
 
   -- what waited was lost

@@ -64,7 +64,8 @@ module _ {R : Type 0} (range : R → Option Range) (regions : List R) (address :
       there (r ∷ rs) same =
           let here = get_or regions place r in
           let is = get_or_default regions place r here (found_within range regions entries address place index f) in
-          let found = counted_some range regions entries address 0 (digits (length entries)) index (omega arith) (omega arith) (compared (length entries)) place here f is in
+          let found =
+          counted_some range regions entries address 0 (digits (length entries)) index (omega arith) (omega arith) (compared (length entries)) place here f is in
           (Some here, found.found)
 
   -- of regions

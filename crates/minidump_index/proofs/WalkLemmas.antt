@@ -1,5 +1,6 @@
 -- The walk of a full tree by numbers: what stands at the k-th place, and how many come before it.
-use Rattle.std.proofs.Common.{◌≡◌, ℕ, zero, suc, ◌<◌, ◌≤◌, ◌+◌, ◌-◌, ◌*◌, ◌^◌, ◌/◌, ◌%◌, List, [], ◌∷◌, ◌++◌, length, arith, slice_get, slice_set, ◌≢◌, subst, sym, ap, refl, inl, inr, ◌∙◌, drop, min}
+use Rattle.std.proofs.Common.{◌≡◌, ℕ, zero, suc, ◌<◌, ◌≤◌, ◌+◌, ◌-◌, ◌*◌, ◌^◌, ◌/◌, ◌%◌, List, [], ◌∷◌, ◌++◌, length, arith, slice_get, slice_set}
+use Rattle.std.proofs.Common.{◌≢◌, subst, sym, ap, refl, inl, inr, ◌∙◌, drop, min}
 use Rattle.std.specs.Prelude.{Option, Some, None}
 use Rattle.std.specs.Option.{option_to_list}
 use Rattle.std.specs.Int.Count.{count_trailing_zeros, count_leading_zeros}

@@ -1,5 +1,6 @@
 -- Lists that a loop makes item by item, up to the first refusal.
-use Rattle.std.proofs.Common.{◌≡◌, ℕ, ◌+◌, ◌<◌, true, false, List, [], ◌∷◌, ◌++◌, length, get_or, take, drop, map, Result, Ok, Err, refl, ap, sym, ◌∙◌, add-one, arith, append-nil, drop-cons}
+use Rattle.std.proofs.Common.{◌≡◌, ℕ, ◌+◌, ◌<◌, true, false, List, [], ◌∷◌, ◌++◌, length, get_or, take, drop, map, Result, Ok, Err, refl, ap, sym}
+use Rattle.std.proofs.Common.{◌∙◌, add-one, arith, append-nil, drop-cons}
 use Rattle.std.specs.Prelude.{Bool, filter}
 use Rattle.std.proofs.lemmas.List.{take-append-drop, take_more, map_push}
 use Rattle.std.proofs.lemmas.List.Elements.{filter-append, filter_more}

@@ -54,7 +54,8 @@ windows_refined names k p0 p2 other = other
 -- EXCEPTION_RECORD of winnt.h
 abbrev pub windows_reason : Lists → MINIDUMP_EXCEPTION → CrashReason
 windows_reason names r =
-    windows_refined names r.number_parameters (slice_index r.exception_information 0) (slice_index r.exception_information 2) (windows_code names r.exception_code)
+    windows_refined names r.number_parameters (slice_index r.exception_information 0) (slice_index r.exception_information 2)
+    (windows_code names r.exception_code)
 
 -- ---- macOS and iOS
 

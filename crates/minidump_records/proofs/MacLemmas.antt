@@ -1,5 +1,6 @@
 -- The records of the crash information of macOS, one after another.
-use Rattle.std.proofs.Common.{◌≡◌, ℕ, ◌<◌, ◌+◌, List, [], ◌∷◌, ◌++◌, length, get_or, drop, drop-cons, add-one, map, refl, ap, sym, ◌∙◌, append_assoc, append-nil, Ok, Err, Option, Some, None, Result}
+use Rattle.std.proofs.Common.{◌≡◌, ℕ, ◌<◌, ◌+◌, List, [], ◌∷◌, ◌++◌, length, get_or, drop, drop-cons, add-one, map, refl, ap, sym, ◌∙◌, append_assoc}
+use Rattle.std.proofs.Common.{append-nil, Ok, Err, Option, Some, None, Result}
 use Rattle.std.specs.List.{cons_option, filter_map, zip}
 use Rattle.std.specs.Option.{option_and_then}
 use Rattle.minidump_bytes.specs.declared.endian.Endian.{Endian}

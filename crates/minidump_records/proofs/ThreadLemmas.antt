@@ -1,5 +1,6 @@
 -- The names of threads in a sorted map, and the last of each.
-use Rattle.std.proofs.Common.{◌≡◌, ◌≢◌, ℕ, ◌<◌, ◌≤◌, cond, Bool, true, false, List, [], ◌∷◌, ◌++◌, map, Option, Some, None, refl, ap, sym, ◌∙◌, arith, append_assoc, append-nil}
+use Rattle.std.proofs.Common.{◌≡◌, ◌≢◌, ℕ, ◌<◌, ◌≤◌, cond, Bool, true, false, List, [], ◌∷◌, ◌++◌, map, Option, Some, None, refl, ap, sym, ◌∙◌, arith}
+use Rattle.std.proofs.Common.{append_assoc, append-nil}
 use Rattle.std.specs.Prelude.{◌==◌, All}
 use Rattle.std.specs.BTreeMap.{BTreeMap, IsOrdered, Updates, get, is_at}
 use Rattle.std.specs.List.{AllZip, filter_map, range_with_len}

@@ -3,7 +3,8 @@
 pub mod Pairs
 use Rattle.std.specs.Prelude.{ℕ, List, Result, Ok}
 use Rattle.minidump_format.specs.declared.format.stream_type.MINIDUMP_STREAM_TYPE.{MINIDUMP_STREAM_TYPE}
-use Rattle.minidump_format.specs.declared.format.stream_type.MINIDUMP_STREAM_TYPE.TheVariants.{LinuxCpuInfo, LinuxEnviron, LinuxLsbRelease, LinuxProcStatus, MozLinuxLimits}
+use Rattle.minidump_format.specs.declared.format.stream_type.MINIDUMP_STREAM_TYPE.TheVariants.{LinuxCpuInfo, LinuxEnviron, LinuxLsbRelease}
+use Rattle.minidump_format.specs.declared.format.stream_type.MINIDUMP_STREAM_TYPE.TheVariants.{LinuxProcStatus, MozLinuxLimits}
 use Rattle.minidump_format.specs.declared.error.Error.{Error}
 use Rattle.minidump_system.specs.StreamSpec.{StreamSpec}
 use Rattle.minidump_records.specs.declared.linux.files.CpuInfo.{CpuInfo}

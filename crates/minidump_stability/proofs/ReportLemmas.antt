@@ -5,9 +5,14 @@ use Rattle.std.specs.Option.{ok_or, option_and_then}
 use Rattle.minidump_bytes.specs.Wire.{Field}
 use Rattle.minidump_format.specs.declared.error.Error.TheVariants.{DataError}
 use Rattle.minidump_stability.specs.Fields.{fields_in, int64_in, uint32_in}
-use Rattle.minidump_stability.specs.ReportRows.{no_file_system_state, no_memory_state, no_posix_file_system_state, no_process_state, no_system_memory_state, no_system_windows_memory, no_windows_file_system_state, no_windows_memory, put_file_system_state, put_memory_state, put_posix_file_system_state, put_process_state, put_report, put_system_memory_state, put_system_windows_memory, put_windows_file_system_state, put_windows_memory}
+use Rattle.minidump_stability.specs.ReportRows.{no_file_system_state, no_memory_state, no_posix_file_system_state, no_process_state}
+use Rattle.minidump_stability.specs.ReportRows.{no_system_memory_state, no_system_windows_memory, no_windows_file_system_state, no_windows_memory}
+use Rattle.minidump_stability.specs.ReportRows.{put_file_system_state, put_memory_state, put_posix_file_system_state, put_process_state, put_report}
+use Rattle.minidump_stability.specs.ReportRows.{put_system_memory_state, put_system_windows_memory, put_windows_file_system_state, put_windows_memory}
 use Rattle.minidump_stability.specs.Rows.{merged_bytes, merged_fields}
-use Rattle.minidump_stability.specs.StabilityReport.{file_system_state, memory_state, no_report, posix_file_system_state, process_state, report, stability_report_in, system_memory_state, system_windows_memory, windows_file_system_state, windows_memory}
+use Rattle.minidump_stability.specs.StabilityReport.{file_system_state, memory_state, no_report, posix_file_system_state, process_state, report}
+use Rattle.minidump_stability.specs.StabilityReport.{stability_report_in, system_memory_state, system_windows_memory, windows_file_system_state}
+use Rattle.minidump_stability.specs.StabilityReport.{windows_memory}
 use Rattle.minidump_stability.proofs.RowLemmas.{Means, beside, only_nested, only_repeated, only_scalar, through_means}
 
 windows_memory_means : Means put_windows_memory no_windows_memory windows_memory

@@ -21,7 +21,12 @@ no_windows_memory =
 unfoldable pub put_windows_memory : Field → WindowsMemory → Option WindowsMemory
 put_windows_memory =
     through (λ m. (m.process_private_usage, (m.process_peak_workingset_size, (m.process_peak_pagefile_usage, m.process_allocation_attempt))))
-    (λ v. record { process_private_usage = v.0; process_peak_workingset_size = v.1.0; process_peak_pagefile_usage = v.1.1.0; process_allocation_attempt = v.1.1.1 })
+    (λ v. record {
+      process_private_usage = v.0;
+      process_peak_workingset_size = v.1.0;
+      process_peak_pagefile_usage = v.1.1.0;
+      process_allocation_attempt = v.1.1.1;
+    })
     (row 1 (scalar_row uint32_in) (row 2 (scalar_row uint32_in) (row 3 (scalar_row uint32_in) (only 4 (scalar_row uint32_in)))))
 
 -- ProcessState.MemoryState

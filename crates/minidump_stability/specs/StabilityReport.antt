@@ -21,7 +21,12 @@ use Rattle.minidump_stability.specs.Fields.{both, counted, fields_in, int64_in, 
 abbrev pub windows_memory : List Field → Option WindowsMemory
 windows_memory fs =
     option_map
-    (λ v. record { process_private_usage = v.0; process_peak_workingset_size = v.1.0; process_peak_pagefile_usage = v.1.1.0; process_allocation_attempt = v.1.1.1 })
+    (λ v. record {
+      process_private_usage = v.0;
+      process_peak_workingset_size = v.1.0;
+      process_peak_pagefile_usage = v.1.1.0;
+      process_allocation_attempt = v.1.1.1;
+    })
     (both (scalar uint32_in 1 fs) (both (scalar uint32_in 2 fs) (both (scalar uint32_in 3 fs) (scalar uint32_in 4 fs))))
 
 -- ProcessState.MemoryState

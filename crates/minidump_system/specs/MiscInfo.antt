@@ -49,7 +49,8 @@ layout_5 order bytes = option_map MiscInfo5 (record_at misc_info_5 order 0 bytes
 -- the largest of them that the bytes hold, whatever size_of_info says
 abbrev pub largest_layout : Endian → List ℕ → Option RawMiscInfo
 largest_layout order bytes =
-    option_or (layout_5 order bytes) (option_or (layout_4 order bytes) (option_or (layout_3 order bytes) (option_or (layout_2 order bytes) (layout_1 order bytes))))
+    option_or (layout_5 order bytes)
+    (option_or (layout_4 order bytes) (option_or (layout_3 order bytes) (option_or (layout_2 order bytes) (layout_1 order bytes))))
 
 abbrev or_refused : Option RawMiscInfo → Result RawMiscInfo Error
 or_refused (Some raw) = Ok raw

@@ -16,7 +16,8 @@ returns-in-Err g c = (but_lost _ _ _ _ _ c.loop-item.invariant, rw c.loop-item.i
 pub returns-in_err-put_bytes : goal.returns-in_err-put_bytes
 returns-in_err-put_bytes g c =
     but_exit _ _ _ _ _ _ _ _ _
-    (but_joined _ _ _ _ c.loop-item.block.items (g.T.Pushed.text c.item-item.result) _ _ (c.as_slice.ensures.value ∙ c.in-Ok.ensures) (rw (drop-cons _ _ c.item-item.result c.loop-item-test.true, ← c.item-item.is) at c.loop-item.invariant))
+    (but_joined _ _ _ _ c.loop-item.block.items (g.T.Pushed.text c.item-item.result) _ _ (c.as_slice.ensures.value
+    ∙ c.in-Ok.ensures) (rw (drop-cons _ _ c.item-item.result c.loop-item-test.true, ← c.item-item.is) at c.loop-item.invariant))
     c.from_residual.ensures.1 c.in_err-put_bytes.ensures.prints
 
 pub loop-item-preserved : goal.loop-item-preserved

@@ -14,7 +14,8 @@ returns-in-Err g c = (but_lost _ _ _ _ _ c.loop-value.invariant, rw c.loop-value
 pub returns-in_err-put_bytes : goal.returns-in_err-put_bytes
 returns-in_err-put_bytes g c =
     but_exit _ _ _ _ _ _ _ _ _
-    (but_joined _ _ _ _ c.loop-value.block.items (g.P.PushText.text c.in-Some.value.now) _ _ (c.as_slice.ensures.value ∙ c.in-Ok.ensures) (rw c.in-Some.ensures.steps at c.loop-value.invariant))
+    (but_joined _ _ _ _ c.loop-value.block.items (g.P.PushText.text c.in-Some.value.now) _ _ (c.as_slice.ensures.value
+    ∙ c.in-Ok.ensures) (rw c.in-Some.ensures.steps at c.loop-value.invariant))
     c.from_residual.ensures.1 c.in_err-put_bytes.ensures.prints
 
 pub loop-value-preserved-then-len-ge-BLOCK : goal.loop-value-preserved-then-len-ge-BLOCK

@@ -56,7 +56,8 @@ loop-k-preserved c =
             starts = omega arith;
             whole = length-set c.loop-k.tree.items c.place_at-place.result e ∙ c.loop-k.invariant.whole;
             rank = omega (arith, c.loop-k.invariant.rank, one.0, next);
-            filled = filled_put _ _ _ _ c.place_at-place.result e total small c.loop-k.invariant.whole c.loop-k.invariant.starts c.loop-k-test.true c.place_at-place.ensures (omega (arith, w.if-place-len.true, len)) there c.loop-k.invariant.filled;
+            filled =
+                filled_put _ _ _ _ c.place_at-place.result e total small c.loop-k.invariant.whole c.loop-k.invariant.starts c.loop-k-test.true c.place_at-place.ensures (omega (arith, w.if-place-len.true, len)) there c.loop-k.invariant.filled;
           }))
       | else-place-len w ↦ rw (w.tree-is, w.rank-is) (record {
         starts = omega arith;

@@ -7,7 +7,8 @@ use Rattle.minidump_index.proofs.AscendingRegions.{put_none, put_within, put_one
 use Rattle.minidump_index.proofs.RangedEntries.{has_region}
 use Rattle.minidump_index.proofs.WalkLemmas.{total-few, total_of}
 use Rattle.minidump_index.proofs.index.put_regions.Goals as goal
-use Rattle.minidump_index.proofs.index.put_regions.Goals.{then-place-len+in-Some+else-rank-gt0, else-rank-gt0-via-then-rank-gt0+else-range-end, else-rank-gt0-via-else-rank-gt0, else-place-len}
+use Rattle.minidump_index.proofs.index.put_regions.Goals.{then-place-len+in-Some+else-rank-gt0, else-rank-gt0-via-then-rank-gt0+else-range-end}
+use Rattle.minidump_index.proofs.index.put_regions.Goals.{else-rank-gt0-via-else-rank-gt0, else-place-len}
 
 pub loop-k-init : goal.loop-k-init
 loop-k-init g c = put_none _ _ _ _ (omega (arith, c.requires, length-map c.args.regions.now g.R.Region.range))

@@ -5,7 +5,9 @@ use Rattle.std.specs.Option.{ok_or}
 use Rattle.minidump_format.specs.declared.error.Error.TheVariants.{DataError}
 use Rattle.minidump_bytes.specs.Source.{bytes_of}
 use Rattle.minidump_bytes.specs.Wire.{field_at, field_of}
-use Rattle.minidump_stability.proofs.MergeLemmas.{counting_end, counting_more, counting_none, first_there, memory_held, memory_none, gives_none, gives_refused, is_there, merging_end, merging_more, merging_none, merging_refused, merging_stuck, none_seen, some_seen}
+use Rattle.minidump_stability.proofs.MergeLemmas.{counting_end, counting_more, counting_none, first_there, memory_held, memory_none, gives_none}
+use Rattle.minidump_stability.proofs.MergeLemmas.{gives_refused, is_there, merging_end, merging_more, merging_none, merging_refused, merging_stuck}
+use Rattle.minidump_stability.proofs.MergeLemmas.{none_seen, some_seen}
 use Rattle.minidump_stability.proofs.message.merge.Goals as goal
 
 pub loop-place-init : goal.loop-place-init

@@ -7,4 +7,5 @@ use Rattle.minidump_system.proofs.os_parts.parts.Goals as goal
 
 pub returns : goal.returns
 unfolding parts_of
-returns c = map_from_collect _ c.collect.ensures.ran (YieldsList-from_str_split 32 c.args.text.now (lit< tt) c.split.ensures.text c.split.ensures.has_more c.split.ensures.pattern)
+returns c =
+    map_from_collect _ c.collect.ensures.ran (YieldsList-from_str_split 32 c.args.text.now (lit< tt) c.split.ensures.text c.split.ensures.has_more c.split.ensures.pattern)

@@ -3,7 +3,8 @@ use Rattle.std.proofs.Common.{length, arith}
 use Rattle.minidump_bytes.specs.Source.{bytes_of}
 use Rattle.minidump_records.proofs.HandleLemmas.{handles_steps}
 use Rattle.minidump_records.proofs.handles.data_stream.MinidumpHandleDataStreamMinidumpStream.read.Goals as goal
-use Rattle.minidump_records.proofs.handles.data_stream.MinidumpHandleDataStreamMinidumpStream.read.Goals.{in-Short+in_ok-handles-in-Short, in-Long+in_ok-handles-in-Long}
+use Rattle.minidump_records.proofs.handles.data_stream.MinidumpHandleDataStreamMinidumpStream.read.Goals.{in-Short+in_ok-handles-in-Short}
+use Rattle.minidump_records.proofs.handles.data_stream.MinidumpHandleDataStreamMinidumpStream.read.Goals.{in-Long+in_ok-handles-in-Long}
 
 pub returns-clause-within : goal.returns-clause-within
 returns-clause-within c = elim c.match-branch-2.branch [
