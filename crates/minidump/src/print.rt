@@ -1,4 +1,4 @@
-ghost use Rattle.std.specs.Prelude.{◌≡◌, ◌++◌, IfOk, string_bytes};
+ghost use Rattle.std.specs.Prelude.{◌≡◌, ◌++◌, OnOk};
 ghost use Rattle.std.specs.List.{flat_map};
 ghost use Rattle.minidump_format.specs.Print.{Prints};
 ghost use Rattle.minidump.specs.Text.{dump_text, entry_text, header_text, line_end, shown_type, stream_text, streams_heading};
@@ -7,9 +7,9 @@ ghost use Rattle.minidump.specs.DumpValue.{dump_of};
 
 use crate::Minidump;
 use crate::directory::DecidingEntry;
-use minidump_bytes::{Piece, Told, made};
+use minidump_bytes::{Piece, Told, push_pieces};
 use minidump_format::format::{MINIDUMP_HEADER, MINIDUMP_STREAM_TYPE};
-use minidump_format::{Error, TextOf, print_values, put_formatted, put_text};
+use minidump_format::{Error, PushText, Pushed, print_item, print_map, put_text};
 use std::alloc::{AllocError, Global};
 use std::io::Write;
 
@@ -30,13 +30,13 @@ impl<'a> Minidump<'a> {
             (header_text self.now.header ++ flat_map entry_text (streams_of (dump_of self.now))) result }
     {
         self.print_header(alloc, f)?;
-        print_values::<EntryText, _, _, _>(self.deciding_entries(), alloc, f)
+        print_map::<EntryText, _, _, _>(self.deciding_entries(), alloc, f)
     }
 
     fn print_header<W: Write>(&self, alloc: Global, f: &mut Told<W>) -> Result<(), Error>
         ensures { Prints W.contents f.old f.new (header_text self.now.header) result }
     {
-        put_formatted(f, header_text(alloc, &self.header))
+        print_item(&HeaderText(&self.header), alloc, f)
     }
 
     #[tactic(auto, using(minidump_format::proofs::Printing::prints_then, minidump_format::proofs::Printing::prints_exit))]
@@ -53,7 +53,7 @@ impl<'a> Minidump<'a> {
         ensures { Prints W.contents f.old f.new
             (flat_map stream_text (streams_of (dump_of self.now)) ++ line_end) result }
     {
-        print_values::<StreamText, _, _, _>(self.deciding_entries(), alloc, f)?;
+        print_map::<StreamText, _, _, _>(self.deciding_entries(), alloc, f)?;
         print_line_end(f)
     }
 }
@@ -72,32 +72,43 @@ fn print_line_end<W: Write>(f: &mut Told<W>) -> Result<(), Error>
     put_text(f, "\n")
 }
 
+#[derive(Clone, Copy)]
+struct HeaderText<'a>(&'a MINIDUMP_HEADER);
+
+impl<'a> Pushed for HeaderText<'a> {
+    ghost text = { λ header. header_text header.0.now };
+
+    fn push(&self, out: &mut Vec<u8>) -> Result<(), AllocError> {
+        push_header(out, self.0)
+    }
+}
+
 pub(crate) struct EntryText;
 
-impl TextOf<DecidingEntry> for EntryText {
+impl PushText<DecidingEntry> for EntryText {
     ghost text = { entry_text };
 
-    fn made(alloc: Global, deciding: &DecidingEntry) -> Result<String, AllocError> {
-        entry_text(alloc, deciding)
+    fn push(deciding: &DecidingEntry, out: &mut Vec<u8>) -> Result<(), AllocError> {
+        push_entry(out, deciding)
     }
 }
 
 pub(crate) struct StreamText;
 
-impl TextOf<DecidingEntry> for StreamText {
+impl PushText<DecidingEntry> for StreamText {
     ghost text = { stream_text };
 
-    fn made(alloc: Global, deciding: &DecidingEntry) -> Result<String, AllocError> {
-        stream_text(alloc, deciding)
+    fn push(deciding: &DecidingEntry, out: &mut Vec<u8>) -> Result<(), AllocError> {
+        push_stream(out, deciding)
     }
 }
 
 #[tactic(auto, unfolding(crate::specs::Text::header_text))]
-fn header_text(alloc: Global, h: &MINIDUMP_HEADER) -> Result<String, AllocError>
-    ensures { IfOk result (λ t. string_bytes t ≡ header_text h.now) }
+fn push_header(out: &mut Vec<u8>, h: &MINIDUMP_HEADER) -> Result<(), AllocError>
+    ensures { OnOk result (out.new.items ≡ out.old.items ++ header_text h.now) }
 {
-    made(
-        alloc,
+    push_pieces(
+        out,
         &[
             Piece::Words("MDRawHeader\n  signature            = "),
             Piece::Hex(h.signature as u64),
@@ -119,12 +130,12 @@ fn header_text(alloc: Global, h: &MINIDUMP_HEADER) -> Result<String, AllocError>
 }
 
 #[tactic(auto, unfolding(crate::specs::Text::entry_text))]
-fn entry_text(alloc: Global, deciding: &DecidingEntry) -> Result<String, AllocError>
-    ensures { IfOk result (λ t. string_bytes t ≡ entry_text deciding.now) }
+fn push_entry(out: &mut Vec<u8>, deciding: &DecidingEntry) -> Result<(), AllocError>
+    ensures { OnOk result (out.new.items ≡ out.old.items ++ entry_text deciding.now) }
 {
     let entry = &deciding.entry;
-    made(
-        alloc,
+    push_pieces(
+        out,
         &[
             Piece::Words("mDirectory["),
             Piece::Decimal(deciding.index as u64),
@@ -142,12 +153,12 @@ fn entry_text(alloc: Global, deciding: &DecidingEntry) -> Result<String, AllocEr
 }
 
 #[tactic(auto, unfolding(crate::specs::Text::stream_text))]
-fn stream_text(alloc: Global, deciding: &DecidingEntry) -> Result<String, AllocError>
-    ensures { IfOk result (λ t. string_bytes t ≡ stream_text deciding.now) }
+fn push_stream(out: &mut Vec<u8>, deciding: &DecidingEntry) -> Result<(), AllocError>
+    ensures { OnOk result (out.new.items ≡ out.old.items ++ stream_text deciding.now) }
 {
     let entry = &deciding.entry;
-    made(
-        alloc,
+    push_pieces(
+        out,
         &[
             Piece::Words("  stream type "),
             Piece::Hex(entry.stream_type as u64),
