@@ -57,8 +57,8 @@ pub use minidump_reason::laws::{
 pub use minidump_records::laws::{
     an_annotation_need_not_be_the_same_as_itself, breakpad_info_clones_are_the_same,
     dictionaries_have_the_last_values, handle_clones_are_the_same, last_info_of_a_thread_is_found,
-    last_name_of_a_thread_is_kept, object_chain_is_one, object_chain_is_the_longest,
-    streams_depend_on_their_bytes_alone,
+    last_name_of_a_thread_is_kept, linux_pairs_have_their_separators, object_chain_is_one,
+    object_chain_is_the_longest, streams_depend_on_their_bytes_alone,
 };
 use minidump_records::{
     MinidumpAssertion, MinidumpBreakpadInfo, MinidumpCrashpadInfo, MinidumpHandleDataStream,

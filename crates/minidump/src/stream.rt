@@ -72,6 +72,7 @@ impl<'a> Minidump<'a> {
             steps,
         )
     }
+
     /// Reads the stream of the type `S`, or returns `None` if it is missing or malformed. The only error is
     /// [`Error::OutOfMemory`].
     pub fn find_stream<S: MinidumpStream<'a>>(&self, alloc: Global) -> Result<Option<S>, Error>
@@ -80,8 +81,8 @@ impl<'a> Minidump<'a> {
         self.find_stream_counted(alloc, &mut Steps::new())
     }
 
-    /// Reads as [`Minidump::find_stream`] does, and counts the reads: as many as
-    /// [`Minidump::get_stream_counted`] makes.
+    /// Reads as [`Minidump::find_stream`] does, and counts the reads, within the limit of
+    /// [`Minidump::get_stream_counted`].
     pub fn find_stream_counted<S: MinidumpStream<'a>>(
         &self,
         alloc: Global,

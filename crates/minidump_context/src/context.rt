@@ -17,7 +17,7 @@ use std::alloc::Global;
 /// Why a context can't be read.
 #[derive(Clone, Copy, PartialEq, Eq, Debug)]
 pub enum ContextError {
-    /// There are too few bytes, or the flags are another processor's.
+    /// There are too few bytes, or the flags aren't those of the processor.
     ReadFailure,
     /// No layout of contexts is known for the architecture of the system.
     UnknownCpuContext,

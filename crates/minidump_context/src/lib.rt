@@ -8,7 +8,7 @@
 //! # Errors
 //!
 //! Reading a context returns a [`ContextError`]: `UnknownCpuContext` if the crate has no layout for the
-//! system's architecture, `ReadFailure` if there are too few bytes or the flags are another processor's. It
+//! system's architecture, `ReadFailure` if there are too few bytes or the flags aren't those of the processor. It
 //! takes no memory. `format_register` and `try_clone` return `OutOfMemory` if an allocation fails.
 //!
 //! # What is proved

@@ -1,5 +1,5 @@
--- The vendors of the types of stream. The numbers up to 0xffff are Microsoft's. The high half of any other number is
--- two letters that name its vendor: `Gg`, `CP`, `Mz`. The letters of Chromium's StabilityReportStream, `Kk`, name none.
+-- The vendors of the types of stream. The numbers up to 0xffff are Microsoft's. The high half of a number may be two
+-- letters that name its vendor: `Gg`, `CP`, `Mz`. Others name none, as `Kk` of Chromium's StabilityReportStream.
 use Rattle.std.specs.Prelude.{ℕ, ◌/◌, ◌^◌, List, codes, nat_le, ◌==◌, if◌then◌else◌}
 
 abbrev by_letters : ℕ → List ℕ

@@ -73,8 +73,8 @@ module_in order file link =
       annotation_objects = objects;
     })))))
 
--- the fewest reads of the information on a module: its record and its lists; for a text of a list the entry and the text, for a pair the entry,
--- the key and the value
+-- the fewest reads of the information on a module: its record and its lists; for a text of a list the entry and the text; for a pair the
+-- entry, the key, and the value if it is a text
 abbrev pub module_reads : Module → ℕ
 module_reads m = 1
     + (opened_reads m.raw.list_annotations + sum_by (λ text. 2) m.list_annotations)

@@ -16,6 +16,7 @@ ghost use Rattle.minidump_records.specs.declared.handles.raw.RawHandleDescriptor
 ghost use Rattle.minidump_system.specs.Chain.{IsChain};
 ghost use Rattle.minidump_records.specs.Handles.ObjectChain.{information_at, next_of};
 
+use crate::linux::{CpuInfo, Environ, LinuxPairsFile, LsbRelease, ProcStatus};
 use crate::{
     MinidumpAssertion, MinidumpBreakpadInfo, MinidumpHandleObjectInformation, MinidumpLinuxCpuInfo,
     MinidumpLinuxEnviron, MinidumpLinuxLsbRelease, MinidumpLinuxProcLimits,
@@ -72,6 +73,15 @@ pub fn streams_depend_on_their_bytes_alone()
 /// A clone of Breakpad's information is the same value.
 pub fn breakpad_info_clones_are_the_same()
     ensures { (x y : MinidumpBreakpadInfo) → ⟦<MinidumpBreakpadInfo as Clone>⟧.is_clone x y → y ≡ x }
+{}
+
+/// The byte between the key and the value of a line: a colon in the texts of cpuinfo and status, an equals sign in
+/// those of lsb-release and the environment.
+pub fn linux_pairs_have_their_separators()
+    ensures cpu_info { ⟦<CpuInfo as LinuxPairsFile>⟧.SEPARATOR ≡ 58 }
+    ensures proc_status { ⟦<ProcStatus as LinuxPairsFile>⟧.SEPARATOR ≡ 58 }
+    ensures lsb_release { ⟦<LsbRelease as LinuxPairsFile>⟧.SEPARATOR ≡ 61 }
+    ensures environ { ⟦<Environ as LinuxPairsFile>⟧.SEPARATOR ≡ 61 }
 {}
 
 /// The pieces of information on an object stand at the longest list of distinct offsets that begins at a link,

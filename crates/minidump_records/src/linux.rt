@@ -3,8 +3,10 @@ mod files;
 mod pairs;
 mod text;
 
+pub(crate) use files::{CpuInfo, Environ, LsbRelease, ProcStatus};
 pub use files::{
     MinidumpLinuxCpuInfo, MinidumpLinuxEnviron, MinidumpLinuxLsbRelease, MinidumpLinuxProcLimits,
     MinidumpLinuxProcStatus,
 };
 pub use pairs::LinuxPairs;
+pub(crate) use text::LinuxPairsFile;

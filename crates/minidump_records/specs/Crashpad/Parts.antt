@@ -23,7 +23,7 @@ pub record CountedList : Type 0 where
 abbrev pub list_of : List ℕ → ℕ → CountedList
 list_of bytes count = record { bytes = bytes; count = count }
 
--- the list at a location: without bytes it has no count, and no entries, but its RVA has to be in the file. In 1 to 3 bytes there is no
+-- the list at a location: without bytes it has no count, and no entries, but its RVA may not be behind the end of the file. In 1 to 3 bytes there is no
 -- count, which is an error
 unfoldable pub opened : Endian → List ℕ → MINIDUMP_LOCATION_DESCRIPTOR → Result CountedList Error
 opened order file l =
@@ -54,6 +54,6 @@ module _ {R V : Type 0} (layout : Layout R) (part : Endian → List ℕ → R �
   tested_list l = and_then (opened order file l) (λ list.
       if nat_lt (length file) (layout.size * list.count) then Err (StreamSizeMismatch (layout.size * list.count) (length file)) else parts list)
 
--- the reads of a list in so many bytes: one at most before its entries; for each entry one, and those of the part that it names
+-- the reads of the entries in so many bytes: for each entry one, and those of the part that it names; and one where an entry is missing
 abbrev pub WithinParts : ℕ → ℕ → ℕ → ℕ → ℕ → Type 0
 WithinParts entry_size bytes part_reads old new = (k : ℕ) × (entry_size * k ≤ bytes) × (new ≤ old + 1 + k * (1 + part_reads))

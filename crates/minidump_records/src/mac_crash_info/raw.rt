@@ -21,7 +21,7 @@ pub enum RawMacCrashInfo {
     V5(MINIDUMP_MAC_CRASH_INFO_RECORD_5, MINIDUMP_MAC_CRASH_INFO_RECORD_STRINGS_5),
 }
 
-// One body for the layouts of version 4 and above. Version 1 has no such field.
+// One body for the layouts of version 4 and above. Those of versions 1 to 3 have no such field.
 macro_rules! from_version_4 {
     ($record:expr, ($raw:pat, $texts:pat) => $body:expr) => {
         match $record {
