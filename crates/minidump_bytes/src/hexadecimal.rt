@@ -9,27 +9,27 @@ pub(crate) fn digits_16(n: u64) -> [u8; 16]
     ensures { result ≡ fixed_hex 16 n }
 {
     [
-        last(n / 16 / 16 / 16 / 16 / 16 / 16 / 16 / 16 / 16 / 16 / 16 / 16 / 16 / 16 / 16),
-        last(n / 16 / 16 / 16 / 16 / 16 / 16 / 16 / 16 / 16 / 16 / 16 / 16 / 16 / 16),
-        last(n / 16 / 16 / 16 / 16 / 16 / 16 / 16 / 16 / 16 / 16 / 16 / 16 / 16),
-        last(n / 16 / 16 / 16 / 16 / 16 / 16 / 16 / 16 / 16 / 16 / 16 / 16),
-        last(n / 16 / 16 / 16 / 16 / 16 / 16 / 16 / 16 / 16 / 16 / 16),
-        last(n / 16 / 16 / 16 / 16 / 16 / 16 / 16 / 16 / 16 / 16),
-        last(n / 16 / 16 / 16 / 16 / 16 / 16 / 16 / 16 / 16),
-        last(n / 16 / 16 / 16 / 16 / 16 / 16 / 16 / 16),
-        last(n / 16 / 16 / 16 / 16 / 16 / 16 / 16),
-        last(n / 16 / 16 / 16 / 16 / 16 / 16),
-        last(n / 16 / 16 / 16 / 16 / 16),
-        last(n / 16 / 16 / 16 / 16),
-        last(n / 16 / 16 / 16),
-        last(n / 16 / 16),
-        last(n / 16),
-        last(n),
+        last_digit(n / 16 / 16 / 16 / 16 / 16 / 16 / 16 / 16 / 16 / 16 / 16 / 16 / 16 / 16 / 16),
+        last_digit(n / 16 / 16 / 16 / 16 / 16 / 16 / 16 / 16 / 16 / 16 / 16 / 16 / 16 / 16),
+        last_digit(n / 16 / 16 / 16 / 16 / 16 / 16 / 16 / 16 / 16 / 16 / 16 / 16 / 16),
+        last_digit(n / 16 / 16 / 16 / 16 / 16 / 16 / 16 / 16 / 16 / 16 / 16 / 16),
+        last_digit(n / 16 / 16 / 16 / 16 / 16 / 16 / 16 / 16 / 16 / 16 / 16),
+        last_digit(n / 16 / 16 / 16 / 16 / 16 / 16 / 16 / 16 / 16 / 16),
+        last_digit(n / 16 / 16 / 16 / 16 / 16 / 16 / 16 / 16 / 16),
+        last_digit(n / 16 / 16 / 16 / 16 / 16 / 16 / 16 / 16),
+        last_digit(n / 16 / 16 / 16 / 16 / 16 / 16 / 16),
+        last_digit(n / 16 / 16 / 16 / 16 / 16 / 16),
+        last_digit(n / 16 / 16 / 16 / 16 / 16),
+        last_digit(n / 16 / 16 / 16 / 16),
+        last_digit(n / 16 / 16 / 16),
+        last_digit(n / 16 / 16),
+        last_digit(n / 16),
+        last_digit(n),
     ]
 }
 
-// Returns the last digit of a number.
-pub(crate) fn last(n: u64) -> u8
+/// Returns the last digit of a number in lower-case hexadecimal.
+pub fn last_digit(n: u64) -> u8
     ensures { result ≡ digit_glyph false (n % 16) }
 {
     digit((n % 16) as u8)

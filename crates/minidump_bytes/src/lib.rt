@@ -8,7 +8,8 @@
 //! - [`LinuxOsStr`] and [`LinuxOsString`] are bytes that Linux wrote as text.
 //! - [`Told`] wraps a reader or a writer. [`Piece`], [`made`] and [`push_pieces`] make text in a [`TextBuffer`]:
 //!   a `String`, or bytes.
-//! - [`number_64`] and [`number_32`] read digits. [`probe`] compares an address with a range. [`Exact`] is a type with an honest `==` and `clone`.
+//! - [`number_64`] and [`number_32`] read digits, [`last_digit`] returns one. [`probe`] compares an address
+//!   with a range. [`Exact`] is a type with an honest `==` and `clone`.
 //!
 //! # Errors
 //!
@@ -69,6 +70,7 @@ pub use endian::Endian;
 pub use entries::Entries;
 pub use exact::Exact;
 pub use hex::write_bytes;
+pub use hexadecimal::last_digit;
 pub use linux_os_iter::{Lines, Split, SplitAsciiWhitespace};
 pub use linux_os_str::{LinuxOsStr, LinuxOsString};
 pub use piece::{Piece, made, push_pieces};

@@ -3,11 +3,9 @@
 //! - [`format`] has the records, enumerations and sets of flags, by the names of Microsoft's, Breakpad's and
 //!   Crashpad's headers. Each record is a `minidump_bytes::Record`.
 //! - [`Error`] is the one error of all crates. [`stream_vendor`] names the vendor of a stream type.
-//! - [`put_text`] and [`put_formatted`] print a text. A value that prints itself is [`Printed`], and
-//!   [`print_all`] prints several; [`TextOf`] and [`print_values`] do so for the values of a map.
-//! - [`put_bytes`] prints bytes. A value that appends its text to bytes is [`Pushed`]: [`print_item`] prints
-//!   it, and [`print_list`] several in blocks; [`print_counted`] prints what is [`Counted`] so, and
-//!   [`print_map`] the values of a map.
+//! - [`put_text`] and [`put_formatted`] print a text, [`put_bytes`] prints bytes. A value that appends its text
+//!   to bytes is [`Pushed`]: [`print_item`] prints it, and [`print_list`] several in blocks; [`print_counted`]
+//!   prints what is [`Counted`] so, and [`print_map`] the values of a map.
 //!
 //! # Errors
 //!
@@ -33,8 +31,7 @@
 //! - The constants: `laws::header_numbers`, `file_info_numbers`, `annotation_numbers`. The name of an error:
 //!   `Error::name`.
 //! - A call that prints wrote all of its text, or a beginning, and returned the error above: the word
-//!   `Prints` at `put_text`, `put_formatted`, `print_all`, `print_values`, `put_bytes`, `print_item`, `print_list`,
-//!   `print_counted`, `print_map`.
+//!   `Prints` at `put_text`, `put_formatted`, `put_bytes`, `print_item`, `print_list`, `print_counted`, `print_map`.
 //!
 //! What isn't: the messages of the errors, which tests show. `CV_INFO_PDB70`, `CV_INFO_PDB20` and
 //! `CV_INFO_ELF` are no records: `minidump_modules` reads them.
@@ -52,5 +49,5 @@ pub use blocks::{
     Counted, PushText, Pushed, print_counted, print_item, print_list, print_map, put_bytes,
 };
 pub use error::Error;
-pub use print::{Printed, TextOf, no_memory, print_all, print_values, put_formatted, put_text};
+pub use print::{no_memory, put_formatted, put_text};
 pub use vendor::stream_vendor;

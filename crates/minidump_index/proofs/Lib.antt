@@ -5,6 +5,7 @@ pub mod ContainsLemmas
 pub mod DigitsLemmas
 pub mod KeptEntries
 pub mod KeptSetExists
+pub mod LookedUp
 pub mod LookupExists
 pub mod LookupLemmas
 pub mod OneKeptSet

@@ -24,7 +24,7 @@ use std::slice;
 ///
 /// Of overlapping regions one is kept: they are taken by first address, then by last address, then by
 /// index, and each is kept that shares no address with one kept before. A region without a size, or whose
-/// end, `base_address + size`, is 2^64 or more, has no addresses and is not kept.
+/// end, `base_address + size`, is more than 2^64, has no addresses and is not kept.
 #[derive(Drop)]
 pub struct MinidumpMemoryListBase<'a, D> {
     regions: RegionList<MinidumpMemoryBase<'a, D>>,

@@ -34,7 +34,7 @@ impl<'a, 'mdmp> UnifiedMemory<'a, 'mdmp> {
         }
     }
 
-    /// Returns the range of addresses, or `None` if the region has no size or its end is 2^64 or more.
+    /// Returns the range of addresses, or `None` if the region has no size or would go on beyond 2^64 - 1.
     pub fn memory_range(&self) -> Option<Range>
         ensures { result ≡ region_range (unified_region self.now) }
     {

@@ -23,7 +23,7 @@ use std::slice;
 ///
 /// Of overlapping modules one is kept: they are taken by first address, then by last address, then by
 /// index, and each is kept that shares no address with one kept before. A module without a size, or whose
-/// end, base address and size, is 2^64 or more, has no addresses and is not kept.
+/// end, base address and size, is more than 2^64, has no addresses and is not kept.
 #[derive(Drop)]
 pub struct MinidumpModuleList {
     modules: RegionList<MinidumpModule>,

@@ -103,8 +103,7 @@ fn of_overlapping_regions_the_first_is_kept(rt: HostRuntime) -> Result<(), Fail>
     Ok(())
 }
 
-// These regions by hand: three with addresses, in another order than theirs, one of no bytes, one that ends
-// at 2^64, and one that ends below.
+// These regions by hand: in another order than their addresses, one of no bytes, and one that ends at 2^64.
 const BY_HAND: &[(u64, usize)] = &[
     (0x3000, 8),
     (0x4000, 0),
@@ -114,11 +113,11 @@ const BY_HAND: &[(u64, usize)] = &[
     (0x2000, 2),
 ];
 
-// The region of no bytes and that at 2^64 - 1 are listed, and found nowhere.
+// The region of no bytes is listed, and found nowhere. The other at the last address is found there.
 fn has_those_by_hand(alloc: Global, list: &UnifiedMemoryList<'_>) -> Result<bool, AllocError> {
     let last = u64::MAX;
     let all = [0x3000, 0x4000, last, 0x1000, last - 1, 0x2000];
-    let kept = [0x1000, 0x2000, 0x3000, last - 1];
+    let kept = [0x1000, 0x2000, 0x3000, last - 1, last];
     let is_the_second = match list.memory_at_address(0x2001) {
         None => false,
         Some(m) => {
@@ -130,7 +129,7 @@ fn has_those_by_hand(alloc: Global, list: &UnifiedMemoryList<'_>) -> Result<bool
         has(alloc, list, &all, &kept)?
             && is_the_second
             && list.memory_at_address(0x4000).is_none()
-            && list.memory_at_address(last).is_none(),
+            && list.memory_at_address(last).is_some(),
     )
 }
 

@@ -51,7 +51,7 @@ fn of_overlapping_modules_the_first_is_kept(rt: HostRuntime) -> Result<(), Fail>
     Ok(())
 }
 
-// The record of the first two would be refused. They have no addresses: no size, or an end past 2^64.
+// The record of the first two would be refused. They have no addresses: no size, or an end beyond 2^64.
 #[rattlefmt::skip]
 const SKIPPED: &[Written<'static>] = &[
     Written { base: 0x1000, size: 0, name: "empty", view: b"R" },

@@ -1,0 +1,22 @@
+-- The answer of a lookup as a function of the regions and the address.
+use Rattle.std.proofs.Common.{◌≡◌, ℕ}
+use Rattle.std.specs.Prelude.{List, Option}
+use Rattle.minidump_index.specs.declared.range.Range.{Range}
+use Rattle.minidump_index.specs.Lookup.{IsLookedUp}
+use Rattle.minidump_index.proofs.LookupExists.{a_lookup}
+use Rattle.minidump_index.proofs.RegionLaws.{lookups_agree}
+
+-- the one answer that `IsLookedUp` allows
+unfoldable pub looked_up : {R : Type 0} → (R → Option Range) → List R → ℕ → Option R
+looked_up range regions address = (a_lookup range regions address).0
+
+module _ {R : Type 0} (range : R → Option Range) (regions : List R) (address : ℕ) where
+  -- it is an answer
+  pub looked_up_is : IsLookedUp range regions address (looked_up range regions address)
+  unfolding looked_up
+  looked_up_is = (a_lookup range regions address).1
+
+  -- and each answer is it
+  pub is_looked_up : (found : Option R) → IsLookedUp range regions address found → found ≡ looked_up range regions address
+  unfolding looked_up
+  is_looked_up found is = lookups_agree range regions address found (a_lookup range regions address).0 is (a_lookup range regions address).1
