@@ -3,13 +3,14 @@ use Rattle.std.proofs.Common.{◌≡◌, ◌↔◌, ℕ, List, [], ◌∷◌, co
 use Rattle.mdump.specs.Address.{SpellsAddress}
 use Rattle.mdump.specs.Command.{IsCommandOf}
 use Rattle.mdump.specs.declared.command.Command.{Command}
-use Rattle.mdump.specs.declared.command.Command.TheVariants.{Dir, At}
+use Rattle.mdump.specs.declared.command.Command.TheVariants.{Dir, At, Report}
 
 module _ (words : List (List ℕ)) (path address : List ℕ) (o : Option ℕ) where
   -- `at` with a word that spells no address is no command
   pub no_address : words ≡ codes "at" ∷ path ∷ address ∷ [] → o ≡ None → ((n : ℕ) → (o ≡ Some n) ↔ SpellsAddress address n)
       → (command : Command) → IsCommandOf words command → ⊥
   no_address are none reads (Dir p) means = cc
+  no_address are none reads (Report p) means = cc
   no_address are none reads (At p n) means =
       let same : means.0 ≡ address = let meant = means.1 in cc in
       let some : o ≡ Some n = (reads n).1 (subst (λ w. SpellsAddress w n) same means.2) in

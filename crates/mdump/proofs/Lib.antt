@@ -4,3 +4,4 @@ pub mod CommandLemmas
 pub mod JoinedLemmas
 pub mod ListLemmas
 pub mod PrintLemmas
+pub mod ReportLemmas

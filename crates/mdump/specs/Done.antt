@@ -14,13 +14,14 @@ use Rattle.minidump_memory.specs.MapLine.{MapRegion}
 use Rattle.minidump_memory.specs.MemoryInfo.{MemoryInfo}
 use Rattle.minidump_memory.specs.UnifiedInfo.{InfoRegion, InfoRegions, OfInfo, OfMaps, info_region_range, info_regions}
 use Rattle.minidump_modules.specs.Module.{ModuleValue, value_range}
-use Rattle.minidump.specs.Dump.{Dump, stream_of}
-use Rattle.minidump.specs.File.{IsFileDump, IsPathRefusal}
+use Rattle.minidump.specs.Dump.{Dump, dump_in, stream_of}
+use Rattle.minidump.specs.File.{IsFile, IsFileDump, IsPathRefusal}
 use Rattle.minidump.specs.Memory.{memories_of_dump}
 use Rattle.minidump.specs.Promise.{linux_maps_stream, memory_info_list_stream, module_list_stream}
+use Rattle.minidump.specs.Report.{report_text}
 use Rattle.minidump.specs.Text.{dump_text}
 use Rattle.mdump.specs.declared.command.Command.{Command}
-use Rattle.mdump.specs.declared.command.Command.TheVariants.{Dir, At}
+use Rattle.mdump.specs.declared.command.Command.TheVariants.{Dir, At, Report}
 use Rattle.mdump.specs.Command.{IsCommand, IsCommandOf}
 use Rattle.mdump.specs.Lines.{IsAt, Joined, info_line, memory_line, module_line}
 
@@ -30,6 +31,10 @@ usage = codes "usage: mdump dir FILE | at FILE HEXADDRESS | report FILE\n"
 -- the header and the directory of the minidump in a file that was opened; which file has a path is not known here
 abbrev pub IsDirectoryText : {F : Type 0} → (F → Option (List ℕ)) → List ℕ → Type 0
 IsDirectoryText remaining text = (dump : Dump) × IsFileDump remaining dump × (text ≡ dump_text dump)
+
+-- the report on the minidump in a file that was opened, without names of codes
+abbrev pub IsReportText : {F : Type 0} → (F → Option (List ℕ)) → List ℕ → Type 0
+IsReportText remaining text = (dump : Dump) × IsFileDump remaining dump × (text ≡ report_text [] dump)
 
 -- the line of the region that contains an address in the memory of a dump
 abbrev pub IsMemoryLine : Dump → ℕ → List ℕ → Type 0
@@ -73,6 +78,7 @@ AreLines remaining address text = (dump : Dump) × IsFileDump remaining dump × 
 abbrev pub IsTextOf : {F : Type 0} → (F → Option (List ℕ)) → Command → List ℕ → Type 0
 IsTextOf remaining (Dir path) text = IsDirectoryText remaining text
 IsTextOf remaining (At path address) text = AreLines remaining address text
+IsTextOf remaining (Report path) text = IsReportText remaining text
 
 -- the text that words ask for: that of the command that they mean, and of no words the usage
 abbrev pub IsAnswer : {F : Type 0} → (F → Option (List ℕ)) → List (List ℕ) → List ℕ → Type 0

@@ -4,15 +4,16 @@ ghost use Rattle.minidump_format.specs.Print.{Prints};
 ghost use Rattle.minidump.specs.File.{IsPathRefusal};
 ghost use Rattle.minidump.specs.DumpValue.{dump_of};
 ghost use Rattle.mdump.specs.Command.{IsCommand};
-ghost use Rattle.mdump.specs.Done.{AccountsFor, AreLastLines, AreLines, AreLinesOf, IsAnswer, IsDirectoryText, IsOutputRefusal, IsRun, IsTextOf, IsTold, Writes, refusal_line, usage};
+ghost use Rattle.mdump.specs.Done.{AccountsFor, AreLastLines, AreLines, AreLinesOf, IsAnswer, IsDirectoryText, IsOutputRefusal, IsReportText, IsRun, IsTextOf, IsTold, Writes, refusal_line, usage};
 
 use crate::command::Command;
 use crate::info::info_line;
 use crate::memory::memory_line;
 use crate::module::module_line;
-use minidump::{Error, Minidump, Told, laws};
+use minidump::{CodeNames, Error, Minidump, Told, laws, read_all, write_report};
 use minidump_format::put_text;
 use std::alloc::Global;
+use std::fs;
 use std::io::Write;
 use std::rt::Files;
 
@@ -25,6 +26,8 @@ const USAGE: &str = "usage: mdump dir FILE | at FILE HEXADDRESS | report FILE\n"
 /// - `at FILE HEXADDRESS`: writes the region of memory that contains the address to `out`, then the module,
 ///   and then the region by the memory information or the maps, each as a line. The address is 1 to 16
 ///   hexadecimal digits, alone or behind `0x`. The status is 0.
+/// - `report FILE`: writes the report on the file to `out`, as [`minidump::write_report`] does without names
+///   of codes. The status is 0.
 /// - An error: writes its name to `err`. The status is 1. A failure of `out` is the error `IoError`.
 /// - Other arguments: writes the usage to `err`. The status is 2. No file is opened.
 ///
@@ -80,6 +83,7 @@ fn obey<R: Files + AllocGlobal, O: Write>(
     match command {
         Command::Dir(path) => dir(rt, path, out),
         Command::At(path, address) => at(rt, path, address, out),
+        Command::Report(path) => report(rt, path, out),
     }
 }
 
@@ -108,6 +112,24 @@ fn at<R: Files + AllocGlobal, O: Write>(
     let mut bytes = Vec::new(alloc);
     let dump = Minidump::read_path(rt, alloc, path, &mut bytes)?;
     lines(&dump, alloc, address, out)
+}
+
+fn report<R: Files + AllocGlobal, O: Write>(
+    rt: &R,
+    path: &str,
+    out: &mut Told<O>,
+) -> Result<(), Error>
+    ensures written { Writes (IsReportText R.File.remaining) O.contents out.old out.new result }
+    ensures refusal { IfErr result (IsPathRefusal R.File.remaining) }
+    ensures accounted { IfErr result (AccountsFor out.old out.new) }
+{
+    let alloc = rt.alloc();
+    let mut bytes = Vec::new(alloc);
+    match fs::open(rt, path) {
+        Ok(file) => read_all(&mut Told::new(file), &mut bytes)?,
+        Err(_) => return Err(Error::FileNotFound),
+    }
+    write_report(alloc, bytes.as_slice(), &CodeNames::empty(), out)
 }
 
 // Writes the lines of what lies at the address, one after another.

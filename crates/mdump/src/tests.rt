@@ -91,7 +91,9 @@ fn writes_the_directory(rt: HostRuntime) -> Result<(), Fail> {
 const NO_FILES: &[Row] = &[
     (&["dir", "no/such.dmp"], 1, "", "FileNotFound\n"),
     (&["at", "no/such.dmp", "0"], 1, "", "FileNotFound\n"),
+    (&["report", "no/such.dmp"], 1, "", "FileNotFound\n"),
     (&["dir", "."], 1, "", "IoError\n"),
+    (&["report", "."], 1, "", "IoError\n"),
 ];
 
 fn is_refused(rt: &HostRuntime, bytes: &[u8], name: &'static str) -> Result<bool, Fail> {
@@ -134,7 +136,8 @@ const USAGES: &[Row] = &[
     (&["at", "no/such.dmp", "10", "more"], 2, "", USAGE),
     (&["at", "no/such.dmp", "1_0"], 2, "", USAGE),
     (&["At", "no/such.dmp", "10"], 2, "", USAGE),
-    (&["report", "no/such.dmp"], 2, "", USAGE),
+    (&["report"], 2, "", USAGE),
+    (&["report", "no/such.dmp", "more"], 2, "", USAGE),
 ];
 
 #[test]
@@ -314,7 +317,12 @@ fn writes_the_region_of_the_memory_information_or_of_the_maps(rt: HostRuntime) -
 
 const FULL_PATH: &str = "reports_a_full_output.dmp";
 
-const TO_A_FULL_OUTPUT: &[&[&str]] = &[&[], &["dir", FULL_PATH], &["at", FULL_PATH, "0"]];
+const TO_A_FULL_OUTPUT: &[&[&str]] = &[
+    &[],
+    &["dir", FULL_PATH],
+    &["at", FULL_PATH, "0"],
+    &["report", FULL_PATH],
+];
 
 // Tells whether a full output is the error of these words.
 fn is_reported(rt: &HostRuntime, words: &[&str]) -> Result<bool, AllocError> {

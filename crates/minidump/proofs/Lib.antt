@@ -3,3 +3,5 @@ pub mod DirectoryLemmas
 pub mod LawsLemmas
 pub mod StreamsLemmas
 pub mod ThreadLemmas
+pub mod ReportLemmas
+pub mod CrashLemmas

@@ -11,4 +11,7 @@ pub mod Promise
 pub mod Memory
 pub mod Thread
 pub mod Exception
+pub mod StandIn
+pub mod Crash
+pub mod Report
 pub mod Below

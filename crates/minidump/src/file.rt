@@ -10,8 +10,9 @@ use std::fs;
 use std::io::Read;
 use std::rt::Files;
 
-// Empties the vector, and reads into it up to the end of the reader. Leaves it empty after an error.
-fn read_all<R: Read>(reader: &mut Told<R>, into: &mut Vec<u8>) -> Result<(), Error>
+/// Empties `into`, and reads into it up to the end of the reader, 64 KiB a call at most. Returns `IoError` if
+/// a read fails and `OutOfMemory`, both of which leave `into` empty.
+pub fn read_all<R: Read>(reader: &mut Told<R>, into: &mut Vec<u8>) -> Result<(), Error>
     ensures all { OnOk result (IsWhole R.remaining (device_of reader.old) into.new.items) }
     ensures alive { OnOk result (has_failed reader.new ≡ false) }
     ensures failed { IfErr result (λ e. (e ≡ Error.IoError) ↔ (has_failed reader.new ≡ true)) }
@@ -19,7 +20,7 @@ fn read_all<R: Read>(reader: &mut Told<R>, into: &mut Vec<u8>) -> Result<(), Err
     ensures empty { OnErr result (into.new.items ≡ []) }
 {
     into.clear();
-    let mut buffer = [0; 16384];
+    let mut buffer = [0; 65536];
     loop {
         match reader.take(&mut buffer) {
             Ok(0) => return Ok(()),

@@ -48,6 +48,7 @@
 //! private `read_file`, which tests show.
 #![tactic(auto)]
 
+mod crash;
 mod directory;
 mod dump;
 mod exception;
@@ -56,6 +57,10 @@ mod header;
 pub mod laws;
 mod memory;
 mod print;
+mod report;
+mod section;
+mod sections;
+mod stand_in;
 mod stream;
 mod streams;
 mod system;
@@ -64,6 +69,8 @@ mod thread_list;
 
 pub use dump::Minidump;
 pub use exception::MinidumpException;
+pub use file::read_all;
+pub use report::write_report;
 pub use streams::{
     MinidumpImplementedStream, MinidumpUnimplementedStream, MinidumpUnknownStream, Streams,
     UnimplementedStreams, UnknownStreams,

@@ -173,7 +173,7 @@ fn push_stream(out: &mut Vec<u8>, deciding: &DecidingEntry) -> Result<(), AllocE
 
 // Returns the name of a type of stream.
 #[tactic(auto, unfolding(crate::specs::Text::shown_type))]
-fn type_name(stream_type: u32) -> &'static str
+pub(crate) fn type_name(stream_type: u32) -> &'static str
     ensures { result.now ≡ shown_type stream_type }
 {
     match MINIDUMP_STREAM_TYPE::from_u32(stream_type) {

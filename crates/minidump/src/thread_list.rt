@@ -31,7 +31,7 @@ impl<'a> MinidumpThreadList<'a> {
     }
 
     // Returns the first thread with an id, from the end of the list on.
-    fn first_from_the_end(&self, id: u32) -> Option<&MinidumpThread<'a>>
+    pub(crate) fn first_from_the_end(&self, id: u32) -> Option<&MinidumpThread<'a>>
         ensures { option_copied result ≡ find (λ t. t.raw.thread_id == id) (reverse self.now.threads.items) }
     {
         self.threads.iter().rev().find(|t| t.raw.thread_id == id)

@@ -1,0 +1,118 @@
+-- The report on a minidump: what each type of stream adds to it, and its whole text.
+use Rattle.std.specs.Prelude.{◌≡◌, ◌⊎◌, ℕ, List, [], ◌∷◌, ◌++◌, codes, Option, Result, Ok, Err}
+use Rattle.std.specs.List.{concat}
+use Rattle.minidump_bytes.specs.declared.told.Told.{Told}
+use Rattle.minidump_format.specs.declared.error.Error.{Error}
+use Rattle.minidump_format.specs.declared.error.Error.TheVariants.{StreamNotFound}
+use Rattle.minidump_format.specs.Error.{refusal_name}
+use Rattle.minidump_format.specs.Print.{Prints, out_of_memory}
+use Rattle.minidump_format.specs.StreamType.{number_of}
+use Rattle.minidump_reason.specs.Names.{Lists}
+use Rattle.minidump_system.specs.StreamSpec.{StreamSpec}
+use Rattle.minidump.specs.Crash.{crash_text}
+use Rattle.minidump.specs.Dump.{Dump, HasEntries, dump_in, dump_system, stream_of}
+use Rattle.minidump.specs.Memory.{memories_of_dump}
+use Rattle.minidump.specs.Text.{dump_text, shown_type}
+use Rattle.minidump.specs.declared.report.Section.{Section}
+use Rattle.minidump.specs.declared.report.Section.TheVariants as part
+use Rattle.minidump.specs.Promise.{assertion_stream, breakpad_info_stream, crashpad_info_stream, exception_stream, handle_data_stream, linux_cpu_info_stream}
+use Rattle.minidump.specs.Promise.{linux_environ_stream, linux_lsb_release_stream, linux_maps_stream, linux_proc_limits_stream, linux_proc_status_stream}
+use Rattle.minidump.specs.Promise.{mac_bootargs_stream, mac_crash_info_stream, memory64_list_stream, memory_info_list_stream, memory_list_stream}
+use Rattle.minidump.specs.Promise.{misc_info_stream, module_list_stream, soft_errors_stream, stability_report_stream, system_info_stream}
+use Rattle.minidump.specs.Promise.{thread_info_list_stream, thread_list_stream, thread_names_stream, unloaded_module_list_stream}
+use Rattle.minidump.specs.StandIn.{exception_text, thread_list_text, thread_names_text, thread_info_list_text, module_list_text, unloaded_module_list_text}
+use Rattle.minidump.specs.StandIn.{memory64_list_text, memory_list_text, memory_info_list_text, linux_maps_text, handle_data_text, breakpad_info_text}
+use Rattle.minidump.specs.StandIn.{assertion_text, crashpad_info_text, mac_crash_info_text, mac_bootargs_text, linux_cpu_info_text, linux_proc_status_text}
+use Rattle.minidump.specs.StandIn.{linux_lsb_release_text, linux_environ_text, linux_proc_limits_text, soft_errors_text, stability_report_text}
+use Rattle.minidump_system.specs.MiscInfo.{misc_info_text}
+use Rattle.minidump_system.specs.SystemInfo.{system_info_text}
+
+-- the line of a refused stream: the name of its type, and that of its error
+unfoldable pub refusal_text : List ℕ → Error → List ℕ
+refusal_text name e = concat (name ∷ codes ": " ∷ refusal_name e ∷ codes "\n" ∷ [])
+
+-- what a stream without a value adds to the report: nothing where it is absent, else the line of its error
+abbrev pub unread_text : List ℕ → Error → List ℕ
+unread_text name StreamNotFound = []
+unread_text name e = refusal_text name e
+
+-- what a stream adds to the report, by the text of its value
+abbrev pub reported : {V : Type 0} → List ℕ → (V → List ℕ) → Result V Error → List ℕ
+reported name text (Ok value) = text value
+reported name text (Err e) = unread_text name e
+
+-- what the stream of a table adds to the report on a dump
+abbrev pub section : {S V : Type 0} → StreamSpec S V → (V → List ℕ) → Dump → List ℕ
+section spec text dump = reported (shown_type (number_of spec.stream_type)) text (stream_of spec dump)
+
+-- the streams that are read, in the order of the report
+unfoldable pub sections_text : Dump → List ℕ
+sections_text dump = concat (
+    section system_info_stream system_info_text dump
+    ∷ section misc_info_stream misc_info_text dump
+    ∷ section exception_stream (exception_text (dump_system dump)) dump
+    ∷ section thread_list_stream (thread_list_text (memories_of_dump dump) (dump_system dump)) dump
+    ∷ section thread_names_stream thread_names_text dump
+    ∷ section thread_info_list_stream thread_info_list_text dump
+    ∷ section module_list_stream module_list_text dump
+    ∷ section unloaded_module_list_stream unloaded_module_list_text dump
+    ∷ section memory64_list_stream memory64_list_text dump
+    ∷ section memory_list_stream memory_list_text dump
+    ∷ section memory_info_list_stream memory_info_list_text dump
+    ∷ section linux_maps_stream linux_maps_text dump
+    ∷ section handle_data_stream handle_data_text dump
+    ∷ section breakpad_info_stream breakpad_info_text dump
+    ∷ section assertion_stream assertion_text dump
+    ∷ section crashpad_info_stream crashpad_info_text dump
+    ∷ section mac_crash_info_stream mac_crash_info_text dump
+    ∷ section mac_bootargs_stream mac_bootargs_text dump
+    ∷ section linux_cpu_info_stream linux_cpu_info_text dump
+    ∷ section linux_proc_status_stream linux_proc_status_text dump
+    ∷ section linux_lsb_release_stream linux_lsb_release_text dump
+    ∷ section linux_environ_stream linux_environ_text dump
+    ∷ section linux_proc_limits_stream linux_proc_limits_text dump
+    ∷ section soft_errors_stream soft_errors_text dump
+    ∷ section stability_report_stream stability_report_text dump
+    ∷ [])
+
+-- one of them
+abbrev pub section_text : Dump → Section → List ℕ
+section_text dump part.SystemInfo = section system_info_stream system_info_text dump
+section_text dump part.MiscInfo = section misc_info_stream misc_info_text dump
+section_text dump part.Exception = section exception_stream (exception_text (dump_system dump)) dump
+section_text dump part.ThreadList = section thread_list_stream (thread_list_text (memories_of_dump dump) (dump_system dump)) dump
+section_text dump part.ThreadNames = section thread_names_stream thread_names_text dump
+section_text dump part.ThreadInfoList = section thread_info_list_stream thread_info_list_text dump
+section_text dump part.ModuleList = section module_list_stream module_list_text dump
+section_text dump part.UnloadedModuleList = section unloaded_module_list_stream unloaded_module_list_text dump
+section_text dump part.Memory64List = section memory64_list_stream memory64_list_text dump
+section_text dump part.MemoryList = section memory_list_stream memory_list_text dump
+section_text dump part.MemoryInfoList = section memory_info_list_stream memory_info_list_text dump
+section_text dump part.LinuxMaps = section linux_maps_stream linux_maps_text dump
+section_text dump part.HandleData = section handle_data_stream handle_data_text dump
+section_text dump part.BreakpadInfo = section breakpad_info_stream breakpad_info_text dump
+section_text dump part.Assertion = section assertion_stream assertion_text dump
+section_text dump part.CrashpadInfo = section crashpad_info_stream crashpad_info_text dump
+section_text dump part.MacCrashInfo = section mac_crash_info_stream mac_crash_info_text dump
+section_text dump part.MacBootargs = section mac_bootargs_stream mac_bootargs_text dump
+section_text dump part.LinuxCpuInfo = section linux_cpu_info_stream linux_cpu_info_text dump
+section_text dump part.LinuxProcStatus = section linux_proc_status_stream linux_proc_status_text dump
+section_text dump part.LinuxLsbRelease = section linux_lsb_release_stream linux_lsb_release_text dump
+section_text dump part.LinuxEnviron = section linux_environ_stream linux_environ_text dump
+section_text dump part.LinuxProcLimits = section linux_proc_limits_stream linux_proc_limits_text dump
+section_text dump part.SoftErrors = section soft_errors_stream soft_errors_text dump
+section_text dump part.StabilityReport = section stability_report_stream stability_report_text dump
+
+-- the report on a dump: its header and directory, its streams, and where and why the process crashed
+abbrev pub report_text : Lists → Dump → List ℕ
+report_text names dump = dump_text dump ++ (sections_text dump ++ crash_text names dump)
+
+abbrev pub ReportsOn : {D : Type 0} → (D → Option (List ℕ)) → Told D → Told D → Lists → List ℕ → Result (Unit {0}) Error → Result Dump Error → Type 0
+ReportsOn contents old new names bytes result (Ok dump) = Prints contents old new (report_text names dump) result
+ReportsOn contents old new names bytes result (Err refusal) =
+    (new ≡ old) × ((result ≡ Err refusal) ⊎ (HasEntries bytes × (result ≡ Err (out_of_memory old))))
+
+-- What writing the report on these bytes does. They are a minidump: its report is printed. They are none: the error is theirs, and
+-- nothing is written.
+abbrev pub Reports : {D : Type 0} → (D → Option (List ℕ)) → Told D → Told D → Lists → List ℕ → Result (Unit {0}) Error → Type 0
+Reports contents old new names bytes result = ReportsOn contents old new names bytes result (dump_in bytes)

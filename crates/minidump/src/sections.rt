@@ -1,0 +1,423 @@
+//! The text of each type of stream in a report.
+use crate::section::Reported;
+use crate::stand_in::print_words;
+use crate::{Minidump, MinidumpException, MinidumpThreadList};
+use minidump_bytes::Told;
+use minidump_format::Error;
+use minidump_memory::{
+    MinidumpLinuxMaps, MinidumpMemory64List, MinidumpMemoryInfoList, MinidumpMemoryList,
+};
+use minidump_modules::{MinidumpModuleList, MinidumpUnloadedModuleList};
+use minidump_records::{
+    MinidumpAssertion, MinidumpBreakpadInfo, MinidumpCrashpadInfo, MinidumpHandleDataStream,
+    MinidumpLinuxCpuInfo, MinidumpLinuxEnviron, MinidumpLinuxLsbRelease, MinidumpLinuxProcLimits,
+    MinidumpLinuxProcStatus, MinidumpMacBootargs, MinidumpMacCrashInfo, MinidumpSoftErrors,
+    MinidumpThreadInfoList, MinidumpThreadNames,
+};
+use minidump_stability::StabilityReport;
+use minidump_system::{MinidumpMiscInfo, MinidumpSystemInfo};
+use std::alloc::Global;
+use std::io::Write;
+
+impl<'a> Reported<'a> for MinidumpSystemInfo {
+    ghost use Rattle.minidump.specs.Promise.{system_info_stream};
+    ghost use Rattle.minidump_system.specs.SystemInfo.{system_info_text};
+
+    ghost text = { λ dump stream. system_info_text (system_info_stream.value stream) };
+
+    fn print_in<W: Write>(
+        &self,
+        _dump: &Minidump<'a>,
+        alloc: Global,
+        f: &mut Told<W>,
+    ) -> Result<(), Error> {
+        self.print(alloc, f)
+    }
+}
+
+impl<'a> Reported<'a> for MinidumpMiscInfo {
+    ghost use Rattle.minidump.specs.Promise.{misc_info_stream};
+    ghost use Rattle.minidump_system.specs.MiscInfo.{misc_info_text};
+
+    ghost text = { λ dump stream. misc_info_text (misc_info_stream.value stream) };
+
+    fn print_in<W: Write>(
+        &self,
+        _dump: &Minidump<'a>,
+        alloc: Global,
+        f: &mut Told<W>,
+    ) -> Result<(), Error> {
+        self.print(alloc, f)
+    }
+}
+
+impl<'a> Reported<'a> for MinidumpException<'a> {
+    ghost use Rattle.minidump.specs.Dump.{dump_system};
+    ghost use Rattle.minidump.specs.Promise.{exception_stream};
+    ghost use Rattle.minidump.specs.StandIn.{exception_text};
+
+    ghost text = { λ dump stream. exception_text (dump_system dump) (exception_stream.value stream) };
+
+    fn print_in<W: Write>(
+        &self,
+        _dump: &Minidump<'a>,
+        alloc: Global,
+        f: &mut Told<W>,
+    ) -> Result<(), Error> {
+        print_words("exception", alloc, f)
+    }
+}
+
+impl<'a> Reported<'a> for MinidumpThreadList<'a> {
+    ghost use Rattle.minidump.specs.Dump.{dump_system};
+    ghost use Rattle.minidump.specs.Memory.{memories_of_dump};
+    ghost use Rattle.minidump.specs.Promise.{thread_list_stream};
+    ghost use Rattle.minidump.specs.StandIn.{thread_list_text};
+
+    ghost text = { λ dump stream. thread_list_text (memories_of_dump dump) (dump_system dump) (thread_list_stream.value stream) };
+
+    fn print_in<W: Write>(
+        &self,
+        _dump: &Minidump<'a>,
+        alloc: Global,
+        f: &mut Told<W>,
+    ) -> Result<(), Error> {
+        print_words("thread list", alloc, f)
+    }
+}
+
+impl<'a> Reported<'a> for MinidumpThreadNames {
+    ghost use Rattle.minidump.specs.Promise.{thread_names_stream};
+    ghost use Rattle.minidump.specs.StandIn.{thread_names_text};
+
+    ghost text = { λ dump stream. thread_names_text (thread_names_stream.value stream) };
+
+    fn print_in<W: Write>(
+        &self,
+        _dump: &Minidump<'a>,
+        alloc: Global,
+        f: &mut Told<W>,
+    ) -> Result<(), Error> {
+        print_words("thread names", alloc, f)
+    }
+}
+
+impl<'a> Reported<'a> for MinidumpThreadInfoList {
+    ghost use Rattle.minidump.specs.Promise.{thread_info_list_stream};
+    ghost use Rattle.minidump.specs.StandIn.{thread_info_list_text};
+
+    ghost text = { λ dump stream. thread_info_list_text (thread_info_list_stream.value stream) };
+
+    fn print_in<W: Write>(
+        &self,
+        _dump: &Minidump<'a>,
+        alloc: Global,
+        f: &mut Told<W>,
+    ) -> Result<(), Error> {
+        print_words("thread info list", alloc, f)
+    }
+}
+
+impl<'a> Reported<'a> for MinidumpModuleList {
+    ghost use Rattle.minidump.specs.Promise.{module_list_stream};
+    ghost use Rattle.minidump.specs.StandIn.{module_list_text};
+
+    ghost text = { λ dump stream. module_list_text (module_list_stream.value stream) };
+
+    fn print_in<W: Write>(
+        &self,
+        _dump: &Minidump<'a>,
+        alloc: Global,
+        f: &mut Told<W>,
+    ) -> Result<(), Error> {
+        print_words("module list", alloc, f)
+    }
+}
+
+impl<'a> Reported<'a> for MinidumpUnloadedModuleList {
+    ghost use Rattle.minidump.specs.Promise.{unloaded_module_list_stream};
+    ghost use Rattle.minidump.specs.StandIn.{unloaded_module_list_text};
+
+    ghost text = { λ dump stream. unloaded_module_list_text (unloaded_module_list_stream.value stream) };
+
+    fn print_in<W: Write>(
+        &self,
+        _dump: &Minidump<'a>,
+        alloc: Global,
+        f: &mut Told<W>,
+    ) -> Result<(), Error> {
+        print_words("unloaded module list", alloc, f)
+    }
+}
+
+impl<'a> Reported<'a> for MinidumpMemory64List<'a> {
+    ghost use Rattle.minidump.specs.Promise.{memory64_list_stream};
+    ghost use Rattle.minidump.specs.StandIn.{memory64_list_text};
+
+    ghost text = { λ dump stream. memory64_list_text (memory64_list_stream.value stream) };
+
+    fn print_in<W: Write>(
+        &self,
+        _dump: &Minidump<'a>,
+        alloc: Global,
+        f: &mut Told<W>,
+    ) -> Result<(), Error> {
+        print_words("memory64 list", alloc, f)
+    }
+}
+
+impl<'a> Reported<'a> for MinidumpMemoryList<'a> {
+    ghost use Rattle.minidump.specs.Promise.{memory_list_stream};
+    ghost use Rattle.minidump.specs.StandIn.{memory_list_text};
+
+    ghost text = { λ dump stream. memory_list_text (memory_list_stream.value stream) };
+
+    fn print_in<W: Write>(
+        &self,
+        _dump: &Minidump<'a>,
+        alloc: Global,
+        f: &mut Told<W>,
+    ) -> Result<(), Error> {
+        print_words("memory list", alloc, f)
+    }
+}
+
+impl<'a> Reported<'a> for MinidumpMemoryInfoList<'a> {
+    ghost use Rattle.minidump.specs.Promise.{memory_info_list_stream};
+    ghost use Rattle.minidump.specs.StandIn.{memory_info_list_text};
+
+    ghost text = { λ dump stream. memory_info_list_text (memory_info_list_stream.value stream) };
+
+    fn print_in<W: Write>(
+        &self,
+        _dump: &Minidump<'a>,
+        alloc: Global,
+        f: &mut Told<W>,
+    ) -> Result<(), Error> {
+        print_words("memory info list", alloc, f)
+    }
+}
+
+impl<'a> Reported<'a> for MinidumpLinuxMaps<'a> {
+    ghost use Rattle.minidump.specs.Promise.{linux_maps_stream};
+    ghost use Rattle.minidump.specs.StandIn.{linux_maps_text};
+
+    ghost text = { λ dump stream. linux_maps_text (linux_maps_stream.value stream) };
+
+    fn print_in<W: Write>(
+        &self,
+        _dump: &Minidump<'a>,
+        alloc: Global,
+        f: &mut Told<W>,
+    ) -> Result<(), Error> {
+        print_words("linux maps", alloc, f)
+    }
+}
+
+impl<'a> Reported<'a> for MinidumpHandleDataStream {
+    ghost use Rattle.minidump.specs.Promise.{handle_data_stream};
+    ghost use Rattle.minidump.specs.StandIn.{handle_data_text};
+
+    ghost text = { λ dump stream. handle_data_text (handle_data_stream.value stream) };
+
+    fn print_in<W: Write>(
+        &self,
+        _dump: &Minidump<'a>,
+        alloc: Global,
+        f: &mut Told<W>,
+    ) -> Result<(), Error> {
+        print_words("handle data", alloc, f)
+    }
+}
+
+impl<'a> Reported<'a> for MinidumpBreakpadInfo {
+    ghost use Rattle.minidump.specs.Promise.{breakpad_info_stream};
+    ghost use Rattle.minidump.specs.StandIn.{breakpad_info_text};
+
+    ghost text = { λ dump stream. breakpad_info_text (breakpad_info_stream.value stream) };
+
+    fn print_in<W: Write>(
+        &self,
+        _dump: &Minidump<'a>,
+        alloc: Global,
+        f: &mut Told<W>,
+    ) -> Result<(), Error> {
+        print_words("breakpad info", alloc, f)
+    }
+}
+
+impl<'a> Reported<'a> for MinidumpAssertion {
+    ghost use Rattle.minidump.specs.Promise.{assertion_stream};
+    ghost use Rattle.minidump.specs.StandIn.{assertion_text};
+
+    ghost text = { λ dump stream. assertion_text (assertion_stream.value stream) };
+
+    fn print_in<W: Write>(
+        &self,
+        _dump: &Minidump<'a>,
+        alloc: Global,
+        f: &mut Told<W>,
+    ) -> Result<(), Error> {
+        print_words("assertion", alloc, f)
+    }
+}
+
+impl<'a> Reported<'a> for MinidumpCrashpadInfo {
+    ghost use Rattle.minidump.specs.Promise.{crashpad_info_stream};
+    ghost use Rattle.minidump.specs.StandIn.{crashpad_info_text};
+
+    ghost text = { λ dump stream. crashpad_info_text (crashpad_info_stream.value stream) };
+
+    fn print_in<W: Write>(
+        &self,
+        _dump: &Minidump<'a>,
+        alloc: Global,
+        f: &mut Told<W>,
+    ) -> Result<(), Error> {
+        print_words("crashpad info", alloc, f)
+    }
+}
+
+impl<'a> Reported<'a> for MinidumpMacCrashInfo {
+    ghost use Rattle.minidump.specs.Promise.{mac_crash_info_stream};
+    ghost use Rattle.minidump.specs.StandIn.{mac_crash_info_text};
+
+    ghost text = { λ dump stream. mac_crash_info_text (mac_crash_info_stream.value stream) };
+
+    fn print_in<W: Write>(
+        &self,
+        _dump: &Minidump<'a>,
+        alloc: Global,
+        f: &mut Told<W>,
+    ) -> Result<(), Error> {
+        print_words("mac crash info", alloc, f)
+    }
+}
+
+impl<'a> Reported<'a> for MinidumpMacBootargs {
+    ghost use Rattle.minidump.specs.Promise.{mac_bootargs_stream};
+    ghost use Rattle.minidump.specs.StandIn.{mac_bootargs_text};
+
+    ghost text = { λ dump stream. mac_bootargs_text (mac_bootargs_stream.value stream) };
+
+    fn print_in<W: Write>(
+        &self,
+        _dump: &Minidump<'a>,
+        alloc: Global,
+        f: &mut Told<W>,
+    ) -> Result<(), Error> {
+        print_words("mac bootargs", alloc, f)
+    }
+}
+
+impl<'a> Reported<'a> for MinidumpLinuxCpuInfo<'a> {
+    ghost use Rattle.minidump.specs.Promise.{linux_cpu_info_stream};
+    ghost use Rattle.minidump.specs.StandIn.{linux_cpu_info_text};
+
+    ghost text = { λ dump stream. linux_cpu_info_text (linux_cpu_info_stream.value stream) };
+
+    fn print_in<W: Write>(
+        &self,
+        _dump: &Minidump<'a>,
+        alloc: Global,
+        f: &mut Told<W>,
+    ) -> Result<(), Error> {
+        print_words("linux cpu info", alloc, f)
+    }
+}
+
+impl<'a> Reported<'a> for MinidumpLinuxProcStatus<'a> {
+    ghost use Rattle.minidump.specs.Promise.{linux_proc_status_stream};
+    ghost use Rattle.minidump.specs.StandIn.{linux_proc_status_text};
+
+    ghost text = { λ dump stream. linux_proc_status_text (linux_proc_status_stream.value stream) };
+
+    fn print_in<W: Write>(
+        &self,
+        _dump: &Minidump<'a>,
+        alloc: Global,
+        f: &mut Told<W>,
+    ) -> Result<(), Error> {
+        print_words("linux proc status", alloc, f)
+    }
+}
+
+impl<'a> Reported<'a> for MinidumpLinuxLsbRelease<'a> {
+    ghost use Rattle.minidump.specs.Promise.{linux_lsb_release_stream};
+    ghost use Rattle.minidump.specs.StandIn.{linux_lsb_release_text};
+
+    ghost text = { λ dump stream. linux_lsb_release_text (linux_lsb_release_stream.value stream) };
+
+    fn print_in<W: Write>(
+        &self,
+        _dump: &Minidump<'a>,
+        alloc: Global,
+        f: &mut Told<W>,
+    ) -> Result<(), Error> {
+        print_words("linux lsb release", alloc, f)
+    }
+}
+
+impl<'a> Reported<'a> for MinidumpLinuxEnviron<'a> {
+    ghost use Rattle.minidump.specs.Promise.{linux_environ_stream};
+    ghost use Rattle.minidump.specs.StandIn.{linux_environ_text};
+
+    ghost text = { λ dump stream. linux_environ_text (linux_environ_stream.value stream) };
+
+    fn print_in<W: Write>(
+        &self,
+        _dump: &Minidump<'a>,
+        alloc: Global,
+        f: &mut Told<W>,
+    ) -> Result<(), Error> {
+        print_words("linux environ", alloc, f)
+    }
+}
+
+impl<'a> Reported<'a> for MinidumpLinuxProcLimits<'a> {
+    ghost use Rattle.minidump.specs.Promise.{linux_proc_limits_stream};
+    ghost use Rattle.minidump.specs.StandIn.{linux_proc_limits_text};
+
+    ghost text = { λ dump stream. linux_proc_limits_text (linux_proc_limits_stream.value stream) };
+
+    fn print_in<W: Write>(
+        &self,
+        _dump: &Minidump<'a>,
+        alloc: Global,
+        f: &mut Told<W>,
+    ) -> Result<(), Error> {
+        print_words("linux proc limits", alloc, f)
+    }
+}
+
+impl<'a> Reported<'a> for MinidumpSoftErrors<'a> {
+    ghost use Rattle.minidump.specs.Promise.{soft_errors_stream};
+    ghost use Rattle.minidump.specs.StandIn.{soft_errors_text};
+
+    ghost text = { λ dump stream. soft_errors_text (soft_errors_stream.value stream) };
+
+    fn print_in<W: Write>(
+        &self,
+        _dump: &Minidump<'a>,
+        alloc: Global,
+        f: &mut Told<W>,
+    ) -> Result<(), Error> {
+        print_words("soft errors", alloc, f)
+    }
+}
+
+impl<'a> Reported<'a> for StabilityReport {
+    ghost use Rattle.minidump.specs.Promise.{stability_report_stream};
+    ghost use Rattle.minidump.specs.StandIn.{stability_report_text};
+
+    ghost text = { λ dump stream. stability_report_text (stability_report_stream.value stream) };
+
+    fn print_in<W: Write>(
+        &self,
+        _dump: &Minidump<'a>,
+        alloc: Global,
+        f: &mut Told<W>,
+    ) -> Result<(), Error> {
+        print_words("stability report", alloc, f)
+    }
+}
