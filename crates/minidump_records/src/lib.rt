@@ -70,6 +70,8 @@ mod handles;
 pub mod laws;
 mod linux;
 mod mac_crash_info;
+mod numbered;
+mod print;
 mod soft_errors;
 mod thread_info;
 mod thread_names;
