@@ -1,5 +1,5 @@
 -- What went out, what waits, and what comes.
-use Rattle.std.proofs.Common.{◌≡◌, ◌∙◌, ◌+◌, ◌<◌, ◌^◌, ℕ, List, append-nil, ap, arith, codes, length, refl, string_bytes, sym}
+use Rattle.std.proofs.Common.{◌∙◌, ◌+◌, ◌<◌, ◌^◌, ℕ, List, append-nil, ap, arith, codes, length, refl, string_bytes, sym}
 use Rattle.minidump_format.proofs.Printing.{but_all, but_exit, but_last, but_next}
 use Rattle.minidump_format.proofs.Blocking.{but_joined, but_lost}
 use Rattle.minidump_records.specs.Numbered.{numbered_item}
