@@ -6,7 +6,6 @@ use Rattle.minidump_records.proofs.thread_info.MinidumpThreadInfoList.print.Goal
 
 pub returns : goal.returns
 returns g c =
-    rw (
-      numbered_list_map (codes "MinidumpThreadInfoList\n  thread_info_count = ") (codes "thread info") thread_info_text (λ i. i.raw) c.args.self.now.thread_infos.items,
-      ← c.as_slice.ensures.value,
-    ) c.print_numbered.ensures
+    let infos = c.args.self.now.thread_infos.items in
+    let heading = codes "MinidumpThreadInfoList\n  thread_info_count = " in
+    rw (numbered_list_map heading (codes "thread info") thread_info_text (λ i. i.raw) infos, ← c.as_slice.ensures.value) c.print_numbered.ensures

@@ -1,14 +1,10 @@
 -- What went out, what waits, and what comes.
-use Rattle.std.proofs.Common.{◌∙◌, ◌+◌, ◌<◌, ◌^◌, ℕ, List, append-nil, ap, arith, codes, length, refl, string_bytes, sym}
+use Rattle.std.proofs.Common.{◌∙◌, ◌+◌, ◌<◌, ◌^◌, append-nil, ap, arith, length, refl, string_bytes, sym}
 use Rattle.minidump_format.proofs.Printing.{but_all, but_exit, but_last, but_next}
 use Rattle.minidump_format.proofs.Blocking.{but_joined, but_lost}
-use Rattle.minidump_records.specs.Numbered.{numbered_item}
-use Rattle.minidump_records.specs.ThreadNames.{thread_name_text}
 use Rattle.minidump_records.proofs.thread_names.MinidumpThreadNames.print_names.Goals.{then-len-ge-BLOCK+in_ok-put_bytes, else-len-ge-BLOCK}
+use Rattle.minidump_records.proofs.thread_names.MinidumpThreadNames.print_names.Invariants.{item}
 use Rattle.minidump_records.proofs.thread_names.MinidumpThreadNames.print_names.Goals as goal
-
-abbrev item : ℕ → ℕ → List ℕ → List ℕ
-item index id name = numbered_item (codes "thread_name") thread_name_text (index, (id, name))
 
 pub loop-index-init : goal.loop-index-init
 loop-index-init g c =
@@ -24,13 +20,13 @@ returns-in-Err g c = (but_lost _ _ _ _ _ c.loop-index.invariant.left, rw c.loop-
 pub returns-in_err-put_bytes : goal.returns-in_err-put_bytes
 returns-in_err-put_bytes g c =
     but_exit _ _ _ _ _ _ _ _ _
-    (but_joined _ _ _ _ c.loop-index.block.items (item c.loop-index.index c.in-Some.id.now (string_bytes c.in-Some.name.now)) _ _
+    (but_joined _ _ _ _ c.loop-index.block.items (item (c.loop-index.index, (c.in-Some.id.now, string_bytes c.in-Some.name.now))) _ _
     (c.as_slice.ensures.value ∙ c.in-Ok.ensures) (rw c.in-Some.ensures.steps at c.loop-index.invariant.left))
     c.from_residual.ensures.1 c.in_err-put_bytes.ensures.prints
 
 pub loop-index-preserved : goal.loop-index-preserved
 loop-index-preserved g c =
-    let text = item c.loop-index.index c.in-Some.id.now (string_bytes c.in-Some.name.now) in
+    let text = item (c.loop-index.index, (c.in-Some.id.now, string_bytes c.in-Some.name.now)) in
     let before = rw c.in-Some.ensures.steps at c.loop-index.invariant.left in
     let bound : c.loop-index.index + length c.loop-index.id-iterator < 2 ^ 64 = c.loop-index.invariant.fits in
     let next : c.loop-index.index + 1 + length c.next.new.self < 2 ^ 64 = omega (arith, bound, ap length c.in-Some.ensures.steps) in
@@ -48,5 +44,5 @@ loop-index-preserved g c =
 
 pub returns : goal.returns
 returns g c =
-    but_last _ _ _ _ _ _ _ (rw (c.as_slice-2.ensures.value, ← append-nil c.loop-index.block.items) (rw c.in-None.ensures.steps.0 at c.loop-index.invariant.left))
-    c.put_bytes-2.ensures.prints
+    let before = rw c.in-None.ensures.steps.0 at c.loop-index.invariant.left in
+    but_last _ _ _ _ _ _ _ (rw (c.as_slice-2.ensures.value, ← append-nil c.loop-index.block.items) before) c.put_bytes-2.ensures.prints
