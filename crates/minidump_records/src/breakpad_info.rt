@@ -2,7 +2,7 @@ ghost use Rattle.std.specs.Prelude.{◌≡◌, ◌++◌, OnOk};
 ghost use Rattle.minidump_format.specs.Print.{Prints};
 ghost use Rattle.minidump_records.specs.BreakpadInfo.{breakpad_in, breakpad_info_stream, breakpad_info_text, where_valid};
 
-use crate::print::optional_hex;
+use crate::optional::optional_hex;
 use minidump_bytes::{Endian, Piece, Source, Steps, Told, push_pieces};
 use minidump_format::format::MINIDUMP_BREAKPAD_INFO;
 use minidump_format::{Error, Pushed, print_item};

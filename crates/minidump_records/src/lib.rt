@@ -74,7 +74,7 @@ pub mod laws;
 mod linux;
 mod mac_crash_info;
 mod numbered;
-mod print;
+mod optional;
 mod soft_errors;
 mod thread_info;
 mod thread_names;
