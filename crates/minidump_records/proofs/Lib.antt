@@ -1,4 +1,5 @@
 -- The lemmas of this crate.
+pub mod NumberedLemmas
 pub mod ThreadLemmas
 pub mod HandleLemmas
 pub mod CrashpadLemmas

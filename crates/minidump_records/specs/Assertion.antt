@@ -1,8 +1,11 @@
 -- An assertion that failed: Breakpad's MDRawAssertionInfo.
-use Rattle.std.specs.Prelude.{ℕ, List, Result}
-use Rattle.std.specs.Option.{ok_or}
+use Rattle.std.specs.Prelude.{ℕ, List, [], ◌∷◌, codes, Result}
+use Rattle.std.specs.Fmt.{decimal}
+use Rattle.std.specs.List.{concat}
+use Rattle.std.specs.Option.{ok_or, unwrap_or}
 use Rattle.minidump_bytes.specs.declared.endian.Endian.{Endian}
 use Rattle.minidump_bytes.specs.Span.{record_at}
+use Rattle.minidump_bytes.specs.Text16.{text_before_nul}
 use Rattle.minidump_format.specs.declared.format.stream_type.MINIDUMP_STREAM_TYPE.TheVariants.{AssertionInfoStream}
 use Rattle.minidump_format.specs.declared.error.Error.{Error}
 use Rattle.minidump_format.specs.declared.error.Error.TheVariants.{StreamReadFailure}
@@ -29,3 +32,22 @@ assertion_stream = record {
   fewest = λ order bytes info. 1;
   memory = λ order bytes. ⊥;
 }
+
+-- the printed text, with the three texts of the record
+unfoldable pub fields_text : MINIDUMP_ASSERTION_INFO → List ℕ → List ℕ → List ℕ → List ℕ
+fields_text raw expression function file = concat (
+    codes "MDAssertion\n"
+    ∷ codes "  expression                                 = " ∷ expression ∷ codes "\n"
+    ∷ codes "  function                                   = " ∷ function ∷ codes "\n"
+    ∷ codes "  file                                       = " ∷ file ∷ codes "\n"
+    ∷ codes "  line                                       = " ∷ decimal raw.line ∷ codes "\n"
+    ∷ codes "  type                                       = " ∷ decimal raw._type ∷ codes "\n"
+    ∷ codes "\n"
+    ∷ [])
+
+-- code units as they are printed: what is no text is empty
+abbrev pub shown_units : List ℕ → List ℕ
+shown_units units = unwrap_or (text_before_nul units) []
+
+abbrev pub assertion_text : MINIDUMP_ASSERTION_INFO → List ℕ
+assertion_text raw = fields_text raw (shown_units raw.expression) (shown_units raw.function) (shown_units raw.file)

@@ -1,7 +1,9 @@
 -- Which threads wrote a dump and asked for it: Breakpad's MDRawBreakpadInfo.
-use Rattle.std.specs.Prelude.{ℕ, ◌==◌, List, Option, Some, None, Result, Ok, bit_and, if◌then◌else◌}
+use Rattle.std.specs.Prelude.{ℕ, ◌==◌, List, [], ◌∷◌, codes, Option, Some, None, Result, Ok, bit_and, if◌then◌else◌}
+use Rattle.std.specs.List.{concat}
 use Rattle.std.specs.Option.{ok_or}
 use Rattle.minidump_bytes.specs.declared.endian.Endian.{Endian}
+use Rattle.minidump_bytes.specs.Piece.{hex, or_invalid}
 use Rattle.minidump_bytes.specs.Span.{record_at}
 use Rattle.minidump_format.specs.declared.format.stream_type.MINIDUMP_STREAM_TYPE.TheVariants.{BreakpadInfoStream}
 use Rattle.minidump_format.specs.declared.error.Error.{Error}
@@ -38,3 +40,13 @@ breakpad_info_stream = record {
   fewest = λ order bytes info. 1;
   memory = λ order bytes. ⊥;
 }
+
+-- the printed text
+unfoldable pub breakpad_info_text : MinidumpBreakpadInfo → List ℕ
+breakpad_info_text info = concat (
+    codes "MINIDUMP_BREAKPAD_INFO\n"
+    ∷ codes "  validity             = " ∷ hex info.raw.validity ∷ codes "\n"
+    ∷ codes "  dump_thread_id       = " ∷ or_invalid hex info.dump_thread_id ∷ codes "\n"
+    ∷ codes "  requesting_thread_id = " ∷ or_invalid hex info.requesting_thread_id ∷ codes "\n"
+    ∷ codes "\n"
+    ∷ [])

@@ -2,11 +2,14 @@
 pub mod Descriptor
 pub mod ObjectChain
 pub mod OneObjectChain
-use Rattle.std.specs.Prelude.{ℕ, ◌+◌, ◌==◌, List, Option, Some, None, Result, Ok, map, string_bytes, if◌then◌else◌, IsOkAnd, ◌<◌, length}
-use Rattle.std.specs.List.{sum_by, filter_map}
+use Rattle.std.specs.Prelude.{ℕ, ◌+◌, ◌==◌, List, [], ◌∷◌, ◌++◌, codes, Option, Some, None, Result, Ok, map, string_bytes, if◌then◌else◌, IsOkAnd, ◌<◌, length}
+use Rattle.std.specs.List.{concat, flat_map, sum_by, filter_map}
+use Rattle.std.specs.Fmt.{decimal}
 use Rattle.std.specs.Option.{option_map, unwrap_or}
 use Rattle.minidump_bytes.specs.declared.endian.Endian.{Endian}
+use Rattle.minidump_bytes.specs.Piece.{hex, or_invalid}
 use Rattle.minidump_bytes.specs.Text16.{text16}
+use Rattle.minidump_format.specs.declared.format.handle.MINIDUMP_HANDLE_DESCRIPTOR.{MINIDUMP_HANDLE_DESCRIPTOR}
 use Rattle.minidump_format.specs.declared.format.stream_type.MINIDUMP_STREAM_TYPE.TheVariants.{HandleDataStream}
 use Rattle.minidump_format.specs.declared.error.Error.{Error}
 use Rattle.minidump_system.specs.StreamSpec.{StreamSpec, square}
@@ -20,8 +23,9 @@ use Rattle.minidump_records.specs.declared.handles.information.MinidumpHandleObj
 use Rattle.minidump_records.specs.declared.handles.raw.RawHandleDescriptor.{RawHandleDescriptor}
 use Rattle.minidump_records.specs.declared.handles.raw.RawHandleDescriptor.TheVariants.{HandleDescriptor, HandleDescriptor2}
 use Rattle.minidump_records.specs.Handles.Descriptor.{object_info_rva, object_name_rva, type_name_rva}
-use Rattle.minidump_records.specs.Handles.ObjectChain.{chain_reads, information_at, reads_at}
+use Rattle.minidump_records.specs.Handles.ObjectChain.{chain_reads, information_at, information_text, reads_at}
 use Rattle.minidump_records.specs.Handles.OneObjectChain.{one_object_chain}
+use Rattle.minidump_records.specs.Numbered.{numbered_list}
 
 -- ---- a handle
 
@@ -96,3 +100,65 @@ handle_data_stream = record {
   fewest = λ order bytes handles. 1 + length handles + sum_by handle_reads handles;
   memory = λ order bytes. IsOkAnd (handle_list order bytes) (λ list. 0 < handles_in list);
 }
+
+-- ---- the printed text
+
+-- the fields that both layouts have
+abbrev pub shared_fields : RawHandleDescriptor → MINIDUMP_HANDLE_DESCRIPTOR
+shared_fields (HandleDescriptor raw) = raw
+shared_fields (HandleDescriptor2 raw) = record {
+  handle = raw.handle;
+  type_name_rva = raw.type_name_rva;
+  object_name_rva = raw.object_name_rva;
+  attributes = raw.attributes;
+  granted_access = raw.granted_access;
+  handle_count = raw.handle_count;
+  pointer_count = raw.pointer_count;
+}
+
+-- the descriptor: of either layout it is headed MINIDUMP_HANDLE_DESCRIPTOR
+unfoldable pub fields_text : MINIDUMP_HANDLE_DESCRIPTOR → Option ℕ → List ℕ
+fields_text raw info_rva = concat (
+    codes "MINIDUMP_HANDLE_DESCRIPTOR\n"
+    ∷ codes "  handle            = " ∷ hex raw.handle ∷ codes "\n"
+    ∷ codes "  type_name_rva     = " ∷ hex raw.type_name_rva ∷ codes "\n"
+    ∷ codes "  object_name_rva   = " ∷ hex raw.object_name_rva ∷ codes "\n"
+    ∷ codes "  attributes        = " ∷ hex raw.attributes ∷ codes "\n"
+    ∷ codes "  granted_access    = " ∷ hex raw.granted_access ∷ codes "\n"
+    ∷ codes "  handle_count      = " ∷ decimal raw.handle_count ∷ codes "\n"
+    ∷ codes "  pointer_count     = " ∷ decimal raw.pointer_count ∷ codes "\n"
+    ∷ codes "  object_info_rva   = " ∷ or_invalid hex info_rva ∷ codes "\n"
+    ∷ [])
+
+-- its names, without quotes
+unfoldable pub names_text : List ℕ → List ℕ → List ℕ
+names_text type_name object_name = concat (
+    codes "  (type_name)       = " ∷ type_name ∷ codes "\n"
+    ∷ codes "  (object_name)     = " ∷ object_name ∷ codes "\n"
+    ∷ [])
+
+abbrev pub or_null : Option (List ℕ) → List ℕ
+or_null name = unwrap_or name (codes "(null)")
+
+-- the information on its object
+unfoldable pub info_label : List ℕ
+info_label = codes "  (object_info)     = "
+
+unfoldable pub info_line : MinidumpHandleObjectInformation → List ℕ
+info_line i = info_label ++ (information_text i ++ codes "\n")
+
+unfoldable pub no_info_line : List ℕ
+no_info_line = info_label ++ codes "(null)\n"
+
+abbrev pub infos_text : List MinidumpHandleObjectInformation → List ℕ
+infos_text infos = if length infos == 0 then no_info_line else flat_map info_line infos
+
+-- a handle
+abbrev pub handle_text : Handle → List ℕ
+handle_text h =
+    fields_text (shared_fields h.raw) (object_info_rva h.raw)
+    ++ (names_text (or_null h.type_name) (or_null h.object_name) ++ (infos_text h.object_infos ++ codes "\n"))
+
+-- the list: the number of handles, and each of them
+abbrev pub handle_data_text : List Handle → List ℕ
+handle_data_text handles = numbered_list (codes "MinidumpHandleDataStream\n  handle_count = ") (codes "handle") handle_text handles

@@ -1,9 +1,10 @@
 -- The names of threads: Microsoft's MINIDUMP_THREAD_NAME_LIST.
-use Rattle.std.specs.Prelude.{IsOkAnd, ℕ, ◌+◌, ◌*◌, ◌^◌, ◌<◌, ◌==◌, List, length, map, reverse, Option, Result, Ok, string_bytes}
-use Rattle.std.specs.List.{filter_map, range_with_len}
+use Rattle.std.specs.Prelude.{IsOkAnd, ℕ, ◌+◌, ◌*◌, ◌^◌, ◌<◌, ◌==◌, List, [], ◌∷◌, codes, length, map, reverse, Option, Result, Ok, string_bytes}
+use Rattle.std.specs.List.{concat, filter_map, range_with_len}
 use Rattle.std.specs.Map.{lookup}
 use Rattle.std.specs.Option.{option_map}
 use Rattle.minidump_bytes.specs.declared.endian.Endian.{Endian}
+use Rattle.minidump_bytes.specs.Piece.{hex}
 use Rattle.minidump_bytes.specs.Text16.{text16}
 use Rattle.minidump_format.specs.declared.format.stream_type.MINIDUMP_STREAM_TYPE.TheVariants.{ThreadNamesStream}
 use Rattle.minidump_format.specs.declared.error.Error.{Error}
@@ -12,6 +13,7 @@ use Rattle.minidump_format.specs.Thread.{thread_name}
 use Rattle.minidump_system.specs.Framing.{count_of, plain_list}
 use Rattle.minidump_system.specs.StreamSpec.{StreamSpec, linear}
 use Rattle.minidump_system.specs.Reads.{and_then}
+use Rattle.minidump_records.specs.Numbered.{numbered_list}
 use Rattle.minidump_records.specs.declared.thread_names.MinidumpThreadNames.{MinidumpThreadNames}
 
 -- the id of a thread and its name, in UTF-8
@@ -53,3 +55,16 @@ thread_names_stream = record {
   fewest = λ order bytes names. 1 + 2 * count_of order bytes;
   memory = λ order bytes. IsOkAnd (plain_list thread_name order bytes) (λ raws. 0 < length raws);
 }
+
+-- the printed text of a name, in quotes, with its thread
+unfoldable pub thread_name_text : ThreadName → List ℕ
+thread_name_text t = concat (
+    codes "MINIDUMP_THREAD_NAME\n"
+    ∷ codes "  thread_id = " ∷ hex t.0 ∷ codes "\n"
+    ∷ codes "  name      = \"" ∷ t.1 ∷ codes "\"\n"
+    ∷ codes "\n"
+    ∷ [])
+
+-- the printed text: the number of names, and each of them
+abbrev pub thread_names_text : List ThreadName → List ℕ
+thread_names_text names = numbered_list (codes "MinidumpThreadNames\n  thread_count = ") (codes "thread_name") thread_name_text names

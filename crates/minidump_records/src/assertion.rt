@@ -1,12 +1,15 @@
 ghost use Rattle.std.specs.Prelude.{◌≡◌, IfOk, IsOkUnless, string_bytes};
 ghost use Rattle.std.specs.Option.{option_map};
+ghost use Rattle.minidump_format.specs.Print.{Prints};
+ghost use Rattle.minidump_records.specs.Assertion.{assertion_of, assertion_text, fields_text, shown_units};
 ghost use Rattle.minidump_bytes.specs.Text16.{text_before_nul};
 
-use minidump_bytes::{Endian, Source, Steps, text_before_nul};
-use minidump_format::Error;
+use minidump_bytes::{Endian, Piece, Source, Steps, Told, made, text_before_nul};
 use minidump_format::format::MINIDUMP_ASSERTION_INFO;
+use minidump_format::{Error, put_formatted};
 use minidump_system::{MinidumpStream, MinidumpSystemInfo};
-use std::alloc::Global;
+use std::alloc::{AllocError, Global};
+use std::io::Write;
 
 /// An assertion that failed, which Breakpad writes.
 #[derive(Drop)]
@@ -43,6 +46,15 @@ impl MinidumpAssertion {
     }
 }
 
+impl MinidumpAssertion {
+    /// Prints the record. What is no text is printed as an empty one.
+    pub fn print<W: Write>(&self, alloc: Global, f: &mut Told<W>) -> Result<(), Error>
+        ensures { Prints W.contents f.old f.new (assertion_text (assertion_of self.now)) result }
+    {
+        put_formatted(f, format_text(alloc, &self.raw))
+    }
+}
+
 /// Reads Breakpad's `MDRawAssertionInfo`. Returns `StreamReadFailure` if the stream is shorter than the record.
 /// Takes no memory.
 impl<'a> MinidumpStream<'a> for MinidumpAssertion {
@@ -72,4 +84,57 @@ impl<'a> MinidumpStream<'a> for MinidumpAssertion {
             .ok_or(Error::StreamReadFailure)?;
         Ok(MinidumpAssertion { raw })
     }
+}
+
+fn format_text(alloc: Global, raw: &MINIDUMP_ASSERTION_INFO) -> Result<String, AllocError>
+    ensures { IfOk result (λ text. string_bytes text ≡ assertion_text raw.now) }
+{
+    let expression = shown_units(alloc, &raw.expression)?;
+    let function = shown_units(alloc, &raw.function)?;
+    let file = shown_units(alloc, &raw.file)?;
+    format_fields(
+        alloc,
+        raw,
+        expression.as_str(),
+        function.as_str(),
+        file.as_str(),
+    )
+}
+
+// Returns the text before the first NUL, or an empty one if that is no text.
+fn shown_units(alloc: Global, units: &[u16]) -> Result<String, AllocError>
+    ensures { IfOk result (λ text. string_bytes text ≡ shown_units units.now) }
+{
+    match text_before_nul(alloc, units)? {
+        Some(text) => Ok(text),
+        None => Ok(String::new(alloc)),
+    }
+}
+
+#[tactic(auto, unfolding(crate::specs::Assertion::fields_text))]
+fn format_fields<'t>(
+    alloc: Global,
+    raw: &MINIDUMP_ASSERTION_INFO,
+    expression: &'t str,
+    function: &'t str,
+    file: &'t str,
+) -> Result<String, AllocError>
+    ensures { IfOk result (λ text. string_bytes text ≡ fields_text raw.now expression.now function.now file.now) }
+{
+    made(
+        alloc,
+        &[
+            Piece::Words("MDAssertion\n  expression                                 = "),
+            Piece::Words(expression),
+            Piece::Words("\n  function                                   = "),
+            Piece::Words(function),
+            Piece::Words("\n  file                                       = "),
+            Piece::Words(file),
+            Piece::Words("\n  line                                       = "),
+            Piece::Decimal(raw.line as u64),
+            Piece::Words("\n  type                                       = "),
+            Piece::Decimal(raw._type as u64),
+            Piece::Words("\n\n"),
+        ],
+    )
 }

@@ -1,11 +1,14 @@
-ghost use Rattle.std.specs.Prelude.{◌≡◌};
-ghost use Rattle.minidump_records.specs.BreakpadInfo.{breakpad_in, where_valid};
+ghost use Rattle.std.specs.Prelude.{◌≡◌, ◌++◌, OnOk};
+ghost use Rattle.minidump_format.specs.Print.{Prints};
+ghost use Rattle.minidump_records.specs.BreakpadInfo.{breakpad_in, breakpad_info_stream, breakpad_info_text, where_valid};
 
-use minidump_bytes::{Endian, Source, Steps};
-use minidump_format::Error;
+use crate::optional::optional_hex;
+use minidump_bytes::{Endian, Piece, Source, Steps, Told, push_pieces};
 use minidump_format::format::MINIDUMP_BREAKPAD_INFO;
+use minidump_format::{Error, Pushed, print_item};
 use minidump_system::{MinidumpStream, MinidumpSystemInfo};
-use std::alloc::Global;
+use std::alloc::{AllocError, Global};
+use std::io::Write;
 
 // The flags of `BreakpadInfoValid`, as numbers.
 const DUMP_THREAD_ID: u32 = 0x1;
@@ -21,6 +24,23 @@ pub struct MinidumpBreakpadInfo {
     pub dump_thread_id: Option<u32>,
     /// The id of the thread that requested the dump, or `None` if its flag is not set.
     pub requesting_thread_id: Option<u32>,
+}
+
+impl MinidumpBreakpadInfo {
+    /// Prints the record, with `(invalid)` for an id whose flag is not set.
+    pub fn print<W: Write>(&self, alloc: Global, f: &mut Told<W>) -> Result<(), Error>
+        ensures { Prints W.contents f.old f.new (breakpad_info_text (breakpad_info_stream.value self.now)) result }
+    {
+        print_item(self, alloc, f)
+    }
+}
+
+impl Pushed for MinidumpBreakpadInfo {
+    ghost text = { breakpad_info_text };
+
+    fn push(&self, out: &mut Vec<u8>) -> Result<(), AllocError> {
+        push_info(out, self)
+    }
 }
 
 /// Reads Breakpad's `MDRawBreakpadInfo`. Returns `StreamReadFailure` if the stream is shorter than the record.
@@ -78,4 +98,22 @@ fn where_valid(validity: u32, flag: u32, id: u32) -> Option<u32>
     } else {
         None
     }
+}
+
+#[tactic(auto, unfolding(crate::specs::BreakpadInfo::breakpad_info_text))]
+fn push_info(out: &mut Vec<u8>, info: &MinidumpBreakpadInfo) -> Result<(), AllocError>
+    ensures { OnOk result (out.new.items ≡ out.old.items ++ breakpad_info_text info.now) }
+{
+    push_pieces(
+        out,
+        &[
+            Piece::Words("MINIDUMP_BREAKPAD_INFO\n  validity             = "),
+            Piece::Hex(info.raw.validity as u64),
+            Piece::Words("\n  dump_thread_id       = "),
+            optional_hex(info.dump_thread_id),
+            Piece::Words("\n  requesting_thread_id = "),
+            optional_hex(info.requesting_thread_id),
+            Piece::Words("\n\n"),
+        ],
+    )
 }

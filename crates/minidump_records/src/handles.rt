@@ -2,6 +2,7 @@ mod chain;
 mod data_stream;
 mod descriptor;
 mod information;
+mod print;
 mod raw;
 
 pub use data_stream::MinidumpHandleDataStream;

@@ -56,6 +56,9 @@
 //!   `laws::breakpad_info_clones_are_the_same`.
 //! - Each read takes at most n + 7 steps, of handles and of Crashpad's information (n + 8)² - 1: `most` of each
 //!   table.
+//! - Handles, thread information, thread names, assertions and Breakpad's information print the text of their value,
+//!   thread names ascending by the ids of the threads: `print` of each, by `handle_data_text`, `handle_text`,
+//!   `thread_info_list_text`, `thread_info_text`, `thread_names_text`, `assertion_text`, `breakpad_info_text`.
 //!
 //! It is not proved that a forged count reserves no memory. The contracts show that no `OutOfMemory` is returned
 //! because of one, with two exceptions: Crashpad's lists, which grow entry by entry, and the count of records on
@@ -70,6 +73,8 @@ mod handles;
 pub mod laws;
 mod linux;
 mod mac_crash_info;
+mod numbered;
+mod optional;
 mod soft_errors;
 mod thread_info;
 mod thread_names;

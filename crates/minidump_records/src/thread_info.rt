@@ -1,19 +1,39 @@
-ghost use Rattle.std.specs.Prelude.{◌≡◌, [], IfOk, map};
+ghost use Rattle.std.specs.Prelude.{◌≡◌, ◌++◌, [], IfOk, OnOk, map};
 ghost use Rattle.std.specs.Option.{option_copied};
-ghost use Rattle.minidump_records.specs.ThreadInfo.{thread_info_list_of, last_info};
+ghost use Rattle.minidump_format.specs.Print.{Prints};
+ghost use Rattle.minidump_records.specs.ThreadInfo.{thread_info_list_of, last_info, thread_info_text, thread_info_list_text};
 
-use minidump_bytes::{Endian, Entries, Source, Steps};
-use minidump_format::Error;
+use crate::numbered::print_numbered;
+use minidump_bytes::{Endian, Entries, Piece, Source, Steps, Told, push_pieces};
 use minidump_format::format::MINIDUMP_THREAD_INFO;
+use minidump_format::{Error, Pushed, print_item};
 use minidump_system::framing::extended_entries;
 use minidump_system::{MinidumpStream, MinidumpSystemInfo};
 use std::alloc::{AllocError, Global};
+use std::io::Write;
 
 /// The state of a thread: its times, its exit status and where it began.
 #[derive(Drop)]
 pub struct MinidumpThreadInfo {
     /// The entry in the stream.
     pub raw: MINIDUMP_THREAD_INFO,
+}
+
+impl MinidumpThreadInfo {
+    /// Prints the entry. Its text ends with an empty line and two blanks.
+    pub fn print<W: Write>(&self, alloc: Global, f: &mut Told<W>) -> Result<(), Error>
+        ensures { Prints W.contents f.old f.new (thread_info_text self.now.raw) result }
+    {
+        print_item(self, alloc, f)
+    }
+}
+
+impl Pushed for MinidumpThreadInfo {
+    ghost text = { λ info. thread_info_text info.raw };
+
+    fn push(&self, out: &mut Vec<u8>) -> Result<(), AllocError> {
+        push_info(out, &self.raw)
+    }
 }
 
 /// The state of each thread, in the order of the file.
@@ -38,6 +58,20 @@ impl MinidumpThreadInfoList {
     {
         let infos = self.thread_infos.as_slice();
         infos.iter().rev().find(|info| info.raw.thread_id == id)
+    }
+
+    /// Prints the number of entries, and each of them behind its index.
+    pub fn print<W: Write>(&self, alloc: Global, f: &mut Told<W>) -> Result<(), Error>
+        ensures { Prints W.contents f.old f.new (thread_info_list_text (thread_info_list_of self.now)) result }
+    {
+        let heading = "MinidumpThreadInfoList\n  thread_info_count = ";
+        print_numbered(
+            heading,
+            "thread info",
+            self.thread_infos.as_slice(),
+            alloc,
+            f,
+        )
     }
 }
 
@@ -87,4 +121,36 @@ fn all_infos(
         infos.push(MinidumpThreadInfo { raw })?;
     }
     Ok(infos)
+}
+
+#[tactic(auto, unfolding(crate::specs::ThreadInfo::thread_info_text))]
+fn push_info(out: &mut Vec<u8>, raw: &MINIDUMP_THREAD_INFO) -> Result<(), AllocError>
+    ensures { OnOk result (out.new.items ≡ out.old.items ++ thread_info_text raw.now) }
+{
+    push_pieces(
+        out,
+        &[
+            Piece::Words("MINIDUMP_THREAD_INFO\n  thread_id                   = "),
+            Piece::Hex(raw.thread_id as u64),
+            Piece::Words("\n  dump_flags                  = "),
+            Piece::Hex(raw.dump_flags as u64),
+            Piece::Words("\n  dump_error                  = "),
+            Piece::Hex(raw.dump_error as u64),
+            Piece::Words("\n  exit_status                 = "),
+            Piece::Hex(raw.exit_status as u64),
+            Piece::Words("\n  create_time                 = "),
+            Piece::Hex(raw.create_time),
+            Piece::Words("\n  exit_time                   = "),
+            Piece::Hex(raw.exit_time),
+            Piece::Words("\n  kernel_time                 = "),
+            Piece::Hex(raw.kernel_time),
+            Piece::Words("\n  user_time                   = "),
+            Piece::Hex(raw.user_time),
+            Piece::Words("\n  start_address               = "),
+            Piece::Hex(raw.start_address),
+            Piece::Words("\n  affinity                    = "),
+            Piece::Hex(raw.affinity),
+            Piece::Words("\n\n  "),
+        ],
+    )
 }

@@ -1,4 +1,4 @@
-ghost use Rattle.std.specs.Prelude.{◌≡◌, ◌^◌, ◌+◌, ◌≤◌, [], length, IfOk, IsOkUnless, OnOk, map, string_bytes};
+ghost use Rattle.std.specs.Prelude.{◌≡◌, ◌^◌, ◌+◌, ◌++◌, ◌≤◌, [], codes, length, IfOk, IsOkUnless, OnOk, map, string_bytes};
 ghost use Rattle.std.specs.BTreeMap.{IsOrdered, Updates};
 ghost use Rattle.std.specs.List.{filter_map};
 ghost use Rattle.std.specs.Option.{option_copied, option_map};
@@ -6,15 +6,22 @@ ghost use Rattle.std.specs.Ordering.{nat_cmp};
 ghost use Rattle.minidump_bytes.specs.Source.{bytes_of};
 ghost use Rattle.minidump_bytes.specs.Steps.{after};
 ghost use Rattle.minidump_bytes.specs.Text16.{text16};
-ghost use Rattle.minidump_records.specs.ThreadNames.{last_names, name_of_thread, named, thread_names_of, thread_names_stream};
+ghost use Rattle.minidump_format.specs.Print.{Prints};
+ghost use Rattle.minidump_records.specs.Numbered.{count_text, numbered_item, numbered_text};
+ghost use Rattle.minidump_records.specs.ThreadNames.{last_names, name_of_thread, named, thread_name_text, thread_names_of, thread_names_stream, thread_names_text};
 
-use minidump_bytes::{Endian, Entries, Source, Steps};
-use minidump_format::Error;
+use crate::numbered::{print_count, push_index};
+use minidump_bytes::{Endian, Entries, Piece, Source, Steps, Told, push_pieces};
 use minidump_format::format::MINIDUMP_THREAD_NAME;
+use minidump_format::{Error, put_bytes};
 use minidump_system::framing::plain_entries;
 use minidump_system::{MinidumpStream, MinidumpSystemInfo};
 use std::alloc::{AllocError, Global};
 use std::collections::BTreeMap;
+use std::io::Write;
+
+// Bytes that wait are written once there are so many.
+const BLOCK: usize = 32768;
 
 /// The names of threads, by their ids.
 #[derive(Drop)]
@@ -48,6 +55,45 @@ impl MinidumpThreadNames {
         Ok(MinidumpThreadNames {
             names: self.names.clone()?,
         })
+    }
+
+    /// Prints the number of names, and each of them behind its index, ascending by the ids of the threads.
+    #[tactic(auto, using(minidump_format::proofs::Printing::prints_then, minidump_format::proofs::Printing::prints_exit))]
+    pub fn print<W: Write>(&self, alloc: Global, f: &mut Told<W>) -> Result<(), Error>
+        ensures { Prints W.contents f.old f.new (thread_names_text (thread_names_of self.now)) result }
+    {
+        self.print_heading(alloc, f)?;
+        self.print_names(alloc, f)
+    }
+
+    fn print_heading<W: Write>(&self, alloc: Global, f: &mut Told<W>) -> Result<(), Error>
+        ensures { Prints W.contents f.old f.new
+            (count_text (codes "MinidumpThreadNames\n  thread_count = ") (length (thread_names_of self.now))) result }
+    {
+        let heading = "MinidumpThreadNames\n  thread_count = ";
+        print_count(heading, self.names.len(), alloc, f)
+    }
+
+    // Prints the names in blocks.
+    fn print_names<W: Write>(&self, alloc: Global, f: &mut Told<W>) -> Result<(), Error>
+        ensures { Prints W.contents f.old f.new
+            (numbered_text (codes "thread_name") thread_name_text (thread_names_of self.now)) result }
+    {
+        if f.failed() {
+            return Err(Error::IoError);
+        }
+        let mut block = Vec::new(alloc);
+        for (index, (id, name)) in self.names.iter().enumerate() {
+            match push_entry(&mut block, index, *id, name) {
+                Ok(()) => {}
+                Err(AllocError) => return Err(Error::OutOfMemory),
+            }
+            if block.len() >= BLOCK {
+                put_bytes(f, block.as_slice())?;
+                block.clear();
+            }
+        }
+        put_bytes(f, block.as_slice())
     }
 }
 
@@ -133,4 +179,29 @@ fn put_name(
 {
     names.insert(thread_id, name)?;
     Ok(())
+}
+
+// Appends the name of a thread, behind its index.
+fn push_entry(out: &mut Vec<u8>, index: usize, id: u32, name: &String) -> Result<(), AllocError>
+    ensures { OnOk result (out.new.items ≡ out.old.items
+        ++ numbered_item (codes "thread_name") thread_name_text (index, (id, string_bytes name.now))) }
+{
+    push_index(out, "thread_name", index)?;
+    push_name(out, id, name.as_str())
+}
+
+#[tactic(auto, unfolding(crate::specs::ThreadNames::thread_name_text))]
+fn push_name(out: &mut Vec<u8>, id: u32, name: &str) -> Result<(), AllocError>
+    ensures { OnOk result (out.new.items ≡ out.old.items ++ thread_name_text (id, name.now)) }
+{
+    push_pieces(
+        out,
+        &[
+            Piece::Words("MINIDUMP_THREAD_NAME\n  thread_id = "),
+            Piece::Hex(id as u64),
+            Piece::Words("\n  name      = \""),
+            Piece::Words(name),
+            Piece::Words("\"\n\n"),
+        ],
+    )
 }

@@ -37,7 +37,7 @@ abbrev pub chain_reads : ℕ → List MinidumpHandleObjectInformation → ℕ
 chain_reads link infos = length infos + reads_at (last_link link infos)
 
 -- the text of a piece of information: its fields
-abbrev pub information_text : MinidumpHandleObjectInformation → List ℕ
+unfoldable pub information_text : MinidumpHandleObjectInformation → List ℕ
 information_text i =
     codes "{next_info_rva: 0x" ++ (digits 16 false i.raw.next_info_rva
     ++ (codes ", info_type: " ++ (digits 10 false i.raw.info_type

@@ -25,6 +25,7 @@ impl fmt::Display for MinidumpHandleObjectInformation {
 
     ghost output = { λ information. Some (information_text information) };
 
+    #[tactic(auto, unfolding(crate::specs::Handles::ObjectChain::information_text))]
     fn fmt<W: fmt::Write>(&self, f: &mut fmt::Formatter<W>) -> fmt::Result {
         let next = self.raw.next_info_rva;
         let kind = self.raw.info_type;

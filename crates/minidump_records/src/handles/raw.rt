@@ -1,6 +1,7 @@
 ghost use Rattle.std.specs.Prelude.{◌≡◌};
 ghost use Rattle.std.specs.Option.{option_copied};
 ghost use Rattle.minidump_records.specs.Handles.Descriptor.{handle, type_name_rva, object_name_rva, attributes, granted_access, handle_count, pointer_count, object_info_rva};
+ghost use Rattle.minidump_records.specs.Handles.{shared_fields};
 
 use minidump_format::format::{MINIDUMP_HANDLE_DESCRIPTOR, MINIDUMP_HANDLE_DESCRIPTOR_2, RVA};
 
@@ -79,6 +80,24 @@ impl RawHandleDescriptor {
         match self {
             RawHandleDescriptor::HandleDescriptor(_) => None,
             RawHandleDescriptor::HandleDescriptor2(raw) => Some(&raw.object_info_rva),
+        }
+    }
+
+    // Returns the fields that both layouts have.
+    pub(super) fn shared_fields(&self) -> MINIDUMP_HANDLE_DESCRIPTOR
+        ensures { result ≡ shared_fields self.now }
+    {
+        match self {
+            RawHandleDescriptor::HandleDescriptor(raw) => *raw,
+            RawHandleDescriptor::HandleDescriptor2(raw) => MINIDUMP_HANDLE_DESCRIPTOR {
+                handle: raw.handle,
+                type_name_rva: raw.type_name_rva,
+                object_name_rva: raw.object_name_rva,
+                attributes: raw.attributes,
+                granted_access: raw.granted_access,
+                handle_count: raw.handle_count,
+                pointer_count: raw.pointer_count,
+            },
         }
     }
 }
