@@ -56,6 +56,9 @@
 //!   `laws::breakpad_info_clones_are_the_same`.
 //! - Each read takes at most n + 7 steps, of handles and of Crashpad's information (n + 8)² - 1: `most` of each
 //!   table.
+//! - Crashpad's information, the crash information and the boot arguments of macOS, Linux texts and soft errors
+//!   print their texts: `print` of each, by `crashpad_info_text`, `mac_crash_info_text`, `mac_bootargs_text`,
+//!   `linux_pairs_text`, `linux_proc_limits_text`, `soft_errors_text`.
 //!
 //! It is not proved that a forged count reserves no memory. The contracts show that no `OutOfMemory` is returned
 //! because of one, with two exceptions: Crashpad's lists, which grow entry by entry, and the count of records on
@@ -70,6 +73,7 @@ mod handles;
 pub mod laws;
 mod linux;
 mod mac_crash_info;
+mod print;
 mod soft_errors;
 mod thread_info;
 mod thread_names;
