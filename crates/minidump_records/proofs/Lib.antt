@@ -4,3 +4,4 @@ pub mod ThreadLemmas
 pub mod HandleLemmas
 pub mod CrashpadLemmas
 pub mod MacLemmas
+pub mod PrintLemmas

@@ -1,5 +1,5 @@
 -- The arguments of macOS's boot: Mozilla's MDRawMacBootargs.
-use Rattle.std.specs.Prelude.{ℕ, List, length, Option, Result, Ok, nat_le, if◌then◌else◌, string_bytes, ◌≤◌}
+use Rattle.std.specs.Prelude.{ℕ, List, ◌++◌, codes, length, Option, Result, Ok, nat_le, if◌then◌else◌, string_bytes, ◌≤◌}
 use Rattle.std.specs.Option.{ok_or, option_map, option_or}
 use Rattle.minidump_bytes.specs.declared.endian.Endian.{Endian}
 use Rattle.minidump_bytes.specs.Layout.{Layout}
@@ -13,6 +13,7 @@ use Rattle.minidump_format.specs.declared.format.mac.MINIDUMP_MAC_BOOTARGS.{MINI
 use Rattle.minidump_format.specs.Mac.{mac_boot_args}
 use Rattle.minidump_system.specs.StreamSpec.{StreamSpec}
 use Rattle.minidump_system.specs.Reads.{and_then}
+use Rattle.minidump_records.specs.Print.{text_or_nothing}
 use Rattle.minidump_records.specs.declared.boot_args.MinidumpMacBootargs.{MinidumpMacBootargs}
 use Rattle.minidump_records.specs.declared.boot_args.ShortBootArgs.{ShortBootArgs}
 
@@ -60,3 +61,13 @@ mac_bootargs_stream = record {
   fewest = λ order bytes args. boot_args_reads bytes;
   memory = λ order bytes. 8 ≤ length bytes;
 }
+
+unfoldable pub boot_args_label : List ℕ
+boot_args_label = codes "mac_boot_args = "
+
+unfoldable pub boot_args_end : List ℕ
+boot_args_end = codes "\n\n"
+
+-- the arguments as text: nothing where there are none
+abbrev pub mac_bootargs_text : BootArgs → List ℕ
+mac_bootargs_text b = boot_args_label ++ (text_or_nothing b.text ++ boot_args_end)

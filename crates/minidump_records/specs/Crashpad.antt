@@ -2,6 +2,7 @@
 pub mod Parts
 pub mod Dictionary
 pub mod Annotations
+pub mod Text
 use Rattle.std.specs.Prelude.{ℕ, ◌+◌, ◌==◌, IsSome, List, Result, Ok, Err, map, string_bytes, if◌then◌else◌, IsOk}
 use Rattle.std.specs.List.{sum_by}
 use Rattle.std.specs.Option.{ok_or}

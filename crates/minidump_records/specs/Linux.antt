@@ -1,6 +1,7 @@
 -- The texts of Linux's files that a dump keeps: Breakpad's MD_LINUX_CPU_INFO, MD_LINUX_PROC_STATUS,
 -- MD_LINUX_LSB_RELEASE and MD_LINUX_ENVIRON, and Mozilla's limits of a process.
 pub mod Pairs
+pub mod Text
 use Rattle.std.specs.Prelude.{ℕ, List, Result, Ok}
 use Rattle.minidump_format.specs.declared.format.stream_type.MINIDUMP_STREAM_TYPE.{MINIDUMP_STREAM_TYPE}
 use Rattle.minidump_format.specs.declared.format.stream_type.MINIDUMP_STREAM_TYPE.TheVariants.{LinuxCpuInfo, LinuxEnviron, LinuxLsbRelease}

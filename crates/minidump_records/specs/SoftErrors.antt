@@ -1,11 +1,12 @@
 -- Errors that did not keep the writer of a dump from writing it: Mozilla's stream of JSON in UTF-8.
-use Rattle.std.specs.Prelude.{ℕ, List, Result}
+use Rattle.std.specs.Prelude.{ℕ, List, ◌++◌, codes, Result}
 use Rattle.std.specs.Option.{ok_or}
 use Rattle.minidump_bytes.specs.Text8.{utf8_text}
 use Rattle.minidump_format.specs.declared.format.stream_type.MINIDUMP_STREAM_TYPE.TheVariants.{MozSoftErrors}
 use Rattle.minidump_format.specs.declared.error.Error.{Error}
 use Rattle.minidump_format.specs.declared.error.Error.TheVariants.{DataError}
 use Rattle.minidump_system.specs.StreamSpec.{StreamSpec}
+use Rattle.minidump_records.specs.Print.{line_end}
 use Rattle.minidump_records.specs.declared.soft_errors.MinidumpSoftErrors.{MinidumpSoftErrors}
 
 -- the text of a value
@@ -26,3 +27,10 @@ soft_errors_stream = record {
   fewest = λ order bytes text. 0;
   memory = λ order bytes. ⊥;
 }
+
+unfoldable pub soft_errors_heading : List ℕ
+soft_errors_heading = codes "MozSoftErrors\n"
+
+-- the text in a report: the name of the type on a line, and the text with a line feed behind it
+abbrev pub soft_errors_text : List ℕ → List ℕ
+soft_errors_text text = soft_errors_heading ++ (text ++ line_end)

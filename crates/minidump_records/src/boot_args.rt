@@ -1,14 +1,17 @@
-ghost use Rattle.std.specs.Prelude.{◌≡◌, ◌+◌, ◌≤◌, IfOk, IsOkUnless, IfSome, length, nat_le, if◌then◌else◌};
+ghost use Rattle.std.specs.Prelude.{◌≡◌, ◌+◌, ◌++◌, ◌≤◌, IfOk, IsOkUnless, IfSome, length, nat_le, if◌then◌else◌};
 ghost use Rattle.std.proofs.Common.{rules};
 ghost use Rattle.minidump_bytes.specs.Source.{bytes_of};
 ghost use Rattle.minidump_bytes.specs.Steps.{after};
-ghost use Rattle.minidump_records.specs.BootArgs.{mac_bootargs_of, boot_args_record};
+ghost use Rattle.minidump_format.specs.Print.{Prints};
+ghost use Rattle.minidump_records.specs.BootArgs.{boot_args_end, boot_args_label, boot_args_record, mac_bootargs_of, mac_bootargs_text};
+ghost use Rattle.minidump_records.specs.Print.{text_or_nothing};
 
-use minidump_bytes::{Endian, Record, Source, Steps, copied};
-use minidump_format::Error;
+use minidump_bytes::{Endian, Record, Source, Steps, Told, copied};
 use minidump_format::format::MINIDUMP_MAC_BOOTARGS;
+use minidump_format::{Error, put_text};
 use minidump_system::{MinidumpStream, MinidumpSystemInfo};
 use std::alloc::Global;
+use std::io::Write;
 
 /// The arguments that macOS was booted with.
 #[derive(Drop)]
@@ -30,6 +33,46 @@ impl MinidumpMacBootargs {
             bootargs: copied(alloc, &self.bootargs)?,
         })
     }
+
+    /// Prints the arguments, or nothing behind their label if they are `None`.
+    #[tactic(auto, using(minidump_format::proofs::Printing::prints_then, minidump_format::proofs::Printing::prints_exit))]
+    pub fn print<W: Write>(&self, _alloc: Global, f: &mut Told<W>) -> Result<(), Error>
+        ensures { Prints W.contents f.old f.new (mac_bootargs_text (mac_bootargs_of self.now)) result }
+    {
+        print_label(f)?;
+        self.print_text(f)
+    }
+
+    #[tactic(auto, using(minidump_format::proofs::Printing::prints_then, minidump_format::proofs::Printing::prints_exit))]
+    fn print_text<W: Write>(&self, f: &mut Told<W>) -> Result<(), Error>
+        ensures { Prints W.contents f.old f.new (text_or_nothing (mac_bootargs_of self.now).text ++ boot_args_end) result }
+    {
+        self.print_arguments(f)?;
+        print_end(f)
+    }
+
+    fn print_arguments<W: Write>(&self, f: &mut Told<W>) -> Result<(), Error>
+        ensures { Prints W.contents f.old f.new (text_or_nothing (mac_bootargs_of self.now).text) result }
+    {
+        match &self.bootargs {
+            Some(text) => put_text(f, text.as_str()),
+            None => put_text(f, ""),
+        }
+    }
+}
+
+#[tactic(auto, unfolding(crate::specs::BootArgs::boot_args_label))]
+fn print_label<W: Write>(f: &mut Told<W>) -> Result<(), Error>
+    ensures { Prints W.contents f.old f.new boot_args_label result }
+{
+    put_text(f, "mac_boot_args = ")
+}
+
+#[tactic(auto, unfolding(crate::specs::BootArgs::boot_args_end))]
+fn print_end<W: Write>(f: &mut Told<W>) -> Result<(), Error>
+    ensures { Prints W.contents f.old f.new boot_args_end result }
+{
+    put_text(f, "\n\n")
 }
 
 // The short form of the record.

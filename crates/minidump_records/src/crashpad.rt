@@ -5,6 +5,7 @@ mod dictionary;
 mod info;
 mod module_info;
 mod part;
+mod print;
 mod text;
 
 pub use annotation::MinidumpAnnotation;

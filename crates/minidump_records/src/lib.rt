@@ -59,6 +59,9 @@
 //! - Handles, thread information, thread names, assertions and Breakpad's information print the text of their value,
 //!   thread names ascending by the ids of the threads: `print` of each, by `handle_data_text`, `handle_text`,
 //!   `thread_info_list_text`, `thread_info_text`, `thread_names_text`, `assertion_text`, `breakpad_info_text`.
+//! - Crashpad's information, the crash information and the boot arguments of macOS, Linux texts and soft errors
+//!   print their texts: `print` of each, by `crashpad_info_text`, `mac_crash_info_text`, `mac_bootargs_text`,
+//!   `linux_pairs_text`, `linux_proc_limits_text`, `soft_errors_text`.
 //!
 //! It is not proved that a forged count reserves no memory. The contracts show that no `OutOfMemory` is returned
 //! because of one, with two exceptions: Crashpad's lists, which grow entry by entry, and the count of records on
@@ -75,6 +78,7 @@ mod linux;
 mod mac_crash_info;
 mod numbered;
 mod optional;
+mod print;
 mod soft_errors;
 mod thread_info;
 mod thread_names;

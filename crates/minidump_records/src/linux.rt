@@ -1,6 +1,7 @@
 //! The texts of Linux's files that a dump keeps.
 mod files;
 mod pairs;
+mod print;
 mod text;
 
 pub(crate) use files::{CpuInfo, Environ, LsbRelease, ProcStatus};

@@ -7,6 +7,7 @@ ghost use Rattle.minidump_format.specs.StreamType.{number_of};
 ghost use Rattle.minidump_records.specs.MacCrashInfo.Record.{mac_record_of, record_reads};
 ghost use Rattle.minidump_records.specs.MacCrashInfo.{located_records, mac_crash_info_of};
 
+mod print;
 mod raw;
 mod record;
 

@@ -1,11 +1,15 @@
-ghost use Rattle.std.specs.Prelude.{◌≡◌, []};
+ghost use Rattle.std.specs.Prelude.{◌≡◌, ◌++◌, []};
+ghost use Rattle.minidump_format.specs.Print.{Prints};
 ghost use Rattle.minidump_format.specs.StreamType.{number_of};
-ghost use Rattle.minidump_records.specs.SoftErrors.{soft_errors_stream};
+ghost use Rattle.minidump_records.specs.Print.{line_end};
+ghost use Rattle.minidump_records.specs.SoftErrors.{soft_errors_heading, soft_errors_stream, soft_errors_text};
 
-use minidump_bytes::{Endian, LinuxOsStr, Source, Steps};
-use minidump_format::Error;
+use crate::print::print_line_end;
+use minidump_bytes::{Endian, LinuxOsStr, Source, Steps, Told};
+use minidump_format::{Error, put_text};
 use minidump_system::{MinidumpStream, MinidumpSystemInfo};
 use std::alloc::Global;
+use std::io::Write;
 
 /// The errors that did not keep the writer of a dump from writing it, as a text in JSON.
 #[derive(Drop)]
@@ -27,6 +31,31 @@ impl<'a> MinidumpSoftErrors<'a> {
     {
         self.text
     }
+
+    /// Prints the name of the type of stream and the text, each with a line feed. The Rust crate has no such
+    /// call: this is the text that a report has for the stream.
+    #[tactic(auto, using(minidump_format::proofs::Printing::prints_then, minidump_format::proofs::Printing::prints_exit))]
+    pub fn print<W: Write>(&self, _alloc: Global, f: &mut Told<W>) -> Result<(), Error>
+        ensures { Prints W.contents f.old f.new (soft_errors_text (soft_errors_stream.value self.now)) result }
+    {
+        print_heading(f)?;
+        self.print_text(f)
+    }
+
+    #[tactic(auto, using(minidump_format::proofs::Printing::prints_then, minidump_format::proofs::Printing::prints_exit))]
+    fn print_text<W: Write>(&self, f: &mut Told<W>) -> Result<(), Error>
+        ensures { Prints W.contents f.old f.new (soft_errors_stream.value self.now ++ line_end) result }
+    {
+        put_text(f, self.text)?;
+        print_line_end(f)
+    }
+}
+
+#[tactic(auto, unfolding(crate::specs::SoftErrors::soft_errors_heading))]
+fn print_heading<W: Write>(f: &mut Told<W>) -> Result<(), Error>
+    ensures { Prints W.contents f.old f.new soft_errors_heading result }
+{
+    put_text(f, "MozSoftErrors\n")
 }
 
 /// Reads Mozilla's soft errors: the stream is one text. Returns `DataError` if its bytes are not UTF-8. Counts no

@@ -4,6 +4,7 @@ ghost use Rattle.minidump_format.specs.declared.format.stream_type.MINIDUMP_STRE
 
 use super::text::{LinuxFile, LinuxPairsFile, LinuxText};
 use minidump_bytes::{Lines, LinuxOsStr};
+use minidump_format::format::MINIDUMP_STREAM_TYPE;
 
 /// The text of `/proc/cpuinfo`. Each line is a key and a value around a colon.
 pub type MinidumpLinuxCpuInfo<'a> = LinuxText<'a, CpuInfo>;
@@ -31,6 +32,10 @@ impl LinuxFile for CpuInfo {
     fn number_of_type() -> u32 {
         Self::STREAM_TYPE
     }
+
+    fn name_of_type() -> &'static str {
+        MINIDUMP_STREAM_TYPE::LinuxCpuInfo.name()
+    }
 }
 
 impl LinuxPairsFile for CpuInfo {
@@ -49,6 +54,10 @@ impl LinuxFile for ProcStatus {
 
     fn number_of_type() -> u32 {
         Self::STREAM_TYPE
+    }
+
+    fn name_of_type() -> &'static str {
+        MINIDUMP_STREAM_TYPE::LinuxProcStatus.name()
     }
 }
 
@@ -69,6 +78,10 @@ impl LinuxFile for LsbRelease {
     fn number_of_type() -> u32 {
         Self::STREAM_TYPE
     }
+
+    fn name_of_type() -> &'static str {
+        MINIDUMP_STREAM_TYPE::LinuxLsbRelease.name()
+    }
 }
 
 impl LinuxPairsFile for LsbRelease {
@@ -88,6 +101,10 @@ impl LinuxFile for Environ {
     fn number_of_type() -> u32 {
         Self::STREAM_TYPE
     }
+
+    fn name_of_type() -> &'static str {
+        MINIDUMP_STREAM_TYPE::LinuxEnviron.name()
+    }
 }
 
 impl LinuxPairsFile for Environ {
@@ -106,6 +123,10 @@ impl LinuxFile for ProcLimits {
 
     fn number_of_type() -> u32 {
         Self::STREAM_TYPE
+    }
+
+    fn name_of_type() -> &'static str {
+        MINIDUMP_STREAM_TYPE::MozLinuxLimits.name()
     }
 }
 

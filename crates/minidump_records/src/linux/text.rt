@@ -1,6 +1,6 @@
 ghost use Rattle.std.specs.Prelude.{◌≡◌, [], ℕ};
 ghost use Rattle.minidump_format.specs.declared.format.stream_type.MINIDUMP_STREAM_TYPE.{MINIDUMP_STREAM_TYPE};
-ghost use Rattle.minidump_format.specs.StreamType.{number_of};
+ghost use Rattle.minidump_format.specs.StreamType.{number_of, type_name};
 ghost use Rattle.minidump_records.specs.Linux.Pairs.{pairs_of};
 
 use crate::LinuxPairs;
@@ -21,6 +21,10 @@ pub trait LinuxFile {
     /// Returns [`LinuxFile::STREAM_TYPE`], for contracts to name.
     fn number_of_type() -> u32
         ensures { result ≡ number_of stream_type };
+
+    /// Returns the name of the type.
+    fn name_of_type() -> &'static str
+        ensures { result.now ≡ type_name stream_type };
 }
 
 /// A file of Linux whose text is pairs of a key and a value.
@@ -34,7 +38,7 @@ pub trait LinuxPairsFile: LinuxFile {
 /// The text of a file of Linux.
 #[derive(Drop)]
 pub struct LinuxText<'a, F> {
-    data: &'a [u8],
+    pub(super) data: &'a [u8],
     file: PhantomData<F>,
 }
 

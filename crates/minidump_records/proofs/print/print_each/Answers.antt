@@ -1,0 +1,40 @@
+-- One item more waits or went out, and the end.
+use Rattle.std.proofs.Common.{◌∙◌}
+use Rattle.minidump_records.proofs.PrintLemmas.{last_went, one_refused, one_waits, one_went}
+use Rattle.minidump_records.proofs.print.print_each.Goals as goal
+
+pub returns-in_err-put_bytes : goal.returns-in_err-put_bytes
+returns-in_err-put_bytes g c = λ all e.
+    one_refused g.W.Write.contents g.I.Iterator.next_gives g.P.PushItem.value (g.P.PushItem.text c.args.line.now)
+    c.loop-item.item-iterator c.next.new.self c.in-Some.item c.args.f.now c.loop-item.f all c.loop-item.block.items c.as_slice.result.now
+    (c.as_slice.ensures.value ∙ c.in-Ok.ensures) c.in-Some.ensures.steps _ _ _ c.from_residual.ensures.1 c.in_err-put_bytes.ensures.prints
+    (c.loop-item.invariant.2 all e)
+
+pub loop-item-preserved-then-len-ge-BLOCK : goal.loop-item-preserved-then-len-ge-BLOCK
+loop-item-preserved-then-len-ge-BLOCK g c =
+    let goes = c.in-Some.ensures.goes.on c.loop-item.invariant.1 in (
+      goes.0,
+      goes.1,
+      λ all e.
+          rw c.clear.ensures.items (one_went g.W.Write.contents g.I.Iterator.next_gives g.P.PushItem.value (g.P.PushItem.text c.args.line.now)
+          c.loop-item.item-iterator c.next.new.self c.in-Some.item c.args.f.now c.loop-item.f all c.loop-item.block.items c.as_slice.result.now
+          (c.as_slice.ensures.value ∙ c.in-Ok.ensures) c.in-Some.ensures.steps c.put_bytes.new.f c.in_ok-put_bytes.ensures.prints
+          (c.loop-item.invariant.2 all e)),
+    )
+
+pub loop-item-preserved : goal.loop-item-preserved
+loop-item-preserved g c =
+    let goes = c.in-Some.ensures.goes.on c.loop-item.invariant.1 in (
+      goes.0,
+      goes.1,
+      λ all e.
+          one_waits g.W.Write.contents g.I.Iterator.next_gives g.P.PushItem.value (g.P.PushItem.text c.args.line.now)
+          c.loop-item.item-iterator c.next.new.self c.in-Some.item c.args.f.now c.loop-item.f all c.loop-item.block.items c.push.new.out.items
+          c.in-Ok.ensures c.in-Some.ensures.steps (c.loop-item.invariant.2 all e),
+    )
+
+pub returns : goal.returns
+returns g c = λ all e.
+    last_went g.W.Write.contents g.I.Iterator.next_gives g.P.PushItem.value (g.P.PushItem.text c.args.line.now)
+    c.loop-item.item-iterator c.next.new.self c.args.f.now c.loop-item.f all c.loop-item.block.items c.in-None.ensures.steps
+    c.put_bytes-2.new.f c.put_bytes-2.result (rw c.as_slice-2.ensures.value at c.put_bytes-2.ensures.prints) (c.loop-item.invariant.2 all e)
