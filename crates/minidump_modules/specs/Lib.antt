@@ -9,3 +9,4 @@ pub mod ModuleList
 pub mod UnloadedModule
 pub mod UnloadedOrder
 pub mod UnloadedModuleList
+pub mod ModuleText

@@ -1,6 +1,7 @@
 -- Modules: Microsoft's MINIDUMP_MODULE with its name and its CodeView record.
 use Rattle.std.specs.Prelude.{ℕ, ◌+◌, Bool, List, is_some, replicate, Option, None, Result, Ok, string_bytes}
 use Rattle.std.specs.Option.{ok_or, option_map}
+use Rattle.hex.specs.Hex.{encode_lower}
 use Rattle.minidump_bytes.specs.declared.endian.Endian.{Endian}
 use Rattle.minidump_bytes.specs.declared.endian.Endian.TheVariants.{Little}
 use Rattle.minidump_bytes.specs.Text16.{text16}
@@ -11,7 +12,10 @@ use Rattle.minidump_index.specs.declared.range.Range.{Range}
 use Rattle.minidump_index.specs.Overlap.{range_of}
 use Rattle.minidump_system.specs.declared.os.Os.{Os}
 use Rattle.minidump_system.specs.Reads.{and_then}
+use Rattle.minidump_modules.specs.declared.module.CodeSource.{CodeSource}
+use Rattle.minidump_modules.specs.declared.module.CodeSource.TheVariants.{Stamp, Guid, BuildId}
 use Rattle.minidump_modules.specs.declared.module.MinidumpModule.{MinidumpModule}
+use Rattle.minidump_modules.specs.CodeId.{stamp_form}
 use Rattle.minidump_modules.specs.CodeView.{View, code_view_at, view_of, view_reads}
 use Rattle.minidump_modules.specs.Identity.{Identity, code_identifier, debug_file, debug_identifier}
 use Rattle.minidump_modules.specs.Version.{version_of}
@@ -73,6 +77,12 @@ identity_of m = record {
 
 abbrev pub module_identity : MinidumpModule → Identity
 module_identity m = identity_of (module_of m)
+
+-- the code identifier that a module's time stamp and size make, or the bytes of a GUID or a build id
+abbrev pub source_text : MINIDUMP_MODULE → CodeSource → List ℕ
+source_text raw Stamp = stamp_form raw.time_date_stamp raw.size_of_image
+source_text raw (Guid bytes) = encode_lower bytes
+source_text raw (BuildId id) = encode_lower id.now
 
 -- the addresses of a module as a value
 abbrev pub value_range : ModuleValue → Option Range

@@ -1,9 +1,12 @@
 ghost use Rattle.std.proofs.Common.{rules};
-ghost use Rattle.std.specs.Prelude.{◌≡◌, ◌<◌, All, length};
-ghost use Rattle.minidump_modules.specs.DebugId.{by_guid, by_stamp, from_breakpad, guid_bytes, sixteen_bytes};
+ghost use Rattle.std.specs.Prelude.{◌≡◌, ◌<◌, ◌++◌, All, OnOk, length};
+ghost use Rattle.minidump_modules.specs.ModuleText.{quoted};
+ghost use Rattle.minidump_modules.specs.DebugId.{debug_id_text, by_guid, by_stamp, from_breakpad, guid_bytes, guid_text, sixteen_bytes};
 
+use crate::print::push_quoted;
 use minidump_bytes::{Exact, number_32};
 use minidump_format::format::GUID;
+use std::alloc::AllocError;
 use std::fmt;
 use uuid::Uuid;
 
@@ -91,6 +94,22 @@ impl fmt::Display for DebugId {
             }
         }
     }
+}
+
+// Appends an identifier in quotation marks, the first of which ends the label.
+pub(crate) fn push_id(out: &mut Vec<u8>, label: &'static str, id: DebugId) -> Result<(), AllocError>
+    ensures { OnOk result (out.new.items ≡ out.old.items ++ quoted label.now (debug_id_text id)) }
+{
+    let text = format!(in *out.allocator(); "{id}")?;
+    push_quoted(out, label, text.as_str())
+}
+
+// Writes a GUID to a buffer, in lower case with hyphens, and returns its text.
+#[tactic(auto, unfolding(crate::specs::DebugId::guid_text))]
+pub(crate) fn guid_of(uuid: Uuid, buffer: &mut [u8; 45]) -> &str
+    ensures { result.now ≡ guid_text uuid }
+{
+    uuid.hyphenated().encode_lower(buffer)
 }
 
 // Makes the UUID of a GUID.

@@ -32,9 +32,11 @@
 //!   order and one such answer, each with exactly these modules, ascending: `laws::unloaded_laws`.
 //! - A copy is the same module, record or list: each `try_clone`. `==` of `DebugId` holds of equal values
 //!   alone: `Exact`; of `CodeId` of equal digits: `laws::code_ids_compare_by_their_digits`.
+//! - Each print, byte by byte: `print` of the modules and of their lists, by `module_text`, `unloaded_text`,
+//!   `module_list_text` and `unloaded_module_list_text`.
 //!
 //! What isn't: that a forged count reserves no memory (the contracts show that no `OutOfMemory` is returned
-//! for it). Prints of modules are not there yet.
+//! for it).
 #![tactic(auto)]
 
 mod code_id;
@@ -44,6 +46,7 @@ mod identity;
 pub mod laws;
 mod module;
 mod module_list;
+mod print;
 mod unloaded_iter;
 mod unloaded_module;
 mod unloaded_module_list;

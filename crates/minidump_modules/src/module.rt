@@ -9,7 +9,7 @@ ghost use Rattle.minidump_format.specs.declared.error.Error.TheVariants.{CodeVie
 ghost use Rattle.minidump_format.specs.Guid.{guid};
 ghost use Rattle.minidump_modules.specs.DebugId.{guid_bytes};
 ghost use Rattle.minidump_modules.specs.Identity.{is_blank, padded};
-ghost use Rattle.minidump_modules.specs.Module.{new_module, module_of, module_range, module_reads, read_module};
+ghost use Rattle.minidump_modules.specs.Module.{identity_of, new_module, module_of, module_range, module_reads, read_module, source_text};
 
 use crate::code_view::{code_view_at, lossy_name};
 use crate::debug_id::uuid_of;
@@ -36,6 +36,15 @@ pub struct MinidumpModule {
     pub codeview_info: Option<CodeView>,
     endian: Endian,
     os: Option<Os>,
+}
+
+// What the identifier of a module's code is made of: its time stamp and its size, the GUID of its debug
+// file, or its build id.
+#[derive(Clone, Copy)]
+pub(crate) enum CodeSource<'a> {
+    Stamp,
+    Guid([u8; 16]),
+    BuildId(&'a [u8]),
 }
 
 impl MinidumpModule {
@@ -117,6 +126,32 @@ impl MinidumpModule {
         self.os
     }
 
+    // Returns what the identifier of the code is made of, or `None` if there is none.
+    pub(crate) fn code_source(&self) -> Option<CodeSource<'_>>
+        ensures { option_map (source_text self.now.raw) result ≡ (identity_of (module_of self.now)).code_identifier }
+    {
+        match &self.codeview_info {
+            Some(CodeView::Pdb70(record)) => match self.os {
+                Some(Os::MacOs | Os::Ios) => Some(CodeSource::Guid(guid_bytes_of(
+                    &record.signature,
+                ))),
+                _ => Some(CodeSource::Stamp),
+            },
+            Some(CodeView::Pdb20(_)) => Some(CodeSource::Stamp),
+            Some(CodeView::Elf(record)) => {
+                if is_blank(&record.build_id) {
+                    return None;
+                }
+                Some(CodeSource::BuildId(&record.build_id))
+            }
+            Some(CodeView::Unknown(_)) => None,
+            None => match self.os {
+                Some(Os::Windows) => Some(CodeSource::Stamp),
+                _ => None,
+            },
+        }
+    }
+
     /// Copies the module. The only error is [`Error::OutOfMemory`].
     pub fn try_clone(&self, alloc: Global) -> Result<MinidumpModule, Error>
         ensures same { IfOk result (λ m. module_of m ≡ module_of self.now) }
@@ -154,30 +189,14 @@ impl Module for MinidumpModule {
     }
 
     fn code_identifier(&self, alloc: Global) -> Result<Option<CodeId>, Error> {
-        let id = match &self.codeview_info {
-            Some(CodeView::Pdb70(record)) => match self.os {
-                Some(Os::MacOs | Os::Ios) => {
-                    let uuid = uuid_of(&record.signature);
-                    CodeId::from_binary(alloc, uuid.as_bytes())?
-                }
-                _ => CodeId::from_stamp(alloc, self.raw.time_date_stamp, self.raw.size_of_image)?,
-            },
-            Some(CodeView::Pdb20(_)) => {
-                CodeId::from_stamp(alloc, self.raw.time_date_stamp, self.raw.size_of_image)?
+        let raw = &self.raw;
+        let id = match self.code_source() {
+            Some(CodeSource::Stamp) => {
+                CodeId::from_stamp(alloc, raw.time_date_stamp, raw.size_of_image)?
             }
-            Some(CodeView::Elf(record)) => {
-                if is_blank(&record.build_id) {
-                    return Ok(None);
-                }
-                CodeId::from_binary(alloc, &record.build_id)?
-            }
-            Some(CodeView::Unknown(_)) => return Ok(None),
-            None => match self.os {
-                Some(Os::Windows) => {
-                    CodeId::from_stamp(alloc, self.raw.time_date_stamp, self.raw.size_of_image)?
-                }
-                _ => return Ok(None),
-            },
+            Some(CodeSource::Guid(guid)) => CodeId::from_binary(alloc, &guid)?,
+            Some(CodeSource::BuildId(id)) => CodeId::from_binary(alloc, id)?,
+            None => return Ok(None),
         };
         Ok(Some(id))
     }
@@ -226,6 +245,13 @@ impl Region for MinidumpModule {
     fn memory_range(&self) -> Option<Range> {
         Range::from_size(self.raw.base_of_image, self.raw.size_of_image as u64)
     }
+}
+
+// Returns the bytes of a GUID, the highest of each number first.
+fn guid_bytes_of(guid: &GUID) -> [u8; 16]
+    ensures { result ≡ guid_bytes guid.now }
+{
+    *uuid_of(guid).as_bytes()
 }
 
 // Makes the entry of a base address and a size, with zeros everywhere else.

@@ -1,0 +1,179 @@
+-- The printed texts of modules, loaded and unloaded, and of their lists: MINIDUMP_MODULE and MINIDUMP_UNLOADED_MODULE.
+use Rattle.std.specs.Prelude.{ℕ, List, [], ◌∷◌, ◌++◌, codes, length, Option, Some, None}
+use Rattle.std.specs.Fmt.{decimal}
+use Rattle.std.specs.List.{concat, enumerate_from, flat_map, slice_get}
+use Rattle.std.specs.Option.{option_map}
+use Rattle.hex.specs.Hex.{encode_lower}
+use Rattle.minidump_bytes.specs.Piece.{hex}
+use Rattle.minidump_format.specs.declared.format.module.MINIDUMP_MODULE.{MINIDUMP_MODULE}
+use Rattle.minidump_format.specs.declared.format.module.VS_FIXEDFILEINFO.{VS_FIXEDFILEINFO}
+use Rattle.minidump_system.specs.Dates.{date_text_of}
+use Rattle.minidump_modules.specs.declared.debug_id.DebugId.{DebugId}
+use Rattle.minidump_modules.specs.CodeId.{stamp_form}
+use Rattle.minidump_modules.specs.CodeView.{View, pdb70, pdb20, elf, unknown, lossy_name}
+use Rattle.minidump_modules.specs.DebugId.{debug_id_text, guid_bytes, guid_text}
+use Rattle.minidump_modules.specs.Module.{ModuleValue, identity_of}
+use Rattle.minidump_modules.specs.UnloadedModule.{UnloadedValue}
+
+-- a text, or nothing where it is absent
+abbrev pub or_empty : Option (List ℕ) → List ℕ
+or_empty (Some text) = text
+or_empty None = []
+
+-- a label that ends with a quotation mark, and a text in quotation marks
+unfoldable pub quoted : List ℕ → List ℕ → List ℕ
+quoted label text = concat (label ∷ text ∷ codes "\"\n" ∷ [])
+
+-- where an image was, and its checksum
+unfoldable pub image_text : List ℕ → ℕ → ℕ → ℕ → List ℕ
+image_text title base size checksum = concat (
+    title ∷ codes "\n"
+    ∷ codes "  base_of_image                   = " ∷ hex base ∷ codes "\n"
+    ∷ codes "  size_of_image                   = " ∷ hex size ∷ codes "\n"
+    ∷ codes "  checksum                        = " ∷ hex checksum ∷ codes "\n"
+    ∷ [])
+
+-- a time stamp as a number and as a date
+unfoldable pub stamp_text : List ℕ → ℕ → List ℕ → List ℕ
+stamp_text label stamp date = concat (label ∷ hex stamp ∷ codes " " ∷ date ∷ codes "\n" ∷ [])
+
+unfoldable pub name_rva_text : ℕ → List ℕ
+name_rva_text rva = concat (codes "  module_name_rva                 = " ∷ hex rva ∷ codes "\n" ∷ [])
+
+-- the lines that the entries of both kinds begin with
+unfoldable pub entry_text : List ℕ → ℕ → ℕ → ℕ → ℕ → ℕ → List ℕ
+entry_text title base size checksum stamp name_rva =
+    image_text title base size checksum
+    ++ (stamp_text (codes "  time_date_stamp                 = ") stamp (date_text_of stamp) ++ name_rva_text name_rva)
+
+-- Microsoft's VS_FIXEDFILEINFO
+unfoldable pub version_info_text : VS_FIXEDFILEINFO → List ℕ
+version_info_text v = concat (
+    codes "  version_info.signature          = " ∷ hex v.signature ∷ codes "\n"
+    ∷ codes "  version_info.struct_version     = " ∷ hex v.struct_version ∷ codes "\n"
+    ∷ codes "  version_info.file_version       = " ∷ hex v.file_version_hi ∷ codes ":" ∷ hex v.file_version_lo ∷ codes "\n"
+    ∷ codes "  version_info.product_version    = " ∷ hex v.product_version_hi ∷ codes ":" ∷ hex v.product_version_lo ∷ codes "\n"
+    ∷ codes "  version_info.file_flags_mask    = " ∷ hex v.file_flags_mask ∷ codes "\n"
+    ∷ codes "  version_info.file_flags         = " ∷ hex v.file_flags ∷ codes "\n"
+    ∷ codes "  version_info.file_os            = " ∷ hex v.file_os ∷ codes "\n"
+    ∷ codes "  version_info.file_type          = " ∷ hex v.file_type ∷ codes "\n"
+    ∷ codes "  version_info.file_subtype       = " ∷ hex v.file_subtype ∷ codes "\n"
+    ∷ codes "  version_info.file_date          = " ∷ hex v.file_date_hi ∷ codes ":" ∷ hex v.file_date_lo ∷ codes "\n"
+    ∷ [])
+
+-- where the debug records are
+unfoldable pub places_text : MINIDUMP_MODULE → List ℕ
+places_text raw = concat (
+    codes "  cv_record.data_size             = " ∷ decimal raw.cv_record.data_size ∷ codes "\n"
+    ∷ codes "  cv_record.rva                   = " ∷ hex raw.cv_record.rva ∷ codes "\n"
+    ∷ codes "  misc_record.data_size           = " ∷ decimal raw.misc_record.data_size ∷ codes "\n"
+    ∷ codes "  misc_record.rva                 = " ∷ hex raw.misc_record.rva ∷ codes "\n"
+    ∷ [])
+
+-- the entry of a loaded module
+unfoldable pub raw_text : MINIDUMP_MODULE → List ℕ
+raw_text raw =
+    entry_text (codes "MINIDUMP_MODULE") raw.base_of_image raw.size_of_image raw.checksum raw.time_date_stamp raw.module_name_rva
+    ++ (version_info_text raw.version_info ++ places_text raw)
+
+-- the name of the file and the identifier of its code
+unfoldable pub code_text : List ℕ → List ℕ → List ℕ
+code_text file identifier =
+    quoted (codes "  (code_file)                     = \"") file
+    ++ quoted (codes "  (code_identifier)               = \"") identifier
+
+-- the numbers of a Pdb70 record, CV_INFO_PDB70
+unfoldable pub pdb70_numbers : ℕ → List ℕ → ℕ → List ℕ
+pdb70_numbers signature guid age = concat (
+    codes "  (cv_record).cv_signature        = " ∷ hex signature ∷ codes "\n"
+    ∷ codes "  (cv_record).signature           = " ∷ guid ∷ codes "\n"
+    ∷ codes "  (cv_record).age                 = " ∷ decimal age ∷ codes "\n"
+    ∷ [])
+
+-- the numbers of a Pdb20 record, CV_INFO_PDB20, around its time stamp
+unfoldable pub pdb20_header : ℕ → ℕ → List ℕ
+pdb20_header signature offset = concat (
+    codes "  (cv_record).cv_header.signature = " ∷ hex signature ∷ codes "\n"
+    ∷ codes "  (cv_record).cv_header.offset    = " ∷ hex offset ∷ codes "\n"
+    ∷ [])
+
+unfoldable pub age_text : ℕ → List ℕ
+age_text age = concat (codes "  (cv_record).age                 = " ∷ decimal age ∷ codes "\n" ∷ [])
+
+-- the name in a Pdb70 or a Pdb20 record
+abbrev pub pdb_name_text : List ℕ → List ℕ
+pdb_name_text name = quoted (codes "  (cv_record).pdb_file_name       = \"") (lossy_name name)
+
+-- the signature of an ELF record, CV_INFO_ELF
+unfoldable pub elf_signature : ℕ → List ℕ
+elf_signature signature = concat (codes "  (cv_record).cv_signature        = " ∷ hex signature ∷ codes "\n" ∷ [])
+
+-- the digits of bytes behind a label
+unfoldable pub digits_line : List ℕ → List ℕ → List ℕ
+digits_line label digits = concat (label ∷ digits ∷ codes "\n" ∷ [])
+
+-- the CodeView record
+abbrev pub view_text : Option View → List ℕ
+view_text (Some (pdb70 s g age name)) = pdb70_numbers s (guid_text (guid_bytes g)) age ++ pdb_name_text name
+view_text (Some (pdb20 s offset stamp age name)) =
+    pdb20_header s offset
+    ++ (stamp_text (codes "  (cv_record).signature           = ") stamp (date_text_of stamp) ++ (age_text age ++ pdb_name_text name))
+view_text (Some (elf s id)) = elf_signature s ++ digits_line (codes "  (cv_record).build_id            = ") (encode_lower id)
+view_text (Some (unknown bytes)) = digits_line (codes "  (cv_record)                     = ") (encode_lower bytes)
+view_text None = codes "  (cv_record)                     = (null)\n"
+
+-- a debug identifier, or the nil GUID where it is absent
+abbrev pub or_nil : Option DebugId → List ℕ
+or_nil (Some id) = debug_id_text id
+or_nil None = codes "00000000-0000-0000-0000-000000000000"
+
+-- the version, and the empty line behind a loaded module
+unfoldable pub version_line : List ℕ → List ℕ
+version_line version = concat (codes "  (version)                       = \"" ∷ version ∷ codes "\"\n\n" ∷ [])
+
+-- the misc record, which isn't read, and what symbol tools ask for
+unfoldable pub debug_text : Option (List ℕ) → Option DebugId → Option (List ℕ) → List ℕ
+debug_text file identifier version =
+    quoted (codes "  (misc_record)                   = (null)\n  (debug_file)                    = \"") (or_empty file)
+    ++ (quoted (codes "  (debug_identifier)              = \"") (or_nil identifier) ++ version_line (or_empty version))
+
+-- a loaded module
+unfoldable pub module_text : ModuleValue → List ℕ
+module_text m =
+    raw_text m.raw
+    ++ (code_text m.name (or_empty (identity_of m).code_identifier)
+    ++ (view_text m.view
+    ++ debug_text (identity_of m).debug_file (identity_of m).debug_identifier (identity_of m).version))
+
+-- an unloaded module, with no empty line behind it
+unfoldable pub unloaded_text : UnloadedValue → List ℕ
+unloaded_text m =
+    entry_text (codes "MINIDUMP_UNLOADED_MODULE") m.raw.base_of_image m.raw.size_of_image m.raw.checksum m.raw.time_date_stamp m.raw.module_name_rva
+    ++ code_text m.name (stamp_form m.raw.time_date_stamp m.raw.size_of_image)
+
+-- the name of a list, and how many modules it has
+unfoldable pub list_heading : List ℕ → ℕ → List ℕ
+list_heading title count = concat (title ∷ codes "\n  module_count = " ∷ decimal count ∷ codes "\n\n" ∷ [])
+
+-- the line before a module of a list: its index
+unfoldable pub item_heading : ℕ → List ℕ
+item_heading index = concat (codes "module[" ∷ decimal index ∷ codes "]\n" ∷ [])
+
+abbrev pub listed_text : ℕ × ModuleValue → List ℕ
+listed_text p = item_heading p.0 ++ module_text p.1
+
+abbrev pub listed_unloaded_text : ℕ × UnloadedValue → List ℕ
+listed_unloaded_text p = item_heading p.0 ++ unloaded_text p.1
+
+-- the list of loaded modules, MINIDUMP_MODULE_LIST
+abbrev pub module_list_text : List ModuleValue → List ℕ
+module_list_text modules = list_heading (codes "MinidumpModuleList") (length modules) ++ flat_map listed_text (enumerate_from 0 modules)
+
+-- the list of unloaded modules, MINIDUMP_UNLOADED_MODULE_LIST
+abbrev pub unloaded_module_list_text : List UnloadedValue → List ℕ
+unloaded_module_list_text modules =
+    list_heading (codes "MinidumpUnloadedModuleList") (length modules) ++ flat_map listed_unloaded_text (enumerate_from 0 modules)
+
+-- the text of the item at an index, which is given the index and the item; nothing behind the last
+abbrev pub text_at : {X : Type 0} → (ℕ × X → List ℕ) → List X → ℕ → List ℕ
+text_at text xs i = or_empty (option_map (λ x. text (i, x)) (slice_get xs i))
