@@ -8,3 +8,6 @@ pub mod SeparatorLemmas
 pub mod PathLemmas
 pub mod GrammarLemmas
 pub mod MapEqualityLemmas
+pub mod Listed
+pub mod ContentsLemmas
+pub mod NumberedLemmas

@@ -10,3 +10,7 @@ pub mod MapParts
 pub mod LinuxMaps
 pub mod UnifiedInfo
 pub mod UnifiedInfoIter
+pub mod Numbered
+pub mod Contents
+pub mod MemoryText
+pub mod InfoText

@@ -8,6 +8,9 @@
 //!   Linux knows: a [`MinidumpLinuxMapInfo`] for each line of `/proc/PID/maps`. [`UnifiedMemoryInfoList`] is
 //!   either of them. Their regions say whether they may be read, written to or run.
 //!
+//! Each has a `print`. A region's bytes, which it leaves out if it is to be `brief`, are printed line by line: as
+//! text they never stand in memory whole.
+//!
 //! # Errors
 //!
 //! Reading a list returns `StreamReadFailure` or `StreamSizeMismatch` where the stream is malformed, and
@@ -35,14 +38,18 @@
 //! - A unified list answers as the list inside it: `UnifiedMemoryList`, `UnifiedMemoryInfoList`;
 //!   `laws::unified_list_is_its_list`.
 //! - Information and maps depend on their stream alone: `laws::information_depends_on_its_stream_alone`.
+//! - What is printed, by the word `Prints` of `minidump_format`: the bytes of a region by `contents_text`, a
+//!   region by `memory_text`, `memory_info_text` or `map_info_text`, and each list by its name's definition, as
+//!   `memory_list_text`: `print` and `print_contents` of each type.
 //! - A clone is the same value, and values compare by what they hold: `laws::clones_are_the_same`,
 //!   `information_compares_and_copies_exactly`, `maps_compare_by_what_their_lines_say`.
 //!
 //! What isn't: that a forged count reserves no memory (the contracts show that no `OutOfMemory` is returned
 //! for it), and that a region's bytes are the file's own memory and outlive the list, which tests show.
-//! Prints of memory are not there yet.
 #![tactic(auto)]
 
+mod contents;
+mod info_print;
 pub mod laws;
 mod linux_maps;
 mod map_info;
@@ -52,6 +59,8 @@ mod memory;
 mod memory64_list;
 mod memory_info;
 mod memory_list;
+mod memory_print;
+mod numbered;
 mod unified;
 mod unified_info;
 

@@ -84,6 +84,13 @@ impl<'a> MinidumpLinuxMaps<'a> {
         self.regions.by_addr()
     }
 
+    // Returns all regions, in the order of the list.
+    pub(crate) fn as_slice(&self) -> &[MinidumpLinuxMapInfo<'a>]
+        ensures { result.now ≡ maps_of self.now }
+    {
+        self.regions.as_slice()
+    }
+
     /// Returns the number of regions.
     pub fn memory_map_count(&self) -> usize
         ensures { result ≡ length (maps_of self.now) }

@@ -177,6 +177,13 @@ impl<'a> MinidumpMemoryInfoList<'a> {
         self.regions.by_addr()
     }
 
+    // Returns all regions, in the order of the list.
+    pub(crate) fn as_slice(&self) -> &[MinidumpMemoryInfo<'a>]
+        ensures { result.now ≡ infos_of self.now }
+    {
+        self.regions.as_slice()
+    }
+
     /// Copies the list. The only error is [`Error::OutOfMemory`].
     pub fn try_clone(&self, alloc: Global) -> Result<MinidumpMemoryInfoList<'a>, Error>
         ensures same { IfOk result (λ list. infos_of list ≡ infos_of self.now) }

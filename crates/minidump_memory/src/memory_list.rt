@@ -93,6 +93,13 @@ impl<'a, D: Drop> MinidumpMemoryListBase<'a, D> {
     {
         self.regions.by_addr()
     }
+
+    // Returns all regions, in the order of the list.
+    pub(crate) fn as_slice(&self) -> &[MinidumpMemoryBase<'a, D>]
+        ensures { result.now ≡ regions_of self.now }
+    {
+        self.regions.as_slice()
+    }
 }
 
 /// Microsoft's `MINIDUMP_MEMORY_LIST`: a plain list of descriptors. One whose RVA or size is 0, or whose

@@ -3,3 +3,4 @@ pub mod Fields
 pub mod StabilityReport
 pub mod Rows
 pub mod ReportRows
+pub mod ReportText

@@ -17,17 +17,20 @@
 //! - It depends on its stream alone: `laws::report_depends_on_its_stream_alone`.
 //! - A read takes at most n + 7 reads and, where it succeeds, at least one for each field, nested ones
 //!   included: `most` and `fewest` of `stability_report_stream`.
+//! - A line is printed for each number that the report has: `StabilityReport::print`, by
+//!   `stability_report_text`.
 //! - A copy is the same report, and reports are equal where they hold the same: `StabilityReport::try_clone`,
 //!   `laws::reports_compare_by_what_they_hold`; each message copies and compares exactly.
 //!
 //! What isn't: where memory may run out within a stream; the contract allows it for every stream that begins
-//! with a field. The print of the report is not there yet.
+//! with a field.
 #![tactic(auto)]
 
 pub mod laws;
 mod message;
 pub mod process_state;
 mod report;
+mod report_print;
 pub mod system_memory_state;
 
 pub use report::{ProcessState, StabilityReport, SystemMemoryState};
