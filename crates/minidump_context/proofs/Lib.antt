@@ -4,3 +4,4 @@ pub mod ContextLemmas
 pub mod LawLemmas
 pub mod NameLemmas
 pub mod ValidLemmas
+pub mod WideHexLemmas

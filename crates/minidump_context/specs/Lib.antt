@@ -6,3 +6,4 @@ pub mod Arm
 pub mod Arm64
 pub mod Context
 pub mod TableLaws
+pub mod Text

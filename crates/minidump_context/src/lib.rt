@@ -9,7 +9,8 @@
 //!
 //! Reading a context returns a [`ContextError`]: `UnknownCpuContext` if the crate has no layout for the
 //! system's architecture, `ReadFailure` if there are too few bytes or the flags aren't those of the processor. It
-//! takes no memory. `format_register` and `try_clone` return `OutOfMemory` if an allocation fails.
+//! takes no memory. `format_register`, `try_clone` and `print` return `OutOfMemory` if an allocation fails, and
+//! `print` `IoError` if the writer has failed.
 //!
 //! # What is proved
 //!
@@ -25,14 +26,15 @@
 //! - `set_register` changes one register, under all of its names, and nothing else. With a name of no register
 //!   it changes nothing: by `IsChanged`; `laws::a_change_is_seen_under_all_names`, `nothing_else_is_changed`.
 //!   What the table, the values and the rest of each context are: `laws::contexts_are_as_defined`.
+//! - The printed text is that of the record, a line for each register: `print`, by `context_text`.
 //! - A copy equals what it copies, and two sets of valid registers are equal if they have the same names:
 //!   `try_clone`, `laws::clones_are_the_same`, `sets_are_equal_by_their_names`.
 //!
 //! It is not proved that the tables of names and offsets are those of the processors' makers: tests compare
-//! each register. Contexts have no `print` yet.
+//! each register.
 //!
 //! A new processor needs a record in `minidump_format`, a table of names and offsets in `specs/`, an `impl` of
-//! `CpuRegisterNames` and of `CpuContext`, and a variant of `MinidumpRawContext`.
+//! `CpuRegisterNames` and of `CpuContext`, its text, and a variant of `MinidumpRawContext`.
 #![tactic(auto)]
 
 mod amd64;
@@ -44,6 +46,7 @@ mod cpu_context;
 mod cpu_registers;
 pub mod laws;
 mod names;
+mod print;
 mod raw_context;
 mod validity;
 mod x86;
