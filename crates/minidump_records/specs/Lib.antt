@@ -9,3 +9,4 @@ pub mod BootArgs
 pub mod MacCrashInfo
 pub mod Linux
 pub mod SoftErrors
+pub mod Bounds
