@@ -80,7 +80,8 @@ whole : (order : Endian) (file : List ℕ) (place : ℕ) (i : MinidumpHandleObje
 unfolding information_at
 whole order file place i h = by_zero (place == 0) h
   where
-    by_room : (b : Bool) → nat_le (place + 12) (length file) ≡ b → option_and_then typed (record_at object_information order place file) ≡ Some i → place + 12 ≤ length file
+    by_room : (b : Bool) → nat_le (place + 12) (length file) ≡ b → option_and_then typed (record_at object_information order place file) ≡ Some i
+        → place + 12 ≤ length file
     by_room true e k = grind (arith, nat_tests, e)
     by_room false e k = (let j = rw e at k in cc)
 
@@ -142,7 +143,8 @@ each_length read (suc n) vs h =
     subst (λ l. length l ≡ suc n) e (omega (arith, each_length read n a.0 a.1, length-append a.0 (b.0 ∷ [])))
 
 -- what each reading gives has what every reading gives
-each_all : {V : Type 0} (P : V → Type 0) (read : ℕ → Result V Error) → ((i : ℕ) (v : V) → read i ≡ Ok v → P v) → (n : ℕ) (vs : List V) → each read n ≡ Ok vs → All P vs
+each_all : {V : Type 0} (P : V → Type 0) (read : ℕ → Result V Error) → ((i : ℕ) (v : V) → read i ≡ Ok v → P v) → (n : ℕ) (vs : List V) → each read n ≡ Ok vs
+    → All P vs
 unfolding each
 each_all P read rule zero vs h = (let e : [] ≡ vs = cc in subst (All P) e (All-nil P))
 each_all P read rule (suc n) vs h =
@@ -156,10 +158,12 @@ module _ {R V : Type 0} (layout : Layout R) (part : Endian → List ℕ → R �
   entry_inside : (bytes : List ℕ) (i : ℕ) (v : V) → part_at layout part order file bytes i ≡ Ok v → 4 + layout.size * i + layout.size ≤ length bytes
   entry_inside bytes i v h =
       let a = and_then_ok (ok_or (record_at layout order (4 + layout.size * i) bytes) StreamReadFailure) (part order file) v h in
-      by (nat_le (4 + layout.size * i + layout.size) (length bytes)) refl (ok_or_ok (record_at layout order (4 + layout.size * i) bytes) StreamReadFailure a.0 a.1)
+      by (nat_le (4 + layout.size * i + layout.size) (length bytes)) refl
+      (ok_or_ok (record_at layout order (4 + layout.size * i) bytes) StreamReadFailure a.0 a.1)
     where
       by : {x : R} (b : Bool) → nat_le (4 + layout.size * i + layout.size) (length bytes) ≡ b
-          → (if b then Some (layout.value order (slice_range bytes (4 + layout.size * i) (4 + layout.size * i + layout.size))) else None) ≡ Some x → 4 + layout.size * i + layout.size ≤ length bytes
+          → (if b then Some (layout.value order (slice_range bytes (4 + layout.size * i) (4 + layout.size * i + layout.size))) else None) ≡ Some x
+          → 4 + layout.size * i + layout.size ≤ length bytes
       by true e k = grind (arith, nat_tests, e)
       by false e k = cc
 
@@ -191,7 +195,8 @@ module _ {R V : Type 0} (layout : Layout R) (part : Endian → List ℕ → R �
       same bytes count short e = subst (λ (c : CountedList). length c.bytes ≤ length file) e short
 
       by : (b : Bool) (bytes : List ℕ) → length bytes ≤ length file
-          → (if b then Ok (list_of bytes 0) else and_then (ok_or (record_at (number_layout 4) order 0 bytes) StreamReadFailure) (λ count. Ok (list_of bytes count))) ≡ Ok list
+          → (if b then Ok (list_of bytes 0) else
+          and_then (ok_or (record_at (number_layout 4) order 0 bytes) StreamReadFailure) (λ count. Ok (list_of bytes count))) ≡ Ok list
           → length list.bytes ≤ length file
       by true bytes short k = same bytes 0 short cc
       by false bytes short k =
@@ -202,10 +207,12 @@ module _ {R V : Type 0} (layout : Layout R) (part : Endian → List ℕ → R �
   unfolding tested_list
   opened_list l vs h =
       let a = and_then_ok (opened order file l) (λ list.
-      if nat_lt (length file) (layout.size * list.count) then Err (StreamSizeMismatch (layout.size * list.count) (length file)) else parts layout part order file list) vs h in
+      if nat_lt (length file) (layout.size * list.count) then Err (StreamSizeMismatch (layout.size * list.count) (length file)) else
+      parts layout part order file list) vs h in
       record { list = a.0; short = counted_short l a.0 a.1; are = by a.0 (nat_lt (length file) (layout.size * a.0.count)) a.2 }
     where
-      by : (list : CountedList) (b : Bool) → (if b then Err (StreamSizeMismatch (layout.size * list.count) (length file)) else parts layout part order file list) ≡ Ok vs
+      by : (list : CountedList) (b : Bool)
+          → (if b then Err (StreamSizeMismatch (layout.size * list.count) (length file)) else parts layout part order file list) ≡ Ok vs
           → parts layout part order file list ≡ Ok vs
       by list true k = cc
       by list false k = k
@@ -219,11 +226,13 @@ module _ {R V : Type 0} (layout : Layout R) (part : Endian → List ℕ → R �
       rw count (omega (arith, inside, o.short))
 
   -- what they name has what each part has
-  pub list_all : (P : V → Type 0) → ((x : R) (v : V) → part order file x ≡ Ok v → P v) → (l : MINIDUMP_LOCATION_DESCRIPTOR) (vs : List V) → tested_list layout part order file l ≡ Ok vs → All P vs
+  pub list_all : (P : V → Type 0) → ((x : R) (v : V) → part order file x ≡ Ok v → P v)
+      → (l : MINIDUMP_LOCATION_DESCRIPTOR) (vs : List V) → tested_list layout part order file l ≡ Ok vs → All P vs
   list_all P rule l vs h =
       let o = opened_list l vs h in
       each_all P (part_at layout part order file o.list.bytes)
-      (λ i v is. (let a = and_then_ok (ok_or (record_at layout order (4 + layout.size * i) o.list.bytes) StreamReadFailure) (part order file) v is in rule a.0 v a.2))
+      (λ i v is. (let a = and_then_ok (ok_or (record_at layout order (4 + layout.size * i) o.list.bytes) StreamReadFailure) (part order file) v is in
+      rule a.0 v a.2))
       o.list.count vs o.are
 
 -- ---- handles
@@ -271,7 +280,8 @@ all_of : {X : Type 0} (P : X → Type 0) → ((x : X) → P x) → (xs : List X)
 all_of P h [] = All-nil P
 all_of P h (x ∷ xs) = All-cons P x xs (h x) (all_of P h xs)
 
-all_within : (order : Endian) (file : List ℕ) (list : HandleEntries) → 32 * handles_in list ≤ length file → HandlesAreWithin (length file) (all_handles order file list)
+all_within : (order : Endian) (file : List ℕ) (list : HandleEntries) → 32 * handles_in list ≤ length file
+    → HandlesAreWithin (length file) (all_handles order file list)
 all_within order file (Short raws) few =
     let f : MINIDUMP_HANDLE_DESCRIPTOR → Handle = λ r. handle_in order file (HandleDescriptor r) in
     let P : Handle → Type 0 = λ h. length h.object_infos ≤ length file - 12 in
@@ -302,7 +312,8 @@ module _ (order : Endian) (file : List ℕ) where
   abbrev record_next : MINIDUMP_CRASHPAD_INFO → Result Crashpad Error
   record_next raw = and_then (text_dictionary order file raw.simple_annotations) (simple_next raw)
 
-  abbrev module_objects : MINIDUMP_MODULE_CRASHPAD_INFO_LINK → MINIDUMP_MODULE_CRASHPAD_INFO → List (List ℕ) → List (List ℕ × List ℕ) → List (List ℕ × Annotation) → Result Module Error
+  abbrev module_objects : MINIDUMP_MODULE_CRASHPAD_INFO_LINK → MINIDUMP_MODULE_CRASHPAD_INFO → List (List ℕ) → List (List ℕ × List ℕ)
+      → List (List ℕ × Annotation) → Result Module Error
   module_objects link raw texts simple objects = Ok (record {
     raw = raw;
     module_index = link.minidump_module_list_index;
@@ -341,5 +352,7 @@ module _ (order : Endian) (file : List ℕ) where
       let e : d.0 ≡ c.module_list = (let k = d.2 in cc) in
       record {
         modules = subst (FitsBehind 4 12 (length file)) e (list_fits module_link module_in order file a.0.module_list d.0 d.1);
-        texts = subst (All (λ m. FitsBehind 4 4 (length file) m.list_annotations)) e (list_all module_link module_in order file (λ m. FitsBehind 4 4 (length file) m.list_annotations) texts_fit a.0.module_list d.0 d.1);
+        texts =
+            let Fits : Module → Type 0 = λ m. FitsBehind 4 4 (length file) m.list_annotations in
+            subst (All Fits) e (list_all module_link module_in order file Fits texts_fit a.0.module_list d.0 d.1);
       })
