@@ -6,9 +6,14 @@
 //! - for each type of stream that the dump has, its print, if the type has one, and else a line with the name
 //!   of the type and `ok`; or the name of the type and the error, with its numbers.
 //!
+//! Behind the line `== cuts` it writes a line for each file, and for some dumps that are made for it: how many lengths
+//! it can be cut to, how many of them are dumps, and how many of its streams are read. A length at which a read takes
+//! more steps than its limit has a line of its own.
+//!
 //! The gate runs it on the files of `data/` that `args` lists, and compares what it writes with `stdout`.
 #![tactic(auto)]
 
+mod cuts;
 mod streams;
 
 use anyhow::Result;
@@ -28,5 +33,5 @@ fn main(rt: HostRuntime) -> Result<()> {
             Err(error) => println!(rt; "{error:?}")?,
         }
     }
-    Ok(())
+    cuts::print_all(&rt, words.get(1..).unwrap_or(&[]))
 }

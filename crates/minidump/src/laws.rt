@@ -59,6 +59,7 @@ pub use minidump_records::laws::{
     dictionaries_have_the_last_values, handle_clones_are_the_same, last_info_of_a_thread_is_found,
     last_name_of_a_thread_is_kept, linux_pairs_have_their_separators, object_chain_is_one,
     object_chain_is_the_longest, streams_depend_on_their_bytes_alone,
+    values_are_bounded_by_the_file,
 };
 use minidump_records::{
     MinidumpAssertion, MinidumpBreakpadInfo, MinidumpCrashpadInfo, MinidumpHandleDataStream,

@@ -5,3 +5,4 @@ pub mod HandleLemmas
 pub mod CrashpadLemmas
 pub mod MacLemmas
 pub mod PrintLemmas
+pub mod BoundLemmas

@@ -11,3 +11,4 @@ pub mod MacCrashInfo
 pub mod Linux
 pub mod SoftErrors
 pub mod Print
+pub mod Bounds

@@ -5,6 +5,7 @@ ghost use Rattle.minidump_format.specs.declared.format.crashpad.MINIDUMP_ANNOTAT
 ghost use Rattle.minidump_system.specs.Meaning.{DependsOnItsBytesAlone};
 ghost use Rattle.minidump_records.specs.declared.thread_info.MinidumpThreadInfo.{MinidumpThreadInfo};
 ghost use Rattle.minidump_records.specs.declared.breakpad_info.MinidumpBreakpadInfo.{MinidumpBreakpadInfo};
+ghost use Rattle.minidump_records.specs.Bounds.{CrashpadIsWithin, HandlesAreWithin, IsBoundedByTheFile};
 ghost use Rattle.minidump_records.specs.Crashpad.Annotations.{Annotation, AreSame, unsupported, user_defined};
 ghost use Rattle.minidump_records.specs.Crashpad.Dictionary.{dictionary_of};
 ghost use Rattle.minidump_records.specs.Handles.{chain_offsets, object_chain};
@@ -18,10 +19,10 @@ ghost use Rattle.minidump_records.specs.Handles.ObjectChain.{information_at, nex
 
 use crate::linux::{CpuInfo, Environ, LinuxPairsFile, LsbRelease, ProcStatus};
 use crate::{
-    MinidumpAssertion, MinidumpBreakpadInfo, MinidumpHandleObjectInformation, MinidumpLinuxCpuInfo,
-    MinidumpLinuxEnviron, MinidumpLinuxLsbRelease, MinidumpLinuxProcLimits,
-    MinidumpLinuxProcStatus, MinidumpSoftErrors, MinidumpThreadInfo, MinidumpThreadInfoList,
-    RawHandleDescriptor,
+    MinidumpAssertion, MinidumpBreakpadInfo, MinidumpCrashpadInfo, MinidumpHandleDataStream,
+    MinidumpHandleObjectInformation, MinidumpLinuxCpuInfo, MinidumpLinuxEnviron,
+    MinidumpLinuxLsbRelease, MinidumpLinuxProcLimits, MinidumpLinuxProcStatus, MinidumpSoftErrors,
+    MinidumpThreadInfo, MinidumpThreadInfoList, RawHandleDescriptor,
 };
 use minidump_system::MinidumpStream;
 
@@ -99,6 +100,14 @@ pub fn object_chain_is_one()
     ensures { (order : Endian) (file : List ℕ) (link : ℕ) (offsets other : List ℕ)
         → IsChain (information_at order file) next_of link offsets
         → IsChain (information_at order file) next_of link other → other ≡ offsets }
+{}
+
+/// Whatever a file claims, its handles, the pieces of information on their objects, and Crashpad's lists of modules
+/// and of their texts are no more than the bytes of the file have room for: where a chain runs in a circle, entries
+/// share bytes, or a count is forged.
+pub fn values_are_bounded_by_the_file()
+    ensures handles { IsBoundedByTheFile ⟦<MinidumpHandleDataStream as MinidumpStream<'static>>⟧.spec.meaning HandlesAreWithin }
+    ensures crashpad { IsBoundedByTheFile ⟦<MinidumpCrashpadInfo as MinidumpStream<'static>>⟧.spec.meaning CrashpadIsWithin }
 {}
 
 /// Clones of a raw descriptor of a handle, and of a piece of information on its object, are equal values.

@@ -9,6 +9,9 @@ use std::alloc::{AllocError, Global};
 
 /// A minidump in the making: the header, what was added in order, and then the directory.
 ///
+/// One made by [`SynthMinidump::with_streams_first`] has the directory behind the header, then the streams, then
+/// what else was added.
+///
 /// The public fields are those of the header, so that tests can forge them. Calls that run out of memory
 /// don't say so; [`SynthMinidump::finish`] does.
 #[derive(Drop)]
@@ -27,6 +30,10 @@ pub struct SynthMinidump {
     placed: Section,
     entries: u32,
     directory: Section,
+    // The numbers of bytes that are kept for the directory and for the streams, and the streams.
+    directory_room: u32,
+    streams_room: u32,
+    streams: Section,
 }
 
 impl SynthMinidump {
@@ -45,6 +52,26 @@ impl SynthMinidump {
             placed: Section::new(alloc, endian),
             entries: 0,
             directory: Section::new(alloc, endian),
+            directory_room: 0,
+            streams_room: 0,
+            streams: Section::new(alloc, endian),
+        }
+    }
+
+    /// Makes a minidump with no streams that has room for `entries` entries of the directory behind the header, and
+    /// then for streams of so many bytes in all, so that the beginnings of the file are dumps too. There may not be
+    /// more entries.
+    pub fn with_streams_first(
+        alloc: Global,
+        endian: Endian,
+        entries: u32,
+        streams_room: u32,
+    ) -> SynthMinidump {
+        SynthMinidump {
+            stream_directory_rva: Some(32),
+            directory_room: entries.saturating_mul(12),
+            streams_room,
+            ..SynthMinidump::new(alloc, endian)
         }
     }
 
@@ -55,7 +82,10 @@ impl SynthMinidump {
 
     /// Returns the RVA of what is added next.
     pub fn rva(&self) -> RVA {
-        saturated(self.placed.len()).saturating_add(32)
+        let front = self.directory_room.saturating_add(self.streams_room);
+        saturated(self.placed.len())
+            .saturating_add(front)
+            .saturating_add(32)
     }
 
     /// Adds the bytes of a record, a section or an array, and returns their RVA.
@@ -81,9 +111,21 @@ impl SynthMinidump {
         rva
     }
 
-    /// Adds the bytes of a stream, and an entry for it.
+    /// Adds the bytes of a stream, and an entry for it. They stand in the room for streams while it has as many.
     pub fn add_stream<E: Encode>(&mut self, stream_type: u32, what: &E) {
-        let location = self.add_located(what);
+        let mut stream = self.section();
+        stream.record(what);
+        let rva = saturated(self.streams.len());
+        let data_size = saturated(stream.len());
+        let location = if data_size <= self.streams_room.saturating_sub(rva) && data_size > 0 {
+            self.streams.append(&stream);
+            MINIDUMP_LOCATION_DESCRIPTOR {
+                data_size,
+                rva: rva.saturating_add(self.directory_room).saturating_add(32),
+            }
+        } else {
+            self.add_located(&stream)
+        };
         self.add_entry(stream_type, location);
     }
 
@@ -100,10 +142,22 @@ impl SynthMinidump {
     /// does.
     pub fn finish(&self) -> Result<Vec<u8>, AllocError> {
         let mut file = self.section();
-        file.record(&self.header())
-            .append(&self.placed)
-            .append(&self.directory);
+        file.record(&self.header());
+        if self.directory_room > 0 {
+            self.append_front(&mut file);
+            file.append(&self.placed);
+        } else {
+            file.append(&self.placed).append(&self.directory);
+        }
         file.finish()
+    }
+
+    // Appends the directory and the streams, each with zeros up to its room.
+    fn append_front(&self, file: &mut Section) {
+        let rest = (self.directory_room as usize).saturating_sub(self.directory.len());
+        file.append(&self.directory).zeros(rest);
+        let rest = (self.streams_room as usize).saturating_sub(self.streams.len());
+        file.append(&self.streams).zeros(rest);
     }
 
     // Returns the header of the file.

@@ -11,6 +11,8 @@
 //! ```
 //!
 //! - [`SynthMinidump`] is a dump in the making: header, what was added, directory.
+//! - [`every_stream`] is a dump with a stream of each type that is read, and [`handle_circle`] one of handles whose
+//!   objects share a circle.
 //! - [`Section`] is bytes that grow, with a byte order. [`Encode`] is what has bytes in a minidump, and
 //!   [`zeroed`] the record of zeros.
 //! - [`OneByte`], [`FailsAt`], [`TakesNone`] and [`Full`] are readers and writers.
@@ -28,11 +30,13 @@
 mod device;
 mod dump;
 mod encode;
+mod every;
 mod memory;
 mod section;
 
 pub use device::{FailsAt, Full, OneByte, TakesNone};
 pub use dump::SynthMinidump;
 pub use encode::{Encode, zeroed};
+pub use every::{every_stream, handle_circle};
 pub use memory::OVERLAPPING;
 pub use section::Section;

@@ -16,3 +16,4 @@ pub use Rattle.minidump_records.specs.Handles.Descriptor
 pub use Rattle.minidump_records.specs.Handles.ObjectChain
 pub use Rattle.minidump_records.specs.MacCrashInfo.Record
 pub use Rattle.minidump_records.specs.MacCrashInfo
+pub use Rattle.minidump_records.specs.Bounds

@@ -211,32 +211,32 @@ const PLACED: &[(u64, &[u64], Result<usize, Error>)] = &[
     (1, &[3, 4], Ok(2)),
     (9, &[0], Err(Error::StreamReadFailure)),
     (u64::MAX, &[0], Err(Error::StreamReadFailure)),
+    (u64::MAX, &[2], Err(Error::StreamReadFailure)),
     (1, &[3, 5], Err(Error::StreamReadFailure)),
     (1, &[8, 0], Err(Error::StreamReadFailure)),
     (1, &[3, u64::MAX], Err(Error::StreamReadFailure)),
 ];
 
-fn count_of(alloc: Global, rva: u64, sizes: &[u64]) -> Result<usize, Error> {
-    let mut stream = Section::new(alloc, Endian::Little);
+fn count_of(alloc: Global, endian: Endian, rva: u64, sizes: &[u64]) -> Result<usize, Error> {
+    let mut stream = Section::new(alloc, endian);
     stream.u64(sizes.len() as u64).u64(rva);
     for size in sizes {
         stream.u64(0x1000).u64(*size);
     }
     let stream = stream.finish()?;
-    let list: MinidumpMemory64List = read_in(
-        alloc,
-        &stream,
-        FILE,
-        Endian::Little,
-        &mut Steps::new(),
-    )?;
+    let list: MinidumpMemory64List = read_in(alloc, &stream, FILE, endian, &mut Steps::new())?;
     Ok(list.iter().count())
 }
 
 #[test]
 fn the_bytes_of_a_64_list_are_in_the_file(rt: HostRuntime) {
     for (rva, sizes, want) in PLACED {
-        assert!(rt; count_of(rt.alloc(), *rva, sizes) == *want, "at {rva}");
+        for endian in BOTH {
+            assert!(rt;
+                count_of(rt.alloc(), *endian, *rva, sizes) == *want,
+                "at {rva}"
+            );
+        }
     }
 }
 

@@ -74,7 +74,7 @@ fn module(dump: &mut SynthMinidump) -> MINIDUMP_LOCATION_DESCRIPTOR {
     dump.add_located(&info)
 }
 
-// A dump with a dictionary in which `k` occurs twice, and two links to one module.
+// A dump with a dictionary in which `k` occurs twice, and ten links to one module.
 fn written(alloc: Global, endian: Endian) -> Result<(Vec<u8>, Vec<u8>), AllocError> {
     let mut dump = SynthMinidump::new(alloc, endian);
     let k = text(&mut dump, "k", 0);
@@ -85,7 +85,7 @@ fn written(alloc: Global, endian: Endian) -> Result<(Vec<u8>, Vec<u8>), AllocErr
     let info = MINIDUMP_CRASHPAD_INFO {
         version: 1,
         simple_annotations: list(&mut dump, &[pair(k, k), pair(j, k), pair(k, last)]),
-        module_list: list(&mut dump, &[link, link]),
+        module_list: list(&mut dump, &[link; 10]),
         ..zeroed()
     };
     let stream = dump.section().record(&info).finish()?;
@@ -123,11 +123,11 @@ fn is_read(alloc: Global, endian: Endian) -> Result<bool, Error> {
     let mut steps = Steps::new();
     let info = read(alloc, &stream, &file, endian, &mut steps)?;
     Ok(
-        steps.count() == 62
+        steps.count() == 254
             && info.simple_annotations.len() == 2
             && has(&info.simple_annotations, "j", "k")
             && has(&info.simple_annotations, "k", "last")
-            && info.module_list.len() == 2
+            && info.module_list.len() == 10
             && info.module_list.iter().all(is_the_module),
     )
 }

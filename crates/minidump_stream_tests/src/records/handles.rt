@@ -6,7 +6,7 @@ use minidump_records::{
     MinidumpHandleDataStream, MinidumpHandleDescriptor, MinidumpHandleObjectInformation,
     RawHandleDescriptor,
 };
-use minidump_synth::{Section, SynthMinidump, zeroed};
+use minidump_synth::{Section, SynthMinidump, handle_circle, zeroed};
 use std::alloc::{AllocError, Global};
 use std::test::Fail;
 
@@ -83,6 +83,26 @@ fn a_chain_ends_before_what_is_repeated_or_unknown(rt: HostRuntime) -> Result<()
         for endian in BOTH {
             assert!(rt; is_led(rt.alloc(), *endian, row)?, "of {}", row.0.len());
         }
+    }
+    Ok(())
+}
+
+// A dump of so many handles that share a circle of 1,000 pieces. Its stream stands behind the header and one entry.
+fn goes_round_once(alloc: Global, endian: Endian, handles: u32) -> Result<bool, Error> {
+    let file = handle_circle(alloc, endian, handles, 1000)?;
+    let stream = file.get(44..).unwrap_or(&[]);
+    let list = read(alloc, stream, &file, endian, &mut Steps::new())?;
+    Ok(
+        list.handles.len() == handles as usize
+            && list.iter().all(|handle| handle.object_infos.len() == 1000),
+    )
+}
+
+#[test]
+fn a_circle_is_gone_round_once(rt: HostRuntime) -> Result<(), Fail> {
+    for endian in BOTH {
+        assert!(rt; goes_round_once(rt.alloc(), *endian, 1)?);
+        assert!(rt; goes_round_once(rt.alloc(), *endian, 2)?);
     }
     Ok(())
 }
@@ -188,5 +208,26 @@ fn each_field_of_a_handle_has_its_own_number(rt: HostRuntime) -> Result<(), Fail
             assert!(rt; has_fields(rt.alloc(), *endian, row)?, "of {} bytes", row.0);
         }
     }
+    Ok(())
+}
+
+// The header of a list without bytes of its own, and the handle that begins with it.
+fn is_the_header(alloc: Global, endian: Endian, handle: u64) -> Result<bool, Error> {
+    let mut stream = Section::new(alloc, endian);
+    stream.u32(0).u32(32).u32(1).zeros(20);
+    let stream = stream.finish()?;
+    let list = read(alloc, &stream, &[], endian, &mut Steps::new())?;
+    Ok(
+        list.handles.len() == 1
+            && list.iter().all(|found| {
+                found.raw.handle() == Some(&handle) && found.raw.type_name_rva() == Some(&1)
+            }),
+    )
+}
+
+#[test]
+fn a_handle_may_begin_with_the_header(rt: HostRuntime) -> Result<(), Fail> {
+    assert!(rt; is_the_header(rt.alloc(), Endian::Little, 0x20_0000_0000)?);
+    assert!(rt; is_the_header(rt.alloc(), Endian::Big, 0x20)?);
     Ok(())
 }

@@ -115,33 +115,30 @@ const STREAMS: &[(u32, u32, &[Record], Result<usize, Error>)] = &[
     (16, 1, &[TWO], Ok(1)),
     (15, 1, &[TWO], CUT),
     (16, 21, &[ONE; 20], Ok(20)),
+    (16, 0xffff_ffff, &[ONE; 20], Ok(20)),
     (16, 20, &[ONE; 19], CUT),
 ];
 
 fn count_of(
     alloc: Global,
+    endian: Endian,
     row: &(u32, u32, &[Record], Result<usize, Error>),
 ) -> Result<usize, Error> {
-    let info = read(
-        alloc,
-        Endian::Little,
-        row.0,
-        row.1,
-        row.2,
-        &mut Steps::new(),
-    )?;
+    let info = read(alloc, endian, row.0, row.1, row.2, &mut Steps::new())?;
     Ok(info.raw.len())
 }
 
 #[test]
 fn records_of_one_version_have_texts_in_their_bytes(rt: HostRuntime) {
     for row in STREAMS {
-        assert!(rt;
-            count_of(rt.alloc(), row) == row.3,
-            "{} at {}",
-            row.1,
-            row.0
-        );
+        for endian in BOTH {
+            assert!(rt;
+                count_of(rt.alloc(), *endian, row) == row.3,
+                "{} at {}",
+                row.1,
+                row.0
+            );
+        }
     }
 }
 
