@@ -61,7 +61,8 @@ module _ (module_laws : (modules : List ModuleValue) → HasRegionLaws value_ran
   a_stack memory None = (None, refl)
   a_stack memory (Some t) = let region = a_region memory t in (option_map stack_at region.0, (region.0, region.1, refl))
 
-  module _ (one_last : (id : ℕ) (threads : List Thread) (one other : Option Thread) → IsLastThread id threads one → IsLastThread id threads other → one ≡ other) where
+  module _ (one_last : (id : ℕ) (threads : List Thread) (one other : Option Thread) → IsLastThread id threads one
+      → IsLastThread id threads other → one ≡ other) where
     alike : (names : Lists) (d : Dump) (e : Exception) (one other : Summary) → IsSummary names d e one → IsSummary names d e other → one ≡ other
     alike names d e one other x y =
         let crashed : x.crashed ≡ y.crashed = one_last _ _ x.crashed y.crashed x.last y.last in
