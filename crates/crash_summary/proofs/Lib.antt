@@ -1,0 +1,2 @@
+-- Lemmas of the one summary.
+pub mod OneSummary

@@ -1,0 +1,130 @@
+-- The summary of a crash: which thread, where, why, in which module and on which stack, by what the streams of a minidump are.
+use Rattle.std.specs.Prelude.{◌≡◌, ◌⊎◌, ℕ, List, [], Option, Some, None, Result, Ok, IsOk, string_bytes, unwrap_or}
+use Rattle.std.specs.Option.{option_and_then, option_map, option_or}
+use Rattle.std.specs.Result.{result_ok}
+use Rattle.minidump.specs.declared.Error.{Error}
+use Rattle.minidump.specs.declared.MinidumpRawContext.{MinidumpRawContext}
+use Rattle.minidump.specs.Below.Contexts.Context.{registers_of, value_in}
+use Rattle.minidump.specs.Below.Index.Lookup.{IsLookedUp}
+use Rattle.minidump.specs.Below.MemoryLists.Unified.{Memory, UnifiedRegion, UnifiedRegions}
+use Rattle.minidump.specs.Below.Modules.Module.{ModuleValue, value_range}
+use Rattle.minidump.specs.Below.Reasons.Names.{Lists}
+use Rattle.minidump.specs.Below.Reasons.Reason.{crash_reason}
+use Rattle.minidump.specs.Below.Reasons.ReasonText.{reason_text}
+use Rattle.minidump.specs.Below.System.Reads.{and_then}
+use Rattle.minidump.specs.Below.System.StreamSpec.{StreamSpec}
+use Rattle.minidump.specs.Below.System.System.{System}
+use Rattle.minidump.specs.Dump.{Dump, HasEntries, dump_in, dump_system, stream_of}
+use Rattle.minidump.specs.Exception.{Exception, crash_address}
+use Rattle.minidump.specs.Memory.{memories_of_dump}
+use Rattle.minidump.specs.Promise.{exception_stream, module_list_stream, thread_list_stream}
+use Rattle.minidump.specs.Thread.{IsLastThread, IsStack, Thread, accepted_context}
+use Rattle.crash_summary.specs.declared.CrashSummary.{CrashSummary}
+use Rattle.crash_summary.specs.declared.ModuleHit.{ModuleHit}
+use Rattle.crash_summary.specs.declared.StackHit.{StackHit}
+
+-- ---- a summary without its addresses
+
+-- a module: where it was loaded, and the bytes of its name
+pub record Loaded : Type 0 where
+  pub base : ℕ
+  pub size : ℕ
+  pub name : List ℕ
+
+abbrev pub loaded_of : ModuleHit → Loaded
+loaded_of hit = record { base = hit.base; size = hit.size; name = string_bytes hit.name }
+
+pub record Summary : Type 0 where
+  pub thread : ℕ
+  pub address : Option ℕ
+  pub reason : Option (List ℕ)
+  pub loaded : Option Loaded
+  pub stack : Option StackHit
+
+abbrev pub summary_of : CrashSummary → Summary
+summary_of s = record {
+  thread = s.thread;
+  address = s.address;
+  reason = option_map string_bytes s.reason;
+  loaded = option_map loaded_of s.«module»;
+  stack = s.stack;
+}
+
+-- ---- what it is made of
+
+-- the stream of a table, where it is there and not malformed
+abbrev pub found_stream : {S V : Type 0} → StreamSpec S V → Dump → Option V
+found_stream spec d = result_ok (stream_of spec d)
+
+-- the threads, the modules and the memory of a dump: none where the stream is missing or malformed
+abbrev pub threads_in : Dump → List Thread
+threads_in d = unwrap_or (found_stream thread_list_stream d) []
+
+abbrev pub modules_in : Dump → List ModuleValue
+modules_in d = unwrap_or (found_stream module_list_stream d) []
+
+abbrev pub memory_in : Dump → UnifiedRegions
+memory_in d = unwrap_or (memories_of_dump d) (Memory [])
+
+-- the address of a crash, and the text of its reason, where there is system information
+abbrev pub address_in : Option System → Exception → Option ℕ
+address_in system e = option_map (λ s. crash_address s.os s.cpu e.raw.exception_record) system
+
+abbrev pub reason_in : Lists → Option System → Exception → Option (List ℕ)
+reason_in names system e = option_map (λ s. reason_text names (crash_reason names s.os s.cpu e.raw.exception_record)) system
+
+-- the context of a crash: the exception's, where it is accepted, else the thread's. There is none without system information
+abbrev pub thread_context : ℕ → Option Thread → Option MinidumpRawContext
+thread_context architecture thread = option_and_then (λ t. accepted_context architecture t.order t.context) thread
+
+abbrev pub crash_context : Option System → Exception → Option Thread → Option MinidumpRawContext
+crash_context system e thread = option_and_then (λ s. option_or
+    (accepted_context s.raw.processor_architecture e.order e.context)
+    (thread_context s.raw.processor_architecture thread)) system
+
+-- the instruction pointer of that context
+abbrev pub crash_pointer : Option System → Exception → Option Thread → Option ℕ
+crash_pointer system e thread =
+    option_and_then (λ raw. value_in (registers_of raw) (registers_of raw).instruction_pointer) (crash_context system e thread)
+
+-- the module that has an address
+abbrev pub loaded_at : ModuleValue → Loaded
+loaded_at m = record { base = m.raw.base_of_image; size = m.raw.size_of_image; name = m.name }
+
+abbrev pub IsModuleAt : List ModuleValue → Option ℕ → Option Loaded → Type 0
+IsModuleAt modules None found = found ≡ None
+IsModuleAt modules (Some address) found =
+    (m : Option ModuleValue) × IsLookedUp value_range modules address m × (found ≡ option_map loaded_at m)
+
+-- the stack of a thread
+abbrev pub stack_at : UnifiedRegion → StackHit
+stack_at region = record { base = region.base_address; size = region.size }
+
+abbrev pub IsStackOf : UnifiedRegions → Option Thread → Option StackHit → Type 0
+IsStackOf memory None found = found ≡ None
+IsStackOf memory (Some thread) found =
+    (region : Option UnifiedRegion) × IsStack thread memory region × (found ≡ option_map stack_at region)
+
+-- ---- the summary
+
+-- the summary of an exception in a dump, with the names of codes of these lists. The thread is the last one of the exception's id
+pub record IsSummary (names : Lists) (d : Dump) (e : Exception) (s : Summary) : Type 0 where
+  pub thread : s.thread ≡ e.thread_id
+  pub address : s.address ≡ address_in (dump_system d) e
+  pub reason : s.reason ≡ reason_in names (dump_system d) e
+  pub crashed : Option Thread
+  pub last : IsLastThread e.thread_id (threads_in d) crashed
+  pub loaded : IsModuleAt (modules_in d) (crash_pointer (dump_system d) e crashed) s.loaded
+  pub stack : IsStackOf (memory_in d) crashed s.stack
+
+-- the dump that a file is, with its exception; or the error of the dump, or that of the exception's stream
+abbrev pub crash_in : List ℕ → Result (Dump × Exception) Error
+crash_in file = and_then (dump_in file) (λ d. and_then (stream_of exception_stream d) (λ e. Ok (d, e)))
+
+-- the summary of a file
+abbrev pub IsSummaryOf : List ℕ → Lists → Summary → Type 0
+IsSummaryOf file names s = (d : Dump) × (e : Exception) × (crash_in file ≡ Ok (d, e)) × IsSummary names d e s
+
+-- where memory may run out: at a directory with entries, and behind the exception
+abbrev pub TakesMemory : List ℕ → Type 0
+TakesMemory file = HasEntries file ⊎ IsOk (crash_in file)

@@ -1,0 +1,263 @@
+//! Summarises a crash: which thread, where, why, in which module and on which stack.
+//!
+//! # Errors
+//!
+//! The error of [`minidump::Minidump::read`], or that of the exception's stream, or `OutOfMemory`. Any other
+//! stream that is missing or malformed counts as absent.
+//!
+//! # What is proved
+//!
+//! The summary is the one that the format assigns to the bytes and the names: [`summarise`], by `IsSummaryOf`; an
+//! error is the format's, or `OutOfMemory` where memory is taken. A file has exactly one summary, if it has a crash:
+//! [`laws::one_summary`]. The proofs use the contracts and the laws of `minidump`, and nothing below.
+#![tactic(auto)]
+
+ghost use Rattle.std.specs.Prelude.{◌≡◌, IfErr, IfOk, IsOkUnless, string_bytes};
+ghost use Rattle.std.specs.Option.{option_copied, option_map};
+ghost use Rattle.minidump.specs.Below.Format.Answer.{Refuses};
+ghost use Rattle.minidump.specs.Below.MemoryLists.Unified.{unified_list};
+ghost use Rattle.minidump.specs.Below.Modules.Module.{module_of};
+ghost use Rattle.minidump.specs.Below.Reasons.ReasonText.{reason_text};
+ghost use Rattle.minidump.specs.Dump.{dump_system};
+ghost use Rattle.minidump.specs.DumpValue.{dump_of};
+ghost use Rattle.minidump.specs.Promise.{exception_stream, module_list_stream, system_info_stream, thread_list_stream};
+ghost use Rattle.minidump.specs.Thread.{IsLastThread, thread_of};
+ghost use Rattle.crash_summary.specs.Summary.{IsModuleAt, IsStackOf, IsSummary, IsSummaryOf, TakesMemory, address_in, crash_in, crash_pointer, loaded_at, loaded_of, memory_in, modules_in, reason_in, summary_of, threads_in};
+
+pub mod laws;
+
+use minidump::{
+    CodeNames, CrashReason, Error, Minidump, MinidumpException, MinidumpModule, MinidumpModuleList,
+    MinidumpSystemInfo, MinidumpThread, MinidumpThreadList, Module, Told, UnifiedMemoryList,
+};
+use std::alloc::Global;
+
+/// What is known of a crash first.
+#[derive(Drop)]
+pub struct CrashSummary {
+    /// The id of the thread on which the exception happened.
+    pub thread: u32,
+    /// The address of the crash, or `None` without system information.
+    pub address: Option<u64>,
+    /// The reason of the crash in words, or `None` without system information.
+    pub reason: Option<String>,
+    /// The module that contains the instruction pointer, or `None` if there is no context or no kept module
+    /// contains it.
+    pub module: Option<ModuleHit>,
+    /// The stack of the thread, or `None` if there is no such thread or no memory of its stack.
+    pub stack: Option<StackHit>,
+}
+
+/// A module, by its addresses and its name.
+#[derive(Drop)]
+pub struct ModuleHit {
+    /// The base address.
+    pub base: u64,
+    /// The number of bytes of memory that the module takes.
+    pub size: u64,
+    /// The name of its file.
+    pub name: String,
+}
+
+/// A region of memory, by its addresses.
+#[derive(Clone, Copy, Debug, PartialEq, Eq)]
+pub struct StackHit {
+    /// The address of the first byte.
+    pub base: u64,
+    /// The number of bytes.
+    pub size: u64,
+}
+
+/// Summarises the crash of a minidump, whose bytes are `bytes`. The names of codes are those of `names`.
+///
+/// Returns the error of [`Minidump::read`], else `StreamNotFound` or `StreamReadFailure` if the exception is
+/// missing or malformed, else `OutOfMemory` if an allocation fails.
+pub fn summarise(alloc: Global, bytes: &[u8], names: &CodeNames<'_>) -> Result<CrashSummary, Error>
+    ensures summary { IfOk result (λ s. IsSummaryOf bytes.now names.now (summary_of s)) }
+    ensures refused { IfErr result (λ e. Refuses (TakesMemory bytes.now) e (crash_in bytes.now)) }
+{
+    let dump = Minidump::read(alloc, bytes)?;
+    let exception = dump.get_stream::<MinidumpException>(alloc)?;
+    summary_in(alloc, &dump, &exception, names)
+}
+
+// Summarises the crash of an exception.
+fn summary_in<'a>(
+    alloc: Global,
+    dump: &Minidump<'a>,
+    exception: &MinidumpException<'a>,
+    names: &CodeNames<'_>,
+) -> Result<CrashSummary, Error>
+    ensures value { IfOk result (λ s. IsSummary names.now (dump_of dump.now) (exception_stream.value exception.now) (summary_of s)) }
+    ensures memory { IsOkUnless result Error.OutOfMemory }
+{
+    let system = system_of(alloc, dump)?;
+    let system = system.as_ref();
+    let threads = threads_of(alloc, dump)?;
+    let thread = crashed_thread(&threads, exception);
+    let modules = modules_of(alloc, dump)?;
+    let pointer = instruction_pointer(system, exception, thread);
+    let memory = memory_of(alloc, dump)?;
+    Ok(CrashSummary {
+        thread: exception.thread_id,
+        address: address_of(system, exception),
+        reason: reason_of(alloc, system, exception, names)?,
+        module: module_at(alloc, &modules, pointer)?,
+        stack: stack_of(thread, &memory),
+    })
+}
+
+// Returns the system information of a dump.
+fn system_of(alloc: Global, dump: &Minidump<'_>) -> Result<Option<MinidumpSystemInfo>, Error>
+    ensures value { IfOk result (λ system. option_map system_info_stream.value system ≡ dump_system (dump_of dump.now)) }
+    ensures memory { IsOkUnless result Error.OutOfMemory }
+{
+    minidump::laws::system_information_is_the_dumps();
+    dump.find_stream(alloc)
+}
+
+// Returns the threads of a dump, an empty list if it has none.
+fn threads_of<'a>(alloc: Global, dump: &Minidump<'a>) -> Result<MinidumpThreadList<'a>, Error>
+    ensures value { IfOk result (λ threads. thread_list_stream.value threads ≡ threads_in (dump_of dump.now)) }
+    ensures memory { IsOkUnless result Error.OutOfMemory }
+{
+    match dump.find_stream(alloc)? {
+        Some(threads) => Ok(threads),
+        None => Ok(MinidumpThreadList {
+            threads: Vec::new(alloc),
+        }),
+    }
+}
+
+// Returns the modules of a dump, an empty list if it has none.
+fn modules_of(alloc: Global, dump: &Minidump<'_>) -> Result<MinidumpModuleList, Error>
+    ensures value { IfOk result (λ modules. module_list_stream.value modules ≡ modules_in (dump_of dump.now)) }
+    ensures memory { IsOkUnless result Error.OutOfMemory }
+{
+    match dump.find_stream(alloc)? {
+        Some(modules) => Ok(modules),
+        None => Ok(MinidumpModuleList::new(alloc)),
+    }
+}
+
+// Returns the memory of a dump, an empty list if it has none.
+fn memory_of<'a>(alloc: Global, dump: &Minidump<'a>) -> Result<UnifiedMemoryList<'a>, Error>
+    ensures value { IfOk result (λ memory. unified_list memory ≡ memory_in (dump_of dump.now)) }
+    ensures memory { IsOkUnless result Error.OutOfMemory }
+{
+    match dump.get_memory(alloc)? {
+        Some(memory) => Ok(memory),
+        None => Ok(UnifiedMemoryList::new(alloc)),
+    }
+}
+
+// Returns the thread of an exception.
+fn crashed_thread<'l, 'a>(
+    threads: &'l MinidumpThreadList<'a>,
+    exception: &MinidumpException<'_>,
+) -> Option<&'l MinidumpThread<'a>>
+    ensures { IsLastThread exception.now.thread_id (thread_list_stream.value threads.now) (option_map thread_of (option_copied result)) }
+{
+    threads.get_thread(exception.thread_id)
+}
+
+// Returns the instruction pointer of the exception's context, else of the thread's.
+fn instruction_pointer(
+    system: Option<&MinidumpSystemInfo>,
+    exception: &MinidumpException<'_>,
+    thread: Option<&MinidumpThread<'_>>,
+) -> Option<u64>
+    ensures { result ≡ crash_pointer (option_map system_info_stream.value (option_copied system.entry))
+        (exception_stream.value exception.now) (option_map thread_of (option_copied thread.entry)) }
+{
+    let system = system?;
+    let context = match exception.context(system, None) {
+        Some(context) => context,
+        None => thread?.context(system, None)?,
+    };
+    Some(context.get_instruction_pointer())
+}
+
+// Returns the address of a crash.
+fn address_of(system: Option<&MinidumpSystemInfo>, exception: &MinidumpException<'_>) -> Option<u64>
+    ensures { result ≡ address_in (option_map system_info_stream.value (option_copied system.entry)) (exception_stream.value exception.now) }
+{
+    let system = system?;
+    Some(exception.get_crash_address(system.os, system.cpu))
+}
+
+// Returns the reason of a crash in words.
+fn reason_of(
+    alloc: Global,
+    system: Option<&MinidumpSystemInfo>,
+    exception: &MinidumpException<'_>,
+    names: &CodeNames<'_>,
+) -> Result<Option<String>, Error>
+    ensures value { IfOk result (λ text. option_map string_bytes text
+        ≡ reason_in names.now (option_map system_info_stream.value (option_copied system.entry)) (exception_stream.value exception.now)) }
+    ensures memory { IsOkUnless result Error.OutOfMemory }
+{
+    match system {
+        Some(s) => {
+            let reason = exception.get_crash_reason(s.os, s.cpu, names);
+            Ok(Some(words_of(alloc, &reason, names)?))
+        }
+        None => Ok(None),
+    }
+}
+
+// Writes a reason into memory.
+fn words_of(alloc: Global, reason: &CrashReason, names: &CodeNames<'_>) -> Result<String, Error>
+    ensures value { IfOk result (λ text. string_bytes text ≡ reason_text names.now reason.now) }
+    ensures memory { IsOkUnless result Error.OutOfMemory }
+{
+    let mut words = Told::new(Vec::new(alloc));
+    if reason.write_to(alloc, names, &mut words).is_err() {
+        return Err(Error::OutOfMemory);
+    }
+    Ok(String::from_utf8(words.into_device()).unwrap())
+}
+
+// Returns the module that contains an address.
+fn module_at(
+    alloc: Global,
+    modules: &MinidumpModuleList,
+    address: Option<u64>,
+) -> Result<Option<ModuleHit>, Error>
+    ensures value { IfOk result (λ hit. IsModuleAt (module_list_stream.value modules.now) address (option_map loaded_of hit)) }
+    ensures memory { IsOkUnless result Error.OutOfMemory }
+{
+    let Some(address) = address else {
+        return Ok(None);
+    };
+    match modules.module_at_address(address) {
+        Some(module) => Ok(Some(hit_of(alloc, module)?)),
+        None => Ok(None),
+    }
+}
+
+// Copies the addresses and the name of a module.
+fn hit_of(alloc: Global, found: &MinidumpModule) -> Result<ModuleHit, Error>
+    ensures value { IfOk result (λ hit. loaded_of hit ≡ loaded_at (module_of found.now)) }
+    ensures memory { IsOkUnless result Error.OutOfMemory }
+{
+    Ok(ModuleHit {
+        base: found.base_address(),
+        size: found.size(),
+        name: String::from_str(alloc, found.code_file())?,
+    })
+}
+
+// Returns the stack of a thread: its own, else the region of the memory in which it begins.
+fn stack_of<'a>(
+    thread: Option<&MinidumpThread<'a>>,
+    memory: &UnifiedMemoryList<'a>,
+) -> Option<StackHit>
+    ensures { IsStackOf (unified_list memory.now) (option_map thread_of (option_copied thread.entry)) result }
+{
+    let region = thread?.stack_memory(memory)?;
+    Some(StackHit {
+        base: region.base_address(),
+        size: region.size(),
+    })
+}
