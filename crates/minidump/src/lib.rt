@@ -11,6 +11,7 @@
 //! - [`MinidumpContext`] decodes the registers of a thread from the bytes of its context.
 //! - `all_streams`, `unknown_streams` and `unimplemented_streams` list the streams. `print` writes the
 //!   header and the directory.
+//! - [`write_report`] writes all that is read of a dump. [`read_all`] reads any reader to its end.
 //! - [`laws`] has what holds of all this beyond single calls.
 //!
 //! # Errors
@@ -43,6 +44,9 @@
 //! - The deciding entries, ascending by type: `all_streams`; `laws::listed_streams_ascend`,
 //!   `listed_streams_decide`. Those without a name, and those that are never read: `unknown_streams`,
 //!   `unimplemented_streams`. The printed text: `print`. Reading a file: `read_path`.
+//! - The report is the text that `report_text` assigns to the dump and the names, and nothing else, or a beginning
+//!   of it where the writer failed or memory ran out; of bytes that are no dump nothing is written: `write_report`,
+//!   by `Reports`. All bytes that a reader had are in the vector, or it is empty: `read_all`.
 //!
 //! What isn't: which file a path opens, and what `read_path` leaves in the vector beyond the contract of the
 //! private `read_file`, which tests show.
