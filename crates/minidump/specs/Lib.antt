@@ -10,5 +10,6 @@ pub mod File
 pub mod Promise
 pub mod Memory
 pub mod Thread
+pub mod ThreadText
 pub mod Exception
 pub mod Below
