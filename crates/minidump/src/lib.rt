@@ -40,7 +40,8 @@
 //!   `laws::streams_are_read_as_promised`, by `thread_list_in`; the last one of an id: `get_thread`,
 //!   `laws::one_last_thread`. A context: `MinidumpThread::context`, `MinidumpException::context`. A stack is
 //!   the thread's own, else a region of the list: `stack_memory`. The last error: `last_error`. The address and
-//!   the reason of a crash: `get_crash_address`, `get_crash_reason`.
+//!   the reason of a crash: `get_crash_address`, `get_crash_reason`. The printed texts, with contexts and stacks:
+//!   `print` of these types, by `thread_text`, `thread_list_text` and `exception_text`.
 //! - The deciding entries, ascending by type: `all_streams`; `laws::listed_streams_ascend`,
 //!   `listed_streams_decide`. Those without a name, and those that are never read: `unknown_streams`,
 //!   `unimplemented_streams`. The printed text: `print`. Reading a file: `read_path`.
