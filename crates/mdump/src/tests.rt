@@ -97,7 +97,10 @@ const NO_FILES: &[Row] = &[
 ];
 
 fn is_refused(rt: &HostRuntime, bytes: &[u8], name: &'static str) -> Result<bool, Fail> {
-    let rows = [(&["dir", "names_refusals.dmp"][..], 1, "", name)];
+    let rows = [
+        (&["dir", "names_refusals.dmp"][..], 1, "", name),
+        (&["report", "names_refusals.dmp"][..], 1, "", name),
+    ];
     answers_of(rt, "names_refusals.dmp", bytes, &rows)
 }
 
@@ -122,6 +125,45 @@ fn names_refusals(rt: HostRuntime) -> Result<(), Fail> {
     ] {
         assert!(rt; is_refused(&rt, *bytes, *name)?, "{name}");
     }
+    Ok(())
+}
+
+const REPORT_PATH: &str = "writes_the_error_of_a_stream.dmp";
+
+const REPORT: &[Row] = &[(
+    &["report", REPORT_PATH],
+    0,
+    "MDRawHeader
+  signature            = 0x504d444d
+  version              = 0xa793
+  stream_count         = 1
+  stream_directory_rva = 0x20
+  checksum             = 0x0
+  time_date_stamp      = 0x0
+  flags                = 0x0
+
+mDirectory[0]
+MDRawDirectory
+  stream_type        = 0xf (MiscInfoStream)
+  location.data_size = 4
+  location.rva       = 0x2c
+
+Streams:
+  stream type 0xf (MiscInfoStream) at index 0
+
+MiscInfoStream: StreamReadFailure
+",
+    "",
+)];
+
+#[test]
+fn writes_the_error_of_a_stream(rt: HostRuntime) -> Result<(), Fail> {
+    let mut bytes = ONE;
+    bytes[32] = 15;
+    bytes[33] = 0;
+    bytes[34] = 0;
+    bytes[35] = 0;
+    assert!(rt; answers_of(&rt, REPORT_PATH, &bytes, REPORT)?);
     Ok(())
 }
 

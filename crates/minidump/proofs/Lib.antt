@@ -1,6 +1,8 @@
 -- The lemmas of this crate.
 pub mod DirectoryLemmas
 pub mod LawsLemmas
+pub mod PlacedLemmas
+pub mod StackLemmas
 pub mod StreamsLemmas
 pub mod ThreadLemmas
 pub mod ReportLemmas

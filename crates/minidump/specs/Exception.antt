@@ -1,6 +1,10 @@
 -- The exception of a minidump: Microsoft's MINIDUMP_EXCEPTION_STREAM, with the address of the crash.
-use Rattle.std.specs.Prelude.{ℕ, ◌%◌, ◌^◌, ◌==◌, ◌||◌, ◌&&◌, nat_le, Bool, false, List, slice_index, Option, Result, Ok, if◌then◌else◌}
+use Rattle.std.specs.Prelude.{ℕ, ◌%◌, ◌^◌, ◌==◌, ◌||◌, ◌&&◌, nat_le, Bool, false, List, [], ◌∷◌, ◌++◌, slice_index, Option, Some, None, Result, Ok}
+use Rattle.std.specs.Prelude.{codes, if◌then◌else◌, min, take}
+use Rattle.std.specs.Fmt.{decimal}
+use Rattle.std.specs.List.{concat, enumerate_from, flat_map}
 use Rattle.std.specs.Option.{ok_or, option_copied}
+use Rattle.minidump_bytes.specs.Piece.{hex, right}
 use Rattle.minidump_bytes.specs.declared.endian.Endian.{Endian}
 use Rattle.minidump_bytes.specs.Span.{record_at}
 use Rattle.minidump_format.specs.declared.format.stream_type.MINIDUMP_STREAM_TYPE.TheVariants.{ExceptionStream}
@@ -9,6 +13,7 @@ use Rattle.minidump_format.specs.declared.error.Error.TheVariants.{StreamReadFai
 use Rattle.minidump_format.specs.declared.format.exception.MINIDUMP_EXCEPTION.{MINIDUMP_EXCEPTION}
 use Rattle.minidump_format.specs.declared.format.exception.MINIDUMP_EXCEPTION_STREAM.{MINIDUMP_EXCEPTION_STREAM}
 use Rattle.minidump_format.specs.Exception.{exception_layout}
+use Rattle.minidump_format.specs.declared.format.header.MINIDUMP_LOCATION_DESCRIPTOR.{MINIDUMP_LOCATION_DESCRIPTOR}
 use Rattle.minidump_format.specs.Header.{located}
 use Rattle.minidump_system.specs.StreamSpec.{StreamSpec, linear}
 use Rattle.minidump_system.specs.declared.cpu.Cpu.{Cpu}
@@ -18,7 +23,11 @@ use Rattle.minidump_system.specs.declared.os.Os.{Os}
 use Rattle.minidump_system.specs.declared.os.Os.TheVariants.{Windows}
 use Rattle.minidump_system.specs.Cpu.{width_of}
 use Rattle.minidump_system.specs.Reads.{and_then}
+use Rattle.minidump_system.specs.System.{System}
+use Rattle.minidump_context.specs.declared.raw_context.MinidumpRawContext.{MinidumpRawContext}
+use Rattle.minidump_context.specs.Text.{context_text}
 use Rattle.minidump.specs.declared.exception.MinidumpException.{MinidumpException}
+use Rattle.minidump.specs.Thread.{known_context}
 
 -- an exception: its record, the id of its thread, the bytes of that thread's context, and their byte order
 pub record Exception : Type 0 where
@@ -64,3 +73,50 @@ exception_stream = record {
   fewest = λ order bytes exception. 2;
   memory = λ order bytes. ⊥;
 }
+
+-- the printed text, line by line: the numbers of the record
+unfoldable pub exception_head : ℕ → MINIDUMP_EXCEPTION → List ℕ
+exception_head thread_id r = concat (
+    codes "MINIDUMP_EXCEPTION\n"
+    ∷ codes "  thread_id                                  = " ∷ hex thread_id ∷ codes "\n"
+    ∷ codes "  exception_record.exception_code            = " ∷ hex r.exception_code ∷ codes "\n"
+    ∷ codes "  exception_record.exception_flags           = " ∷ hex r.exception_flags ∷ codes "\n"
+    ∷ codes "  exception_record.exception_record          = " ∷ hex r.exception_record ∷ codes "\n"
+    ∷ codes "  exception_record.exception_address         = " ∷ hex r.exception_address ∷ codes "\n"
+    ∷ codes "  exception_record.number_parameters         = " ∷ decimal r.number_parameters ∷ codes "\n"
+    ∷ [])
+
+-- one of the parameters, of which there are at most 15 whatever their number says
+unfoldable pub parameter_line : ℕ → ℕ → List ℕ
+parameter_line index value =
+    concat (codes "  exception_record.exception_information[" ∷ right 2 (decimal index) ∷ codes "] = " ∷ hex value ∷ codes "\n" ∷ [])
+
+unfoldable pub parameter_lines : MINIDUMP_EXCEPTION → List ℕ
+parameter_lines r = flat_map (λ p. parameter_line p.0 p.1) (enumerate_from 0 (take (min r.number_parameters 15) r.exception_information))
+
+-- the location of the context
+unfoldable pub location_lines : MINIDUMP_LOCATION_DESCRIPTOR → List ℕ
+location_lines l = concat (
+    codes "  thread_context.data_size                   = " ∷ decimal l.data_size ∷ codes "\n"
+    ∷ codes "  thread_context.rva                         = " ∷ hex l.rva ∷ codes "\n"
+    ∷ [])
+
+-- the context behind an empty line; else the text ends with four blanks and no line feed
+unfoldable pub line_before : List ℕ
+line_before = codes "\n"
+
+unfoldable pub no_exception_context : List ℕ
+no_exception_context = codes "  (no context)\n\n    "
+
+abbrev pub exception_context_text : Option MinidumpRawContext → List ℕ
+exception_context_text (Some c) = line_before ++ context_text c
+exception_context_text None = no_exception_context
+
+-- the text of an exception with such a context
+abbrev pub exception_with : Exception → Option MinidumpRawContext → List ℕ
+exception_with e context =
+    exception_head e.thread_id e.raw.exception_record
+    ++ (parameter_lines e.raw.exception_record ++ (location_lines e.raw.thread_context ++ exception_context_text context))
+
+abbrev pub exception_text : Option System → Exception → List ℕ
+exception_text system e = exception_with e (known_context system e.order e.context)

@@ -10,6 +10,7 @@ pub mod File
 pub mod Promise
 pub mod Memory
 pub mod Thread
+pub mod ThreadText
 pub mod Exception
 pub mod StandIn
 pub mod Crash

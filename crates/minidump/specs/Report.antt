@@ -1,5 +1,5 @@
 -- The report on a minidump: what each type of stream adds to it, and its whole text.
-use Rattle.std.specs.Prelude.{◌≡◌, ◌⊎◌, ℕ, List, [], ◌∷◌, ◌++◌, codes, Option, Result, Ok, Err}
+use Rattle.std.specs.Prelude.{◌≡◌, ◌⊎◌, ℕ, List, [], ◌∷◌, ◌++◌, codes, true, Option, Result, Ok, Err}
 use Rattle.std.specs.List.{concat}
 use Rattle.minidump_bytes.specs.declared.told.Told.{Told}
 use Rattle.minidump_format.specs.declared.error.Error.{Error}
@@ -20,10 +20,21 @@ use Rattle.minidump.specs.Promise.{linux_environ_stream, linux_lsb_release_strea
 use Rattle.minidump.specs.Promise.{mac_bootargs_stream, mac_crash_info_stream, memory64_list_stream, memory_info_list_stream, memory_list_stream}
 use Rattle.minidump.specs.Promise.{misc_info_stream, module_list_stream, soft_errors_stream, stability_report_stream, system_info_stream}
 use Rattle.minidump.specs.Promise.{thread_info_list_stream, thread_list_stream, thread_names_stream, unloaded_module_list_stream}
-use Rattle.minidump.specs.StandIn.{exception_text, thread_list_text, thread_names_text, thread_info_list_text, module_list_text, unloaded_module_list_text}
-use Rattle.minidump.specs.StandIn.{memory64_list_text, memory_list_text, memory_info_list_text, linux_maps_text, handle_data_text, breakpad_info_text}
-use Rattle.minidump.specs.StandIn.{assertion_text, crashpad_info_text, mac_crash_info_text, mac_bootargs_text, linux_cpu_info_text, linux_proc_status_text}
-use Rattle.minidump.specs.StandIn.{linux_lsb_release_text, linux_environ_text, linux_proc_limits_text, soft_errors_text, stability_report_text}
+use Rattle.minidump.specs.StandIn.{exception_text, thread_list_text}
+use Rattle.minidump_memory.specs.InfoText.{memory_info_list_text, linux_maps_text}
+use Rattle.minidump_memory.specs.MemoryText.{memory64_list_text, memory_list_text}
+use Rattle.minidump_modules.specs.ModuleText.{module_list_text, unloaded_module_list_text}
+use Rattle.minidump_records.specs.Assertion.{assertion_text}
+use Rattle.minidump_records.specs.BootArgs.{mac_bootargs_text}
+use Rattle.minidump_records.specs.BreakpadInfo.{breakpad_info_text}
+use Rattle.minidump_records.specs.Crashpad.Text.{crashpad_info_text}
+use Rattle.minidump_records.specs.Handles.{handle_data_text}
+use Rattle.minidump_records.specs.Linux.Text.{linux_cpu_info_text, linux_proc_status_text, linux_lsb_release_text, linux_environ_text, linux_proc_limits_text}
+use Rattle.minidump_records.specs.MacCrashInfo.Text.{mac_crash_info_text}
+use Rattle.minidump_records.specs.SoftErrors.{soft_errors_text}
+use Rattle.minidump_records.specs.ThreadInfo.{thread_info_list_text}
+use Rattle.minidump_records.specs.ThreadNames.{thread_names_text}
+use Rattle.minidump_stability.specs.ReportText.{stability_report_text}
 use Rattle.minidump_system.specs.MiscInfo.{misc_info_text}
 use Rattle.minidump_system.specs.SystemInfo.{system_info_text}
 
@@ -56,8 +67,8 @@ sections_text dump = concat (
     ∷ section thread_info_list_stream thread_info_list_text dump
     ∷ section module_list_stream module_list_text dump
     ∷ section unloaded_module_list_stream unloaded_module_list_text dump
-    ∷ section memory64_list_stream memory64_list_text dump
-    ∷ section memory_list_stream memory_list_text dump
+    ∷ section memory64_list_stream (memory64_list_text true) dump
+    ∷ section memory_list_stream (memory_list_text true) dump
     ∷ section memory_info_list_stream memory_info_list_text dump
     ∷ section linux_maps_stream linux_maps_text dump
     ∷ section handle_data_stream handle_data_text dump
@@ -85,8 +96,8 @@ section_text dump part.ThreadNames = section thread_names_stream thread_names_te
 section_text dump part.ThreadInfoList = section thread_info_list_stream thread_info_list_text dump
 section_text dump part.ModuleList = section module_list_stream module_list_text dump
 section_text dump part.UnloadedModuleList = section unloaded_module_list_stream unloaded_module_list_text dump
-section_text dump part.Memory64List = section memory64_list_stream memory64_list_text dump
-section_text dump part.MemoryList = section memory_list_stream memory_list_text dump
+section_text dump part.Memory64List = section memory64_list_stream (memory64_list_text true) dump
+section_text dump part.MemoryList = section memory_list_stream (memory_list_text true) dump
 section_text dump part.MemoryInfoList = section memory_info_list_stream memory_info_list_text dump
 section_text dump part.LinuxMaps = section linux_maps_stream linux_maps_text dump
 section_text dump part.HandleData = section handle_data_stream handle_data_text dump

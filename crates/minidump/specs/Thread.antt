@@ -14,6 +14,7 @@ use Rattle.minidump_format.specs.Header.{located}
 use Rattle.minidump_format.specs.Thread.{thread}
 use Rattle.minidump_index.specs.Lookup.{IsLookedUp}
 use Rattle.minidump_system.specs.StreamSpec.{StreamSpec, linear}
+use Rattle.minidump_system.specs.System.{System}
 use Rattle.minidump_system.specs.declared.cpu.Cpu.{Cpu}
 use Rattle.minidump_system.specs.Cpu.{pointer_bytes, width_of}
 use Rattle.minidump_system.specs.Framing.{plain_list}
@@ -31,6 +32,10 @@ use Rattle.minidump.specs.declared.thread_list.MinidumpThreadList.{MinidumpThrea
 -- the context that bytes hold on an architecture, where they hold one. An empty span holds none
 abbrev pub accepted_context : ℕ → Endian → Option (List ℕ) → Option MinidumpRawContext
 accepted_context architecture order bytes = option_and_then (λ b. result_ok (context_in order b architecture)) bytes
+
+-- the context that bytes hold on the machine of a dump: none where that is unknown
+abbrev pub known_context : Option System → Endian → Option (List ℕ) → Option MinidumpRawContext
+known_context system order bytes = option_and_then (λ s. accepted_context s.raw.processor_architecture order bytes) system
 
 -- a thread: its entry, the bytes of its context, its own stack, and their byte order
 pub record Thread : Type 0 where

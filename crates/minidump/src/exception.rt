@@ -1,21 +1,28 @@
-ghost use Rattle.std.specs.Prelude.{◌≡◌, IfSome};
+ghost use Rattle.std.specs.Prelude.{◌≡◌, ◌++◌, OnOk, IfSome};
+ghost use Rattle.std.specs.List.{enumerate_from, flat_map};
 ghost use Rattle.std.specs.Option.{option_copied, option_map};
 ghost use Rattle.minidump_format.specs.StreamType.{number_of};
 ghost use Rattle.minidump_context.specs.declared.validity.MinidumpContextValidity.TheVariants.{All};
 ghost use Rattle.minidump_reason.specs.Reason.{crash_reason};
-ghost use Rattle.minidump.specs.Exception.{exception_stream, crash_address};
+ghost use Rattle.minidump_context.specs.Text.{context_text};
+ghost use Rattle.minidump_format.specs.Print.{Prints};
+ghost use Rattle.minidump_system.specs.SystemInfo.{system_info_of};
+ghost use Rattle.minidump.specs.Exception.{crash_address, exception_context_text, exception_head, exception_of, exception_stream, exception_text, exception_with, line_before, location_lines, no_exception_context, parameter_line, parameter_lines};
 ghost use Rattle.minidump.specs.Thread.{accepted_context};
 
-use crate::thread::accepted_context;
-use minidump_bytes::{Endian, Source, Steps};
+use crate::thread::{accepted_context, known_context};
+use minidump_bytes::{Endian, Piece, Source, Steps, Told, push_pieces};
 use minidump_context::MinidumpContext;
-use minidump_format::Error;
-use minidump_format::format::MINIDUMP_EXCEPTION_STREAM;
+use minidump_format::format::{
+    MINIDUMP_EXCEPTION, MINIDUMP_EXCEPTION_STREAM, MINIDUMP_LOCATION_DESCRIPTOR,
+};
+use minidump_format::{Error, Pushed, print_item};
 use minidump_reason::{CodeNames, CrashReason};
 use minidump_system::{
     Cpu, MinidumpMiscInfo, MinidumpStream, MinidumpSystemInfo, Os, PointerWidth,
 };
-use std::alloc::Global;
+use std::alloc::{AllocError, Global};
+use std::io::Write;
 
 const EXCEPTION_ACCESS_VIOLATION: u32 = 0xc000_0005;
 
@@ -96,6 +103,164 @@ impl<'a> MinidumpException<'a> {
     {
         self.thread_id
     }
+
+    /// Prints the record, and the context as far as `system` decodes it. Of the parameters it prints as many as
+    /// `number_parameters` says, but at most the 15 that there are.
+    pub fn print<W: Write>(
+        &self,
+        alloc: Global,
+        f: &mut Told<W>,
+        system: Option<&MinidumpSystemInfo>,
+        misc: Option<&MinidumpMiscInfo>,
+    ) -> Result<(), Error>
+        ensures { Prints W.contents f.old f.new
+            (exception_text (option_map system_info_of (option_copied system.entry)) (exception_stream.value self.now)) result }
+    {
+        let context = known_context(self.context, self.endian, system, misc);
+        print_with(self, context, alloc, f)
+    }
+}
+
+fn print_with<W: Write>(
+    exception: &MinidumpException<'_>,
+    context: Option<MinidumpContext>,
+    alloc: Global,
+    f: &mut Told<W>,
+) -> Result<(), Error>
+    ensures { Prints W.contents f.old f.new
+        (exception_with (exception_of exception.now) (option_map (λ c. c.raw) context)) result }
+{
+    print_item(&ExceptionText { exception, context }, alloc, f)
+}
+
+// An exception and its context.
+#[derive(Drop)]
+struct ExceptionText<'a, 'mdmp> {
+    exception: &'a MinidumpException<'mdmp>,
+    context: Option<MinidumpContext>,
+}
+
+impl<'a, 'mdmp> Pushed for ExceptionText<'a, 'mdmp> {
+    ghost use Rattle.std.specs.Option.{option_map};
+    ghost use Rattle.minidump.specs.Exception.{exception_of, exception_with};
+
+    ghost text = { λ t. exception_with (exception_of t.exception.now) (option_map (λ c. c.raw) t.context) };
+
+    fn push(&self, out: &mut Vec<u8>) -> Result<(), AllocError> {
+        let exception = self.exception;
+        push_head(out, exception.thread_id, &exception.raw.exception_record)?;
+        push_parameters(out, &exception.raw.exception_record)?;
+        push_location(out, &exception.raw.thread_context)?;
+        push_context(out, &self.context)
+    }
+}
+
+#[tactic(auto, unfolding(crate::specs::Exception::exception_head))]
+fn push_head(out: &mut Vec<u8>, thread_id: u32, r: &MINIDUMP_EXCEPTION) -> Result<(), AllocError>
+    ensures { OnOk result (out.new.items ≡ out.old.items ++ exception_head thread_id r.now) }
+{
+    push_pieces(
+        out,
+        &[
+            Piece::Words("MINIDUMP_EXCEPTION\n  thread_id                                  = "),
+            Piece::Hex(thread_id as u64),
+            Piece::Words("\n  exception_record.exception_code            = "),
+            Piece::Hex(r.exception_code as u64),
+            Piece::Words("\n  exception_record.exception_flags           = "),
+            Piece::Hex(r.exception_flags as u64),
+            Piece::Words("\n  exception_record.exception_record          = "),
+            Piece::Hex(r.exception_record),
+            Piece::Words("\n  exception_record.exception_address         = "),
+            Piece::Hex(r.exception_address),
+            Piece::Words("\n  exception_record.number_parameters         = "),
+            Piece::Decimal(r.number_parameters as u64),
+            Piece::Words("\n"),
+        ],
+    )
+}
+
+#[tactic(auto, unfolding(crate::specs::Exception::parameter_lines))]
+fn push_parameters(out: &mut Vec<u8>, r: &MINIDUMP_EXCEPTION) -> Result<(), AllocError>
+    ensures { OnOk result (out.new.items ≡ out.old.items ++ parameter_lines r.now) }
+{
+    let count = r.number_parameters.min(15) as usize;
+    push_each_parameter(out, &r.exception_information[..count])
+}
+
+fn push_each_parameter(out: &mut Vec<u8>, parameters: &[u64]) -> Result<(), AllocError>
+    ensures { OnOk result (out.new.items ≡ out.old.items
+        ++ flat_map (λ p. parameter_line p.0 p.1) (enumerate_from 0 parameters.now)) }
+{
+    for index in 0..parameters.len() {
+        push_parameter(out, index, parameters[index])?;
+    }
+    Ok(())
+}
+
+#[tactic(auto, unfolding(crate::specs::Exception::parameter_line))]
+fn push_parameter(out: &mut Vec<u8>, index: usize, value: u64) -> Result<(), AllocError>
+    ensures { OnOk result (out.new.items ≡ out.old.items ++ parameter_line index value) }
+{
+    push_pieces(
+        out,
+        &[
+            Piece::Words("  exception_record.exception_information["),
+            Piece::Right(index as u64, 2),
+            Piece::Words("] = "),
+            Piece::Hex(value),
+            Piece::Words("\n"),
+        ],
+    )
+}
+
+#[tactic(auto, unfolding(crate::specs::Exception::location_lines))]
+fn push_location(
+    out: &mut Vec<u8>,
+    location: &MINIDUMP_LOCATION_DESCRIPTOR,
+) -> Result<(), AllocError>
+    ensures { OnOk result (out.new.items ≡ out.old.items ++ location_lines location.now) }
+{
+    push_pieces(
+        out,
+        &[
+            Piece::Words("  thread_context.data_size                   = "),
+            Piece::Decimal(location.data_size as u64),
+            Piece::Words("\n  thread_context.rva                         = "),
+            Piece::Hex(location.rva as u64),
+            Piece::Words("\n"),
+        ],
+    )
+}
+
+fn push_context(out: &mut Vec<u8>, context: &Option<MinidumpContext>) -> Result<(), AllocError>
+    ensures { OnOk result (out.new.items ≡ out.old.items
+        ++ exception_context_text (option_map (λ c. c.raw) context.now)) }
+{
+    match context {
+        Some(context) => push_context_behind_line(out, context),
+        None => push_no_context(out),
+    }
+}
+
+fn push_context_behind_line(out: &mut Vec<u8>, context: &MinidumpContext) -> Result<(), AllocError>
+    ensures { OnOk result (out.new.items ≡ out.old.items ++ (line_before ++ context_text context.now.raw)) }
+{
+    push_line_before(out)?;
+    context.push(out)
+}
+
+#[tactic(auto, unfolding(crate::specs::Exception::line_before))]
+fn push_line_before(out: &mut Vec<u8>) -> Result<(), AllocError>
+    ensures { OnOk result (out.new.items ≡ out.old.items ++ line_before) }
+{
+    out.extend_from_slice(b"\n")
+}
+
+#[tactic(auto, unfolding(crate::specs::Exception::no_exception_context))]
+fn push_no_context(out: &mut Vec<u8>) -> Result<(), AllocError>
+    ensures { OnOk result (out.new.items ≡ out.old.items ++ no_exception_context) }
+{
+    out.extend_from_slice(b"  (no context)\n\n    ")
 }
 
 /// Microsoft's `MINIDUMP_EXCEPTION_STREAM`: one record. Its context is not decoded. The only error is

@@ -11,6 +11,7 @@
 //! - [`MinidumpContext`] decodes the registers of a thread from the bytes of its context.
 //! - `all_streams`, `unknown_streams` and `unimplemented_streams` list the streams. `print` writes the
 //!   header and the directory.
+//! - [`write_report`] writes all that is read of a dump. [`read_all`] reads any reader to its end.
 //! - [`laws`] has what holds of all this beyond single calls.
 //!
 //! # Errors
@@ -39,10 +40,14 @@
 //!   `laws::streams_are_read_as_promised`, by `thread_list_in`; the last one of an id: `get_thread`,
 //!   `laws::one_last_thread`. A context: `MinidumpThread::context`, `MinidumpException::context`. A stack is
 //!   the thread's own, else a region of the list: `stack_memory`. The last error: `last_error`. The address and
-//!   the reason of a crash: `get_crash_address`, `get_crash_reason`.
+//!   the reason of a crash: `get_crash_address`, `get_crash_reason`. The printed texts, with contexts and stacks:
+//!   `print` of these types, by `thread_text`, `thread_list_text` and `exception_text`.
 //! - The deciding entries, ascending by type: `all_streams`; `laws::listed_streams_ascend`,
 //!   `listed_streams_decide`. Those without a name, and those that are never read: `unknown_streams`,
 //!   `unimplemented_streams`. The printed text: `print`. Reading a file: `read_path`.
+//! - The report is the text that `report_text` assigns to the dump and the names, and nothing else, or a beginning
+//!   of it where the writer failed or memory ran out; of bytes that are no dump nothing is written: `write_report`,
+//!   by `Reports`. All bytes that a reader had are in the vector, or it is empty: `read_all`.
 //!
 //! What isn't: which file a path opens, and what `read_path` leaves in the vector beyond the contract of the
 //! private `read_file`, which tests show.

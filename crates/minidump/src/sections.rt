@@ -88,7 +88,7 @@ impl<'a> Reported<'a> for MinidumpThreadList<'a> {
 
 impl<'a> Reported<'a> for MinidumpThreadNames {
     ghost use Rattle.minidump.specs.Promise.{thread_names_stream};
-    ghost use Rattle.minidump.specs.StandIn.{thread_names_text};
+    ghost use Rattle.minidump_records.specs.ThreadNames.{thread_names_text};
 
     ghost text = { λ dump stream. thread_names_text (thread_names_stream.value stream) };
 
@@ -98,13 +98,13 @@ impl<'a> Reported<'a> for MinidumpThreadNames {
         alloc: Global,
         f: &mut Told<W>,
     ) -> Result<(), Error> {
-        print_words("thread names", alloc, f)
+        self.print(alloc, f)
     }
 }
 
 impl<'a> Reported<'a> for MinidumpThreadInfoList {
     ghost use Rattle.minidump.specs.Promise.{thread_info_list_stream};
-    ghost use Rattle.minidump.specs.StandIn.{thread_info_list_text};
+    ghost use Rattle.minidump_records.specs.ThreadInfo.{thread_info_list_text};
 
     ghost text = { λ dump stream. thread_info_list_text (thread_info_list_stream.value stream) };
 
@@ -114,13 +114,13 @@ impl<'a> Reported<'a> for MinidumpThreadInfoList {
         alloc: Global,
         f: &mut Told<W>,
     ) -> Result<(), Error> {
-        print_words("thread info list", alloc, f)
+        self.print(alloc, f)
     }
 }
 
 impl<'a> Reported<'a> for MinidumpModuleList {
     ghost use Rattle.minidump.specs.Promise.{module_list_stream};
-    ghost use Rattle.minidump.specs.StandIn.{module_list_text};
+    ghost use Rattle.minidump_modules.specs.ModuleText.{module_list_text};
 
     ghost text = { λ dump stream. module_list_text (module_list_stream.value stream) };
 
@@ -130,13 +130,13 @@ impl<'a> Reported<'a> for MinidumpModuleList {
         alloc: Global,
         f: &mut Told<W>,
     ) -> Result<(), Error> {
-        print_words("module list", alloc, f)
+        self.print(alloc, f)
     }
 }
 
 impl<'a> Reported<'a> for MinidumpUnloadedModuleList {
     ghost use Rattle.minidump.specs.Promise.{unloaded_module_list_stream};
-    ghost use Rattle.minidump.specs.StandIn.{unloaded_module_list_text};
+    ghost use Rattle.minidump_modules.specs.ModuleText.{unloaded_module_list_text};
 
     ghost text = { λ dump stream. unloaded_module_list_text (unloaded_module_list_stream.value stream) };
 
@@ -146,15 +146,16 @@ impl<'a> Reported<'a> for MinidumpUnloadedModuleList {
         alloc: Global,
         f: &mut Told<W>,
     ) -> Result<(), Error> {
-        print_words("unloaded module list", alloc, f)
+        self.print(alloc, f)
     }
 }
 
 impl<'a> Reported<'a> for MinidumpMemory64List<'a> {
+    ghost use Rattle.std.specs.Prelude.{true};
     ghost use Rattle.minidump.specs.Promise.{memory64_list_stream};
-    ghost use Rattle.minidump.specs.StandIn.{memory64_list_text};
+    ghost use Rattle.minidump_memory.specs.MemoryText.{memory64_list_text};
 
-    ghost text = { λ dump stream. memory64_list_text (memory64_list_stream.value stream) };
+    ghost text = { λ dump stream. memory64_list_text true (memory64_list_stream.value stream) };
 
     fn print_in<W: Write>(
         &self,
@@ -162,15 +163,16 @@ impl<'a> Reported<'a> for MinidumpMemory64List<'a> {
         alloc: Global,
         f: &mut Told<W>,
     ) -> Result<(), Error> {
-        print_words("memory64 list", alloc, f)
+        self.print(alloc, f, true)
     }
 }
 
 impl<'a> Reported<'a> for MinidumpMemoryList<'a> {
+    ghost use Rattle.std.specs.Prelude.{true};
     ghost use Rattle.minidump.specs.Promise.{memory_list_stream};
-    ghost use Rattle.minidump.specs.StandIn.{memory_list_text};
+    ghost use Rattle.minidump_memory.specs.MemoryText.{memory_list_text};
 
-    ghost text = { λ dump stream. memory_list_text (memory_list_stream.value stream) };
+    ghost text = { λ dump stream. memory_list_text true (memory_list_stream.value stream) };
 
     fn print_in<W: Write>(
         &self,
@@ -178,13 +180,13 @@ impl<'a> Reported<'a> for MinidumpMemoryList<'a> {
         alloc: Global,
         f: &mut Told<W>,
     ) -> Result<(), Error> {
-        print_words("memory list", alloc, f)
+        self.print(alloc, f, true)
     }
 }
 
 impl<'a> Reported<'a> for MinidumpMemoryInfoList<'a> {
     ghost use Rattle.minidump.specs.Promise.{memory_info_list_stream};
-    ghost use Rattle.minidump.specs.StandIn.{memory_info_list_text};
+    ghost use Rattle.minidump_memory.specs.InfoText.{memory_info_list_text};
 
     ghost text = { λ dump stream. memory_info_list_text (memory_info_list_stream.value stream) };
 
@@ -194,13 +196,13 @@ impl<'a> Reported<'a> for MinidumpMemoryInfoList<'a> {
         alloc: Global,
         f: &mut Told<W>,
     ) -> Result<(), Error> {
-        print_words("memory info list", alloc, f)
+        self.print(alloc, f)
     }
 }
 
 impl<'a> Reported<'a> for MinidumpLinuxMaps<'a> {
     ghost use Rattle.minidump.specs.Promise.{linux_maps_stream};
-    ghost use Rattle.minidump.specs.StandIn.{linux_maps_text};
+    ghost use Rattle.minidump_memory.specs.InfoText.{linux_maps_text};
 
     ghost text = { λ dump stream. linux_maps_text (linux_maps_stream.value stream) };
 
@@ -210,13 +212,13 @@ impl<'a> Reported<'a> for MinidumpLinuxMaps<'a> {
         alloc: Global,
         f: &mut Told<W>,
     ) -> Result<(), Error> {
-        print_words("linux maps", alloc, f)
+        self.print(alloc, f)
     }
 }
 
 impl<'a> Reported<'a> for MinidumpHandleDataStream {
     ghost use Rattle.minidump.specs.Promise.{handle_data_stream};
-    ghost use Rattle.minidump.specs.StandIn.{handle_data_text};
+    ghost use Rattle.minidump_records.specs.Handles.{handle_data_text};
 
     ghost text = { λ dump stream. handle_data_text (handle_data_stream.value stream) };
 
@@ -226,13 +228,13 @@ impl<'a> Reported<'a> for MinidumpHandleDataStream {
         alloc: Global,
         f: &mut Told<W>,
     ) -> Result<(), Error> {
-        print_words("handle data", alloc, f)
+        self.print(alloc, f)
     }
 }
 
 impl<'a> Reported<'a> for MinidumpBreakpadInfo {
     ghost use Rattle.minidump.specs.Promise.{breakpad_info_stream};
-    ghost use Rattle.minidump.specs.StandIn.{breakpad_info_text};
+    ghost use Rattle.minidump_records.specs.BreakpadInfo.{breakpad_info_text};
 
     ghost text = { λ dump stream. breakpad_info_text (breakpad_info_stream.value stream) };
 
@@ -242,13 +244,13 @@ impl<'a> Reported<'a> for MinidumpBreakpadInfo {
         alloc: Global,
         f: &mut Told<W>,
     ) -> Result<(), Error> {
-        print_words("breakpad info", alloc, f)
+        self.print(alloc, f)
     }
 }
 
 impl<'a> Reported<'a> for MinidumpAssertion {
     ghost use Rattle.minidump.specs.Promise.{assertion_stream};
-    ghost use Rattle.minidump.specs.StandIn.{assertion_text};
+    ghost use Rattle.minidump_records.specs.Assertion.{assertion_text};
 
     ghost text = { λ dump stream. assertion_text (assertion_stream.value stream) };
 
@@ -258,13 +260,13 @@ impl<'a> Reported<'a> for MinidumpAssertion {
         alloc: Global,
         f: &mut Told<W>,
     ) -> Result<(), Error> {
-        print_words("assertion", alloc, f)
+        self.print(alloc, f)
     }
 }
 
 impl<'a> Reported<'a> for MinidumpCrashpadInfo {
     ghost use Rattle.minidump.specs.Promise.{crashpad_info_stream};
-    ghost use Rattle.minidump.specs.StandIn.{crashpad_info_text};
+    ghost use Rattle.minidump_records.specs.Crashpad.Text.{crashpad_info_text};
 
     ghost text = { λ dump stream. crashpad_info_text (crashpad_info_stream.value stream) };
 
@@ -274,13 +276,13 @@ impl<'a> Reported<'a> for MinidumpCrashpadInfo {
         alloc: Global,
         f: &mut Told<W>,
     ) -> Result<(), Error> {
-        print_words("crashpad info", alloc, f)
+        self.print(alloc, f)
     }
 }
 
 impl<'a> Reported<'a> for MinidumpMacCrashInfo {
     ghost use Rattle.minidump.specs.Promise.{mac_crash_info_stream};
-    ghost use Rattle.minidump.specs.StandIn.{mac_crash_info_text};
+    ghost use Rattle.minidump_records.specs.MacCrashInfo.Text.{mac_crash_info_text};
 
     ghost text = { λ dump stream. mac_crash_info_text (mac_crash_info_stream.value stream) };
 
@@ -290,13 +292,13 @@ impl<'a> Reported<'a> for MinidumpMacCrashInfo {
         alloc: Global,
         f: &mut Told<W>,
     ) -> Result<(), Error> {
-        print_words("mac crash info", alloc, f)
+        self.print(alloc, f)
     }
 }
 
 impl<'a> Reported<'a> for MinidumpMacBootargs {
     ghost use Rattle.minidump.specs.Promise.{mac_bootargs_stream};
-    ghost use Rattle.minidump.specs.StandIn.{mac_bootargs_text};
+    ghost use Rattle.minidump_records.specs.BootArgs.{mac_bootargs_text};
 
     ghost text = { λ dump stream. mac_bootargs_text (mac_bootargs_stream.value stream) };
 
@@ -306,13 +308,13 @@ impl<'a> Reported<'a> for MinidumpMacBootargs {
         alloc: Global,
         f: &mut Told<W>,
     ) -> Result<(), Error> {
-        print_words("mac bootargs", alloc, f)
+        self.print(alloc, f)
     }
 }
 
 impl<'a> Reported<'a> for MinidumpLinuxCpuInfo<'a> {
     ghost use Rattle.minidump.specs.Promise.{linux_cpu_info_stream};
-    ghost use Rattle.minidump.specs.StandIn.{linux_cpu_info_text};
+    ghost use Rattle.minidump_records.specs.Linux.Text.{linux_cpu_info_text};
 
     ghost text = { λ dump stream. linux_cpu_info_text (linux_cpu_info_stream.value stream) };
 
@@ -322,13 +324,13 @@ impl<'a> Reported<'a> for MinidumpLinuxCpuInfo<'a> {
         alloc: Global,
         f: &mut Told<W>,
     ) -> Result<(), Error> {
-        print_words("linux cpu info", alloc, f)
+        self.print(alloc, f)
     }
 }
 
 impl<'a> Reported<'a> for MinidumpLinuxProcStatus<'a> {
     ghost use Rattle.minidump.specs.Promise.{linux_proc_status_stream};
-    ghost use Rattle.minidump.specs.StandIn.{linux_proc_status_text};
+    ghost use Rattle.minidump_records.specs.Linux.Text.{linux_proc_status_text};
 
     ghost text = { λ dump stream. linux_proc_status_text (linux_proc_status_stream.value stream) };
 
@@ -338,13 +340,13 @@ impl<'a> Reported<'a> for MinidumpLinuxProcStatus<'a> {
         alloc: Global,
         f: &mut Told<W>,
     ) -> Result<(), Error> {
-        print_words("linux proc status", alloc, f)
+        self.print(alloc, f)
     }
 }
 
 impl<'a> Reported<'a> for MinidumpLinuxLsbRelease<'a> {
     ghost use Rattle.minidump.specs.Promise.{linux_lsb_release_stream};
-    ghost use Rattle.minidump.specs.StandIn.{linux_lsb_release_text};
+    ghost use Rattle.minidump_records.specs.Linux.Text.{linux_lsb_release_text};
 
     ghost text = { λ dump stream. linux_lsb_release_text (linux_lsb_release_stream.value stream) };
 
@@ -354,13 +356,13 @@ impl<'a> Reported<'a> for MinidumpLinuxLsbRelease<'a> {
         alloc: Global,
         f: &mut Told<W>,
     ) -> Result<(), Error> {
-        print_words("linux lsb release", alloc, f)
+        self.print(alloc, f)
     }
 }
 
 impl<'a> Reported<'a> for MinidumpLinuxEnviron<'a> {
     ghost use Rattle.minidump.specs.Promise.{linux_environ_stream};
-    ghost use Rattle.minidump.specs.StandIn.{linux_environ_text};
+    ghost use Rattle.minidump_records.specs.Linux.Text.{linux_environ_text};
 
     ghost text = { λ dump stream. linux_environ_text (linux_environ_stream.value stream) };
 
@@ -370,13 +372,13 @@ impl<'a> Reported<'a> for MinidumpLinuxEnviron<'a> {
         alloc: Global,
         f: &mut Told<W>,
     ) -> Result<(), Error> {
-        print_words("linux environ", alloc, f)
+        self.print(alloc, f)
     }
 }
 
 impl<'a> Reported<'a> for MinidumpLinuxProcLimits<'a> {
     ghost use Rattle.minidump.specs.Promise.{linux_proc_limits_stream};
-    ghost use Rattle.minidump.specs.StandIn.{linux_proc_limits_text};
+    ghost use Rattle.minidump_records.specs.Linux.Text.{linux_proc_limits_text};
 
     ghost text = { λ dump stream. linux_proc_limits_text (linux_proc_limits_stream.value stream) };
 
@@ -386,13 +388,13 @@ impl<'a> Reported<'a> for MinidumpLinuxProcLimits<'a> {
         alloc: Global,
         f: &mut Told<W>,
     ) -> Result<(), Error> {
-        print_words("linux proc limits", alloc, f)
+        self.print(alloc, f)
     }
 }
 
 impl<'a> Reported<'a> for MinidumpSoftErrors<'a> {
     ghost use Rattle.minidump.specs.Promise.{soft_errors_stream};
-    ghost use Rattle.minidump.specs.StandIn.{soft_errors_text};
+    ghost use Rattle.minidump_records.specs.SoftErrors.{soft_errors_text};
 
     ghost text = { λ dump stream. soft_errors_text (soft_errors_stream.value stream) };
 
@@ -402,13 +404,13 @@ impl<'a> Reported<'a> for MinidumpSoftErrors<'a> {
         alloc: Global,
         f: &mut Told<W>,
     ) -> Result<(), Error> {
-        print_words("soft errors", alloc, f)
+        self.print(alloc, f)
     }
 }
 
 impl<'a> Reported<'a> for StabilityReport {
     ghost use Rattle.minidump.specs.Promise.{stability_report_stream};
-    ghost use Rattle.minidump.specs.StandIn.{stability_report_text};
+    ghost use Rattle.minidump_stability.specs.ReportText.{stability_report_text};
 
     ghost text = { λ dump stream. stability_report_text (stability_report_stream.value stream) };
 
@@ -418,6 +420,6 @@ impl<'a> Reported<'a> for StabilityReport {
         alloc: Global,
         f: &mut Told<W>,
     ) -> Result<(), Error> {
-        print_words("stability report", alloc, f)
+        self.print(alloc, f)
     }
 }

@@ -5,7 +5,11 @@ ghost use Rattle.minidump_bytes.specs.Steps.{after};
 ghost use Rattle.minidump_context.specs.declared.validity.MinidumpContextValidity.TheVariants.{All};
 ghost use Rattle.minidump_memory.specs.Memory.{memory_of, spans_read};
 ghost use Rattle.minidump_memory.specs.Unified.{unified_list, unified_region};
-ghost use Rattle.minidump.specs.Thread.{IsErrorIn, IsStack, accepted_context, error_at, last_error_address, thread_at, thread_of};
+ghost use Rattle.minidump.specs.Thread.{IsErrorIn, IsStack, accepted_context, error_at, known_context, last_error_address, thread_at, thread_of};
+ghost use Rattle.minidump_system.specs.SystemInfo.{system_info_of};
+
+mod print;
+mod stack;
 
 use minidump_bytes::{Endian, Source, Steps};
 use minidump_context::MinidumpContext;
@@ -130,6 +134,19 @@ fn error_at(
 {
     let code = region?.get_memory_at_address(address)?;
     Some(CrashReason::from_windows_error(code, names))
+}
+
+// Decodes the context that bytes are on the machine of a dump, or returns `None` if that is unknown, too.
+pub(crate) fn known_context(
+    bytes: Option<&[u8]>,
+    endian: Endian,
+    system: Option<&MinidumpSystemInfo>,
+    misc: Option<&MinidumpMiscInfo>,
+) -> Option<MinidumpContext>
+    ensures { option_map (λ c. c.raw) result
+        ≡ known_context (option_map system_info_of (option_copied system.entry)) endian (option_copied bytes.entry) }
+{
+    accepted_context(bytes, endian, system?, misc)
 }
 
 // Decodes the context that bytes are, or returns `None` if there are none or they are no context.

@@ -4,15 +4,21 @@ ghost use Rattle.std.specs.Option.{option_copied, option_map};
 ghost use Rattle.minidump_bytes.specs.Source.{bytes_of};
 ghost use Rattle.minidump_bytes.specs.Steps.{after};
 ghost use Rattle.minidump_format.specs.StreamType.{number_of};
+ghost use Rattle.minidump_format.specs.Print.{Prints};
+ghost use Rattle.minidump_system.specs.SystemInfo.{system_info_of};
+ghost use Rattle.minidump_memory.specs.Unified.{unified_list};
 ghost use Rattle.minidump.specs.Thread.{IsLastThread, thread_reads, thread_at, thread_of, thread_list_of, thread_list_stream};
+ghost use Rattle.minidump.specs.ThreadText.{place_line, placed_thread_text, thread_list_heading, thread_list_text, threads_from};
 
 use crate::MinidumpThread;
-use minidump_bytes::{Endian, Entries, Source, Steps};
-use minidump_format::Error;
+use minidump_bytes::{Endian, Entries, Piece, Source, Steps, Told, push_pieces};
 use minidump_format::format::MINIDUMP_THREAD;
+use minidump_format::{Error, Pushed, print_item};
+use minidump_memory::UnifiedMemoryList;
 use minidump_system::framing::plain_entries;
-use minidump_system::{MinidumpStream, MinidumpSystemInfo};
+use minidump_system::{MinidumpMiscInfo, MinidumpStream, MinidumpSystemInfo};
 use std::alloc::{AllocError, Global};
+use std::io::Write;
 
 /// The threads of a process, in the order of the file.
 #[derive(Drop)]
@@ -35,6 +41,147 @@ impl<'a> MinidumpThreadList<'a> {
         ensures { option_copied result ≡ find (λ t. t.raw.thread_id == id) (reverse self.now.threads.items) }
     {
         self.threads.iter().rev().find(|t| t.raw.thread_id == id)
+    }
+
+    /// Prints the number of threads, and each thread behind a line with its place, as
+    /// [`MinidumpThread::print`] does.
+    pub fn print<W: Write>(
+        &self,
+        alloc: Global,
+        f: &mut Told<W>,
+        memory: Option<&UnifiedMemoryList<'a>>,
+        system: Option<&MinidumpSystemInfo>,
+        misc: Option<&MinidumpMiscInfo>,
+        brief: bool,
+    ) -> Result<(), Error>
+        ensures { Prints W.contents f.old f.new (thread_list_text (option_map unified_list (option_copied memory.entry))
+            (option_map system_info_of (option_copied system.entry)) brief (thread_list_stream.value self.now)) result }
+    {
+        print_all(&self.threads, alloc, f, memory, system, misc, brief)
+    }
+}
+
+#[tactic(auto, using(minidump_format::proofs::Printing::prints_then, minidump_format::proofs::Printing::prints_exit))]
+fn print_all<'a, W: Write>(
+    threads: &[MinidumpThread<'a>],
+    alloc: Global,
+    f: &mut Told<W>,
+    memory: Option<&UnifiedMemoryList<'a>>,
+    system: Option<&MinidumpSystemInfo>,
+    misc: Option<&MinidumpMiscInfo>,
+    brief: bool,
+) -> Result<(), Error>
+    ensures { Prints W.contents f.old f.new (thread_list_text (option_map unified_list (option_copied memory.entry))
+        (option_map system_info_of (option_copied system.entry)) brief (map thread_of threads.now)) result }
+{
+    print_heading(threads, alloc, f)?;
+    print_threads(threads, alloc, f, memory, system, misc, brief)
+}
+
+fn print_heading<W: Write>(
+    threads: &[MinidumpThread<'_>],
+    alloc: Global,
+    f: &mut Told<W>,
+) -> Result<(), Error>
+    ensures { Prints W.contents f.old f.new (thread_list_heading (length (map thread_of threads.now))) result }
+{
+    print_item(&Heading(threads.len()), alloc, f)
+}
+
+#[derive(Clone, Copy)]
+struct Heading(usize);
+
+impl Pushed for Heading {
+    ghost use Rattle.minidump.specs.ThreadText.{thread_list_heading};
+
+    ghost text = { λ heading. thread_list_heading heading.0 };
+
+    #[tactic(auto, unfolding(crate::specs::ThreadText::thread_list_heading))]
+    fn push(&self, out: &mut Vec<u8>) -> Result<(), AllocError> {
+        push_pieces(
+            out,
+            &[
+                Piece::Words("MinidumpThreadList\n  thread_count = "),
+                Piece::Decimal(self.0 as u64),
+                Piece::Words("\n\n"),
+            ],
+        )
+    }
+}
+
+// Prints threads, each behind a line with its place.
+fn print_threads<'a, W: Write>(
+    threads: &[MinidumpThread<'a>],
+    alloc: Global,
+    f: &mut Told<W>,
+    memory: Option<&UnifiedMemoryList<'a>>,
+    system: Option<&MinidumpSystemInfo>,
+    misc: Option<&MinidumpMiscInfo>,
+    brief: bool,
+) -> Result<(), Error>
+    ensures { Prints W.contents f.old f.new (threads_from (option_map unified_list (option_copied memory.entry))
+        (option_map system_info_of (option_copied system.entry)) brief 0 (map thread_of threads.now)) result }
+{
+    if f.failed() {
+        return Err(Error::IoError);
+    }
+    for place in 0..threads.len() {
+        print_placed(
+            place,
+            &threads[place],
+            alloc,
+            f,
+            memory,
+            system,
+            misc,
+            brief,
+        )?;
+    }
+    Ok(())
+}
+
+#[tactic(auto, unfolding(crate::specs::ThreadText::placed_thread_text), using(minidump_format::proofs::Printing::prints_then, minidump_format::proofs::Printing::prints_exit))]
+fn print_placed<'a, W: Write>(
+    place: usize,
+    thread: &MinidumpThread<'a>,
+    alloc: Global,
+    f: &mut Told<W>,
+    memory: Option<&UnifiedMemoryList<'a>>,
+    system: Option<&MinidumpSystemInfo>,
+    misc: Option<&MinidumpMiscInfo>,
+    brief: bool,
+) -> Result<(), Error>
+    ensures { Prints W.contents f.old f.new (placed_thread_text (option_map unified_list (option_copied memory.entry))
+        (option_map system_info_of (option_copied system.entry)) brief place (thread_of thread.now)) result }
+{
+    print_place(place, alloc, f)?;
+    thread.print(alloc, f, memory, system, misc, brief)
+}
+
+fn print_place<W: Write>(place: usize, alloc: Global, f: &mut Told<W>) -> Result<(), Error>
+    ensures { Prints W.contents f.old f.new (place_line place) result }
+{
+    print_item(&Place(place), alloc, f)
+}
+
+#[derive(Clone, Copy)]
+struct Place(usize);
+
+impl Pushed for Place {
+    ghost use Rattle.minidump.specs.ThreadText.{place_line};
+
+    ghost text = { λ place. place_line place.0 };
+
+    #[tactic(auto, unfolding(crate::specs::ThreadText::place_line))]
+    fn push(&self, out: &mut Vec<u8>) -> Result<(), AllocError> {
+        push_pieces(
+            out,
+            &[
+                Piece::Words("thread["),
+                Piece::Decimal(self.0 as u64),
+                Piece::Words("]\n"),
+            ],
+        )
     }
 }
 

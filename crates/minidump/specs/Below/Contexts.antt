@@ -5,3 +5,4 @@ pub use Rattle.minidump_context.specs.Amd64
 pub use Rattle.minidump_context.specs.Arm
 pub use Rattle.minidump_context.specs.Arm64
 pub use Rattle.minidump_context.specs.Context
+pub use Rattle.minidump_context.specs.Text

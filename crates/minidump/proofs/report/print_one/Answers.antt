@@ -1,11 +1,23 @@
 -- Each section is the stream of its type, with the texts of its values.
 use Rattle.std.proofs.Common.{refl}
-use Rattle.minidump.specs.StandIn.{exception_text, thread_list_text, thread_names_text, thread_info_list_text, module_list_text, unloaded_module_list_text}
-use Rattle.minidump.specs.StandIn.{memory64_list_text, memory_list_text, memory_info_list_text, linux_maps_text, handle_data_text, breakpad_info_text}
-use Rattle.minidump.specs.StandIn.{assertion_text, crashpad_info_text, mac_crash_info_text, mac_bootargs_text, linux_cpu_info_text, linux_proc_status_text}
-use Rattle.minidump.specs.StandIn.{linux_lsb_release_text, linux_environ_text, linux_proc_limits_text, soft_errors_text, stability_report_text}
+use Rattle.minidump.specs.StandIn.{exception_text, thread_list_text}
+use Rattle.minidump_memory.specs.InfoText.{memory_info_list_text, linux_maps_text}
+use Rattle.minidump_memory.specs.MemoryText.{memory64_list_text, memory_list_text}
+use Rattle.minidump_modules.specs.ModuleText.{module_list_text, unloaded_module_list_text}
+use Rattle.minidump_records.specs.Assertion.{assertion_text}
+use Rattle.minidump_records.specs.BootArgs.{mac_bootargs_text}
+use Rattle.minidump_records.specs.BreakpadInfo.{breakpad_info_text}
+use Rattle.minidump_records.specs.Crashpad.Text.{crashpad_info_text}
+use Rattle.minidump_records.specs.Handles.{handle_data_text}
+use Rattle.minidump_records.specs.Linux.Text.{linux_cpu_info_text, linux_proc_status_text, linux_lsb_release_text, linux_environ_text, linux_proc_limits_text}
+use Rattle.minidump_records.specs.MacCrashInfo.Text.{mac_crash_info_text}
+use Rattle.minidump_records.specs.SoftErrors.{soft_errors_text}
+use Rattle.minidump_records.specs.ThreadInfo.{thread_info_list_text}
+use Rattle.minidump_records.specs.ThreadNames.{thread_names_text}
+use Rattle.minidump_stability.specs.ReportText.{stability_report_text}
 use Rattle.minidump_system.specs.MiscInfo.{misc_info_text}
 use Rattle.minidump_system.specs.SystemInfo.{system_info_text}
+use Rattle.std.specs.Prelude.{true}
 use Rattle.minidump.specs.Dump.{dump_system}
 use Rattle.minidump.specs.DumpValue.{dump_of}
 use Rattle.minidump.specs.Memory.{memories_of_dump}
@@ -36,10 +48,10 @@ pub returns-in-UnloadedModuleList : goal.returns-in-UnloadedModuleList
 returns-in-UnloadedModuleList g c = rw c.in-UnloadedModuleList.is (c.print_section-in-UnloadedModuleList.ensures unloaded_module_list_text (λ stream. refl))
 
 pub returns-in-Memory64List : goal.returns-in-Memory64List
-returns-in-Memory64List g c = rw c.in-Memory64List.is (c.print_section-in-Memory64List.ensures memory64_list_text (λ stream. refl))
+returns-in-Memory64List g c = rw c.in-Memory64List.is (c.print_section-in-Memory64List.ensures (memory64_list_text true) (λ stream. refl))
 
 pub returns-in-MemoryList : goal.returns-in-MemoryList
-returns-in-MemoryList g c = rw c.in-MemoryList.is (c.print_section-in-MemoryList.ensures memory_list_text (λ stream. refl))
+returns-in-MemoryList g c = rw c.in-MemoryList.is (c.print_section-in-MemoryList.ensures (memory_list_text true) (λ stream. refl))
 
 pub returns-in-MemoryInfoList : goal.returns-in-MemoryInfoList
 returns-in-MemoryInfoList g c = rw c.in-MemoryInfoList.is (c.print_section-in-MemoryInfoList.ensures memory_info_list_text (λ stream. refl))

@@ -1,0 +1,122 @@
+-- The printed texts of threads and of their list, with the context and the stack of each.
+use Rattle.std.specs.Prelude.{ℕ, ◌*◌, ◌/◌, Bool, List, [], ◌∷◌, ◌++◌, length, codes, Option, Some, None, if◌then◌else◌}
+use Rattle.std.specs.Fmt.{decimal}
+use Rattle.std.specs.List.{concat, enumerate_from, flat_map, range_with_len}
+use Rattle.std.specs.Option.{option_and_then}
+use Rattle.minidump_bytes.specs.declared.endian.Endian.{Endian}
+use Rattle.minidump_bytes.specs.Number.{number_at}
+use Rattle.minidump_bytes.specs.Piece.{hex, wide_hex}
+use Rattle.minidump_format.specs.declared.format.memory.MINIDUMP_MEMORY_DESCRIPTOR.{MINIDUMP_MEMORY_DESCRIPTOR}
+use Rattle.minidump_format.specs.declared.format.thread.MINIDUMP_THREAD.{MINIDUMP_THREAD}
+use Rattle.minidump_index.proofs.LookedUp.{looked_up}
+use Rattle.minidump_system.specs.Cpu.{width_of}
+use Rattle.minidump_system.specs.declared.cpu.PointerWidth.{PointerWidth}
+use Rattle.minidump_system.specs.declared.cpu.PointerWidth.TheVariants.{Bits32, Bits64, Unknown}
+use Rattle.minidump_system.specs.System.{System}
+use Rattle.minidump_context.specs.declared.raw_context.MinidumpRawContext.{MinidumpRawContext}
+use Rattle.minidump_context.specs.Text.{context_text}
+use Rattle.minidump_memory.specs.Memory.{MemoryRegion, region_range}
+use Rattle.minidump_memory.specs.Unified.{Memory, UnifiedRegion, UnifiedRegions, of_kind, unified_regions}
+use Rattle.minidump.specs.Thread.{Thread, known_context}
+
+-- MINIDUMP_THREAD: the numbers of the entry
+unfoldable pub thread_head : MINIDUMP_THREAD → List ℕ
+thread_head t = concat (
+    codes "MINIDUMP_THREAD\n"
+    ∷ codes "  thread_id                   = " ∷ hex t.thread_id ∷ codes "\n"
+    ∷ codes "  suspend_count               = " ∷ decimal t.suspend_count ∷ codes "\n"
+    ∷ codes "  priority_class              = " ∷ hex t.priority_class ∷ codes "\n"
+    ∷ codes "  priority                    = " ∷ hex t.priority ∷ codes "\n"
+    ∷ codes "  teb                         = " ∷ hex t.teb ∷ codes "\n"
+    ∷ codes "  stack.start_of_memory_range = " ∷ hex t.stack.start_of_memory_range ∷ codes "\n"
+    ∷ codes "  stack.memory.data_size      = " ∷ hex t.stack.memory.data_size ∷ codes "\n"
+    ∷ codes "  stack.memory.rva            = " ∷ hex t.stack.memory.rva ∷ codes "\n"
+    ∷ codes "  thread_context.data_size    = " ∷ hex t.thread_context.data_size ∷ codes "\n"
+    ∷ codes "  thread_context.rva          = " ∷ hex t.thread_context.rva ∷ codes "\n"
+    ∷ codes "\n"
+    ∷ [])
+
+-- the context
+unfoldable pub no_thread_context : List ℕ
+no_thread_context = codes "  (no context)\n\n"
+
+abbrev pub thread_context_text : Option MinidumpRawContext → List ℕ
+thread_context_text (Some c) = context_text c
+thread_context_text None = no_thread_context
+
+-- the bytes of a word: those of a pointer, and 8 where its width is unknown
+abbrev pub word_bytes : PointerWidth → ℕ
+word_bytes Bits32 = 4
+word_bytes Bits64 = 8
+word_bytes Unknown = 8
+
+-- a word of a stack, of so many bytes, behind its offset
+unfoldable pub word_line : ℕ → ℕ → ℕ → List ℕ
+word_line size offset word = concat (codes "    0x" ∷ wide_hex 8 offset ∷ codes ": 0x" ∷ wide_hex (2 * size) word ∷ codes "\n" ∷ [])
+
+-- the whole words of a stack; the bytes behind the last one are left out
+abbrev pub words_of : Endian → ℕ → List ℕ → List ℕ
+words_of order size bytes = flat_map (λ i. word_line size (size * i) (number_at order size (size * i) bytes)) (range_with_len 0 (length bytes / size))
+
+unfoldable pub words_text : Endian → PointerWidth → List ℕ → List ℕ
+words_text order width bytes = words_of order (word_bytes width) bytes
+
+unfoldable pub stack_heading : List ℕ
+stack_heading = codes "Stack\n"
+
+unfoldable pub no_stack : List ℕ
+no_stack = codes "No stack\n\n"
+
+unfoldable pub empty_line : List ℕ
+empty_line = codes "\n"
+
+abbrev pub stack_text : Endian → PointerWidth → Option UnifiedRegion → List ℕ
+stack_text order width (Some stack) = stack_heading ++ (words_text order width stack.bytes ++ empty_line)
+stack_text order width None = no_stack
+
+-- how wide a pointer is on the machine of a dump
+abbrev pub pointer_width : Option System → PointerWidth
+pointer_width (Some s) = width_of s.cpu
+pointer_width None = Unknown
+
+-- the stack of a thread: its own, else the region in a list of memory that the start of its stack lies in
+abbrev pub own_or : Option (MemoryRegion MINIDUMP_MEMORY_DESCRIPTOR) → Option UnifiedRegion → Option UnifiedRegion
+own_or (Some own) listed = Some (of_kind Memory own)
+own_or None listed = listed
+
+abbrev pub listed_stack : Option UnifiedRegions → ℕ → Option UnifiedRegion
+listed_stack memory address = option_and_then (λ m. looked_up region_range (unified_regions m) address) memory
+
+abbrev pub stack_of : Option UnifiedRegions → Thread → Option UnifiedRegion
+stack_of memory t = own_or t.stack (listed_stack memory t.raw.stack.start_of_memory_range)
+
+-- what stands behind the context: an empty line where the text is brief, else the stack
+abbrev pub thread_end : Bool → Endian → PointerWidth → Option UnifiedRegion → List ℕ
+thread_end brief order width stack = if brief then empty_line else stack_text order width stack
+
+-- a thread, by its context and its stack
+abbrev pub thread_with : Thread → Option MinidumpRawContext → Bool → PointerWidth → Option UnifiedRegion → List ℕ
+thread_with t context brief width stack =
+    (thread_head t.raw ++ thread_context_text context) ++ thread_end brief t.order width stack
+
+-- a thread, in the memory and on the machine of a dump
+abbrev pub thread_text : Option UnifiedRegions → Option System → Bool → Thread → List ℕ
+thread_text memory system brief t = thread_with t (known_context system t.order t.context) brief (pointer_width system) (stack_of memory t)
+
+-- a thread of a list, behind the line of its place
+unfoldable pub place_line : ℕ → List ℕ
+place_line place = concat (codes "thread[" ∷ decimal place ∷ codes "]\n" ∷ [])
+
+unfoldable pub placed_thread_text : Option UnifiedRegions → Option System → Bool → ℕ → Thread → List ℕ
+placed_thread_text memory system brief place t = place_line place ++ thread_text memory system brief t
+
+-- MINIDUMP_THREAD_LIST
+unfoldable pub thread_list_heading : ℕ → List ℕ
+thread_list_heading count = concat (codes "MinidumpThreadList\n  thread_count = " ∷ decimal count ∷ codes "\n\n" ∷ [])
+
+abbrev pub threads_from : Option UnifiedRegions → Option System → Bool → ℕ → List Thread → List ℕ
+threads_from memory system brief place threads =
+    flat_map (λ r. placed_thread_text memory system brief r.0 r.1) (enumerate_from place threads)
+
+abbrev pub thread_list_text : Option UnifiedRegions → Option System → Bool → List Thread → List ℕ
+thread_list_text memory system brief threads = thread_list_heading (length threads) ++ threads_from memory system brief 0 threads

@@ -1,0 +1,257 @@
+ghost use Rattle.std.specs.Prelude.{◌≡◌, ◌++◌, OnOk};
+ghost use Rattle.std.specs.Option.{option_copied, option_map};
+ghost use Rattle.minidump_format.specs.Print.{Prints};
+ghost use Rattle.minidump_system.specs.SystemInfo.{system_info_of};
+ghost use Rattle.minidump_memory.specs.Unified.{unified_list, unified_region};
+ghost use Rattle.minidump.specs.Thread.{thread_of};
+ghost use Rattle.minidump.specs.ThreadText.{empty_line, listed_stack, no_stack, no_thread_context, pointer_width, stack_heading, stack_of, stack_text, thread_context_text, thread_end, thread_head, thread_text, thread_with, words_text};
+
+use super::stack::print_words;
+use super::{MinidumpThread, known_context};
+use minidump_bytes::{Endian, Piece, Told, push_pieces};
+use minidump_context::MinidumpContext;
+use minidump_format::format::MINIDUMP_THREAD;
+use minidump_format::{Error, Pushed, print_item, put_text};
+use minidump_memory::{UnifiedMemory, UnifiedMemoryList};
+use minidump_system::{MinidumpMiscInfo, MinidumpSystemInfo, PointerWidth};
+use std::alloc::{AllocError, Global};
+use std::io::Write;
+
+impl<'a> MinidumpThread<'a> {
+    /// Prints the entry, the context as far as `system` decodes it, and unless `brief` is set the whole words of the
+    /// stack: the thread's own, else that of [`stack_memory`](MinidumpThread::stack_memory). A word has the size of a
+    /// pointer on the processor of `system`, and 8 bytes if that is unknown.
+    pub fn print<W: Write>(
+        &self,
+        alloc: Global,
+        f: &mut Told<W>,
+        memory: Option<&UnifiedMemoryList<'a>>,
+        system: Option<&MinidumpSystemInfo>,
+        misc: Option<&MinidumpMiscInfo>,
+        brief: bool,
+    ) -> Result<(), Error>
+        ensures { Prints W.contents f.old f.new (thread_text (option_map unified_list (option_copied memory.entry))
+            (option_map system_info_of (option_copied system.entry)) brief (thread_of self.now)) result }
+    {
+        let context = known_context(self.context, self.endian, system, misc);
+        let width = pointer_width(system);
+        let stack = self.stack_in(memory);
+        self.print_with(context, brief, width, stack, alloc, f)
+    }
+
+    // Returns the memory of the stack.
+    fn stack_in<'mem>(
+        &'mem self,
+        memory: Option<&'mem UnifiedMemoryList<'a>>,
+    ) -> Option<UnifiedMemory<'mem, 'a>>
+        ensures { option_map unified_region result
+            ≡ stack_of (option_map unified_list (option_copied memory.entry)) (thread_of self.now) }
+    {
+        match &self.stack {
+            Some(stack) => Some(UnifiedMemory::Memory(stack)),
+            None => listed_stack(memory, self.raw.stack.start_of_memory_range),
+        }
+    }
+
+    #[tactic(auto, using(minidump_format::proofs::Printing::prints_then, minidump_format::proofs::Printing::prints_exit))]
+    fn print_with<W: Write>(
+        &self,
+        context: Option<MinidumpContext>,
+        brief: bool,
+        width: PointerWidth,
+        stack: Option<UnifiedMemory<'_, '_>>,
+        alloc: Global,
+        f: &mut Told<W>,
+    ) -> Result<(), Error>
+        ensures { Prints W.contents f.old f.new (thread_with (thread_of self.now)
+            (option_map (λ c. c.raw) context) brief width (option_map unified_region stack.entry)) result }
+    {
+        print_head(&self.raw, context, alloc, f)?;
+        print_end(brief, self.endian, width, stack, alloc, f)
+    }
+}
+
+// Returns the region of a list of memory that an address lies in.
+fn listed_stack<'mem, 'a>(
+    memory: Option<&'mem UnifiedMemoryList<'a>>,
+    address: u64,
+) -> Option<UnifiedMemory<'mem, 'a>>
+    ensures { option_map unified_region result
+        ≡ listed_stack (option_map unified_list (option_copied memory.entry)) address }
+{
+    match memory {
+        Some(list) => list.memory_at_address(address),
+        None => None,
+    }
+}
+
+// Returns the width of a pointer on the machine of a dump.
+fn pointer_width(system: Option<&MinidumpSystemInfo>) -> PointerWidth
+    ensures { result ≡ pointer_width (option_map system_info_of (option_copied system.entry)) }
+{
+    match system {
+        Some(system) => system.cpu.pointer_width(),
+        None => PointerWidth::Unknown,
+    }
+}
+
+fn print_head<W: Write>(
+    raw: &MINIDUMP_THREAD,
+    context: Option<MinidumpContext>,
+    alloc: Global,
+    f: &mut Told<W>,
+) -> Result<(), Error>
+    ensures { Prints W.contents f.old f.new
+        (thread_head raw.now ++ thread_context_text (option_map (λ c. c.raw) context)) result }
+{
+    print_item(&ThreadHead { raw, context }, alloc, f)
+}
+
+// The entry of a thread, and its context.
+#[derive(Drop)]
+struct ThreadHead<'a> {
+    raw: &'a MINIDUMP_THREAD,
+    context: Option<MinidumpContext>,
+}
+
+impl<'a> Pushed for ThreadHead<'a> {
+    ghost text = { λ t. thread_head t.raw.now ++ thread_context_text (option_map (λ c. c.raw) t.context) };
+
+    fn push(&self, out: &mut Vec<u8>) -> Result<(), AllocError> {
+        push_entry(out, self.raw)?;
+        push_context(out, &self.context)
+    }
+}
+
+#[tactic(auto, unfolding(crate::specs::ThreadText::thread_head))]
+fn push_entry(out: &mut Vec<u8>, t: &MINIDUMP_THREAD) -> Result<(), AllocError>
+    ensures { OnOk result (out.new.items ≡ out.old.items ++ thread_head t.now) }
+{
+    push_pieces(
+        out,
+        &[
+            Piece::Words("MINIDUMP_THREAD\n  thread_id                   = "),
+            Piece::Hex(t.thread_id as u64),
+            Piece::Words("\n  suspend_count               = "),
+            Piece::Decimal(t.suspend_count as u64),
+            Piece::Words("\n  priority_class              = "),
+            Piece::Hex(t.priority_class as u64),
+            Piece::Words("\n  priority                    = "),
+            Piece::Hex(t.priority as u64),
+            Piece::Words("\n  teb                         = "),
+            Piece::Hex(t.teb),
+            Piece::Words("\n  stack.start_of_memory_range = "),
+            Piece::Hex(t.stack.start_of_memory_range),
+            Piece::Words("\n  stack.memory.data_size      = "),
+            Piece::Hex(t.stack.memory.data_size as u64),
+            Piece::Words("\n  stack.memory.rva            = "),
+            Piece::Hex(t.stack.memory.rva as u64),
+            Piece::Words("\n  thread_context.data_size    = "),
+            Piece::Hex(t.thread_context.data_size as u64),
+            Piece::Words("\n  thread_context.rva          = "),
+            Piece::Hex(t.thread_context.rva as u64),
+            Piece::Words("\n\n"),
+        ],
+    )
+}
+
+fn push_context(out: &mut Vec<u8>, context: &Option<MinidumpContext>) -> Result<(), AllocError>
+    ensures { OnOk result (out.new.items ≡ out.old.items
+        ++ thread_context_text (option_map (λ c. c.raw) context.now)) }
+{
+    match context {
+        Some(context) => context.push(out),
+        None => push_no_context(out),
+    }
+}
+
+#[tactic(auto, unfolding(crate::specs::ThreadText::no_thread_context))]
+fn push_no_context(out: &mut Vec<u8>) -> Result<(), AllocError>
+    ensures { OnOk result (out.new.items ≡ out.old.items ++ no_thread_context) }
+{
+    out.extend_from_slice(b"  (no context)\n\n")
+}
+
+fn print_end<W: Write>(
+    brief: bool,
+    endian: Endian,
+    width: PointerWidth,
+    stack: Option<UnifiedMemory<'_, '_>>,
+    alloc: Global,
+    f: &mut Told<W>,
+) -> Result<(), Error>
+    ensures { Prints W.contents f.old f.new
+        (thread_end brief endian width (option_map unified_region stack.entry)) result }
+{
+    if brief {
+        print_empty_line(f)
+    } else {
+        print_stack(endian, width, stack, alloc, f)
+    }
+}
+
+fn print_stack<W: Write>(
+    endian: Endian,
+    width: PointerWidth,
+    stack: Option<UnifiedMemory<'_, '_>>,
+    alloc: Global,
+    f: &mut Told<W>,
+) -> Result<(), Error>
+    ensures { Prints W.contents f.old f.new
+        (stack_text endian width (option_map unified_region stack.entry)) result }
+{
+    match stack {
+        Some(stack) => print_found_stack(stack.bytes(), endian, width, alloc, f),
+        None => print_no_stack(f),
+    }
+}
+
+#[tactic(auto, using(minidump_format::proofs::Printing::prints_then, minidump_format::proofs::Printing::prints_exit))]
+fn print_found_stack<W: Write>(
+    bytes: &[u8],
+    endian: Endian,
+    width: PointerWidth,
+    alloc: Global,
+    f: &mut Told<W>,
+) -> Result<(), Error>
+    ensures { Prints W.contents f.old f.new
+        (stack_heading ++ (words_text endian width bytes.now ++ empty_line)) result }
+{
+    print_stack_heading(f)?;
+    print_stack_lines(bytes, endian, width, alloc, f)
+}
+
+#[tactic(auto, using(minidump_format::proofs::Printing::prints_then, minidump_format::proofs::Printing::prints_exit))]
+fn print_stack_lines<W: Write>(
+    bytes: &[u8],
+    endian: Endian,
+    width: PointerWidth,
+    alloc: Global,
+    f: &mut Told<W>,
+) -> Result<(), Error>
+    ensures { Prints W.contents f.old f.new (words_text endian width bytes.now ++ empty_line) result }
+{
+    print_words(bytes, endian, width, alloc, f)?;
+    print_empty_line(f)
+}
+
+#[tactic(auto, unfolding(crate::specs::ThreadText::stack_heading))]
+fn print_stack_heading<W: Write>(f: &mut Told<W>) -> Result<(), Error>
+    ensures { Prints W.contents f.old f.new stack_heading result }
+{
+    put_text(f, "Stack\n")
+}
+
+#[tactic(auto, unfolding(crate::specs::ThreadText::no_stack))]
+fn print_no_stack<W: Write>(f: &mut Told<W>) -> Result<(), Error>
+    ensures { Prints W.contents f.old f.new no_stack result }
+{
+    put_text(f, "No stack\n\n")
+}
+
+#[tactic(auto, unfolding(crate::specs::ThreadText::empty_line))]
+fn print_empty_line<W: Write>(f: &mut Told<W>) -> Result<(), Error>
+    ensures { Prints W.contents f.old f.new empty_line result }
+{
+    put_text(f, "\n")
+}
