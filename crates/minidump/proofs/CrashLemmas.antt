@@ -1,5 +1,5 @@
 -- Lemmas on the last error of a thread.
-use Rattle.std.specs.Prelude.{◌≡◌, ℕ, ◌==◌, Bool, true, false, List, [], ◌∷◌, map, find, reverse, Option, Some, None, Ok, Err, Result}
+use Rattle.std.specs.Prelude.{◌≡◌, ℕ, Bool, true, false, List, [], ◌∷◌, map, find, reverse, Option, Some, None, Ok, Err, Result}
 use Rattle.std.proofs.Common.{refl, sym, ◌∙◌, ap, cond}
 use Rattle.std.proofs.lemmas.List.{reverse-append}
 use Rattle.std.specs.Option.{option_and_then, option_map, option_or}
