@@ -1,10 +1,10 @@
 -- Lemmas on the last error of a thread.
-use Rattle.std.specs.Prelude.{◌≡◌, ℕ, ◌==◌, Bool, true, false, List, [], ◌∷◌, map, find, reverse, Option, Some, None, Ok, Err, Result}
+use Rattle.std.specs.Prelude.{◌≡◌, ℕ, Bool, true, false, List, [], ◌∷◌, map, find, reverse, Option, Some, None, Ok, Err, Result}
 use Rattle.std.proofs.Common.{refl, sym, ◌∙◌, ap, cond}
 use Rattle.std.proofs.lemmas.List.{reverse-append}
 use Rattle.std.specs.Option.{option_and_then, option_map, option_or}
 use Rattle.std.proofs.lemmas.List.Folds.{find-append}
-use Rattle.minidump_index.proofs.LookedUp.{is_looked_up, looked_up}
+use Rattle.minidump_index.proofs.LookedUp.{is_looked_up}
 use Rattle.minidump_format.specs.declared.error.Error.{Error}
 use Rattle.minidump_memory.specs.Memory.{region_range}
 use Rattle.minidump_memory.specs.Unified.{UnifiedRegions, unified_regions}
@@ -15,15 +15,20 @@ use Rattle.minidump.specs.Crash.{error_in, last_with}
 use Rattle.minidump.specs.Thread.{IsErrorIn, Thread, error_at, last_error_address}
 
 -- the error at an address is one
-one_error : (names : Lists) (memory : UnifiedRegions) (address : Option ℕ) (found : Option CrashReason) → IsErrorIn names memory address found → found ≡ error_in names memory address
+one_error : (names : Lists) (memory : UnifiedRegions) (address : Option ℕ) (found : Option CrashReason) → IsErrorIn names memory address found
+    → found ≡ error_in names memory address
 one_error names memory None found is = is
-one_error names memory (Some address) found (region, looks, is) = is ∙ ap (λ r. error_at names address r) (is_looked_up region_range (unified_regions memory) address region looks)
+one_error names memory (Some address) found (region, looks, is) =
+    is ∙ ap (λ r. error_at names address r) (is_looked_up region_range (unified_regions memory) address region looks)
 
 -- the last error of the last thread of an id
-pub thread_error : (names : Lists) (cpu : Cpu) (id : ℕ) (lists : Option (List Thread)) (memories : Option UnifiedRegions) (list : List Thread) (thread : Thread) (memory : UnifiedRegions)
-    (found : Option CrashReason) → lists ≡ Some list → last_with id list ≡ Some thread → memories ≡ Some memory → IsErrorIn names memory (last_error_address cpu thread.raw.teb) found
-    → found ≡ option_and_then (λ threads. option_and_then (λ t. option_and_then (λ m. error_in names m (last_error_address cpu t.raw.teb)) memories) (last_with id threads)) lists
-thread_error names cpu id lists memories list thread memory found listed last held is = rw (listed, last, held) (one_error names memory (last_error_address cpu thread.raw.teb) found is)
+pub thread_error : (names : Lists) (cpu : Cpu) (id : ℕ) (lists : Option (List Thread)) (memories : Option UnifiedRegions)
+    (list : List Thread) (thread : Thread) (memory : UnifiedRegions) (found : Option CrashReason)
+    → lists ≡ Some list → last_with id list ≡ Some thread → memories ≡ Some memory → IsErrorIn names memory (last_error_address cpu thread.raw.teb) found
+    → found ≡ option_and_then (λ threads. option_and_then (λ t. option_and_then (λ m. error_in names m (last_error_address cpu t.raw.teb)) memories)
+    (last_with id threads)) lists
+thread_error names cpu id lists memories list thread memory found listed last held is =
+    rw (listed, last, held) (one_error names memory (last_error_address cpu thread.raw.teb) found is)
 
 abbrev value_or : {V : Type 0} → V → Result V Error → V
 value_or x (Ok y) = y
@@ -44,5 +49,10 @@ module _ {A B : Type 0} (f : A → B) (p : B → Bool) where
   pub last_seen : (xs : List A) → option_map f (find (λ x. p (f x)) (reverse xs)) ≡ find p (reverse (map f xs))
   last_seen [] = refl
   last_seen (x ∷ xs) =
-      rw (reverse-append (x ∷ []) xs, find-append (λ y. p (f y)) (reverse xs) (x ∷ []), reverse-append (f x ∷ []) (map f xs), find-append p (reverse (map f xs)) (f x ∷ []))
+      rw (
+        reverse-append (x ∷ []) xs,
+        find-append (λ y. p (f y)) (reverse xs) (x ∷ []),
+        reverse-append (f x ∷ []) (map f xs),
+        find-append p (reverse (map f xs)) (f x ∷ []),
+      )
       (either (find (λ y. p (f y)) (reverse xs)) (find p (reverse (map f xs))) (p (f x)) x (last_seen xs))

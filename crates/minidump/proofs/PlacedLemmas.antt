@@ -10,7 +10,8 @@ use Rattle.minidump_format.proofs.Printing.{PutsAllBut, but_exit, but_next}
 
 module _ {A B : Type 0} (text : ℕ × B → List ℕ) (view : A → B) (xs : List A) (i : ℕ) where
   next_placed : (d : A) → i < length xs
-      → flat_map text (enumerate_from i (map view (drop i xs))) ≡ text (i, view (get_or xs i d)) ++ flat_map text (enumerate_from (i + 1) (map view (drop (i + 1) xs)))
+      → flat_map text (enumerate_from i (map view (drop i xs)))
+      ≡ text (i, view (get_or xs i d)) ++ flat_map text (enumerate_from (i + 1) (map view (drop (i + 1) xs)))
   next_placed d h =
       let e : suc i ≡ i + 1 = omega arith in
       ap (λ l. flat_map text (enumerate_from i (map view l))) (drop-cons xs i d h)
@@ -24,7 +25,8 @@ module _ {A B : Type 0} (text : ℕ × B → List ℕ) (view : A → B) (xs : Li
       but_next contents a b c all _ _ (subst (PutsAllBut contents a b all) (next_placed d h) before) put
 
   -- or printing it failed
-  pub not_placed : {D : Type 0} (contents : D → Option (List ℕ)) (a b c : Told D) (all : List ℕ) (r : Result (Unit {0}) Error) (e : Error) (d : A) → i < length xs
+  pub not_placed : {D : Type 0} (contents : D → Option (List ℕ)) (a b c : Told D) (all : List ℕ) (r : Result (Unit {0}) Error) (e : Error) (d : A)
+      → i < length xs
       → PutsAllBut contents a b all (flat_map text (enumerate_from i (map view (drop i xs)))) → IsErrAnd r (λ y. y ≡ e)
       → Prints contents b c (text (i, view (get_or xs i d))) (Err e) → Prints contents a c all r
   not_placed contents a b c all r e d h before exit refused =

@@ -12,7 +12,6 @@ pub mod Memory
 pub mod Thread
 pub mod ThreadText
 pub mod Exception
-pub mod StandIn
 pub mod Crash
 pub mod Report
 pub mod Below

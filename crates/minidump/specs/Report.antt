@@ -1,5 +1,5 @@
 -- The report on a minidump: what each type of stream adds to it, and its whole text.
-use Rattle.std.specs.Prelude.{◌≡◌, ◌⊎◌, ℕ, List, [], ◌∷◌, ◌++◌, codes, true, Option, Result, Ok, Err}
+use Rattle.std.specs.Prelude.{◌≡◌, ◌⊎◌, ℕ, List, [], ◌∷◌, ◌++◌, codes, false, true, Option, Result, Ok, Err}
 use Rattle.std.specs.List.{concat}
 use Rattle.minidump_bytes.specs.declared.told.Told.{Told}
 use Rattle.minidump_format.specs.declared.error.Error.{Error}
@@ -20,7 +20,8 @@ use Rattle.minidump.specs.Promise.{linux_environ_stream, linux_lsb_release_strea
 use Rattle.minidump.specs.Promise.{mac_bootargs_stream, mac_crash_info_stream, memory64_list_stream, memory_info_list_stream, memory_list_stream}
 use Rattle.minidump.specs.Promise.{misc_info_stream, module_list_stream, soft_errors_stream, stability_report_stream, system_info_stream}
 use Rattle.minidump.specs.Promise.{thread_info_list_stream, thread_list_stream, thread_names_stream, unloaded_module_list_stream}
-use Rattle.minidump.specs.StandIn.{exception_text, thread_list_text}
+use Rattle.minidump.specs.Exception.{exception_text}
+use Rattle.minidump.specs.ThreadText.{thread_list_text}
 use Rattle.minidump_memory.specs.InfoText.{memory_info_list_text, linux_maps_text}
 use Rattle.minidump_memory.specs.MemoryText.{memory64_list_text, memory_list_text}
 use Rattle.minidump_modules.specs.ModuleText.{module_list_text, unloaded_module_list_text}
@@ -56,13 +57,13 @@ reported name text (Err e) = unread_text name e
 abbrev pub section : {S V : Type 0} → StreamSpec S V → (V → List ℕ) → Dump → List ℕ
 section spec text dump = reported (shown_type (number_of spec.stream_type)) text (stream_of spec dump)
 
--- the streams that are read, in the order of the report
+-- the streams that are read, in the order of the report: threads not brief, with the memory that `get_memory` returns; both lists of memory brief
 unfoldable pub sections_text : Dump → List ℕ
 sections_text dump = concat (
     section system_info_stream system_info_text dump
     ∷ section misc_info_stream misc_info_text dump
     ∷ section exception_stream (exception_text (dump_system dump)) dump
-    ∷ section thread_list_stream (thread_list_text (memories_of_dump dump) (dump_system dump)) dump
+    ∷ section thread_list_stream (thread_list_text (memories_of_dump dump) (dump_system dump) false) dump
     ∷ section thread_names_stream thread_names_text dump
     ∷ section thread_info_list_stream thread_info_list_text dump
     ∷ section module_list_stream module_list_text dump
@@ -91,7 +92,7 @@ abbrev pub section_text : Dump → Section → List ℕ
 section_text dump part.SystemInfo = section system_info_stream system_info_text dump
 section_text dump part.MiscInfo = section misc_info_stream misc_info_text dump
 section_text dump part.Exception = section exception_stream (exception_text (dump_system dump)) dump
-section_text dump part.ThreadList = section thread_list_stream (thread_list_text (memories_of_dump dump) (dump_system dump)) dump
+section_text dump part.ThreadList = section thread_list_stream (thread_list_text (memories_of_dump dump) (dump_system dump) false) dump
 section_text dump part.ThreadNames = section thread_names_stream thread_names_text dump
 section_text dump part.ThreadInfoList = section thread_info_list_stream thread_info_list_text dump
 section_text dump part.ModuleList = section module_list_stream module_list_text dump

@@ -65,7 +65,6 @@ mod print;
 mod report;
 mod section;
 mod sections;
-mod stand_in;
 mod stream;
 mod streams;
 mod system;

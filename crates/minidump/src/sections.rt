@@ -1,9 +1,8 @@
 //! The text of each type of stream in a report.
 use crate::section::Reported;
-use crate::stand_in::print_words;
 use crate::{Minidump, MinidumpException, MinidumpThreadList};
 use minidump_bytes::Told;
-use minidump_format::Error;
+use minidump_format::{Error, no_memory};
 use minidump_memory::{
     MinidumpLinuxMaps, MinidumpMemory64List, MinidumpMemoryInfoList, MinidumpMemoryList,
 };
@@ -54,35 +53,42 @@ impl<'a> Reported<'a> for MinidumpMiscInfo {
 impl<'a> Reported<'a> for MinidumpException<'a> {
     ghost use Rattle.minidump.specs.Dump.{dump_system};
     ghost use Rattle.minidump.specs.Promise.{exception_stream};
-    ghost use Rattle.minidump.specs.StandIn.{exception_text};
+    ghost use Rattle.minidump.specs.Exception.{exception_text};
 
     ghost text = { λ dump stream. exception_text (dump_system dump) (exception_stream.value stream) };
 
     fn print_in<W: Write>(
         &self,
-        _dump: &Minidump<'a>,
+        dump: &Minidump<'a>,
         alloc: Global,
         f: &mut Told<W>,
     ) -> Result<(), Error> {
-        print_words("exception", alloc, f)
+        self.print(alloc, f, dump.system_info.as_ref(), None)
     }
 }
 
 impl<'a> Reported<'a> for MinidumpThreadList<'a> {
+    ghost use Rattle.std.specs.Prelude.{false};
     ghost use Rattle.minidump.specs.Dump.{dump_system};
     ghost use Rattle.minidump.specs.Memory.{memories_of_dump};
     ghost use Rattle.minidump.specs.Promise.{thread_list_stream};
-    ghost use Rattle.minidump.specs.StandIn.{thread_list_text};
+    ghost use Rattle.minidump.specs.ThreadText.{thread_list_text};
 
-    ghost text = { λ dump stream. thread_list_text (memories_of_dump dump) (dump_system dump) (thread_list_stream.value stream) };
+    ghost text = { λ dump stream. thread_list_text (memories_of_dump dump) (dump_system dump) false (thread_list_stream.value stream) };
 
     fn print_in<W: Write>(
         &self,
-        _dump: &Minidump<'a>,
+        dump: &Minidump<'a>,
         alloc: Global,
         f: &mut Told<W>,
     ) -> Result<(), Error> {
-        print_words("thread list", alloc, f)
+        match dump.get_memory(alloc) {
+            Ok(memory) => {
+                let system = dump.system_info.as_ref();
+                self.print(alloc, f, memory.as_ref(), system, None, false)
+            }
+            Err(_) => Err(no_memory(f)),
+        }
     }
 }
 

@@ -7,4 +7,6 @@ use Rattle.minidump.specs.DumpValue.{dump_of}
 use Rattle.minidump.proofs.report.print_each.Given as goal
 
 abbrev pub invariant-loop-section : goal.invariant-loop-section
-invariant-loop-section g l = PutsAllBut g.W.Write.contents l.fn.f l.f (flat_map (section_text (dump_of l.dump)) l.sections) (flat_map (section_text (dump_of l.dump)) (drop l.section-index l.sections))
+invariant-loop-section g l =
+    PutsAllBut g.W.Write.contents l.fn.f l.f (flat_map (section_text (dump_of l.dump)) l.sections)
+    (flat_map (section_text (dump_of l.dump)) (drop l.section-index l.sections))

@@ -5,4 +5,5 @@ use Rattle.minidump.proofs.thread.stack.push_word_64.Goals as goal
 
 pub returns-then-offset-lt4294967296 : goal.returns-then-offset-lt4294967296
 returns-then-offset-lt4294967296 c =
-    rw (near_64 c.args.offset c.args.word (omega (arith, c.if-offset-lt4294967296.true)) (omega (arith, c.ranges.word.fits)), ← c.near_word_64.ensures) (search rules)
+    let near = near_64 c.args.offset c.args.word (omega (arith, c.if-offset-lt4294967296.true)) (omega (arith, c.ranges.word.fits)) in
+    rw (near, ← c.near_word_64.ensures) (search rules)
