@@ -1,10 +1,10 @@
-use super::{region, region_64};
+use super::{Listed, region, region_64};
 use crate::given::BOTH;
-use minidump_bytes::{Endian, FixedRead};
+use minidump_bytes::{Endian, FixedRead, Told};
 use minidump_format::Error;
 use minidump_format::format::{MINIDUMP_LOCATION_DESCRIPTOR, MINIDUMP_MEMORY_DESCRIPTOR};
-use minidump_memory::{MinidumpMemory, UnifiedMemory};
-use std::alloc::AllocError;
+use minidump_memory::{MinidumpMemory, UnifiedMemory, UnifiedMemoryList};
+use std::alloc::{AllocError, Global};
 use std::test::Fail;
 
 const FILE: &[u8] = &[0, 1, 2, 3, 4, 5, 6, 7];
@@ -132,4 +132,51 @@ fn a_number_is_read_where_the_region_holds_it_whole(rt: HostRuntime) {
         assert!(rt; holds(Endian::Little, *address, want), "at {address}");
     }
     assert!(rt; all_hold(HALVES) && all_hold(WORDS) && all_hold(LONGS) && all_hold(LONGEST));
+}
+
+// A list of one region of 15 bytes, with them, of either kind.
+const PRINTED: &str = "MinidumpMemoryList
+  region_count = 1
+
+region[0]
+MINIDUMP_MEMORY_DESCRIPTOR
+  start_of_memory_range = 0x1000
+  memory.data_size      = 0xf
+  memory.rva            = 0x20
+Memory
+    00000000: 6d 65 6d 6f 72 79 5f 63 6f 6e 74 65 6e 74 73    memory_contents
+
+";
+
+const PRINTED_64: &str = "MinidumpMemory64List
+  region_count = 1
+
+region[0]
+MINIDUMP_MEMORY_DESCRIPTOR64
+  start_of_memory_range = 0x1000
+  memory.data_size      = 0xf
+Memory
+    00000000: 6d 65 6d 6f 72 79 5f 63 6f 6e 74 65 6e 74 73    memory_contents
+
+";
+
+fn prints(alloc: Global, list: &UnifiedMemoryList<'_>, text: &str) -> Result<bool, Error> {
+    let mut f = Told::new(Vec::new(alloc));
+    list.print(alloc, &mut f, false)?;
+    Ok(f.into_device().as_slice() == text.as_bytes())
+}
+
+fn prints_the_bytes(alloc: Global) -> Result<bool, Error> {
+    let row: &[(u64, &[u8])] = &[(0x1000, b"memory_contents")];
+    let plain = Listed::plain(alloc, Endian::Little, row)?;
+    let long = Listed::long(alloc, Endian::Little, row)?;
+    let plain = UnifiedMemoryList::Memory(plain.read(alloc)?);
+    let long = UnifiedMemoryList::Memory64(long.read(alloc)?);
+    Ok(prints(alloc, &plain, PRINTED)? && prints(alloc, &long, PRINTED_64)?)
+}
+
+#[test]
+fn a_list_prints_the_bytes_of_its_regions(rt: HostRuntime) -> Result<(), Fail> {
+    assert!(rt; prints_the_bytes(rt.alloc())?);
+    Ok(())
 }
