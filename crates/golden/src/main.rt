@@ -2,9 +2,9 @@
 //!
 //! For each file it writes a line `== FILE`, and then the error of a file that is no dump, or:
 //!
-//! - the header, the directory and the list of the streams, as `Minidump::print` does;
-//! - for each type of stream that the dump has, its print, if the type has one, and else a line with the name
-//!   of the type and `ok`; or the name of the type and the error, with its numbers.
+//! - the report, as `write_report` does without names of codes;
+//! - for each type of stream that the dump has, a line with the name of the type and `ok`, or its error, with its
+//!   numbers.
 //!
 //! Behind the line `== cuts` it writes a line for each file, and for some dumps that are made for it: how many lengths
 //! it can be cut to, how many of them are dumps, and how many of its streams are read. A length at which a read takes
@@ -17,7 +17,7 @@ mod cuts;
 mod streams;
 
 use anyhow::Result;
-use minidump::{Minidump, Told};
+use minidump::{CodeNames, Minidump, Told, write_report};
 use std::{env, fs};
 
 fn main(rt: HostRuntime) -> Result<()> {
@@ -25,11 +25,9 @@ fn main(rt: HostRuntime) -> Result<()> {
     for path in words.iter().skip(1) {
         let bytes = fs::read(&rt, path.as_str())?;
         println!(rt; "== {}", path.as_str())?;
-        match Minidump::read(rt.alloc(), &bytes) {
-            Ok(dump) => {
-                dump.print(rt.alloc(), &mut Told::new(rt.stdout()))?;
-                streams::print_all(&rt, &dump)?;
-            }
+        let mut out = Told::new(rt.stdout());
+        match write_report(rt.alloc(), &bytes, &CodeNames::empty(), &mut out) {
+            Ok(()) => streams::print_all(&rt, &Minidump::read(rt.alloc(), &bytes)?)?,
             Err(error) => println!(rt; "{error:?}")?,
         }
     }

@@ -6,19 +6,13 @@ use minidump::{
     MinidumpMacBootargs, MinidumpMacCrashInfo, MinidumpMemory64List, MinidumpMemoryInfoList,
     MinidumpMemoryList, MinidumpMiscInfo, MinidumpModuleList, MinidumpSoftErrors, MinidumpStream,
     MinidumpSystemInfo, MinidumpThreadInfoList, MinidumpThreadList, MinidumpThreadNames,
-    MinidumpUnloadedModuleList, StabilityReport, Told,
+    MinidumpUnloadedModuleList, StabilityReport,
 };
 
-/// Writes each stream of a dump whose type is read: its print, or that it is read, or its error.
+/// Writes a line for each type of stream that a dump has and that is read: that it is well-formed, or its error.
 pub fn print_all(rt: &HostRuntime, dump: &Minidump<'_>) -> Result<()> {
-    match dump.get_stream::<MinidumpSystemInfo>(rt.alloc()) {
-        Ok(system) => system.print(rt.alloc(), &mut Told::new(rt.stdout()))?,
-        Err(error) => print_error(rt, "SystemInfoStream", error)?,
-    }
-    match dump.get_stream::<MinidumpMiscInfo>(rt.alloc()) {
-        Ok(misc) => misc.print(rt.alloc(), &mut Told::new(rt.stdout()))?,
-        Err(error) => print_error(rt, "MiscInfoStream", error)?,
-    }
+    print_answer::<MinidumpSystemInfo>(rt, dump, "SystemInfoStream")?;
+    print_answer::<MinidumpMiscInfo>(rt, dump, "MiscInfoStream")?;
     print_lists(rt, dump)?;
     print_records(rt, dump)?;
     print_texts(rt, dump)
@@ -56,7 +50,7 @@ fn print_texts(rt: &HostRuntime, dump: &Minidump<'_>) -> Result<()> {
     print_answer::<MinidumpSoftErrors<'_>>(rt, dump, "MozSoftErrors")
 }
 
-// Writes a line for a type of stream that a dump has: that it is read, or its error.
+// Writes a line for a type of stream, but nothing where the dump has no such stream.
 fn print_answer<'a, S: MinidumpStream<'a> + Drop>(
     rt: &HostRuntime,
     dump: &Minidump<'a>,
@@ -64,15 +58,8 @@ fn print_answer<'a, S: MinidumpStream<'a> + Drop>(
 ) -> Result<()> {
     match dump.get_stream::<S>(rt.alloc()) {
         Ok(_) => println!(rt; "{name}: ok")?,
-        Err(error) => print_error(rt, name, error)?,
-    }
-    Ok(())
-}
-
-// Writes the error of a stream, but nothing where the dump has no such stream.
-fn print_error(rt: &HostRuntime, name: &str, error: Error) -> Result<()> {
-    if error != Error::StreamNotFound {
-        println!(rt; "{name}: {error:?}")?;
+        Err(Error::StreamNotFound) => {}
+        Err(error) => println!(rt; "{name}: {error:?}")?,
     }
     Ok(())
 }
