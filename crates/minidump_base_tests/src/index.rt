@@ -146,20 +146,19 @@ fn walks_from_both_ends(alloc: Global) -> Result<bool, Error> {
     )
 }
 
-// No address is the last one's successor, so a region never contains the last one.
-fn ranges_end_below_the_last_address() -> bool {
-    let last = u64::MAX - 1;
-    Range::from_size(u64::MAX, 1) == None
-        && Range::from_size(u64::MAX, 2) == None
+// A region may end at the last address, and none goes on beyond it.
+fn ranges_end_at_the_last_address() -> bool {
+    let last = u64::MAX;
+    Range::from_size(last, 1) == Some(Range::new(last, last))
+        && Range::from_size(last, 2) == None
+        && Range::from_size(1, last) == Some(Range::new(1, last))
+        && Range::from_size(2, last) == None
         && Range::from_size(0x10, 0) == None
-        && Range::from_size(last, 1) == Some(Range::new(last, last))
 }
 
 #[test]
 fn walks_and_ranges_end(rt: HostRuntime) {
-    assert!(rt;
-        walks_from_both_ends(rt.alloc()) == Ok(true) && ranges_end_below_the_last_address()
-    );
+    assert!(rt; walks_from_both_ends(rt.alloc()) == Ok(true) && ranges_end_at_the_last_address());
 }
 
 fn start_at(list: &RegionList<Option<Range>>, address: u64) -> Option<u64> {

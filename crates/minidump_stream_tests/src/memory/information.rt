@@ -157,17 +157,21 @@ fn information_has_four_sets_of_flags(rt: HostRuntime) -> Result<(), Fail> {
     Ok(())
 }
 
-// An address, and where the region at it begins.
+// An address, and where the region at it begins. The last ends at the last address.
 #[rattlefmt::skip]
 const FOUND: &[(u64, Option<u64>)] = &[
-    (0xfff, None), (0x1fff, Some(0x1000)), (0x2000, Some(0x2000)), (0x3000, None),
+    (0xfff, None), (0x1fff, Some(0x1000)), (0x2000, Some(0x2000)), (0x3000, None), (u64::MAX, Some(0x4000)),
 ];
 
 fn finds_the_entries(alloc: Global, endian: Endian) -> Result<bool, Error> {
     let bytes = written(
         alloc,
         endian,
-        &[entry(0x2000, 0x1000, 4), entry(0x1000, 0x1000, 2)],
+        &[
+            entry(0x2000, 0x1000, 4),
+            entry(0x1000, 0x1000, 2),
+            entry(0x4000, u64::MAX - 0x3fff, 1),
+        ],
     )?;
     let mut steps = Steps::new();
     let list = infos(alloc, &bytes, endian, &mut steps)?;
@@ -176,7 +180,7 @@ fn finds_the_entries(alloc: Global, endian: Endian) -> Result<bool, Error> {
             .map(|info| info.raw.base_address)
             == row.1
     };
-    Ok(steps.count() == 3 && FOUND.iter().all(found))
+    Ok(steps.count() == 4 && FOUND.iter().all(found))
 }
 
 #[test]

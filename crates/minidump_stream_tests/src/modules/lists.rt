@@ -157,3 +157,37 @@ fn an_unloaded_entry_without_addresses_refuses_the_list(rt: HostRuntime) -> Resu
     assert!(rt; refusal(rt.alloc(), 0x1000)? == Some(Error::DataError));
     Ok(())
 }
+
+const LAST: Written<'static> = Written {
+    base: 0xffff_ffff_ffff_f000,
+    size: 0x1000,
+    name: "last",
+    view: b"",
+};
+
+// Whether a module and an unloaded one that end at the last address are found there, and one byte more is
+// refused.
+fn finds_the_last_address(alloc: Global) -> Result<bool, Error> {
+    let listed = Listed::loaded(alloc, Endian::Little, &[LAST])?;
+    let list: MinidumpModuleList = listed.read(alloc, &mut Steps::new())?;
+    let left = unloaded(alloc, Endian::Little, &[LAST])?;
+    let beyond = unloaded(
+        alloc,
+        Endian::Little,
+        &[Written {
+            size: 0x1001,
+            ..LAST
+        }],
+    );
+    Ok(
+        is_found(&list, &(u64::MAX, Some("last")))
+            && are_at(alloc, &left, &(u64::MAX, &[LAST.base]))?
+            && matches!(beyond, Err(Error::ModuleReadFailure)),
+    )
+}
+
+#[test]
+fn a_module_may_end_at_the_last_address(rt: HostRuntime) -> Result<(), Fail> {
+    assert!(rt; finds_the_last_address(rt.alloc())?);
+    Ok(())
+}
