@@ -11,7 +11,7 @@ use Rattle.minidump.specs.DumpValue.{dump_of}
 abbrev pub IsWhole : {F : Type 0} → (F → Option (List ℕ)) → F → List ℕ → Type 0
 IsWhole remaining file bytes = IfSome (remaining file) (λ all. bytes ≡ all)
 
--- the bytes are all those of a file that was opened
+-- the bytes are all those of some open file, as far as it tells them
 abbrev pub IsFile : {F : Type 0} → (F → Option (List ℕ)) → List ℕ → Type 0
 IsFile {F} remaining bytes = (file : F) × IsWhole remaining file bytes
 

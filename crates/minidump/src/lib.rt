@@ -47,7 +47,7 @@
 //!   `unimplemented_streams`. The printed text: `print`. Reading a file: `read_path`.
 //! - The report is the text that `report_text` assigns to the dump and the names, and nothing else, or a beginning
 //!   of it where the writer failed or memory ran out; of bytes that are no dump nothing is written: `write_report`,
-//!   by `Reports`. All bytes that a reader had are in the vector, or it is empty: `read_all`.
+//!   by `Reports`. All bytes that a reader tells of are in the vector, or it is empty: `read_all`.
 //!
 //! What isn't: which file a path opens, and what `read_path` leaves in the vector beyond the contract of the
 //! private `read_file`, which tests show.

@@ -89,7 +89,7 @@ const SECTIONS: [Section; 25] = [
 ///
 /// A stream adds what its type prints, nothing if it is absent, or else the name of its type and that of its
 /// error. Threads are printed with their stacks, by [`Minidump::get_memory`]; both lists of memory without
-/// their bytes. The text goes out piece by piece, so that no more of it is in memory than a block.
+/// their bytes. The text goes out piece by piece, so that no more of it is in memory than a block and an item.
 ///
 /// Returns the errors of [`Minidump::read`] before anything is written; then `IoError` if the writer fails,
 /// and `OutOfMemory`, after which the writer took a beginning of the report.

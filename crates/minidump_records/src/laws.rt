@@ -102,9 +102,9 @@ pub fn object_chain_is_one()
         → IsChain (information_at order file) next_of link other → other ≡ offsets }
 {}
 
-/// Whatever a file claims, its handles, the pieces of information on their objects, and Crashpad's lists of modules
-/// and of their texts are no more than the bytes of the file have room for: where a chain runs in a circle, entries
-/// share bytes, or a count is forged.
+/// Whatever a file claims, the length of the file bounds how many handles it has, how many pieces of information on
+/// an object, how many links to modules in Crashpad's list, and how many texts in the list of a module: also where
+/// a chain runs in a circle, entries share bytes, or a count is forged.
 pub fn values_are_bounded_by_the_file()
     ensures handles { IsBoundedByTheFile ⟦<MinidumpHandleDataStream as MinidumpStream<'static>>⟧.spec.meaning HandlesAreWithin }
     ensures crashpad { IsBoundedByTheFile ⟦<MinidumpCrashpadInfo as MinidumpStream<'static>>⟧.spec.meaning CrashpadIsWithin }
