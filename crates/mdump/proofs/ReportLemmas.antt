@@ -33,14 +33,13 @@ file_of bytes dump is = ap (file_or bytes) (sym is) ∙ read_of bytes (header_of
 
 module _ {D F : Type 0} (contents : D → Option (List ℕ)) (old new : Told D) (remaining : F → Option (List ℕ)) (bytes : List ℕ) where
   on : (result : Result (Unit {0}) Error) (assigned : Result Dump Error) → IsFile remaining bytes → dump_in bytes ≡ assigned
-      → ReportsOn contents old new [] bytes result assigned → Writes (IsReportText remaining) contents old new result
+      → ReportsOn contents old new [] result assigned → Writes (IsReportText remaining) contents old new result
   on result (Ok dump) file is prints =
       let same = sym (file_of bytes dump is) in
       written contents old new (IsReportText remaining) (report_text [] dump) result
       (dump, (subst (λ b. IsFile remaining b) same file, subst (λ b. dump_in b ≡ Ok dump) same is), refl) prints
   on (Err e) (Err refusal) file is (same, why) = inl same
-  on (Ok u) (Err refusal) file is (same, inl other) = absurd (cc)
-  on (Ok u) (Err refusal) file is (same, inr (has, other)) = absurd (cc)
+  on (Ok u) (Err refusal) file is (same, other) = absurd (cc)
 
   -- it was written
   pub report_written : (result : Result (Unit {0}) Error) → IsFile remaining bytes → Reports contents old new [] bytes result

@@ -1,16 +1,16 @@
 -- The report on a minidump: what each type of stream adds to it, and its whole text.
-use Rattle.std.specs.Prelude.{◌≡◌, ◌⊎◌, ℕ, List, [], ◌∷◌, ◌++◌, codes, false, true, Option, Result, Ok, Err}
-use Rattle.std.specs.List.{concat}
+use Rattle.std.specs.Prelude.{◌≡◌, ℕ, List, [], ◌∷◌, ◌++◌, codes, false, true, Option, Result, Ok, Err}
+use Rattle.std.specs.List.{concat, flat_map}
 use Rattle.minidump_bytes.specs.declared.told.Told.{Told}
 use Rattle.minidump_format.specs.declared.error.Error.{Error}
 use Rattle.minidump_format.specs.declared.error.Error.TheVariants.{StreamNotFound}
 use Rattle.minidump_format.specs.Error.{refusal_name}
-use Rattle.minidump_format.specs.Print.{Prints, out_of_memory}
+use Rattle.minidump_format.specs.Print.{Prints}
 use Rattle.minidump_format.specs.StreamType.{number_of}
 use Rattle.minidump_reason.specs.Names.{Lists}
 use Rattle.minidump_system.specs.StreamSpec.{StreamSpec}
 use Rattle.minidump.specs.Crash.{crash_text}
-use Rattle.minidump.specs.Dump.{Dump, HasEntries, dump_in, dump_system, stream_of}
+use Rattle.minidump.specs.Dump.{Dump, dump_in, dump_system, stream_of}
 use Rattle.minidump.specs.Memory.{memories_of_dump}
 use Rattle.minidump.specs.Text.{dump_text, shown_type}
 use Rattle.minidump.specs.declared.report.Section.{Section}
@@ -57,37 +57,7 @@ reported name text (Err e) = unread_text name e
 abbrev pub section : {S V : Type 0} → StreamSpec S V → (V → List ℕ) → Dump → List ℕ
 section spec text dump = reported (shown_type (number_of spec.stream_type)) text (stream_of spec dump)
 
--- the streams that are read, in the order of the report: threads not brief, with the memory that `get_memory` returns; both lists of memory brief
-unfoldable pub sections_text : Dump → List ℕ
-sections_text dump = concat (
-    section system_info_stream system_info_text dump
-    ∷ section misc_info_stream misc_info_text dump
-    ∷ section exception_stream (exception_text (dump_system dump)) dump
-    ∷ section thread_list_stream (thread_list_text (memories_of_dump dump) (dump_system dump) false) dump
-    ∷ section thread_names_stream thread_names_text dump
-    ∷ section thread_info_list_stream thread_info_list_text dump
-    ∷ section module_list_stream module_list_text dump
-    ∷ section unloaded_module_list_stream unloaded_module_list_text dump
-    ∷ section memory64_list_stream (memory64_list_text true) dump
-    ∷ section memory_list_stream (memory_list_text true) dump
-    ∷ section memory_info_list_stream memory_info_list_text dump
-    ∷ section linux_maps_stream linux_maps_text dump
-    ∷ section handle_data_stream handle_data_text dump
-    ∷ section breakpad_info_stream breakpad_info_text dump
-    ∷ section assertion_stream assertion_text dump
-    ∷ section crashpad_info_stream crashpad_info_text dump
-    ∷ section mac_crash_info_stream mac_crash_info_text dump
-    ∷ section mac_bootargs_stream mac_bootargs_text dump
-    ∷ section linux_cpu_info_stream linux_cpu_info_text dump
-    ∷ section linux_proc_status_stream linux_proc_status_text dump
-    ∷ section linux_lsb_release_stream linux_lsb_release_text dump
-    ∷ section linux_environ_stream linux_environ_text dump
-    ∷ section linux_proc_limits_stream linux_proc_limits_text dump
-    ∷ section soft_errors_stream soft_errors_text dump
-    ∷ section stability_report_stream stability_report_text dump
-    ∷ [])
-
--- one of them
+-- what each type of stream adds: threads are not brief, and have the memory that `get_memory` returns; both lists of memory are brief
 abbrev pub section_text : Dump → Section → List ℕ
 section_text dump part.SystemInfo = section system_info_stream system_info_text dump
 section_text dump part.MiscInfo = section misc_info_stream misc_info_text dump
@@ -115,16 +85,28 @@ section_text dump part.LinuxProcLimits = section linux_proc_limits_stream linux_
 section_text dump part.SoftErrors = section soft_errors_stream soft_errors_text dump
 section_text dump part.StabilityReport = section stability_report_stream stability_report_text dump
 
+-- the types of stream in the order of the report
+abbrev pub sections : List Section
+sections =
+    part.SystemInfo ∷ part.MiscInfo ∷ part.Exception ∷ part.ThreadList ∷ part.ThreadNames ∷
+    part.ThreadInfoList ∷ part.ModuleList ∷ part.UnloadedModuleList ∷ part.Memory64List ∷ part.MemoryList ∷
+    part.MemoryInfoList ∷ part.LinuxMaps ∷ part.HandleData ∷ part.BreakpadInfo ∷ part.Assertion ∷
+    part.CrashpadInfo ∷ part.MacCrashInfo ∷ part.MacBootargs ∷ part.LinuxCpuInfo ∷ part.LinuxProcStatus ∷
+    part.LinuxLsbRelease ∷ part.LinuxEnviron ∷ part.LinuxProcLimits ∷ part.SoftErrors ∷ part.StabilityReport ∷ []
+
+-- what they add, in that order
+unfoldable pub sections_text : Dump → List ℕ
+sections_text dump = flat_map (section_text dump) sections
+
 -- the report on a dump: its header and directory, its streams, and where and why the process crashed
 abbrev pub report_text : Lists → Dump → List ℕ
 report_text names dump = dump_text dump ++ (sections_text dump ++ crash_text names dump)
 
-abbrev pub ReportsOn : {D : Type 0} → (D → Option (List ℕ)) → Told D → Told D → Lists → List ℕ → Result (Unit {0}) Error → Result Dump Error → Type 0
-ReportsOn contents old new names bytes result (Ok dump) = Prints contents old new (report_text names dump) result
-ReportsOn contents old new names bytes result (Err refusal) =
-    (new ≡ old) × ((result ≡ Err refusal) ⊎ (HasEntries bytes × (result ≡ Err (out_of_memory old))))
+abbrev pub ReportsOn : {D : Type 0} → (D → Option (List ℕ)) → Told D → Told D → Lists → Result (Unit {0}) Error → Result Dump Error → Type 0
+ReportsOn contents old new names result (Ok dump) = Prints contents old new (report_text names dump) result
+ReportsOn contents old new names result (Err refusal) = (new ≡ old) × (result ≡ Err refusal)
 
 -- What writing the report on these bytes does. They are a minidump: its report is printed. They are none: the error is theirs, and
 -- nothing is written.
 abbrev pub Reports : {D : Type 0} → (D → Option (List ℕ)) → Told D → Told D → Lists → List ℕ → Result (Unit {0}) Error → Type 0
-Reports contents old new names bytes result = ReportsOn contents old new names bytes result (dump_in bytes)
+Reports contents old new names bytes result = ReportsOn contents old new names result (dump_in bytes)
