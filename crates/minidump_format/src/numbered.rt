@@ -1,9 +1,9 @@
 ghost use Rattle.std.specs.Prelude.{◌≡◌, ◌++◌, OnOk};
 ghost use Rattle.minidump_format.specs.Print.{Prints};
-ghost use Rattle.minidump_records.specs.Numbered.{count_text, index_line, numbered_list, numbered_text};
+ghost use Rattle.minidump_format.specs.Numbered.{count_text, index_line, numbered_list, numbered_text};
 
+use crate::{Counted, Error, Pushed, print_counted, put_formatted};
 use minidump_bytes::{Piece, Told, made, push_pieces};
-use minidump_format::{Counted, Error, Pushed, print_counted, put_formatted};
 use std::alloc::{AllocError, Global};
 use std::io::Write;
 
@@ -17,7 +17,7 @@ struct Numbered<'a, T> {
 impl<'a, T: Pushed> Counted for Numbered<'a, T> {
     ghost use Rattle.std.specs.Prelude.{drop, length, take};
     ghost use Rattle.std.specs.List.{flat_map};
-    ghost use Rattle.minidump_records.specs.Numbered.{numbered_item};
+    ghost use Rattle.minidump_format.specs.Numbered.{numbered_item};
 
     ghost count = { λ n. length n.items.now };
 
@@ -33,9 +33,9 @@ impl<'a, T: Pushed> Counted for Numbered<'a, T> {
     }
 }
 
-// Prints a heading that ends with a count, and an empty line.
+/// Prints a heading that ends with a count, and an empty line.
 #[tactic(auto, unfolding(crate::specs::Numbered::count_text))]
-pub(crate) fn print_count<W: Write>(
+pub fn print_count<W: Write>(
     heading: &'static str,
     count: usize,
     alloc: Global,
@@ -54,10 +54,10 @@ pub(crate) fn print_count<W: Write>(
     put_formatted(f, text)
 }
 
-// Prints a heading that ends with the number of items, and then the items in order, each behind a line of the
-// name and its index.
-#[tactic(auto, using(minidump_format::proofs::Printing::prints_then, minidump_format::proofs::Printing::prints_exit))]
-pub(crate) fn print_numbered<T: Pushed, W: Write>(
+/// Prints a heading that ends with the number of items, and then the items in order, each behind a line of the
+/// name and its index.
+#[tactic(auto, using(crate::proofs::Printing::prints_then, crate::proofs::Printing::prints_exit))]
+pub fn print_numbered<T: Pushed, W: Write>(
     heading: &'static str,
     name: &'static str,
     items: &[T],
@@ -82,13 +82,9 @@ fn print_items<T: Pushed, W: Write>(
     print_counted(&Numbered { name, items }, alloc, f)
 }
 
-// Appends the line in front of an item.
+/// Appends the line in front of an item.
 #[tactic(auto, unfolding(crate::specs::Numbered::index_line))]
-pub(crate) fn push_index(
-    out: &mut Vec<u8>,
-    name: &'static str,
-    index: usize,
-) -> Result<(), AllocError>
+pub fn push_index(out: &mut Vec<u8>, name: &'static str, index: usize) -> Result<(), AllocError>
     ensures { OnOk result (out.new.items ≡ out.old.items ++ index_line name.now index) }
 {
     push_pieces(
