@@ -10,7 +10,7 @@ use std::io::Write;
 // Items, each of which is printed behind a line of a name and its index.
 #[derive(Drop)]
 struct Numbered<'a, T> {
-    name: &'static str,
+    name: &'a str,
     items: &'a [T],
 }
 
@@ -36,7 +36,7 @@ impl<'a, T: Pushed> Counted for Numbered<'a, T> {
 /// Prints a heading that ends with a count, and an empty line.
 #[tactic(auto, unfolding(crate::specs::Numbered::count_text))]
 pub fn print_count<W: Write>(
-    heading: &'static str,
+    heading: &str,
     count: usize,
     alloc: Global,
     f: &mut Told<W>,
@@ -57,10 +57,10 @@ pub fn print_count<W: Write>(
 /// Prints a heading that ends with the number of items, and then the items in order, each behind a line of the
 /// name and its index.
 #[tactic(auto, using(crate::proofs::Printing::prints_then, crate::proofs::Printing::prints_exit))]
-pub fn print_numbered<T: Pushed, W: Write>(
-    heading: &'static str,
-    name: &'static str,
-    items: &[T],
+pub fn print_numbered<'a, T: Pushed, W: Write>(
+    heading: &str,
+    name: &'a str,
+    items: &'a [T],
     alloc: Global,
     f: &mut Told<W>,
 ) -> Result<(), Error>
@@ -71,9 +71,9 @@ pub fn print_numbered<T: Pushed, W: Write>(
 }
 
 // Prints items in order, each behind a line of the name and its index.
-fn print_items<T: Pushed, W: Write>(
-    name: &'static str,
-    items: &[T],
+fn print_items<'a, T: Pushed, W: Write>(
+    name: &'a str,
+    items: &'a [T],
     alloc: Global,
     f: &mut Told<W>,
 ) -> Result<(), Error>
@@ -84,7 +84,7 @@ fn print_items<T: Pushed, W: Write>(
 
 /// Appends the line in front of an item.
 #[tactic(auto, unfolding(crate::specs::Numbered::index_line))]
-pub fn push_index(out: &mut Vec<u8>, name: &'static str, index: usize) -> Result<(), AllocError>
+pub fn push_index(out: &mut Vec<u8>, name: &str, index: usize) -> Result<(), AllocError>
     ensures { OnOk result (out.new.items ≡ out.old.items ++ index_line name.now index) }
 {
     push_pieces(
