@@ -4,7 +4,7 @@ ghost use Rattle.std.specs.Fmt.{decimal, digits, digit_glyph};
 ghost use Rattle.minidump_bytes.specs.Piece.{piece_text, right, wide_hex};
 
 use crate::TextBuffer;
-use crate::hexadecimal::{digits_16, hex_len};
+use crate::hexadecimal::hex_digits;
 use itoa::Buffer;
 use std::alloc::{AllocError, Global};
 
@@ -121,16 +121,18 @@ fn push_decimal<T: TextBuffer>(out: &mut T, n: u64) -> Result<(), AllocError>
 fn push_wide_hex<T: TextBuffer>(out: &mut T, n: u64, width: usize) -> Result<(), AllocError>
     ensures { OnOk result (T.bytes out.new ≡ T.bytes out.old ++ wide_hex width n) }
 {
-    push_zeros(out, width.saturating_sub(hex_len(n)))?;
-    push_hex(out, n)
+    push_zeros(out, width.saturating_sub(16))?;
+    let (all, start) = hex_digits(n);
+    let (_, digits) = all.split_at(start.min(16_usize.saturating_sub(width)));
+    out.push_ascii(digits)
 }
 
 // Appends a number in lower-case hexadecimal, as `{:x}` writes it.
 fn push_hex<T: TextBuffer>(out: &mut T, n: u64) -> Result<(), AllocError>
     ensures { OnOk result (T.bytes out.new ≡ T.bytes out.old ++ digits 16 false n) }
 {
-    let all = digits_16(n);
-    let (_, digits) = all.split_at(16 - hex_len(n));
+    let (all, start) = hex_digits(n);
+    let (_, digits) = all.split_at(start);
     out.push_ascii(digits)
 }
 

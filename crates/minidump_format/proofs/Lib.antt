@@ -4,5 +4,6 @@ pub mod Equality
 pub mod FlagLemmas
 pub mod Printing
 pub mod Blocking
+pub mod NumberedLemmas
 pub mod XstateLemmas
 pub mod GuidLemmas

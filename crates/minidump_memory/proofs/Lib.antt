@@ -10,4 +10,3 @@ pub mod GrammarLemmas
 pub mod MapEqualityLemmas
 pub mod Listed
 pub mod ContentsLemmas
-pub mod NumberedLemmas

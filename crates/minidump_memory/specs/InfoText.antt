@@ -1,12 +1,12 @@
 -- The texts of information on regions of memory, and of the lines of /proc/PID/maps.
-use Rattle.std.specs.Prelude.{ℕ, List, [], ◌∷◌, ◌++◌, codes, length, if◌then◌else◌}
+use Rattle.std.specs.Prelude.{ℕ, List, [], ◌∷◌, ◌++◌, codes, if◌then◌else◌}
 use Rattle.std.specs.Fmt.{decimal}
 use Rattle.std.specs.List.{concat}
 use Rattle.minidump_bytes.specs.Piece.{hex}
 use Rattle.minidump_format.specs.Flags.{has_flag}
+use Rattle.minidump_format.specs.Numbered.{numbered_list}
 use Rattle.minidump_memory.specs.MapLine.{MapPath, MapRegion, Path, Other, Heap, Stack, Vdso, Vvar, Vsyscall, Rollup, Anonymous, TStack, Vsys}
 use Rattle.minidump_memory.specs.MemoryInfo.{MemoryInfo}
-use Rattle.minidump_memory.specs.Numbered.{list_heading, numbered}
 use Rattle.minidump_memory.specs.UnifiedInfo.{InfoRegion, InfoRegions, OfInfo, OfMaps}
 
 -- Microsoft's MINIDUMP_MEMORY_INFO: of each set the bits that have a name
@@ -25,7 +25,7 @@ memory_info_text m = concat (
 
 -- Microsoft's MINIDUMP_MEMORY_INFO_LIST
 abbrev pub memory_info_list_text : List MemoryInfo → List ℕ
-memory_info_list_text infos = list_heading (codes "MinidumpMemoryInfoList") (length infos) ++ numbered memory_info_text infos
+memory_info_list_text infos = numbered_list (codes "MinidumpMemoryInfoList\n  region_count = ") (codes "region") memory_info_text infos
 
 -- what is mapped: its kind, with its text or number in parentheses
 unfoldable pub kind_text : MapPath → List ℕ
@@ -71,7 +71,7 @@ map_info_text m = addresses_text m.address ++ (kind_text m.pathname ++ permissio
 
 -- Breakpad's MD_LINUX_MAPS
 abbrev pub linux_maps_text : List MapRegion → List ℕ
-linux_maps_text maps = list_heading (codes "MinidumpLinuxMapInfo") (length maps) ++ numbered map_info_text maps
+linux_maps_text maps = numbered_list (codes "MinidumpLinuxMapInfo\n  region_count = ") (codes "region") map_info_text maps
 
 -- a region of either kind, and a list of either kind
 abbrev pub unified_info_text : InfoRegion → List ℕ

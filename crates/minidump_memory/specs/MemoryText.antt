@@ -1,12 +1,12 @@
 -- The texts of regions of memory and of their lists.
-use Rattle.std.specs.Prelude.{ℕ, Bool, true, false, List, [], ◌∷◌, ◌++◌, codes, length}
+use Rattle.std.specs.Prelude.{ℕ, Bool, true, false, List, [], ◌∷◌, ◌++◌, codes}
 use Rattle.std.specs.List.{concat}
 use Rattle.minidump_bytes.specs.Piece.{hex}
 use Rattle.minidump_format.specs.declared.format.memory.MINIDUMP_MEMORY_DESCRIPTOR.{MINIDUMP_MEMORY_DESCRIPTOR}
 use Rattle.minidump_format.specs.declared.format.memory.MINIDUMP_MEMORY_DESCRIPTOR64.{MINIDUMP_MEMORY_DESCRIPTOR64}
+use Rattle.minidump_format.specs.Numbered.{numbered_list}
 use Rattle.minidump_memory.specs.Contents.{contents_text}
 use Rattle.minidump_memory.specs.Memory.{MemoryRegion}
-use Rattle.minidump_memory.specs.Numbered.{line_end, list_heading, numbered}
 use Rattle.minidump_memory.specs.Unified.{UnifiedDescriptor, UnifiedRegion, UnifiedRegions, Memory, Memory64}
 
 -- Microsoft's MINIDUMP_MEMORY_DESCRIPTOR
@@ -35,6 +35,10 @@ unified_descriptor_text (Memory64 d) = descriptor_64_text d
 unfoldable pub bytes_heading : List ℕ
 bytes_heading = codes "Memory\n"
 
+-- the line that ends a region
+abbrev pub line_end : List ℕ
+line_end = codes "\n"
+
 -- what follows a descriptor: the bytes, unless the text is to be brief, and an empty line
 abbrev pub bytes_part : Bool → List ℕ → List ℕ
 bytes_part true bytes = line_end
@@ -53,17 +57,17 @@ memory64_text = region_text descriptor_64_text
 abbrev pub unified_memory_text : Bool → UnifiedRegion → List ℕ
 unified_memory_text = region_text unified_descriptor_text
 
--- a list with its name
+-- a list behind its heading
 abbrev pub regions_text : {D : Type 0} → List ℕ → (D → List ℕ) → Bool → List (MemoryRegion D) → List ℕ
-regions_text name descriptor brief regions = list_heading name (length regions) ++ numbered (region_text descriptor brief) regions
+regions_text heading descriptor brief regions = numbered_list heading (codes "region") (region_text descriptor brief) regions
 
 -- Microsoft's MINIDUMP_MEMORY_LIST
 abbrev pub memory_list_text : Bool → List (MemoryRegion MINIDUMP_MEMORY_DESCRIPTOR) → List ℕ
-memory_list_text = regions_text (codes "MinidumpMemoryList") descriptor_text
+memory_list_text = regions_text (codes "MinidumpMemoryList\n  region_count = ") descriptor_text
 
 -- Microsoft's MINIDUMP_MEMORY64_LIST
 abbrev pub memory64_list_text : Bool → List (MemoryRegion MINIDUMP_MEMORY_DESCRIPTOR64) → List ℕ
-memory64_list_text = regions_text (codes "MinidumpMemory64List") descriptor_64_text
+memory64_list_text = regions_text (codes "MinidumpMemory64List\n  region_count = ") descriptor_64_text
 
 -- a list of either kind
 abbrev pub unified_memory_list_text : Bool → UnifiedRegions → List ℕ

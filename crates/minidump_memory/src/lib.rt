@@ -60,7 +60,6 @@ mod memory64_list;
 mod memory_info;
 mod memory_list;
 mod memory_print;
-mod numbered;
 mod unified;
 mod unified_info;
 

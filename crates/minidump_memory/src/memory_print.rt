@@ -1,21 +1,22 @@
-ghost use Rattle.std.specs.Prelude.{◌≡◌, ◌++◌, ℕ, List, OnOk, true, false, length};
+ghost use Rattle.std.specs.Prelude.{◌≡◌, ◌++◌, ℕ, List, OnOk, true, false, codes};
+ghost use Rattle.minidump_format.specs.Numbered.{index_line, numbered_list, numbered_text};
 ghost use Rattle.minidump_format.specs.Print.{Prints};
 ghost use Rattle.minidump_memory.specs.Contents.{contents_text};
 ghost use Rattle.minidump_memory.specs.Memory.{memory_of};
 ghost use Rattle.minidump_memory.specs.MemoryList.{memory_list_of};
-ghost use Rattle.minidump_memory.specs.MemoryText.{bytes_heading, bytes_part, descriptor_64_text, descriptor_text, memory64_list_text, memory64_text, memory_list_text, memory_text, region_text, unified_memory_list_text, unified_memory_text};
-ghost use Rattle.minidump_memory.specs.Numbered.{index_line, line_end, list_heading, numbered};
+ghost use Rattle.minidump_memory.specs.MemoryText.{bytes_heading, bytes_part, descriptor_64_text, descriptor_text, line_end, memory64_list_text, memory64_text, memory_list_text, memory_text, region_text, unified_memory_list_text, unified_memory_text};
 ghost use Rattle.minidump_memory.specs.Unified.{unified_list, unified_region};
 
 use crate::contents::print_bytes;
-use crate::numbered::{print_heading, print_index, print_numbered, print_regions};
 use crate::{
     MinidumpMemory, MinidumpMemory64, MinidumpMemory64List, MinidumpMemoryBase, MinidumpMemoryList,
     UnifiedMemory, UnifiedMemoryList,
 };
-use minidump_bytes::{Piece, Told, push_pieces};
+use minidump_bytes::{Piece, Told, made, push_pieces};
 use minidump_format::format::{MINIDUMP_MEMORY_DESCRIPTOR, MINIDUMP_MEMORY_DESCRIPTOR64};
-use minidump_format::{Error, Pushed, print_item, put_text};
+use minidump_format::{
+    Error, Pushed, print_count, print_item, print_numbered, put_formatted, put_text,
+};
 use std::alloc::{AllocError, Global};
 use std::io::Write;
 
@@ -74,7 +75,13 @@ impl<'a> MinidumpMemoryList<'a> {
     pub fn print<W: Write>(&self, alloc: Global, f: &mut Told<W>, brief: bool) -> Result<(), Error>
         ensures { Prints W.contents f.old f.new (memory_list_text brief (memory_list_of self.now)) result }
     {
-        print_memory("MinidumpMemoryList", self.as_slice(), brief, alloc, f)
+        print_memory(
+            "MinidumpMemoryList\n  region_count = ",
+            self.as_slice(),
+            brief,
+            alloc,
+            f,
+        )
     }
 }
 
@@ -83,7 +90,13 @@ impl<'a> MinidumpMemory64List<'a> {
     pub fn print<W: Write>(&self, alloc: Global, f: &mut Told<W>, brief: bool) -> Result<(), Error>
         ensures { Prints W.contents f.old f.new (memory64_list_text brief (memory_list_of self.now)) result }
     {
-        print_memory("MinidumpMemory64List", self.as_slice(), brief, alloc, f)
+        print_memory(
+            "MinidumpMemory64List\n  region_count = ",
+            self.as_slice(),
+            brief,
+            alloc,
+            f,
+        )
     }
 }
 
@@ -99,36 +112,36 @@ impl<'a> UnifiedMemoryList<'a> {
     }
 }
 
-// Prints a list of regions by its name.
+// Prints a list of regions behind its heading.
 fn print_memory<D: Described, W: Write>(
-    name: &str,
+    heading: &str,
     regions: &[MinidumpMemoryBase<'_, D>],
     brief: bool,
     alloc: Global,
     f: &mut Told<W>,
 ) -> Result<(), Error>
-    ensures { Prints W.contents f.old f.new (list_heading name.now (length regions.now)
-        ++ numbered (λ m. region_text D.text brief (memory_of m)) regions.now) result }
+    ensures { Prints W.contents f.old f.new (numbered_list heading.now (codes "region")
+        (λ m. region_text D.text brief (memory_of m)) regions.now) result }
 {
     if brief {
-        print_regions(name, regions, alloc, f)
+        print_numbered(heading, "region", regions, alloc, f)
     } else {
-        print_whole(name, regions, alloc, f)
+        print_whole(heading, regions, alloc, f)
     }
 }
 
-// Prints a list of regions with their bytes by its name.
+// Prints a list of regions with their bytes behind its heading.
 #[tactic(auto, using(minidump_format::proofs::Printing::prints_then, minidump_format::proofs::Printing::prints_exit))]
 fn print_whole<D: Described, W: Write>(
-    name: &str,
+    heading: &str,
     regions: &[MinidumpMemoryBase<'_, D>],
     alloc: Global,
     f: &mut Told<W>,
 ) -> Result<(), Error>
-    ensures { Prints W.contents f.old f.new (list_heading name.now (length regions.now)
-        ++ numbered (λ m. region_text D.text false (memory_of m)) regions.now) result }
+    ensures { Prints W.contents f.old f.new (numbered_list heading.now (codes "region")
+        (λ m. region_text D.text false (memory_of m)) regions.now) result }
 {
-    print_heading(name, regions.len(), alloc, f)?;
+    print_count(heading, regions.len(), alloc, f)?;
     print_each(regions, alloc, f)
 }
 
@@ -139,7 +152,7 @@ fn print_each<D: Described, W: Write>(
     f: &mut Told<W>,
 ) -> Result<(), Error>
     ensures { Prints W.contents f.old f.new
-        (numbered (λ m. region_text D.text false (memory_of m)) regions.now) result }
+        (numbered_text (codes "region") (λ m. region_text D.text false (memory_of m)) regions.now) result }
 {
     if f.failed() {
         return Err(Error::IoError);
@@ -158,10 +171,26 @@ fn print_one<D: Described, W: Write>(
     f: &mut Told<W>,
 ) -> Result<(), Error>
     ensures { Prints W.contents f.old f.new
-        (index_line index ++ region_text D.text false (memory_of region.now)) result }
+        (index_line (codes "region") index ++ region_text D.text false (memory_of region.now)) result }
 {
     print_index(index, alloc, f)?;
     print_region(region, false, alloc, f)
+}
+
+// Prints the line in front of a region.
+#[tactic(auto, unfolding(minidump_format::specs::Numbered::index_line))]
+fn print_index<W: Write>(index: usize, alloc: Global, f: &mut Told<W>) -> Result<(), Error>
+    ensures { Prints W.contents f.old f.new (index_line (codes "region") index) result }
+{
+    let text = made(
+        alloc,
+        &[
+            Piece::Words("region["),
+            Piece::Decimal(index as u64),
+            Piece::Words("]\n"),
+        ],
+    );
+    put_formatted(f, text)
 }
 
 #[tactic(auto, using(minidump_format::proofs::Printing::prints_then, minidump_format::proofs::Printing::prints_exit))]

@@ -5,7 +5,6 @@ mod FoundLemmas
 mod GuidLemmas
 mod KeptLemmas
 mod ListLemmas
-mod ListedText
 mod ListedLemmas
 mod LossyLemmas
 mod OrderLemmas

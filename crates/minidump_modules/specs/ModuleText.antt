@@ -1,12 +1,12 @@
 -- The printed texts of modules, loaded and unloaded, and of their lists: MINIDUMP_MODULE and MINIDUMP_UNLOADED_MODULE.
-use Rattle.std.specs.Prelude.{ℕ, List, [], ◌∷◌, ◌++◌, codes, length, Option, Some, None}
+use Rattle.std.specs.Prelude.{ℕ, List, [], ◌∷◌, ◌++◌, codes, Option, Some, None}
 use Rattle.std.specs.Fmt.{decimal}
-use Rattle.std.specs.List.{concat, enumerate_from, flat_map, slice_get}
-use Rattle.std.specs.Option.{option_map}
+use Rattle.std.specs.List.{concat}
 use Rattle.hex.specs.Hex.{encode_lower}
 use Rattle.minidump_bytes.specs.Piece.{hex}
 use Rattle.minidump_format.specs.declared.format.module.MINIDUMP_MODULE.{MINIDUMP_MODULE}
 use Rattle.minidump_format.specs.declared.format.module.VS_FIXEDFILEINFO.{VS_FIXEDFILEINFO}
+use Rattle.minidump_format.specs.Numbered.{numbered_list}
 use Rattle.minidump_system.specs.Dates.{date_text_of}
 use Rattle.minidump_modules.specs.declared.debug_id.DebugId.{DebugId}
 use Rattle.minidump_modules.specs.CodeId.{stamp_form}
@@ -151,29 +151,11 @@ unloaded_text m =
     entry_text (codes "MINIDUMP_UNLOADED_MODULE") m.raw.base_of_image m.raw.size_of_image m.raw.checksum m.raw.time_date_stamp m.raw.module_name_rva
     ++ code_text m.name (stamp_form m.raw.time_date_stamp m.raw.size_of_image)
 
--- the name of a list, and how many modules it has
-unfoldable pub list_heading : List ℕ → ℕ → List ℕ
-list_heading title count = concat (title ∷ codes "\n  module_count = " ∷ decimal count ∷ codes "\n\n" ∷ [])
-
--- the line before a module of a list: its index
-unfoldable pub item_heading : ℕ → List ℕ
-item_heading index = concat (codes "module[" ∷ decimal index ∷ codes "]\n" ∷ [])
-
-abbrev pub listed_text : ℕ × ModuleValue → List ℕ
-listed_text p = item_heading p.0 ++ module_text p.1
-
-abbrev pub listed_unloaded_text : ℕ × UnloadedValue → List ℕ
-listed_unloaded_text p = item_heading p.0 ++ unloaded_text p.1
-
--- the list of loaded modules, MINIDUMP_MODULE_LIST
+-- the list of loaded modules, MINIDUMP_MODULE_LIST: how many they are, and each behind its index
 abbrev pub module_list_text : List ModuleValue → List ℕ
-module_list_text modules = list_heading (codes "MinidumpModuleList") (length modules) ++ flat_map listed_text (enumerate_from 0 modules)
+module_list_text modules = numbered_list (codes "MinidumpModuleList\n  module_count = ") (codes "module") module_text modules
 
 -- the list of unloaded modules, MINIDUMP_UNLOADED_MODULE_LIST
 abbrev pub unloaded_module_list_text : List UnloadedValue → List ℕ
 unloaded_module_list_text modules =
-    list_heading (codes "MinidumpUnloadedModuleList") (length modules) ++ flat_map listed_unloaded_text (enumerate_from 0 modules)
-
--- the text of the item at an index, which is given the index and the item; nothing behind the last
-abbrev pub text_at : {X : Type 0} → (ℕ × X → List ℕ) → List X → ℕ → List ℕ
-text_at text xs i = or_empty (option_map (λ x. text (i, x)) (slice_get xs i))
+    numbered_list (codes "MinidumpUnloadedModuleList\n  module_count = ") (codes "module") unloaded_text modules

@@ -1,5 +1,4 @@
-ghost use Rattle.std.specs.Prelude.{◌≡◌, ◌++◌, IfOk, OnOk, Some, codes, length, map, string_bytes};
-ghost use Rattle.std.specs.List.{enumerate_from, flat_map};
+ghost use Rattle.std.specs.Prelude.{◌≡◌, ◌++◌, IfOk, OnOk, Some, codes, string_bytes};
 ghost use Rattle.std.specs.Option.{option_map};
 ghost use Rattle.hex.specs.Hex.{encode_lower};
 ghost use Rattle.minidump_format.specs.Print.{Prints};
@@ -9,10 +8,10 @@ ghost use Rattle.minidump_modules.specs.CodeId.{stamp_form};
 ghost use Rattle.minidump_modules.specs.Module.{module_identity, module_of};
 ghost use Rattle.minidump_modules.specs.ModuleList.{module_list_of};
 ghost use Rattle.minidump_modules.specs.ModuleText.{age_text, code_text, debug_text, digits_line, elf_signature, entry_text};
-ghost use Rattle.minidump_modules.specs.ModuleText.{image_text, item_heading, list_heading, name_rva_text, stamp_text, listed_text, listed_unloaded_text};
+ghost use Rattle.minidump_modules.specs.ModuleText.{image_text, name_rva_text, stamp_text};
 ghost use Rattle.minidump_modules.specs.ModuleText.{module_list_text, module_text, or_empty, or_nil, pdb20_header};
 ghost use Rattle.minidump_modules.specs.ModuleText.{pdb70_numbers, pdb_name_text, places_text, quoted, raw_text};
-ghost use Rattle.minidump_modules.specs.ModuleText.{text_at, unloaded_module_list_text, unloaded_text, version_info_text, version_line, view_text};
+ghost use Rattle.minidump_modules.specs.ModuleText.{unloaded_module_list_text, unloaded_text, version_info_text, version_line, view_text};
 ghost use Rattle.minidump_modules.specs.UnloadedModule.{unloaded_of};
 ghost use Rattle.minidump_modules.specs.UnloadedModuleList.{unloaded_module_list_of};
 ghost use Rattle.minidump_modules.specs.Version.{version_of};
@@ -29,7 +28,7 @@ use minidump_bytes::{Piece, Told, push_pieces};
 use minidump_format::format::{
     CV_INFO_ELF, CV_INFO_PDB20, CV_INFO_PDB70, MINIDUMP_MODULE, VS_FIXEDFILEINFO,
 };
-use minidump_format::{Counted, Error, Pushed, print_counted, print_item};
+use minidump_format::{Error, Pushed, print_item, print_numbered};
 use minidump_system::{Os, date_text};
 use std::alloc::{AllocError, Global};
 use std::io::Write;
@@ -55,162 +54,32 @@ impl MinidumpUnloadedModule {
 
 impl MinidumpModuleList {
     /// Prints the number of modules, and each module with its index.
-    #[tactic(auto, using(minidump_format::proofs::Printing::prints_then, minidump_format::proofs::Printing::prints_exit))]
     pub fn print<W: Write>(&self, alloc: Global, f: &mut Told<W>) -> Result<(), Error>
         ensures { Prints W.contents f.old f.new (module_list_text (module_list_of self.now)) result }
     {
-        let modules = self.iter().as_slice();
-        print_count(modules, alloc, f)?;
-        print_modules(modules, alloc, f)
+        print_numbered(
+            "MinidumpModuleList\n  module_count = ",
+            "module",
+            self.iter().as_slice(),
+            alloc,
+            f,
+        )
     }
 }
 
 impl MinidumpUnloadedModuleList {
     /// Prints the number of modules, and each module with its index.
-    #[tactic(auto, using(minidump_format::proofs::Printing::prints_then, minidump_format::proofs::Printing::prints_exit))]
     pub fn print<W: Write>(&self, alloc: Global, f: &mut Told<W>) -> Result<(), Error>
         ensures { Prints W.contents f.old f.new (unloaded_module_list_text (unloaded_module_list_of self.now)) result }
     {
-        let modules = self.iter().as_slice();
-        print_unloaded_count(modules, alloc, f)?;
-        print_unloaded_modules(modules, alloc, f)
+        print_numbered(
+            "MinidumpUnloadedModuleList\n  module_count = ",
+            "module",
+            self.iter().as_slice(),
+            alloc,
+            f,
+        )
     }
-}
-
-#[tactic(auto, using(crate::proofs::ListedText::mapped_count))]
-fn print_count<W: Write>(
-    modules: &[MinidumpModule],
-    alloc: Global,
-    f: &mut Told<W>,
-) -> Result<(), Error>
-    ensures { Prints W.contents f.old f.new
-        (list_heading (codes "MinidumpModuleList") (length (map module_of modules.now))) result }
-{
-    let heading = Heading {
-        title: "MinidumpModuleList",
-        count: modules.len(),
-    };
-    print_item(&heading, alloc, f)
-}
-
-#[tactic(auto, using(crate::proofs::ListedText::mapped_count))]
-fn print_unloaded_count<W: Write>(
-    modules: &[MinidumpUnloadedModule],
-    alloc: Global,
-    f: &mut Told<W>,
-) -> Result<(), Error>
-    ensures { Prints W.contents f.old f.new
-        (list_heading (codes "MinidumpUnloadedModuleList") (length (map unloaded_of modules.now))) result }
-{
-    let heading = Heading {
-        title: "MinidumpUnloadedModuleList",
-        count: modules.len(),
-    };
-    print_item(&heading, alloc, f)
-}
-
-fn print_modules<W: Write>(
-    modules: &[MinidumpModule],
-    alloc: Global,
-    f: &mut Told<W>,
-) -> Result<(), Error>
-    ensures { Prints W.contents f.old f.new (flat_map listed_text (enumerate_from 0 (map module_of modules.now))) result }
-{
-    print_counted(&Modules(modules), alloc, f)
-}
-
-fn print_unloaded_modules<W: Write>(
-    modules: &[MinidumpUnloadedModule],
-    alloc: Global,
-    f: &mut Told<W>,
-) -> Result<(), Error>
-    ensures { Prints W.contents f.old f.new (flat_map listed_unloaded_text (enumerate_from 0 (map unloaded_of modules.now))) result }
-{
-    print_counted(&UnloadedModules(modules), alloc, f)
-}
-
-// The lines that a list begins with.
-#[derive(Clone, Copy)]
-struct Heading {
-    title: &'static str,
-    count: usize,
-}
-
-impl Pushed for Heading {
-    ghost text = { λ heading. list_heading heading.title.now heading.count };
-
-    fn push(&self, out: &mut Vec<u8>) -> Result<(), AllocError> {
-        push_heading(out, self.title, self.count)
-    }
-}
-
-#[tactic(auto, unfolding(crate::specs::ModuleText::list_heading))]
-fn push_heading(out: &mut Vec<u8>, title: &'static str, count: usize) -> Result<(), AllocError>
-    ensures { OnOk result (out.new.items ≡ out.old.items ++ list_heading title.now count) }
-{
-    push_pieces(
-        out,
-        &[
-            Piece::Words(title),
-            Piece::Words("\n  module_count = "),
-            Piece::Decimal(count as u64),
-            Piece::Words("\n\n"),
-        ],
-    )
-}
-
-// The modules of a list, each behind its index.
-#[derive(Clone, Copy)]
-struct Modules<'a>(&'a [MinidumpModule]);
-
-impl<'a> Counted for Modules<'a> {
-    ghost count = { λ modules. length modules.0.now };
-
-    ghost text = { λ modules. text_at listed_text (map module_of modules.0.now) };
-
-    fn count(&self) -> usize {
-        self.0.len()
-    }
-
-    #[tactic(auto, using(crate::proofs::ListedText::text_at_is))]
-    fn push(&self, index: usize, out: &mut Vec<u8>) -> Result<(), AllocError> {
-        push_index(out, index)?;
-        self.0[index].push(out)
-    }
-}
-
-// The same of unloaded modules.
-#[derive(Clone, Copy)]
-struct UnloadedModules<'a>(&'a [MinidumpUnloadedModule]);
-
-impl<'a> Counted for UnloadedModules<'a> {
-    ghost count = { λ modules. length modules.0.now };
-
-    ghost text = { λ modules. text_at listed_unloaded_text (map unloaded_of modules.0.now) };
-
-    fn count(&self) -> usize {
-        self.0.len()
-    }
-
-    #[tactic(auto, using(crate::proofs::ListedText::text_at_is))]
-    fn push(&self, index: usize, out: &mut Vec<u8>) -> Result<(), AllocError> {
-        push_index(out, index)?;
-        self.0[index].push(out)
-    }
-}
-
-#[tactic(auto, unfolding(crate::specs::ModuleText::item_heading))]
-fn push_index(out: &mut Vec<u8>, index: usize) -> Result<(), AllocError>
-    ensures { OnOk result (out.new.items ≡ out.old.items ++ item_heading index) }
-{
-    push_pieces(
-        out,
-        &[
-            Piece::Words("module["),
-            Piece::Decimal(index as u64),
-            Piece::Words("]\n"),
-        ],
-    )
 }
 
 impl Pushed for MinidumpModule {
@@ -301,12 +170,12 @@ fn push_image(
         out,
         &[
             Piece::Words(title),
-            Piece::Words("\n  base_of_image                   = "),
-            Piece::Hex(base),
-            Piece::Words("\n  size_of_image                   = "),
-            Piece::Hex(size as u64),
-            Piece::Words("\n  checksum                        = "),
-            Piece::Hex(checksum as u64),
+            Piece::Words("\n  base_of_image                   = 0x"),
+            Piece::Digits(base),
+            Piece::Words("\n  size_of_image                   = 0x"),
+            Piece::Digits(size as u64),
+            Piece::Words("\n  checksum                        = 0x"),
+            Piece::Digits(checksum as u64),
             Piece::Words("\n"),
         ],
     )
@@ -319,8 +188,8 @@ fn push_name_rva(out: &mut Vec<u8>, name_rva: u32) -> Result<(), AllocError>
     push_pieces(
         out,
         &[
-            Piece::Words("  module_name_rva                 = "),
-            Piece::Hex(name_rva as u64),
+            Piece::Words("  module_name_rva                 = 0x"),
+            Piece::Digits(name_rva as u64),
             Piece::Words("\n"),
         ],
     )
@@ -362,32 +231,32 @@ fn push_version_info(out: &mut Vec<u8>, v: &VS_FIXEDFILEINFO) -> Result<(), Allo
     push_pieces(
         out,
         &[
-            Piece::Words("  version_info.signature          = "),
-            Piece::Hex(v.signature as u64),
-            Piece::Words("\n  version_info.struct_version     = "),
-            Piece::Hex(v.struct_version as u64),
-            Piece::Words("\n  version_info.file_version       = "),
-            Piece::Hex(v.file_version_hi as u64),
-            Piece::Words(":"),
-            Piece::Hex(v.file_version_lo as u64),
-            Piece::Words("\n  version_info.product_version    = "),
-            Piece::Hex(v.product_version_hi as u64),
-            Piece::Words(":"),
-            Piece::Hex(v.product_version_lo as u64),
-            Piece::Words("\n  version_info.file_flags_mask    = "),
-            Piece::Hex(v.file_flags_mask as u64),
-            Piece::Words("\n  version_info.file_flags         = "),
-            Piece::Hex(v.file_flags as u64),
-            Piece::Words("\n  version_info.file_os            = "),
-            Piece::Hex(v.file_os as u64),
-            Piece::Words("\n  version_info.file_type          = "),
-            Piece::Hex(v.file_type as u64),
-            Piece::Words("\n  version_info.file_subtype       = "),
-            Piece::Hex(v.file_subtype as u64),
-            Piece::Words("\n  version_info.file_date          = "),
-            Piece::Hex(v.file_date_hi as u64),
-            Piece::Words(":"),
-            Piece::Hex(v.file_date_lo as u64),
+            Piece::Words("  version_info.signature          = 0x"),
+            Piece::Digits(v.signature as u64),
+            Piece::Words("\n  version_info.struct_version     = 0x"),
+            Piece::Digits(v.struct_version as u64),
+            Piece::Words("\n  version_info.file_version       = 0x"),
+            Piece::Digits(v.file_version_hi as u64),
+            Piece::Words(":0x"),
+            Piece::Digits(v.file_version_lo as u64),
+            Piece::Words("\n  version_info.product_version    = 0x"),
+            Piece::Digits(v.product_version_hi as u64),
+            Piece::Words(":0x"),
+            Piece::Digits(v.product_version_lo as u64),
+            Piece::Words("\n  version_info.file_flags_mask    = 0x"),
+            Piece::Digits(v.file_flags_mask as u64),
+            Piece::Words("\n  version_info.file_flags         = 0x"),
+            Piece::Digits(v.file_flags as u64),
+            Piece::Words("\n  version_info.file_os            = 0x"),
+            Piece::Digits(v.file_os as u64),
+            Piece::Words("\n  version_info.file_type          = 0x"),
+            Piece::Digits(v.file_type as u64),
+            Piece::Words("\n  version_info.file_subtype       = 0x"),
+            Piece::Digits(v.file_subtype as u64),
+            Piece::Words("\n  version_info.file_date          = 0x"),
+            Piece::Digits(v.file_date_hi as u64),
+            Piece::Words(":0x"),
+            Piece::Digits(v.file_date_lo as u64),
             Piece::Words("\n"),
         ],
     )
@@ -402,12 +271,12 @@ fn push_places(out: &mut Vec<u8>, raw: &MINIDUMP_MODULE) -> Result<(), AllocErro
         &[
             Piece::Words("  cv_record.data_size             = "),
             Piece::Decimal(raw.cv_record.data_size as u64),
-            Piece::Words("\n  cv_record.rva                   = "),
-            Piece::Hex(raw.cv_record.rva as u64),
+            Piece::Words("\n  cv_record.rva                   = 0x"),
+            Piece::Digits(raw.cv_record.rva as u64),
             Piece::Words("\n  misc_record.data_size           = "),
             Piece::Decimal(raw.misc_record.data_size as u64),
-            Piece::Words("\n  misc_record.rva                 = "),
-            Piece::Hex(raw.misc_record.rva as u64),
+            Piece::Words("\n  misc_record.rva                 = 0x"),
+            Piece::Digits(raw.misc_record.rva as u64),
             Piece::Words("\n"),
         ],
     )
@@ -570,8 +439,8 @@ fn push_pdb70_numbers(
     push_pieces(
         out,
         &[
-            Piece::Words("  (cv_record).cv_signature        = "),
-            Piece::Hex(signature as u64),
+            Piece::Words("  (cv_record).cv_signature        = 0x"),
+            Piece::Digits(signature as u64),
             Piece::Words("\n  (cv_record).signature           = "),
             Piece::Words(guid),
             Piece::Words("\n  (cv_record).age                 = "),
@@ -602,10 +471,10 @@ fn push_pdb20_header(out: &mut Vec<u8>, cv: &CV_INFO_PDB20) -> Result<(), AllocE
     push_pieces(
         out,
         &[
-            Piece::Words("  (cv_record).cv_header.signature = "),
-            Piece::Hex(cv.cv_signature as u64),
-            Piece::Words("\n  (cv_record).cv_header.offset    = "),
-            Piece::Hex(cv.cv_offset as u64),
+            Piece::Words("  (cv_record).cv_header.signature = 0x"),
+            Piece::Digits(cv.cv_signature as u64),
+            Piece::Words("\n  (cv_record).cv_header.offset    = 0x"),
+            Piece::Digits(cv.cv_offset as u64),
             Piece::Words("\n"),
         ],
     )
@@ -640,8 +509,8 @@ fn push_elf_signature(out: &mut Vec<u8>, signature: u32) -> Result<(), AllocErro
     push_pieces(
         out,
         &[
-            Piece::Words("  (cv_record).cv_signature        = "),
-            Piece::Hex(signature as u64),
+            Piece::Words("  (cv_record).cv_signature        = 0x"),
+            Piece::Digits(signature as u64),
             Piece::Words("\n"),
         ],
     )

@@ -1,5 +1,4 @@
 -- The lemmas of this crate.
-pub mod NumberedLemmas
 pub mod ThreadLemmas
 pub mod HandleLemmas
 pub mod CrashpadLemmas

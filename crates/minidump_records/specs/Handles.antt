@@ -25,7 +25,7 @@ use Rattle.minidump_records.specs.declared.handles.raw.RawHandleDescriptor.TheVa
 use Rattle.minidump_records.specs.Handles.Descriptor.{object_info_rva, object_name_rva, type_name_rva}
 use Rattle.minidump_records.specs.Handles.ObjectChain.{chain_reads, information_at, information_text, reads_at}
 use Rattle.minidump_records.specs.Handles.OneObjectChain.{one_object_chain}
-use Rattle.minidump_records.specs.Numbered.{numbered_list}
+use Rattle.minidump_format.specs.Numbered.{numbered_list}
 
 -- ---- a handle
 

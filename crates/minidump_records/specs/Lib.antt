@@ -1,5 +1,4 @@
 -- What the contracts of this crate cite: a module for each stream.
-pub mod Numbered
 pub mod ThreadNames
 pub mod ThreadInfo
 pub mod Handles

@@ -9,7 +9,7 @@ use Rattle.minidump_format.specs.declared.format.thread.MINIDUMP_THREAD_INFO.{MI
 use Rattle.minidump_format.specs.Thread.{thread_info}
 use Rattle.minidump_system.specs.Framing.{list_header_of, extended_list}
 use Rattle.minidump_system.specs.StreamSpec.{StreamSpec, linear}
-use Rattle.minidump_records.specs.Numbered.{numbered_list}
+use Rattle.minidump_format.specs.Numbered.{numbered_list}
 use Rattle.minidump_records.specs.declared.thread_info.MinidumpThreadInfo.{MinidumpThreadInfo}
 use Rattle.minidump_records.specs.declared.thread_info.MinidumpThreadInfoList.{MinidumpThreadInfoList}
 

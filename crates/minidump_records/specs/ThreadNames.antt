@@ -13,7 +13,7 @@ use Rattle.minidump_format.specs.Thread.{thread_name}
 use Rattle.minidump_system.specs.Framing.{count_of, plain_list}
 use Rattle.minidump_system.specs.StreamSpec.{StreamSpec, linear}
 use Rattle.minidump_system.specs.Reads.{and_then}
-use Rattle.minidump_records.specs.Numbered.{numbered_list}
+use Rattle.minidump_format.specs.Numbered.{numbered_list}
 use Rattle.minidump_records.specs.declared.thread_names.MinidumpThreadNames.{MinidumpThreadNames}
 
 -- the id of a thread and its name, in UTF-8

@@ -76,7 +76,6 @@ mod handles;
 pub mod laws;
 mod linux;
 mod mac_crash_info;
-mod numbered;
 mod optional;
 mod print;
 mod soft_errors;

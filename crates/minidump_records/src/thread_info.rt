@@ -3,10 +3,9 @@ ghost use Rattle.std.specs.Option.{option_copied};
 ghost use Rattle.minidump_format.specs.Print.{Prints};
 ghost use Rattle.minidump_records.specs.ThreadInfo.{thread_info_list_of, last_info, thread_info_text, thread_info_list_text};
 
-use crate::numbered::print_numbered;
 use minidump_bytes::{Endian, Entries, Piece, Source, Steps, Told, push_pieces};
 use minidump_format::format::MINIDUMP_THREAD_INFO;
-use minidump_format::{Error, Pushed, print_item};
+use minidump_format::{Error, Pushed, print_item, print_numbered};
 use minidump_system::framing::extended_entries;
 use minidump_system::{MinidumpStream, MinidumpSystemInfo};
 use std::alloc::{AllocError, Global};

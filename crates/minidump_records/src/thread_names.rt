@@ -7,13 +7,12 @@ ghost use Rattle.minidump_bytes.specs.Source.{bytes_of};
 ghost use Rattle.minidump_bytes.specs.Steps.{after};
 ghost use Rattle.minidump_bytes.specs.Text16.{text16};
 ghost use Rattle.minidump_format.specs.Print.{Prints};
-ghost use Rattle.minidump_records.specs.Numbered.{count_text, numbered_item, numbered_text};
+ghost use Rattle.minidump_format.specs.Numbered.{count_text, numbered_item, numbered_text};
 ghost use Rattle.minidump_records.specs.ThreadNames.{last_names, name_of_thread, named, thread_name_text, thread_names_of, thread_names_stream, thread_names_text};
 
-use crate::numbered::{print_count, push_index};
 use minidump_bytes::{Endian, Entries, Piece, Source, Steps, Told, push_pieces};
 use minidump_format::format::MINIDUMP_THREAD_NAME;
-use minidump_format::{Error, put_bytes};
+use minidump_format::{Error, print_count, push_index, put_bytes};
 use minidump_system::framing::plain_entries;
 use minidump_system::{MinidumpStream, MinidumpSystemInfo};
 use std::alloc::{AllocError, Global};

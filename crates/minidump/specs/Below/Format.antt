@@ -20,6 +20,7 @@ pub use Rattle.minidump_format.specs.Memory
 pub use Rattle.minidump_format.specs.MemoryInfo
 pub use Rattle.minidump_format.specs.Misc
 pub use Rattle.minidump_format.specs.Module
+pub use Rattle.minidump_format.specs.Numbered
 pub use Rattle.minidump_format.specs.Print
 pub use Rattle.minidump_format.specs.StreamType
 pub use Rattle.minidump_format.specs.System

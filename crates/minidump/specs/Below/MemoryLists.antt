@@ -9,7 +9,6 @@ pub use Rattle.minidump_memory.specs.MapLine
 pub use Rattle.minidump_memory.specs.LinuxMaps
 pub use Rattle.minidump_memory.specs.UnifiedInfo
 pub use Rattle.minidump_memory.specs.UnifiedInfoIter
-pub use Rattle.minidump_memory.specs.Numbered
 pub use Rattle.minidump_memory.specs.Contents
 pub use Rattle.minidump_memory.specs.MemoryText
 pub use Rattle.minidump_memory.specs.InfoText

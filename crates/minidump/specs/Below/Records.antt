@@ -17,7 +17,6 @@ pub use Rattle.minidump_records.specs.Handles.ObjectChain
 pub use Rattle.minidump_records.specs.MacCrashInfo.Record
 pub use Rattle.minidump_records.specs.MacCrashInfo
 pub use Rattle.minidump_records.specs.Bounds
-pub use Rattle.minidump_records.specs.Numbered
 pub use Rattle.minidump_records.specs.Print
 pub use Rattle.minidump_records.specs.Crashpad.Text as CrashpadText
 pub use Rattle.minidump_records.specs.MacCrashInfo.Text as MacCrashInfoText

@@ -6,11 +6,10 @@ ghost use Rattle.minidump_records.specs.Handles.{fields_text, handle_data_of, ha
 ghost use Rattle.minidump_records.specs.Handles.ObjectChain.{information_text};
 
 use super::{MinidumpHandleDataStream, MinidumpHandleDescriptor, MinidumpHandleObjectInformation};
-use crate::numbered::print_numbered;
 use crate::optional::optional_hex;
 use minidump_bytes::{Piece, Told, push_pieces};
 use minidump_format::format::MINIDUMP_HANDLE_DESCRIPTOR;
-use minidump_format::{Error, Pushed, print_item};
+use minidump_format::{Error, Pushed, print_item, print_numbered};
 use std::alloc::{AllocError, Global};
 use std::io::Write;
 

@@ -2,10 +2,10 @@
 use Rattle.std.proofs.Common.{codes}
 use Rattle.minidump_memory.specs.Memory.{memory_of}
 use Rattle.minidump_memory.specs.MemoryText.{descriptor_text, region_text}
-use Rattle.minidump_memory.proofs.NumberedLemmas.{of_views}
+use Rattle.minidump_format.proofs.NumberedLemmas.{numbered_list_map}
 use Rattle.minidump_memory.proofs.memory_print.MinidumpMemoryList.print.Goals as goal
 
 pub returns : goal.returns
 returns g c =
-    let views = of_views (codes "MinidumpMemoryList") memory_of (region_text descriptor_text c.args.brief) c.as_slice.result.now in
-    rw (← c.as_slice.ensures, ← views) c.print_memory.ensures
+    let heading = codes "MinidumpMemoryList\n  region_count = " in
+    rw (← c.as_slice.ensures, numbered_list_map heading (codes "region") (region_text descriptor_text c.args.brief) memory_of c.as_slice.result.now) c.print_memory.ensures

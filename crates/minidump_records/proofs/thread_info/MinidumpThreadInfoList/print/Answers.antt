@@ -1,7 +1,7 @@
 -- The text of the entries is that of the items.
 use Rattle.std.specs.Prelude.{codes}
 use Rattle.minidump_records.specs.ThreadInfo.{thread_info_text}
-use Rattle.minidump_records.proofs.NumberedLemmas.{numbered_list_map}
+use Rattle.minidump_format.proofs.NumberedLemmas.{numbered_list_map}
 use Rattle.minidump_records.proofs.thread_info.MinidumpThreadInfoList.print.Goals as goal
 
 pub returns : goal.returns

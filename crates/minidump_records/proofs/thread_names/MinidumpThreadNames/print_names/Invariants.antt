@@ -3,7 +3,7 @@ use Rattle.std.proofs.Common.{◌+◌, ◌<◌, ◌++◌, ℕ, List, codes, map,
 use Rattle.std.specs.List.{enumerate_from, flat_map}
 use Prim.Native.Nat.{◌^◌}
 use Rattle.minidump_format.proofs.Printing.{PutsAllBut}
-use Rattle.minidump_records.specs.Numbered.{numbered_item, numbered_text}
+use Rattle.minidump_format.specs.Numbered.{numbered_item, numbered_text}
 use Rattle.minidump_records.specs.ThreadNames.{ThreadName, thread_name_text, thread_names_of}
 use Rattle.minidump_records.proofs.thread_names.MinidumpThreadNames.print_names.Given as goal
 

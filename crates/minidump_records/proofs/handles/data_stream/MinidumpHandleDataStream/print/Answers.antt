@@ -1,7 +1,7 @@
 -- The text of the handles is that of the items.
 use Rattle.std.specs.Prelude.{codes}
 use Rattle.minidump_records.specs.Handles.{handle_of, handle_text}
-use Rattle.minidump_records.proofs.NumberedLemmas.{numbered_list_map}
+use Rattle.minidump_format.proofs.NumberedLemmas.{numbered_list_map}
 use Rattle.minidump_records.proofs.handles.data_stream.MinidumpHandleDataStream.print.Goals as goal
 
 pub returns : goal.returns

@@ -1,23 +1,23 @@
 ghost use Rattle.std.specs.Prelude.{◌≡◌, ◌++◌, OnOk};
 ghost use Rattle.minidump_format.specs.Print.{Prints};
-ghost use Rattle.minidump_records.specs.Numbered.{count_text, index_line, numbered_list, numbered_text};
+ghost use Rattle.minidump_format.specs.Numbered.{count_text, index_line, numbered_list, numbered_text};
 
+use crate::{Counted, Error, Pushed, print_counted, put_formatted};
 use minidump_bytes::{Piece, Told, made, push_pieces};
-use minidump_format::{Counted, Error, Pushed, print_counted, put_formatted};
 use std::alloc::{AllocError, Global};
 use std::io::Write;
 
 // Items, each of which is printed behind a line of a name and its index.
 #[derive(Drop)]
 struct Numbered<'a, T> {
-    name: &'static str,
+    name: &'a str,
     items: &'a [T],
 }
 
 impl<'a, T: Pushed> Counted for Numbered<'a, T> {
     ghost use Rattle.std.specs.Prelude.{drop, length, take};
     ghost use Rattle.std.specs.List.{flat_map};
-    ghost use Rattle.minidump_records.specs.Numbered.{numbered_item};
+    ghost use Rattle.minidump_format.specs.Numbered.{numbered_item};
 
     ghost count = { λ n. length n.items.now };
 
@@ -33,10 +33,10 @@ impl<'a, T: Pushed> Counted for Numbered<'a, T> {
     }
 }
 
-// Prints a heading that ends with a count, and an empty line.
+/// Prints a heading that ends with a count, and an empty line.
 #[tactic(auto, unfolding(crate::specs::Numbered::count_text))]
-pub(crate) fn print_count<W: Write>(
-    heading: &'static str,
+pub fn print_count<W: Write>(
+    heading: &str,
     count: usize,
     alloc: Global,
     f: &mut Told<W>,
@@ -54,13 +54,13 @@ pub(crate) fn print_count<W: Write>(
     put_formatted(f, text)
 }
 
-// Prints a heading that ends with the number of items, and then the items in order, each behind a line of the
-// name and its index.
-#[tactic(auto, using(minidump_format::proofs::Printing::prints_then, minidump_format::proofs::Printing::prints_exit))]
-pub(crate) fn print_numbered<T: Pushed, W: Write>(
-    heading: &'static str,
-    name: &'static str,
-    items: &[T],
+/// Prints a heading that ends with the number of items, and then the items in order, each behind a line of the
+/// name and its index.
+#[tactic(auto, using(crate::proofs::Printing::prints_then, crate::proofs::Printing::prints_exit))]
+pub fn print_numbered<'a, T: Pushed, W: Write>(
+    heading: &str,
+    name: &'a str,
+    items: &'a [T],
     alloc: Global,
     f: &mut Told<W>,
 ) -> Result<(), Error>
@@ -71,9 +71,9 @@ pub(crate) fn print_numbered<T: Pushed, W: Write>(
 }
 
 // Prints items in order, each behind a line of the name and its index.
-fn print_items<T: Pushed, W: Write>(
-    name: &'static str,
-    items: &[T],
+fn print_items<'a, T: Pushed, W: Write>(
+    name: &'a str,
+    items: &'a [T],
     alloc: Global,
     f: &mut Told<W>,
 ) -> Result<(), Error>
@@ -82,13 +82,9 @@ fn print_items<T: Pushed, W: Write>(
     print_counted(&Numbered { name, items }, alloc, f)
 }
 
-// Appends the line in front of an item.
+/// Appends the line in front of an item.
 #[tactic(auto, unfolding(crate::specs::Numbered::index_line))]
-pub(crate) fn push_index(
-    out: &mut Vec<u8>,
-    name: &'static str,
-    index: usize,
-) -> Result<(), AllocError>
+pub fn push_index(out: &mut Vec<u8>, name: &str, index: usize) -> Result<(), AllocError>
     ensures { OnOk result (out.new.items ≡ out.old.items ++ index_line name.now index) }
 {
     push_pieces(

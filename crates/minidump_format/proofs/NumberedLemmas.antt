@@ -3,7 +3,7 @@ use Rattle.std.specs.Prelude.{◌≡◌, ℕ, ◌+◌, List, [], ◌∷◌, ◌+
 use Rattle.std.specs.List.{enumerate_from, flat_map, range_with_len}
 use Rattle.std.proofs.Common.{ap, refl, sym, ◌∙◌, append-nil}
 use Rattle.std.proofs.lemmas.List.{drop-drop, length-map}
-use Rattle.minidump_records.specs.Numbered.{count_text, numbered_item, numbered_list}
+use Rattle.minidump_format.specs.Numbered.{count_text, numbered_item, numbered_list}
 
 -- the text of the item at an index
 abbrev pub text_at : {X : Type 0} → (ℕ × X → List ℕ) → List X → ℕ → List ℕ
