@@ -6,6 +6,8 @@
 //! With no rounds it only makes what the rounds work on. It writes how many lookups found a range.
 #![tactic(auto)]
 
+ghost use Rattle.std.specs.Prelude.{◌≡◌, IfOk, length};
+
 use anyhow::{Result, bail};
 use minidump_bytes::Steps;
 use minidump_index::{AddressIndex, Range};
@@ -13,7 +15,9 @@ use std::alloc::{AllocError, Global};
 use std::env;
 
 // Makes `count` ranges of 4096 addresses, each 8192 behind the one before.
-fn ranges(alloc: Global, count: u32) -> Result<Vec<Option<Range>>, AllocError> {
+fn ranges(alloc: Global, count: u32) -> Result<Vec<Option<Range>>, AllocError>
+    ensures { IfOk result (λ v. length v.items ≡ count) }
+{
     let mut ranges = Vec::new(alloc);
     for i in 0..count {
         ranges.push(Range::from_size(65536 + 8192 * (i as u64), 4096))?;
@@ -22,15 +26,17 @@ fn ranges(alloc: Global, count: u32) -> Result<Vec<Option<Range>>, AllocError> {
 }
 
 // Makes a million addresses among `count` ranges, in an order that no processor guesses.
-fn addresses(alloc: Global, count: u32) -> Result<Vec<u64>, AllocError> {
+fn addresses(alloc: Global, count: u32) -> Result<Vec<u64>, AllocError>
+    ensures { IfOk result (λ v. length v.items ≡ 1000000) }
+{
     let span = 8192 * (count as u64) + 1;
     let mut state = 0x9e37_79b9_7f4a_7c15u64;
     let mut asked = Vec::new(alloc);
-    for _ in 0..1_000_000 {
+    for i in 0..1_000_000u64 {
         state ^= state << 13;
         state ^= state >> 7;
         state ^= state << 17;
-        asked.push(65536u64.wrapping_add(state % span))?;
+        asked.push(65536u64.wrapping_add(state.wrapping_add(i) % span))?;
     }
     Ok(asked)
 }
