@@ -1,4 +1,4 @@
-ghost use Rattle.std.specs.Prelude.{◌≡◌, ◌+◌, ◌-◌, ◌^◌, ◌<◌, ◌≤◌, ℕ, Some, IfOk, IfErr, IfSome, OnErr, IsTrue, MatchBool, All, Any, MatchOption, [], ◌∷◌, ◌++◌, length, map, List, Option};
+ghost use Rattle.std.specs.Prelude.{◌≡◌, ◌+◌, ◌-◌, ◌*◌, ◌^◌, ◌<◌, ◌≤◌, ℕ, Some, IfOk, IfErr, IfSome, OnErr, IsTrue, MatchBool, All, Any, MatchOption, [], ◌∷◌, ◌++◌, length, map, List, Option};
 ghost use Rattle.std.specs.Iterator.{YieldsFirst, YieldsLast, UpTo, at_most, item_count};
 ghost use Rattle.std.specs.Iterator.SizeHint.{IsWithinCount};
 ghost use Rattle.std.specs.List.Sorted.{IsPermutation};
@@ -167,6 +167,27 @@ fn put_entries(tree: &mut Vec<Entry>, entries: &[Entry])
     }
 }
 
+// Compares the entry at a place with the address. Returns the place to go on at, and the last place so far
+// whose range starts no later than the address.
+#[inline]
+fn below(
+    entry: Entry,
+    place: usize,
+    found: usize,
+    address: u64,
+    steps: &mut Steps,
+) -> (usize, usize)
+    requires { 2 * place + 2 < 2 ^ 64 }
+    ensures left { address < entry.range.start → result ≡ (2 * place + 1, found) }
+    ensures right { entry.range.start ≤ address → result ≡ (2 * place + 2, place) }
+    ensures step { steps.new ≡ after steps.old 1 }
+{
+    match probe(entry.range.start, entry.range.end, address, steps) {
+        Ordering::Less => (2 * place + 1, found),
+        Ordering::Equal | Ordering::Greater => (2 * place + 2, place),
+    }
+}
+
 impl AddressIndex {
     // Makes the index of no ranges.
     pub(crate) fn empty(alloc: Global) -> AddressIndex
@@ -241,22 +262,33 @@ impl AddressIndex {
     ///
     /// Makes at most as many comparisons as the number of kept ranges has binary digits, and at least one
     /// unless the index is empty.
+    // Inlined, so that a count that nobody reads costs nothing.
+    #[inline(always)]
     pub fn find(&self, address: u64, steps: &mut Steps) -> Option<usize>
         ensures found { IsFound self.now address result }
         ensures within { steps.new ≤ steps.old + digits (length self.now) }
         ensures grows { steps.old ≤ steps.new }
         ensures compared { 0 < length self.now → after steps.old 1 ≤ steps.new }
     {
+        let len = self.tree.len();
+        // The first place of the level, the place that the lookup is at, and the last place whose range
+        // starts no later than the address.
+        let mut first = 0;
         let mut place = 0;
-        while place < self.tree.len() {
-            let entry = self.tree[place];
-            place = match probe(entry.range.start, entry.range.end, address, steps) {
-                Ordering::Less => 2 * place + 1,
-                Ordering::Equal => return Some(entry.place),
-                Ordering::Greater => 2 * place + 2,
-            };
+        let mut found = len;
+        while first < len / 2 {
+            (place, found) = below(self.tree[place], place, found, address, steps);
+            first = 2 * first + 1;
         }
-        None
+        if place < len {
+            (_, found) = below(self.tree[place], place, found, address, steps);
+        }
+        let entry = self.tree.get(found)?;
+        if address <= entry.range.end {
+            Some(entry.place)
+        } else {
+            None
+        }
     }
 }
 
