@@ -11,3 +11,4 @@ pub mod MapEqualityLemmas
 pub mod Listed
 pub mod ContentsLemmas
 pub mod NumberedLemmas
+mod InsideLemmas
