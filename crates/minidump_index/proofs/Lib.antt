@@ -3,6 +3,7 @@ pub mod AddressOrder
 pub mod AscendingRegions
 pub mod ContainsLemmas
 pub mod DigitsLemmas
+pub mod FoundInside
 pub mod KeptEntries
 pub mod KeptSetExists
 pub mod LookedUp

@@ -1,4 +1,4 @@
-ghost use Rattle.std.specs.Prelude.{◌≡◌, ◌+◌, ◌≤◌, ◌<◌, [], length, map, IfOk, IsOkUnless, OnErr};
+ghost use Rattle.std.specs.Prelude.{◌≡◌, ◌+◌, ◌≤◌, ◌<◌, [], length, map, ◌↔◌, IfOk, IfSome, IsOkUnless, IsTrue, OnErr};
 ghost use Rattle.std.specs.Option.{option_copied};
 ghost use Rattle.std.specs.Slice.Iter.{iter_rest};
 ghost use Rattle.minidump_bytes.specs.Source.{bytes_of};
@@ -51,9 +51,11 @@ impl<'a> MinidumpLinuxMaps<'a> {
         })
     }
 
-    /// Returns the kept region that contains `address`, or `None` if no kept region does.
+    /// Returns the kept region that contains `address`, or `None` if no kept region does. The region begins at or
+    /// below the address and ends behind it.
     pub fn memory_info_at_address(&self, address: u64) -> Option<&MinidumpLinuxMapInfo<'a>>
-        ensures { IsLookedUp map_range (maps_of self.now) address (option_copied result) }
+        ensures inside { IfSome result (λ m. (m.now.map.address.0 ≤ address) × (address < m.now.map.address.1)) }
+        ensures found { IsLookedUp map_range (maps_of self.now) address (option_copied result) }
     {
         self.memory_info_at_address_counted(address, &mut Steps::new())
     }
@@ -70,7 +72,21 @@ impl<'a> MinidumpLinuxMaps<'a> {
         self.regions.at_address(address, steps)
     }
 
-    /// Returns an iterator over all regions, in the order of the list.
+    /// Returns the number of regions, those that are not kept among them.
+    pub fn len(&self) -> usize
+        ensures { result ≡ length (maps_of self.now) }
+    {
+        self.regions.as_slice().len()
+    }
+
+    /// Tells whether the list has no region.
+    pub fn is_empty(&self) -> bool
+        ensures { IsTrue result ↔ (length (maps_of self.now) ≡ 0) }
+    {
+        self.regions.as_slice().is_empty()
+    }
+
+    /// Returns an iterator over all regions, in the order of the list, those that are not kept among them.
     pub fn iter(&self) -> slice::Iter<'_, MinidumpLinuxMapInfo<'a>>
         ensures { iter_rest result ≡ maps_of self.now }
     {
@@ -105,6 +121,22 @@ impl<'a> MinidumpLinuxMaps<'a> {
     {
         let regions = copied_regions(alloc, self.regions.as_slice())?;
         MinidumpLinuxMaps::from_regions(alloc, regions)
+    }
+}
+
+impl<'l, 'a> IntoIterator for &'l MinidumpLinuxMaps<'a> {
+    ghost use Rattle.std.specs.Prelude.{◌≡◌};
+    ghost use Rattle.std.specs.Slice.Iter.{iter_rest};
+    ghost use Rattle.minidump_memory.specs.LinuxMaps.{maps_of};
+
+    type Item = &'l MinidumpLinuxMapInfo<'a>;
+
+    type IntoIter = slice::Iter<'l, MinidumpLinuxMapInfo<'a>>;
+
+    ghost into_iter_gives = { λ list it. iter_rest it ≡ maps_of list.now };
+
+    fn into_iter(self) -> slice::Iter<'l, MinidumpLinuxMapInfo<'a>> {
+        self.iter()
     }
 }
 

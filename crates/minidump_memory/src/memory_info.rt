@@ -1,4 +1,4 @@
-ghost use Rattle.std.specs.Prelude.{◌≡◌, ◌+◌, ◌≤◌, ◌<◌, [], length, map, IfOk, IsOkUnless, OnErr};
+ghost use Rattle.std.specs.Prelude.{◌≡◌, ◌+◌, ◌≤◌, ◌<◌, [], length, map, ◌↔◌, IfOk, IfSome, IsOkUnless, IsTrue, OnErr};
 ghost use Rattle.std.specs.Option.{option_copied};
 ghost use Rattle.std.specs.Slice.Iter.{iter_rest};
 ghost use Rattle.minidump_format.specs.StreamType.{number_of};
@@ -144,9 +144,12 @@ impl<'a> MinidumpMemoryInfoList<'a> {
         })
     }
 
-    /// Returns the kept region that contains `address`, or `None` if no kept region does.
+    /// Returns the kept region that contains `address`, or `None` if no kept region does. The region begins at or
+    /// below the address and ends behind it.
     pub fn memory_info_at_address(&self, address: u64) -> Option<&MinidumpMemoryInfo<'a>>
-        ensures { IsLookedUp memory_info_range (infos_of self.now) address (option_copied result) }
+        ensures inside { IfSome result (λ m. (m.now.raw.base_address ≤ address)
+            × (address < m.now.raw.base_address + m.now.raw.region_size)) }
+        ensures found { IsLookedUp memory_info_range (infos_of self.now) address (option_copied result) }
     {
         self.memory_info_at_address_counted(address, &mut Steps::new())
     }
@@ -163,7 +166,21 @@ impl<'a> MinidumpMemoryInfoList<'a> {
         self.regions.at_address(address, steps)
     }
 
-    /// Returns an iterator over all regions, in the order of the list.
+    /// Returns the number of regions, those that are not kept among them.
+    pub fn len(&self) -> usize
+        ensures { result ≡ length (infos_of self.now) }
+    {
+        self.regions.as_slice().len()
+    }
+
+    /// Tells whether the list has no region.
+    pub fn is_empty(&self) -> bool
+        ensures { IsTrue result ↔ (length (infos_of self.now) ≡ 0) }
+    {
+        self.regions.as_slice().is_empty()
+    }
+
+    /// Returns an iterator over all regions, in the order of the list, those that are not kept among them.
     pub fn iter(&self) -> slice::Iter<'_, MinidumpMemoryInfo<'a>>
         ensures { iter_rest result ≡ infos_of self.now }
     {
@@ -191,6 +208,22 @@ impl<'a> MinidumpMemoryInfoList<'a> {
     {
         let regions = Vec::from_slice(alloc, self.regions.as_slice())?;
         MinidumpMemoryInfoList::from_regions(alloc, regions)
+    }
+}
+
+impl<'l, 'a> IntoIterator for &'l MinidumpMemoryInfoList<'a> {
+    ghost use Rattle.std.specs.Prelude.{◌≡◌};
+    ghost use Rattle.std.specs.Slice.Iter.{iter_rest};
+    ghost use Rattle.minidump_memory.specs.MemoryInfo.{infos_of};
+
+    type Item = &'l MinidumpMemoryInfo<'a>;
+
+    type IntoIter = slice::Iter<'l, MinidumpMemoryInfo<'a>>;
+
+    ghost into_iter_gives = { λ list it. iter_rest it ≡ infos_of list.now };
+
+    fn into_iter(self) -> slice::Iter<'l, MinidumpMemoryInfo<'a>> {
+        self.iter()
     }
 }
 

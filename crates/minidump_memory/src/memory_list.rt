@@ -1,4 +1,4 @@
-ghost use Rattle.std.specs.Prelude.{◌≡◌, ◌+◌, ◌≤◌, ◌<◌, [], map, length, IfOk, IsOkUnless, OnErr};
+ghost use Rattle.std.specs.Prelude.{◌≡◌, ◌+◌, ◌≤◌, ◌<◌, [], map, length, ◌↔◌, IfOk, IfSome, IsOkUnless, IsTrue, OnErr};
 ghost use Rattle.std.specs.List.{sum_by};
 ghost use Rattle.std.specs.Option.{option_copied, option_map};
 ghost use Rattle.std.specs.Result.{result_ok};
@@ -61,9 +61,12 @@ impl<'a, D: Drop> MinidumpMemoryListBase<'a, D> {
         })
     }
 
-    /// Returns the kept region that contains `address`, or `None` if no kept region does.
+    /// Returns the kept region that contains `address`, or `None` if no kept region does. The region begins at or
+    /// below the address and ends behind it.
     pub fn memory_at_address(&self, address: u64) -> Option<&MinidumpMemoryBase<'a, D>>
-        ensures { IsLookedUp memory_range (regions_of self.now) address (option_copied result) }
+        ensures inside { IfSome result (λ m. (m.now.base_address ≤ address)
+            × (address < m.now.base_address + m.now.size)) }
+        ensures found { IsLookedUp memory_range (regions_of self.now) address (option_copied result) }
     {
         self.memory_at_address_counted(address, &mut Steps::new())
     }
@@ -80,7 +83,22 @@ impl<'a, D: Drop> MinidumpMemoryListBase<'a, D> {
         self.regions.at_address(address, steps)
     }
 
-    /// Returns an iterator over all regions, in the order of the list.
+    /// Returns the number of regions, those that are not kept among them.
+    pub fn len(&self) -> usize
+        ensures { result ≡ length (regions_of self.now) }
+    {
+        self.regions.as_slice().len()
+    }
+
+    /// Tells whether the list has no region.
+    pub fn is_empty(&self) -> bool
+        ensures { IsTrue result ↔ (length (regions_of self.now) ≡ 0) }
+    {
+        self.regions.as_slice().is_empty()
+    }
+
+    /// Returns an iterator over all regions, in the order of the list, those that are not kept among them. A
+    /// descriptor of the stream that is skipped is no region of the list.
     pub fn iter(&self) -> slice::Iter<'_, MinidumpMemoryBase<'a, D>>
         ensures { iter_rest result ≡ regions_of self.now }
     {
@@ -99,6 +117,22 @@ impl<'a, D: Drop> MinidumpMemoryListBase<'a, D> {
         ensures { result.now ≡ regions_of self.now }
     {
         self.regions.as_slice()
+    }
+}
+
+impl<'l, 'a, D: Drop> IntoIterator for &'l MinidumpMemoryListBase<'a, D> {
+    ghost use Rattle.std.specs.Prelude.{◌≡◌};
+    ghost use Rattle.std.specs.Slice.Iter.{iter_rest};
+    ghost use Rattle.minidump_memory.specs.MemoryList.{regions_of};
+
+    type Item = &'l MinidumpMemoryBase<'a, D>;
+
+    type IntoIter = slice::Iter<'l, MinidumpMemoryBase<'a, D>>;
+
+    ghost into_iter_gives = { λ list it. iter_rest it ≡ regions_of list.now };
+
+    fn into_iter(self) -> slice::Iter<'l, MinidumpMemoryBase<'a, D>> {
+        self.iter()
     }
 }
 

@@ -1,4 +1,4 @@
-ghost use Rattle.std.specs.Prelude.{◌≡◌, Some, IfSome, [], length, map};
+ghost use Rattle.std.specs.Prelude.{◌≡◌, ◌+◌, ◌≤◌, ◌<◌, ◌↔◌, Some, IfSome, IsTrue, [], length, map};
 ghost use Rattle.std.specs.Option.{option_copied, option_map};
 ghost use Rattle.std.specs.Iterator.{YieldsFirstBy, YieldsLastBy, UpTo, at_most, item_count};
 ghost use Rattle.std.specs.Iterator.SizeHint.{IsWithinCount};
@@ -92,9 +92,12 @@ impl<'a> UnifiedMemoryList<'a> {
         UnifiedMemoryList::Memory(MinidumpMemoryList::new(alloc))
     }
 
-    /// Returns the kept region of the list that contains `address`, or `None` if no kept region does.
+    /// Returns the kept region of the list that contains `address`, or `None` if no kept region does. The region
+    /// begins at or below the address and ends behind it.
     pub fn memory_at_address<'s>(&'s self, address: u64) -> Option<UnifiedMemory<'s, 'a>>
-        ensures { IsLookedUp region_range (unified_regions (unified_list self.now)) address (option_map unified_region result) }
+        ensures inside { IfSome result (λ m. ((unified_region m).base_address ≤ address)
+            × (address < (unified_region m).base_address + (unified_region m).size)) }
+        ensures found { IsLookedUp region_range (unified_regions (unified_list self.now)) address (option_map unified_region result) }
     {
         self.memory_at_address_counted(address, &mut Steps::new())
     }
@@ -118,7 +121,24 @@ impl<'a> UnifiedMemoryList<'a> {
         }
     }
 
-    /// Returns an iterator over all regions, in the order of the list.
+    /// Returns the number of regions, those that are not kept among them.
+    pub fn len(&self) -> usize
+        ensures { result ≡ length (unified_regions (unified_list self.now)) }
+    {
+        match self {
+            UnifiedMemoryList::Memory(list) => list.len(),
+            UnifiedMemoryList::Memory64(list) => list.len(),
+        }
+    }
+
+    /// Tells whether the list has no region.
+    pub fn is_empty(&self) -> bool
+        ensures { IsTrue result ↔ (length (unified_regions (unified_list self.now)) ≡ 0) }
+    {
+        self.len() == 0
+    }
+
+    /// Returns an iterator over all regions, in the order of the list, those that are not kept among them.
     pub fn iter(&self) -> UnifiedMemoryIter<'_, 'a>
         ensures { regions_left result ≡ unified_regions (unified_list self.now) }
     {
@@ -140,6 +160,22 @@ impl<'a> UnifiedMemoryList<'a> {
                 UnifiedMemoryList::Memory64(list) => Kept::Memory64(list.by_addr()),
             },
         }
+    }
+}
+
+impl<'l, 'a> IntoIterator for &'l UnifiedMemoryList<'a> {
+    ghost use Rattle.std.specs.Prelude.{◌≡◌};
+    ghost use Rattle.minidump_memory.specs.Unified.{unified_list, unified_regions};
+    ghost use Rattle.minidump_memory.specs.UnifiedIter.{regions_left};
+
+    type Item = UnifiedMemory<'l, 'a>;
+
+    type IntoIter = UnifiedMemoryIter<'l, 'a>;
+
+    ghost into_iter_gives = { λ list it. regions_left it ≡ unified_regions (unified_list list.now) };
+
+    fn into_iter(self) -> UnifiedMemoryIter<'l, 'a> {
+        self.iter()
     }
 }
 

@@ -1,8 +1,8 @@
-ghost use Rattle.std.specs.Prelude.{◌≡◌, Some, IfOk, IfSome, IsOkUnless, [], length, map};
+ghost use Rattle.std.specs.Prelude.{◌≡◌, ◌↔◌, Some, IfOk, IfSome, IsOkUnless, IsTrue, [], length, map};
 ghost use Rattle.std.specs.Option.{option_copied, option_map};
 ghost use Rattle.std.specs.Iterator.{YieldsFirstBy, YieldsLastBy, UpTo, at_most, item_count};
 ghost use Rattle.std.specs.Iterator.SizeHint.{IsWithinCount};
-ghost use Rattle.minidump_index.specs.Lookup.{IsByAddress, IsCountedLookup, IsLookedUp};
+ghost use Rattle.minidump_index.specs.Lookup.{HasAddress, IsByAddress, IsCountedLookup, IsLookedUp};
 ghost use Rattle.minidump_memory.specs.LinuxMaps.{map_info_of};
 ghost use Rattle.minidump_memory.specs.MemoryInfo.{info_of};
 ghost use Rattle.minidump_memory.specs.UnifiedInfo.{OfInfo, OfMaps, as_info, as_maps, info_list, info_or_maps, info_region, info_region_range, info_regions, region_is_executable, region_is_readable, region_is_writable};
@@ -98,9 +98,11 @@ impl<'a> UnifiedMemoryInfoList<'a> {
         UnifiedMemoryInfoList::Info(MinidumpMemoryInfoList::new(alloc))
     }
 
-    /// Returns the kept region of the list that contains `address`, or `None` if no kept region does.
+    /// Returns the kept region of the list that contains `address`, or `None` if no kept region does. The region
+    /// has a range of addresses, and the address lies in it.
     pub fn memory_info_at_address(&self, address: u64) -> Option<UnifiedMemoryInfo<'_, 'a>>
-        ensures { IsLookedUp info_region_range (info_regions (info_list self.now)) address (option_map info_region result) }
+        ensures inside { IfSome result (λ m. HasAddress info_region_range address (info_region m)) }
+        ensures found { IsLookedUp info_region_range (info_regions (info_list self.now)) address (option_map info_region result) }
     {
         self.memory_info_at_address_counted(address, &mut Steps::new())
     }
@@ -124,7 +126,24 @@ impl<'a> UnifiedMemoryInfoList<'a> {
         }
     }
 
-    /// Returns an iterator over all regions, in the order of the list.
+    /// Returns the number of regions, those that are not kept among them.
+    pub fn len(&self) -> usize
+        ensures { result ≡ length (info_regions (info_list self.now)) }
+    {
+        match self {
+            UnifiedMemoryInfoList::Maps(list) => list.len(),
+            UnifiedMemoryInfoList::Info(list) => list.len(),
+        }
+    }
+
+    /// Tells whether the list has no region.
+    pub fn is_empty(&self) -> bool
+        ensures { IsTrue result ↔ (length (info_regions (info_list self.now)) ≡ 0) }
+    {
+        self.len() == 0
+    }
+
+    /// Returns an iterator over all regions, in the order of the list, those that are not kept among them.
     pub fn iter(&self) -> UnifiedMemoryInfoIter<'_, 'a>
         ensures { infos_left result ≡ info_regions (info_list self.now) }
     {
@@ -181,6 +200,22 @@ impl<'a> UnifiedMemoryInfoList<'a> {
                 Ok(UnifiedMemoryInfoList::Info(list.try_clone(alloc)?))
             }
         }
+    }
+}
+
+impl<'l, 'a> IntoIterator for &'l UnifiedMemoryInfoList<'a> {
+    ghost use Rattle.std.specs.Prelude.{◌≡◌};
+    ghost use Rattle.minidump_memory.specs.UnifiedInfo.{info_list, info_regions};
+    ghost use Rattle.minidump_memory.specs.UnifiedInfoIter.{infos_left};
+
+    type Item = UnifiedMemoryInfo<'l, 'a>;
+
+    type IntoIter = UnifiedMemoryInfoIter<'l, 'a>;
+
+    ghost into_iter_gives = { λ list it. infos_left it ≡ info_regions (info_list list.now) };
+
+    fn into_iter(self) -> UnifiedMemoryInfoIter<'l, 'a> {
+        self.iter()
     }
 }
 

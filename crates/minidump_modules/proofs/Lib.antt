@@ -3,6 +3,7 @@ mod BreakpadLemmas
 mod FieldLemmas
 mod FoundLemmas
 mod GuidLemmas
+mod InsideLemmas
 mod KeptLemmas
 mod ListLemmas
 mod ListedLemmas

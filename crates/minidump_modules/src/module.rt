@@ -1,4 +1,4 @@
-ghost use Rattle.std.specs.Prelude.{◌≡◌, ◌+◌, ◌≤◌, [], IfOk, IsOkUnless, string_bytes};
+ghost use Rattle.std.specs.Prelude.{◌≡◌, ◌+◌, ◌-◌, ◌<◌, ◌≤◌, ◌&&◌, [], IfOk, IsOkUnless, None, Some, if◌then◌else◌, nat_le, nat_lt, string_bytes};
 ghost use Rattle.std.specs.Option.{ok_or, option_copied, option_map};
 ghost use Rattle.minidump_bytes.specs.declared.endian.Endian.TheVariants.{Little};
 ghost use Rattle.minidump_bytes.specs.Source.{bytes_of};
@@ -124,6 +124,19 @@ impl MinidumpModule {
         ensures { result ≡ (module_of self.now).os }
     {
         self.os
+    }
+
+    /// Returns the offset of `address` from the base address, or `None` if the module doesn't contain it.
+    pub fn offset_of(&self, address: u64) -> Option<u64>
+        ensures { result ≡ (if nat_le self.now.raw.base_of_image address
+            && nat_lt address (self.now.raw.base_of_image + self.now.raw.size_of_image)
+            then Some (address - self.now.raw.base_of_image) else None) }
+    {
+        let offset = address.checked_sub(self.raw.base_of_image)?;
+        if offset < self.raw.size_of_image as u64 {
+            return Some(offset);
+        }
+        None
     }
 
     // Returns what the identifier of the code is made of, or `None` if there is none.

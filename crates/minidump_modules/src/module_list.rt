@@ -1,4 +1,4 @@
-ghost use Rattle.std.specs.Prelude.{◌≡◌, ◌+◌, ◌*◌, ◌<◌, ◌≤◌, [], IfOk, IsOkUnless, OnErr, length, map, slice_get};
+ghost use Rattle.std.specs.Prelude.{◌≡◌, ◌+◌, ◌*◌, ◌<◌, ◌≤◌, [], IfOk, IfSome, IsOkUnless, IsTrue, OnErr, ◌↔◌, length, map, slice_get};
 ghost use Rattle.std.specs.Slice.Iter.{iter_rest};
 ghost use Rattle.std.specs.Option.{option_copied, option_map};
 ghost use Rattle.minidump_bytes.specs.Source.{bytes_of};
@@ -61,9 +61,12 @@ impl MinidumpModuleList {
         self.modules.as_slice().first()
     }
 
-    /// Returns the kept module that contains `address`, or `None` if no kept module does.
+    /// Returns the kept module that contains `address`, or `None` if no kept module does. The module begins at
+    /// or below the address and ends behind it.
     pub fn module_at_address(&self, address: u64) -> Option<&MinidumpModule>
-        ensures { IsLookedUp value_range (module_list_of self.now) address (option_map module_of (option_copied result)) }
+        ensures found { IsLookedUp value_range (module_list_of self.now) address (option_map module_of (option_copied result)) }
+        ensures inside { IfSome result (λ m. (m.now.raw.base_of_image ≤ address)
+            × (address < m.now.raw.base_of_image + m.now.raw.size_of_image)) }
     {
         self.module_at_address_counted(address, &mut Steps::new())
     }
@@ -80,7 +83,22 @@ impl MinidumpModuleList {
         self.modules.at_address(address, steps)
     }
 
-    /// Returns an iterator over all modules, in the order of the list.
+    /// Returns the number of modules, those that are not kept among them.
+    pub fn len(&self) -> usize
+        ensures { result ≡ length (modules_of self.now) }
+    {
+        self.modules.as_slice().len()
+    }
+
+    /// Tells whether the list has no module.
+    pub fn is_empty(&self) -> bool
+        ensures { IsTrue result ↔ (length (modules_of self.now) ≡ 0) }
+    {
+        self.modules.as_slice().is_empty()
+    }
+
+    /// Returns an iterator over all modules, in the order of the list, those that are not kept among them. An
+    /// entry of the stream without addresses is no module of the list: it is skipped as the stream is read.
     pub fn iter(&self) -> slice::Iter<'_, MinidumpModule>
         ensures { iter_rest result ≡ modules_of self.now }
     {
@@ -101,6 +119,22 @@ impl MinidumpModuleList {
     {
         let modules = copied_modules(alloc, self.modules.as_slice())?;
         MinidumpModuleList::from_modules(alloc, modules)
+    }
+}
+
+impl<'l> IntoIterator for &'l MinidumpModuleList {
+    ghost use Rattle.std.specs.Prelude.{◌≡◌};
+    ghost use Rattle.std.specs.Slice.Iter.{iter_rest};
+    ghost use Rattle.minidump_modules.specs.ModuleList.{modules_of};
+
+    type Item = &'l MinidumpModule;
+
+    type IntoIter = slice::Iter<'l, MinidumpModule>;
+
+    ghost into_iter_gives = { λ list it. iter_rest it ≡ modules_of list.now };
+
+    fn into_iter(self) -> slice::Iter<'l, MinidumpModule> {
+        self.iter()
     }
 }
 

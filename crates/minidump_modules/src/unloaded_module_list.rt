@@ -1,4 +1,4 @@
-ghost use Rattle.std.specs.Prelude.{◌≡◌, ◌+◌, ◌<◌, ◌≤◌, [], IfOk, IsOkUnless, OnErr, length, map};
+ghost use Rattle.std.specs.Prelude.{◌≡◌, ◌+◌, ◌<◌, ◌≤◌, [], IfOk, IsOkUnless, IsTrue, OnErr, ◌↔◌, length, map};
 ghost use Rattle.std.specs.Slice.Iter.{iter_rest};
 ghost use Rattle.minidump_bytes.specs.Source.{bytes_of};
 ghost use Rattle.minidump_bytes.specs.Steps.{after};
@@ -71,6 +71,20 @@ impl MinidumpUnloadedModuleList {
         Ok(MinidumpUnloadedModuleList { modules, order })
     }
 
+    /// Returns the number of modules.
+    pub fn len(&self) -> usize
+        ensures { result ≡ length self.now }
+    {
+        self.modules.len()
+    }
+
+    /// Tells whether the list has no module.
+    pub fn is_empty(&self) -> bool
+        ensures { IsTrue result ↔ (length self.now ≡ 0) }
+    {
+        self.modules.is_empty()
+    }
+
     /// Returns an iterator over all modules, in the order of the list.
     pub fn iter(&self) -> slice::Iter<'_, MinidumpUnloadedModule>
         ensures { iter_rest result ≡ self.now }
@@ -99,6 +113,21 @@ impl MinidumpUnloadedModuleList {
     {
         let modules = copied_modules(alloc, &self.modules)?;
         MinidumpUnloadedModuleList::from_modules(alloc, modules)
+    }
+}
+
+impl<'l> IntoIterator for &'l MinidumpUnloadedModuleList {
+    ghost use Rattle.std.specs.Prelude.{◌≡◌};
+    ghost use Rattle.std.specs.Slice.Iter.{iter_rest};
+
+    type Item = &'l MinidumpUnloadedModule;
+
+    type IntoIter = slice::Iter<'l, MinidumpUnloadedModule>;
+
+    ghost into_iter_gives = { λ list it. iter_rest it ≡ list.now };
+
+    fn into_iter(self) -> slice::Iter<'l, MinidumpUnloadedModule> {
+        self.iter()
     }
 }
 

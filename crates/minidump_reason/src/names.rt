@@ -32,7 +32,9 @@ impl<'n> Model for CodeNames<'n> {
 }
 
 impl<'n> CodeNames<'n> {
-    /// Makes names without any list.
+    /// Makes names without any list. With them almost every reason is
+    /// [`CrashReason::Unknown`](crate::CrashReason::Unknown): the lists decide which reason an exception has, and
+    /// not only its text.
     pub fn empty() -> CodeNames<'n>
         ensures { result ≡ [] }
     {

@@ -5,7 +5,7 @@ use crate::CodeNames;
 use minidump_format::format::MINIDUMP_EXCEPTION_STREAM;
 use minidump_system::{Cpu, Os};
 
-/// The reason of a crash, as codes. [`CrashReason::write_to`] writes it in words.
+/// The reason of a crash, as codes. [`CrashReason::text`] returns it in words, [`CrashReason::write_to`] writes them.
 #[derive(Clone, Copy, Debug, PartialEq, Eq)]
 pub enum CrashReason {
     /// An exception on macOS or iOS: its code and flags.
@@ -79,6 +79,9 @@ pub enum CrashReason {
 impl CrashReason {
     /// Returns the reason for an exception on any system. It is [`CrashReason::Unknown`] if the system is
     /// none of Windows, macOS, iOS, Linux and Android, or if the code is unlisted.
+    ///
+    /// The lists of `names` decide which reason it is: a code counts as one of a family only if the family's
+    /// list has it.
     pub fn from_exception(
         raw: &MINIDUMP_EXCEPTION_STREAM,
         os: Os,

@@ -1,4 +1,4 @@
-ghost use Rattle.std.specs.Prelude.{◌≡◌, ◌++◌, IfOk, IsUtf8, OnOk, codes, string_bytes};
+ghost use Rattle.std.specs.Prelude.{◌≡◌, ◌++◌, IfOk, IsOkUnless, IsUtf8, OnOk, codes, string_bytes};
 ghost use Rattle.std.specs.List.{flat_map};
 ghost use Rattle.minidump_bytes.specs.Piece.{piece_text};
 ghost use Rattle.minidump_format.specs.Print.{Prints};
@@ -37,6 +37,14 @@ impl CrashReason {
         ensures utf8 { IfOk result (λ _. IsUtf8 (reason_text names.now self.now)) }
     {
         put_formatted(f, made_reason(alloc, names, self))
+    }
+
+    /// Returns the text that [`CrashReason::write_to`] writes. The only error is [`Error::OutOfMemory`].
+    pub fn text(&self, alloc: Global, names: &CodeNames<'_>) -> Result<String, Error>
+        ensures value { IfOk result (λ text. string_bytes text ≡ reason_text names.now self.now) }
+        ensures memory { IsOkUnless result Error.OutOfMemory }
+    {
+        Ok(made_reason(alloc, names, self)?)
     }
 }
 

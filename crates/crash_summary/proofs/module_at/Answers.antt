@@ -7,4 +7,4 @@ pub returns-in_ok-hit_of-in-Some-module_at_address-clause-value :
     goal.returns-in_ok-hit_of-in-Some-module_at_address-clause-value
 returns-in_ok-hit_of-in-Some-module_at_address-clause-value c =
     let found = c.in-Some-module_at_address in
-    rw c.in-Some.is (Some (module_of found.module.now), found.ensures, ap Some c.in_ok-hit_of-in-Some-module_at_address.ensures.value)
+    rw c.in-Some.is (Some (module_of found.module.now), found.ensures.found, ap Some c.in_ok-hit_of-in-Some-module_at_address.ensures.value)

@@ -1,0 +1,6 @@
+-- The module that is found begins at the address or below it, and ends behind it.
+use Rattle.minidump_modules.proofs.InsideLemmas.{module_inside}
+use Rattle.minidump_modules.proofs.module_list.MinidumpModuleList.module_at_address.Goals as goal
+
+pub returns-clause-inside : goal.returns-clause-inside
+returns-clause-inside c = module_inside _ c.args.address _ c.module_at_address_counted.ensures.found
