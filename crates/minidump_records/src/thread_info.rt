@@ -1,4 +1,4 @@
-ghost use Rattle.std.specs.Prelude.{◌≡◌, ◌++◌, [], IfOk, OnOk, map};
+ghost use Rattle.std.specs.Prelude.{◌≡◌, ◌++◌, ◌↔◌, [], IfOk, IsTrue, OnOk, length, map};
 ghost use Rattle.std.specs.Option.{option_copied};
 ghost use Rattle.minidump_format.specs.Print.{Prints};
 ghost use Rattle.minidump_records.specs.ThreadInfo.{thread_info_list_of, last_info, thread_info_text, thread_info_list_text};
@@ -10,6 +10,7 @@ use minidump_system::framing::extended_entries;
 use minidump_system::{MinidumpStream, MinidumpSystemInfo};
 use std::alloc::{AllocError, Global};
 use std::io::Write;
+use std::slice;
 
 /// The state of a thread: its times, its exit status and where it began.
 #[derive(Drop)]
@@ -41,6 +42,21 @@ pub struct MinidumpThreadInfoList {
     pub thread_infos: Vec<MinidumpThreadInfo>,
 }
 
+impl<'l> IntoIterator for &'l MinidumpThreadInfoList {
+    ghost use Rattle.std.specs.Prelude.{◌≡◌};
+    ghost use Rattle.std.specs.Slice.Iter.{iter_rest};
+
+    type Item = &'l MinidumpThreadInfo;
+
+    type IntoIter = slice::Iter<'l, MinidumpThreadInfo>;
+
+    ghost into_iter_gives = { λ list it. iter_rest it ≡ list.now.thread_infos.items };
+
+    fn into_iter(self) -> slice::Iter<'l, MinidumpThreadInfo> {
+        self.thread_infos.iter()
+    }
+}
+
 impl MinidumpThreadInfoList {
     /// Makes an empty list. Takes no memory.
     pub fn new(alloc: Global) -> MinidumpThreadInfoList
@@ -49,6 +65,20 @@ impl MinidumpThreadInfoList {
         MinidumpThreadInfoList {
             thread_infos: Vec::new(alloc),
         }
+    }
+
+    /// Returns the number of entries.
+    pub fn len(&self) -> usize
+        ensures { result ≡ length self.now.thread_infos.items }
+    {
+        self.thread_infos.len()
+    }
+
+    /// Tells whether the list has no entry.
+    pub fn is_empty(&self) -> bool
+        ensures { IsTrue result ↔ (length self.now.thread_infos.items ≡ 0) }
+    {
+        self.thread_infos.is_empty()
     }
 
     /// Returns the last entry that has the id of a thread, or `None` if no entry has it.

@@ -1,4 +1,4 @@
-ghost use Rattle.std.specs.Prelude.{◌≡◌, ◌^◌, ◌+◌, ◌++◌, ◌≤◌, [], codes, length, IfOk, IsOkUnless, OnOk, map, string_bytes};
+ghost use Rattle.std.specs.Prelude.{◌≡◌, ◌^◌, ◌+◌, ◌++◌, ◌≤◌, [], codes, ◌↔◌, length, IfOk, IsOkUnless, IsTrue, OnOk, map, string_bytes};
 ghost use Rattle.std.specs.BTreeMap.{IsOrdered, Updates};
 ghost use Rattle.std.specs.List.{filter_map};
 ghost use Rattle.std.specs.Option.{option_copied, option_map};
@@ -36,6 +36,20 @@ impl MinidumpThreadNames {
         MinidumpThreadNames {
             names: BTreeMap::new(alloc),
         }
+    }
+
+    /// Returns the number of threads that have a name.
+    pub fn len(&self) -> usize
+        ensures { result ≡ length (thread_names_of self.now) }
+    {
+        self.names.len()
+    }
+
+    /// Tells whether no thread has a name.
+    pub fn is_empty(&self) -> bool
+        ensures { IsTrue result ↔ (length (thread_names_of self.now) ≡ 0) }
+    {
+        self.names.len() == 0
     }
 
     /// Returns the name of a thread, or `None` if it has none.

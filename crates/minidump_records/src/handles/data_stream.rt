@@ -1,4 +1,4 @@
-ghost use Rattle.std.specs.Prelude.{◌≡◌, ◌+◌, ◌*◌, ◌<◌, ◌≤◌, [], length, map, IfOk, IsOkUnless, OnErr};
+ghost use Rattle.std.specs.Prelude.{◌≡◌, ◌+◌, ◌*◌, ◌<◌, ◌≤◌, [], length, map, ◌↔◌, IfOk, IsOkUnless, IsTrue, OnErr};
 ghost use Rattle.std.specs.List.{sum_by};
 ghost use Rattle.std.specs.Slice.Iter.{iter_rest};
 ghost use Rattle.minidump_bytes.specs.Source.{bytes_of};
@@ -40,6 +40,20 @@ impl MinidumpHandleDataStream {
         MinidumpHandleDataStream { handles }
     }
 
+    /// Returns the number of handles.
+    pub fn len(&self) -> usize
+        ensures { result ≡ length self.now.handles.items }
+    {
+        self.handles.len()
+    }
+
+    /// Tells whether the list has no handle.
+    pub fn is_empty(&self) -> bool
+        ensures { IsTrue result ↔ (length self.now.handles.items ≡ 0) }
+    {
+        self.handles.is_empty()
+    }
+
     /// Returns an iterator over the handles, in the order of the list.
     pub fn iter(&self) -> slice::Iter<'_, MinidumpHandleDescriptor>
         ensures { iter_rest result ≡ self.now.handles.items }
@@ -57,6 +71,21 @@ impl MinidumpHandleDataStream {
             handles.push(handle.try_clone(alloc)?)?;
         }
         Ok(MinidumpHandleDataStream { handles })
+    }
+}
+
+impl<'l> IntoIterator for &'l MinidumpHandleDataStream {
+    ghost use Rattle.std.specs.Prelude.{◌≡◌};
+    ghost use Rattle.std.specs.Slice.Iter.{iter_rest};
+
+    type Item = &'l MinidumpHandleDescriptor;
+
+    type IntoIter = slice::Iter<'l, MinidumpHandleDescriptor>;
+
+    ghost into_iter_gives = { λ list it. iter_rest it ≡ list.now.handles.items };
+
+    fn into_iter(self) -> slice::Iter<'l, MinidumpHandleDescriptor> {
+        self.iter()
     }
 }
 
