@@ -5,7 +5,7 @@ use Rattle.minidump.specs.Below.MemoryLists.Unified.{unified_region}
 use Rattle.region_at.proofs.region_in.Goals as goal
 
 pub returns-in_err-region : goal.returns-in_err-region
-returns-in_err-region c = rw c.from_residual.ensures (None, c.in_err-region.ensures, refl)
+returns-in_err-region c = rw c.from_residual.ensures (None, c.in_err-region.ensures.found, refl)
 
 pub returns : goal.returns
-returns c = (Some (unified_region c.in_ok-region.region), c.in_ok-region.ensures, rw (c.base_address.ensures, c.bytes.ensures) refl)
+returns c = (Some (unified_region c.in_ok-region.region), c.in_ok-region.ensures.found, rw (c.base_address.ensures, c.bytes.ensures) refl)
