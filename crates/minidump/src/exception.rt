@@ -54,8 +54,12 @@ impl<'a> MinidumpException<'a> {
         self.endian
     }
 
-    /// Decodes the registers of the thread at the exception. Returns `None` if the bytes of the context
-    /// are not in the file or [`MinidumpContext::read`] refuses them. Takes no memory.
+    /// Decodes the registers of the thread at the exception. Ask this context before the thread's, as
+    /// [`MinidumpThread::context`](crate::MinidumpThread::context) gives it: those are the registers when the dump
+    /// was written, often within the handler of the exception.
+    ///
+    /// Returns `None` if the bytes of the context are not in the file or [`MinidumpContext::read`] refuses
+    /// them. Takes no memory.
     pub fn context(
         &self,
         system_info: &MinidumpSystemInfo,

@@ -1,6 +1,7 @@
-ghost use Rattle.std.specs.Prelude.{◌≡◌, ◌==◌, ◌+◌, ◌*◌, ◌≤◌, IfOk, find, length, map, reverse};
+ghost use Rattle.std.specs.Prelude.{◌≡◌, ◌==◌, ◌+◌, ◌*◌, ◌≤◌, ◌↔◌, IfOk, IsTrue, find, length, map, reverse};
 ghost use Rattle.std.specs.List.{sum_by};
 ghost use Rattle.std.specs.Option.{option_copied, option_map};
+ghost use Rattle.std.specs.Slice.Iter.{iter_rest};
 ghost use Rattle.minidump_bytes.specs.Source.{bytes_of};
 ghost use Rattle.minidump_bytes.specs.Steps.{after};
 ghost use Rattle.minidump_format.specs.StreamType.{number_of};
@@ -19,6 +20,7 @@ use minidump_system::framing::plain_entries;
 use minidump_system::{MinidumpMiscInfo, MinidumpStream, MinidumpSystemInfo};
 use std::alloc::{AllocError, Global};
 use std::io::Write;
+use std::slice;
 
 /// The threads of a process, in the order of the file.
 #[derive(Drop)]
@@ -28,6 +30,27 @@ pub struct MinidumpThreadList<'a> {
 }
 
 impl<'a> MinidumpThreadList<'a> {
+    /// Returns the number of threads.
+    pub fn len(&self) -> usize
+        ensures { result ≡ length self.now.threads.items }
+    {
+        self.threads.len()
+    }
+
+    /// Tells whether the list has no thread.
+    pub fn is_empty(&self) -> bool
+        ensures { IsTrue result ↔ (length self.now.threads.items ≡ 0) }
+    {
+        self.threads.is_empty()
+    }
+
+    /// Returns an iterator over the threads, in the order of the list.
+    pub fn iter(&self) -> slice::Iter<'_, MinidumpThread<'a>>
+        ensures { iter_rest result ≡ self.now.threads.items }
+    {
+        self.threads.iter()
+    }
+
     /// Returns the last thread with an id, or `None` if no thread has it. Searches from the end of the
     /// list.
     pub fn get_thread(&self, id: u32) -> Option<&MinidumpThread<'a>>
@@ -58,6 +81,21 @@ impl<'a> MinidumpThreadList<'a> {
             (option_map system_info_of (option_copied system.entry)) brief (thread_list_stream.value self.now)) result }
     {
         print_all(&self.threads, alloc, f, memory, system, misc, brief)
+    }
+}
+
+impl<'l, 'a> IntoIterator for &'l MinidumpThreadList<'a> {
+    ghost use Rattle.std.specs.Prelude.{◌≡◌};
+    ghost use Rattle.std.specs.Slice.Iter.{iter_rest};
+
+    type Item = &'l MinidumpThread<'a>;
+
+    type IntoIter = slice::Iter<'l, MinidumpThread<'a>>;
+
+    ghost into_iter_gives = { λ list it. iter_rest it ≡ list.now.threads.items };
+
+    fn into_iter(self) -> slice::Iter<'l, MinidumpThread<'a>> {
+        self.iter()
     }
 }
 

@@ -87,6 +87,9 @@ impl MinidumpContext {
     }
 
     /// Returns the value of a register. `memoize_register` must know its name.
+    ///
+    /// A literal isn't enough for the proof at the call, since the names depend on the processor of the context.
+    /// Where it isn't known that the name is one of them, use [`MinidumpContext::get_register`].
     pub fn get_register_always(&self, reg: &str) -> u64
         requires { IsSome (memoized_in (registers_of self.now.raw) reg.now) }
         ensures { value_in (registers_of self.now.raw) reg.now ≡ Some result }
