@@ -1,0 +1,35 @@
+"""Prints a summary of the crash that a minidump is of: summary.py LIBRARY FILE, where LIBRARY is a shared object."""
+import ctypes
+import sys
+
+
+class Crash(ctypes.Structure):
+    _fields_ = [(name, ctypes.c_uint64) for name in ("address", "module_base", "module_size", "stack_base", "stack_size")]
+    _fields_ += [(name, ctypes.c_size_t) for name in ("reason_len", "module_len")]
+    _fields_ += [("thread", ctypes.c_uint32)]
+    _fields_ += [(name, ctypes.c_uint8) for name in ("has_address", "has_reason", "has_module", "has_stack")]
+
+
+BYTES = [ctypes.c_char_p, ctypes.c_size_t]
+library = ctypes.CDLL(sys.argv[1])
+library.minidump_summary.argtypes = [*BYTES, ctypes.POINTER(Crash), *BYTES, *BYTES]
+library.minidump_summary.restype = ctypes.c_uint32
+library.minidump_error_name.argtypes = [ctypes.c_uint32, *BYTES]
+library.minidump_error_name.restype = ctypes.c_size_t
+
+with open(sys.argv[2], "rb") as file:
+    dump = file.read()
+crash, reason, module = Crash(), ctypes.create_string_buffer(128), ctypes.create_string_buffer(512)
+status = library.minidump_summary(dump, len(dump), crash, reason, len(reason), module, len(module))
+if status:
+    name = ctypes.create_string_buffer(32)
+    sys.exit(name.raw[: library.minidump_error_name(status, name, len(name))].decode())
+print(f"thread  {crash.thread:#x}")
+if crash.has_address:
+    print(f"address {crash.address:#x}")
+if crash.has_reason:
+    print("reason ", reason.raw[: crash.reason_len].decode(errors="replace"))
+if crash.has_module:
+    print(f"module  {crash.module_base:#x} {crash.module_size:#x}", module.raw[: crash.module_len].decode(errors="replace"))
+if crash.has_stack:
+    print(f"stack   {crash.stack_base:#x} {crash.stack_size:#x}")

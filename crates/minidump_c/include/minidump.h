@@ -1,0 +1,140 @@
+/* minidump: reads the crash files that Windows, Breakpad and Crashpad write.
+ *
+ * Each call takes the bytes of a whole dump, which may be damaged or forged, and keeps nothing: no call frees or holds
+ * what it is passed. A buffer is a pointer and, behind it, the number of its items; a call writes no more of them.
+ * No pointer may be NULL, also where the number is 0: pass any address then. What a call writes may not overlap
+ * anything else that it is passed, and no other thread may touch it meanwhile; the bytes of a dump may be read by
+ * several threads at once. There is no state, so calls may run at the same time.
+ *
+ * A call returns MINIDUMP_OK or an error. After an error every buffer, number and struct is as it was.
+ *
+ * Memory is taken by malloc and realloc and given back by free, before the call returns.
+ * Numbers are those of the machine, which must be a 64-bit one; on x86-64 it needs SSE4.2 and POPCNT (x86-64-v2),
+ * which is not tested. Call from no signal handler, and not behind a fork of a process with threads.
+ *
+ * What each call returns and writes is proved from the format's definitions. That this header says what the library
+ * does is not; a test calls each function through it. */
+#ifndef MINIDUMP_H
+#define MINIDUMP_H
+
+#include <stddef.h>
+#include <stdint.h>
+
+#ifdef __cplusplus
+extern "C" {
+#endif
+
+enum minidump_status {
+    MINIDUMP_OK = 0,
+    MINIDUMP_FILE_NOT_FOUND = 1,
+    MINIDUMP_IO_ERROR = 2,
+    MINIDUMP_MISSING_HEADER = 3,
+    MINIDUMP_HEADER_MISMATCH = 4,
+    MINIDUMP_VERSION_MISMATCH = 5,
+    MINIDUMP_MISSING_DIRECTORY = 6,
+    MINIDUMP_STREAM_READ_FAILURE = 7,
+    MINIDUMP_STREAM_SIZE_MISMATCH = 8,
+    MINIDUMP_STREAM_NOT_FOUND = 9,
+    MINIDUMP_MODULE_READ_FAILURE = 10,
+    MINIDUMP_MEMORY_READ_FAILURE = 11,
+    MINIDUMP_DATA_ERROR = 12,
+    MINIDUMP_CODE_VIEW_READ_FAILURE = 13,
+    MINIDUMP_UNKNOWN_ELEMENT_TYPE = 14,
+    MINIDUMP_OUT_OF_MEMORY = 15
+};
+
+/* Writes the name of a status, such as MissingHeader, to the front of out, as far as it fits, and returns the size of
+ * the whole name: 0 for MINIDUMP_OK and for numbers that are no status. No text of this library ends in a zero. */
+size_t minidump_error_name(uint32_t status, uint8_t *out, size_t out_len);
+
+/* Writes the header and the directory as text to the front of out, as far as it fits, and the size of the whole text
+ * to *size. What lies behind the text stays as it was. To ask for the size alone, pass an out_len of 0. */
+uint32_t minidump_dir(const uint8_t *bytes, size_t len, uint8_t *out, size_t out_len, size_t *size);
+
+/* The same for the report: the header, the directory, each stream that can be read, and where and why the process
+ * crashed. The text is made anew at each call, so begin with a buffer of a guess, and call again if *size is larger.
+ * Memory is taken for one more copy of the text. */
+uint32_t minidump_report(const uint8_t *bytes, size_t len, uint8_t *out, size_t out_len, size_t *size);
+
+/* What is known of a crash first. What is absent has 0 in has_.., and 0 for its numbers. */
+struct minidump_crash {
+    uint64_t address;     /* that the crash is about */
+    uint64_t module_base; /* of the module with the instruction pointer */
+    uint64_t module_size;
+    uint64_t stack_base; /* of the memory of the thread's stack */
+    uint64_t stack_size;
+    size_t reason_len; /* the sizes of the whole texts */
+    size_t module_len;
+    uint32_t thread; /* the id of the thread */
+    uint8_t has_address;
+    uint8_t has_reason;
+    uint8_t has_module;
+    uint8_t has_stack;
+};
+
+/* Writes the numbers of a crash to *crash, its reason in words to the front of reason and the name of its module to
+ * that of name, each as far as it fits. A dump without a crash has MINIDUMP_STREAM_NOT_FOUND. */
+uint32_t minidump_summary(const uint8_t *bytes, size_t len, struct minidump_crash *crash, uint8_t *reason,
+                          size_t reason_len, uint8_t *name, size_t name_len);
+
+/* A region of memory, or none, where the size is 0. */
+struct minidump_region {
+    uint64_t base;
+    uint64_t size;
+};
+
+/* Writes the region of memory that contains the address to *region, zeros if there is none. */
+uint32_t minidump_memory_at(const uint8_t *bytes, size_t len, uint64_t address, struct minidump_region *region);
+
+/* Copies the memory from the address on to the front of out, as far as it fits, and writes the number of bytes that
+ * its region has from there on to *count: 0 where no region contains the address. */
+uint32_t minidump_read_memory(const uint8_t *bytes, size_t len, uint64_t address, uint8_t *out, size_t out_len,
+                              size_t *count);
+
+/* Writes all regions of memory, ascending by address and without overlaps, to the front of regions, as far as they fit,
+ * and their number to *count. A program that asks often keeps this table and searches it by itself. */
+uint32_t minidump_memory_table(const uint8_t *bytes, size_t len, struct minidump_region *regions, size_t regions_len,
+                               size_t *count);
+
+/* A module: its addresses, and where its name lies in the dump. */
+struct minidump_module {
+    uint64_t base;
+    uint64_t size;
+    uint64_t name_rva; /* of the size of the name in bytes, of 4, and behind it the name in UTF-16 */
+};
+
+/* Writes the modules, in the order of the dump's list, to the front of modules, as far as they fit, and their number to
+ * *count. A dump without modules has MINIDUMP_STREAM_NOT_FOUND. */
+uint32_t minidump_module_table(const uint8_t *bytes, size_t len, struct minidump_module *modules, size_t modules_len,
+                               size_t *count);
+
+/* Writes the name of the module with an index in that table, in UTF-8, to the front of out, as far as it fits, and the
+ * size of the whole name to *size: 0 for an index behind the table's end. */
+uint32_t minidump_module_name(const uint8_t *bytes, size_t len, size_t index, uint8_t *out, size_t out_len,
+                              size_t *size);
+
+/* A thread. Its stack is where the dump's list says, whether its bytes are in the dump or not. */
+struct minidump_thread {
+    uint64_t instruction_pointer; /* 0 without a context */
+    uint64_t stack_pointer;
+    uint64_t stack_base;
+    uint64_t stack_size;
+    uint32_t id;
+    uint32_t has_context; /* 1 where the registers of the thread can be read, else 0 */
+};
+
+/* Writes the threads, in the order of the dump's list, to the front of threads, as far as they fit, and their number to
+ * *count. A dump without threads has MINIDUMP_STREAM_NOT_FOUND. */
+uint32_t minidump_thread_table(const uint8_t *bytes, size_t len, struct minidump_thread *threads, size_t threads_len,
+                               size_t *count);
+
+/* Writes the name of the thread with an id, in UTF-8, to the front of out, as far as it fits, and the size of the whole
+ * name to *size: 0 for a thread without a name. */
+uint32_t minidump_thread_name(const uint8_t *bytes, size_t len, uint32_t id, uint8_t *out, size_t out_len,
+                              size_t *size);
+
+#ifdef __cplusplus
+}
+#endif
+
+#endif

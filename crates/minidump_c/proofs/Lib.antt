@@ -1,0 +1,2 @@
+-- Lemmas of the report.
+pub mod ReportLemmas

@@ -1,0 +1,18 @@
+-- The bytes are those of the minidump that was read.
+use Rattle.std.proofs.Common.{◌≡◌, ap, ◌∙◌, subst}
+use Rattle.std.specs.Prelude.{Option}
+use Rattle.std.specs.Option.{option_map}
+use Rattle.minidump.specs.Below.MemoryLists.Unified.{UnifiedRegions, unified_list, unified_region}
+use Rattle.minidump.specs.DumpValue.{dump_of}
+use Rattle.minidump.specs.Memory.{memories_of_dump}
+use Rattle.minidump_c.specs.Memory.{IsIn}
+use Rattle.minidump_c.proofs.memory.bytes_at.Goals as goal
+
+pub returns-clause-found : goal.returns-clause-found
+returns-clause-found c =
+    let dump = dump_of c.in_ok-dump.dump in
+    let found = option_map unified_region c.memory_at.result in
+    let same : option_map unified_list c.in_ok-memory.memory ≡ memories_of_dump dump = cc c.in_ok-memory.ensures in
+    let at = subst (λ (m : Option UnifiedRegions). IsIn m c.args.address found)
+    (ap (option_map unified_list) c.as_ref.ensures.value ∙ same) c.memory_at.ensures in
+    (dump, c.in_ok-dump.ensures, (found, at, c.bytes_from.ensures))

@@ -1,0 +1,12 @@
+-- The name is that of a thread of the minidump that was read.
+use Rattle.std.proofs.Common.{refl}
+use Rattle.minidump.specs.DumpValue.{dump_of}
+use Rattle.minidump_c.proofs.threads.thread_name.Goals as goal
+
+pub returns-clause-name : goal.returns-clause-name
+returns-clause-name c = (
+  c.name_in.result.now,
+  (dump_of c.in_ok-dump.dump, c.in_ok-dump.ensures, rw (c.name_in.ensures, c.in_ok-names.ensures.value) refl),
+  c.fill.ensures.filled,
+  c.fill.ensures.count,
+)

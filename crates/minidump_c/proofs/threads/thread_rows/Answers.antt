@@ -1,0 +1,21 @@
+-- The rows are those of the minidump that was read.
+use Rattle.std.proofs.Common.{◌≡◌, ◌∙◌, ap, map, subst}
+use Rattle.std.specs.Prelude.{Option}
+use Rattle.std.specs.Option.{option_map}
+use Rattle.minidump.specs.Below.System.System.{System}
+use Rattle.minidump.specs.DumpValue.{dump_of}
+use Rattle.minidump.specs.Promise.{system_info_stream, thread_list_stream}
+use Rattle.minidump_c.specs.Threads.{row_of}
+use Rattle.minidump_c.proofs.threads.thread_rows.Goals as goal
+
+pub returns-in-Ok-clause-rows : goal.returns-in-Ok-clause-rows
+returns-in-Ok-clause-rows c =
+    let dump = dump_of c.in_ok-dump.dump in
+    let threads = thread_list_stream.value c.in_ok-threads.threads in
+    let system = ap (option_map system_info_stream.value) c.as_ref.ensures.value ∙ c.in_ok-system.ensures.value in (
+      dump,
+      threads,
+      c.in_ok-dump.ensures,
+      cc c.in_ok-threads.ensures,
+      subst (λ (s : Option System). c.in-Ok.rows.items ≡ map (row_of s) threads) system c.in-Ok.ensures,
+    )

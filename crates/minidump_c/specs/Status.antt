@@ -1,0 +1,44 @@
+-- The status of a call: 0, or the number of an error.
+use Rattle.std.specs.Prelude.{◌≡◌, ◌⊎◌, ◌<◌, ℕ, List, [], Err, Ok, IsOk}
+use Rattle.minidump.specs.declared.Error.{Error}
+use Rattle.minidump.specs.declared.Error.TheVariants.{FileNotFound, IoError, MissingHeader, HeaderMismatch, VersionMismatch}
+use Rattle.minidump.specs.declared.Error.TheVariants.{MissingDirectory, StreamReadFailure, StreamSizeMismatch, StreamNotFound}
+use Rattle.minidump.specs.declared.Error.TheVariants.{ModuleReadFailure, MemoryReadFailure, DataError, CodeViewReadFailure}
+use Rattle.minidump.specs.declared.Error.TheVariants.{UknownElementType, OutOfMemory}
+use Rattle.minidump.specs.Below.Format.Error.{refusal_name}
+use Rattle.minidump.specs.Below.System.StreamSpec.{StreamSpec}
+use Rattle.minidump.specs.Dump.{Dump, dump_in, stream_of}
+
+-- the numbers of the errors
+abbrev pub status_of : Error → ℕ
+status_of FileNotFound = 1
+status_of IoError = 2
+status_of MissingHeader = 3
+status_of HeaderMismatch = 4
+status_of VersionMismatch = 5
+status_of MissingDirectory = 6
+status_of StreamReadFailure = 7
+status_of (StreamSizeMismatch expected actual) = 8
+status_of StreamNotFound = 9
+status_of ModuleReadFailure = 10
+status_of MemoryReadFailure = 11
+status_of DataError = 12
+status_of CodeViewReadFailure = 13
+status_of UknownElementType = 14
+status_of OutOfMemory = 15
+
+-- 0, and the call did what `done` says; or the number of an error that `refuses` allows, and what the caller passed is as `kept` says
+abbrev pub Ends : ℕ → Type 0 → (Error → Type 0) → Type 0 → Type 0
+Ends status done refuses kept = ((status ≡ 0) × done) ⊎ (((e : Error) × refuses e × (status ≡ status_of e)) × kept)
+
+-- the bytes are no minidump, or memory ran out behind their header and directory
+abbrev pub IsRefused : List ℕ → Error → Type 0
+IsRefused bytes e = (dump_in bytes ≡ Err e) ⊎ ((e ≡ OutOfMemory) × IsOk (dump_in bytes))
+
+-- the name of the error of a status, and nothing where it is that of none
+abbrev pub IsNameOf : ℕ → List ℕ → Type 0
+IsNameOf status text = ((e : Error) × (status_of e ≡ status) × (text ≡ refusal_name e)) ⊎ (((status ≡ 0) ⊎ (15 < status)) × (text ≡ []))
+
+-- the same, or the error of a stream of the dump
+abbrev pub IsStreamRefused : {S V : Type 0} → StreamSpec S V → List ℕ → Error → Type 0
+IsStreamRefused spec bytes e = IsRefused bytes e ⊎ ((dump : Dump) × (dump_in bytes ≡ Ok dump) × (stream_of spec dump ≡ Err e))

@@ -1,0 +1,21 @@
+-- Texts in a caller's buffer.
+use Rattle.std.specs.Prelude.{◌≡◌, ℕ, List, [], ◌++◌, length, take, drop, Ok}
+use Rattle.minidump.specs.Dump.{Dump, dump_in}
+use Rattle.minidump.specs.Report.{report_text}
+use Rattle.minidump.specs.Text.{dump_text}
+
+-- a buffer with some items at its front, as far as they fit
+abbrev pub filled : {A : Type 0} → List A → List A → List A
+filled items buffer = take (length buffer) items ++ drop (length items) buffer
+
+-- the buffer has such items, as far as they fit, and the count is that of all of them
+abbrev pub IsFilled : {A : Type 0} → (List A → Type 0) → List A → List A → ℕ → Type 0
+IsFilled {A} Are old new count = (items : List A) × Are items × (new ≡ filled items old) × (count ≡ length items)
+
+-- the text of the header and the directory
+abbrev pub IsDirectoryOf : List ℕ → List ℕ → Type 0
+IsDirectoryOf bytes text = (dump : Dump) × (dump_in bytes ≡ Ok dump) × (text ≡ dump_text dump)
+
+-- the report, without names of codes
+abbrev pub IsReportOf : List ℕ → List ℕ → Type 0
+IsReportOf bytes text = (dump : Dump) × (dump_in bytes ≡ Ok dump) × (text ≡ report_text [] dump)

@@ -1,0 +1,110 @@
+ghost use Rattle.std.specs.Prelude.{◌≡◌, IfErr, IfOk};
+ghost use Rattle.std.specs.Option.{option_copied, option_map};
+ghost use Rattle.minidump.specs.Below.MemoryLists.Unified.{unified_list, unified_region};
+ghost use Rattle.minidump_c.specs.Memory.{IsIn, IsReadAt, IsRegionAt, bytes_from, shown};
+ghost use Rattle.minidump_c.specs.Status.{Ends, IsRefused};
+ghost use Rattle.minidump_c.specs.Text.{IsFilled};
+
+use crate::status::status_of;
+use crate::text::fill;
+use minidump::{Error, Minidump, UnifiedMemory, UnifiedMemoryList};
+use std::alloc::Global;
+
+/// A region of memory. Its size is 0 where there is none.
+#[repr(C)]
+#[derive(Clone, Copy)]
+pub struct Region {
+    pub base: u64,
+    pub size: u64,
+}
+
+/// Writes the region of memory that contains the address to `region`, and zeros if there is none.
+#[unsafe(no_mangle)]
+pub extern "C" fn minidump_memory_at(
+    alloc: Global,
+    bytes: &[u8],
+    address: u64,
+    region: &mut Region,
+) -> u32
+    ensures { Ends result (IsRegionAt bytes.now address region.new) (IsRefused bytes.now) (region.new ≡ region.old) }
+{
+    match region_at(alloc, bytes, address) {
+        Ok(found) => {
+            *region = found;
+            0
+        }
+        Err(error) => status_of(error),
+    }
+}
+
+/// Copies the bytes of memory from the address on to the front of `out`, as far as they fit, and writes the number
+/// of those in its region to `count`.
+#[unsafe(no_mangle)]
+pub extern "C" fn minidump_read_memory(
+    alloc: Global,
+    bytes: &[u8],
+    address: u64,
+    out: &mut [u8],
+    count: &mut usize,
+) -> u32
+    ensures { Ends result (IsFilled (IsReadAt bytes.now address) out.old out.new count.new)
+        (IsRefused bytes.now) ((out.new ≡ out.old) × (count.new ≡ count.old)) }
+{
+    match bytes_at(alloc, bytes, address) {
+        Ok(read) => {
+            *count = fill(read, out);
+            0
+        }
+        Err(error) => status_of(error),
+    }
+}
+
+fn region_at(alloc: Global, bytes: &[u8], address: u64) -> Result<Region, Error>
+    ensures found { IfOk result (λ region. IsRegionAt bytes.now address region) }
+    ensures refused { IfErr result (IsRefused bytes.now) }
+{
+    let dump = Minidump::read(alloc, bytes)?;
+    let memory = dump.get_memory(alloc)?;
+    Ok(shown(memory_at(memory.as_ref(), address)))
+}
+
+fn bytes_at<'a>(alloc: Global, bytes: &'a [u8], address: u64) -> Result<&'a [u8], Error>
+    ensures found { IfOk result (λ read. IsReadAt bytes.now address read.now) }
+    ensures refused { IfErr result (IsRefused bytes.now) }
+{
+    let dump = Minidump::read(alloc, bytes)?;
+    let memory = dump.get_memory(alloc)?;
+    Ok(bytes_from(memory_at(memory.as_ref(), address), address))
+}
+
+// Finds the region of memory that contains the address.
+fn memory_at<'s, 'a>(
+    memory: Option<&'s UnifiedMemoryList<'a>>,
+    address: u64,
+) -> Option<UnifiedMemory<'s, 'a>>
+    ensures { IsIn (option_map unified_list (option_copied memory.entry)) address (option_map unified_region result) }
+{
+    memory?.memory_at_address(address)
+}
+
+pub(crate) fn shown(found: Option<UnifiedMemory<'_, '_>>) -> Region
+    ensures { result ≡ shown (option_map unified_region found.entry) }
+{
+    match found {
+        Some(region) => Region {
+            base: region.base_address(),
+            size: region.size(),
+        },
+        None => Region { base: 0, size: 0 },
+    }
+}
+
+fn bytes_from<'a>(found: Option<UnifiedMemory<'_, 'a>>, address: u64) -> &'a [u8]
+    ensures { result.now ≡ bytes_from (option_map unified_region found.entry) address }
+{
+    let Some(region) = found else {
+        return &[];
+    };
+    let from = address.saturating_sub(region.base_address()) as usize;
+    region.bytes().get(from..).unwrap_or(&[])
+}

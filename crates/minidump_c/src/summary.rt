@@ -1,0 +1,121 @@
+ghost use Rattle.std.specs.Prelude.{◌≡◌, unwrap_or};
+ghost use Rattle.std.specs.Option.{option_map};
+ghost use Rattle.crash_summary.specs.Summary.{loaded_of, summary_of};
+ghost use Rattle.minidump_c.specs.Status.{Ends};
+ghost use Rattle.minidump_c.specs.Summary.{IsSummarised, IsSummaryRefusal, crash_of, flag, name_of, reason_of};
+
+use crate::status::status_of;
+use crate::text::fill;
+use crash_summary::{CrashSummary, ModuleHit, StackHit, summarise};
+use minidump::CodeNames;
+use std::alloc::Global;
+
+/// What is known of a crash first: 0 for each number that is absent.
+#[repr(C)]
+#[derive(Clone, Copy)]
+pub struct Crash {
+    pub address: u64,
+    pub module_base: u64,
+    pub module_size: u64,
+    pub stack_base: u64,
+    pub stack_size: u64,
+    pub reason_len: usize,
+    pub module_len: usize,
+    pub thread: u32,
+    pub has_address: u8,
+    pub has_reason: u8,
+    pub has_module: u8,
+    pub has_stack: u8,
+}
+
+/// Summarises the crash of a minidump: its numbers to `crash`, the text of its reason and the name of its module to
+/// the fronts of `reason` and `name`, as far as they fit. Codes have no names.
+#[unsafe(no_mangle)]
+pub extern "C" fn minidump_summary(
+    alloc: Global,
+    bytes: &[u8],
+    crash: &mut Crash,
+    reason: &mut [u8],
+    name: &mut [u8],
+) -> u32
+    ensures { Ends result (IsSummarised bytes.now crash.new reason.old reason.new name.old name.new)
+        (IsSummaryRefusal bytes.now) ((crash.new ≡ crash.old) × (reason.new ≡ reason.old) × (name.new ≡ name.old)) }
+{
+    match summarise(alloc, bytes, &CodeNames::empty()) {
+        Ok(summary) => {
+            *crash = crash_of(&summary);
+            fill(reason_of(&summary), reason);
+            fill(name_of(&summary), name);
+            0
+        }
+        Err(error) => status_of(error),
+    }
+}
+
+fn crash_of(summary: &CrashSummary) -> Crash
+    ensures { result ≡ crash_of (summary_of summary.now) }
+{
+    let (module_base, module_size) = module_span(&summary.module);
+    let (stack_base, stack_size) = stack_span(summary.stack);
+    Crash {
+        address: summary.address.unwrap_or(0),
+        module_base,
+        module_size,
+        stack_base,
+        stack_size,
+        reason_len: reason_of(summary).len(),
+        module_len: name_of(summary).len(),
+        thread: summary.thread,
+        has_address: flag(&summary.address),
+        has_reason: flag(&summary.reason),
+        has_module: flag(&summary.module),
+        has_stack: flag(&summary.stack),
+    }
+}
+
+fn flag<T>(part: &Option<T>) -> u8
+    ensures { result ≡ flag part.now }
+{
+    match part {
+        Some(_) => 1,
+        None => 0,
+    }
+}
+
+fn module_span(found: &Option<ModuleHit>) -> (u64, u64)
+    ensures base { result.0 ≡ unwrap_or (option_map (λ m. m.base) (option_map loaded_of found.now)) 0 }
+    ensures size { result.1 ≡ unwrap_or (option_map (λ m. m.size) (option_map loaded_of found.now)) 0 }
+{
+    match found {
+        Some(hit) => (hit.base, hit.size),
+        None => (0, 0),
+    }
+}
+
+fn stack_span(stack: Option<StackHit>) -> (u64, u64)
+    ensures base { result.0 ≡ unwrap_or (option_map (λ r. r.base) stack) 0 }
+    ensures size { result.1 ≡ unwrap_or (option_map (λ r. r.size) stack) 0 }
+{
+    match stack {
+        Some(hit) => (hit.base, hit.size),
+        None => (0, 0),
+    }
+}
+
+fn reason_of(summary: &CrashSummary) -> &[u8]
+    ensures { result.now ≡ reason_of (summary_of summary.now) }
+{
+    match &summary.reason {
+        Some(words) => words.as_bytes(),
+        None => &[],
+    }
+}
+
+fn name_of(summary: &CrashSummary) -> &[u8]
+    ensures { result.now ≡ name_of (summary_of summary.now) }
+{
+    match &summary.module {
+        Some(hit) => hit.name.as_bytes(),
+        None => &[],
+    }
+}

@@ -1,0 +1,140 @@
+/* Calls each function of minidump.h, with arguments whose order shows, and prints what it tells of three dumps: one with
+ * regions of memory, one of a crash, and one with names of threads. */
+#include "minidump.h"
+
+#include <stdio.h>
+#include <stdlib.h>
+#include <string.h>
+
+static uint8_t *load(const char *path, size_t *len) {
+    FILE *file = fopen(path, "rb");
+    if (!file) exit(2);
+    long size = fseek(file, 0, SEEK_END) ? -1 : ftell(file);
+    uint8_t *bytes = size < 0 ? NULL : malloc((size_t)size + 1);
+    if (!bytes) exit(2);
+    rewind(file);
+    *len = fread(bytes, 1, (size_t)size, file);
+    fclose(file);
+    return bytes;
+}
+
+static void tell(const char *call, uint32_t status) {
+    char name[32] = {0};
+    size_t size = minidump_error_name(status, (uint8_t *)name, sizeof name);
+    printf("%s: %u %s %zu\n", call, status, name, size);
+}
+
+typedef uint32_t text_call(const uint8_t *, size_t, uint8_t *, size_t, size_t *);
+
+/* The text twice: asked for its size, and whole; and as much of it as fits, with the bytes behind it as they were. */
+static void text(const char *name, text_call *call, const uint8_t *bytes, size_t len) {
+    size_t size = 77, again = 77, cut = 77;
+    uint8_t none = 'n', few[8];
+    tell(name, call(bytes, len, &none, 0, &size));
+    uint8_t *whole = malloc(size + 3);
+    if (!whole) exit(2);
+    memset(whole, '#', size + 3);
+    tell(name, call(bytes, len, whole, size + 3, &again));
+    fwrite(whole, 1, size + 3, stdout);
+    call(bytes, len, few, 5, &cut);
+    printf("\n%c %zu %zu %zu %.5s\n", none, size, again, cut, (char *)few);
+    free(whole);
+    memset(few, '#', 8);
+    cut = 77;
+    tell(name, call(bytes, 31, few, 8, &cut));
+    printf("%.8s %zu\n", (char *)few, cut);
+}
+
+static void memory(const uint8_t *bytes, size_t len, uint64_t address) {
+    struct minidump_region region = {77, 78};
+    uint8_t read[6] = "######";
+    size_t count = 77;
+    tell("memory_at", minidump_memory_at(bytes, len, address, &region));
+    printf("0x%llx 0x%llx\n", (unsigned long long)region.base, (unsigned long long)region.size);
+    tell("read_memory", minidump_read_memory(bytes, len, address, read, 4, &count));
+    printf("%zu: %02x %02x %02x %02x %02x %02x\n", count, read[0], read[1], read[2], read[3], read[4], read[5]);
+}
+
+static void table(const uint8_t *bytes, size_t len, size_t room) {
+    struct minidump_region rows[3] = {{71, 72}, {73, 74}, {75, 76}};
+    size_t count = 77;
+    tell("memory_table", minidump_memory_table(bytes, len, rows, room, &count));
+    printf("%zu:", count);
+    for (int i = 0; i < 3; i++) printf(" 0x%llx 0x%llx", (unsigned long long)rows[i].base, (unsigned long long)rows[i].size);
+    printf("\n");
+}
+
+static void summary(const uint8_t *bytes, size_t len, size_t reason_room, size_t module_room) {
+    struct minidump_crash c = {1, 2, 3, 4, 5, 6, 7, 8, 9, 10, 11, 12};
+    char reason[65] = {0}, module[65] = {0};
+    memset(reason, '#', 64);
+    memset(module, '+', 64);
+    tell("summary", minidump_summary(bytes, len, &c, (uint8_t *)reason, reason_room, (uint8_t *)module, module_room));
+    printf("thread %u; address %u 0x%llx; reason %u %zu; module %u 0x%llx 0x%llx %zu; stack %u 0x%llx 0x%llx\n%s\n%s\n",
+           c.thread, c.has_address, (unsigned long long)c.address, c.has_reason, c.reason_len, c.has_module,
+           (unsigned long long)c.module_base, (unsigned long long)c.module_size, c.module_len, c.has_stack,
+           (unsigned long long)c.stack_base, (unsigned long long)c.stack_size, reason, module);
+}
+
+static void modules(const uint8_t *bytes, size_t len, size_t room, size_t index) {
+    struct minidump_module rows[2] = {{71, 72, 73}, {74, 75, 76}};
+    size_t count = 77, size = 77;
+    char name[33] = {0};
+    memset(name, '#', 32);
+    tell("module_table", minidump_module_table(bytes, len, rows, room, &count));
+    printf("%zu:", count);
+    for (int i = 0; i < 2; i++)
+        printf(" 0x%llx 0x%llx 0x%llx", (unsigned long long)rows[i].base, (unsigned long long)rows[i].size,
+               (unsigned long long)rows[i].name_rva);
+    printf("\n");
+    tell("module_name", minidump_module_name(bytes, len, index, (uint8_t *)name, 31, &size));
+    printf("%zu %s\n", size, name);
+}
+
+static void threads(const uint8_t *bytes, size_t len, size_t room, uint32_t id) {
+    struct minidump_thread rows[2] = {{71, 72, 73, 74, 75, 76}, {81, 82, 83, 84, 85, 86}};
+    size_t count = 77, size = 77;
+    char name[17] = {0};
+    memset(name, '#', 16);
+    tell("thread_table", minidump_thread_table(bytes, len, rows, room, &count));
+    printf("%zu:", count);
+    for (int i = 0; i < 2; i++)
+        printf(" %u %u 0x%llx 0x%llx 0x%llx 0x%llx", rows[i].id, rows[i].has_context,
+               (unsigned long long)rows[i].instruction_pointer, (unsigned long long)rows[i].stack_pointer,
+               (unsigned long long)rows[i].stack_base, (unsigned long long)rows[i].stack_size);
+    printf("\n");
+    tell("thread_name", minidump_thread_name(bytes, len, id, (uint8_t *)name, 15, &size));
+    printf("%zu %s\n", size, name);
+}
+
+int main(int argc, char **argv) {
+    if (argc != 4) return 2;
+    size_t len = 0, crash_len = 0, names_len = 0;
+    uint8_t *regions = load(argv[1], &len), *crash = load(argv[2], &crash_len), *names = load(argv[3], &names_len);
+
+    for (uint32_t status = 0; status <= 16; status++) tell("error_name", status);
+    text("dir", minidump_dir, regions, len);
+    text("report", minidump_report, regions, len);
+    memory(regions, len, 0x1008);
+    memory(regions, len, 1);
+    memory(regions, 31, 0x1008);
+    table(regions, len, 3);
+    table(regions, len, 1);
+    table(regions, 31, 3);
+    summary(crash, crash_len, 64, 64);
+    summary(crash, crash_len, 7, 11);
+    summary(regions, len, 64, 64);
+    summary(crash, 31, 64, 64);
+    modules(crash, crash_len, 2, 0);
+    modules(crash, crash_len, 1, 1);
+    modules(regions, len, 2, 0);
+    modules(crash, 31, 2, 0);
+    threads(names, names_len, 2, 0x11);
+    threads(crash, crash_len, 1, 1);
+    threads(regions, len, 2, 1);
+    threads(names, 31, 2, 0x11);
+    free(regions);
+    free(crash);
+    free(names);
+    return 0;
+}

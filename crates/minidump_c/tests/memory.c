@@ -1,0 +1,86 @@
+/* Lets each allocation fail in turn. Each call then returns MINIDUMP_OUT_OF_MEMORY, or, where it gets on without, what it
+ * returns otherwise; it leaves what it was passed as it was, keeps no memory, and works again later. */
+#include "minidump.h"
+
+#include <stdio.h>
+#include <stdlib.h>
+#include <string.h>
+
+static long left = -1, live = 0;
+
+void *__real_malloc(size_t size);
+void *__real_realloc(void *block, size_t size);
+void __real_free(void *block);
+
+static int fails(void) { return left >= 0 && left-- == 0; }
+
+void *__wrap_malloc(size_t size) {
+    void *block = fails() ? NULL : __real_malloc(size);
+    live += block != NULL;
+    return block;
+}
+
+void *__wrap_realloc(void *block, size_t size) {
+    void *moved = fails() ? NULL : __real_realloc(block, size);
+    live += !block && moved;
+    return moved;
+}
+
+void __wrap_free(void *block) {
+    live -= block != NULL;
+    __real_free(block);
+}
+
+static uint8_t bytes[1 << 20];
+static size_t len;
+
+/* All that a call may write. */
+static struct written {
+    uint8_t text[1 << 16], other[64];
+    size_t size;
+    struct minidump_region region, regions[64];
+    struct minidump_crash crash;
+    struct minidump_module modules[8];
+    struct minidump_thread threads[8];
+} written, before;
+
+static uint32_t call(int which) {
+    struct written *w = &written;
+    memset(w, '#', sizeof *w);
+    switch (which) {
+    case 0: return minidump_dir(bytes, len, w->text, sizeof w->text, &w->size);
+    case 1: return minidump_report(bytes, len, w->text, sizeof w->text, &w->size);
+    case 2: return minidump_summary(bytes, len, &w->crash, w->other, sizeof w->other, w->text, sizeof w->text);
+    case 3: return minidump_memory_at(bytes, len, 0x12f000, &w->region);
+    case 4: return minidump_memory_table(bytes, len, w->regions, 64, &w->size);
+    case 5: return minidump_module_table(bytes, len, w->modules, 8, &w->size);
+    case 6: return minidump_module_name(bytes, len, 0, w->text, sizeof w->text, &w->size);
+    case 7: return minidump_thread_table(bytes, len, w->threads, 8, &w->size);
+    case 8: return minidump_thread_name(bytes, len, 0x11, w->text, sizeof w->text, &w->size);
+    default: return minidump_read_memory(bytes, len, 0x12f000, w->text, sizeof w->text, &w->size);
+    }
+}
+
+int main(int argc, char **argv) {
+    FILE *file = argc == 2 ? fopen(argv[1], "rb") : NULL;
+    if (!file) return 2;
+    len = fread(bytes, 1, sizeof bytes, file);
+    fclose(file);
+    memset(&before, '#', sizeof before);
+    int bad = 0;
+    for (int which = 0; which < 10; which++) {
+        long held = live, turn = 0;
+        uint32_t wanted = call(which);
+        for (int reached = 1; reached; turn++) {
+            left = turn;
+            uint32_t status = call(which);
+            reached = left < 0;
+            left = -1;
+            bad += live != held || (reached && status != MINIDUMP_OUT_OF_MEMORY) || (!reached && status != wanted);
+            bad += reached && memcmp(&written, &before, sizeof written) != 0;
+        }
+        bad += call(which) != wanted || wanted != MINIDUMP_OK || turn < 2;
+    }
+    if (bad) printf("%d calls did not bear a failed allocation\n", bad);
+    return bad != 0;
+}
