@@ -1,0 +1,6 @@
+-- The lemmas of this crate.
+pub mod FamilyLemmas
+pub mod ListedLemmas
+pub mod LentLemmas
+pub mod OrderLemmas
+pub mod TextLemmas
