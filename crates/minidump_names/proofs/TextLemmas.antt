@@ -10,7 +10,7 @@ use Rattle.std.proofs.lemmas.Option.{slice_get-get_or}
 use Rattle.minidump_names.specs.declared.error.NamesError.{NamesError}
 use Rattle.minidump_names.specs.declared.error.NamesError.TheVariants.{NotALine, OutOfOrder, OutOfMemory}
 use Rattle.minidump_names.specs.NameLine.{Listing, line_in, listing_in, says_nothing}
-use Rattle.minidump_names.specs.NamesText.{AreLines, InOrder, IsRefused, IsTaken, IsTextRefused, lines_in, listings_in}
+use Rattle.minidump_names.specs.NamesText.{AreLines, InOrder, IsNotAbove, IsRefused, IsTaken, IsTextRefused, lines_in, listings_in}
 
 abbrev listings_of : List ℕ → List Listing
 listings_of line = unwrap_or (line_in line) []
@@ -52,6 +52,12 @@ pub taken : (before : List Listing) (line : List ℕ) (l : Listing) → line_in 
     → All (λ e. e.family ≡ l.family → e.number < l.number) before → IsTaken before line (before ++ l ∷ [])
 taken before line l is order above =
     (l ∷ [], is, refl, all_pairs_push (λ (a b : Listing). a.family ≡ b.family → a.number < b.number) before l order above)
+
+pub out_of_order : (before : List Listing) (line : List ℕ) (l : Listing) (number : ℕ) (e : NamesError) → line_in line ≡ Some (l ∷ [])
+    → (e ≡ OutOfOrder number) × IsNotAbove before l → IsRefused before line number e
+out_of_order before line l number e is (same, not_above) =
+    let refused : IsRefused before line number (OutOfOrder number) = (refl, l, is, not_above) in
+    subst (λ (e : NamesError). IsRefused before line number e) (sym same) refused
 
 -- ---- the first refused line
 

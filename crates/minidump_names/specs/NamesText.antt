@@ -51,11 +51,18 @@ IsNames text names = AreLines (lines_in text) × (names ≡ lists_in (listings_i
 
 -- ---- the refused line of a text
 
+-- a code is above all earlier ones of its family, and one of those isn't below it
+abbrev pub IsAbove : List Listing → Listing → Type 0
+IsAbove before l = All (λ e. e.family ≡ l.family → e.number < l.number) before
+
+abbrev pub IsNotAbove : List Listing → Listing → Type 0
+IsNotAbove before l = Any (λ e. (e.family ≡ l.family) × (l.number ≤ e.number)) before
+
 -- the error of a line behind others, with its number: it is not a line of names, or an earlier code of its family isn't below its own
 abbrev pub IsRefused : List Listing → List ℕ → ℕ → NamesError → Type 0
 IsRefused before line number (NotALine n) = (n ≡ number) × (line_in line ≡ None)
 IsRefused before line number (OutOfOrder n) =
-    (n ≡ number) × (l : Listing) × (line_in line ≡ Some (l ∷ [])) × Any (λ e. (e.family ≡ l.family) × (l.number ≤ e.number)) before
+    (n ≡ number) × (l : Listing) × (line_in line ≡ Some (l ∷ [])) × IsNotAbove before l
 IsRefused before line number OutOfMemory = Unit {0}
 
 -- a line that is refused is the first one behind accepted ones; its number is 1 at the first line

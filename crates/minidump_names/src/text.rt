@@ -1,6 +1,6 @@
 ghost use Rattle.std.specs.Prelude.{◌≡◌, ◌++◌, ◌≤◌, ◌<◌, All, Any, MatchBool, MatchResult, Some, map};
 ghost use Rattle.minidump_names.specs.NameLine.{line_in, listing_of};
-ghost use Rattle.minidump_names.specs.NamesText.{AreLines, InOrder, IsRefused, IsTextRefused, IsTaken, lines_in, listings_in};
+ghost use Rattle.minidump_names.specs.NamesText.{AreLines, InOrder, IsAbove, IsNotAbove, IsRefused, IsTextRefused, IsTaken, lines_in, listings_in};
 
 use crate::NamesError;
 use crate::line::{Listed, listing_in, says_nothing};
@@ -43,11 +43,22 @@ fn read_line<'t>(
     let Some(next) = listing_in(line) else {
         return Err(NamesError::NotALine(number));
     };
-    if !is_above(listed, next.family, next.number) {
-        return Err(NamesError::OutOfOrder(number));
-    }
+    in_order(listed, next, number)?;
     listed.push(next)?;
     Ok(())
+}
+
+// Returns an error if the code of a line, whose number is given, isn't above each earlier one of its family.
+fn in_order(listed: &[Listed<'_>], next: Listed<'_>, number: u64) -> Result<(), NamesError>
+    requires { InOrder (map listing_of listed.now) }
+    ensures { MatchResult result (λ _. IsAbove (map listing_of listed.now) (listing_of next.entry))
+        (λ e. (e ≡ NamesError.OutOfOrder number) × IsNotAbove (map listing_of listed.now) (listing_of next.entry)) }
+{
+    if is_above(listed, next.family, next.number) {
+        Ok(())
+    } else {
+        Err(NamesError::OutOfOrder(number))
+    }
 }
 
 // Tests whether a number is above each one that is listed for a family, whose last one is the highest.
