@@ -1,0 +1,3 @@
+-- What the contracts of this crate cite.
+pub mod NameLine
+pub mod NamesText

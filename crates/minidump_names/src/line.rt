@@ -1,0 +1,73 @@
+ghost use Rattle.std.specs.Prelude.{◌≡◌, ◌||◌, ◌==◌, length, slice_index};
+ghost use Rattle.std.specs.List.{list_any};
+ghost use Rattle.std.specs.Option.{option_copied, option_map};
+ghost use Rattle.minidump_names.specs.NameLine.{code_in, is_outside, listing_in, listing_of, name_in, says_nothing};
+
+use crate::family::family_in;
+use minidump_bytes::{LinuxOsStr, number_32};
+use minidump_reason::CodeFamily;
+
+// A code with its name, which is borrowed from its line.
+#[derive(Clone, Copy)]
+pub(crate) struct Listed<'t> {
+    pub(crate) family: CodeFamily,
+    pub(crate) number: u32,
+    pub(crate) name: &'t str,
+}
+
+// Reads the code that a line lists, or returns `None` if it lists none.
+#[tactic(auto, unfolding(crate::specs::NameLine::listing_in))]
+pub(crate) fn listing_in(line: &[u8]) -> Option<Listed<'_>>
+    ensures { option_map listing_of result ≡ listing_in line.now }
+{
+    let (family, rest) = LinuxOsStr(line).split_once(b' ')?;
+    let (number, name) = rest.split_once(b' ')?;
+    let family = family_in(family.as_bytes())?;
+    let number = code_in(number.as_bytes())?;
+    let name = name_in(name.as_bytes())?;
+    Some(Listed {
+        family,
+        number,
+        name,
+    })
+}
+
+// Reads a number below 2^32, in decimal or, behind `0x`, in hexadecimal digits.
+#[tactic(auto, unfolding(crate::specs::NameLine::code_in))]
+fn code_in(text: &[u8]) -> Option<u32>
+    ensures { result ≡ code_in text.now }
+{
+    if let Some(number) = number_32(text, 10) {
+        return Some(number);
+    }
+    let digits = LinuxOsStr(text).strip_prefix(b"0x")?;
+    number_32(digits.as_bytes(), 16)
+}
+
+// Returns the name of a code, or `None` if the text is none.
+#[tactic(auto, unfolding(crate::specs::NameLine::name_in))]
+fn name_in(text: &[u8]) -> Option<&str>
+    ensures { option_copied result ≡ name_in text.now }
+{
+    if text.is_empty() || has_outside(text) {
+        return None;
+    }
+    LinuxOsStr(text).to_str()
+}
+
+// Tests whether a byte is white space or `#`.
+fn has_outside(text: &[u8]) -> bool
+    ensures { result ≡ list_any is_outside text.now }
+{
+    text.iter().any(|b| b.is_ascii_whitespace() || *b == b'#')
+}
+
+// Tests whether a line is empty or a comment.
+pub(crate) fn says_nothing(line: &[u8]) -> bool
+    ensures { result ≡ says_nothing line.now }
+{
+    match line {
+        [first, ..] => *first == b'#',
+        [] => true,
+    }
+}
