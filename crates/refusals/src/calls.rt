@@ -7,7 +7,7 @@ use crate::regions::{
     index, info_regions, map_line, map_regions, memory, memory_regions, memory_texts, unified_infos,
 };
 use crate::streams::{copy, show};
-use crate::texts::{assertion_texts, contexts, crash, linux_texts, system_texts};
+use crate::texts::{assertion_texts, contexts, crash, linux_texts, system_texts, thread_infos};
 use crate::whole::{find, read, read_path, read_whole, report};
 use crate::world::World;
 use minidump::format::MINIDUMP_STREAM_TYPE::{self, *};
@@ -48,6 +48,7 @@ pub enum Call {
     LinuxTexts,
     SystemTexts,
     Contexts,
+    ThreadInfos,
     Crash,
 }
 
@@ -118,6 +119,7 @@ pub const CALLS: &[(&str, Call)] = &[
     ("linux-texts", Call::LinuxTexts),
     ("system-texts", Call::SystemTexts),
     ("contexts", Call::Contexts),
+    ("thread-infos", Call::ThreadInfos),
     ("crash", Call::Crash),
 ];
 
@@ -153,6 +155,7 @@ pub fn make(world: &World<'_>, call: Call, out: &mut Told<Device>) -> Result<(),
         Call::LinuxTexts => linux_texts(world, out),
         Call::SystemTexts => system_texts(world, out),
         Call::Contexts => contexts(world, out),
+        Call::ThreadInfos => thread_infos(world, out),
         Call::Crash => crash(world, out),
     }
 }

@@ -31,6 +31,8 @@ pub fn memory_regions<'a>(world: &World<'a>, out: &mut Told<Device>) -> Result<(
         .get_stream::<MinidumpMemoryList<'a>>(world.alloc)?;
     let mut regions: Vec<MinidumpMemory<'a>> = Vec::new(world.alloc);
     for region in list.iter() {
+        region.print(world.alloc, out, true)?;
+        region.print_contents(world.alloc, out)?;
         regions.push(region.clone()?)?;
     }
     MinidumpMemoryList::from_regions(world.alloc, regions)?.print(world.alloc, out, false)

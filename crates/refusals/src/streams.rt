@@ -6,114 +6,78 @@ use minidump::{
     MinidumpHandleDataStream, MinidumpLinuxCpuInfo, MinidumpLinuxEnviron, MinidumpLinuxLsbRelease,
     MinidumpLinuxMaps, MinidumpLinuxProcLimits, MinidumpLinuxProcStatus, MinidumpMacBootargs,
     MinidumpMacCrashInfo, MinidumpMemory64List, MinidumpMemoryInfoList, MinidumpMemoryList,
-    MinidumpMiscInfo, MinidumpModuleList, MinidumpSoftErrors, MinidumpSystemInfo,
+    MinidumpMiscInfo, MinidumpModuleList, MinidumpSoftErrors, MinidumpStream, MinidumpSystemInfo,
     MinidumpThreadInfoList, MinidumpThreadList, MinidumpThreadNames, MinidumpUnloadedModuleList,
     StabilityReport, Told,
 };
 
+// Reads a stream.
+fn stream<'a, S: MinidumpStream<'a>>(world: &World<'a>) -> Result<S, Error> {
+    world.dump.get_stream(world.alloc)
+}
+
 /// Reads the stream of a type, and prints it.
 pub fn show<'a>(
     world: &World<'a>,
-    stream: MINIDUMP_STREAM_TYPE,
+    kind: MINIDUMP_STREAM_TYPE,
     out: &mut Told<Device>,
 ) -> Result<(), Error> {
-    let (dump, alloc, system) = (&world.dump, world.alloc, Some(&world.system));
-    match stream {
-        ThreadListStream => dump
-            .get_stream::<MinidumpThreadList<'a>>(alloc)?
-            .print(alloc, out, Some(&world.memory), system, None, false),
-        ExceptionStream => dump
-            .get_stream::<MinidumpException<'a>>(alloc)?
-            .print(alloc, out, system, None),
-        MemoryListStream => dump
-            .get_stream::<MinidumpMemoryList<'a>>(alloc)?
-            .print(alloc, out, false),
-        Memory64ListStream => dump
-            .get_stream::<MinidumpMemory64List<'a>>(alloc)?
-            .print(alloc, out, false),
-        ModuleListStream => dump
-            .get_stream::<MinidumpModuleList>(alloc)?
-            .print(alloc, out),
-        UnloadedModuleListStream => dump
-            .get_stream::<MinidumpUnloadedModuleList>(alloc)?
-            .print(alloc, out),
-        MemoryInfoListStream => dump
-            .get_stream::<MinidumpMemoryInfoList<'a>>(alloc)?
-            .print(alloc, out),
-        ThreadInfoListStream => dump
-            .get_stream::<MinidumpThreadInfoList>(alloc)?
-            .print(alloc, out),
-        ThreadNamesStream => dump
-            .get_stream::<MinidumpThreadNames>(alloc)?
-            .print(alloc, out),
-        HandleDataStream => dump
-            .get_stream::<MinidumpHandleDataStream>(alloc)?
-            .print(alloc, out),
-        _ => show_record(world, stream, out),
+    let (alloc, system) = (world.alloc, Some(&world.system));
+    match kind {
+        ThreadListStream => stream::<MinidumpThreadList<'a>>(world)?.print(
+            alloc,
+            out,
+            Some(&world.memory),
+            system,
+            None,
+            false,
+        ),
+        ExceptionStream => stream::<MinidumpException<'a>>(world)?.print(alloc, out, system, None),
+        MemoryListStream => stream::<MinidumpMemoryList<'a>>(world)?.print(alloc, out, false),
+        Memory64ListStream => stream::<MinidumpMemory64List<'a>>(world)?.print(alloc, out, false),
+        ModuleListStream => stream::<MinidumpModuleList>(world)?.print(alloc, out),
+        UnloadedModuleListStream => stream::<MinidumpUnloadedModuleList>(world)?.print(alloc, out),
+        MemoryInfoListStream => stream::<MinidumpMemoryInfoList<'a>>(world)?.print(alloc, out),
+        ThreadInfoListStream => stream::<MinidumpThreadInfoList>(world)?.print(alloc, out),
+        ThreadNamesStream => stream::<MinidumpThreadNames>(world)?.print(alloc, out),
+        HandleDataStream => stream::<MinidumpHandleDataStream>(world)?.print(alloc, out),
+        _ => show_record(world, kind, out),
     }
 }
 
 fn show_record(
     world: &World<'_>,
-    stream: MINIDUMP_STREAM_TYPE,
+    kind: MINIDUMP_STREAM_TYPE,
     out: &mut Told<Device>,
 ) -> Result<(), Error> {
-    let (dump, alloc) = (&world.dump, world.alloc);
-    match stream {
-        SystemInfoStream => dump
-            .get_stream::<MinidumpSystemInfo>(alloc)?
-            .print(alloc, out),
-        MiscInfoStream => dump
-            .get_stream::<MinidumpMiscInfo>(alloc)?
-            .print(alloc, out),
-        BreakpadInfoStream => dump
-            .get_stream::<MinidumpBreakpadInfo>(alloc)?
-            .print(alloc, out),
-        AssertionInfoStream => dump
-            .get_stream::<MinidumpAssertion>(alloc)?
-            .print(alloc, out),
-        CrashpadInfoStream => dump
-            .get_stream::<MinidumpCrashpadInfo>(alloc)?
-            .print(alloc, out),
-        MozMacosCrashInfoStream => dump
-            .get_stream::<MinidumpMacCrashInfo>(alloc)?
-            .print(alloc, out),
-        MozMacosBootargsStream => dump
-            .get_stream::<MinidumpMacBootargs>(alloc)?
-            .print(alloc, out),
-        StabilityReportStream => dump.get_stream::<StabilityReport>(alloc)?.print(alloc, out),
-        _ => show_text(world, stream, out),
+    let alloc = world.alloc;
+    match kind {
+        SystemInfoStream => stream::<MinidumpSystemInfo>(world)?.print(alloc, out),
+        MiscInfoStream => stream::<MinidumpMiscInfo>(world)?.print(alloc, out),
+        BreakpadInfoStream => stream::<MinidumpBreakpadInfo>(world)?.print(alloc, out),
+        AssertionInfoStream => stream::<MinidumpAssertion>(world)?.print(alloc, out),
+        CrashpadInfoStream => stream::<MinidumpCrashpadInfo>(world)?.print(alloc, out),
+        MozMacosCrashInfoStream => stream::<MinidumpMacCrashInfo>(world)?.print(alloc, out),
+        MozMacosBootargsStream => stream::<MinidumpMacBootargs>(world)?.print(alloc, out),
+        StabilityReportStream => stream::<StabilityReport>(world)?.print(alloc, out),
+        _ => show_text(world, kind, out),
     }
 }
 
 fn show_text<'a>(
     world: &World<'a>,
-    stream: MINIDUMP_STREAM_TYPE,
+    kind: MINIDUMP_STREAM_TYPE,
     out: &mut Told<Device>,
 ) -> Result<(), Error> {
-    let (dump, alloc) = (&world.dump, world.alloc);
-    match stream {
-        LinuxMaps => dump
-            .get_stream::<MinidumpLinuxMaps<'a>>(alloc)?
-            .print(alloc, out),
-        LinuxCpuInfo => dump
-            .get_stream::<MinidumpLinuxCpuInfo<'a>>(alloc)?
-            .print(alloc, out),
-        LinuxProcStatus => dump
-            .get_stream::<MinidumpLinuxProcStatus<'a>>(alloc)?
-            .print(alloc, out),
-        LinuxLsbRelease => dump
-            .get_stream::<MinidumpLinuxLsbRelease<'a>>(alloc)?
-            .print(alloc, out),
-        LinuxEnviron => dump
-            .get_stream::<MinidumpLinuxEnviron<'a>>(alloc)?
-            .print(alloc, out),
-        MozLinuxLimits => dump
-            .get_stream::<MinidumpLinuxProcLimits<'a>>(alloc)?
-            .print(alloc, out),
-        MozSoftErrors => dump
-            .get_stream::<MinidumpSoftErrors<'a>>(alloc)?
-            .print(alloc, out),
+    let alloc = world.alloc;
+    match kind {
+        LinuxMaps => stream::<MinidumpLinuxMaps<'a>>(world)?.print(alloc, out),
+        LinuxCpuInfo => stream::<MinidumpLinuxCpuInfo<'a>>(world)?.print(alloc, out),
+        LinuxProcStatus => stream::<MinidumpLinuxProcStatus<'a>>(world)?.print(alloc, out),
+        LinuxLsbRelease => stream::<MinidumpLinuxLsbRelease<'a>>(world)?.print(alloc, out),
+        LinuxEnviron => stream::<MinidumpLinuxEnviron<'a>>(world)?.print(alloc, out),
+        MozLinuxLimits => stream::<MinidumpLinuxProcLimits<'a>>(world)?.print(alloc, out),
+        MozSoftErrors => stream::<MinidumpSoftErrors<'a>>(world)?.print(alloc, out),
         _ => Err(Error::StreamNotFound),
     }
 }
@@ -121,60 +85,50 @@ fn show_text<'a>(
 /// Reads the stream of a type, copies it, and prints the copy.
 pub fn copy<'a>(
     world: &World<'a>,
-    stream: MINIDUMP_STREAM_TYPE,
+    kind: MINIDUMP_STREAM_TYPE,
     out: &mut Told<Device>,
 ) -> Result<(), Error> {
-    let (dump, alloc) = (&world.dump, world.alloc);
-    match stream {
-        SystemInfoStream => dump
-            .get_stream::<MinidumpSystemInfo>(alloc)?
+    let alloc = world.alloc;
+    match kind {
+        SystemInfoStream => stream::<MinidumpSystemInfo>(world)?
             .try_clone(alloc)?
             .print(alloc, out),
-        ModuleListStream => dump
-            .get_stream::<MinidumpModuleList>(alloc)?
+        ModuleListStream => stream::<MinidumpModuleList>(world)?
             .try_clone(alloc)?
             .print(alloc, out),
-        UnloadedModuleListStream => dump
-            .get_stream::<MinidumpUnloadedModuleList>(alloc)?
+        UnloadedModuleListStream => stream::<MinidumpUnloadedModuleList>(world)?
             .try_clone(alloc)?
             .print(alloc, out),
-        MemoryInfoListStream => dump
-            .get_stream::<MinidumpMemoryInfoList<'a>>(alloc)?
+        MemoryInfoListStream => stream::<MinidumpMemoryInfoList<'a>>(world)?
             .try_clone(alloc)?
             .print(alloc, out),
-        LinuxMaps => dump
-            .get_stream::<MinidumpLinuxMaps<'a>>(alloc)?
+        LinuxMaps => stream::<MinidumpLinuxMaps<'a>>(world)?
             .try_clone(alloc)?
             .print(alloc, out),
-        _ => copy_record(world, stream, out),
+        _ => copy_record(world, kind, out),
     }
 }
 
 fn copy_record(
     world: &World<'_>,
-    stream: MINIDUMP_STREAM_TYPE,
+    kind: MINIDUMP_STREAM_TYPE,
     out: &mut Told<Device>,
 ) -> Result<(), Error> {
-    let (dump, alloc) = (&world.dump, world.alloc);
-    match stream {
-        ThreadNamesStream => dump
-            .get_stream::<MinidumpThreadNames>(alloc)?
+    let alloc = world.alloc;
+    match kind {
+        ThreadNamesStream => stream::<MinidumpThreadNames>(world)?
             .try_clone(alloc)?
             .print(alloc, out),
-        HandleDataStream => dump
-            .get_stream::<MinidumpHandleDataStream>(alloc)?
+        HandleDataStream => stream::<MinidumpHandleDataStream>(world)?
             .try_clone(alloc)?
             .print(alloc, out),
-        MozMacosCrashInfoStream => dump
-            .get_stream::<MinidumpMacCrashInfo>(alloc)?
+        MozMacosCrashInfoStream => stream::<MinidumpMacCrashInfo>(world)?
             .try_clone(alloc)?
             .print(alloc, out),
-        MozMacosBootargsStream => dump
-            .get_stream::<MinidumpMacBootargs>(alloc)?
+        MozMacosBootargsStream => stream::<MinidumpMacBootargs>(world)?
             .try_clone(alloc)?
             .print(alloc, out),
-        StabilityReportStream => dump
-            .get_stream::<StabilityReport>(alloc)?
+        StabilityReportStream => stream::<StabilityReport>(world)?
             .try_clone(alloc)?
             .print(alloc, out),
         _ => Err(Error::StreamNotFound),

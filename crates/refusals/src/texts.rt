@@ -4,7 +4,7 @@ use crate::world::{World, put_line};
 use minidump::strings::{LinuxOsStr, LinuxOsString};
 use minidump::{
     CodeNames, Error, MinidumpAssertion, MinidumpContext, MinidumpContextValidity,
-    MinidumpException, MinidumpThreadList, Source, Steps, Told, date_text,
+    MinidumpException, MinidumpThreadInfoList, MinidumpThreadList, Source, Steps, Told, date_text,
 };
 use std::collections::HashSet;
 
@@ -70,6 +70,17 @@ fn put_register(
     }
     let value = context.format_register(world.alloc, "rip")?;
     put_line(out, Some(value.as_str()))
+}
+
+/// Prints the information on each thread.
+pub fn thread_infos(world: &World<'_>, out: &mut Told<Device>) -> Result<(), Error> {
+    let list = world
+        .dump
+        .get_stream::<MinidumpThreadInfoList>(world.alloc)?;
+    for info in &list.thread_infos {
+        info.print(world.alloc, out)?;
+    }
+    Ok(())
 }
 
 /// Prints each thread, and the reason of the crash.
