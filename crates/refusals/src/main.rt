@@ -1,7 +1,7 @@
 //! `refusals FILE [devices]` and `refusals FILE NAME NUMBER`, which show what the library answers where memory runs out,
 //! or a device fails.
 //!
-//! On a dump with a stream of each type it makes each call that may find no memory, twice, and writes a line for it: its
+//! On a dump with a stream of each type it makes the calls that may find no memory, twice, and writes a line for each: its
 //! name, and `ok` if it answered and wrote the same. `FILE` is a dump for `read_path`.
 //!
 //! With `devices` it also makes each call on writers that fail, or take nothing, from each of their calls on, and on
