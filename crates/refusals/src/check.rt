@@ -1,0 +1,130 @@
+use crate::calls::{Call, make};
+use crate::device::Device;
+use crate::world::World;
+use minidump::{Error, Told, read_all};
+use minidump_synth::{FailsAt, OneByte, TakesNone};
+use std::alloc::{AllocError, Global};
+
+// Room for what a call writes, so that no device takes memory, and a limit of calls of a device.
+const ROOM: usize = 65536;
+
+/// What a call answered, of which it is known what it answers with ample memory.
+#[derive(Clone, Copy)]
+pub enum Said {
+    /// The same.
+    Ample,
+    /// That memory ran out, and then the same.
+    Refused,
+    /// Something else.
+    Wrong,
+    /// It was not made: of the allocations before it so many were given, and then one was refused.
+    NotMade(u32),
+}
+
+// Makes a call, and returns its answer with what went out.
+fn made(world: &World<'_>, call: Call, device: Device) -> (Result<(), Error>, Vec<u8>) {
+    let mut out = Told::new(device);
+    let answer = make(world, call, &mut out);
+    (answer, out.into_device().into_bytes())
+}
+
+fn whole(alloc: Global) -> Result<Device, AllocError> {
+    failing(alloc, Kind::FailsAt, usize::MAX)
+}
+
+// Takes memory so many times, and gives it back. Returns how many times there was some.
+fn allocate(alloc: Global, times: u32) -> u32 {
+    for taken in 0..times {
+        if Box::new(alloc, 0u8).is_err() {
+            return taken;
+        }
+    }
+    times
+}
+
+/// Makes a call, and makes it again after so many allocations. If memory runs out, it is made once more, and what went
+/// out before is a beginning of the text.
+pub fn answered(world: &World<'_>, call: Call, times: u32) -> Result<Said, AllocError> {
+    let (device, spare) = (whole(world.alloc)?, whole(world.alloc)?);
+    let (ample, text) = made(world, call, whole(world.alloc)?);
+    let taken = allocate(world.alloc, times);
+    if taken < times {
+        return Ok(Said::NotMade(taken));
+    }
+    let (answer, out) = made(world, call, device);
+    if answer.is_ok() && ample.is_ok() && out == text {
+        return Ok(Said::Ample);
+    }
+    if answer != Err(Error::OutOfMemory) || !text.starts_with(&out) {
+        return Ok(Said::Wrong);
+    }
+    let (answer, out) = made(world, call, spare);
+    if answer.is_ok() && ample.is_ok() && out == text {
+        return Ok(Said::Refused);
+    }
+    Ok(Said::Wrong)
+}
+
+// A device that fails, or takes nothing, from a call on.
+#[derive(Clone, Copy)]
+enum Kind {
+    FailsAt,
+    TakesNone,
+}
+
+fn failing(alloc: Global, kind: Kind, at: usize) -> Result<Device, AllocError> {
+    let room = Vec::with_capacity(alloc, ROOM)?;
+    Ok(match kind {
+        Kind::FailsAt => Device::FailsAt(FailsAt::new(room, at)),
+        Kind::TakesNone => Device::TakesNone(TakesNone::new(room, at)),
+    })
+}
+
+/// Tells whether a call writes the same to a device that takes a byte a call, and answers `IoError` on each that fails
+/// or takes nothing, where a beginning of it went out.
+pub fn is_told(world: &World<'_>, call: Call) -> Result<bool, AllocError> {
+    let (_, text) = made(world, call, whole(world.alloc)?);
+    let room = Vec::with_capacity(world.alloc, ROOM)?;
+    let (answer, out) = made(world, call, Device::OneByte(OneByte::new(room)));
+    Ok(
+        answer.is_ok()
+            && out == text
+            && fails_at_each(world, call, Kind::FailsAt, &text)?
+            && fails_at_each(world, call, Kind::TakesNone, &text)?,
+    )
+}
+
+fn fails_at_each(
+    world: &World<'_>,
+    call: Call,
+    kind: Kind,
+    text: &[u8],
+) -> Result<bool, AllocError> {
+    for at in 0..ROOM {
+        let (answer, out) = made(world, call, failing(world.alloc, kind, at)?);
+        if answer.is_ok() {
+            return Ok(out.as_slice() == text);
+        }
+        if answer != Err(Error::IoError) || !text.starts_with(&out) {
+            return Ok(false);
+        }
+    }
+    Ok(false)
+}
+
+/// Tells whether `read_all` has the same bytes of a reader that gives a byte a call, and of each that fails it answers
+/// `IoError` and leaves nothing in the vector.
+pub fn is_read(alloc: Global, bytes: &[u8]) -> Result<bool, AllocError> {
+    for at in 0..ROOM {
+        let mut into = Vec::from_slice(alloc, &[1])?;
+        let reader = FailsAt::new(OneByte::new(bytes), at);
+        let answer = read_all(&mut Told::new(reader), &mut into);
+        if answer.is_ok() {
+            return Ok(at == bytes.len().saturating_add(1) && into.as_slice() == bytes);
+        }
+        if answer != Err(Error::IoError) || !into.is_empty() {
+            return Ok(false);
+        }
+    }
+    Ok(false)
+}

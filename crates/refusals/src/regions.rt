@@ -1,0 +1,109 @@
+use crate::device::Device;
+use crate::world::{World, put_line};
+use minidump::{
+    AddressIndex, Error, MinidumpLinuxMapInfo, MinidumpLinuxMaps, MinidumpMemory,
+    MinidumpMemoryInfo, MinidumpMemoryInfoList, MinidumpMemoryList, Range, Told,
+    UnifiedMemoryInfoList,
+};
+use std::alloc::{AllocError, Global};
+
+/// Reads the memory. The print of a list names its kind.
+pub fn memory(world: &World<'_>, out: &mut Told<Device>) -> Result<(), Error> {
+    match world.dump.get_memory(world.alloc)? {
+        Some(list) => list.print(world.alloc, out, true),
+        None => put_line(out, None),
+    }
+}
+
+/// Prints each region of memory.
+pub fn memory_texts(world: &World<'_>, out: &mut Told<Device>) -> Result<(), Error> {
+    for region in world.memory.iter() {
+        region.print(world.alloc, out, false)?;
+        region.print_contents(world.alloc, out)?;
+    }
+    Ok(())
+}
+
+/// Makes a list of regions of memory.
+pub fn memory_regions<'a>(world: &World<'a>, out: &mut Told<Device>) -> Result<(), Error> {
+    let list = world
+        .dump
+        .get_stream::<MinidumpMemoryList<'a>>(world.alloc)?;
+    let mut regions: Vec<MinidumpMemory<'a>> = Vec::new(world.alloc);
+    for region in list.iter() {
+        region.print(world.alloc, out, true)?;
+        region.print_contents(world.alloc, out)?;
+        regions.push(region.clone()?)?;
+    }
+    MinidumpMemoryList::from_regions(world.alloc, regions)?.print(world.alloc, out, false)
+}
+
+/// Makes a list of information on regions.
+pub fn info_regions<'a>(world: &World<'a>, out: &mut Told<Device>) -> Result<(), Error> {
+    let list = world
+        .dump
+        .get_stream::<MinidumpMemoryInfoList<'a>>(world.alloc)?;
+    for region in list.iter() {
+        region.print(world.alloc, out)?;
+    }
+    let regions = infos_of(world.alloc, &list)?;
+    MinidumpMemoryInfoList::from_regions(world.alloc, regions)?.print(world.alloc, out)
+}
+
+fn infos_of<'a>(
+    alloc: Global,
+    list: &MinidumpMemoryInfoList<'a>,
+) -> Result<Vec<MinidumpMemoryInfo<'a>>, AllocError> {
+    list.iter().copied().collect(alloc)
+}
+
+/// Makes a list of maps.
+pub fn map_regions<'a>(world: &World<'a>, out: &mut Told<Device>) -> Result<(), Error> {
+    let list = world.dump.get_stream::<MinidumpLinuxMaps<'a>>(world.alloc)?;
+    let mut regions: Vec<MinidumpLinuxMapInfo<'a>> = Vec::new(world.alloc);
+    for region in list.iter() {
+        region.print(world.alloc, out)?;
+        regions.push(region.try_clone(world.alloc)?)?;
+    }
+    MinidumpLinuxMaps::from_regions(world.alloc, regions)?.print(world.alloc, out)
+}
+
+/// Copies a list of either kind, and prints it and its regions.
+pub fn unified_infos(world: &World<'_>, out: &mut Told<Device>) -> Result<(), Error> {
+    let maps = world.dump.get_stream::<MinidumpLinuxMaps<'_>>(world.alloc)?;
+    match UnifiedMemoryInfoList::new(None, Some(maps)) {
+        Some(list) => {
+            let list = list.try_clone(world.alloc)?;
+            list.print(world.alloc, out)?;
+            for region in list.iter() {
+                region.print(world.alloc, out)?;
+            }
+            Ok(())
+        }
+        None => put_line(out, None),
+    }
+}
+
+/// Reads a line of maps.
+pub fn map_line(world: &World<'_>, out: &mut Told<Device>) -> Result<(), Error> {
+    let line = b"10a00-10b00 r-xp 0 fd:05 1 /bin/app";
+    match MinidumpLinuxMapInfo::from_line(world.alloc, line)? {
+        Some(map) => map.print(world.alloc, out),
+        None => put_line(out, None),
+    }
+}
+
+/// Makes an index.
+pub fn index(world: &World<'_>, out: &mut Told<Device>) -> Result<(), Error> {
+    let ranges = [
+        Some(Range::new(1, 2)),
+        None,
+        Some(Range::new(2, 3)),
+        Some(Range::new(4, 4)),
+    ];
+    let index = AddressIndex::build(world.alloc, &ranges)?;
+    for place in index.by_addr() {
+        put_line(out, (place == 0).then_some("first"))?;
+    }
+    Ok(())
+}

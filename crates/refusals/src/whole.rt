@@ -1,0 +1,52 @@
+use crate::device::Device;
+use crate::world::{World, put, put_line};
+use minidump::{
+    CodeNames, Error, Minidump, MinidumpModuleList, MinidumpThreadNames, Module, Told, read_all,
+    write_report,
+};
+
+/// Reads the dump, and prints what depends on its system information too.
+pub fn read(world: &World<'_>, out: &mut Told<Device>) -> Result<(), Error> {
+    let dump = Minidump::read(world.alloc, world.bytes)?;
+    dump.print(world.alloc, out)?;
+    let modules = dump.get_stream::<MinidumpModuleList>(world.alloc)?;
+    for module in modules.iter() {
+        let version = module.version(world.alloc)?;
+        put_line(out, version.as_ref().map(|text| text.as_str()))?;
+    }
+    Ok(())
+}
+
+/// Finds a stream.
+pub fn find(world: &World<'_>, out: &mut Told<Device>) -> Result<(), Error> {
+    match world.dump.find_stream::<MinidumpThreadNames>(world.alloc)? {
+        Some(names) => names.print(world.alloc, out),
+        None => put_line(out, None),
+    }
+}
+
+/// Reads a reader to its end. An error leaves nothing in the vector.
+pub fn read_whole(world: &World<'_>, out: &mut Told<Device>) -> Result<(), Error> {
+    let mut into = Vec::from_slice(world.alloc, &[1])?;
+    match read_all(&mut Told::new(world.bytes), &mut into) {
+        Ok(()) => put(out, &into),
+        Err(error) if into.is_empty() => Err(error),
+        Err(_) => Err(Error::DataError),
+    }
+}
+
+/// Reads a file. An error leaves nothing in the vector, or the bytes of the file.
+pub fn read_path(world: &World<'_>, out: &mut Told<Device>) -> Result<(), Error> {
+    let mut into = Vec::from_slice(world.alloc, &[1])?;
+    let error = Minidump::read_path(world.rt, world.alloc, world.path, &mut into).err();
+    match error {
+        None => put(out, &into),
+        Some(error) if into.is_empty() || into.starts_with(b"MDMP") => Err(error),
+        Some(_) => Err(Error::DataError),
+    }
+}
+
+/// Writes the report.
+pub fn report(world: &World<'_>, out: &mut Told<Device>) -> Result<(), Error> {
+    write_report(world.alloc, world.bytes, &CodeNames::empty(), out)
+}
