@@ -1,4 +1,8 @@
-"""Prints a summary of the crash that a minidump is of: summary.py LIBRARY FILE, where LIBRARY is a shared object."""
+"""Prints a summary of the crash that a minidump is of: summary.py LIBRARY FILE
+
+LIBRARY is a shared object, made of the static library and the toolchain's heap:
+cc -shared -o libminidump.so -Wl,--whole-archive libminidump_c.a -Wl,--no-whole-archive liblibc_c.a
+"""
 import ctypes
 import sys
 
@@ -23,7 +27,8 @@ crash, reason, module = Crash(), ctypes.create_string_buffer(128), ctypes.create
 status = library.minidump_summary(dump, len(dump), crash, reason, len(reason), module, len(module))
 if status:
     name = ctypes.create_string_buffer(32)
-    sys.exit(name.raw[: library.minidump_error_name(status, name, len(name))].decode())
+    size = library.minidump_error_name(status, name, len(name))
+    sys.exit(name.raw[:size].decode())
 print(f"thread  {crash.thread:#x}")
 if crash.has_address:
     print(f"address {crash.address:#x}")

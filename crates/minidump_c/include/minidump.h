@@ -8,7 +8,8 @@
  *
  * A call returns MINIDUMP_OK or an error. After an error every buffer, number and struct is as it was.
  *
- * Memory is taken by malloc and realloc and given back by free, before the call returns.
+ * Link libminidump_c.a, which `rt lib` makes, and the toolchain's liblibc_c.a. Memory is taken by malloc and realloc and
+ * given back by free, before the call returns.
  * Numbers are those of the machine, which must be a 64-bit one; on x86-64 it needs SSE4.2 and POPCNT (x86-64-v2),
  * which is not tested. Call from no signal handler, and not behind a fork of a process with threads.
  *

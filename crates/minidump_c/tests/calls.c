@@ -1,5 +1,5 @@
-/* Calls each function of minidump.h, with arguments whose order shows, and prints what it tells of three dumps: one with
- * regions of memory, one of a crash, and one with names of threads. */
+/* Calls each function of minidump.h, with arguments whose order shows, and prints what it tells of two dumps: one with
+ * regions of memory, and one of a crash. */
 #include "minidump.h"
 
 #include <stdio.h>
@@ -108,9 +108,9 @@ static void threads(const uint8_t *bytes, size_t len, size_t room, uint32_t id) 
 }
 
 int main(int argc, char **argv) {
-    if (argc != 4) return 2;
-    size_t len = 0, crash_len = 0, names_len = 0;
-    uint8_t *regions = load(argv[1], &len), *crash = load(argv[2], &crash_len), *names = load(argv[3], &names_len);
+    if (argc != 3) return 2;
+    size_t len = 0, crash_len = 0;
+    uint8_t *regions = load(argv[1], &len), *crash = load(argv[2], &crash_len);
 
     for (uint32_t status = 0; status <= 16; status++) tell("error_name", status);
     text("dir", minidump_dir, regions, len);
@@ -129,12 +129,11 @@ int main(int argc, char **argv) {
     modules(crash, crash_len, 1, 1);
     modules(regions, len, 2, 0);
     modules(crash, 31, 2, 0);
-    threads(names, names_len, 2, 0x11);
+    threads(crash, crash_len, 2, 0x11);
     threads(crash, crash_len, 1, 1);
     threads(regions, len, 2, 1);
-    threads(names, 31, 2, 0x11);
+    threads(crash, 31, 2, 0x11);
     free(regions);
     free(crash);
-    free(names);
     return 0;
 }

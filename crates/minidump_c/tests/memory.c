@@ -1,5 +1,5 @@
-/* Lets each allocation fail in turn. Each call then returns MINIDUMP_OUT_OF_MEMORY, or, where it gets on without, what it
- * returns otherwise; it leaves what it was passed as it was, keeps no memory, and works again later. */
+/* Lets each allocation fail in turn. Each call then returns MINIDUMP_OUT_OF_MEMORY and leaves what it was passed as it was, or
+ * it gets on without and does what it does otherwise. It keeps no memory, and works again later. */
 #include "minidump.h"
 
 #include <stdio.h>
@@ -42,7 +42,7 @@ static struct written {
     struct minidump_crash crash;
     struct minidump_module modules[8];
     struct minidump_thread threads[8];
-} written, before;
+} written, whole, before;
 
 static uint32_t call(int which) {
     struct written *w = &written;
@@ -69,17 +69,20 @@ int main(int argc, char **argv) {
     memset(&before, '#', sizeof before);
     int bad = 0;
     for (int which = 0; which < 10; which++) {
-        long held = live, turn = 0;
+        long held = live, told = 0;
         uint32_t wanted = call(which);
-        for (int reached = 1; reached; turn++) {
+        memcpy(&whole, &written, sizeof whole);
+        for (long turn = 0, reached = 1; reached; turn++) {
             left = turn;
             uint32_t status = call(which);
             reached = left < 0;
             left = -1;
-            bad += live != held || (reached && status != MINIDUMP_OUT_OF_MEMORY) || (!reached && status != wanted);
-            bad += reached && memcmp(&written, &before, sizeof written) != 0;
+            int fails = reached && status == MINIDUMP_OUT_OF_MEMORY;
+            told += fails;
+            bad += live != held || (!fails && status != wanted);
+            bad += memcmp(&written, fails ? &before : &whole, sizeof written) != 0;
         }
-        bad += call(which) != wanted || wanted != MINIDUMP_OK || turn < 2;
+        bad += call(which) != wanted || wanted != MINIDUMP_OK || told == 0;
     }
     if (bad) printf("%d calls did not bear a failed allocation\n", bad);
     return bad != 0;
