@@ -1,5 +1,5 @@
 -- Families: the one of a name, and that they are apart.
-use Rattle.std.proofs.Common.{◌≡◌, ◌≢◌, ℕ, ◌+◌, ◌<◌, ◌≤◌, Bool, true, false, List, [], ◌∷◌, length, get_or, drop, suc, Option, Some, None, refl, sym, ap, ◌∙◌, All, AllPairs}
+use Rattle.std.proofs.Common.{◌≡◌, ◌≢◌, ℕ, ◌+◌, ◌<◌, ◌≤◌, Bool, true, false, List, [], ◌∷◌, length, get_or, drop, suc, Some, None, refl, sym, ap, ◌∙◌, AllPairs}
 use Rattle.std.proofs.Common.{add-one, arith, rules, if◌then◌else◌}
 use Rattle.std.specs.Prelude.{◌&&◌, not}
 use Rattle.std.specs.Str.{bytes_eq}

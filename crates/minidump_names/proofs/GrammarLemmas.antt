@@ -27,7 +27,7 @@ use Rattle.minidump_reason.specs.declared.family.CodeFamily.TheVariants.{MacGuar
 use Rattle.minidump_reason.specs.declared.family.CodeFamily.TheVariants.{LinuxSigbus, LinuxSigfpe, LinuxSigsegv, LinuxSigsys, Windows, WinError}
 use Rattle.minidump_reason.specs.declared.family.CodeFamily.TheVariants.{WinErrorFacility, NtStatus, FastFail, WindowsAccess, WindowsInPageError}
 use Rattle.minidump_names.specs.NameLine.{IsCode, IsLine, IsListing, IsName, Listing, code_in, families, family_in, family_name, is_outside, line_in, listing_in, name_in}
-use Rattle.minidump_names.specs.NameLine.{named_in, says_nothing}
+use Rattle.minidump_names.specs.NameLine.{named_in}
 
 -- ---- families
 named_by : (t : Bool) (text : List ℕ) (g f : CodeFamily) (rest : Option CodeFamily) → bytes_eq text (family_name g) ≡ t

@@ -7,7 +7,7 @@ use Rattle.minidump_bytes.proofs.ListLemmas.{mapped_more}
 use Rattle.minidump_reason.specs.declared.family.CodeFamily.{CodeFamily}
 use Rattle.minidump_reason.specs.declared.names.CodeNamesError.{CodeNamesError}
 use Rattle.minidump_reason.specs.declared.names.CodeNamesError.TheVariants.{NotAscending, Repeated}
-use Rattle.minidump_reason.specs.Names.{AreCodeNames, Entries, IsAscending, IsFirstRefusal, IsRefused, LentEntries, LentLists, Lists, entries_of, lists_of}
+use Rattle.minidump_reason.specs.Names.{AreCodeNames, Entries, IsAscending, IsFirstRefusal, IsRefused, LentEntries, LentLists, entries_of, lists_of}
 
 -- ---- what holds of elements, and of what they are mapped to
 

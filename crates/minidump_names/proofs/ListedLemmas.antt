@@ -1,12 +1,12 @@
 -- The codes of a family among those that are listed.
-use Rattle.std.proofs.Common.{◌≡◌, ℕ, ◌+◌, ◌<◌, Bool, true, false, zero, suc, List, [], ◌∷◌, ◌++◌, length, get_or, map, take, refl, sym, ap, ◌∙◌, All, AllPairs, filter, arith}
+use Rattle.std.proofs.Common.{◌≡◌, ℕ, ◌+◌, ◌<◌, Bool, true, false, zero, suc, List, [], ◌∷◌, ◌++◌, length, get_or, map, take, refl, sym, ◌∙◌, All, AllPairs, filter, arith}
 use Rattle.std.specs.Borrow.{Bor}
 use Rattle.std.specs.Prelude.{if◌then◌else◌}
-use Rattle.std.proofs.lemmas.List.{append-nil, get_or-map, length-map, map-append, map_push, take_more}
-use Rattle.std.proofs.lemmas.List.Elements.{All-push, filter-append}
+use Rattle.std.proofs.lemmas.List.{get_or-map, length-map, map-append, map_push, take_more}
+use Rattle.std.proofs.lemmas.List.Elements.{filter-append}
 use Rattle.std.proofs.lemmas.List.Kept.{AllPairs-filter}
 use Rattle.minidump_reason.specs.declared.family.CodeFamily.{CodeFamily}
-use Rattle.minidump_reason.specs.Names.{Entries, LentEntries, IsAscending, entries_of, is_family}
+use Rattle.minidump_reason.specs.Names.{LentEntries, IsAscending, entries_of, is_family}
 use Rattle.minidump_names.specs.declared.line.Listed.{Listed}
 use Rattle.minidump_names.specs.NameLine.{Listing, listing_of}
 use Rattle.minidump_names.specs.NamesText.{InOrder, entries_of_family, entry_of}

@@ -1,9 +1,8 @@
 -- The codes of a family ascend.
-use Rattle.std.proofs.Common.{◌<◌, ◌≡◌, AllPairs, List, ℕ, map, sym, subst, arith}
+use Rattle.std.proofs.Common.{◌<◌, AllPairs, map, sym, subst, arith}
 use Rattle.std.proofs.lemmas.List.{take_all}
-use Rattle.minidump_reason.specs.Names.{Entries, entries_of}
+use Rattle.minidump_reason.specs.Names.{Entries}
 use Rattle.minidump_names.specs.NameLine.{listing_of}
-use Rattle.minidump_names.specs.NamesText.{entries_of_family}
 use Rattle.minidump_names.proofs.ListedLemmas.{family_ascends, lent_ascends}
 use Rattle.minidump_names.proofs.table.entries_of_family.Goals as goal
 

@@ -1,8 +1,6 @@
 -- The last code of the family decides.
-use Rattle.std.proofs.Common.{◌≡◌, ◌-◌, ◌<◌, ◌≤◌, ◌≢◌, ℕ, get_or, length, inl, inr, sym, subst, arith}
-use Rattle.std.proofs.lemmas.Bool.{cases_lt}
-use Rattle.minidump_names.specs.declared.line.Listed.{Listed}
-use Rattle.minidump_names.proofs.FamilyLemmas.{other_family, same_family}
+use Rattle.std.proofs.Common.{◌-◌, sym, arith}
+use Rattle.minidump_names.proofs.FamilyLemmas.{same_family}
 use Rattle.minidump_names.proofs.OrderLemmas.{above_here, above_all}
 use Rattle.minidump_names.proofs.text.is_above.Goals as goal
 

@@ -1,5 +1,5 @@
 -- The line is refused, or what it lists comes behind.
-use Rattle.std.proofs.Common.{refl, sym}
+use Rattle.std.proofs.Common.{sym}
 use Rattle.std.proofs.lemmas.List.{map_push}
 use Rattle.std.proofs.lemmas.Result.{err_from_is_err_and}
 use Rattle.minidump_names.specs.NameLine.{listing_of}

@@ -3,7 +3,7 @@ use Rattle.std.proofs.Common.{◌∙◌, length, sym, arith}
 use Rattle.std.proofs.lemmas.Result.{err_from_is_err_and}
 use Rattle.minidump_bytes.specs.LinuxOsStr.{text_of}
 use Rattle.minidump_bytes.proofs.LeftLemmas.{IsNext, all_given, next_left, one_given}
-use Rattle.minidump_names.specs.NamesText.{IsRefused, IsTaken, lines_in, listings_in}
+use Rattle.minidump_names.specs.NamesText.{lines_in}
 use Rattle.minidump_names.proofs.TextLemmas.{lines_more, refused_at}
 use Rattle.minidump_names.proofs.text.read_lines.Goals as goal
 

@@ -1,5 +1,5 @@
 -- The lists that are lent are those of the table.
-use Rattle.std.proofs.Common.{◌∙◌, sym, arith}
+use Rattle.std.proofs.Common.{◌∙◌, arith}
 use Rattle.std.proofs.lemmas.List.{take_all}
 use Rattle.minidump_names.proofs.LentLemmas.{lent_names, lent_value}
 use Rattle.minidump_names.proofs.table.NameTable.lists.Goals as goal

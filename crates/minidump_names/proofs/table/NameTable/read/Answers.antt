@@ -1,5 +1,5 @@
 -- The lists of the families: one more, and all of them.
-use Rattle.std.proofs.Common.{ap, map, sym, ◌∙◌, arith}
+use Rattle.std.proofs.Common.{ap, map, ◌∙◌, arith}
 use Rattle.std.proofs.lemmas.List.{get_or_default, take_all}
 use Rattle.std.proofs.lemmas.List.Elements.{All-push}
 use Rattle.minidump_reason.specs.Names.{IsAscending, entries_of}
