@@ -89,14 +89,14 @@ const UP: &[(u64, u64)] = &[(0, 4), (10, 4), (20, 4), (30, 4), (40, 4), (50, 4),
 #[rattlefmt::skip]
 const DOWN: &[(u64, u64)] = &[(70, 4), (60, 4), (50, 4), (40, 4), (30, 4), (20, 4), (10, 4), (0, 4)];
 
-// How many comparisons find each of the first regions of `UP`, by its base: how deep it is in the complete tree
-// whose last level is filled from the left.
+// How many regions a lookup of the base of each of the first regions of `UP` goes by: one a level of the complete
+// tree whose last level is filled from the left, and none of that level where it has no region below the others.
 #[rattlefmt::skip]
 const DEPTHS: &[&[(u64, u128)]] = &[
     &[(0, 1)],
     &[(0, 2), (10, 1)],
-    &[(0, 3), (10, 2), (20, 3), (30, 1), (40, 3), (50, 2), (60, 3)],
-    &[(0, 4), (10, 3), (20, 2), (30, 3), (40, 1), (50, 3), (60, 2), (70, 3)],
+    &[(0, 3), (10, 3), (20, 3), (30, 3), (40, 3), (50, 3), (60, 3)],
+    &[(0, 4), (10, 3), (20, 3), (30, 3), (40, 3), (50, 3), (60, 3), (70, 3)],
 ];
 
 fn comparisons(index: &AddressIndex, address: u64) -> u128 {
