@@ -1,12 +1,22 @@
 /* minidump: reads the crash files that Windows, Breakpad and Crashpad write.
  *
- * Each call takes the bytes of a whole dump, which may be damaged or forged, and keeps nothing: no call frees or holds
- * what it is passed. A buffer is a pointer and, behind it, the number of its items; a call writes no more of them.
- * No pointer may be NULL, also where the number is 0: pass any address then. What a call writes may not overlap
- * anything else that it is passed, and no other thread may touch it meanwhile; the bytes of a dump may be read by
- * several threads at once. There is no state, so calls may run at the same time.
+ * A call about a dump takes the bytes of the whole file, which may be damaged or forged, and keeps nothing: no call frees
+ * or holds what it is passed. A buffer is a pointer and, behind it, the number of its items; a call writes no more of
+ * them. What a call writes to need not be initialised. No pointer may be NULL, also where the number is 0: pass any
+ * aligned address then. What a call writes may not overlap anything else that it is passed, and no other thread may
+ * touch it meanwhile; the bytes of a dump may be read by several threads at once. There is no state, so calls may run
+ * at the same time.
  *
- * A call returns MINIDUMP_OK or an error. After an error every buffer, number and struct is as it was.
+ * A call about a dump returns MINIDUMP_OK or an error, but never MINIDUMP_FILE_NOT_FOUND or MINIDUMP_IO_ERROR. After an
+ * error every buffer, number and struct is as it was. A missing or malformed list of modules or threads, or an
+ * exception, is an error of the calls that ask for it; memory and names of threads that are missing or malformed count
+ * as none.
+ *
+ * Names and reasons are UTF-8; a report also has bytes of the dump as they are. A text that is cut may end within a
+ * character. No zero is written behind a text, and a name may hold zeros. Codes have no names here, so most reasons are
+ * numbers, as "unknown 0xc0000005".
+ *
+ * An end may be 2^64, which is 0 as a number: test `address - base < size`, not `address < base + size`.
  *
  * Link libminidump_c.a, which `rt lib` makes, and the toolchain's liblibc_c.a. Memory is taken by malloc and realloc and
  * given back by free, before the call returns.
@@ -45,7 +55,7 @@ enum minidump_status {
 };
 
 /* Writes the name of a status, such as MissingHeader, to the front of out, as far as it fits, and returns the size of
- * the whole name: 0 for MINIDUMP_OK and for numbers that are no status. No text of this library ends in a zero. */
+ * the whole name: 0 for MINIDUMP_OK and for numbers that are no status. */
 size_t minidump_error_name(uint32_t status, uint8_t *out, size_t out_len);
 
 /* Writes the header and the directory as text to the front of out, as far as it fits, and the size of the whole text
@@ -54,10 +64,10 @@ uint32_t minidump_dir(const uint8_t *bytes, size_t len, uint8_t *out, size_t out
 
 /* The same for the report: the header, the directory, each stream that can be read, and where and why the process
  * crashed. The text is made anew at each call, so begin with a buffer of a guess, and call again if *size is larger.
- * Memory is taken for one more copy of the text. */
+ * The whole text is in memory besides. */
 uint32_t minidump_report(const uint8_t *bytes, size_t len, uint8_t *out, size_t out_len, size_t *size);
 
-/* What is known of a crash first. What is absent has 0 in has_.., and 0 for its numbers. */
+/* What one asks of a crash first. What is absent has 0 in has_.., and 0 for its numbers. */
 struct minidump_crash {
     uint64_t address;     /* that the crash is about */
     uint64_t module_base; /* of the module with the instruction pointer */
@@ -74,7 +84,7 @@ struct minidump_crash {
 };
 
 /* Writes the numbers of a crash to *crash, its reason in words to the front of reason and the name of its module to
- * that of name, each as far as it fits. A dump without a crash has MINIDUMP_STREAM_NOT_FOUND. */
+ * that of name, each as far as it fits. A dump without an exception has MINIDUMP_STREAM_NOT_FOUND. */
 uint32_t minidump_summary(const uint8_t *bytes, size_t len, struct minidump_crash *crash, uint8_t *reason,
                           size_t reason_len, uint8_t *name, size_t name_len);
 
@@ -92,8 +102,9 @@ uint32_t minidump_memory_at(const uint8_t *bytes, size_t len, uint64_t address, 
 uint32_t minidump_read_memory(const uint8_t *bytes, size_t len, uint64_t address, uint8_t *out, size_t out_len,
                               size_t *count);
 
-/* Writes all regions of memory, ascending by address and without overlaps, to the front of regions, as far as they fit,
- * and their number to *count. A program that asks often keeps this table and searches it by itself. */
+/* Writes the regions of memory that minidump_memory_at finds, ascending by address, to the front of regions, as far as they
+ * fit, and their number to *count. Of regions that overlap the one that begins first is found; one that would go on
+ * beyond the last address isn't. A program that asks often keeps this table and searches it by itself. */
 uint32_t minidump_memory_table(const uint8_t *bytes, size_t len, struct minidump_region *regions, size_t regions_len,
                                size_t *count);
 
@@ -101,11 +112,11 @@ uint32_t minidump_memory_table(const uint8_t *bytes, size_t len, struct minidump
 struct minidump_module {
     uint64_t base;
     uint64_t size;
-    uint64_t name_rva; /* of the size of the name in bytes, of 4, and behind it the name in UTF-16 */
+    uint64_t name_rva; /* where the size of the name in bytes stands, in 4 bytes, with the name in UTF-16 behind it */
 };
 
 /* Writes the modules, in the order of the dump's list, to the front of modules, as far as they fit, and their number to
- * *count. A dump without modules has MINIDUMP_STREAM_NOT_FOUND. */
+ * *count. An entry without addresses is left out. A dump without a list has MINIDUMP_STREAM_NOT_FOUND. */
 uint32_t minidump_module_table(const uint8_t *bytes, size_t len, struct minidump_module *modules, size_t modules_len,
                                size_t *count);
 
@@ -125,7 +136,7 @@ struct minidump_thread {
 };
 
 /* Writes the threads, in the order of the dump's list, to the front of threads, as far as they fit, and their number to
- * *count. A dump without threads has MINIDUMP_STREAM_NOT_FOUND. */
+ * *count. A dump without a list has MINIDUMP_STREAM_NOT_FOUND. */
 uint32_t minidump_thread_table(const uint8_t *bytes, size_t len, struct minidump_thread *threads, size_t threads_len,
                                size_t *count);
 

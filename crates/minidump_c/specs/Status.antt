@@ -35,10 +35,10 @@ Ends status done refuses kept = ((status ≡ 0) × done) ⊎ (((e : Error) × re
 abbrev pub IsRefused : List ℕ → Error → Type 0
 IsRefused bytes e = (dump_in bytes ≡ Err e) ⊎ ((e ≡ OutOfMemory) × IsOk (dump_in bytes))
 
--- the name of the error of a status, and nothing where it is that of none
-abbrev pub IsNameOf : ℕ → List ℕ → Type 0
-IsNameOf status text = ((e : Error) × (status_of e ≡ status) × (text ≡ refusal_name e)) ⊎ (((status ≡ 0) ⊎ (15 < status)) × (text ≡ []))
-
 -- the same, or the error of a stream of the dump
 abbrev pub IsStreamRefused : {S V : Type 0} → StreamSpec S V → List ℕ → Error → Type 0
 IsStreamRefused spec bytes e = IsRefused bytes e ⊎ ((dump : Dump) × (dump_in bytes ≡ Ok dump) × (stream_of spec dump ≡ Err e))
+
+-- the name of the error of a status, and nothing where it is that of none
+abbrev pub IsNameOf : ℕ → List ℕ → Type 0
+IsNameOf status text = ((e : Error) × (status_of e ≡ status) × (text ≡ refusal_name e)) ⊎ (((status ≡ 0) ⊎ (15 < status)) × (text ≡ []))

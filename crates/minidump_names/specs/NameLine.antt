@@ -93,7 +93,7 @@ family_in text = named_in families text
 unfoldable pub code_in : List ℕ → Option ℕ
 code_in text = option_or (number_of_digits 10 32 text) (and_then (behind (codes "0x") text) (λ digits. number_of_digits 16 32 digits))
 
--- a byte that no name of a code has: white space, and `#`
+-- a byte that no name of a code has: ASCII white space, and `#`
 abbrev pub is_outside : ℕ → Bool
 is_outside b = is_white b || b == 35
 
@@ -135,7 +135,7 @@ line_in line = if says_nothing line then Some [] else option_map (λ l. l ∷ []
 abbrev pub IsCode : List ℕ → ℕ → Type 0
 IsCode text n = IsNumber 10 32 text n ⊎ ((digits : List ℕ) × (text ≡ codes "0x" ++ digits) × IsNumber 16 32 digits n)
 
--- the name of a code: at least one byte, UTF-8, no white space and no `#`
+-- the name of a code: at least one byte, UTF-8, no ASCII white space and no `#`
 pub record IsName (text : List ℕ) : Type 0 where
   pub some : text ≢ []
   pub utf8 : IsUtf8 text
