@@ -52,6 +52,16 @@ pub enum Call {
     Crash,
 }
 
+impl Call {
+    /// Tells whether it is no call.
+    pub fn is_none(self) -> bool {
+        match self {
+            Call::Nothing => true,
+            _ => false,
+        }
+    }
+}
+
 /// Each call by its name.
 pub const CALLS: &[(&str, Call)] = &[
     ("nothing", Call::Nothing),

@@ -42,8 +42,8 @@ fn allocate(alloc: Global, times: u32) -> u32 {
     times
 }
 
-/// Makes a call, and makes it again after so many allocations. If memory runs out, it is made once more, and what went
-/// out before is a beginning of the text.
+/// Makes a call, makes it again after so many allocations, and makes it once more, which answers as at first. Where
+/// memory ran out, what went out is a beginning of the text.
 pub fn answered(world: &World<'_>, call: Call, times: u32) -> Result<Said, AllocError> {
     let (device, spare) = (whole(world.alloc)?, whole(world.alloc)?);
     let (ample, text) = made(world, call, whole(world.alloc)?);
@@ -52,14 +52,14 @@ pub fn answered(world: &World<'_>, call: Call, times: u32) -> Result<Said, Alloc
         return Ok(Said::NotMade(taken));
     }
     let (answer, out) = made(world, call, device);
-    if answer.is_ok() && ample.is_ok() && out == text {
-        return Ok(Said::Ample);
-    }
-    if answer != Err(Error::OutOfMemory) || !text.starts_with(&out) {
+    let (later, again) = made(world, call, spare);
+    if ample.is_err() || later.is_err() || again != text {
         return Ok(Said::Wrong);
     }
-    let (answer, out) = made(world, call, spare);
-    if answer.is_ok() && ample.is_ok() && out == text {
+    if answer.is_ok() && out == text {
+        return Ok(Said::Ample);
+    }
+    if answer == Err(Error::OutOfMemory) && text.starts_with(&out) {
         return Ok(Said::Refused);
     }
     Ok(Said::Wrong)
@@ -80,8 +80,8 @@ fn failing(alloc: Global, kind: Kind, at: usize) -> Result<Device, AllocError> {
     })
 }
 
-/// Tells whether a call writes the same to a device that takes a byte a call, and answers `IoError` on each that fails
-/// or takes nothing, where a beginning of it went out.
+/// Tells whether a call writes a text, and the same to a device that takes a byte a call, and answers `IoError` on each
+/// that fails or takes nothing, where a beginning of it went out.
 pub fn is_told(world: &World<'_>, call: Call) -> Result<bool, AllocError> {
     let (_, text) = made(world, call, whole(world.alloc)?);
     let room = Vec::with_capacity(world.alloc, ROOM)?;
@@ -89,6 +89,7 @@ pub fn is_told(world: &World<'_>, call: Call) -> Result<bool, AllocError> {
     Ok(
         answer.is_ok()
             && out == text
+            && (!text.is_empty() || call.is_none())
             && fails_at_each(world, call, Kind::FailsAt, &text)?
             && fails_at_each(world, call, Kind::TakesNone, &text)?,
     )

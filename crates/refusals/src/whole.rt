@@ -41,9 +41,16 @@ pub fn read_path(world: &World<'_>, out: &mut Told<Device>) -> Result<(), Error>
     let error = Minidump::read_path(world.rt, world.alloc, world.path, &mut into).err();
     match error {
         None => put(out, &into),
-        Some(error) if into.is_empty() || into.starts_with(b"MDMP") => Err(error),
+        Some(error) if into.is_empty() || is_file(world, &into) => Err(error),
         Some(_) => Err(Error::DataError),
     }
+}
+
+// Tells whether these are the bytes of the file.
+fn is_file(world: &World<'_>, bytes: &[u8]) -> bool {
+    let mut again = Vec::new(world.alloc);
+    let read = Minidump::read_path(world.rt, world.alloc, world.path, &mut again).is_ok();
+    read && again.as_slice() == bytes
 }
 
 /// Writes the report.
