@@ -9,7 +9,7 @@ use std::alloc::Global;
 
 type Lists = &'static [(CodeFamily, &'static [(u32, &'static str)])];
 
-// Whether a reason is written so.
+// Whether a reason is written so, and has that text.
 fn is_written(
     alloc: Global,
     reason: CrashReason,
@@ -19,5 +19,6 @@ fn is_written(
     let mut f = Told::new(Vec::new(alloc));
     reason.write_to(alloc, names, &mut f)?;
     let written = f.into_device();
-    Ok(written.as_slice() == text.as_bytes())
+    let as_text = reason.text(alloc, names)?;
+    Ok(written.as_slice() == text.as_bytes() && as_text.as_str() == text)
 }

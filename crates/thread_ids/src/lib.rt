@@ -1,0 +1,41 @@
+//! Lists the ids of a minidump's threads: an example of a crate on `minidump` alone, over a list.
+//!
+//! # Errors
+//!
+//! The error that the format assigns to the bytes or to their list of threads, or `OutOfMemory`.
+//!
+//! # What is proved
+//!
+//! The ids are those of the threads that the format assigns to these bytes, one for each, in the order of the
+//! list, or the error is the one that it assigns to them: `thread_ids`, by `ids_in`. The proof uses the contracts
+//! of `minidump`, and nothing below.
+#![tactic(auto)]
+
+ghost use Rattle.std.specs.Prelude.{◌≡◌, IfOk, IsOk};
+ghost use Rattle.minidump.specs.Below.Format.Answer.{Gives};
+ghost use Rattle.minidump.specs.Dump.{dump_in};
+ghost use Rattle.minidump.specs.Promise.{thread_list_stream};
+ghost use Rattle.thread_ids.specs.ThreadIds.{ids_in, ids_of};
+
+use minidump::{Error, Minidump, MinidumpThreadList};
+use std::alloc::{AllocError, Global};
+
+/// Returns the ids of the threads of a minidump, in the order of its list. `bytes` are those of the minidump.
+///
+/// Returns the errors of [`Minidump::read`] and [`Minidump::get_stream`].
+pub fn thread_ids(alloc: Global, bytes: &[u8]) -> Result<Vec<u32>, Error>
+    ensures { Gives (λ ids. ids.items) (IsOk (dump_in bytes.now)) result (ids_in bytes.now) }
+{
+    let dump = Minidump::read(alloc, bytes)?;
+    let threads = dump.get_stream(alloc)?;
+    Ok(ids_of(alloc, &threads)?)
+}
+
+fn ids_of(alloc: Global, threads: &MinidumpThreadList<'_>) -> Result<Vec<u32>, AllocError>
+    ensures { IfOk result (λ ids. ids.items ≡ ids_of (thread_list_stream.value threads.now)) }
+{
+    threads
+        .iter()
+        .map(|thread| thread.raw.thread_id)
+        .collect(alloc)
+}
