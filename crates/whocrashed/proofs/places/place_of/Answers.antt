@@ -11,7 +11,7 @@ at m address offset e = rw e refl
 pub returns-in-Some : goal.returns-in-Some
 returns-in-Some c =
     let m = module_of c.in-Some.module.now in
-    (Some m, c.in-Some.ensures, at m c.args.address c.saturating_sub.result (c.saturating_sub.ensures ∙ ap (λ (b : ℕ). c.args.address - b) c.base_address.ensures))
+    (Some m, c.in-Some.ensures.found, at m c.args.address c.saturating_sub.result (c.saturating_sub.ensures ∙ ap (λ (b : ℕ). c.args.address - b) c.base_address.ensures))
 
 pub returns-in-None : goal.returns-in-None
-returns-in-None c = (None, c.in-None.ensures, refl)
+returns-in-None c = (None, c.in-None.ensures.found, refl)
