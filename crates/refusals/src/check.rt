@@ -42,8 +42,8 @@ fn allocate(alloc: Global, times: u32) -> u32 {
     times
 }
 
-/// Makes a call, makes it again after so many allocations, and makes it once more, which answers as at first. Where
-/// memory ran out, what went out is a beginning of the text.
+/// Makes a call, and makes it again after so many allocations. If memory runs out, it is made once more, and what went
+/// out before is a beginning of the text.
 pub fn answered(world: &World<'_>, call: Call, times: u32) -> Result<Said, AllocError> {
     let (device, spare) = (whole(world.alloc)?, whole(world.alloc)?);
     let (ample, text) = made(world, call, whole(world.alloc)?);
@@ -52,14 +52,14 @@ pub fn answered(world: &World<'_>, call: Call, times: u32) -> Result<Said, Alloc
         return Ok(Said::NotMade(taken));
     }
     let (answer, out) = made(world, call, device);
-    let (later, again) = made(world, call, spare);
-    if ample.is_err() || later.is_err() || again != text {
-        return Ok(Said::Wrong);
-    }
-    if answer.is_ok() && out == text {
+    if answer.is_ok() && ample.is_ok() && out == text {
         return Ok(Said::Ample);
     }
-    if answer == Err(Error::OutOfMemory) && text.starts_with(&out) {
+    if answer != Err(Error::OutOfMemory) || !text.starts_with(&out) {
+        return Ok(Said::Wrong);
+    }
+    let (answer, out) = made(world, call, spare);
+    if answer.is_ok() && ample.is_ok() && out == text {
         return Ok(Said::Refused);
     }
     Ok(Said::Wrong)
