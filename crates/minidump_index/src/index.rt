@@ -260,8 +260,8 @@ impl AddressIndex {
     /// Returns the index in the list of the kept range that contains `address`, or `None` if no kept
     /// range does.
     ///
-    /// Makes at most as many comparisons as the number of kept ranges has binary digits, and at least one
-    /// unless the index is empty.
+    /// Counts the ranges that the address is compared with: at most as many as the number of kept ranges has
+    /// binary digits, and at least one unless the index is empty.
     // Inlined, so that a count that nobody reads costs nothing.
     #[inline(always)]
     pub fn find(&self, address: u64, steps: &mut Steps) -> Option<usize>

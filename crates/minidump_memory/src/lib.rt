@@ -25,8 +25,8 @@
 //!   `memory_info_list_in` and `linux_maps_in`. It takes at most n + 7 reads, where n is the length of the
 //!   longer of stream and file, and at least one for each number, entry, line and region. One region by its
 //!   descriptor: `MinidumpMemory::read`, `read_counted`, by `described`.
-//! - A lookup returns the kept region that contains the address, in at most as many comparisons as the
-//!   number of kept regions has binary digits: `memory_at_address`, `memory_info_at_address`, and their
+//! - A lookup returns the kept region that contains the address, and compares it with at most as many regions
+//!   as the number of kept ones has binary digits: `memory_at_address`, `memory_info_at_address`, and their
 //!   counted forms. All regions in the list's order: `iter`. The kept ones by address, from both ends:
 //!   `by_addr`. How these fit together: `laws::region_laws`.
 //! - The number at an address stands in the region's bytes at the address's distance from the base address,

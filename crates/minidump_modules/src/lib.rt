@@ -24,8 +24,8 @@
 //!   id and the version record: the functions of `Module`, by `identity_of` and `unloaded_identity`:
 //!   `laws::modules_are_identified_as_defined`. Their texts: `CodeId::new`, `from_binary`, `Display`;
 //!   `DebugId::from_breakpad`, `Display`.
-//! - A lookup returns the kept module that contains the address, in at most as many comparisons as the number
-//!   of kept modules has binary digits: `module_at_address`, `module_at_address_counted`. The kept ones by
+//! - A lookup returns the kept module that contains the address, and compares it with at most as many modules
+//!   as the number of kept ones has binary digits: `module_at_address`, `module_at_address_counted`. The kept ones by
 //!   address, from both ends: `by_addr`. How these fit together: `laws::region_laws`.
 //! - Of unloaded modules all that contain an address are returned, by start, then by end, then by index:
 //!   `modules_at_address`, by `AreAt`; all that have a range: `by_addr`, by `IsByStart`. There is one such

@@ -126,7 +126,8 @@ impl MinidumpModule {
         self.os
     }
 
-    /// Returns the offset of `address` from the base address, or `None` if the module doesn't contain it.
+    /// Returns the offset of `address` from the base address, or `None` if it isn't below the module's size. So
+    /// also of a module that would go on beyond the last address, which no lookup finds.
     pub fn offset_of(&self, address: u64) -> Option<u64>
         ensures { result ≡ (if nat_le self.now.raw.base_of_image address
             && nat_lt address (self.now.raw.base_of_image + self.now.raw.size_of_image)
