@@ -28,7 +28,7 @@ impl Exact for ContextError {
 }
 
 /// The registers of a thread, and which of them are valid.
-#[derive(Drop)]
+#[derive(Debug, Drop)]
 pub struct MinidumpContext {
     pub raw: MinidumpRawContext,
     pub valid: MinidumpContextValidity,

@@ -8,7 +8,7 @@ use minidump_format::format::{
 };
 
 /// The context of a thread, in the record of its processor.
-#[derive(Clone, Copy)]
+#[derive(Clone, Copy, Debug)]
 pub enum MinidumpRawContext {
     X86(CONTEXT_X86),
     Amd64(CONTEXT_AMD64),

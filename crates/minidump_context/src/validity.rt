@@ -8,7 +8,7 @@ use std::alloc::Global;
 use std::collections::HashSet;
 
 /// Which registers of a context are valid.
-#[derive(PartialEq, Eq, Drop)]
+#[derive(PartialEq, Eq, Debug, Drop)]
 pub enum MinidumpContextValidity {
     /// All registers are valid.
     All,

@@ -3,7 +3,7 @@ ghost use Rattle.std.proofs.Common.{rules};
 use minidump_bytes::{Endian, Record, array_at};
 
 /// The floating-point state of an ARM processor: Breakpad's `MDFloatingSaveAreaARM`.
-#[derive(Clone, Copy)]
+#[derive(Clone, Copy, Debug)]
 pub struct FLOATING_SAVE_AREA_ARM {
     /// The status and control register.
     pub fpscr: u64,
@@ -33,7 +33,7 @@ impl Record for FLOATING_SAVE_AREA_ARM {
 }
 
 /// The registers of a thread on an ARM processor: Breakpad's `MDRawContextARM`.
-#[derive(Clone, Copy)]
+#[derive(Clone, Copy, Debug)]
 pub struct CONTEXT_ARM {
     /// The processor, as [`ContextFlagsCpu`](super::ContextFlagsCpu) names it, and which registers are
     /// set.

@@ -3,7 +3,7 @@ ghost use Rattle.std.proofs.Common.{rules};
 use minidump_bytes::{Endian, Record, array_at};
 
 /// The floating-point state of an x86 processor: Microsoft's `FLOATING_SAVE_AREA`.
-#[derive(Clone, Copy)]
+#[derive(Clone, Copy, Debug)]
 pub struct FLOATING_SAVE_AREA_X86 {
     pub control_word: u32,
     pub status_word: u32,
@@ -45,7 +45,7 @@ impl Record for FLOATING_SAVE_AREA_X86 {
 
 /// The registers of a thread on an x86 processor: Microsoft's `CONTEXT` of x86, Breakpad's
 /// `MDRawContextX86`.
-#[derive(Clone, Copy)]
+#[derive(Clone, Copy, Debug)]
 pub struct CONTEXT_X86 {
     /// The processor, as [`ContextFlagsCpu`](super::ContextFlagsCpu) names it, and which registers are
     /// set.
