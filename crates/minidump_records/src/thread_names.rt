@@ -16,7 +16,7 @@ use minidump_format::{Error, print_count, push_index, put_bytes};
 use minidump_system::framing::plain_entries;
 use minidump_system::{MinidumpStream, MinidumpSystemInfo};
 use std::alloc::{AllocError, Global};
-use std::collections::BTreeMap;
+use std::collections::{BTreeMap, btree_map};
 use std::io::Write;
 
 // Bytes that wait are written once there are so many.
@@ -107,6 +107,24 @@ impl MinidumpThreadNames {
             }
         }
         put_bytes(f, block.as_slice())
+    }
+}
+
+impl<'l> IntoIterator for &'l MinidumpThreadNames {
+    ghost use Rattle.std.specs.Prelude.{◌≡◌, ◌^◌, ◌<◌, ℕ, String, length, map, string_bytes};
+    ghost use Rattle.std.specs.Global.{Global};
+    ghost use Rattle.std.specs.Map.Iter.{ShowsInOrder, deref_pair};
+    ghost use Rattle.minidump_records.specs.ThreadNames.{ThreadName, thread_names_of};
+
+    type Item = (&'l u32, &'l String);
+
+    type IntoIter = btree_map::Iter<'l, u32, String>;
+
+    ghost into_iter_gives = { λ names it. (map {B = ThreadName} (λ e. (e.0, string_bytes e.1)) it ≡ thread_names_of names.now)
+        × (length it < 2 ^ 63) × ShowsInOrder (deref_pair {K = ℕ} {X = String Global}) };
+
+    fn into_iter(self) -> btree_map::Iter<'l, u32, String> {
+        self.names.iter()
     }
 }
 
