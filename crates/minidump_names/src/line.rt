@@ -55,7 +55,7 @@ fn name_in(text: &[u8]) -> Option<&str>
     LinuxOsStr(text).to_str()
 }
 
-// Tests whether a byte is white space or `#`.
+// Tests whether a text has ASCII white space or `#`.
 fn has_outside(text: &[u8]) -> bool
     ensures { result ≡ list_any is_outside text.now }
 {
