@@ -1,74 +1,37 @@
-//! `bench VERB COUNT ROUNDS`, which does the same work so many times, to be timed from outside by `.ci/bench`.
+//! `bench VERB WHAT ROUNDS`, which does the same work so many times, to be timed from outside by `.ci/bench`.
 //!
 //! - `bench lookup COUNT ROUNDS` makes an index of COUNT ranges, and looks up a million addresses in each round.
-//!   Half of the addresses lie in a range.
+//!   Half of the addresses lie in a range. It writes how many lookups found a range.
+//! - `bench read FILE ROUNDS` reads the header, the directory and the system information of a minidump.
+//! - `bench handles FILE ROUNDS` reads the stream of that name; so do `memory`, `memory64`, `memory-info`, `modules`,
+//!   `threads` and `unloaded`. It writes how many of the lists have an entry of number or address 65536.
 //!
-//! With no rounds it only makes what the rounds work on. It writes how many lookups found a range.
+//! With no rounds it only makes or reads what the rounds work on.
 #![tactic(auto)]
 
-ghost use Rattle.std.specs.Prelude.{◌≡◌, IfOk, length};
+mod lookup;
+mod streams;
 
 use anyhow::{Result, bail};
-use minidump_bytes::Steps;
-use minidump_index::{AddressIndex, Range};
-use std::alloc::{AllocError, Global};
-use std::env;
-
-// Makes `count` ranges of 4096 addresses, each 8192 behind the one before.
-fn ranges(alloc: Global, count: u32) -> Result<Vec<Option<Range>>, AllocError>
-    ensures { IfOk result (λ v. length v.items ≡ count) }
-{
-    let mut ranges = Vec::new(alloc);
-    for i in 0..count {
-        ranges.push(Range::from_size(65536 + 8192 * (i as u64), 4096))?;
-    }
-    Ok(ranges)
-}
-
-// Makes a million addresses among `count` ranges, in an order that no processor guesses.
-fn addresses(alloc: Global, count: u32) -> Result<Vec<u64>, AllocError>
-    ensures { IfOk result (λ v. length v.items ≡ 1000000) }
-{
-    let span = 8192 * (count as u64) + 1;
-    let mut state = 0x9e37_79b9_7f4a_7c15u64;
-    let mut asked = Vec::new(alloc);
-    for i in 0..1_000_000u64 {
-        state ^= state << 13;
-        state ^= state >> 7;
-        state ^= state << 17;
-        asked.push(65536u64.wrapping_add(state.wrapping_add(i) % span))?;
-    }
-    Ok(asked)
-}
-
-// Counts the addresses that lie in a range, so many times.
-fn hits(index: &AddressIndex, asked: &[u64], rounds: u32) -> u64 {
-    let mut hits = 0u64;
-    for _ in 0..rounds {
-        for address in asked {
-            if index.find(*address, &mut Steps::new()).is_some() {
-                hits = hits.wrapping_add(1);
-            }
-        }
-    }
-    hits
-}
+use std::{env, fs};
 
 fn main(rt: HostRuntime) -> Result<()> {
     let words: Vec<String> = env::args(&rt)?.collect(rt.alloc())?;
-    if words.len() != 4 || words[1].as_str() != "lookup" {
-        bail!("usage: bench lookup COUNT ROUNDS");
+    let [_, verb, what, rounds] = words.as_slice() else {
+        bail!("usage: bench VERB WHAT ROUNDS");
+    };
+    let Ok(rounds) = rounds.as_str().parse::<u32>() else {
+        bail!("ROUNDS is a number");
+    };
+    if verb.as_str() != "lookup" {
+        let bytes = fs::read(&rt, what.as_str())?;
+        let found = streams::read_often(rt.alloc(), verb.as_str(), &bytes, rounds)?;
+        println!(rt; "{found}")?;
+        return Ok(());
     }
-    let (Ok(count), Ok(rounds)) = (
-        words[2].as_str().parse::<u32>(),
-        words[3].as_str().parse::<u32>(),
-    ) else {
-        bail!("COUNT and ROUNDS are numbers");
+    let Ok(count) = what.as_str().parse::<u32>() else {
+        bail!("COUNT is a number");
     };
-    let Ok(index) = AddressIndex::build(rt.alloc(), &ranges(rt.alloc(), count)?) else {
-        bail!("out of memory");
-    };
-    let found = hits(&index, &addresses(rt.alloc(), count)?, rounds);
-    println!(rt; "{found}")?;
+    println!(rt; "{}", lookup::hits_of(rt.alloc(), count, rounds)?)?;
     Ok(())
 }

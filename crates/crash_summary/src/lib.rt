@@ -17,7 +17,6 @@ ghost use Rattle.std.specs.Option.{option_copied, option_map};
 ghost use Rattle.minidump.specs.Below.Format.Answer.{Refuses};
 ghost use Rattle.minidump.specs.Below.MemoryLists.Unified.{unified_list};
 ghost use Rattle.minidump.specs.Below.Modules.Module.{module_of};
-ghost use Rattle.minidump.specs.Below.Reasons.ReasonText.{reason_text};
 ghost use Rattle.minidump.specs.Dump.{dump_system};
 ghost use Rattle.minidump.specs.DumpValue.{dump_of};
 ghost use Rattle.minidump.specs.Promise.{exception_stream, module_list_stream, system_info_stream, thread_list_stream};
@@ -27,8 +26,8 @@ ghost use Rattle.crash_summary.specs.Summary.{IsModuleAt, IsStackOf, IsSummary, 
 pub mod laws;
 
 use minidump::{
-    CodeNames, CrashReason, Error, Minidump, MinidumpException, MinidumpModule, MinidumpModuleList,
-    MinidumpSystemInfo, MinidumpThread, MinidumpThreadList, Module, Told, UnifiedMemoryList,
+    CodeNames, Error, Minidump, MinidumpException, MinidumpModule, MinidumpModuleList,
+    MinidumpSystemInfo, MinidumpThread, MinidumpThreadList, Module, UnifiedMemoryList,
 };
 use std::alloc::Global;
 
@@ -200,22 +199,10 @@ fn reason_of(
     match system {
         Some(s) => {
             let reason = exception.get_crash_reason(s.os, s.cpu, names);
-            Ok(Some(words_of(alloc, &reason, names)?))
+            Ok(Some(reason.text(alloc, names)?))
         }
         None => Ok(None),
     }
-}
-
-// Writes a reason into memory.
-fn words_of(alloc: Global, reason: &CrashReason, names: &CodeNames<'_>) -> Result<String, Error>
-    ensures value { IfOk result (λ text. string_bytes text ≡ reason_text names.now reason.now) }
-    ensures memory { IsOkUnless result Error.OutOfMemory }
-{
-    let mut words = Told::new(Vec::new(alloc));
-    if reason.write_to(alloc, names, &mut words).is_err() {
-        return Err(Error::OutOfMemory);
-    }
-    Ok(String::from_utf8(words.into_device()).unwrap())
 }
 
 // Returns the module that contains an address.

@@ -1,6 +1,7 @@
 -- The lemmas of this crate.
 pub mod DirectoryLemmas
 pub mod LawsLemmas
+pub mod ListRules
 pub mod PlacedLemmas
 pub mod StackLemmas
 pub mod StreamsLemmas

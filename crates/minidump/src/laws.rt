@@ -7,18 +7,35 @@ ghost use Rattle.std.specs.Result.{result_ok};
 ghost use Rattle.minidump_format.specs.declared.format.header.MINIDUMP_DIRECTORY.{MINIDUMP_DIRECTORY};
 ghost use Rattle.minidump_format.specs.Guid.{guid_text};
 ghost use Rattle.minidump_format.specs.Header.{located};
+ghost use Rattle.minidump_format.specs.declared.format.memory.MINIDUMP_MEMORY_DESCRIPTOR.{MINIDUMP_MEMORY_DESCRIPTOR};
+ghost use Rattle.minidump_format.specs.declared.format.memory.MINIDUMP_MEMORY_DESCRIPTOR64.{MINIDUMP_MEMORY_DESCRIPTOR64};
+ghost use Rattle.minidump_format.specs.declared.format.thread.MINIDUMP_THREAD_INFO.{MINIDUMP_THREAD_INFO};
 ghost use Rattle.minidump_system.specs.Cpu.{cpu_name};
 ghost use Rattle.minidump_system.specs.Os.{os_name};
 ghost use Rattle.minidump_system.specs.StreamSpec.{IsSame};
+ghost use Rattle.minidump_memory.specs.declared.memory_list.MinidumpMemoryListBase.{MinidumpMemoryListBase};
+ghost use Rattle.minidump_memory.specs.declared.memory_info.MinidumpMemoryInfoList.{MinidumpMemoryInfoList};
+ghost use Rattle.minidump_memory.specs.Memory.{MemoryRegion, memory_of};
+ghost use Rattle.minidump_memory.specs.MemoryInfo.{MemoryInfo, info_of, infos_of};
+ghost use Rattle.minidump_memory.specs.MemoryList.{regions_of};
+ghost use Rattle.minidump_modules.specs.declared.module_list.MinidumpModuleList.{MinidumpModuleList};
+ghost use Rattle.minidump_modules.specs.declared.unloaded_module.MinidumpUnloadedModule.{MinidumpUnloadedModule};
 ghost use Rattle.minidump_modules.specs.CodeId.{text_of};
 ghost use Rattle.minidump_modules.specs.DebugId.{debug_id_text};
+ghost use Rattle.minidump_modules.specs.Module.{ModuleValue, module_of};
+ghost use Rattle.minidump_modules.specs.ModuleList.{modules_of};
+ghost use Rattle.minidump_modules.specs.UnloadedModule.{UnloadedValue, unloaded_of};
+ghost use Rattle.minidump_records.specs.declared.handles.data_stream.MinidumpHandleDataStream.{MinidumpHandleDataStream};
+ghost use Rattle.minidump_records.specs.declared.thread_info.MinidumpThreadInfoList.{MinidumpThreadInfoList};
+ghost use Rattle.minidump_records.specs.Handles.{Handle, handle_of};
 ghost use Rattle.minidump_records.specs.Handles.ObjectChain.{information_text};
 ghost use Rattle.minidump.specs.declared.directory.DecidingEntry.{DecidingEntry};
 ghost use Rattle.minidump.specs.Directory.{deciding, deciding_below, directory};
 ghost use Rattle.minidump.specs.Dump.{Dump, raw_stream, spanned, stream_of, streams_of, dump_system};
 ghost use Rattle.minidump.specs.Promise.{assertion_stream, breakpad_info_stream, crashpad_info_stream, exception_stream, handle_data_stream, linux_cpu_info_stream, linux_environ_stream, linux_lsb_release_stream, linux_maps_stream, linux_proc_limits_stream, linux_proc_status_stream, mac_bootargs_stream, mac_crash_info_stream, memory64_list_stream, memory_info_list_stream, memory_list_stream, misc_info_stream, module_list_stream, soft_errors_stream, stability_report_stream, system_info_stream, thread_info_list_stream, thread_list_stream, thread_names_stream, unloaded_module_list_stream};
 ghost use Rattle.minidump.specs.Streams.{unimplemented_of, unknown_of};
-ghost use Rattle.minidump.specs.Thread.{IsLastThread, Thread};
+ghost use Rattle.minidump.specs.Thread.{IsLastThread, Thread, thread_of};
+ghost use Rattle.minidump.specs.declared.thread_list.MinidumpThreadList.{MinidumpThreadList};
 
 use crate::directory::DecidingEntry;
 use crate::exception::MinidumpException;
@@ -169,4 +186,27 @@ pub fn clones_are_the_same()
     ensures unimplemented { (stream other : MinidumpUnimplementedStream)
         → ⟦<MinidumpUnimplementedStream as Clone>⟧.is_clone stream other
         → unimplemented_of other ≡ unimplemented_of stream }
+{}
+
+/// The values of a list are those of its entries, one for each: what a function tells of all of them, such as one field
+/// of each, it tells of the entries. So a contract over a stream's value follows from one over the entries. `T` is the
+/// type of the field.
+#[tactic(auto, using(crate::proofs::ListRules::entries))]
+pub fn values_are_those_of_the_entries<T>()
+    ensures handles { (list : MinidumpHandleDataStream) (f : Handle → T)
+        → map f (handle_data_stream.value list) ≡ map (λ h. f (handle_of h)) list.handles.items }
+    ensures memory { (list : MinidumpMemoryListBase MINIDUMP_MEMORY_DESCRIPTOR) (f : MemoryRegion MINIDUMP_MEMORY_DESCRIPTOR → T)
+        → map f (memory_list_stream.value list) ≡ map (λ m. f (memory_of m)) (regions_of list) }
+    ensures memory64 { (list : MinidumpMemoryListBase MINIDUMP_MEMORY_DESCRIPTOR64) (f : MemoryRegion MINIDUMP_MEMORY_DESCRIPTOR64 → T)
+        → map f (memory64_list_stream.value list) ≡ map (λ m. f (memory_of m)) (regions_of list) }
+    ensures memory_info { (list : MinidumpMemoryInfoList) (f : MemoryInfo → T)
+        → map f (memory_info_list_stream.value list) ≡ map (λ i. f (info_of i)) (infos_of list) }
+    ensures modules { (list : MinidumpModuleList) (f : ModuleValue → T)
+        → map f (module_list_stream.value list) ≡ map (λ m. f (module_of m)) (modules_of list) }
+    ensures threads { (list : MinidumpThreadList) (f : Thread → T)
+        → map f (thread_list_stream.value list) ≡ map (λ t. f (thread_of t)) list.threads.items }
+    ensures thread_infos { (list : MinidumpThreadInfoList) (f : MINIDUMP_THREAD_INFO → T)
+        → map f (thread_info_list_stream.value list) ≡ map (λ i. f i.raw) list.thread_infos.items }
+    ensures unloaded { (list : List MinidumpUnloadedModule) (f : UnloadedValue → T)
+        → map f (unloaded_module_list_stream.value list) ≡ map (λ m. f (unloaded_of m)) list }
 {}

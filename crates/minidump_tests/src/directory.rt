@@ -1,9 +1,12 @@
 //! The header, the directory, what they list, and their print.
 
 use crate::given::{BOTH, ONE};
-use minidump::format::{MINIDUMP_LOCATION_DESCRIPTOR, MINIDUMP_STREAM_TYPE};
-use minidump::{Endian, Error, Minidump, Steps, Told};
-use minidump_synth::{FailsAt, OneByte, Section, SynthMinidump, TakesNone};
+use minidump::format::{MINIDUMP_LOCATION_DESCRIPTOR, MINIDUMP_STREAM_TYPE, MINIDUMP_THREAD};
+use minidump::{
+    Endian, Error, Minidump, MinidumpException, MinidumpThreadList, MinidumpThreadNames, Steps,
+    Told,
+};
+use minidump_synth::{FailsAt, OneByte, Section, SynthMinidump, TakesNone, zeroed};
 use std::alloc::{AllocError, Global};
 use std::io::Write;
 
@@ -144,6 +147,34 @@ fn finds_the_bytes_of_the_deciding_entries(rt: HostRuntime) {
             ]
     );
     assert!(rt; lends_what_decides(alloc) == Ok(true));
+}
+
+// A dump with a list of one thread, and with a byte where the names of threads are to be.
+fn with_two_streams(alloc: Global) -> Result<Vec<u8>, AllocError> {
+    let mut dump = SynthMinidump::new(alloc, Endian::Little);
+    dump.add_stream(3, dump.section().list(&[zeroed::<MINIDUMP_THREAD>()]));
+    dump.add_stream(24, &[1]);
+    dump.finish()
+}
+
+// Tells whether the list of threads is found, and neither the names of threads, which are malformed, nor the
+// exception, which is missing.
+fn finds_what_can_be_read(alloc: Global) -> Result<bool, Error> {
+    let bytes = with_two_streams(alloc)?;
+    let dump = Minidump::read(alloc, &bytes)?;
+    let threads: Option<MinidumpThreadList> = dump.find_stream(alloc)?;
+    let names: Option<MinidumpThreadNames> = dump.find_stream(alloc)?;
+    let exception: Option<MinidumpException> = dump.find_stream(alloc)?;
+    Ok(
+        threads.is_some_and(|list| list.threads.len() == 1)
+            && names.is_none()
+            && exception.is_none(),
+    )
+}
+
+#[test]
+fn finds_streams_that_can_be_read(rt: HostRuntime) {
+    assert!(rt; finds_what_can_be_read(rt.alloc()) == Ok(true));
 }
 
 // The type and the RVA of each deciding entry.

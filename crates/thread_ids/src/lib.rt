@@ -11,13 +11,13 @@
 //! of `minidump`, and nothing below.
 #![tactic(auto)]
 
-ghost use Rattle.std.specs.Prelude.{◌≡◌, IfOk, IsOk};
+ghost use Rattle.std.specs.Prelude.{◌≡◌, IfOk, IsOk, map};
 ghost use Rattle.minidump.specs.Below.Format.Answer.{Gives};
 ghost use Rattle.minidump.specs.Dump.{dump_in};
 ghost use Rattle.minidump.specs.Promise.{thread_list_stream};
 ghost use Rattle.thread_ids.specs.ThreadIds.{ids_in, ids_of};
 
-use minidump::{Error, Minidump, MinidumpThreadList};
+use minidump::{Error, Minidump, MinidumpThreadList, laws};
 use std::alloc::{AllocError, Global};
 
 /// Returns the ids of the threads of a minidump, in the order of its list. `bytes` are those of the minidump.
@@ -31,8 +31,17 @@ pub fn thread_ids(alloc: Global, bytes: &[u8]) -> Result<Vec<u32>, Error>
     Ok(ids_of(alloc, &threads)?)
 }
 
+// Returns the ids of threads. The law takes the clause from the entries to the value of the stream.
 fn ids_of(alloc: Global, threads: &MinidumpThreadList<'_>) -> Result<Vec<u32>, AllocError>
     ensures { IfOk result (λ ids. ids.items ≡ ids_of (thread_list_stream.value threads.now)) }
+{
+    laws::values_are_those_of_the_entries::<u32>();
+    ids_of_entries(alloc, threads)
+}
+
+// Returns the ids of entries.
+fn ids_of_entries(alloc: Global, threads: &MinidumpThreadList<'_>) -> Result<Vec<u32>, AllocError>
+    ensures { IfOk result (λ ids. ids.items ≡ map (λ t. t.raw.thread_id) threads.now.threads.items) }
 {
     threads
         .iter()

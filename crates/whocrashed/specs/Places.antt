@@ -1,5 +1,5 @@
 -- Where a thread stood: its instruction pointer, and the module that contains it.
-use Rattle.std.specs.Prelude.{◌≡◌, ◌-◌, ℕ, List, Option, Some, None}
+use Rattle.std.specs.Prelude.{◌≡◌, ◌-◌, ℕ, List, Option, Some, None, IfSome}
 use Rattle.std.specs.Option.{option_and_then, option_map}
 use Rattle.minidump.specs.Below.Contexts.Context.{registers_of, value_in}
 use Rattle.minidump.specs.Below.Index.Lookup.{IsLookedUp}
@@ -11,22 +11,14 @@ use Rattle.minidump.specs.Thread.{Thread}
 use Rattle.crash_summary.specs.Summary.{crash_pointer, thread_context}
 use Rattle.whocrashed.specs.declared.places.Place.{Place}
 
--- a module, and how far an address lies behind its base address
-pub record PlaceValue : Type 0 where
-  pub hit : ModuleValue
-  pub offset : ℕ
+-- the module of a place
+abbrev pub module_at : Place → ModuleValue
+module_at p = module_of p.«module».now
 
-abbrev pub place_value : Place → PlaceValue
-place_value p = record { hit = module_of p.«module».now; offset = p.offset }
-
--- the place of an address in a module
-abbrev pub place_in : ℕ → ModuleValue → PlaceValue
-place_in address m = record { hit = m; offset = address - m.raw.base_of_image }
-
--- the place of an address: in the kept module that contains it, or none
-abbrev pub IsPlace : List ModuleValue → ℕ → Option PlaceValue → Type 0
-IsPlace modules address place =
-    (m : Option ModuleValue) × IsLookedUp value_range modules address m × (place ≡ option_map (place_in address) m)
+-- the place of an address: in the kept module that contains it, so far behind its base address, or none
+abbrev pub IsPlace : List ModuleValue → ℕ → Option Place → Type 0
+IsPlace modules address place = IsLookedUp value_range modules address (option_map module_at place)
+    × IfSome place (λ p. p.offset ≡ address - (module_at p).raw.base_of_image)
 
 -- the name of the thread of an id, where names are there
 abbrev pub name_in : Option (List ThreadName) → ℕ → Option (List ℕ)

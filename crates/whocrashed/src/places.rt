@@ -2,7 +2,7 @@ ghost use Rattle.std.specs.Prelude.{◌≡◌, None, Some};
 ghost use Rattle.std.specs.Option.{option_copied, option_map};
 ghost use Rattle.minidump.specs.Promise.{exception_stream, module_list_stream, system_info_stream, thread_names_stream};
 ghost use Rattle.minidump.specs.Thread.{thread_of};
-ghost use Rattle.whocrashed.specs.Places.{IsPlace, name_in, place_value, pointer_in};
+ghost use Rattle.whocrashed.specs.Places.{IsPlace, name_in, pointer_in};
 
 use minidump::{
     MinidumpException, MinidumpModule, MinidumpModuleList, MinidumpSystemInfo, MinidumpThread,
@@ -18,15 +18,13 @@ pub(crate) struct Place<'l> {
 
 // Returns the place of an address in the module that contains it, or `None` if no kept module does.
 pub(crate) fn place_of(modules: &MinidumpModuleList, address: u64) -> Option<Place<'_>>
-    ensures { IsPlace (module_list_stream.value modules.now) address (option_map place_value result) }
+    ensures { IsPlace (module_list_stream.value modules.now) address result }
 {
-    match modules.module_at_address(address) {
-        Some(module) => Some(Place {
-            module,
-            offset: address.saturating_sub(module.base_address()),
-        }),
-        None => None,
-    }
+    let module = modules.module_at_address(address)?;
+    Some(Place {
+        module,
+        offset: address - module.base_address(),
+    })
 }
 
 // Returns the name of a thread, or `None` if it has none.

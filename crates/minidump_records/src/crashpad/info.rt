@@ -1,4 +1,4 @@
-ghost use Rattle.std.specs.Prelude.{◌≡◌, ◌+◌, ◌≤◌, ◌↔◌, IsTrue, length};
+ghost use Rattle.std.specs.Prelude.{◌≡◌, ◌+◌, ◌≤◌};
 ghost use Rattle.minidump_bytes.specs.Source.{bytes_of};
 ghost use Rattle.minidump_bytes.specs.Steps.{after};
 ghost use Rattle.minidump_format.specs.Answer.{Gives};
@@ -26,22 +26,6 @@ pub struct MinidumpCrashpadInfo {
     pub simple_annotations: BTreeMap<String, String>,
     /// The information on modules, one for each link, in the order of the links.
     pub module_list: Vec<MinidumpModuleCrashpadInfo>,
-}
-
-impl MinidumpCrashpadInfo {
-    /// Returns the number of modules with information.
-    pub fn len(&self) -> usize
-        ensures { result ≡ length self.now.module_list.items }
-    {
-        self.module_list.len()
-    }
-
-    /// Tells whether no module has information.
-    pub fn is_empty(&self) -> bool
-        ensures { IsTrue result ↔ (length self.now.module_list.items ≡ 0) }
-    {
-        self.module_list.is_empty()
-    }
 }
 
 // Reads the record. Returns `VersionMismatch` if its version is 0.

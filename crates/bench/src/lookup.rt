@@ -1,0 +1,53 @@
+ghost use Rattle.std.specs.Prelude.{◌≡◌, ◌==◌, IfOk, length};
+
+use anyhow::Result;
+use minidump_bytes::Steps;
+use minidump_index::{AddressIndex, Range};
+use std::alloc::{AllocError, Global};
+
+/// Makes an index of `count` ranges, and looks up a million addresses in each round. Returns how many lookups found a
+/// range.
+pub(crate) fn hits_of(alloc: Global, count: u32, rounds: u32) -> Result<u64> {
+    let index = AddressIndex::build(alloc, &ranges(alloc, count)?)?;
+    Ok(hits(&index, &addresses(alloc, count)?, rounds))
+}
+
+// Makes `count` ranges of 4096 addresses, each 8192 behind the one before.
+fn ranges(alloc: Global, count: u32) -> Result<Vec<Option<Range>>, AllocError>
+    ensures { IfOk result (λ v. length v.items ≡ count) }
+{
+    let mut ranges = Vec::new(alloc);
+    for i in 0..count {
+        ranges.push(Range::from_size(65536 + 8192 * (i as u64), 4096))?;
+    }
+    Ok(ranges)
+}
+
+// Makes a million addresses among `count` ranges, in an order that no processor guesses.
+fn addresses(alloc: Global, count: u32) -> Result<Vec<u64>, AllocError>
+    ensures { IfOk result (λ v. length v.items ≡ 1000000) }
+{
+    let span = 8192 * (count as u64) + 1;
+    let mut state = 0x9e37_79b9_7f4a_7c15u64;
+    let mut asked = Vec::new(alloc);
+    for i in 0..1_000_000u64 {
+        state ^= state << 13;
+        state ^= state >> 7;
+        state ^= state << 17;
+        asked.push(65536u64.wrapping_add(state.wrapping_add(i) % span))?;
+    }
+    Ok(asked)
+}
+
+// Counts the addresses that lie in a range, so many times.
+fn hits(index: &AddressIndex, asked: &[u64], rounds: u32) -> u64 {
+    let mut hits = 0u64;
+    for _ in 0..rounds {
+        for address in asked {
+            if index.find(*address, &mut Steps::new()).is_some() {
+                hits = hits.wrapping_add(1);
+            }
+        }
+    }
+    hits
+}
