@@ -188,9 +188,9 @@ pub fn clones_are_the_same()
         → unimplemented_of other ≡ unimplemented_of stream }
 {}
 
-/// The values of a list are those of its entries, one for each: what a function tells of all of them, such as one field
-/// of each, it tells of the entries. So a contract over a stream's value follows from one over the entries. `T` is the
-/// type of the field.
+/// The value of a list's stream is the list of its entries' values. So a function `f` of each value, such as one of its
+/// fields, can be applied to the entries instead, and a clause over the value of a stream follows from one over the
+/// entries. `T` is the type of the function's results.
 #[tactic(auto, using(crate::proofs::ListRules::entries))]
 pub fn values_are_those_of_the_entries<T>()
     ensures handles { (list : MinidumpHandleDataStream) (f : Handle → T)
