@@ -16,5 +16,6 @@ pub mod RegionLaws
 pub mod RegionViews
 pub mod RegionsLemmas
 pub mod SameRange
+pub mod StoredLemmas
 pub mod TreeLemmas
 pub mod WalkLemmas

@@ -7,8 +7,11 @@ ghost use Rattle.minidump_index.specs.declared.range.Range.{Range};
 ghost use Rattle.minidump_index.specs.declared.index.Entry.{Entry};
 ghost use Rattle.minidump_index.specs.Digits.{digits};
 ghost use Rattle.minidump_index.specs.Kept.{places, IsIndexOf, HoldsRanged, IsFound, IsAscending, IsInOrder, KeepsApart};
-ghost use Rattle.minidump_index.specs.Tree.{IsSearchTree, place_at, walk, walk_from};
+ghost use Rattle.minidump_index.specs.declared.index.Put.{Put};
+ghost use Rattle.minidump_index.specs.Tree.{IsSearchTree, entries_of, place_at, walk, walk_from};
 
+use crate::stored::{Small, Wide};
+use crate::tree::{Stored, Tree};
 use crate::{Range, Region};
 use minidump_bytes::{Steps, probe};
 use minidump_format::Error;
@@ -30,19 +33,19 @@ pub struct Entry {
 /// address.
 #[derive(Drop)]
 pub struct AddressIndex {
-    tree: Vec<Entry>,
+    tree: Tree,
 }
 
 impl Model for AddressIndex {
     ghost use Rattle.std.specs.Prelude.{List};
     ghost use Rattle.minidump_index.specs.declared.index.Entry.{Entry};
-    ghost use Rattle.minidump_index.specs.Tree.{walk, IsSearchTree};
+    ghost use Rattle.minidump_index.specs.Tree.{entries_of, walk, IsSearchTree};
 
     ghost Value = { List Entry };
 
-    ghost view = { λ s. walk s.tree.items };
+    ghost view = { λ s. walk (entries_of s.tree) };
 
-    ghost invariant = { λ s. IsSearchTree s.tree.items };
+    ghost invariant = { λ s. IsSearchTree (entries_of s.tree) };
 }
 
 // Collects the regions that have a range, as that range and their index.
@@ -120,13 +123,22 @@ fn place_at(total: usize, k: usize) -> usize
     ((total + k) >> k.trailing_zeros() >> 1) - 1
 }
 
+// How a list of regions went into a tree.
+pub enum Put {
+    // Each region is in the tree.
+    All,
+    // A region doesn't fit into the tree's entries.
+    TooWide,
+    // A region has no range, or starts before the end of the region before it.
+    OutOfOrder,
+}
+
 // Fills a tree with the regions of a list of the same length, if each region has a range and starts behind
-// the end of the region before it. Returns false if one doesn't; the tree is then partly filled.
-fn put_regions<R: Region>(tree: &mut Vec<Entry>, regions: &[R]) -> bool
+// the end of the region before it. If not, the tree is partly filled.
+fn put_regions<S: Stored, R: Region>(tree: &mut Vec<S>, regions: &[R]) -> Put
     requires { length tree.old.items ≡ length regions.now }
-    ensures whole { length tree.new.items ≡ length tree.old.items }
-    ensures all { IsTrue result → IsIndexOf (map R.range regions.now) (walk tree.new.items) }
-    ensures tree { IsTrue result → IsSearchTree tree.new.items }
+    ensures all { result ≡ Put.All → IsIndexOf (map R.range regions.now) (walk (map S.value tree.new.items)) }
+    ensures tree { result ≡ Put.All → IsSearchTree (map S.value tree.new.items) }
 {
     let len = tree.len();
     let total = full(len);
@@ -136,24 +148,29 @@ fn put_regions<R: Region>(tree: &mut Vec<Entry>, regions: &[R]) -> bool
         let place = place_at(total, k);
         if place < len {
             let Some(range) = regions[rank].memory_range() else {
-                return false;
+                return Put::OutOfOrder;
             };
             if rank > 0 && range.start <= end {
-                return false;
+                return Put::OutOfOrder;
             }
-            tree[place] = Entry { range, place: rank };
+            let entry = Entry { range, place: rank };
+            if !S::holds(entry) {
+                return Put::TooWide;
+            }
+            tree[place] = S::of(entry);
             end = range.end;
             rank += 1;
         }
     }
-    true
+    Put::All
 }
 
 // Fills a tree with the same number of ascending entries.
-fn put_entries(tree: &mut Vec<Entry>, entries: &[Entry])
-    requires { length tree.old.items ≡ length entries.now }
+fn put_entries<S: Stored>(tree: &mut Vec<S>, entries: &[Entry])
+    requires same { length tree.old.items ≡ length entries.now }
+    requires fit { All S.fits entries.now }
     ensures whole { length tree.new.items ≡ length tree.old.items }
-    ensures walk { walk tree.new.items ≡ entries.now }
+    ensures walk { walk (map S.value tree.new.items) ≡ entries.now }
 {
     let len = tree.len();
     let total = full(len);
@@ -161,30 +178,116 @@ fn put_entries(tree: &mut Vec<Entry>, entries: &[Entry])
     for k in 1..total {
         let place = place_at(total, k);
         if place < len {
-            tree[place] = entries[rank];
+            tree[place] = S::of(entries[rank]);
             rank += 1;
         }
     }
 }
 
-// Compares the entry at a place with the address. Returns the place to go on at, and the last place so far
+// Builds the tree of the kept ranges of regions, in entries of 16 bytes if they ascend and fit.
+fn small_tree<R: Region>(alloc: Global, regions: &[R]) -> Result<Tree, AllocError>
+    ensures kept { IfOk result (λ tree. IsIndexOf (map R.range regions.now) (walk (entries_of tree))) }
+    ensures tree { IfOk result (λ tree. IsSearchTree (entries_of tree)) }
+{
+    let mut tree = vec![in alloc; Small::NONE; regions.len()]?;
+    match put_regions(&mut tree, regions) {
+        Put::All => Ok(Tree::Small(tree)),
+        Put::TooWide => wide_tree(alloc, regions),
+        Put::OutOfOrder => sorted_tree(alloc, regions),
+    }
+}
+
+// Builds the tree of the kept ranges of regions, in entries of 24 bytes if they ascend.
+fn wide_tree<R: Region>(alloc: Global, regions: &[R]) -> Result<Tree, AllocError>
+    ensures kept { IfOk result (λ tree. IsIndexOf (map R.range regions.now) (walk (entries_of tree))) }
+    ensures tree { IfOk result (λ tree. IsSearchTree (entries_of tree)) }
+{
+    let mut tree = vec![in alloc; Wide::NONE; regions.len()]?;
+    match put_regions(&mut tree, regions) {
+        Put::All => Ok(Tree::Wide(tree)),
+        Put::TooWide | Put::OutOfOrder => sorted_tree(alloc, regions),
+    }
+}
+
+// Builds the tree of the kept ranges of regions that need not ascend.
+fn sorted_tree<R: Region>(alloc: Global, regions: &[R]) -> Result<Tree, AllocError>
+    requires { length regions.now < 2 ^ 63 }
+    ensures kept { IfOk result (λ tree. IsIndexOf (map R.range regions.now) (walk (entries_of tree))) }
+    ensures tree { IfOk result (λ tree. IsSearchTree (entries_of tree)) }
+{
+    let mut kept = ranged(alloc, regions)?;
+    keep_apart(&mut kept);
+    if kept.iter().all(|entry| Small::holds(*entry)) {
+        let mut tree = vec![in alloc; Small::NONE; kept.len()]?;
+        put_entries(&mut tree, &kept);
+        return Ok(Tree::Small(tree));
+    }
+    let mut tree = vec![in alloc; Wide::NONE; kept.len()]?;
+    put_entries(&mut tree, &kept);
+    Ok(Tree::Wide(tree))
+}
+
+// Compares the range at a place with the address. Returns the place to go on at, and the last place so far
 // whose range starts no later than the address.
-#[inline]
+#[inline(always)]
 fn below(
-    entry: Entry,
+    range: Range,
     place: usize,
     found: usize,
     address: u64,
     steps: &mut Steps,
 ) -> (usize, usize)
     requires { 2 * place + 2 < 2 ^ 64 }
-    ensures left { address < entry.range.start → result ≡ (2 * place + 1, found) }
-    ensures right { entry.range.start ≤ address → result ≡ (2 * place + 2, place) }
+    ensures left { address < range.start → result ≡ (2 * place + 1, found) }
+    ensures right { range.start ≤ address → result ≡ (2 * place + 2, place) }
     ensures step { steps.new ≡ after steps.old 1 }
 {
-    match probe(entry.range.start, entry.range.end, address, steps) {
-        Ordering::Less => (2 * place + 1, found),
-        Ordering::Equal | Ordering::Greater => (2 * place + 2, place),
+    // A number and no branch: which way it goes can't be foretold.
+    let right = probe(range.start, range.end, address, steps) != Ordering::Less;
+    (
+        2 * place + 1 + right as usize,
+        if right { place } else { found },
+    )
+}
+
+// Returns the index in the list of the range that contains the address, or `None` if no range does.
+//
+// The entries two levels below are read while the lookup is still at a place, so that they are there when it
+// gets to them. What is read of them is below 2^31. The compiler doesn't know that, so it keeps the reads.
+#[inline(always)]
+fn find<S: Stored>(tree: &[S], address: u64, steps: &mut Steps) -> Option<usize>
+    requires few { length tree.now < 2 ^ 63 }
+    requires tree { IsSearchTree (map S.value tree.now) }
+    ensures found { IsFound (walk (map S.value tree.now)) address result }
+    ensures within { steps.new ≤ steps.old + digits (length tree.now) }
+    ensures grows { steps.old ≤ steps.new }
+    ensures compared { 0 < length tree.now → after steps.old 1 ≤ steps.new }
+{
+    let len = tree.len();
+    let mut ahead = tree.first()?.bits();
+    // The first place of the level, the place that the lookup is at, and the last place whose range
+    // starts no later than the address.
+    let mut first = 0;
+    let mut place = 0;
+    let mut found = len;
+    while first < len / 8 {
+        ahead &= tree[4 * place + 3].bits() & tree[4 * place + 6].bits();
+        (place, found) = below(tree[place].entry().range, place, found, address, steps);
+        first = 2 * first + 1;
+    }
+    while first < len / 2 {
+        ahead &= tree[place.wrapping_mul(4).wrapping_add(5).min(len - 1)].bits();
+        (place, found) = below(tree[place].entry().range, place, found, address, steps);
+        first = 2 * first + 1;
+    }
+    if place < len {
+        (_, found) = below(tree[place].entry().range, place, found, address, steps);
+    }
+    let entry = tree.get(found)?.entry();
+    if ahead < 1 << 31 && address <= entry.range.end {
+        Some(entry.place)
+    } else {
+        None
     }
 }
 
@@ -194,7 +297,7 @@ impl AddressIndex {
         ensures { result ≡ [] }
     {
         AddressIndex {
-            tree: Vec::new(alloc),
+            tree: Tree::Small(Vec::new(alloc)),
         }
     }
 
@@ -219,17 +322,7 @@ impl AddressIndex {
         if regions.is_empty() {
             return Ok(AddressIndex::empty(alloc));
         }
-        let none = Entry {
-            range: Range::new(0, 0),
-            place: 0,
-        };
-        let mut tree = vec![in alloc; none; regions.len()]?;
-        if !put_regions(&mut tree, regions) {
-            let mut kept = ranged(alloc, regions)?;
-            keep_apart(&mut kept);
-            tree.resize(kept.len(), none)?;
-            put_entries(&mut tree, &kept);
-        }
+        let tree = small_tree(alloc, regions)?;
         Ok(AddressIndex { tree })
     }
 
@@ -249,7 +342,7 @@ impl AddressIndex {
         let left = self.tree.len();
         let total = full(left);
         ByAddress {
-            tree: self.tree.as_slice(),
+            tree: &self.tree,
             total,
             first: 1,
             count: total - 1,
@@ -270,24 +363,9 @@ impl AddressIndex {
         ensures grows { steps.old ≤ steps.new }
         ensures compared { 0 < length self.now → after steps.old 1 ≤ steps.new }
     {
-        let len = self.tree.len();
-        // The first place of the level, the place that the lookup is at, and the last place whose range
-        // starts no later than the address.
-        let mut first = 0;
-        let mut place = 0;
-        let mut found = len;
-        while first < len / 2 {
-            (place, found) = below(self.tree[place], place, found, address, steps);
-            first = 2 * first + 1;
-        }
-        if place < len {
-            (_, found) = below(self.tree[place], place, found, address, steps);
-        }
-        let entry = self.tree.get(found)?;
-        if address <= entry.range.end {
-            Some(entry.place)
-        } else {
-            None
+        match &self.tree {
+            Tree::Small(tree) => find(tree, address, steps),
+            Tree::Wide(tree) => find(tree, address, steps),
         }
     }
 }
@@ -296,7 +374,7 @@ impl AddressIndex {
 /// list.
 #[derive(Debug, Drop)]
 pub struct ByAddress<'a> {
-    tree: &'a [Entry],
+    tree: &'a Tree,
     // One more than the number of places of a full tree with as many levels.
     total: usize,
     // The walk of that full tree is counted from 1: the first place that is left, and how many are left.
@@ -309,24 +387,24 @@ pub struct ByAddress<'a> {
 impl<'a> Model for ByAddress<'a> {
     ghost use Rattle.std.specs.Prelude.{List, ℕ};
     ghost use Rattle.minidump_index.specs.Kept.{places};
-    ghost use Rattle.minidump_index.specs.Tree.{walk_from, IsPart};
+    ghost use Rattle.minidump_index.specs.Tree.{entries_of, walk_from, IsPart};
 
     ghost Value = { List ℕ };
 
-    ghost view = { λ s. places (walk_from s.tree.now s.total s.first s.count) };
+    ghost view = { λ s. places (walk_from (entries_of s.tree.now) s.total s.first s.count) };
 
-    ghost invariant = { λ s. IsPart s.tree.now s.total s.first s.count s.left };
+    ghost invariant = { λ s. IsPart (entries_of s.tree.now) s.total s.first s.count s.left };
 }
 
 // Finds the first entry among so many places of the walk. Returns its index in the list, and the number of
 // the place behind it.
-fn first_of(tree: &[Entry], total: usize, first: usize, count: usize) -> Option<(usize, usize)>
+fn first_of(tree: &Tree, total: usize, first: usize, count: usize) -> Option<(usize, usize)>
     requires starts { 0 < first }
     requires within { first + count ≤ total }
     requires bound { total ≤ 2 ^ 63 }
-    ensures { MatchOption result (walk_from tree.now total first count ≡ [])
+    ensures { MatchOption result (walk_from (entries_of tree.now) total first count ≡ [])
         (λ r. (e : Entry) × (r.0 ≡ e.place) × (first < r.1) × (r.1 ≤ first + count)
-        × (walk_from tree.now total first count ≡ e ∷ walk_from tree.now total r.1 (first + count - r.1))) }
+        × (walk_from (entries_of tree.now) total first count ≡ e ∷ walk_from (entries_of tree.now) total r.1 (first + count - r.1))) }
 {
     for k in first..first + count {
         if let Some(entry) = tree.get(place_at(total, k)) {
@@ -338,13 +416,13 @@ fn first_of(tree: &[Entry], total: usize, first: usize, count: usize) -> Option<
 
 // Finds the last entry among so many places of the walk. Returns its index in the list, and how many places
 // come before it.
-fn last_of(tree: &[Entry], total: usize, first: usize, count: usize) -> Option<(usize, usize)>
+fn last_of(tree: &Tree, total: usize, first: usize, count: usize) -> Option<(usize, usize)>
     requires starts { 0 < first }
     requires within { first + count ≤ total }
     requires bound { total ≤ 2 ^ 63 }
-    ensures { MatchOption result (walk_from tree.now total first count ≡ [])
+    ensures { MatchOption result (walk_from (entries_of tree.now) total first count ≡ [])
         (λ r. (e : Entry) × (r.0 ≡ e.place) × (r.1 < count)
-        × (walk_from tree.now total first count ≡ walk_from tree.now total first r.1 ++ (e ∷ []))) }
+        × (walk_from (entries_of tree.now) total first count ≡ walk_from (entries_of tree.now) total first r.1 ++ (e ∷ []))) }
 {
     let mut before = count;
     while before > 0 {

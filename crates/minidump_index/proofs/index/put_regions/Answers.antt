@@ -1,17 +1,17 @@
 -- Each place of the walk that the tree has takes the entry of the next region.
-use Rattle.std.proofs.Common.{rules, arith, ◌≡◌, ◌<◌, ◌^◌, refl, length, map}
-use Rattle.std.proofs.lemmas.List.{length-map}
+use Rattle.std.proofs.Common.{rules, arith, ◌≡◌, ◌<◌, ◌^◌, refl, ◌∙◌, ap, slice_set, length, map}
+use Rattle.std.proofs.lemmas.List.{length-map, map-set}
 use Rattle.std.proofs.lemmas.Nat.{pow_pos}
 use Rattle.minidump_index.specs.Digits.{digits}
 use Rattle.minidump_index.proofs.AscendingRegions.{put_none, put_within, put_one, put_skip, put_all, put_tree}
 use Rattle.minidump_index.proofs.RangedEntries.{has_region}
 use Rattle.minidump_index.proofs.WalkLemmas.{total-few, total_of}
 use Rattle.minidump_index.proofs.index.put_regions.Goals as goal
-use Rattle.minidump_index.proofs.index.put_regions.Goals.{then-place-len+in-Some+else-rank-gt0, else-rank-gt0-via-then-rank-gt0+else-range-end}
+use Rattle.minidump_index.proofs.index.put_regions.Goals.{then-place-len+in-Some+else-rank-gt0+else-not-holds, else-rank-gt0-via-then-rank-gt0+else-range-end}
 use Rattle.minidump_index.proofs.index.put_regions.Goals.{else-rank-gt0-via-else-rank-gt0, else-place-len}
 
 pub loop-k-init : goal.loop-k-init
-loop-k-init g c = put_none _ _ _ _ (omega (arith, c.requires, length-map c.args.regions.now g.R.Region.range))
+loop-k-init g c = put_none _ _ _ _ (omega (arith, c.requires, length-map c.args.regions.now g.R.Region.range, length-map c.args.tree.now.items g.S.Stored.value))
 
 pub place_at-place-requires-clause-bound : goal.place_at-place-requires-clause-bound
 place_at-place-requires-clause-bound g c =
@@ -52,12 +52,16 @@ loop-k-preserved g c =
     let total = total_of _ _ _ c.full-total.ensures len in
     let small : length (map range c.args.regions.now) < 2 ^ 63 = omega (arith, few, c.requires, long) in
     elim c.if-place-len.branch [
-      | then-place-len+in-Some+else-rank-gt0 w ↦
+      | then-place-len+in-Some+else-rank-gt0+else-not-holds w ↦
           (let inside : c.place_at-place.result < length (map range c.args.regions.now) = omega (arith, w.if-place-len.true, len) in
           let within = put_within ranges _ _ _ _ _ _ total small c.loop-k.invariant c.loop-k-test.true c.place_at-place.ensures inside in
           let here = has_region range c.args.regions.now c.loop-k.rank _ w.memory_range.result _
           (omega (arith, within, long)) w.index-regions-rank.is w.memory_range.ensures w.in-Some.is in
-          rw (w.tree-is, w.rank-is, w.end-is)
+          let value = g.S.Stored.value in
+          let stored = w.of.result in
+          let put = map-set value c.loop-k.tree.items c.place_at-place.result stored
+          ∙ ap (slice_set (map value c.loop-k.tree.items) c.place_at-place.result) w.of.ensures in
+          rw (w.tree-is, w.rank-is, w.end-is, put)
           (put_one ranges _ _ _ _ _ _ total small c.loop-k.invariant c.loop-k-test.true c.place_at-place.ensures _ _ _ inside here
           (elim w.else-rank-gt0.branch [
             | else-rank-gt0-via-then-rank-gt0+else-range-end v ↦ (λ h. omega (arith, v.if-range-end.false))

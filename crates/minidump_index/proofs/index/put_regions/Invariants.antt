@@ -4,4 +4,4 @@ use Rattle.minidump_index.proofs.AscendingRegions.{PutTo}
 use Rattle.minidump_index.proofs.index.put_regions.Given as goal
 
 abbrev pub invariant-loop-k : goal.invariant-loop-k
-invariant-loop-k g l = PutTo (map g.R.Region.range l.regions) l.tree.items l.total l.k l.rank l.end
+invariant-loop-k g l = PutTo (map g.R.Region.range l.regions) (map g.S.Stored.value l.tree.items) l.total l.k l.rank l.end
