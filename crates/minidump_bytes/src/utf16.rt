@@ -1,7 +1,8 @@
 //! UTF-16 in the bytes of a file.
-ghost use Rattle.std.specs.Prelude.{◌≡◌, ◌+◌, ◌*◌, ◌≤◌, ◌<◌, ◌∷◌, slice_index, drop, length, IfOk, string_bytes};
+ghost use Rattle.std.specs.Prelude.{◌≡◌, ◌+◌, ◌*◌, ◌≤◌, ◌<◌, ◌∷◌, slice_index, drop, length, IfOk, MatchOption, string_bytes};
 ghost use Rattle.std.specs.Char.Utf16.{utf16_chars};
 ghost use Rattle.std.specs.Option.{option_map};
+ghost use Rattle.std.specs.Str.{IsAscii, IsNotAscii};
 ghost use Rattle.minidump_bytes.specs.Text16.{units_at, utf16_text};
 
 use crate::Endian;
@@ -19,6 +20,9 @@ pub(crate) fn text_at(
     requires { place + 2 * count ≤ length bytes.now }
     ensures { IfOk result (λ text. option_map string_bytes text ≡ utf16_text (units_at endian place count bytes.now)) }
 {
+    if let Some(text) = ascii_at(alloc, bytes, place, count, endian)? {
+        return Ok(Some(text));
+    }
     let mut text = String::with_capacity(alloc, count)?;
     let mut at = 0;
     while at < count {
@@ -30,6 +34,28 @@ pub(crate) fn text_at(
         at = next;
     }
     Ok(Some(text))
+}
+
+// Decodes the code units if all of them are ASCII, as they nearly always are.
+fn ascii_at(
+    alloc: Global,
+    bytes: &[u8],
+    place: usize,
+    count: usize,
+    endian: Endian,
+) -> Result<Option<String>, AllocError>
+    requires { place + 2 * count ≤ length bytes.now }
+    ensures { let units = units_at endian place count bytes.now in IfOk result (λ text. MatchOption text (IsNotAscii units) (λ ascii. IsAscii units × (string_bytes ascii ≡ units))) }
+{
+    let mut ascii = Vec::with_capacity(alloc, count)?;
+    for i in 0..count {
+        let unit = unit_at(bytes, place, count, endian, i);
+        if unit >= 0x80 {
+            return Ok(None);
+        }
+        ascii.push_reserved(unit as u8);
+    }
+    Ok(Some(String::from_utf8(ascii).unwrap()))
 }
 
 // The character at an index of the code units, or `None` where that unit lacks its partner, and the index

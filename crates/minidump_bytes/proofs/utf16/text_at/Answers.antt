@@ -1,15 +1,16 @@
--- One character more was pushed, or a surrogate lacks its partner.
-use Rattle.std.proofs.Common.{arith, append_assoc, string_bytes}
+-- All units are ASCII, one character more was pushed, or a surrogate lacks its partner.
+use Rattle.std.proofs.Common.{Some, ap, ◌∙◌, sym, arith, append_assoc, string_bytes}
 use Rattle.minidump_bytes.proofs.EntryLemmas.{length-entries}
 use Rattle.minidump_bytes.specs.Text16.{units_at}
 use Rattle.minidump_bytes.specs.Layout.{number_layout}
 use Rattle.minidump_bytes.proofs.UnitLemmas.{no_units, text_done, text_none}
+use Rattle.minidump_bytes.proofs.Utf16Lemmas.{ascii_text}
 use Rattle.minidump_bytes.proofs.utf16.text_at.Goals as goal
 
 pub loop-at-preserved : goal.loop-at-preserved
 loop-at-preserved c = record {
-  made = rw (c.in_ok-push.ensures.bytes, append_assoc) (rw (c.char_at-found.ensures.first, c.in-Some.is) at c.loop-at.invariant.made);
-  paired = rw (c.char_at-found.ensures.first, c.in-Some.is) at c.loop-at.invariant.paired;
+  made = rw (c.in_ok-push.ensures.bytes, append_assoc) (rw (c.char_at-found.ensures.first, c.in-Some-found.is) at c.loop-at.invariant.made);
+  paired = rw (c.char_at-found.ensures.first, c.in-Some-found.is) at c.loop-at.invariant.paired;
 }
 
 pub returns : goal.returns
@@ -19,7 +20,13 @@ returns c =
     text_done units _ (string_bytes c.loop-at.text)
     (no_units units c.loop-at.at (rw len (omega (arith, c.loop-at-test.false)))) c.loop-at.invariant.made c.loop-at.invariant.paired
 
-pub returns-in_default : goal.returns-in_default
-returns-in_default c =
+pub returns-in_default-found : goal.returns-in_default-found
+returns-in_default-found c =
     let units = units_at c.args.endian c.args.place c.args.count c.args.bytes.now in
-    text_none units _ _ (rw c.in_default.is at c.char_at-found.ensures.first) c.loop-at.invariant.paired
+    text_none units _ _ (rw c.in_default-found.is at c.char_at-found.ensures.first) c.loop-at.invariant.paired
+
+pub returns-in-Some : goal.returns-in-Some
+returns-in-Some c =
+    let units = units_at c.args.endian c.args.place c.args.count c.args.bytes.now in
+    let ascii = rw c.in-Some.is at c.in_ok-text.ensures in
+    ap Some ascii.1 ∙ sym (ascii_text units ascii.0)
