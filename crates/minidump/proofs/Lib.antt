@@ -4,7 +4,6 @@ pub mod LawsLemmas
 pub mod ListRules
 pub mod PlacedLemmas
 pub mod StackLemmas
-pub mod StreamsLemmas
 pub mod ThreadLemmas
 pub mod ReportLemmas
 pub mod CrashLemmas

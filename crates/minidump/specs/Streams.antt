@@ -1,6 +1,7 @@
 -- The streams of a directory by whether their type has a name, and what their iterators have left.
 use Rattle.std.specs.Prelude.{ℕ, List, map, Option, Some, None, if◌then◌else◌}
 use Rattle.std.specs.List.{filter_map}
+use Rattle.std.specs.Slice.Iter.{iter_rest}
 use Rattle.minidump_format.specs.declared.format.header.MINIDUMP_DIRECTORY.{MINIDUMP_DIRECTORY}
 use Rattle.minidump_format.specs.declared.format.header.MINIDUMP_LOCATION_DESCRIPTOR.{MINIDUMP_LOCATION_DESCRIPTOR}
 use Rattle.minidump_format.specs.declared.format.stream_type.MINIDUMP_STREAM_TYPE.{MINIDUMP_STREAM_TYPE}
@@ -48,7 +49,7 @@ entries_of ds = map (λ d. d.entry) ds
 
 -- what an iterator has left
 abbrev pub streams_left : Streams → List MINIDUMP_DIRECTORY
-streams_left s = entries_of s.entries
+streams_left s = entries_of (iter_rest s.entries)
 
 abbrev pub unknown_left : UnknownStreams → List (Described ℕ)
 unknown_left s = filter_map as_unknown (streams_left s.streams)

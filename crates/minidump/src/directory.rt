@@ -1,14 +1,16 @@
-ghost use Rattle.std.specs.Prelude.{◌≡◌, ◌+◌, ◌-◌, ◌*◌, ◌<◌, ◌≤◌, length, OnOk};
+ghost use Rattle.std.specs.Prelude.{◌≡◌, ℕ, ◌+◌, ◌-◌, ◌*◌, ◌^◌, ◌<◌, ◌≤◌, All, find, length, drop, map, IfOk, OnOk};
+ghost use Rattle.std.specs.List.Sorted.{IsNonDecreasingBy, IsStrictlySortedBy};
+ghost use Rattle.std.specs.Ordering.{nat_cmp};
+ghost use Rattle.std.specs.Option.{option_map};
 ghost use Rattle.minidump_bytes.specs.Steps.{after};
 ghost use Rattle.minidump_bytes.specs.Source.{bytes_of};
-ghost use Rattle.minidump.specs.Deciding.{ReadsDirectory};
-ghost use Rattle.minidump.specs.Directory.{is_readable};
+ghost use Rattle.minidump.specs.Deciding.{AreLast, Decides, Reads, ends_a_type, is_of_type, type_of};
+ghost use Rattle.minidump.specs.Directory.{directory, indexed, is_readable};
 
 use minidump_bytes::{Endian, Source, Steps};
 use minidump_format::Error;
 use minidump_format::format::{MINIDUMP_DIRECTORY, MINIDUMP_HEADER};
 use std::alloc::Global;
-use std::collections::BTreeMap;
 
 /// The entry that decides a type of stream: the last of that type.
 #[derive(Clone, Copy)]
@@ -26,16 +28,38 @@ fn is_readable(source: Source<'_>, header: &MINIDUMP_HEADER) -> bool
     count == 0 || header.stream_directory_rva as u64 + 12 * count <= source.len() as u64
 }
 
-// Reads the directory, and returns the deciding entries by type. Takes memory only if every entry is in
-// the file.
+// Reads the directory, and returns the deciding entries, ascending by type. Takes memory only if every
+// entry is in the file.
 pub(crate) fn read_directory(
     alloc: Global,
     source: Source<'_>,
     endian: Endian,
     header: &MINIDUMP_HEADER,
     steps: &mut Steps,
-) -> Result<BTreeMap<u32, DecidingEntry>, Error>
-    ensures means { ReadsDirectory endian (bytes_of source.entry) header.now result }
+) -> Result<Vec<DecidingEntry>, Error>
+    ensures means { Reads (λ v. Decides v.items (directory endian (bytes_of source.entry) header.now))
+        (bytes_of source.entry) header.now result }
+    ensures within { 12 * (steps.new - steps.old) ≤ length (bytes_of source.entry) + 12 }
+    ensures grows { steps.old ≤ steps.new }
+    ensures at_least { OnOk result (after steps.old header.now.stream_count ≤ steps.new) }
+{
+    let mut entries = read_entries(alloc, source, endian, header, steps)?;
+    entries.sort_by_key(|e| e.entry.stream_type)?;
+    keep_last(&mut entries);
+    Ok(entries)
+}
+
+// Reads the entries of the directory, in the order of the file.
+fn read_entries(
+    alloc: Global,
+    source: Source<'_>,
+    endian: Endian,
+    header: &MINIDUMP_HEADER,
+    steps: &mut Steps,
+) -> Result<Vec<DecidingEntry>, Error>
+    ensures means { Reads (λ v. v.items ≡ indexed (directory endian (bytes_of source.entry) header.now))
+        (bytes_of source.entry) header.now result }
+    ensures small { IfOk result (λ v. All (λ d. type_of d < 2 ^ 32) v.items) }
     ensures within { 12 * (steps.new - steps.old) ≤ length (bytes_of source.entry) + 12 }
     ensures grows { steps.old ≤ steps.new }
     ensures at_least { OnOk result (after steps.old header.now.stream_count ≤ steps.new) }
@@ -43,13 +67,50 @@ pub(crate) fn read_directory(
     if !is_readable(source, header) {
         return Err(Error::MissingDirectory);
     }
-    let mut entries = BTreeMap::new(alloc);
+    let mut entries = Vec::with_capacity(alloc, header.stream_count as usize)?;
     for index in 0..header.stream_count {
         let place = header.stream_directory_rva as u64 + 12 * index as u64;
         let entry: MINIDUMP_DIRECTORY = source
             .record(place, endian, steps)
             .ok_or(Error::MissingDirectory)?;
-        entries.insert(entry.stream_type, DecidingEntry { index, entry })?;
+        entries.push(DecidingEntry { index, entry })?;
     }
     Ok(entries)
+}
+
+// Tells whether no entry of the same type is next to an entry.
+fn is_last_of_type(entries: &[DecidingEntry], index: usize) -> bool
+    requires { index < length entries.now }
+    ensures { result ≡ ends_a_type (drop index entries.now) }
+{
+    match entries.get(index + 1) {
+        None => true,
+        Some(next) => next.entry.stream_type != entries[index].entry.stream_type,
+    }
+}
+
+// Keeps the last entry of each type, of entries that are sorted by type.
+fn keep_last(entries: &mut Vec<DecidingEntry>)
+    requires { IsNonDecreasingBy type_of entries.old.items }
+    ensures { AreLast entries.old.items entries.new.items }
+{
+    let mut kept = 0;
+    for i in 0..entries.len() {
+        if is_last_of_type(entries.as_slice(), i) {
+            entries[kept] = entries[i];
+            kept += 1;
+        }
+    }
+    entries.truncate(kept);
+}
+
+// Returns the entry of a type, of entries that ascend by type.
+pub(crate) fn entry_of_type(entries: &[DecidingEntry], stream_type: u32) -> Option<&DecidingEntry>
+    requires { IsStrictlySortedBy nat_cmp (map type_of entries.now) }
+    ensures { option_map (λ d. d.now) result ≡ find (is_of_type stream_type) entries.now }
+{
+    match entries.binary_search_by_key(&stream_type, |e| e.entry.stream_type) {
+        Ok(place) => Some(&entries[place]),
+        Err(_) => None,
+    }
 }

@@ -1,5 +1,6 @@
 ghost use Rattle.std.specs.Prelude.{◌≡◌};
 ghost use Rattle.std.specs.Option.{option_map};
+ghost use Rattle.std.proofs.Props.{props};
 ghost use Rattle.minidump_bytes.specs.Source.{bytes_of};
 ghost use Rattle.minidump_system.specs.SystemInfo.{system_info_of};
 ghost use Rattle.minidump.specs.Directory.{directory};
@@ -15,8 +16,6 @@ use minidump_format::Error;
 use minidump_format::format::MINIDUMP_HEADER;
 use minidump_system::MinidumpSystemInfo;
 use std::alloc::Global;
-use std::collections::BTreeMap;
-use std::collections::btree_map::Values;
 
 /// A minidump: its header, its directory and its system information. Other streams are read when they are
 /// asked for.
@@ -27,10 +26,10 @@ pub struct Minidump<'a> {
     /// The byte order of the whole file.
     pub endian: Endian,
     pub(crate) source: Source<'a>,
-    pub(crate) entries: BTreeMap<u32, DecidingEntry>,
+    pub(crate) entries: Vec<DecidingEntry>,
     // set exactly where the SystemInfo stream parses
     pub(crate) system_info: Option<MinidumpSystemInfo>,
-    ghost decides: { Decides entries (directory endian (bytes_of source) header) },
+    ghost decides: { Decides entries.items (directory endian (bytes_of source) header) } by { Prim.hlevel props },
     ghost knows: { option_map system_info_of system_info
         ≡ dump_system (record { file = bytes_of source; order = endian; header = header }) },
 }
@@ -73,7 +72,14 @@ impl<'a> Minidump<'a> {
         let source = Source::new(bytes);
         let (endian, header) = read_header(source, steps)?;
         let entries = read_directory(alloc, source, endian, &header, steps)?;
-        let system_info = read_system_info(alloc, source, endian, &header, &entries, steps)?;
+        let system_info = read_system_info(
+            alloc,
+            source,
+            endian,
+            &header,
+            entries.as_slice(),
+            steps,
+        )?;
         Ok(Minidump {
             header,
             endian,
@@ -89,15 +95,15 @@ impl<'a> Minidump<'a> {
         ensures { streams_left result ≡ entries_of (streams_of (dump_of self.now)) }
     {
         Streams {
-            entries: self.deciding_entries(),
+            entries: self.deciding_entries().iter(),
         }
     }
 
     // Returns the deciding entries, each with its index.
-    pub(crate) fn deciding_entries(&self) -> Values<'_, u32, DecidingEntry>
-        ensures { result ≡ streams_of (dump_of self.now) }
+    pub(crate) fn deciding_entries(&self) -> &[DecidingEntry]
+        ensures { result.now ≡ streams_of (dump_of self.now) }
     {
-        self.entries.values()
+        self.entries.as_slice()
     }
 
     /// Returns an iterator over the streams of [`Minidump::all_streams`] whose type has no name.

@@ -9,7 +9,7 @@ use crate::Minidump;
 use crate::directory::DecidingEntry;
 use minidump_bytes::{Piece, Told, push_pieces};
 use minidump_format::format::{MINIDUMP_HEADER, MINIDUMP_STREAM_TYPE};
-use minidump_format::{Error, PushText, Pushed, print_item, print_map, put_text};
+use minidump_format::{Error, PushText, Pushed, print_item, print_list_by, put_text};
 use std::alloc::{AllocError, Global};
 use std::io::Write;
 
@@ -30,7 +30,7 @@ impl<'a> Minidump<'a> {
             (header_text self.now.header ++ flat_map entry_text (streams_of (dump_of self.now))) result }
     {
         self.print_header(alloc, f)?;
-        print_map::<EntryText, _, _, _>(self.deciding_entries(), alloc, f)
+        print_list_by::<EntryText, _, _>(self.deciding_entries(), alloc, f)
     }
 
     fn print_header<W: Write>(&self, alloc: Global, f: &mut Told<W>) -> Result<(), Error>
@@ -53,7 +53,7 @@ impl<'a> Minidump<'a> {
         ensures { Prints W.contents f.old f.new
             (flat_map stream_text (streams_of (dump_of self.now)) ++ line_end) result }
     {
-        print_map::<StreamText, _, _, _>(self.deciding_entries(), alloc, f)?;
+        print_list_by::<StreamText, _, _>(self.deciding_entries(), alloc, f)?;
         print_line_end(f)
     }
 }

@@ -6,6 +6,7 @@ ghost use Rattle.minidump.specs.Dump.{IsFoundStream, IsStreamOf, raw_stream};
 ghost use Rattle.minidump.specs.DumpValue.{dump_of};
 
 use crate::Minidump;
+use crate::directory::entry_of_type;
 use minidump_bytes::{Source, Steps};
 use minidump_format::Error;
 use minidump_system::MinidumpStream;
@@ -30,7 +31,8 @@ impl<'a> Minidump<'a> {
             → steps.new ≡ after steps.old 1 }
         ensures inside { IfOk result (λ b. length b.now ≤ length (dump_of self.now).file) }
     {
-        let deciding = self.entries.get(&stream_type).ok_or(Error::StreamNotFound)?;
+        let entries = self.entries.as_slice();
+        let deciding = entry_of_type(entries, stream_type).ok_or(Error::StreamNotFound)?;
         deciding
             .entry
             .location

@@ -8,7 +8,7 @@ use minidump_format::format::{
     MINIDUMP_DIRECTORY, MINIDUMP_LOCATION_DESCRIPTOR, MINIDUMP_STREAM_TYPE,
 };
 use minidump_format::stream_vendor;
-use std::collections::btree_map::Values;
+use std::slice;
 
 /// A stream whose type this crate reads.
 #[derive(Drop)]
@@ -44,7 +44,7 @@ pub struct MinidumpUnimplementedStream {
 /// An iterator over the deciding entries of a directory, ascending by type.
 #[derive(Drop)]
 pub struct Streams<'a> {
-    pub(crate) entries: Values<'a, u32, DecidingEntry>,
+    pub(crate) entries: slice::Iter<'a, DecidingEntry>,
 }
 
 impl<'a> Iterator for Streams<'a> {

@@ -7,13 +7,12 @@ ghost use Rattle.minidump.specs.Deciding.{Decides};
 ghost use Rattle.minidump.specs.Directory.{directory};
 ghost use Rattle.minidump.specs.Dump.{dump_system, system_reads};
 
-use crate::directory::DecidingEntry;
+use crate::directory::{DecidingEntry, entry_of_type};
 use minidump_bytes::{Endian, Source, Steps};
 use minidump_format::Error;
 use minidump_format::format::MINIDUMP_HEADER;
 use minidump_system::{MinidumpStream, MinidumpSystemInfo};
 use std::alloc::Global;
-use std::collections::BTreeMap;
 
 // Reads the system information. It is absent if its stream is missing or malformed; the only error is
 // `OutOfMemory`.
@@ -22,7 +21,7 @@ pub(crate) fn read_system_info(
     source: Source<'_>,
     endian: Endian,
     header: &MINIDUMP_HEADER,
-    entries: &BTreeMap<u32, DecidingEntry>,
+    entries: &[DecidingEntry],
     steps: &mut Steps,
 ) -> Result<Option<MinidumpSystemInfo>, Error>
     requires { Decides entries.now (directory endian (bytes_of source) header.now) }
@@ -34,7 +33,7 @@ pub(crate) fn read_system_info(
     ensures counted { OnOk result (after steps.old
         (system_reads (record { file = bytes_of source.entry; order = endian; header = header.now })) ≤ steps.new) }
 {
-    let Some(deciding) = entries.get(&MinidumpSystemInfo::STREAM_TYPE) else {
+    let Some(deciding) = entry_of_type(entries, MinidumpSystemInfo::STREAM_TYPE) else {
         return Ok(None);
     };
     let Some(bytes) = deciding.entry.location.bytes_in(source, steps) else {

@@ -6,7 +6,6 @@ use crate::Error;
 use crate::print::no_memory;
 use minidump_bytes::Told;
 use std::alloc::{AllocError, Global};
-use std::collections::btree_map::Values;
 use std::io::Write;
 
 // Bytes that wait are written once there are so many.
@@ -56,21 +55,7 @@ pub fn print_list<T: Pushed, W: Write>(
 ) -> Result<(), Error>
     ensures { Prints W.contents f.old f.new (flat_map T.text items.now) result }
 {
-    if f.failed() {
-        return Err(Error::IoError);
-    }
-    let mut block = Vec::new(alloc);
-    for item in items {
-        match item.push(&mut block) {
-            Ok(()) => {}
-            Err(AllocError) => return Err(Error::OutOfMemory),
-        }
-        if block.len() >= BLOCK {
-            put_bytes(f, block.as_slice())?;
-            block.clear();
-        }
-    }
-    put_bytes(f, block.as_slice())
+    print_list_by::<OwnText, _, _>(items, alloc, f)
 }
 
 /// Items by their indexes, each of which can append its text to bytes.
@@ -125,21 +110,32 @@ pub trait PushText<T> {
         ensures { OnOk result (out.new.items ≡ out.old.items ++ text value.now) };
 }
 
-/// Prints the texts of the values of a map in the order of their keys, in blocks of some 32 KiB. Stops at
-/// the first error.
-pub fn print_map<P: PushText<T>, K, T, W: Write>(
-    values: Values<'_, K, T>,
+// The way to append the text of a value that can append it.
+#[derive(Clone, Copy)]
+struct OwnText;
+
+impl<T: Pushed> PushText<T> for OwnText {
+    ghost text = { T.text };
+
+    fn push(value: &T, out: &mut Vec<u8>) -> Result<(), AllocError> {
+        value.push(out)
+    }
+}
+
+/// Prints items in order as [`print_list`] does, each by the text that `P` appends.
+pub fn print_list_by<P: PushText<T>, T, W: Write>(
+    items: &[T],
     alloc: Global,
     f: &mut Told<W>,
 ) -> Result<(), Error>
-    ensures { Prints W.contents f.old f.new (flat_map P.text values.entry) result }
+    ensures { Prints W.contents f.old f.new (flat_map P.text items.now) result }
 {
     if f.failed() {
         return Err(Error::IoError);
     }
     let mut block = Vec::new(alloc);
-    for value in values {
-        match P::push(value, &mut block) {
+    for item in items {
+        match P::push(item, &mut block) {
             Ok(()) => {}
             Err(AllocError) => return Err(Error::OutOfMemory),
         }

@@ -5,8 +5,8 @@
 //! - [`Error`] is the one error of all crates. [`stream_vendor`] names the vendor of a stream type.
 //! - [`put_text`] and [`put_formatted`] print a text, [`put_bytes`] prints bytes. A value that appends its text
 //!   to bytes is [`Pushed`]: [`print_item`] prints it, and [`print_list`] several in blocks; [`print_counted`]
-//!   prints what is [`Counted`] so, and [`print_map`] the values of a map. [`print_numbered`] prints a heading with
-//!   the number of items, and each item behind a line of a name and its index.
+//!   prints what is [`Counted`] so, and [`print_list_by`] a list by a [`PushText`]. [`print_numbered`] prints a
+//!   heading with the number of items, and each item behind a line of a name and its index.
 //!
 //! # Errors
 //!
@@ -32,8 +32,8 @@
 //! - The constants: `laws::header_numbers`, `file_info_numbers`, `annotation_numbers`. The name of an error:
 //!   `Error::name`.
 //! - A call that prints wrote all of its text, or a beginning, and returned the error above: the word
-//!   `Prints` at `put_text`, `put_formatted`, `put_bytes`, `print_item`, `print_list`, `print_counted`, `print_map`,
-//!   `print_numbered`.
+//!   `Prints` at `put_text`, `put_formatted`, `put_bytes`, `print_item`, `print_list`, `print_list_by`,
+//!   `print_counted`, `print_numbered`.
 //!
 //! What isn't: the messages of the errors, which tests show. `CV_INFO_PDB70`, `CV_INFO_PDB20` and
 //! `CV_INFO_ELF` are no records: `minidump_modules` reads them.
@@ -49,7 +49,7 @@ mod print;
 mod vendor;
 
 pub use blocks::{
-    Counted, PushText, Pushed, print_counted, print_item, print_list, print_map, put_bytes,
+    Counted, PushText, Pushed, print_counted, print_item, print_list, print_list_by, put_bytes,
 };
 pub use error::Error;
 pub use numbered::{print_count, print_numbered, push_index};

@@ -1,34 +1,36 @@
--- One entry more.
-use Rattle.std.proofs.Common.{arith, ◌≡◌, ◌^◌, ◌<◌, rules}
-use Rattle.std.proofs.lemmas.Grind.{common_steps}
+-- The sort keeps the order of the entries of a type.
+use Rattle.std.proofs.Common.{arith, rules, ap, inl, inr, ◌∙◌, ◌<◌, ◌≡◌, length}
+use Rattle.std.proofs.lemmas.Bool.{cases_lt}
+use mathlib.Core.Bool.{false≢true}
+use Rattle.std.proofs.lemmas.List.Sorted.{answers_always, IsNonDecreasingBy-from_sort_by_key}
 use Rattle.minidump_bytes.specs.Source.{bytes_of}
-use Rattle.minidump_bytes.specs.Entries.{entry, entries}
-use Rattle.minidump_bytes.proofs.EntryLemmas.{entries-more, entries-none, length-entries}
+use Rattle.minidump_bytes.proofs.EntryLemmas.{length-entries}
 use Rattle.minidump_format.specs.Header.{directory_entry}
-use Rattle.minidump.proofs.DirectoryLemmas.{decides-more}
+use Rattle.minidump.specs.Deciding.{type_of}
+use Rattle.minidump.specs.Directory.{directory}
+use Rattle.minidump.proofs.DirectoryLemmas.{decides, length-indexed, stable_by_type}
 use Rattle.minidump.proofs.directory.read_directory.Goals as goal
 
-pub loop-index-init : goal.loop-index-init
-loop-index-init c = record {
-  decides = record {
-    at = λ t. rw (entries-none directory_entry c.args.endian (bytes_of c.args.source) c.args.header.now.stream_directory_rva) (search rules);
-    small = λ t h. search rules;
-  };
-  steps = omega arith;
-  readable = λ h. absurd (omega arith);
-}
-
-pub loop-index-preserved : goal.loop-index-preserved
-loop-index-preserved c =
+pub returns-in_err-sort_by_key-clause-means : goal.returns-in_err-sort_by_key-clause-means
+returns-in_err-sort_by_key-clause-means c =
+    let h = c.args.header.now in
     let source = bytes_of c.args.source in
-    let start = c.args.header.now.stream_directory_rva in
-    let order = c.args.endian in
-    let read : c.in_ok-entry.entry ≡ entry directory_entry order source start c.loop-index.index = grind (arith, common_steps, c.record.ensures.found) in
-    let small : c.in_ok-entry.entry.stream_type < 2 ^ 32 = grind (arith, common_steps) in
-    record {
-      decides = rw (entries-more, ← read)
-          (decides-more _ _ (entries directory_entry order source start c.loop-index.index) c.in_ok-entry.entry c.loop-index.invariant.decides small
-          (rw length-entries c.in_ok-insert.ensures.updates));
-      steps = omega (arith, c.record.ensures.step, c.loop-index.invariant.steps);
-      readable = grind (arith, c.record.ensures.readable.0);
-    }
+    let count : length c.in_ok-entries.entries.items ≡ h.stream_count =
+    ap length c.in_ok-entries.ensures.means.1 ∙ length-indexed (directory c.args.endian source h)
+    ∙ length-entries directory_entry c.args.endian source h.stream_directory_rva h.stream_count in
+    let some : 0 < h.stream_count = elim (cases_lt 0 h.stream_count) [
+      | inl some ↦ some
+      | inr none ↦ absurd (false≢true (c.in_err-sort_by_key.ensures.succeeds (omega (arith, count, none))))
+    ] in
+    search (rules, some)
+
+pub keep_last-requires : goal.keep_last-requires
+keep_last-requires c = IsNonDecreasingBy-from_sort_by_key type_of _ c.in_ok-sort_by_key.ensures.sorted (λ a r q called. search rules)
+
+pub returns-clause-means : goal.returns-clause-means
+returns-clause-means c =
+    let stable = c.in_ok-sort_by_key.ensures.stable type_of (answers_always _ _ _ (λ f a r g called. search rules)) in (
+      c.in_ok-entries.ensures.means.0,
+      decides (directory c.args.endian (bytes_of c.args.source) c.args.header.now) c.in_ok-entries.entries.items c.sort_by_key.new.self.items _
+          c.in_ok-entries.ensures.means.1 c.in_ok-entries.ensures.small (λ t. stable_by_type t _ _ stable) c.keep_last.ensures,
+    )

@@ -15,6 +15,6 @@ returns-in-Err-OutOfMemory-clause-memory c =
     let source = bytes_of c.args.source in
     let es = directory c.args.endian source h in
     let found : deciding (number_of SystemInfoStream) es ≡ Some c.in-Some.deciding.now =
-    sym (c.requires.at (number_of SystemInfoStream)) ∙ sym c.in-Some.ensures.value in
+    sym (c.requires.at (number_of SystemInfoStream)) ∙ sym c.in-Some.ensures in
     let some : 0 < length es = deciding-among_some (number_of SystemInfoStream) es c.in-Some.deciding.now found in
     (refl, rw (length-entries directory_entry c.args.endian source h.stream_directory_rva h.stream_count) at some)
