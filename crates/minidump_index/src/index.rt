@@ -129,12 +129,12 @@ pub enum Put {
     All,
     // A region doesn't fit into the tree's entries.
     TooWide,
-    // A region has no range, or starts before the end of the region before it.
+    // A region has no range, or starts no later than the region before it ends.
     OutOfOrder,
 }
 
-// Fills a tree with the regions of a list of the same length, if each region has a range and starts behind
-// the end of the region before it. If not, the tree is partly filled.
+// Fills a tree with the regions of a list of the same length, if each region has a range, starts behind the end
+// of the region before it, and fits the entries of the tree. If not, the tree is partly filled.
 fn put_regions<S: Stored, R: Region>(tree: &mut Vec<S>, regions: &[R]) -> Put
     requires { length tree.old.items ≡ length regions.now }
     ensures all { result ≡ Put.All → IsIndexOf (map R.range regions.now) (walk (map S.value tree.new.items)) }
@@ -184,16 +184,22 @@ fn put_entries<S: Stored>(tree: &mut Vec<S>, entries: &[Entry])
     }
 }
 
-// Builds the tree of the kept ranges of regions, in entries of 16 bytes if they ascend and fit.
-fn small_tree<R: Region>(alloc: Global, regions: &[R]) -> Result<Tree, AllocError>
+// Builds the tree of the kept ranges of regions. It has entries of 16 bytes if the kept ranges fit them.
+fn tree_of<R: Region>(alloc: Global, regions: &[R]) -> Result<Tree, AllocError>
     ensures kept { IfOk result (λ tree. IsIndexOf (map R.range regions.now) (walk (entries_of tree))) }
     ensures tree { IfOk result (λ tree. IsSearchTree (entries_of tree)) }
 {
     let mut tree = vec![in alloc; Small::NONE; regions.len()]?;
     match put_regions(&mut tree, regions) {
         Put::All => Ok(Tree::Small(tree)),
-        Put::TooWide => wide_tree(alloc, regions),
-        Put::OutOfOrder => sorted_tree(alloc, regions),
+        Put::TooWide => {
+            drop(tree);
+            wide_tree(alloc, regions)
+        }
+        Put::OutOfOrder => {
+            drop(tree);
+            sorted_tree(alloc, regions)
+        }
     }
 }
 
@@ -205,7 +211,10 @@ fn wide_tree<R: Region>(alloc: Global, regions: &[R]) -> Result<Tree, AllocError
     let mut tree = vec![in alloc; Wide::NONE; regions.len()]?;
     match put_regions(&mut tree, regions) {
         Put::All => Ok(Tree::Wide(tree)),
-        Put::TooWide | Put::OutOfOrder => sorted_tree(alloc, regions),
+        Put::TooWide | Put::OutOfOrder => {
+            drop(tree);
+            sorted_tree(alloc, regions)
+        }
     }
 }
 
@@ -252,8 +261,9 @@ fn below(
 
 // Returns the index in the list of the range that contains the address, or `None` if no range does.
 //
-// The entries two levels below are read while the lookup is still at a place, so that they are there when it
-// gets to them. What is read of them is below 2^31. The compiler doesn't know that, so it keeps the reads.
+// While the lookup is at a place, the first and the last of the four entries two levels below are read, so that
+// they are there when it gets to them; near the bottom it reads one. What is read is below 2^31. The compiler
+// doesn't know that, so it keeps the reads.
 #[inline(always)]
 fn find<S: Stored>(tree: &[S], address: u64, steps: &mut Steps) -> Option<usize>
     requires few { length tree.now < 2 ^ 63 }
@@ -302,7 +312,7 @@ impl AddressIndex {
     }
 
     /// Builds the index of a list of ranges, some of which may be absent. The only error is
-    /// [`Error::OutOfMemory`], and only if there is a range.
+    /// [`Error::OutOfMemory`], and only if the list isn't empty.
     pub fn build(alloc: Global, ranges: &[Option<Range>]) -> Result<AddressIndex, Error>
         ensures kept { IfOk result (λ index. IsIndexOf ranges.now index) }
         ensures memory { IfErr result (λ e. e ≡ Error.OutOfMemory) }
@@ -322,7 +332,7 @@ impl AddressIndex {
         if regions.is_empty() {
             return Ok(AddressIndex::empty(alloc));
         }
-        let tree = small_tree(alloc, regions)?;
+        let tree = tree_of(alloc, regions)?;
         Ok(AddressIndex { tree })
     }
 

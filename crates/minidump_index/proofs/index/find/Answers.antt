@@ -25,7 +25,10 @@ loop-first-preserved g c =
     let r = c.below in
     let sides = one_below e c.args.address c.loop-first.place c.loop-first.found r.result r.ensures.left r.ensures.right in
     record {
-      descent = below_in g.S.Stored.value c.args.tree.now c.args.address c.loop-first.place c.loop-first.found _ _ _ c.index-tree-place-in-loop-first-2.result e r.result (omega (arith, c.loop-first.invariant.high)) c.index-tree-place-in-loop-first-2.is c.entry.ensures (omega (arith, r.ensures.step)) r.ensures.left r.ensures.right c.loop-first.invariant.descent;
+      descent = below_in g.S.Stored.value c.args.tree.now c.args.address c.loop-first.place c.loop-first.found _ _ _
+          c.index-tree-place-in-loop-first-2.result e r.result (omega (arith, c.loop-first.invariant.high))
+          c.index-tree-place-in-loop-first-2.is c.entry.ensures (omega (arith, r.ensures.step)) r.ensures.left r.ensures.right
+          c.loop-first.invariant.descent;
       low = omega (arith, sides.0, c.loop-first.invariant.low);
       high = omega (arith, sides.1, c.loop-first.invariant.high);
       grows = omega (arith, c.loop-first.invariant.grows, r.ensures.step);
@@ -42,7 +45,10 @@ loop-first-2-preserved g c =
     let r = c.below-in-loop-first-2 in
     let sides = one_below e c.args.address c.loop-first-2.place c.loop-first-2.found r.result r.ensures.left r.ensures.right in
     record {
-      descent = below_in g.S.Stored.value c.args.tree.now c.args.address c.loop-first-2.place c.loop-first-2.found _ _ _ c.index-tree-place-in-loop-first-2-2.result e r.result (omega (arith, c.loop-first-2.invariant.high)) c.index-tree-place-in-loop-first-2-2.is c.entry-in-loop-first-2.ensures (omega (arith, r.ensures.step)) r.ensures.left r.ensures.right c.loop-first-2.invariant.descent;
+      descent = below_in g.S.Stored.value c.args.tree.now c.args.address c.loop-first-2.place c.loop-first-2.found _ _ _
+          c.index-tree-place-in-loop-first-2-2.result e r.result (omega (arith, c.loop-first-2.invariant.high))
+          c.index-tree-place-in-loop-first-2-2.is c.entry-in-loop-first-2.ensures (omega (arith, r.ensures.step)) r.ensures.left r.ensures.right
+          c.loop-first-2.invariant.descent;
       low = omega (arith, sides.0, c.loop-first-2.invariant.low);
       high = omega (arith, sides.1, c.loop-first-2.invariant.high);
       grows = omega (arith, c.loop-first-2.invariant.grows, r.ensures.step);
@@ -62,11 +68,17 @@ returns-in_err-get-clause-found g c =
     elim c.if-place-len.branch [
       | then-place-len w ↦ (
           let r = w.below-then-place-len in
-          let d = last_in value tree c.args.address c.loop-first-2.place c.loop-first-2.found _ r.new.steps limit w.index-tree-place-then-place-len.result w.entry-then-place-len.result r.result (omega arith) (omega (arith, c.loop-first-2.invariant.low)) w.index-tree-place-then-place-len.is w.entry-then-place-len.ensures (omega (arith, r.ensures.step)) r.ensures.left r.ensures.right c.loop-first-2.invariant.descent in
-          rw c.from_residual-in_err-get.ensures (none_in value tree c.args.address r.result.0 c.if-place-len.found r.new.steps limit d.0 gone (rw w.found-is d.1)))
+          let d = last_in value tree c.args.address c.loop-first-2.place c.loop-first-2.found _ r.new.steps limit
+          w.index-tree-place-then-place-len.result w.entry-then-place-len.result r.result (omega arith) (omega (arith, c.loop-first-2.invariant.low))
+          w.index-tree-place-then-place-len.is w.entry-then-place-len.ensures (omega (arith, r.ensures.step))
+          r.ensures.left r.ensures.right c.loop-first-2.invariant.descent in
+          rw c.from_residual-in_err-get.ensures
+          (none_in value tree c.args.address r.result.0 c.if-place-len.found r.new.steps limit d.0 gone (rw w.found-is d.1)))
       | else-place-len w ↦ (
           let past : length tree ≤ c.loop-first-2.place = omega arith in
-          rw c.from_residual-in_err-get.ensures (none_in value tree c.args.address c.loop-first-2.place c.if-place-len.found c.loop-first-2.steps limit past gone (rw w.found-is c.loop-first-2.invariant.descent)))
+          rw c.from_residual-in_err-get.ensures
+          (none_in value tree c.args.address c.loop-first-2.place c.if-place-len.found c.loop-first-2.steps limit past gone
+          (rw w.found-is c.loop-first-2.invariant.descent)))
     ]
 
 pub returns-then-address-entry-clause-found : goal.returns-then-address-entry-clause-found
@@ -80,10 +92,17 @@ returns-then-address-entry-clause-found g c =
     elim c.if-place-len.branch [
       | then-place-len w ↦ (
           let r = w.below-then-place-len in
-          let d = last_in value tree c.args.address c.loop-first-2.place c.loop-first-2.found _ r.new.steps limit w.index-tree-place-then-place-len.result w.entry-then-place-len.result r.result (omega arith) (omega (arith, c.loop-first-2.invariant.low)) w.index-tree-place-then-place-len.is w.entry-then-place-len.ensures (omega (arith, r.ensures.step)) r.ensures.left r.ensures.right c.loop-first-2.invariant.descent in
-          found_in value tree c.args.address r.result.0 c.if-place-len.found r.new.steps limit s e there.3.0 there.1 c.entry-entry.ensures c.if-address-entry.true (rw w.found-is d.1))
+          let d = last_in value tree c.args.address c.loop-first-2.place c.loop-first-2.found _ r.new.steps limit
+          w.index-tree-place-then-place-len.result w.entry-then-place-len.result r.result (omega arith) (omega (arith, c.loop-first-2.invariant.low))
+          w.index-tree-place-then-place-len.is w.entry-then-place-len.ensures (omega (arith, r.ensures.step))
+          r.ensures.left r.ensures.right c.loop-first-2.invariant.descent in
+          found_in value tree c.args.address r.result.0 c.if-place-len.found r.new.steps limit s e
+          there.3.0 there.1 c.entry-entry.ensures c.if-address-entry.true
+          (rw w.found-is d.1))
       | else-place-len w ↦
-          found_in value tree c.args.address c.loop-first-2.place c.if-place-len.found c.loop-first-2.steps limit s e there.3.0 there.1 c.entry-entry.ensures c.if-address-entry.true (rw w.found-is c.loop-first-2.invariant.descent)
+          found_in value tree c.args.address c.loop-first-2.place c.if-place-len.found c.loop-first-2.steps limit s e
+          there.3.0 there.1 c.entry-entry.ensures c.if-address-entry.true
+          (rw w.found-is c.loop-first-2.invariant.descent)
     ]
 
 pub returns-else-ahead-clause-found : goal.returns-else-ahead-clause-found
@@ -101,9 +120,15 @@ returns-else-ahead-clause-found g c =
     elim c.if-place-len.branch [
       | then-place-len w ↦ (
           let r = w.below-then-place-len in
-          let d = last_in value tree c.args.address c.loop-first-2.place c.loop-first-2.found _ r.new.steps limit w.index-tree-place-then-place-len.result w.entry-then-place-len.result r.result (omega arith) (omega (arith, c.loop-first-2.invariant.low)) w.index-tree-place-then-place-len.is w.entry-then-place-len.ensures (omega (arith, r.ensures.step)) r.ensures.left r.ensures.right c.loop-first-2.invariant.descent in
-          above_in value tree c.args.address r.result.0 c.if-place-len.found r.new.steps limit s e d.0 there.3.0 there.1 c.entry-entry.ensures above (rw w.found-is d.1))
+          let d = last_in value tree c.args.address c.loop-first-2.place c.loop-first-2.found _ r.new.steps limit
+          w.index-tree-place-then-place-len.result w.entry-then-place-len.result r.result (omega arith) (omega (arith, c.loop-first-2.invariant.low))
+          w.index-tree-place-then-place-len.is w.entry-then-place-len.ensures (omega (arith, r.ensures.step))
+          r.ensures.left r.ensures.right c.loop-first-2.invariant.descent in
+          above_in value tree c.args.address r.result.0 c.if-place-len.found r.new.steps limit s e d.0 there.3.0 there.1 c.entry-entry.ensures above
+          (rw w.found-is d.1))
       | else-place-len w ↦ (
           let past : length tree ≤ c.loop-first-2.place = omega arith in
-          above_in value tree c.args.address c.loop-first-2.place c.if-place-len.found c.loop-first-2.steps limit s e past there.3.0 there.1 c.entry-entry.ensures above (rw w.found-is c.loop-first-2.invariant.descent))
+          above_in value tree c.args.address c.loop-first-2.place c.if-place-len.found c.loop-first-2.steps limit s e past
+          there.3.0 there.1 c.entry-entry.ensures above
+          (rw w.found-is c.loop-first-2.invariant.descent))
     ]

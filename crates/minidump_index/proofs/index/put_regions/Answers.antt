@@ -11,7 +11,8 @@ use Rattle.minidump_index.proofs.index.put_regions.Goals.{then-place-len+in-Some
 use Rattle.minidump_index.proofs.index.put_regions.Goals.{else-rank-gt0-via-else-rank-gt0, else-place-len}
 
 pub loop-k-init : goal.loop-k-init
-loop-k-init g c = put_none _ _ _ _ (omega (arith, c.requires, length-map c.args.regions.now g.R.Region.range, length-map c.args.tree.now.items g.S.Stored.value))
+loop-k-init g c = put_none _ _ _ _
+    (omega (arith, c.requires, length-map c.args.regions.now g.R.Region.range, length-map c.args.tree.now.items g.S.Stored.value))
 
 pub place_at-place-requires-clause-bound : goal.place_at-place-requires-clause-bound
 place_at-place-requires-clause-bound g c =
