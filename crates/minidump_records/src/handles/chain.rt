@@ -1,4 +1,4 @@
-ghost use Rattle.std.specs.Prelude.{◌≡◌, ◌+◌, ◌<◌, ◌≤◌, ℕ, true, not, cond, length, IfOk};
+ghost use Rattle.std.specs.Prelude.{◌≡◌, ◌+◌, ◌<◌, ◌≤◌, ◌++◌, ◌∷◌, [], ℕ, true, not, cond, length, IfOk, OnOk};
 ghost use Rattle.std.specs.BTreeMap.{is_at};
 ghost use Rattle.std.specs.BTreeSet.{contains};
 ghost use Rattle.std.specs.Ordering.{nat_cmp};
@@ -35,10 +35,23 @@ pub(super) fn read_chain(
         if !is_new(&mut met, place, next)? {
             break;
         }
-        infos.push(info)?;
+        push_piece(&mut infos, info)?;
         place = next;
     }
     Ok(infos)
+}
+
+// Appends a piece of information. Most objects have one: so the first piece takes room for itself alone.
+fn push_piece(
+    infos: &mut Vec<MinidumpHandleObjectInformation>,
+    info: MinidumpHandleObjectInformation,
+) -> Result<(), AllocError>
+    ensures items { OnOk result (infos.new.items ≡ infos.old.items ++ info ∷ []) }
+{
+    if infos.is_empty() {
+        infos.reserve_exact(1)?;
+    }
+    Ok(infos.push(info)?)
 }
 
 // Inserts the offset of a piece into the set of those that came before. Returns `true` if the set did not have

@@ -22,8 +22,8 @@ pub returns-in_err-is_new-clause-within : goal.returns-in_err-is_new-clause-with
 returns-in_err-is_new-clause-within c =
     let short = chaining_short _ _ _ _ _ _ c.loop-info.invariant.chaining in omega (arith, short, c.information_at.ensures.within, c.loop-info.invariant.within)
 
-pub returns-in_err-push-clause-within : goal.returns-in_err-push-clause-within
-returns-in_err-push-clause-within c =
+pub returns-in_err-push_piece-clause-within : goal.returns-in_err-push_piece-clause-within
+returns-in_err-push_piece-clause-within c =
     let short = chaining_short _ _ _ _ _ _ c.loop-info.invariant.chaining in omega (arith, short, c.information_at.ensures.within, c.loop-info.invariant.within)
 
 pub loop-info-smaller : goal.loop-info-smaller
@@ -32,7 +32,7 @@ loop-info-smaller c =
     let absent : contains nat_cmp c.loop-info.met c.loop-info.place ≡ false = was_absent _ _ c.in_ok-is_new.ensures.new c.if-not-branch.false in
     let more = chaining_more _ _ _ _ _ _ _ _ is absent c.in_ok-is_new.ensures.keeps c.loop-info.invariant.chaining in
     let short = chaining_short _ _ _ _ _ _ more in
-    rw c.in_ok-push.ensures.items (omega (arith, short, length-append c.loop-info.infos.items (c.in-Some.info ∷ [])))
+    rw c.in_ok-push_piece.ensures.items (omega (arith, short, length-append c.loop-info.infos.items (c.in-Some.info ∷ [])))
 
 pub loop-info-preserved : goal.loop-info-preserved
 loop-info-preserved c =
@@ -40,11 +40,11 @@ loop-info-preserved c =
     let absent : contains nat_cmp c.loop-info.met c.loop-info.place ≡ false = was_absent _ _ c.in_ok-is_new.ensures.new c.if-not-branch.false in
     let longer = length-append c.loop-info.infos.items (c.in-Some.info ∷ []) in
     record {
-      chaining = rw c.in_ok-push.ensures.items (chaining_more _ _ _ _ _ _ _ _ is absent c.in_ok-is_new.ensures.keeps c.loop-info.invariant.chaining);
-      within = rw c.in_ok-push.ensures.items (omega (arith, c.information_at.ensures.within, c.loop-info.invariant.within, longer));
+      chaining = rw c.in_ok-push_piece.ensures.items (chaining_more _ _ _ _ _ _ _ _ is absent c.in_ok-is_new.ensures.keeps c.loop-info.invariant.chaining);
+      within = rw c.in_ok-push_piece.ensures.items (omega (arith, c.information_at.ensures.within, c.loop-info.invariant.within, longer));
       grows = omega (arith, c.information_at.ensures.grows, c.loop-info.invariant.grows);
-      last = rw c.in_ok-push.ensures.items (sym (last_link-push c.args.link c.loop-info.infos.items c.in-Some.info));
-      least = rw c.in_ok-push.ensures.items (omega (arith, c.in-Some.ensures.begun, c.loop-info.invariant.least, longer));
+      last = rw c.in_ok-push_piece.ensures.items (sym (last_link-push c.args.link c.loop-info.infos.items c.in-Some.info));
+      least = rw c.in_ok-push_piece.ensures.items (omega (arith, c.in-Some.ensures.begun, c.loop-info.invariant.least, longer));
     }
 
 pub returns-clause-infos : goal.returns-clause-infos
