@@ -1,5 +1,6 @@
 -- The deciding entries of a directory: the last of each type, sorted by type.
-use Rattle.std.proofs.Common.{◌≡◌, ◌≢◌, ℕ, zero, suc, ◌+◌, ◌^◌, ◌<◌, ◌≤◌, cond, true, false, List, [], ◌∷◌, ◌++◌, length, map, drop, get_or, take, set, Some, None, refl, sym, ap, ◌∙◌, inl, inr, subst, arith, All}
+use Rattle.std.proofs.Common.{◌≡◌, ◌≢◌, ℕ, zero, suc, ◌+◌, ◌^◌, ◌<◌, ◌≤◌, cond, true, false, List, [], ◌∷◌, ◌++◌, length, map, drop, get_or, take, set}
+use Rattle.std.proofs.Common.{Some, None, refl, sym, ap, ◌∙◌, inl, inr, subst, arith, All}
 use Rattle.std.specs.Prelude.{◌==◌, Bool, Option, Result, Ok, Err, find, filter, reverse, MatchResult}
 use Rattle.std.specs.List.{AllByRecursion, enumerate_from}
 use Rattle.std.specs.List.Sorted.{IsBinarySearchResult, IsNonDecreasingBy, IsSearchInRange, IsStableByKey, IsStrictlySortedBy, ties}
@@ -20,7 +21,7 @@ use Rattle.minidump_bytes.proofs.ListLemmas.{enumerate_from-append}
 use Rattle.minidump_bytes.proofs.KeyLemmas.{lookup_number, values_by_key}
 use Rattle.minidump.specs.declared.directory.DecidingEntry.{DecidingEntry}
 use Rattle.minidump.specs.Directory.{indexed, deciding, deciding_below}
-use Rattle.minidump.specs.Deciding.{AreLast, Decides, ends_a_type, is_of_type, of_type, type_of}
+use Rattle.minidump.specs.Deciding.{AreLast, Decides, ends_a_type, is_of_type, type_of}
 
 -- ---- the entries by index
 
@@ -48,6 +49,10 @@ deciding-among_some stream_type [] d found = cc
 deciding-among_some stream_type (e ∷ es) d found = omega arith
 
 -- ---- what is found of a type
+
+-- the entries of a type, in their order
+abbrev of_type : ℕ → List DecidingEntry → List DecidingEntry
+of_type t ds = filter (is_of_type t) ds
 
 reverse-more : (d : DecidingEntry) (ds : List DecidingEntry) → reverse (d ∷ ds) ≡ reverse ds ++ d ∷ []
 reverse-more d ds = reverse-append (d ∷ []) ds
@@ -81,7 +86,8 @@ first_is_hidden t d e ds same =
     find_last t d (e ∷ ds)
     ∙ rw (find_last t e ds, eq-eqb (type_of e) t same) (or_or (find (is_of_type t) (reverse ds)) (cond (type_of d == t) (Some d) None) e)
 
-other_is_passed : (t : ℕ) (d : DecidingEntry) (ds : List DecidingEntry) → type_of d ≢ t → find (is_of_type t) (reverse (d ∷ ds)) ≡ find (is_of_type t) (reverse ds)
+other_is_passed : (t : ℕ) (d : DecidingEntry) (ds : List DecidingEntry) → type_of d ≢ t
+    → find (is_of_type t) (reverse (d ∷ ds)) ≡ find (is_of_type t) (reverse ds)
 other_is_passed t d ds other = find_last t d ds ∙ rw (ne_eqb (type_of d) t other) (or_none (find (is_of_type t) (reverse ds)))
 
 -- ---- the last of each type
@@ -107,7 +113,8 @@ last_at t (d ∷ e ∷ ds) up =
       | inr apart ↦ rw (ne_eqb (type_of e) (type_of d) apart) (elim (cases_eq (type_of d) t) [
         | inl here ↦ rw (eq-eqb (type_of d) t here) (sym (find_last t d (e ∷ ds) ∙ rw (
           eq-eqb (type_of d) t here,
-          none_reversed t (e ∷ ds) (λ k o h same. let first = up 0 1 o (omega arith) (omega arith) in let far = up 1 (suc k) o (omega arith) (omega arith) in omega arith),
+          none_reversed t (e ∷ ds) (λ k o h same.
+              let first = up 0 1 o (omega arith) (omega arith) in let far = up 1 (suc k) o (omega arith) (omega arith) in omega arith),
         ) refl))
         | inr other ↦ rw (ne_eqb (type_of d) t other) (rest ∙ sym (other_is_passed t d (e ∷ ds) other))
       ])
@@ -133,8 +140,11 @@ last_ascend (d ∷ e ∷ ds) up =
     let rest = last_ascend (e ∷ ds) (tail_sorted d (e ∷ ds) up) in
     elim (cases_eq (type_of e) (type_of d)) [
       | inl same ↦ rw (eq-eqb (type_of e) (type_of d) same) rest
-      | inr apart ↦ rw (ne_eqb (type_of e) (type_of d) apart)
-          (above (type_of d) (e ∷ ds) (λ k o h. let first = up 0 1 o (omega arith) (omega arith) in let far = up 1 (suc k) o (omega arith) (omega arith) in omega arith), rest)
+      | inr apart ↦ rw (ne_eqb (type_of e) (type_of d) apart) (
+        above (type_of d) (e ∷ ds) (λ k o h.
+            let first = up 0 1 o (omega arith) (omega arith) in let far = up 1 (suc k) o (omega arith) (omega arith) in omega arith),
+        rest,
+      )
     ]
 
 pub are_last : (ds : List DecidingEntry) → IsNonDecreasingBy type_of ds → AreLast ds (last_of_types ds)
@@ -154,7 +164,8 @@ pub decides : (es : List MINIDUMP_DIRECTORY) (all sorted ds : List DecidingEntry
     → ((t : ℕ) → of_type t sorted ≡ of_type t all) → AreLast sorted ds → Decides ds es
 decides es all sorted ds is small stable last = record {
   ascending = last.ascending;
-  at = λ t. last.at t ∙ last_of_type t sorted ∙ ap (λ l. find (is_of_type t) (reverse l)) (stable t) ∙ sym (last_of_type t all) ∙ ap (λ l. find (is_of_type t) (reverse l)) is;
+  at = λ t. last.at t ∙ last_of_type t sorted ∙ ap (λ l. find (is_of_type t) (reverse l)) (stable t)
+      ∙ sym (last_of_type t all) ∙ ap (λ l. find (is_of_type t) (reverse l)) is;
   small = λ t large. ap (λ l. find (is_of_type t) (reverse l)) (sym is) ∙ none_reversed t all (λ k o within same. let low = small k o within in omega arith);
 }
 
@@ -192,14 +203,16 @@ ascends [] up j k o lt within = absurd (omega arith)
 ascends (d ∷ ds) up zero zero o lt within = absurd (omega arith)
 ascends (d ∷ ds) up zero (suc k) o lt within = go ds k up.0 (omega arith)
   where
-    go : (ds : List DecidingEntry) (k : ℕ) → AllByRecursion (λ y. nat_cmp (type_of d) y ≡ Less) (map type_of ds) → k < length ds → type_of d < type_of (get_or ds k o)
+    go : (ds : List DecidingEntry) (k : ℕ) → AllByRecursion (λ y. nat_cmp (type_of d) y ≡ Less) (map type_of ds) → k < length ds
+        → type_of d < type_of (get_or ds k o)
     go [] k above within = absurd (omega arith)
     go (e ∷ ds) zero above within = ranked (type_of d) (type_of e) Less (sym above.0)
     go (e ∷ ds) (suc k) above within = go ds k above.1 (omega arith)
 ascends (d ∷ ds) up (suc j) zero o lt within = absurd (omega arith)
 ascends (d ∷ ds) up (suc j) (suc k) o lt within = ascends ds up.1 j k o (omega arith) (omega arith)
 
-find_some : (t : ℕ) (ds : List DecidingEntry) (k : ℕ) (o : DecidingEntry) → ((j : ℕ) → j < k → type_of (get_or ds j o) ≢ t) → k < length ds → type_of (get_or ds k o) ≡ t
+find_some : (t : ℕ) (ds : List DecidingEntry) (k : ℕ) (o : DecidingEntry) → ((j : ℕ) → j < k → type_of (get_or ds j o) ≢ t) → k < length ds
+    → type_of (get_or ds k o) ≡ t
     → find (is_of_type t) ds ≡ Some (get_or ds k o)
 find_some t [] k o before within here = absurd (omega arith)
 find_some t (d ∷ ds) zero o before within here = rw (eq-eqb (type_of d) t here) refl
@@ -255,7 +268,8 @@ module _ (old now : List DecidingEntry) (i kept : ℕ) (within : i < length now)
   rest_more = sym (drop-drop 1 i now) ∙ ap (drop 1) rest ∙ drop-drop 1 i old
 
   pub keep_more : (d : DecidingEntry) → d ≡ get_or now i d → kept ≤ i → true ≡ ends_a_type (drop i now)
-      → take kept now ++ last_of_types (drop i old) ≡ last_of_types old → take (kept + 1) (set now kept d) ++ last_of_types (drop (i + 1) old) ≡ last_of_types old
+      → take kept now ++ last_of_types (drop i old) ≡ last_of_types old
+      → take (kept + 1) (set now kept d) ++ last_of_types (drop (i + 1) old) ≡ last_of_types old
   keep_more d at le ends before =
       let now_is : drop i now ≡ d ∷ drop (i + 1) now = drop_more now i d within ∙ ap (λ e. e ∷ drop (i + 1) now) (sym at) in
       let here : last_of_types (drop i old) ≡ d ∷ last_of_types (drop (i + 1) now) =
@@ -274,4 +288,6 @@ module _ (old now : List DecidingEntry) (i kept : ℕ) (within : i < length now)
 pub all_kept : (old now : List DecidingEntry) (i kept : ℕ) → IsNonDecreasingBy type_of old → length old ≤ i
     → take kept now ++ last_of_types (drop i old) ≡ last_of_types old → AreLast old (take kept now)
 all_kept old now i kept up past all =
-    subst (AreLast old) (sym (sym (append-nil (take kept now)) ∙ ap (λ l. take kept now ++ last_of_types l) (sym (drop_all i old past)) ∙ all)) (are_last old up)
+    let kept_are : take kept now ≡ last_of_types old =
+    sym (append-nil (take kept now)) ∙ ap (λ l. take kept now ++ last_of_types l) (sym (drop_all i old past)) ∙ all in
+    subst (AreLast old) (sym kept_are) (are_last old up)

@@ -1,5 +1,5 @@
--- The entries of a type, the deciding entries as they are kept, and what reading a directory returns.
-use Rattle.std.specs.Prelude.{◌≡◌, ℕ, ◌^◌, ◌<◌, ◌≤◌, List, [], ◌∷◌, Bool, map, find, filter, reverse, ◌==◌, not, None, Result, Ok, Err, true, false}
+-- The deciding entries as they are kept, and what reading a directory returns.
+use Rattle.std.specs.Prelude.{◌≡◌, ℕ, ◌^◌, ◌<◌, ◌≤◌, List, [], ◌∷◌, Bool, map, find, reverse, ◌==◌, not, None, Result, Ok, Err, true, false}
 use Rattle.std.specs.List.Sorted.{IsStrictlySortedBy}
 use Rattle.std.specs.Ordering.{nat_cmp}
 use Rattle.minidump_format.specs.declared.error.Error.{Error}
@@ -16,10 +16,6 @@ type_of d = d.entry.stream_type
 -- the entry has a type
 abbrev pub is_of_type : ℕ → DecidingEntry → Bool
 is_of_type t d = type_of d == t
-
--- the entries of a type, in their order
-abbrev pub of_type : ℕ → List DecidingEntry → List DecidingEntry
-of_type t ds = filter (is_of_type t) ds
 
 -- the first entry is followed by none, or by one of another type
 abbrev pub ends_a_type : List DecidingEntry → Bool

@@ -12,7 +12,7 @@ use minidump_format::Error;
 use minidump_format::format::{MINIDUMP_DIRECTORY, MINIDUMP_HEADER};
 use std::alloc::Global;
 
-/// The entry that decides a type of stream: the last of that type.
+/// An entry with its index in the directory. Of the entries of a type the last decides.
 #[derive(Clone, Copy)]
 pub(crate) struct DecidingEntry {
     /// The index of the entry in the directory.
@@ -78,7 +78,7 @@ fn read_entries(
     Ok(entries)
 }
 
-// Tells whether no entry of the same type is next to an entry.
+// Tells whether the next entry has another type, or there is none.
 fn is_last_of_type(entries: &[DecidingEntry], index: usize) -> bool
     requires { index < length entries.now }
     ensures { result ≡ ends_a_type (drop index entries.now) }

@@ -21,7 +21,8 @@ loop-i-preserved c =
         rest = drop-set-lt _ now c.loop-i.kept w.index.result.now (omega (arith, before.before))
             ∙ rest_more old now c.loop-i.i c.loop-i.kept (omega (arith, before.same)) before.rest;
         last = keep_more old now c.loop-i.i c.loop-i.kept (omega (arith, before.same)) before.rest
-            w.index.result.now w.index.ensures before.before (w.if-is_last_of_type.ensures ∙ ap (λ l. ends_a_type (drop c.loop-i.i l)) c.as_slice.ensures.value) before.last;
+            w.index.result.now w.index.ensures before.before
+            (w.if-is_last_of_type.ensures ∙ ap (λ l. ends_a_type (drop c.loop-i.i l)) c.as_slice.ensures.value) before.last;
       })
       | else-is_last_of_type w ↦ rw (w.kept-is, w.entries-is) (record {
         before = omega (arith, before.before);
