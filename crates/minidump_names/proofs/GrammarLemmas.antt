@@ -1,5 +1,6 @@
 -- A line is read as its grammar says.
-use Rattle.std.proofs.Common.{◌≡◌, ◌≢◌, ◌⊎◌, ℕ, ◌<◌, Bool, true, false, List, [], ◌∷◌, ◌++◌, length, codes, Option, Some, None, refl, sym, ap, subst, ◌∙◌, inl, inr, arith}
+use Rattle.std.proofs.Common.{◌≡◌, ◌≢◌, ◌⊎◌, ℕ, ◌<◌, Bool, true, false, List, [], ◌∷◌, ◌++◌, length, codes, Option, Some, None}
+use Rattle.std.proofs.Common.{refl, sym, ap, subst, ◌∙◌, inl, inr, arith}
 use Rattle.std.specs.Prelude.{◌==◌, ◌↔◌, ◌&&◌, not, nat_lt, if◌then◌else◌}
 use Rattle.std.specs.List.{list_any}
 use Rattle.std.specs.Option.{option_map, option_or}
@@ -26,7 +27,8 @@ use Rattle.minidump_reason.specs.declared.family.CodeFamily.TheVariants.{MacGuar
 use Rattle.minidump_reason.specs.declared.family.CodeFamily.TheVariants.{MacGuardRejectedSysCall, Linux, LinuxSicode, LinuxSigill, LinuxSigtrap}
 use Rattle.minidump_reason.specs.declared.family.CodeFamily.TheVariants.{LinuxSigbus, LinuxSigfpe, LinuxSigsegv, LinuxSigsys, Windows, WinError}
 use Rattle.minidump_reason.specs.declared.family.CodeFamily.TheVariants.{WinErrorFacility, NtStatus, FastFail, WindowsAccess, WindowsInPageError}
-use Rattle.minidump_names.specs.NameLine.{IsCode, IsLine, IsListing, IsName, Listing, code_in, families, family_in, family_name, is_outside, line_in, listing_in, name_in}
+use Rattle.minidump_names.specs.NameLine.{IsCode, IsLine, IsListing, IsName, Listing}
+use Rattle.minidump_names.specs.NameLine.{code_in, families, family_in, family_name, is_outside, line_in, listing_in, name_in}
 use Rattle.minidump_names.specs.NameLine.{named_in}
 
 -- ---- families

@@ -13,7 +13,8 @@ pub returns-clause-written : goal.returns-clause-written
 returns-clause-written g c =
     let found = option_map info_region c.info_at-found.result in
     let same : option_map info_list c.in_ok-infos.infos ≡ info_of_dump (dump_of c.args.dump.now) = c.in_ok-infos.ensures.list in
-    written g.O.Write.contents c.args.out.now c.put_formatted.new.f (IsInfoLine (dump_of c.args.dump.now) c.args.address) (info_line found) c.put_formatted.result (
+    written g.O.Write.contents c.args.out.now c.put_formatted.new.f (IsInfoLine (dump_of c.args.dump.now) c.args.address) (info_line found)
+    c.put_formatted.result (
       found,
       subst (λ (m : Option InfoRegions). IsAt info_region_range (option_map info_regions m) c.args.address found)
           (ap (option_map info_list) c.as_ref.ensures.value ∙ same) c.info_at-found.ensures,

@@ -11,4 +11,5 @@ returns-then-eq c =
     (λ k d behind within. c.loop-i.invariant k d (omega (arith, behind)) within)
 
 pub returns : goal.returns
-returns c k d within = above_all c.args.listed.now c.args.family c.args.number (λ k d within. c.loop-i.invariant k d (omega (arith, c.loop-i-test.false)) within) k d within
+returns c k d within =
+    above_all c.args.listed.now c.args.family c.args.number (λ k d within. c.loop-i.invariant k d (omega (arith, c.loop-i-test.false)) within) k d within

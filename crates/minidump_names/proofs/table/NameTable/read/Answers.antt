@@ -15,7 +15,8 @@ loop-family-preserved c =
     let listings = map listing_of c.in_ok-listed.listed.items in
     let entries = rw c.deref.ensures.value at c.in_ok-entries_of_family.ensures.entries in
     record {
-      lists = lists_more (λ v. v.items) (λ f. entries_of_family listings f) families c.loop-family.family-index c.loop-family.lists.items _ _ c.in_ok-push.ensures.items
+      lists = lists_more (λ v. v.items) (λ f. entries_of_family listings f) families c.loop-family.family-index c.loop-family.lists.items _ _
+          c.in_ok-push.ensures.items
           (omega arith) (λ d. get_or_default families c.loop-family.family-index d _ (omega arith)) c.loop-family.invariant.lists entries;
       ascending = rw c.in_ok-push.ensures.items (All-push (λ p. IsAscending p.1.items) c.loop-family.lists.items _ c.loop-family.invariant.ascending
           c.in_ok-entries_of_family.ensures.ascending);
