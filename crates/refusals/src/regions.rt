@@ -93,13 +93,13 @@ pub fn map_line(world: &World<'_>, out: &mut Told<Device>) -> Result<(), Error> 
     }
 }
 
-/// Makes an index.
+/// Makes an index of entries of 24 bytes, of ranges that don't ascend.
 pub fn index(world: &World<'_>, out: &mut Told<Device>) -> Result<(), Error> {
     let ranges = [
         Some(Range::new(1, 2)),
+        Some(Range::new(4, 1 << 33)),
         None,
         Some(Range::new(2, 3)),
-        Some(Range::new(4, 4)),
     ];
     let index = AddressIndex::build(world.alloc, &ranges)?;
     for place in index.by_addr() {
