@@ -84,7 +84,7 @@ pub use thread_list::MinidumpThreadList;
 
 // What the crates below have.
 pub use minidump_bytes::{
-    Endian, FixedRead, Record, Refused, Source, Steps, Told, WireField, WireValue, probe,
+    Endian, FixedRead, Readable, Record, Refused, Source, Steps, Told, WireField, WireValue, probe,
     write_bytes,
 };
 pub use minidump_context::{

@@ -6,8 +6,8 @@
 //! - [`Record`] is a type that takes a fixed number of bytes, [`Entries`] yields consecutive ones,
 //!   [`Endian`] is the byte order, [`WireField`] a field of a Protocol Buffers message.
 //! - [`LinuxOsStr`] and [`LinuxOsString`] are bytes that Linux wrote as text.
-//! - [`Told`] wraps a reader or a writer. [`Piece`], [`made`] and [`push_pieces`] make text in a [`TextBuffer`]:
-//!   a `String`, or bytes.
+//! - [`Told`] wraps a reader or a writer, [`Readable`] is a reader that can seek. [`Piece`], [`made`] and
+//!   [`push_pieces`] make text in a [`TextBuffer`]: a `String`, or bytes.
 //! - [`number_64`] and [`number_32`] read digits, [`last_digit`] returns one. [`probe`] compares an address
 //!   with a range. [`Exact`] is a type with an honest `==` and `clone`.
 //!
@@ -52,6 +52,7 @@ mod line;
 mod linux_os_iter;
 mod linux_os_str;
 mod piece;
+mod readable;
 mod record;
 mod source;
 mod steps;
@@ -74,6 +75,7 @@ pub use hexadecimal::last_digit;
 pub use linux_os_iter::{Lines, Split, SplitAsciiWhitespace};
 pub use linux_os_str::{LinuxOsStr, LinuxOsString};
 pub use piece::{Piece, made, push_pieces};
+pub use readable::Readable;
 pub use record::{FixedRead, Record};
 pub use source::Source;
 pub use steps::Steps;
