@@ -1,4 +1,4 @@
-ghost use Rattle.std.specs.Prelude.{◌≡◌, ◌≢◌, ◌↔◌, ◌⊎◌, true, false, [], IfErr, OnOk, OnErr};
+ghost use Rattle.std.specs.Prelude.{◌≡◌, ◌≢◌, ◌↔◌, ◌⊎◌, true, false, [], IfErr, IsTrue, OnOk, OnErr};
 ghost use Rattle.minidump_bytes.specs.Told.{device_of, has_failed};
 ghost use Rattle.minidump.specs.File.{IsWhole, ReadsFile};
 
@@ -18,6 +18,7 @@ pub fn read_all<R: Read>(reader: &mut Told<R>, into: &mut Vec<u8>) -> Result<(),
     ensures failed { IfErr result (λ e. (e ≡ Error.IoError) ↔ (has_failed reader.new ≡ true)) }
     ensures refused { IfErr result (λ e. e ≢ Error.IoError → e ≡ Error.OutOfMemory) }
     ensures empty { OnErr result (into.new.items ≡ []) }
+    ensures dead { IsTrue (has_failed reader.old) → reader.new ≡ reader.old }
 {
     into.clear();
     let mut buffer = [0; 65536];

@@ -2,6 +2,7 @@
 use Rattle.std.specs.Prelude.{◌≡◌, ℕ, suc, ◌+◌, ◌-◌, ◌<◌, ◌≤◌, List, [], ◌∷◌, ◌++◌, Option}
 use Rattle.std.proofs.Common.{subst, sym, ap, append_assoc, arith}
 use Rattle.std.specs.List.{range_with_len}
+use Rattle.minidump_bytes.proofs.ToldLemmas.{not_dead}
 use Rattle.minidump_bytes.specs.declared.told.Told.{Told}
 use Rattle.minidump_bytes.specs.Told.{PutsBeginning}
 use Rattle.minidump_format.proofs.Printing.{PutsAllBut}
@@ -14,7 +15,13 @@ module _ {D : Type 0} (contents : D → Option (List ℕ)) where
 
   -- what waited was lost
   pub but_lost : (a b : Told D) (whole rest : List ℕ) → PutsAllBut contents a b whole rest → PutsBeginning contents a b whole
-  but_lost a b whole rest before = record { front = before.front; rest = rest; split = before.split; grown = before.put.grown }
+  but_lost a b whole rest before = record {
+    front = before.front;
+    rest = rest;
+    split = before.split;
+    grown = before.put.grown;
+    dead = not_dead before.put.ready;
+  }
 
 -- the indexes from one on are that index and those behind it
 pub indexes_from : (i n : ℕ) → i < n → range_with_len i (n - i) ≡ i ∷ range_with_len (i + 1) (n - (i + 1))

@@ -3,6 +3,7 @@ use Rattle.std.specs.Prelude.{◌≡◌, ℕ, false, List, [], ◌++◌, Option,
 use Rattle.std.proofs.Common.{refl, subst, append-nil, ap, sym, ◌∙◌, append_assoc}
 use Rattle.std.proofs.KnownBytes.{Appends-nil, Appends-trans}
 use Rattle.std.proofs.lemmas.Result.{err_from_is_err_and}
+use Rattle.minidump_bytes.proofs.ToldLemmas.{not_dead}
 use Rattle.minidump_bytes.specs.declared.told.Told.{Told}
 use Rattle.minidump_bytes.specs.Told.{PutsAll, PutsBeginning, device_of, has_failed}
 use Rattle.minidump_format.specs.declared.error.Error.{Error}
@@ -16,6 +17,7 @@ module _ {D : Type 0} (contents : D → Option (List ℕ)) where
     rest = some.rest;
     split = ap (λ l. xs ++ l) some.split ∙ sym (append_assoc xs some.front some.rest);
     grown = Appends-trans _ _ _ _ _ all.grown some.grown;
+    dead = not_dead all.ready;
   }
 
   -- a beginning of a text is a beginning of each longer text
@@ -25,12 +27,13 @@ module _ {D : Type 0} (contents : D → Option (List ℕ)) where
     rest = some.rest ++ ys;
     split = ap (λ l. l ++ ys) some.split ∙ append_assoc some.front some.rest ys;
     grown = some.grown;
+    dead = some.dead;
   }
 
   -- one text went out, and then another was printed
   pub prints_then : (a b c : Told D) (xs ys : List ℕ) (r : Result (Unit {0}) Error) → PutsAll contents a b xs → Prints contents b c ys r
       → Prints contents a c (xs ++ ys) r
-  prints_then a b c xs ys (Ok _) all then = record { grown = Appends-trans _ _ _ _ _ all.grown then.grown; alive = then.alive }
+  prints_then a b c xs ys (Ok _) all then = record { ready = all.ready; grown = Appends-trans _ _ _ _ _ all.grown then.grown; alive = then.alive }
   prints_then a b c xs ys (Err e) all then = (beginning_after a b c xs ys all then.0, then.1)
 
   -- where printing a text fails, printing a longer one fails
@@ -51,7 +54,8 @@ pub record PutsAllBut {D : Type 0} (contents : D → Option (List ℕ)) (old new
 module _ {D : Type 0} (contents : D → Option (List ℕ)) where
   -- nothing went out yet
   pub but_all : (a : Told D) (text : List ℕ) → has_failed a ≡ false → PutsAllBut contents a a text text
-  but_all a text alive = record { front = []; split = refl; put = record { grown = Appends-nil (contents (device_of a)); alive = alive } }
+  but_all a text alive =
+      record { front = []; split = refl; put = record { ready = alive; grown = Appends-nil (contents (device_of a)); alive = alive } }
 
   -- a first part went out
   pub but_first : (a b : Told D) (xs ys : List ℕ) → PutsAll contents a b xs → PutsAllBut contents a b (xs ++ ys) ys

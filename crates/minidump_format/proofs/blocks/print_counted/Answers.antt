@@ -15,17 +15,20 @@ pub returns-in_err-put_bytes : goal.returns-in_err-put_bytes
 returns-in_err-put_bytes g c =
     but_exit _ _ _ _ _ _ _ _ _
     (but_joined _ _ _ _ c.loop-index.block.items (g.T.Counted.text c.args.items.now c.loop-index.index) _ _ (c.as_slice.ensures.value ∙ c.in-Ok.ensures)
-    (rw (indexes_from c.loop-index.index (g.T.Counted.count c.args.items.now) (omega (arith, c.loop-index-test.true, c.count-index-end.ensures))) at c.loop-index.invariant))
+    (rw (indexes_from c.loop-index.index (g.T.Counted.count c.args.items.now) (omega (arith, c.loop-index-test.true, c.count-index-end.ensures))) at
+    c.loop-index.invariant))
     c.from_residual.ensures.1 c.in_err-put_bytes.ensures.prints
 
 pub loop-index-preserved : goal.loop-index-preserved
 loop-index-preserved g c =
     let before =
-    rw (indexes_from c.loop-index.index (g.T.Counted.count c.args.items.now) (omega (arith, c.loop-index-test.true, c.count-index-end.ensures))) at c.loop-index.invariant
+    rw (indexes_from c.loop-index.index (g.T.Counted.count c.args.items.now) (omega (arith, c.loop-index-test.true, c.count-index-end.ensures))) at
+    c.loop-index.invariant
     in
     elim c.if-len-ge-BLOCK.branch [
       | then-len-ge-BLOCK+in_ok-put_bytes w ↦ rw (w.f-is, w.block-is, w.clear.ensures.items)
-          (but_next _ _ _ _ _ _ _ (but_joined _ _ _ _ c.loop-index.block.items (g.T.Counted.text c.args.items.now c.loop-index.index) _ _ (w.as_slice.ensures.value ∙ c.in-Ok.ensures) before)
+          (but_next _ _ _ _ _ _ _ (but_joined _ _ _ _ c.loop-index.block.items (g.T.Counted.text c.args.items.now c.loop-index.index) _ _
+          (w.as_slice.ensures.value ∙ c.in-Ok.ensures) before)
           w.in_ok-put_bytes.ensures.prints)
       | else-len-ge-BLOCK w ↦ rw (w.f-is, w.block-is)
           (but_joined _ _ _ _ c.loop-index.block.items (g.T.Counted.text c.args.items.now c.loop-index.index) _ _ c.in-Ok.ensures before)
@@ -34,4 +37,5 @@ loop-index-preserved g c =
 pub returns : goal.returns
 returns g c =
     let none = no_index c.loop-index.index (g.T.Counted.count c.args.items.now) (omega (arith, c.loop-index-test.false, c.count-index-end.ensures)) in
-    but_last _ _ _ _ _ _ _ (rw (c.as_slice-2.ensures.value, ← append-nil c.loop-index.block.items) (rw none at c.loop-index.invariant)) c.put_bytes-2.ensures.prints
+    but_last _ _ _ _ _ _ _ (rw (c.as_slice-2.ensures.value, ← append-nil c.loop-index.block.items) (rw none at c.loop-index.invariant))
+    c.put_bytes-2.ensures.prints

@@ -25,7 +25,8 @@ loop-item-preserved g c =
     let before = rw (drop-cons _ _ c.item-item.result c.loop-item-test.true, ← c.item-item.is) at c.loop-item.invariant in
     elim c.if-len-ge-BLOCK.branch [
       | then-len-ge-BLOCK+in_ok-put_bytes w ↦ rw (w.f-is, w.block-is, w.clear.ensures.items) (simp unary_clauses
-          (but_next _ _ _ _ _ _ _ (but_joined _ _ _ _ c.loop-item.block.items (g.P.PushText.text c.item-item.result) _ _ (w.as_slice.ensures.value ∙ c.in-Ok.ensures) before) w.in_ok-put_bytes.ensures.prints))
+          (but_next _ _ _ _ _ _ _ (but_joined _ _ _ _ c.loop-item.block.items (g.P.PushText.text c.item-item.result) _ _
+          (w.as_slice.ensures.value ∙ c.in-Ok.ensures) before) w.in_ok-put_bytes.ensures.prints))
       | else-len-ge-BLOCK w ↦ rw (w.f-is, w.block-is) (simp unary_clauses
           (but_joined _ _ _ _ c.loop-item.block.items (g.P.PushText.text c.item-item.result) _ _ c.in-Ok.ensures before))
     ]
@@ -33,4 +34,5 @@ loop-item-preserved g c =
 pub returns : goal.returns
 returns g c =
     let none = drop_all c.loop-item.item-index c.args.items.now (omega (arith, c.loop-item-test.false)) in
-    but_last _ _ _ _ _ _ _ (rw (c.as_slice-2.ensures.value, ← append-nil c.loop-item.block.items) (rw none at c.loop-item.invariant)) c.put_bytes-2.ensures.prints
+    but_last _ _ _ _ _ _ _ (rw (c.as_slice-2.ensures.value, ← append-nil c.loop-item.block.items) (rw none at c.loop-item.invariant))
+    c.put_bytes-2.ensures.prints

@@ -2,7 +2,7 @@
 use Rattle.std.proofs.Common.{arith, sym, take, drop, ◌+◌, refl}
 use Rattle.std.proofs.lemmas.List.{take-append-drop}
 use Rattle.std.proofs.KnownBytes.{Appends-kept}
-use Rattle.minidump_bytes.proofs.ToldLemmas.{put_on}
+use Rattle.minidump_bytes.proofs.ToldLemmas.{not_dead, put_on}
 use Rattle.minidump_bytes.proofs.told.Told.put.Goals as goal
 use Rattle.minidump_bytes.proofs.told.Told.put.Goals.{in_default-via-in-Ok+else-n-gt0, in_default-via-in_default}
 
@@ -24,6 +24,7 @@ returns-in_default-clause-puts g c =
           rest = drop (i + w.in-Ok.n) xs;
           split = sym (take-append-drop (i + w.in-Ok.n) xs);
           grown = put_on _ _ _ _ _ _ c.loop-at.invariant.grown w.in-Ok.ensures.bytes;
+          dead = not_dead c.if-self.false;
         },
         refl,
       )
@@ -33,6 +34,7 @@ returns-in_default-clause-puts g c =
           rest = drop i xs;
           split = sym (take-append-drop i xs);
           grown = Appends-kept _ _ _ _ c.loop-at.invariant.grown w.in_default.ensures.bytes;
+          dead = not_dead c.if-self.false;
         },
         refl,
       )
