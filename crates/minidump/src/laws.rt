@@ -1,7 +1,7 @@
 //! Laws of the directory, of the streams and of lists of regions, over the definitions that the contracts of
 //! this crate name. Each is a call that does nothing; its contract says what holds. Those of reading are in
 //! `reading`, those of the records of the format in `records`.
-ghost use Rattle.std.specs.Prelude.{◌≡◌, ◌≢◌, ◌<◌, ◌^◌, ◌+◌, ℕ, ◌++◌, ◌∷◌, All, Contains, List, length, map, Option, Some};
+ghost use Rattle.std.specs.Prelude.{◌≡◌, ◌≢◌, ◌↔◌, ◌<◌, ◌^◌, ◌+◌, ℕ, ◌++◌, ◌∷◌, All, Contains, List, length, map, Option, Some};
 ghost use Rattle.std.specs.List.Sorted.{IsStrictlyIncreasing};
 ghost use Rattle.std.specs.Result.{result_ok};
 ghost use Rattle.minidump_format.specs.declared.format.header.MINIDUMP_DIRECTORY.{MINIDUMP_DIRECTORY};
@@ -10,14 +10,17 @@ ghost use Rattle.minidump_format.specs.Header.{located};
 ghost use Rattle.minidump_format.specs.declared.format.memory.MINIDUMP_MEMORY_DESCRIPTOR.{MINIDUMP_MEMORY_DESCRIPTOR};
 ghost use Rattle.minidump_format.specs.declared.format.memory.MINIDUMP_MEMORY_DESCRIPTOR64.{MINIDUMP_MEMORY_DESCRIPTOR64};
 ghost use Rattle.minidump_format.specs.declared.format.thread.MINIDUMP_THREAD_INFO.{MINIDUMP_THREAD_INFO};
+ghost use Rattle.minidump_index.proofs.LookedUp.{looked_up};
+ghost use Rattle.minidump_index.specs.Lookup.{IsLookedUp};
 ghost use Rattle.minidump_system.specs.Cpu.{cpu_name};
 ghost use Rattle.minidump_system.specs.Os.{os_name};
 ghost use Rattle.minidump_system.specs.StreamSpec.{IsSame};
 ghost use Rattle.minidump_memory.specs.declared.memory_list.MinidumpMemoryListBase.{MinidumpMemoryListBase};
 ghost use Rattle.minidump_memory.specs.declared.memory_info.MinidumpMemoryInfoList.{MinidumpMemoryInfoList};
-ghost use Rattle.minidump_memory.specs.Memory.{MemoryRegion, memory_of};
+ghost use Rattle.minidump_memory.specs.Memory.{MemoryRegion, memory_of, region_range};
 ghost use Rattle.minidump_memory.specs.MemoryInfo.{MemoryInfo, info_of, infos_of};
 ghost use Rattle.minidump_memory.specs.MemoryList.{regions_of};
+ghost use Rattle.minidump_memory.specs.Unified.{UnifiedRegion};
 ghost use Rattle.minidump_modules.specs.declared.module_list.MinidumpModuleList.{MinidumpModuleList};
 ghost use Rattle.minidump_modules.specs.declared.unloaded_module.MinidumpUnloadedModule.{MinidumpUnloadedModule};
 ghost use Rattle.minidump_modules.specs.CodeId.{text_of};
@@ -129,6 +132,12 @@ pub fn one_last_thread()
     ensures one { (id : ℕ) (threads : List Thread) (last other : Option Thread)
         → IsLastThread id threads last → IsLastThread id threads other → last ≡ other }
     ensures exists { (id : ℕ) (threads : List Thread) → (last : Option Thread) × IsLastThread id threads last }
+{}
+
+/// The region of memory that the report has of an address is the one that a lookup returns.
+pub fn a_report_has_what_a_lookup_returns()
+    ensures { (regions : List UnifiedRegion) (address : ℕ) (found : Option UnifiedRegion)
+        → IsLookedUp region_range regions address found ↔ (found ≡ looked_up region_range regions address) }
 {}
 
 /// The system information is read as the dump has it: its stream, where that parses.

@@ -1,5 +1,5 @@
 //! Laws of registers, for the context of every processor.
-ghost use Rattle.std.specs.Prelude.{◌≡◌, ◌≢◌, ◌↔◌, ℕ, [], IsTrue, List, Option, Some, None, is_some, true, length, map, position};
+ghost use Rattle.std.specs.Prelude.{◌≡◌, ◌≢◌, ◌↔◌, ℕ, [], codes, IsTrue, List, Option, Some, None, is_some, true, length, map, position};
 ghost use Rattle.std.specs.List.{range_with_len, list_all};
 ghost use Rattle.std.specs.Str.{bytes_eq};
 ghost use Rattle.minidump_bytes.specs.declared.endian.Endian.{Endian};
@@ -80,26 +80,36 @@ pub fn clones_are_the_same<T: CpuContext + Clone + 'static>()
 {}
 
 /// The table, the aliases, the values and the rest of each processor's context are those that the crate
-/// defines for that processor.
+/// defines for that processor, and so are the names of the stack pointer and of the instruction pointer.
 pub fn contexts_are_as_defined()
     ensures x86_table { ⟦<CONTEXT_X86 as CpuRegisterNames>⟧.table ≡ x86_registers }
     ensures x86_aliases { ⟦<CONTEXT_X86 as CpuContext>⟧.aliases ≡ [] }
     ensures x86_values { ⟦<CONTEXT_X86 as CpuContext>⟧.values ≡ x86_values }
     ensures x86_rest { ⟦<CONTEXT_X86 as CpuContext>⟧.rest ≡ x86_rest }
+    ensures x86_stack { ⟦<CONTEXT_X86 as CpuContext>⟧.stack_pointer ≡ codes "esp" }
+    ensures x86_instruction { ⟦<CONTEXT_X86 as CpuContext>⟧.instruction_pointer ≡ codes "eip" }
     ensures amd64_table { ⟦<CONTEXT_AMD64 as CpuRegisterNames>⟧.table ≡ amd64_registers }
     ensures amd64_aliases { ⟦<CONTEXT_AMD64 as CpuContext>⟧.aliases ≡ [] }
     ensures amd64_values { ⟦<CONTEXT_AMD64 as CpuContext>⟧.values ≡ amd64_values }
     ensures amd64_rest { ⟦<CONTEXT_AMD64 as CpuContext>⟧.rest ≡ amd64_rest }
+    ensures amd64_stack { ⟦<CONTEXT_AMD64 as CpuContext>⟧.stack_pointer ≡ codes "rsp" }
+    ensures amd64_instruction { ⟦<CONTEXT_AMD64 as CpuContext>⟧.instruction_pointer ≡ codes "rip" }
     ensures arm_table { ⟦<CONTEXT_ARM as CpuRegisterNames>⟧.table ≡ arm_registers }
     ensures arm_aliases { ⟦<CONTEXT_ARM as CpuContext>⟧.aliases ≡ arm_aliases }
     ensures arm_values { ⟦<CONTEXT_ARM as CpuContext>⟧.values ≡ arm_values }
     ensures arm_rest { ⟦<CONTEXT_ARM as CpuContext>⟧.rest ≡ arm_rest }
+    ensures arm_stack { ⟦<CONTEXT_ARM as CpuContext>⟧.stack_pointer ≡ codes "sp" }
+    ensures arm_instruction { ⟦<CONTEXT_ARM as CpuContext>⟧.instruction_pointer ≡ codes "pc" }
     ensures arm64_table { ⟦<CONTEXT_ARM64 as CpuRegisterNames>⟧.table ≡ arm64_registers }
     ensures arm64_aliases { ⟦<CONTEXT_ARM64 as CpuContext>⟧.aliases ≡ arm64_aliases }
     ensures arm64_values { ⟦<CONTEXT_ARM64 as CpuContext>⟧.values ≡ arm64_values }
     ensures arm64_rest { ⟦<CONTEXT_ARM64 as CpuContext>⟧.rest ≡ arm64_rest }
+    ensures arm64_stack { ⟦<CONTEXT_ARM64 as CpuContext>⟧.stack_pointer ≡ codes "sp" }
+    ensures arm64_instruction { ⟦<CONTEXT_ARM64 as CpuContext>⟧.instruction_pointer ≡ codes "pc" }
     ensures arm64_old_table { ⟦<CONTEXT_ARM64_OLD as CpuRegisterNames>⟧.table ≡ arm64_registers }
     ensures arm64_old_aliases { ⟦<CONTEXT_ARM64_OLD as CpuContext>⟧.aliases ≡ arm64_aliases }
     ensures arm64_old_values { ⟦<CONTEXT_ARM64_OLD as CpuContext>⟧.values ≡ arm64_old_values }
     ensures arm64_old_rest { ⟦<CONTEXT_ARM64_OLD as CpuContext>⟧.rest ≡ arm64_old_rest }
+    ensures arm64_old_stack { ⟦<CONTEXT_ARM64_OLD as CpuContext>⟧.stack_pointer ≡ codes "sp" }
+    ensures arm64_old_instruction { ⟦<CONTEXT_ARM64_OLD as CpuContext>⟧.instruction_pointer ≡ codes "pc" }
 {}

@@ -174,7 +174,7 @@ impl Exact for MINIDUMP_MAC_BOOTARGS {
 }
 
 /// The texts of a record of version 1: none.
-#[derive(Drop)]
+#[derive(Clone, Copy, Debug, PartialEq, Eq)]
 pub struct MINIDUMP_MAC_CRASH_INFO_RECORD_STRINGS {}
 
 /// The texts of a record of version 4, in their order.
