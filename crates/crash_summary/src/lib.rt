@@ -31,7 +31,7 @@ use minidump::{
 };
 use std::alloc::Global;
 
-/// What is known of a crash first.
+/// The summary of a crash.
 #[derive(Drop)]
 pub struct CrashSummary {
     /// The id of the thread on which the exception happened.

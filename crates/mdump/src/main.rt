@@ -26,8 +26,8 @@
 //! - The status and the texts of a run from the arguments of the process: `started`.
 //!
 //! What isn't: which file a path opens, and whether it is `FileNotFound`, `IoError` or `OutOfMemory` that is
-//! named, which tests show; what files and standard output hold, since the standard library tells none of their
-//! bytes; and, but by review, that `main` passes on its arguments and its devices.
+//! named, which tests show; and what files and standard output hold, since the standard library tells none of their
+//! bytes. That `main` passes on its arguments and its devices is reviewed.
 #![tactic(auto)]
 
 mod address;

@@ -87,9 +87,9 @@ const SECTIONS: [Section; 25] = [
 /// Writes the report on a minidump: its header and its directory, each stream that is read, and last where
 /// and why the process crashed, in the words of `names`.
 ///
-/// A stream adds what its type prints, nothing if it is absent, or else the name of its type and that of its
-/// error. Threads are printed with their stacks, by [`Minidump::get_memory`]; both lists of memory without
-/// their bytes. The text goes out piece by piece, so that no more of it is in memory than a block and an item.
+/// A stream adds what its type prints; an absent one adds nothing; a malformed one adds a line with the names of
+/// its type and of its error. Threads are printed with their stacks, by [`Minidump::get_memory`]; both lists of
+/// memory without their bytes. The text is written piece by piece: at most a block and an item of it are in memory.
 ///
 /// Returns the errors of [`Minidump::read`] before anything is written; then `IoError` if the writer fails,
 /// and `OutOfMemory`, after which the writer took a beginning of the report.

@@ -42,8 +42,8 @@ impl<'a> LinuxOsStr<'a> {
         utf8_text(self.0)
     }
 
-    /// Copies the text to a `String`, with U+FFFD in place of what is not UTF-8: of each longest
-    /// beginning of a well-formed sequence that does not go on, and else of each byte.
+    /// Copies the text to a `String`, with U+FFFD in place of each invalid sequence, as `String::from_utf8_lossy`
+    /// does: of the longest valid beginning of a sequence that is cut short, else of a single byte.
     pub fn to_string_lossy(self, alloc: Global) -> Result<String, AllocError>
         ensures { IfOk result (λ text. string_bytes text ≡ utf8_lossy (text_of self.entry)) }
     {

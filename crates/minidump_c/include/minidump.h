@@ -67,7 +67,7 @@ uint32_t minidump_dir(const uint8_t *bytes, size_t len, uint8_t *out, size_t out
  * The whole text is in memory besides. */
 uint32_t minidump_report(const uint8_t *bytes, size_t len, uint8_t *out, size_t out_len, size_t *size);
 
-/* What one asks of a crash first. What is absent has 0 in has_.., and 0 for its numbers. */
+/* The summary of a crash. What is absent has 0 in has_.., and 0 for its numbers. */
 struct minidump_crash {
     uint64_t address;     /* that the crash is about */
     uint64_t module_base; /* of the module with the instruction pointer */

@@ -10,7 +10,7 @@ use crash_summary::{CrashSummary, ModuleHit, StackHit, summarise};
 use minidump::CodeNames;
 use std::alloc::Global;
 
-/// What is known of a crash first: 0 for each number that is absent.
+/// The summary of a crash. A number that is absent is 0.
 #[repr(C)]
 #[derive(Clone, Copy)]
 pub struct Crash {

@@ -19,13 +19,14 @@ pub enum Error {
     /// The file does not begin with the signature, in either byte order.
     #[error("Header mismatch")]
     HeaderMismatch,
-    /// The low 16 bits of the header's version are not those of a minidump.
+    /// The version of the header, or of a record, is not one that is read, or differs from that of the record
+    /// before.
     #[error("Minidump version mismatch")]
     VersionMismatch,
     /// An entry of the directory is not in the file.
     #[error("Missing stream directory (heavily truncated minidump?)")]
     MissingDirectory,
-    /// A part of a stream, or the span that the directory gives it, is not in the file.
+    /// A part of a stream, or the span that the directory gives it, is not in the file, or is malformed.
     #[error("Error reading stream")]
     StreamReadFailure,
     /// The length of a list is not the one that its count asks for.

@@ -4,9 +4,10 @@
 //!   Crashpad's headers. Each record is a `minidump_bytes::Record`.
 //! - [`Error`] is the one error of all crates. [`stream_vendor`] names the vendor of a stream type.
 //! - [`put_text`] and [`put_formatted`] print a text, [`put_bytes`] prints bytes. A value that appends its text
-//!   to bytes is [`Pushed`]: [`print_item`] prints it, and [`print_list`] several in blocks; [`print_counted`]
-//!   prints what is [`Counted`] so, and [`print_list_by`] a list by a [`PushText`]. [`print_numbered`] prints a
-//!   heading with the number of items, and each item behind a line of a name and its index.
+//!   to bytes is [`Pushed`]: [`print_item`] prints it, and [`print_list`] several in blocks. In blocks too,
+//!   [`print_counted`] prints items by their indexes ([`Counted`]), and [`print_list_by`] a list by a
+//!   [`PushText`]. [`print_numbered`] prints a heading with the number of items, and each item after a line of a
+//!   name and its index.
 //!
 //! # Errors
 //!

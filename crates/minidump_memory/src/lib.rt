@@ -8,8 +8,8 @@
 //!   Linux knows: a [`MinidumpLinuxMapInfo`] for each line of `/proc/PID/maps`. [`UnifiedMemoryInfoList`] is
 //!   either of them. Their regions say whether they may be read, written to or run.
 //!
-//! Each has a `print`. A region's bytes, which it leaves out if it is to be `brief`, are printed line by line: as
-//! text they never stand in memory whole.
+//! Each has a `print`, which leaves out the bytes of regions if `brief` is set. It prints bytes line by line, so
+//! their text is never whole in memory.
 //!
 //! # Errors
 //!

@@ -76,8 +76,7 @@ pub enum UnifiedMemoryInfoList<'a> {
 }
 
 impl<'a> UnifiedMemoryInfoList<'a> {
-    /// Makes a list of the one that is given. Of two, the information is kept. Returns `None` if none is
-    /// given.
+    /// Makes a unified list of the list that is given, of `info` if both are. Returns `None` if neither is.
     pub fn new(
         info: Option<MinidumpMemoryInfoList<'a>>,
         maps: Option<MinidumpLinuxMaps<'a>>,

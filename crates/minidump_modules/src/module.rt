@@ -126,8 +126,9 @@ impl MinidumpModule {
         self.os
     }
 
-    /// Returns the offset of `address` from the base address, or `None` if it isn't below the module's size. So
-    /// also of a module that would go on beyond the last address, which no lookup finds.
+    /// Returns the offset of `address` from the base address, or `None` if the address is below the base address
+    /// or the offset is not below the size. A module that would go on beyond the last address has offsets too,
+    /// though no lookup finds it.
     pub fn offset_of(&self, address: u64) -> Option<u64>
         ensures { result ≡ (if nat_le self.now.raw.base_of_image address
             && nat_lt address (self.now.raw.base_of_image + self.now.raw.size_of_image)

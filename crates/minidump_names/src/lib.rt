@@ -20,8 +20,8 @@
 //! - A text that is read has, for each family, the codes and the names that its lines list, in their order:
 //!   `NameTable::read`, by `IsNames`. The lists and the lent names are the same: `NameTable::lists`,
 //!   `NameLists::code_names`.
-//! - A text is refused only by its first line that is no line of names, or whose number an earlier one of its family
-//!   is not below, and the error has its number: `NameTable::read`, by `IsTextRefused`.
+//! - A text is refused only for its first bad line: one that is no line of names, or whose number is not above each
+//!   earlier one of its family. The error has the number of that line: `NameTable::read`, by `IsTextRefused`.
 //! - What a line lists is what its grammar says: `laws::lines_are_the_grammar`.
 //!
 //! What isn't: where memory may run out.

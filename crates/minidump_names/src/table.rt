@@ -29,13 +29,13 @@ impl<'t> Model for NameTable<'t> {
 }
 
 impl<'t> NameTable<'t> {
-    /// Reads a text of names. Each line is `FAMILY NUMBER NAME`, with one space between, or a comment, which
-    /// begins with `#`, or empty. FAMILY is the name of a [`CodeFamily`], and NUMBER is below 2^32, in decimal
-    /// digits or, behind `0x`, in hexadecimal ones. NAME is UTF-8 without ASCII white space and without `#`. The
-    /// numbers of a family ascend strictly. Lines are what stands between line feeds, so that a carriage return
-    /// is a part of its line, which is refused then, unless it is a comment.
+    /// Reads a text of names. A line is a code, `FAMILY NUMBER NAME` with one space between the parts; a comment,
+    /// which begins with `#`; or empty. FAMILY is the name of a [`CodeFamily`]. NUMBER is below 2^32, in decimal,
+    /// or in hexadecimal after `0x`. NAME is UTF-8 without ASCII white space and without `#`. The numbers of a
+    /// family ascend strictly. A line ends at a line feed, so a carriage return before it makes the line malformed,
+    /// unless it is a comment.
     ///
-    /// Returns the error of the first line that isn't so: [`NamesError::NotALine`] if it is no such line, and
+    /// Returns the error of the first line that breaks these rules: [`NamesError::NotALine`] if it is no such line, and
     /// [`NamesError::OutOfOrder`] if an earlier number of its family isn't below its own. Returns
     /// [`NamesError::OutOfMemory`] if an allocation fails.
     pub fn read(alloc: Global, text: &'t [u8]) -> Result<NameTable<'t>, NamesError>

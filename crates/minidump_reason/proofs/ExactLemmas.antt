@@ -54,12 +54,142 @@ three_test x y = ((λ h. Prim.search rules), (λ h. Prim.search rules))
 -- ---- reasons
 
 abbrev tests : Each Bool enum.parts
-tests =
-    (two, (one, (one, (one, (one, (one, (one, (one, (one, (one, (one, (one, (one, (one, (one, (three, (three, (two, (one, (one, (one, (one, (one, (one, (one, (one, (two, (one, (one, (two, (one, (one, (two, tt)))))))))))))))))))))))))))))))))
+tests = (
+  two,
+  (
+    one,
+    (
+      one,
+      (
+        one,
+        (
+          one,
+          (
+            one,
+            (
+              one,
+              (
+                one,
+                (
+                  one,
+                  (
+                    one,
+                    (
+                      one,
+                      (
+                        one,
+                        (
+                          one,
+                          (
+                            one,
+                            (
+                              one,
+                              (
+                                three,
+                                (
+                                  three,
+                                  (two, (one, (one, (one, (one, (one, (one, (one, (one, (two, (one, (one, (two, (one, (one, (two, tt)))))))))))))))),
+                                ),
+                              ),
+                            ),
+                          ),
+                        ),
+                      ),
+                    ),
+                  ),
+                ),
+              ),
+            ),
+          ),
+        ),
+      ),
+    ),
+  ),
+)
 
 are_tests : AreTests enum.parts tests
-are_tests =
-    (two_test, (one_test, (one_test, (one_test, (one_test, (one_test, (one_test, (one_test, (one_test, (one_test, (one_test, (one_test, (one_test, (one_test, (one_test, (three_test, (three_test, (two_test, (one_test, (one_test, (one_test, (one_test, (one_test, (one_test, (one_test, (one_test, (two_test, (one_test, (one_test, (two_test, (one_test, (one_test, (two_test, tt)))))))))))))))))))))))))))))))))
+are_tests = (
+  two_test,
+  (
+    one_test,
+    (
+      one_test,
+      (
+        one_test,
+        (
+          one_test,
+          (
+            one_test,
+            (
+              one_test,
+              (
+                one_test,
+                (
+                  one_test,
+                  (
+                    one_test,
+                    (
+                      one_test,
+                      (
+                        one_test,
+                        (
+                          one_test,
+                          (
+                            one_test,
+                            (
+                              one_test,
+                              (
+                                three_test,
+                                (
+                                  three_test,
+                                  (
+                                    two_test,
+                                    (
+                                      one_test,
+                                      (
+                                        one_test,
+                                        (
+                                          one_test,
+                                          (
+                                            one_test,
+                                            (
+                                              one_test,
+                                              (
+                                                one_test,
+                                                (
+                                                  one_test,
+                                                  (
+                                                    one_test,
+                                                    (
+                                                      two_test,
+                                                      (one_test, (one_test, (two_test, (one_test, (one_test, (two_test, tt)))))),
+                                                    ),
+                                                  ),
+                                                ),
+                                              ),
+                                            ),
+                                          ),
+                                        ),
+                                      ),
+                                    ),
+                                  ),
+                                ),
+                              ),
+                            ),
+                          ),
+                        ),
+                      ),
+                    ),
+                  ),
+                ),
+              ),
+            ),
+          ),
+        ),
+      ),
+    ),
+  ),
+)
 
 abbrev reason_eq : CrashReason → CrashReason → Bool
 reason_eq = (reason.eq-value).it

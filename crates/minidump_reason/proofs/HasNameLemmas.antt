@@ -37,7 +37,8 @@ record Formed (lists : Lists) : Type 0 where
 formed : (lists : LentLists) → AreCodeNames lists → Formed (lists_of lists)
 formed lists names = record {
   ascending =
-      all_map (λ list. Ascending list.1) (λ l. (l.0, entries_of l.1.now)) lists (λ k d within. all_pairs_map (λ a b. a.0 < b.0) (λ e. (e.0, e.1.now)) (get_or lists k d).1.now (names.ascending k d within));
+      all_map (λ list. Ascending list.1) (λ l. (l.0, entries_of l.1.now)) lists
+      (λ k d within. all_pairs_map (λ a b. a.0 < b.0) (λ e. (e.0, e.1.now)) (get_or lists k d).1.now (names.ascending k d within));
   apart = all_pairs_map (λ a b. a.0 ≢ b.0) (λ l. (l.0, entries_of l.1.now)) lists names.apart;
 }
 
@@ -67,7 +68,8 @@ list_there ((f, entries) ∷ rest) family number name found = by_case (is_family
         let here : name_in entries number ≡ Some name = ap (λ b. name_in (if b then entries else list_of rest family) number) (sym e) ∙ found in
         (entries, (0, omega arith, ap (λ g. (g, entries)) (same_true the_type (search rules) f family e)), name_there entries number name here)
     by_case false e later =
-        let found_later : name_in (list_of rest family) number ≡ Some name = ap (λ b. name_in (if b then entries else list_of rest family) number) (sym e) ∙ found in
+        let found_later : name_in (list_of rest family) number ≡ Some name = ap (λ b. name_in (if b then entries else list_of rest family) number)
+        (sym e) ∙ found in
         let there = later found_later in
         (there.0, (suc there.1.0, omega (arith, there.1.1), there.1.2), there.2)
 

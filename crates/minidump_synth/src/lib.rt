@@ -1,5 +1,5 @@
-//! Builds minidumps for tests, which so state records and no bytes; and devices that move one byte a call,
-//! fail at a call, or take nothing. It is for tests alone.
+//! Builds minidumps for tests, so that a test states records instead of bytes. Also has readers and writers that
+//! move one byte a call, fail at a call, or take nothing. It is for tests alone.
 //!
 //! ```
 //! let mut dump = SynthMinidump::new(alloc, Endian::Little);

@@ -3,8 +3,8 @@
 //!
 //! They show what no contract says: that a call succeeds where there is memory, that definitions mean the
 //! format, and what becomes of files. So each expected value is written from the format's own tables, not from a
-//! definition here. What a dump's header, directory and streams print, and how a stream is refused, the samples
-//! of `golden` show.
+//! definition here. The samples of `golden` show what is printed of a dump's header, directory and streams, and
+//! how a stream is refused.
 #![tactic(auto)]
 
 #[cfg(test)]

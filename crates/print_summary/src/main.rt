@@ -1,5 +1,4 @@
-//! `print_summary FILE`, which prints the summary of a crash: an example of a caller of `crash_summary`, which the
-//! README quotes.
+//! `print_summary FILE`, which prints the summary of a crash: an example of a caller of `crash_summary`.
 #![tactic(auto)]
 
 use anyhow::Result;

@@ -5,9 +5,9 @@
 //!
 //! The answers of the public calls, with the public fields, are the value of the table that
 //! `minidump/specs/Promise.antt` names for the type. A list is its `iter`, with a function for an item that has
-//! private fields; the names of threads are those that `get_name` returns by the ids. These proofs know of a
-//! private field only what the contracts of the public calls say. So a table whose value were that of a field that
-//! no caller sees would have no proof here.
+//! private fields; the names of threads are those that `get_name` returns by the ids. The proofs
+//! know only what the contracts of public calls say. If a table's value had a component that no public call
+//! returns, they would fail.
 //!
 //! Every other type of stream has public fields alone.
 #![tactic(auto)]

@@ -7,10 +7,10 @@
 //! With `devices` it also makes each call on writers that fail, or take nothing, from each of their calls on, and on
 //! one that takes a byte a call; and reads readers alike.
 //!
-//! With a name and a number it makes only the call of that name, and so many allocations before the second time. If an
-//! allocation of the call is refused, the line is `OutOfMemory, ok`: it said so, what it had written is a beginning of
-//! the text, and the third time it answered as with ample memory. If one before the call is refused, the line tells
-//! how many were given. `.ci/refusals` so has each allocation of each call refused.
+//! With a name and a number it makes only the call of that name, and NUMBER allocations before the second time. The
+//! line is `NAME: OutOfMemory, ok` if an allocation of the second call was refused, what it wrote is a beginning of
+//! the text, and a third call answers as the first did. If one of the NUMBER allocations is refused, the line says how
+//! many came before it. `.ci/refusals` uses this to refuse each allocation of each call.
 //!
 //! The status is 1 if an answer was another, else 0.
 #![tactic(auto)]

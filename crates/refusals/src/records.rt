@@ -29,7 +29,7 @@ pub fn module_list(world: &World<'_>, out: &mut Told<Device>) -> Result<(), Erro
     MinidumpModuleList::from_modules(world.alloc, modules)?.print(world.alloc, out)
 }
 
-/// The same of unloaded modules.
+/// Reads each unloaded module again, copies it, and makes a list of them.
 pub fn unloaded_list(world: &World<'_>, out: &mut Told<Device>) -> Result<(), Error> {
     let list = world
         .dump

@@ -1,5 +1,5 @@
 //! `whocrashed FILE [NAMES [FILE..]]`, which prints who crashed, where and why: an example of a caller of `minidump`,
-//! `crash_summary` and `minidump_names`, which the README quotes.
+//! `crash_summary` and `minidump_names`, whose output the README shows.
 //!
 //! It prints the system and the processor; the thread, the address and the reason of the crash; each thread with its
 //! name, its instruction pointer and the module there, the crashing one first; and the number of modules. NAMES is a

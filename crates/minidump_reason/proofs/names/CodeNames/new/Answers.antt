@@ -26,4 +26,5 @@ returns-then-not-is_ascending c = record {
 
 pub loop-place-preserved : goal.loop-place-preserved
 loop-place-preserved c =
-    names_more c.args.lists.now c.loop-place.place _ (omega arith) c.loop-place.invariant (family_absent _ _ (sym c.if-has_family.ensures)) c.if-not-is_ascending.ensures
+    names_more c.args.lists.now c.loop-place.place _ (omega arith) c.loop-place.invariant (family_absent _ _ (sym c.if-has_family.ensures))
+    c.if-not-is_ascending.ensures
