@@ -2,14 +2,37 @@ ghost use Rattle.std.specs.Prelude.{◌≡◌, ◌==◌, IfOk, length};
 
 use anyhow::Result;
 use minidump_bytes::Steps;
-use minidump_index::{AddressIndex, Range};
+use minidump_index::{AddressIndex, Range, RegionList};
 use std::alloc::{AllocError, Global};
 
 /// Makes an index of `count` ranges, and looks up a million addresses in each round. Returns how many lookups found a
 /// range.
-pub(crate) fn hits_of(alloc: Global, count: u32, rounds: u32) -> Result<u64> {
+pub(crate) fn hits_in_index(alloc: Global, count: u32, rounds: u32) -> Result<u64> {
     let index = AddressIndex::build(alloc, &ranges(alloc, count)?)?;
     Ok(hits(&index, &addresses(alloc, count)?, rounds))
+}
+
+/// Does the same with a list of `count` ranges that ascend.
+pub(crate) fn hits_in_list(alloc: Global, count: u32, rounds: u32) -> Result<u64> {
+    let list = RegionList::from_regions(alloc, ranges(alloc, count)?)?;
+    Ok(hits(&list, &addresses(alloc, count)?, rounds))
+}
+
+// What tells whether one of its ranges contains an address.
+trait Lookup {
+    fn finds(&self, address: u64) -> bool;
+}
+
+impl Lookup for AddressIndex {
+    fn finds(&self, address: u64) -> bool {
+        self.find(address, &mut Steps::new()).is_some()
+    }
+}
+
+impl Lookup for RegionList<Option<Range>> {
+    fn finds(&self, address: u64) -> bool {
+        self.at_address(address, &mut Steps::new()).is_some()
+    }
 }
 
 // Makes `count` ranges of 4096 addresses, each 8192 behind the one before.
@@ -40,11 +63,11 @@ fn addresses(alloc: Global, count: u32) -> Result<Vec<u64>, AllocError>
 }
 
 // Counts the addresses that lie in a range, so many times.
-fn hits(index: &AddressIndex, asked: &[u64], rounds: u32) -> u64 {
+fn hits<L: Lookup>(ranges: &L, asked: &[u64], rounds: u32) -> u64 {
     let mut hits = 0u64;
     for _ in 0..rounds {
         for address in asked {
-            if index.find(*address, &mut Steps::new()).is_some() {
+            if ranges.finds(*address) {
                 hits = hits.wrapping_add(1);
             }
         }

@@ -1,7 +1,8 @@
 //! `bench VERB WHAT ROUNDS`, which does the same work so many times, to be timed from outside by `.ci/bench`.
 //!
 //! - `bench lookup COUNT ROUNDS` makes an index of COUNT ranges, and looks up a million addresses in each round.
-//!   Half of the addresses lie in a range. It writes how many lookups found a range.
+//!   Half of the addresses lie in a range. It writes how many lookups found a range. `bench list COUNT ROUNDS` does so with
+//!   a list of ranges that ascend.
 //! - `bench read FILE ROUNDS` reads the header, the directory and the system information of a minidump. It writes how many
 //!   of the headers have 65536 streams.
 //! - `bench handles FILE ROUNDS` reads the stream of that name; so do `memory`, `memory64`, `memory-info`, `modules`,
@@ -24,7 +25,7 @@ fn main(rt: HostRuntime) -> Result<()> {
     let Ok(rounds) = rounds.as_str().parse::<u32>() else {
         bail!("ROUNDS is a number");
     };
-    if verb.as_str() != "lookup" {
+    if verb.as_str() != "lookup" && verb.as_str() != "list" {
         let bytes = fs::read(&rt, what.as_str())?;
         let found = streams::read_often(rt.alloc(), verb.as_str(), &bytes, rounds)?;
         println!(rt; "{found}")?;
@@ -33,6 +34,11 @@ fn main(rt: HostRuntime) -> Result<()> {
     let Ok(count) = what.as_str().parse::<u32>() else {
         bail!("COUNT is a number");
     };
-    println!(rt; "{}", lookup::hits_of(rt.alloc(), count, rounds)?)?;
+    let hits = if verb.as_str() == "list" {
+        lookup::hits_in_list(rt.alloc(), count, rounds)?
+    } else {
+        lookup::hits_in_index(rt.alloc(), count, rounds)?
+    };
+    println!(rt; "{hits}")?;
     Ok(())
 }

@@ -83,11 +83,11 @@ fn six_are_found(alloc: Global) -> Result<bool, Error> {
     )
 }
 
-// Eight regions of four addresses, ascending. Such a list is put into the tree as it stands.
+// Eight regions of four addresses, ascending.
 #[rattlefmt::skip]
 const UP: &[(u64, u64)] = &[(0, 4), (10, 4), (20, 4), (30, 4), (40, 4), (50, 4), (60, 4), (70, 4)];
 
-// The same, descending. Such a list is sorted first.
+// The same, descending.
 #[rattlefmt::skip]
 const DOWN: &[(u64, u64)] = &[(70, 4), (60, 4), (50, 4), (40, 4), (30, 4), (20, 4), (10, 4), (0, 4)];
 
@@ -182,6 +182,39 @@ fn lists_regions(alloc: Global) -> Result<bool, Error> {
     )
 }
 
+// How many of the first regions of `UP` are listed, and how many a lookup compares then.
+#[rattlefmt::skip]
+const COMPARED: &[(usize, u128)] = &[(0, 0), (1, 1), (2, 2), (3, 2), (4, 3), (5, 3), (7, 3), (8, 4)];
+
+// A lookup in a list that ascends, at both ends of a region and behind it.
+fn is_found_in(list: &RegionList<Option<Range>>, base: u64, compared: u128) -> bool {
+    let mut steps = Steps::new();
+    list.at_address(base, &mut steps);
+    steps.count() == compared
+        && start_at(list, base) == Some(base)
+        && start_at(list, base.wrapping_add(3)) == Some(base)
+        && start_at(list, base.wrapping_add(4)) == None
+}
+
+// Such a list is its own order by address.
+fn finds_regions_that_ascend(alloc: Global, row: &(usize, u128)) -> Result<bool, Error> {
+    let regions = UP.get(..row.0).unwrap_or(&[]);
+    let list = RegionList::from_regions(alloc, ranges_of(alloc, regions)?)?;
+    let mut ascending = list.by_addr();
+    let mut descending = list.by_addr();
+    Ok(
+        ascending.len() == regions.len()
+            && regions
+                .iter()
+                .all(|&(base, _)| is_found_in(&list, base, row.1))
+            && regions.iter().all(|&(base, size)| ascending.next().copied()
+                == Some(Range::from_size(base, size)))
+            && regions.iter().rev().all(|&(base, size)| descending.next_back().copied()
+                == Some(Range::from_size(base, size)))
+            && start_at(&list, u64::MAX) == None,
+    )
+}
+
 fn an_empty_list_has_no_regions(alloc: Global) -> bool {
     let list: RegionList<Option<Range>> = RegionList::new(alloc);
     list.as_slice().is_empty() && list.by_addr().next().is_none() && start_at(&list, 0) == None
@@ -191,4 +224,11 @@ fn an_empty_list_has_no_regions(alloc: Global) -> bool {
 fn holds_lists_of_regions(rt: HostRuntime) {
     let alloc = rt.alloc();
     assert!(rt; lists_regions(alloc) == Ok(true) && an_empty_list_has_no_regions(alloc));
+    for row in COMPARED {
+        assert!(rt;
+            finds_regions_that_ascend(alloc, row) == Ok(true),
+            "{}",
+            row.0
+        );
+    }
 }

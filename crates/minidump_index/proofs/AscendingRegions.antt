@@ -1,21 +1,78 @@
--- A list whose regions all have a range and ascend: its entries as they stand.
-use Rattle.std.proofs.Common.{◌≡◌, ℕ, zero, suc, ◌<◌, ◌≤◌, ◌+◌, ◌^◌, List, [], ◌∷◌, length, get_or, arith, slice_get, slice_set, subst, sym, ap, refl}
-use Rattle.std.proofs.Common.{inl, inr, ◌∙◌}
-use Rattle.std.specs.Prelude.{Option, Some, None}
-use Rattle.std.proofs.lemmas.List.{length-set}
+-- A list whose regions all have a range and ascend: its entries as they stand, and what its starts tell.
+use Rattle.std.proofs.Common.{◌≡◌, ℕ, zero, suc, ◌<◌, ◌≤◌, ◌+◌, List, [], ◌∷◌, ◌++◌, length, drop, get_or, map, arith, slice_get, subst, sym, ap, refl}
+use Rattle.std.proofs.Common.{inl, inr, ◌∙◌, ◌⊎◌, drop_of_length-le}
+use Rattle.std.specs.Prelude.{Option, Some, None, AllPairs}
+use Rattle.std.specs.List.{cons_option}
+use Rattle.std.proofs.lemmas.List.{length-map, length_push}
 use Rattle.std.proofs.lemmas.List.Sorted.{IsPermutation-refl}
 use Rattle.std.proofs.lemmas.Option.{get_or_from_slice_get}
 use Rattle.std.proofs.lemmas.Bool.{cases_lt}
 use Rattle.minidump_index.specs.declared.range.Range.{Range}
 use Rattle.minidump_index.specs.declared.index.Entry.{Entry}
 use Rattle.minidump_index.specs.Overlap.{HasRange, from_to}
-use Rattle.minidump_index.specs.Kept.{HoldsRanged, IsAscending, IsIndexOf}
-use Rattle.minidump_index.specs.Digits.{digits}
-use Rattle.minidump_index.specs.Tree.{IsSearchTree, place_at, walk}
+use Rattle.minidump_index.specs.Kept.{HoldsRanged, IsAscending, IsFound, IsIndexOf, places}
+use Rattle.minidump_index.specs.Lookup.{IsByAddress, regions_at}
+use Rattle.minidump_index.specs.Starts.{AreStarts, EndBy}
 use Rattle.minidump_index.proofs.RangedEntries.{entry, in_list, one_range}
 use Rattle.minidump_index.proofs.KeptEntries.{index_from}
-use Rattle.minidump_index.proofs.WalkLemmas.{FilledTo, filled_start, filled_put, filled_skip, filled_all, rank_at, rank_end, ranks_at, total_of}
+use Rattle.minidump_index.proofs.LookupLemmas.{by_address}
 
+-- ---- the starts of one region more
+at_left : {X : Type 0} (xs ys : List X) (i : ℕ) (x : X) → slice_get xs i ≡ Some x → slice_get (xs ++ ys) i ≡ Some x
+at_left [] ys i x h = cc
+at_left (y ∷ xs) ys zero x h = h
+at_left (y ∷ xs) ys (suc i) x h = at_left xs ys i x h
+
+at_end : {X : Type 0} (xs : List X) (x : X) → slice_get (xs ++ x ∷ []) (length xs) ≡ Some x
+at_end [] x = refl
+at_end (y ∷ xs) x = at_end xs x
+
+at_push : {X : Type 0} (xs : List X) (x y : X) (i : ℕ) → slice_get (xs ++ x ∷ []) i ≡ Some y → (slice_get xs i ≡ Some y) ⊎ ((i ≡ length xs) × (x ≡ y))
+at_push [] x y zero h = inr (refl, cc)
+at_push [] x y (suc i) h = cc
+at_push (z ∷ xs) x y zero h = inl h
+at_push (z ∷ xs) x y (suc i) h = elim (at_push xs x y i h) [
+  | inl old ↦ inl old
+  | inr new ↦ inr (ap suc new.0, new.1)
+]
+
+module _ (ranges : List (Option Range)) (starts : List ℕ) (end : ℕ) (r : Range) (a : AreStarts ranges starts) (low : EndBy ranges end)
+    (behind : 0 < length starts → end < r.start) where
+  below_new : (p : ℕ) (s : Range) → HasRange ranges p s → s.end < r.start
+  below_new p s h = let lt = in_list ranges p s h in let le = low p s h in let after = behind (omega (arith, lt, a.long)) in omega (arith, le, after)
+
+  pub starts_push : AreStarts (ranges ++ Some r ∷ []) (starts ++ r.start ∷ [])
+  starts_push = record {
+    long = omega (arith, a.long, length_push ranges (Some r), length_push starts r.start);
+    each = λ p h. elim (cases_lt p (length ranges)) [
+      | inl old ↦ (let e = a.each p old in (e.0, at_left ranges (Some r ∷ []) p (Some e.0) e.1, at_left starts (r.start ∷ []) p e.0.start e.2))
+      | inr new ↦
+          (let here : length ranges ≡ p = omega (arith, h, length_push ranges (Some r)) in
+          let there : length starts ≡ p = a.long ∙ here in (
+            r,
+            subst (λ (i : ℕ). HasRange (ranges ++ Some r ∷ []) i r) here (at_end ranges (Some r)),
+            subst (λ (i : ℕ). slice_get (starts ++ r.start ∷ []) i ≡ Some r.start) there (at_end starts r.start),
+          ))
+    ];
+    apart = λ p q lt s t at_p at_q. elim (at_push ranges (Some r) (Some t) q at_q) [
+      | inl old_q ↦ elim (at_push ranges (Some r) (Some s) p at_p) [
+        | inl old_p ↦ a.apart p q lt s t old_p old_q
+        | inr new_p ↦ (let within = in_list ranges q t old_q in absurd (omega (arith, new_p.0, within, lt)))
+      ]
+      | inr new_q ↦ elim (at_push ranges (Some r) (Some s) p at_p) [
+        | inl old_p ↦ (let same : r ≡ t = cc in omega (arith, below_new p s old_p, ap (λ (x : Range). x.start) same))
+        | inr new_p ↦ absurd (omega (arith, new_p.0, new_q.0, lt))
+      ]
+    ];
+  }
+
+  pub end_push : EndBy (ranges ++ Some r ∷ []) r.end
+  end_push p s at_p = elim (at_push ranges (Some r) (Some s) p at_p) [
+    | inl old ↦ omega (arith, below_new p s old, r.ordered)
+    | inr new ↦ (let same : r ≡ s = cc in omega (arith, ap (λ (x : Range). x.end) same))
+  ]
+
+-- ---- the entries of a list as they stand
 -- the entry of a place, with some range where it holds none
 slot : ℕ → Option Range → Entry
 slot n (Some r) = entry r n
@@ -25,7 +82,7 @@ pub slots : ℕ → List (Option Range) → List Entry
 slots n [] = []
 slots n (o ∷ os) = slot n o ∷ slots (suc n) os
 
-pub length-slots : (n : ℕ) (os : List (Option Range)) → length (slots n os) ≡ length os
+length-slots : (n : ℕ) (os : List (Option Range)) → length (slots n os) ≡ length os
 unfolding slots
 length-slots n [] = refl
 length-slots n (o ∷ os) = ap suc (length-slots (suc n) os)
@@ -43,53 +100,33 @@ slots-get n zero m (o ∷ os) r e h =
     same_slot n m o r is (omega arith)
 slots-get n (suc i) m (o ∷ os) r e h = slots-get (suc n) i m os r (omega arith) h
 
--- the places below rank hold ranges that ascend, the last of which ends at `end`
-pub record ListedTo (ranges : List (Option Range)) (rank end : ℕ) : Type 0 where
-  pub some : (i : ℕ) → i < rank → (r : Range) × HasRange ranges i r
-  pub up : (i j : ℕ) (r s : Range) → i < j → j < rank → HasRange ranges i r → HasRange ranges j s → r.end < s.start
-  pub last : (i : ℕ) (r : Range) → i < rank → HasRange ranges i r → r.end ≤ end
+slot_place : (n : ℕ) (o : Option Range) → (slot n o).place ≡ n
+unfolding slot
+slot_place n (Some r) = refl
+slot_place n None = refl
 
-pub listed_none : (ranges : List (Option Range)) (rank end : ℕ) → rank ≡ 0 → ListedTo ranges rank end
-listed_none ranges rank end h = record {
-  some = λ i k. absurd (omega arith);
-  up = λ i j r s lt k. absurd (omega arith);
-  last = λ i r k. absurd (omega arith);
-}
+module _ {R : Type 0} (regions : List R) where
+  drop_one : (rs : List R) (i : ℕ) → i < length rs → cons_option (slice_get rs i) (drop (suc i) rs) ≡ drop i rs
+  drop_one [] i h = absurd (omega arith)
+  drop_one (r ∷ rs) zero h = refl
+  drop_one (r ∷ rs) (suc i) h = drop_one rs i (omega arith)
 
-pub listed_one : (ranges : List (Option Range)) (rank end next : ℕ) (r : Range) → HasRange ranges rank r → (0 < rank → end < r.start) → next ≡ rank + 1
-    → ListedTo ranges rank end → ListedTo ranges next r.end
-listed_one ranges rank end next r here behind n l = record {
-  some = λ i h. elim (cases_lt i rank) [
-    | inl below ↦ l.some i below
-    | inr above ↦ (r, subst (λ (m : ℕ). HasRange ranges m r) (let same : rank ≡ i = omega arith in same) here)
-  ];
-  up = λ i j s t lt h at_i at_j. elim (cases_lt j rank) [
-    | inl below ↦ l.up i j s t lt below at_i at_j
-    | inr above ↦
-        (let same : j ≡ rank = omega arith in
-        let one : t ≡ r = one_range ranges rank t r (subst (λ (m : ℕ). HasRange ranges m t) same at_j) here in
-        let low = l.last i s (omega arith) at_i in
-        let after = behind (omega arith) in
-        omega (arith, low, after, ap (λ (x : Range). x.start) one))
-  ];
-  last = λ i s h at. elim (cases_lt i rank) [
-    | inl below ↦ (let low = l.last i s below at in let after = behind (omega arith) in omega (arith, low, after, r.ordered))
-    | inr above ↦
-        (let same : i ≡ rank = omega arith in
-        let one : s ≡ r = one_range ranges rank s r (subst (λ (m : ℕ). HasRange ranges m s) same at) here in
-        omega (arith, ap (λ (x : Range). x.end) one))
-  ];
-}
+  -- the regions at the places of the entries, one after the other
+  at_slots : (n : ℕ) (os : List (Option Range)) → n + length os ≡ length regions → regions_at regions (places (slots n os)) ≡ drop n regions
+  unfolding slots
+  at_slots n [] h = sym (drop_of_length-le regions (omega arith))
+  at_slots n (o ∷ os) h =
+      ap (λ (i : ℕ). cons_option (slice_get regions i) (regions_at regions (places (slots (suc n) os)))) (slot_place n o)
+      ∙ ap (cons_option (slice_get regions n)) (at_slots (suc n) os (omega arith)) ∙ drop_one regions n (omega arith)
 
-module _ (ranges : List (Option Range)) (rank end : ℕ) (all : length ranges ≤ rank) (l : ListedTo ranges rank end) where
+module _ (ranges : List (Option Range)) (starts : List ℕ) (a : AreStarts ranges starts) where
   at_slot : (i : ℕ) (r : Range) (d : Entry) → HasRange ranges i r → get_or (slots 0 ranges) i d ≡ entry r i
-  at_slot i r d h =
-      get_or_from_slice_get (slots 0 ranges) i (entry r i) d (slots-get 0 i i ranges r (omega arith) h)
+  at_slot i r d h = get_or_from_slice_get (slots 0 ranges) i (entry r i) d (slots-get 0 i i ranges r (omega arith) h)
 
   holds : HoldsRanged ranges (slots 0 ranges)
   holds = λ e. (
     (λ c. let long = length-slots 0 ranges in
-        let s = l.some c.0 (omega (arith, all, long, c.1)) in
+        let s = a.each c.0 (omega (arith, long, c.1)) in
         let same : e ≡ entry s.0 c.0 = sym c.2 ∙ at_slot c.0 s.0 e s.1 in
         subst (λ (y : Entry). HasRange ranges y.place y.range) (sym same) s.1),
     (λ h. let long = length-slots 0 ranges in
@@ -99,80 +136,70 @@ module _ (ranges : List (Option Range)) (rank end : ℕ) (all : length ranges �
   ascends : IsAscending (slots 0 ranges)
   ascends i j d lt h =
       let long = length-slots 0 ranges in
-      let r = l.some i (omega (arith, all, long)) in
-      let s = l.some j (omega (arith, all, long)) in
-      rw (at_slot i r.0 d r.1, at_slot j s.0 d s.1) (l.up i j r.0 s.0 lt (omega (arith, all, long)) r.1 s.1)
+      let r = a.each i (omega (arith, long)) in
+      let s = a.each j (omega (arith, long)) in
+      rw (at_slot i r.0 d r.1, at_slot j s.0 d s.1) (a.apart i j lt r.0 s.0 r.1 s.1)
 
   -- the entries as they stand are the index
-  pub listed_index : IsIndexOf ranges (slots 0 ranges)
-  listed_index =
+  pub starts_index : IsIndexOf ranges (slots 0 ranges)
+  starts_index =
       index_from ranges (slots 0 ranges) (slots 0 ranges) (slots 0 ranges) holds (IsPermutation-refl (slots 0 ranges))
       (record { among = λ e c. c; ascending = ascends; others = λ e c. inl c })
 
--- the tree has the entries of the regions before, at the places of the walk before the k-th
-pub record PutTo (ranges : List (Option Range)) (tree : List Entry) (total k rank end : ℕ) : Type 0 where
-  pub starts : 0 < k
-  pub whole : length tree ≡ length ranges
-  pub ranks : rank ≡ rank_at total (length ranges) k
-  pub filled : FilledTo tree (slots 0 ranges) total k
-  pub listed : ListedTo ranges rank end
+  pub as_many : length (slots 0 ranges) ≡ length starts
+  as_many = length-slots 0 ranges ∙ sym a.long
 
-pub put_none : (ranges : List (Option Range)) (tree : List Entry) (total end : ℕ) → length tree ≡ length ranges → PutTo ranges tree total 1 0 end
-put_none ranges tree total end h = record {
-  starts = omega arith;
-  whole = h;
-  ranks = omega arith;
-  filled = filled_start _ _ _;
-  listed = listed_none ranges 0 end refl;
-}
+  -- ---- a lookup among the starts
+  at_start : (i : ℕ) (r : Range) (d : ℕ) → HasRange ranges i r → get_or starts i d ≡ r.start
+  at_start i r d h =
+      let own = a.each i (in_list ranges i r h) in
+      get_or_from_slice_get starts i own.0.start d own.2 ∙ ap (λ (x : Range). x.start) (one_range ranges i own.0 r own.1 h)
 
-module _ (ranges : List (Option Range)) (tree : List Entry) (total k rank end place : ℕ) (t : total ≡ 2 ^ digits (length ranges)) (few : length ranges < 2 ^ 63)
-    (p : PutTo ranges tree total k rank end) (before : k < total) (at : place ≡ place_at total k) where
-  pub put_within : place < length ranges → rank < length ranges
-  put_within h = let one = (ranks_at (length ranges) total k t few p.starts before).has (omega (arith, h, at)) in omega (arith, one.1, p.ranks)
+  pub starts_ascend : AllPairs (λ p q. p < q) starts
+  starts_ascend i j d lt h =
+      let r = a.each i (omega (arith, a.long)) in
+      let s = a.each j (omega (arith, a.long)) in
+      let up = a.apart i j lt r.0 s.0 r.1 s.1 in
+      rw (at_start i r.0 d r.1, at_start j s.0 d s.1) (omega (arith, up, r.0.ordered))
 
-  pub put_one : (next after : ℕ) (r : Range) → place < length ranges → HasRange ranges rank r → (0 < rank → end < r.start) → next ≡ k + 1 → after ≡ rank + 1
-      → PutTo ranges (slice_set tree place (entry r rank)) total next after r.end
-  put_one next after r within here behind n m =
-      let sorted = slots 0 ranges in
-      let long = length-slots 0 ranges in
-      let one = (ranks_at (length ranges) total k t few p.starts before).has (omega (arith, within, at)) in
-      let next_rank : rank_at total (length ranges) next ≡ rank_at total (length ranges) (suc k) = ap (rank_at total (length ranges)) (omega arith) in
-      let there = subst (λ (i : ℕ). slice_get sorted i ≡ Some (entry r rank)) (p.ranks ∙ ap (λ (len : ℕ). rank_at total len k) (sym long))
-      (slots-get 0 rank rank ranges r (omega arith) here) in
-      record {
-        starts = omega arith;
-        whole = length-set tree place (entry r rank) ∙ p.whole;
-        ranks = omega (arith, p.ranks, one.0, next_rank);
-        filled = rw n (filled_put tree sorted total k place (entry r rank) (total_of _ _ _ t (sym long)) (omega (arith, few, long))
-            (p.whole ∙ sym long) p.starts before at (omega (arith, within, long)) there p.filled);
-        listed = listed_one ranges rank end after r here behind m p.listed;
-      }
+  module _ (address count : ℕ) (below : (place default : ℕ) → place < count → get_or starts place default ≤ address)
+      (above : (place default : ℕ) → count ≤ place → place < length starts → address < get_or starts place default) where
+    -- a range that begins at the address or below it is one of the first so many
+    is_below : (place : ℕ) (r : Range) → HasRange ranges place r → r.start ≤ address → place < count
+    is_below place r h le = elim (cases_lt place count) [
+      | inl lt ↦ lt
+      | inr ge ↦
+          (let lt = in_list ranges place r h in
+          let far = above place 0 ge (omega (arith, lt, a.long)) in
+          absurd (omega (arith, far, at_start place r 0 h, le)))
+    ]
 
-  pub put_skip : (next : ℕ) → length ranges ≤ place → next ≡ k + 1 → PutTo ranges tree total next rank end
-  put_skip next past n =
-      let long = length-slots 0 ranges in
-      let gone = (ranks_at (length ranges) total k t few p.starts before).past (omega (arith, past, at)) in
-      let next_rank : rank_at total (length ranges) next ≡ rank_at total (length ranges) (suc k) = ap (rank_at total (length ranges)) (omega arith) in
-      record {
-        starts = omega arith;
-        whole = p.whole;
-        ranks = omega (arith, p.ranks, gone, next_rank);
-        filled = rw n (filled_skip tree (slots 0 ranges) total k place at (omega (arith, past, long)) p.filled);
-        listed = p.listed;
-      }
+    pub none_below : count ≡ 0 → IsFound (slots 0 ranges) address None
+    none_below z e c inside = let lt = is_below e.place e.range ((holds e).0 c) inside.0 in omega (arith, lt, z)
 
-module _ (ranges : List (Option Range)) (tree : List Entry) (total k rank end : ℕ) (t : total ≡ 2 ^ digits (length ranges)) (few : length ranges < 2 ^ 63)
-    (ends : k ≡ total) (p : PutTo ranges tree total k rank end) where
-  walk_is : walk tree ≡ slots 0 ranges
-  walk_is =
-      let long = length-slots 0 ranges in
-      filled_all tree (slots 0 ranges) total k (total_of _ _ _ t (sym long)) (omega (arith, few, long)) (p.whole ∙ sym long) (omega (arith, ends)) p.filled
+    module _ (place : ℕ) (r : Range) (next : count ≡ place + 1) (here : HasRange ranges place r) where
+      pub ends_below : r.end < address → IsFound (slots 0 ranges) address None
+      ends_below past e c inside =
+          let has = (holds e).0 c in
+          let lt = is_below e.place e.range has inside.0 in
+          let first = below place 0 (omega arith) in
+          elim (cases_lt e.place place) [
+            | inl before ↦ (let up = a.apart e.place place before e.range r has here in omega (arith, up, inside.1, first, at_start place r 0 here))
+            | inr after ↦
+                (let same : e.place ≡ place = omega (arith, lt, next, after) in
+                let one = one_range ranges place e.range r (subst (λ (i : ℕ). HasRange ranges i e.range) same has) here in
+                omega (arith, past, inside.1, ap (λ (x : Range). x.end) one))
+          ]
 
-  pub put_all : IsIndexOf ranges (walk tree)
-  put_all =
-      let last : rank_at total (length ranges) k ≡ rank_at (2 ^ digits (length ranges)) (length ranges) (2 ^ digits (length ranges)) = rw (ends, t) refl in
-      subst (IsIndexOf ranges) (sym walk_is) (listed_index ranges rank end (omega (arith, p.ranks, last, rank_end (length ranges))) p.listed)
+      pub found_there : address ≤ r.end → IsFound (slots 0 ranges) address (Some place)
+      found_there le =
+          let first = below place 0 (omega (arith, next)) in
+          (entry r place, (holds (entry r place)).1 here, (omega (arith, first, at_start place r 0 here), le), refl)
 
-  pub put_tree : IsSearchTree tree
-  put_tree = record { ascending = put_all.ascending; whole = ap (λ (l : List Entry). length l) walk_is ∙ length-slots 0 ranges ∙ sym p.whole }
+-- the regions by address are the list
+pub listed_by_address : {R : Type 0} (range : R → Option Range) (regions : List R) (starts : List ℕ) → AreStarts (map range regions) starts
+    → IsByAddress range regions regions
+listed_by_address range regions starts a =
+    let entries = slots 0 (map range regions) in
+    subst (IsByAddress range regions) (at_slots regions 0 (map range regions) (omega (arith, length-map regions range)))
+    (by_address range regions entries (places entries) (starts_index (map range regions) starts a) refl)

@@ -39,10 +39,6 @@ pub digits-rises : (m n : ℕ) → m ≤ n → digits m ≤ digits n
 unfolding digits
 digits-rises m n h = omega (arith, enough m n m (omega arith) h, rises n m n h (omega arith))
 
--- one probe halves what is left
-pub one_probe : (n m : ℕ) → 0 < n → m ≤ n / 2 → 1 + digits m ≤ digits n
-one_probe n m h k = omega (arith, digits-half n h, digits-rises m (n / 2) k)
-
 -- ---- between powers of two
 twice : (n : ℕ) → 2 ^ (1 + n) ≡ 2 * 2 ^ n
 twice n = pow-add 2 1 n

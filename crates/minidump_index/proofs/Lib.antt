@@ -2,6 +2,7 @@
 pub mod AddressOrder
 pub mod AscendingRegions
 pub mod ContainsLemmas
+pub mod CountLemmas
 pub mod DigitsLemmas
 pub mod FoundInside
 pub mod KeptEntries
@@ -16,6 +17,7 @@ pub mod RegionLaws
 pub mod RegionViews
 pub mod RegionsLemmas
 pub mod SameRange
+pub mod StartsLookup
 pub mod StoredLemmas
 pub mod TreeLemmas
 pub mod WalkLemmas

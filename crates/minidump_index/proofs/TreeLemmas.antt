@@ -205,11 +205,6 @@ one_below e address i found r left right = elim (cases_lt address e.range.start)
   | inr le ↦ rw (right le) (omega arith, omega arith)
 ]
 
--- no probe is made without a level
-pub descent_within : (tree : List Entry) (address i found spent limit : ℕ) → i < length tree
-    → Descent tree address i found spent limit → spent + 1 ≤ limit
-descent_within tree address i found spent limit h d = omega (arith, d.within, one_level d.levels (length tree) i h d.enough)
-
 nothing_past : (tree : List Entry) (levels i : ℕ) (e : Entry) → length tree ≤ i → Contains (in_order levels tree i) e → ⊥
 nothing_past tree levels i e h c =
     let none = subst (λ (l : List Entry). Contains l e) (past levels tree i h) c in omega (arith, none.1)

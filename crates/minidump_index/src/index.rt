@@ -7,7 +7,6 @@ ghost use Rattle.minidump_index.specs.declared.range.Range.{Range};
 ghost use Rattle.minidump_index.specs.declared.index.Entry.{Entry};
 ghost use Rattle.minidump_index.specs.Digits.{digits};
 ghost use Rattle.minidump_index.specs.Kept.{places, IsIndexOf, HoldsRanged, IsFound, IsAscending, IsInOrder, KeepsApart};
-ghost use Rattle.minidump_index.specs.declared.index.Put.{Put};
 ghost use Rattle.minidump_index.specs.Tree.{IsSearchTree, entries_of, place_at, walk, walk_from};
 
 use crate::stored::{Small, Wide};
@@ -50,7 +49,8 @@ impl Model for AddressIndex {
 
 // Collects the regions that have a range, as that range and their index.
 fn ranged<R: Region>(alloc: Global, regions: &[R]) -> Result<Vec<Entry>, AllocError>
-    ensures { IfOk result (λ v. HoldsRanged (map R.range regions.now) v.items) }
+    ensures ranged { IfOk result (λ v. HoldsRanged (map R.range regions.now) v.items) }
+    ensures few { IfOk result (λ _. length regions.now < 2 ^ 63) }
 {
     let mut entries = Vec::with_capacity(alloc, regions.len())?;
     for (place, region) in regions.iter().enumerate() {
@@ -123,48 +123,6 @@ fn place_at(total: usize, k: usize) -> usize
     ((total + k) >> k.trailing_zeros() >> 1) - 1
 }
 
-// How a list of regions went into a tree.
-pub enum Put {
-    // Each region is in the tree.
-    All,
-    // A region doesn't fit into the tree's entries.
-    TooWide,
-    // A region has no range, or starts no later than the region before it ends.
-    OutOfOrder,
-}
-
-// Fills a tree with the regions of a list of the same length, if each region has a range, starts behind the end
-// of the region before it, and fits the entries of the tree. If not, the tree is partly filled.
-fn put_regions<S: Stored, R: Region>(tree: &mut Vec<S>, regions: &[R]) -> Put
-    requires { length tree.old.items ≡ length regions.now }
-    ensures all { result ≡ Put.All → IsIndexOf (map R.range regions.now) (walk (map S.value tree.new.items)) }
-    ensures tree { result ≡ Put.All → IsSearchTree (map S.value tree.new.items) }
-{
-    let len = tree.len();
-    let total = full(len);
-    let mut rank = 0;
-    let mut end = 0;
-    for k in 1..total {
-        let place = place_at(total, k);
-        if place < len {
-            let Some(range) = regions[rank].memory_range() else {
-                return Put::OutOfOrder;
-            };
-            if rank > 0 && range.start <= end {
-                return Put::OutOfOrder;
-            }
-            let entry = Entry { range, place: rank };
-            if !S::holds(entry) {
-                return Put::TooWide;
-            }
-            tree[place] = S::of(entry);
-            end = range.end;
-            rank += 1;
-        }
-    }
-    Put::All
-}
-
 // Fills a tree with the same number of ascending entries.
 fn put_entries<S: Stored>(tree: &mut Vec<S>, entries: &[Entry])
     requires same { length tree.old.items ≡ length entries.now }
@@ -186,41 +144,6 @@ fn put_entries<S: Stored>(tree: &mut Vec<S>, entries: &[Entry])
 
 // Builds the tree of the kept ranges of regions. It has entries of 16 bytes if the kept ranges fit them.
 fn tree_of<R: Region>(alloc: Global, regions: &[R]) -> Result<Tree, AllocError>
-    ensures kept { IfOk result (λ tree. IsIndexOf (map R.range regions.now) (walk (entries_of tree))) }
-    ensures tree { IfOk result (λ tree. IsSearchTree (entries_of tree)) }
-{
-    let mut tree = vec![in alloc; Small::NONE; regions.len()]?;
-    match put_regions(&mut tree, regions) {
-        Put::All => Ok(Tree::Small(tree)),
-        Put::TooWide => {
-            drop(tree);
-            wide_tree(alloc, regions)
-        }
-        Put::OutOfOrder => {
-            drop(tree);
-            sorted_tree(alloc, regions)
-        }
-    }
-}
-
-// Builds the tree of the kept ranges of regions, in entries of 24 bytes if they ascend.
-fn wide_tree<R: Region>(alloc: Global, regions: &[R]) -> Result<Tree, AllocError>
-    ensures kept { IfOk result (λ tree. IsIndexOf (map R.range regions.now) (walk (entries_of tree))) }
-    ensures tree { IfOk result (λ tree. IsSearchTree (entries_of tree)) }
-{
-    let mut tree = vec![in alloc; Wide::NONE; regions.len()]?;
-    match put_regions(&mut tree, regions) {
-        Put::All => Ok(Tree::Wide(tree)),
-        Put::TooWide | Put::OutOfOrder => {
-            drop(tree);
-            sorted_tree(alloc, regions)
-        }
-    }
-}
-
-// Builds the tree of the kept ranges of regions that need not ascend.
-fn sorted_tree<R: Region>(alloc: Global, regions: &[R]) -> Result<Tree, AllocError>
-    requires { length regions.now < 2 ^ 63 }
     ensures kept { IfOk result (λ tree. IsIndexOf (map R.range regions.now) (walk (entries_of tree))) }
     ensures tree { IfOk result (λ tree. IsSearchTree (entries_of tree)) }
 {

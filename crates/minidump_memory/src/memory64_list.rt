@@ -10,6 +10,7 @@ use crate::{MinidumpMemory64, MinidumpMemoryBase, MinidumpMemoryListBase};
 use minidump_bytes::{Endian, Entries, Source, Steps};
 use minidump_format::Error;
 use minidump_format::format::MINIDUMP_MEMORY_DESCRIPTOR64;
+use minidump_index::RegionListBuilder;
 use minidump_system::framing::entries_64;
 use minidump_system::{MinidumpStream, MinidumpSystemInfo};
 use std::alloc::Global;
@@ -47,7 +48,9 @@ impl<'a> MinidumpStream<'a> for MinidumpMemoryListBase<'a, MINIDUMP_MEMORY_DESCR
             return Ok(MinidumpMemoryListBase::new(alloc));
         }
         let regions = read_regions_64(alloc, rva, descriptors, all, endian, steps)?;
-        MinidumpMemoryListBase::from_regions(alloc, regions)
+        Ok(MinidumpMemoryListBase {
+            regions: regions.build(alloc)?,
+        })
     }
 }
 
@@ -84,14 +87,14 @@ fn read_regions_64<'a>(
     all: Source<'a>,
     endian: Endian,
     steps: &mut Steps,
-) -> Result<Vec<MinidumpMemory64<'a>>, Error>
-    ensures means { Gives (λ v. map memory_of v.items) ⊤ result
+) -> Result<RegionListBuilder<MinidumpMemory64<'a>>, Error>
+    ensures means { Gives (map memory_of) ⊤ result
         (regions_64 endian (bytes_of all.entry) (record { rva = rva; items = descriptors.entry })) }
     ensures within { steps.new ≤ steps.old + length descriptors.entry }
     ensures grows { steps.old ≤ steps.new }
     ensures steps { IfOk result (λ _. steps.new ≡ after steps.old (length descriptors.entry)) }
 {
-    let mut regions = Vec::with_capacity(alloc, descriptors.len())?;
+    let mut regions = RegionListBuilder::with_capacity(alloc, descriptors.len())?;
     let mut place = rva;
     for desc in descriptors {
         let Some(region) = region_at(&desc, place, all, endian, steps) else {

@@ -9,7 +9,7 @@ use bitflags::Flags;
 use minidump_bytes::{Endian, Entries, Source, Steps};
 use minidump_format::Error;
 use minidump_format::format::{MINIDUMP_MEMORY_INFO, MemoryProtection, MemoryState, MemoryType};
-use minidump_index::{Range, Region, RegionList, RegionsByAddress};
+use minidump_index::{Range, Region, RegionList, RegionListBuilder, RegionsByAddress};
 use minidump_system::framing::extended_entries;
 use minidump_system::{MinidumpStream, MinidumpSystemInfo};
 use std::alloc::{AllocError, Global};
@@ -257,7 +257,9 @@ impl<'a> MinidumpStream<'a> for MinidumpMemoryInfoList<'a> {
             return Ok(MinidumpMemoryInfoList::new(alloc));
         }
         let infos = infos_of_entries(alloc, raws)?;
-        MinidumpMemoryInfoList::from_regions(alloc, infos)
+        Ok(MinidumpMemoryInfoList {
+            regions: infos.build(alloc)?,
+        })
     }
 }
 
@@ -265,10 +267,10 @@ impl<'a> MinidumpStream<'a> for MinidumpMemoryInfoList<'a> {
 fn infos_of_entries<'a>(
     alloc: Global,
     raws: Entries<'_, MINIDUMP_MEMORY_INFO>,
-) -> Result<Vec<MinidumpMemoryInfo<'a>>, AllocError>
-    ensures { IfOk result (λ v. map info_of v.items ≡ map info_in raws.entry) }
+) -> Result<RegionListBuilder<MinidumpMemoryInfo<'a>>, AllocError>
+    ensures { IfOk result (λ v. map info_of v ≡ map info_in raws.entry) }
 {
-    let mut infos = Vec::with_capacity(alloc, raws.len())?;
+    let mut infos = RegionListBuilder::with_capacity(alloc, raws.len())?;
     for raw in raws {
         infos.push(MinidumpMemoryInfo::of(raw))?;
     }

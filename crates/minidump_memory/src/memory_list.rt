@@ -14,7 +14,7 @@ use crate::{MinidumpMemory, MinidumpMemoryBase};
 use minidump_bytes::{Endian, Entries, Source, Steps};
 use minidump_format::Error;
 use minidump_format::format::{MINIDUMP_MEMORY_DESCRIPTOR, MINIDUMP_MEMORY_DESCRIPTOR64};
-use minidump_index::{RegionList, RegionsByAddress};
+use minidump_index::{RegionList, RegionListBuilder, RegionsByAddress};
 use minidump_system::framing::plain_entries;
 use minidump_system::{MinidumpStream, MinidumpSystemInfo};
 use std::alloc::{AllocError, Global};
@@ -27,7 +27,7 @@ use std::slice;
 /// end, `base_address + size`, is more than 2^64, has no addresses and is not kept.
 #[derive(Drop)]
 pub struct MinidumpMemoryListBase<'a, D> {
-    regions: RegionList<MinidumpMemoryBase<'a, D>>,
+    pub(crate) regions: RegionList<MinidumpMemoryBase<'a, D>>,
 }
 
 /// The memory list of a minidump. The bytes of a region may lie anywhere in the file.
@@ -169,7 +169,9 @@ impl<'a> MinidumpStream<'a> for MinidumpMemoryListBase<'a, MINIDUMP_MEMORY_DESCR
             return Ok(MinidumpMemoryListBase::new(alloc));
         }
         let regions = read_regions(alloc, descriptors, all, endian, steps)?;
-        MinidumpMemoryListBase::from_regions(alloc, regions)
+        Ok(MinidumpMemoryListBase {
+            regions: regions.build(alloc)?,
+        })
     }
 }
 
@@ -195,14 +197,14 @@ fn read_regions<'a>(
     all: Source<'a>,
     endian: Endian,
     steps: &mut Steps,
-) -> Result<Vec<MinidumpMemory<'a>>, AllocError>
-    ensures items { IfOk result (λ v. map memory_of v.items
+) -> Result<RegionListBuilder<MinidumpMemory<'a>>, AllocError>
+    ensures items { IfOk result (λ v. map memory_of v
         ≡ all_described endian (bytes_of all.entry) descriptors.entry) }
     ensures within { steps.new ≤ steps.old + length descriptors.entry }
     ensures grows { steps.old ≤ steps.new }
     ensures steps { IfOk result (λ _. steps.new ≡ after steps.old (sum_by spans_read descriptors.entry)) }
 {
-    let mut regions = Vec::with_capacity(alloc, descriptors.len())?;
+    let mut regions = RegionListBuilder::with_capacity(alloc, descriptors.len())?;
     for desc in descriptors {
         if let Some(region) = region_of(&desc, all, endian, steps) {
             regions.push(region)?;

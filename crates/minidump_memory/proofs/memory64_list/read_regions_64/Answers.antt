@@ -20,9 +20,9 @@ loop-desc-preserved c =
     let next : IsNext list.items i desc desc c.next.new.self = next_left list.items i desc _ _ (sym c.loop-desc.invariant.left ∙ c.in-Some.ensures.steps) in
     rw (one_given c.loop-desc.yielded desc) (record {
       left = next.left;
-      items = rw (c.in_ok-push.ensures.items)
+      items = rw (c.in_ok-push.ensures.pushed)
           (numbered_more (λ (p : ℕ × MINIDUMP_MEMORY_DESCRIPTOR64). region (place_64 list p.0) p.1)
-          memory_of list.items c.loop-desc.regions.items i desc c.in-Some-region_at.region
+          memory_of list.items c.loop-desc.regions i desc c.in-Some-region_at.region
           next.inside c.loop-desc.invariant.items (rw (next.item, ← c.loop-desc.invariant.place) c.in-Some-region_at.ensures.value));
       place = rw (place_more list i desc next.inside, next.item, c.loop-desc.invariant.place) refl;
       inside = λ _. c.in-Some-region_at.ensures.inside;

@@ -14,7 +14,7 @@ invariant-loop-desc l =
     let list : List64 MINIDUMP_MEMORY_DESCRIPTOR64 = record { rva = l.rva; items = l.fn.descriptors } in
     record {
       left : l.desc-iterator ≡ drop (length l.yielded) l.fn.descriptors;
-      items : map memory_of l.regions.items
+      items : map memory_of l.regions
           ≡ map (λ p. placed l.endian (bytes_of l.all) (place_64 list p.0) p.1) (enumerate_from 0 (take (length l.yielded) l.fn.descriptors));
       place : l.place ≡ place_64 list (length l.yielded);
       inside : 0 < length l.yielded → l.place ≤ length (bytes_of l.all);

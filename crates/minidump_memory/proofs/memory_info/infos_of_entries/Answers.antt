@@ -12,7 +12,7 @@ loop-raw-preserved c =
     let next : IsNext xs i raw raw c.next.new.self = next_left xs i raw raw _ (sym c.loop-raw.invariant.left ∙ c.in-Some.ensures.steps) in
     rw (one_given c.loop-raw.yielded raw) (record {
       left = next.left;
-      items = rw (c.in_ok-push.ensures.items, map_push, take_more xs i raw next.inside, map-append, next.item, c.loop-raw.invariant.items, c.of.ensures) refl;
+      items = rw (c.in_ok-push.ensures.pushed, map_push, take_more xs i raw next.inside, map-append, next.item, c.loop-raw.invariant.items, c.of.ensures) refl;
     })
 
 pub returns : goal.returns

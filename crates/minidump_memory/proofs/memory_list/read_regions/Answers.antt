@@ -18,8 +18,8 @@ loop-desc-preserved-in-Continue-branch-2 c =
     let next : IsNext xs i desc desc c.next.new.self = next_left xs i desc _ _ (sym c.loop-desc.invariant.left ∙ c.in-Some.ensures.steps) in
     rw (one_given c.loop-desc.yielded desc) (record {
       left = next.left;
-      items = rw (c.in_ok-push.ensures.items)
-          (kept_some found memory_of xs c.loop-desc.regions.items i desc _ next.inside c.loop-desc.invariant.items
+      items = rw (c.in_ok-push.ensures.pushed)
+          (kept_some found memory_of xs c.loop-desc.regions i desc _ next.inside c.loop-desc.invariant.items
           (rw (next.item) (rw c.in-Some-region_of.is at c.region_of.ensures.value)));
       within = omega (arith, c.region_of.ensures.within, c.loop-desc.invariant.within);
       grows = omega (arith, c.region_of.ensures.step, c.loop-desc.invariant.grows);
@@ -35,7 +35,7 @@ loop-desc-preserved c =
     let next : IsNext xs i desc desc c.next.new.self = next_left xs i desc _ _ (sym c.loop-desc.invariant.left ∙ c.in-Some.ensures.steps) in
     rw (one_given c.loop-desc.yielded desc) (record {
       left = next.left;
-      items = kept_none found memory_of xs c.loop-desc.regions.items i desc next.inside c.loop-desc.invariant.items
+      items = kept_none found memory_of xs c.loop-desc.regions i desc next.inside c.loop-desc.invariant.items
           (rw (next.item) (rw c.in_default.is at c.region_of.ensures.value));
       within = omega (arith, c.region_of.ensures.within, c.loop-desc.invariant.within);
       grows = omega (arith, c.region_of.ensures.step, c.loop-desc.invariant.grows);

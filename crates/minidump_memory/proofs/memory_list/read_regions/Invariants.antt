@@ -10,7 +10,7 @@ use Rattle.minidump_memory.proofs.memory_list.read_regions.Given as goal
 abbrev pub invariant-loop-desc : goal.invariant-loop-desc
 invariant-loop-desc l = record {
   left : l.desc-iterator ≡ drop (length l.yielded) l.fn.descriptors;
-  items : map memory_of l.regions.items ≡ all_described l.endian (bytes_of l.all) (take (length l.yielded) l.fn.descriptors);
+  items : map memory_of l.regions ≡ all_described l.endian (bytes_of l.all) (take (length l.yielded) l.fn.descriptors);
   within : l.steps ≤ l.fn.steps + length l.yielded;
   grows : l.fn.steps ≤ l.steps;
   counted : l.steps ≡ after l.fn.steps (sum_by spans_read (take (length l.yielded) l.fn.descriptors));

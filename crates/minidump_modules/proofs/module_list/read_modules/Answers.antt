@@ -12,23 +12,23 @@ use Rattle.minidump_modules.proofs.module_list.read_modules.Goals as goal
 pub loop-raw-init : goal.loop-raw-init
 loop-raw-init c = record {
   left = c.into_iter-raw-iterator.ensures.into_iter_gives;
-  modules = rw c.in_ok-modules.ensures.items (ok_none (read_module c.args.endian c.args.os (bytes_of c.args.all)) module_of);
+  modules = rw c.in_ok-modules.ensures.none (ok_none (read_module c.args.endian c.args.os (bytes_of c.args.all)) module_of);
   within = omega arith;
   grows = omega arith;
-  counted = rw c.in_ok-modules.ensures.items (omega arith);
+  counted = rw c.in_ok-modules.ensures.none (omega arith);
 }
 
 pub returns-in_err-read_counted-clause-means : goal.returns-in_err-read_counted-clause-means
 returns-in_err-read_counted-clause-means c =
     let next = next_left c.args.raws (length c.loop-raw.yielded) c.in-Some.raw _ _ (sym c.loop-raw.invariant.left ∙ c.in-Some.ensures.steps) in
     gives_exit _ _ _ _ _ c.from_residual-in_err-read_counted.ensures.1 (λ h. omega (arith, next.inside)) c.in_err-read_counted.ensures.means
-    (ok_refused _ module_of _ _ _ _ next c.loop-raw.modules.items has_range _ (sym c.has_range.ensures ∙ c.if-has_range.true) c.loop-raw.invariant.modules)
+    (ok_refused _ module_of _ _ _ _ next c.loop-raw.modules has_range _ (sym c.has_range.ensures ∙ c.if-has_range.true) c.loop-raw.invariant.modules)
 
 pub loop-raw-preserved-in_ok-push : goal.loop-raw-preserved-in_ok-push
 loop-raw-preserved-in_ok-push c =
-    let ms = c.loop-raw.modules.items in
+    let ms = c.loop-raw.modules in
     let next = next_left c.args.raws (length c.loop-raw.yielded) c.in-Some.raw _ _ (sym c.loop-raw.invariant.left ∙ c.in-Some.ensures.steps) in
-    rw (one_given c.loop-raw.yielded c.in-Some.raw, c.in_ok-push.ensures.items) (record {
+    rw (one_given c.loop-raw.yielded c.in-Some.raw, c.in_ok-push.ensures.pushed) (record {
       left = next.left;
       modules = ok_more _ module_of _ _ _ _ next ms has_range _
           (sym c.has_range.ensures ∙ c.if-has_range.true) c.loop-raw.invariant.modules c.in_ok-read_counted.ensures.means;
@@ -43,7 +43,7 @@ loop-raw-preserved c =
     let next = next_left c.args.raws (length c.loop-raw.yielded) c.in-Some.raw _ _ (sym c.loop-raw.invariant.left ∙ c.in-Some.ensures.steps) in
     rw (one_given c.loop-raw.yielded c.in-Some.raw) (record {
       left = next.left;
-      modules = ok_skip _ module_of _ _ _ _ next c.loop-raw.modules.items has_range
+      modules = ok_skip _ module_of _ _ _ _ next c.loop-raw.modules has_range
           (sym c.has_range.ensures ∙ c.if-has_range.false) c.loop-raw.invariant.modules;
       within = omega (arith, c.loop-raw.invariant.within);
       grows = omega (arith, c.loop-raw.invariant.grows);

@@ -11,8 +11,8 @@ use Rattle.minidump_modules.proofs.module_list.read_modules.Given as goal
 abbrev pub invariant-loop-raw : goal.invariant-loop-raw
 invariant-loop-raw l = record {
   left : l.raw-iterator ≡ drop (length l.yielded) l.fn.raws;
-  modules : all_ok (read_module l.endian l.os (bytes_of l.all)) (filter has_range (take (length l.yielded) l.fn.raws)) ≡ Ok (map module_of l.modules.items);
+  modules : all_ok (read_module l.endian l.os (bytes_of l.all)) (filter has_range (take (length l.yielded) l.fn.raws)) ≡ Ok (map module_of l.modules);
   within : l.steps ≤ l.fn.steps + 7 * length l.yielded;
   grows : l.fn.steps ≤ l.steps;
-  counted : l.steps ≡ after l.fn.steps (modules_read (map module_of l.modules.items));
+  counted : l.steps ≡ after l.fn.steps (modules_read (map module_of l.modules));
 }

@@ -1,0 +1,61 @@
+-- How many of ascending numbers are at most an address: a search that halves what is left.
+use Rattle.std.proofs.Common.{◌≡◌, ℕ, ◌<◌, ◌≤◌, ◌+◌, ◌-◌, ◌/◌, List, length, get_or, arith}
+use Rattle.std.proofs.Common.{inl, inr}
+use Rattle.std.specs.Prelude.{AllPairs}
+use Rattle.std.proofs.lemmas.Bool.{cases_lt}
+use Rattle.std.proofs.lemmas.List.{get_or_default}
+use Rattle.minidump_bytes.specs.Steps.{after}
+use Rattle.minidump_index.specs.Digits.{digits}
+use Rattle.minidump_index.proofs.DigitsLemmas.{digits-half}
+
+-- those before `first` are at most the address, those `len` places on are above it, and the probes are as many as len was halved
+pub record Halved (numbers : List ℕ) (address first len old now : ℕ) : Type 0 where
+  pub within : first + len ≤ length numbers
+  pub below : (place default : ℕ) → place < first → get_or numbers place default ≤ address
+  pub above : (place default : ℕ) → first + len ≤ place → place < length numbers → address < get_or numbers place default
+  pub spent : now + digits len ≤ old + digits (length numbers)
+  pub grows : old ≤ now
+  pub compared : len < length numbers → after old 1 ≤ now
+
+module _ (numbers : List ℕ) (up : AllPairs (λ p q. p < q) numbers) (address first len half now more old number : ℕ)
+    (some : 0 < len) (halves : half ≡ len / 2) (at : number ≡ get_or numbers (first + half) number) (step : more ≡ after now 1)
+    (h : Halved numbers address first len old now) where
+  -- a number before another is below it
+  before : (place d : ℕ) → place ≤ first + half → get_or numbers place d ≤ number
+  before place d le =
+      let same : get_or numbers (first + half) d ≡ get_or numbers (first + half) number = get_or_default numbers (first + half) d number (omega (arith, h.within, some, halves)) in
+      elim (cases_lt place (first + half)) [
+        | inl lt ↦ (let lower = up place (first + half) d lt (omega (arith, h.within, some, halves)) in omega (arith, lower, same, at))
+        | inr ge ↦ (let here : place ≡ first + half = omega arith in rw here (omega (arith, same, at)))
+      ]
+
+  behind : (place d : ℕ) → first + half ≤ place → place < length numbers → number ≤ get_or numbers place d
+  behind place d ge within =
+      let same : get_or numbers (first + half) d ≡ get_or numbers (first + half) number = get_or_default numbers (first + half) d number (omega (arith, h.within, some, halves)) in
+      elim (cases_lt (first + half) place) [
+        | inl lt ↦ (let higher = up (first + half) place d lt within in omega (arith, higher, same, at))
+        | inr le ↦ (let here : place ≡ first + half = omega arith in rw here (omega (arith, same, at)))
+      ]
+
+  paid : more + digits half ≤ old + digits (length numbers)
+  paid = rw halves (omega (arith, digits-half len some, h.spent, step))
+
+  pub halved_right : (next : ℕ) → number ≤ address → next ≡ first + len - half → Halved numbers address next half old more
+  halved_right next le e = record {
+    within = omega (arith, h.within, halves, some);
+    below = λ place d lt. (let low = before place d (omega (arith, lt, e, halves)) in omega (arith, low, le));
+    above = λ place d ge lt. h.above place d (omega (arith, ge, e, halves)) lt;
+    spent = paid;
+    grows = omega (arith, h.grows, step);
+    compared = λ _. omega (arith, h.grows, step);
+  }
+
+  pub halved_left : address < number → Halved numbers address first half old more
+  halved_left lt = record {
+    within = omega (arith, h.within, halves);
+    below = h.below;
+    above = λ place d ge within. (let high = behind place d ge within in omega (arith, high, lt));
+    spent = paid;
+    grows = omega (arith, h.grows, step);
+    compared = λ _. omega (arith, h.grows, step);
+  }

@@ -1,0 +1,102 @@
+ghost use Rattle.std.specs.Prelude.{◌≡◌, ◌↔◌, ◌+◌, ◌<◌, ◌≤◌, [], ◌∷◌, ◌++◌, ℕ, List, Option, Some, IfOk, OnErr, AllPairs, IsTrue, MatchBool, get_or, length, map};
+ghost use Rattle.minidump_bytes.specs.Steps.{after};
+ghost use Rattle.minidump_index.specs.declared.range.Range.{Range};
+ghost use Rattle.minidump_index.specs.Digits.{digits};
+ghost use Rattle.minidump_index.specs.Starts.{AreOf};
+
+use crate::{Range, Region};
+use minidump_bytes::{Steps, probe};
+use std::alloc::{AllocError, Global};
+use std::cmp::Ordering;
+
+/// The starts of the ranges of a list, if each region has a range and starts behind the end of the one before.
+#[derive(Drop)]
+pub struct Starts {
+    /// The starts, or `None` if the list isn't so.
+    pub items: Option<Vec<u64>>,
+    /// The last address of the last range.
+    pub end: u64,
+}
+
+impl Starts {
+    // Makes room for the starts of so many ranges.
+    pub(crate) fn with_capacity(alloc: Global, count: usize) -> Result<Starts, AllocError>
+        ensures none { IfOk result (AreOf []) }
+        ensures some { OnErr result (0 < count) }
+    {
+        let items = Some(Vec::with_capacity(alloc, count)?);
+        Ok(Starts { items, end: 0 })
+    }
+
+    // Collects the starts of regions.
+    pub(crate) fn of_regions<R: Region>(alloc: Global, regions: &[R]) -> Result<Starts, AllocError>
+        ensures starts { IfOk result (AreOf (map R.range regions.now)) }
+        ensures some { OnErr result (0 < length regions.now) }
+    {
+        let mut starts = Starts::with_capacity(alloc, regions.len())?;
+        for region in regions {
+            starts.push(region.memory_range())?;
+        }
+        Ok(starts)
+    }
+
+    // Takes the range of the next region.
+    pub(crate) fn push(&mut self, range: Option<Range>) -> Result<(), AllocError>
+        ensures pushed { IfOk result (λ _. (ranges : List (Option Range)) → AreOf ranges self.old → AreOf (ranges ++ range ∷ []) self.new) }
+        ensures same { OnErr result ((ranges : List (Option Range)) → AreOf ranges self.old → AreOf ranges self.new) }
+    {
+        let Some(starts) = &mut self.items else {
+            return Ok(());
+        };
+        match range {
+            Some(range) if goes_on(starts, self.end, range) => {
+                starts.push(range.start)?;
+                self.end = range.end;
+            }
+            _ => self.items = None,
+        }
+        Ok(())
+    }
+}
+
+// Tells whether a range starts behind the end of those before it, if there are any.
+fn goes_on(starts: &[u64], end: u64, range: Range) -> bool
+    ensures { IsTrue result ↔ (0 < length starts.now → end < range.start) }
+{
+    starts.is_empty() || end < range.start
+}
+
+// Tells whether a range that starts at `start` does so at or below the address. Counts one comparison.
+#[inline(always)]
+fn starts_by(start: u64, address: u64, steps: &mut Steps) -> bool
+    ensures answer { MatchBool result (start ≤ address) (address < start) }
+    ensures step { steps.new ≡ after steps.old 1 }
+{
+    probe(start, u64::MAX, address, steps) != Ordering::Less
+}
+
+// Returns how many of ascending starts are at or below the address.
+//
+// The number of comparisons depends on the number of starts alone: each halves what is left, whichever way it goes.
+#[inline(always)]
+pub(crate) fn count_up_to(starts: &[u64], address: u64, steps: &mut Steps) -> usize
+    requires { AllPairs (λ p q. p < q) starts.now }
+    ensures count { result ≤ length starts.now }
+    ensures below { (place default : ℕ) → place < result → get_or starts.now place default ≤ address }
+    ensures above { (place default : ℕ) → result ≤ place → place < length starts.now → address < get_or starts.now place default }
+    ensures within { steps.new ≤ steps.old + digits (length starts.now) }
+    ensures grows { steps.old ≤ steps.new }
+    ensures compared { 0 < length starts.now → after steps.old 1 ≤ steps.new }
+{
+    // The starts before `first` are at or below the address, those `len` places on are above it.
+    let mut first = 0;
+    let mut len = starts.len();
+    while len > 0 {
+        let half = len / 2;
+        // A number and no branch: which way it goes can't be foretold.
+        let right = starts_by(starts[first + half], address, steps);
+        first = if right { first + len - half } else { first };
+        len = half;
+    }
+    first
+}
