@@ -6,8 +6,8 @@ use minidump_format::Error;
 use std::alloc::{AllocError, Global};
 use std::marker::Model;
 
-/// Regions on their way into a [`RegionList`]. It collects the starts of their ranges as it takes them, so that a list that
-/// ascends is indexed once it is read.
+/// Makes a [`RegionList`] of regions that come one by one. As long as they ascend it collects the starts of their ranges, so
+/// that a list that ascends is done with the last of them.
 #[derive(Drop)]
 pub struct RegionListBuilder<R: Region> {
     regions: Vec<R>,
