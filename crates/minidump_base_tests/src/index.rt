@@ -1,7 +1,7 @@
 // Tests of `minidump_index`.
 use minidump_bytes::Steps;
 use minidump_format::Error;
-use minidump_index::{AddressIndex, Range, RegionList};
+use minidump_index::{AddressIndex, Range, RegionList, RegionListBuilder};
 use std::alloc::{AllocError, Global};
 
 // The ranges of regions, by their bases and sizes.
@@ -60,10 +60,30 @@ fn kept_are(alloc: Global, row: &(&[(u64, u64)], &[usize])) -> Result<bool, Erro
     )
 }
 
+// The same regions in a list made of a vector, and in one that takes them one by one.
+fn lists_keep(alloc: Global, row: &(&[(u64, u64)], &[usize])) -> Result<bool, Error> {
+    let ranges = ranges_of(alloc, row.0)?;
+    let mut builder = RegionListBuilder::with_capacity(alloc, 0)?;
+    for range in &ranges {
+        builder.push(*range)?;
+    }
+    let built = builder.build(alloc)?;
+    let mut taken = built.by_addr();
+    let list = RegionList::from_regions(alloc, ranges_of(alloc, row.0)?)?;
+    let mut kept = list.by_addr();
+    Ok(
+        kept.len() == row.1.len()
+            && taken.len() == row.1.len()
+            && row.1.iter().all(|place| kept.next() == ranges.get(*place)
+                && taken.next() == ranges.get(*place)),
+    )
+}
+
 #[test]
 fn keeps_what_shares_no_address(rt: HostRuntime) {
     for row in KEPT {
         assert!(rt; kept_are(rt.alloc(), row) == Ok(true), "{:?}", row.0);
+        assert!(rt; lists_keep(rt.alloc(), row) == Ok(true), "{:?}", row.0);
     }
 }
 
@@ -91,7 +111,7 @@ const UP: &[(u64, u64)] = &[(0, 4), (10, 4), (20, 4), (30, 4), (40, 4), (50, 4),
 #[rattlefmt::skip]
 const DOWN: &[(u64, u64)] = &[(70, 4), (60, 4), (50, 4), (40, 4), (30, 4), (20, 4), (10, 4), (0, 4)];
 
-// How many regions a lookup of the base of each of the first regions of `UP` goes by: one a level of the complete
+// How many regions a lookup in an index, of the base of each of the first regions of `UP`, goes by: one a level of the complete
 // tree whose last level is filled from the left, and none of that level where it has no region below the others.
 #[rattlefmt::skip]
 const DEPTHS: &[&[(u64, u128)]] = &[
@@ -182,7 +202,7 @@ fn lists_regions(alloc: Global) -> Result<bool, Error> {
     )
 }
 
-// How many of the first regions of `UP` are listed, and how many a lookup compares then.
+// How many of the first regions of `UP` are listed, and how many comparisons a lookup makes then.
 #[rattlefmt::skip]
 const COMPARED: &[(usize, u128)] = &[(0, 0), (1, 1), (2, 2), (3, 2), (4, 3), (5, 3), (7, 3), (8, 4)];
 

@@ -8,14 +8,13 @@ use Rattle.minidump_bytes.specs.Steps.{after}
 use Rattle.minidump_index.specs.Digits.{digits}
 use Rattle.minidump_index.proofs.DigitsLemmas.{digits-half}
 
--- those before `first` are at most the address, those `len` places on are above it, and the probes are as many as len was halved
+-- those before `first` are at most the address, those `len` places on are above it, and each probe has halved what was left
 pub record Halved (numbers : List ℕ) (address first len old now : ℕ) : Type 0 where
   pub within : first + len ≤ length numbers
   pub below : (place default : ℕ) → place < first → get_or numbers place default ≤ address
   pub above : (place default : ℕ) → first + len ≤ place → place < length numbers → address < get_or numbers place default
-  pub spent : now + digits len ≤ old + digits (length numbers)
-  pub grows : old ≤ now
-  pub compared : len < length numbers → after old 1 ≤ now
+  pub levels : digits len ≤ digits (length numbers)
+  pub spent : now ≡ after old (digits (length numbers) - digits len)
 
 module _ (numbers : List ℕ) (up : AllPairs (λ p q. p < q) numbers) (address first len half now more old number : ℕ)
     (some : 0 < len) (halves : half ≡ len / 2) (at : number ≡ get_or numbers (first + half) number) (step : more ≡ after now 1)
@@ -37,17 +36,16 @@ module _ (numbers : List ℕ) (up : AllPairs (λ p q. p < q) numbers) (address f
         | inr le ↦ (let here : place ≡ first + half = omega arith in rw here (omega (arith, same, at)))
       ]
 
-  paid : more + digits half ≤ old + digits (length numbers)
-  paid = rw halves (omega (arith, digits-half len some, h.spent, step))
+  fewer : digits len ≡ 1 + digits half
+  fewer = rw halves (digits-half len some)
 
   pub halved_right : (next : ℕ) → number ≤ address → next ≡ first + len - half → Halved numbers address next half old more
   halved_right next le e = record {
     within = omega (arith, h.within, halves, some);
     below = λ place d lt. (let low = before place d (omega (arith, lt, e, halves)) in omega (arith, low, le));
     above = λ place d ge lt. h.above place d (omega (arith, ge, e, halves)) lt;
-    spent = paid;
-    grows = omega (arith, h.grows, step);
-    compared = λ _. omega (arith, h.grows, step);
+    levels = omega (arith, h.levels, fewer);
+    spent = omega (arith, h.levels, h.spent, fewer, step);
   }
 
   pub halved_left : address < number → Halved numbers address first half old more
@@ -55,7 +53,6 @@ module _ (numbers : List ℕ) (up : AllPairs (λ p q. p < q) numbers) (address f
     within = omega (arith, h.within, halves);
     below = h.below;
     above = λ place d ge within. (let high = behind place d ge within in omega (arith, high, lt));
-    spent = paid;
-    grows = omega (arith, h.grows, step);
-    compared = λ _. omega (arith, h.grows, step);
+    levels = omega (arith, h.levels, fewer);
+    spent = omega (arith, h.levels, h.spent, fewer, step);
   }

@@ -9,6 +9,7 @@ use Rattle.minidump_index.specs.Digits.{digits}
 use Rattle.minidump_index.specs.Kept.{IsFound}
 use Rattle.minidump_index.specs.Lookup.{IsCountedLookup}
 use Rattle.minidump_index.specs.Starts.{AreStarts}
+use Rattle.minidump_index.proofs.DigitsLemmas.{digits-half}
 use Rattle.minidump_index.proofs.AscendingRegions.{slots, starts_index, as_many, none_below, ends_below, found_there}
 use Rattle.minidump_index.proofs.LookupLemmas.{counted_none, counted_some}
 use Rattle.minidump_index.proofs.RangedEntries.{at_region, has_region, place_within}
@@ -29,15 +30,19 @@ module _ {R : Type 0} (range : R → Option Range) (regions : List R) (starts : 
 
   module _ (below : (place default : ℕ) → place < count → get_or starts place default ≤ address)
       (above : (place default : ℕ) → count ≤ place → place < length starts → address < get_or starts place default)
-      (old new : ℕ) (within : new ≤ old + digits (length starts)) (grows : old ≤ new) (compared : 0 < length starts → after old 1 ≤ new) where
-    entries_within : new ≤ old + digits (length (slots 0 (map range regions)))
-    entries_within = rw (as_many (map range regions) starts a) within
+      (old new : ℕ) (steps : new ≡ after old (digits (length starts))) where
+    within : new ≤ old + digits (length (slots 0 (map range regions)))
+    within = rw (as_many (map range regions) starts a) (omega (arith, steps))
 
-    entries_compared : 0 < length (slots 0 (map range regions)) → after old 1 ≤ new
-    entries_compared h = compared (omega (arith, h, as_many (map range regions) starts a))
+    grows : old ≤ new
+    grows = omega (arith, steps)
+
+    compared : 0 < length (slots 0 (map range regions)) → after old 1 ≤ new
+    compared h =
+        let some : 0 < length starts = omega (arith, h, as_many (map range regions) starts a) in omega (arith, steps, digits-half (length starts) some)
 
     nowhere : IsFound (slots 0 (map range regions)) address None → IsCountedLookup range regions address old new None
-    nowhere none = counted_none range regions _ address old new (starts_index (map range regions) starts a) entries_within grows entries_compared none
+    nowhere none = counted_none range regions _ address old new (starts_index (map range regions) starts a) within grows compared none
 
     pub above_none : count ≡ 0 → IsCountedLookup range regions address old new None
     above_none z = nowhere (none_below (map range regions) starts a address count below above z)
@@ -50,5 +55,5 @@ module _ {R : Type 0} (range : R → Option Range) (regions : List R) (starts : 
 
       pub in_last : address ≤ r.end → IsCountedLookup range regions address old new (Some region)
       in_last le =
-          counted_some range regions _ address old new (starts_index (map range regions) starts a) entries_within grows entries_compared place region
+          counted_some range regions _ address old new (starts_index (map range regions) starts a) within grows compared place region
           (found_there (map range regions) starts a address count below above place r next (has_region range regions place region o r lt at is some) le) at

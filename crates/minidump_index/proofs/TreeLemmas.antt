@@ -133,10 +133,6 @@ split_levels : (tree : List Entry) (i : ℕ) (e : Entry) → i < length tree →
 split_levels tree i e h at zero k = absurd (omega arith)
 split_levels tree i e h at (suc levels) k = (levels, refl, here levels tree i e h at)
 
-one_level : (levels len i : ℕ) → i < len → len < (i + 1) * 2 ^ levels → 0 < levels
-one_level zero len i h k = absurd (omega arith)
-one_level (suc levels) len i h k = omega arith
-
 pub descent_left : (tree : List Entry) (address i found spent more limit : ℕ) (e : Entry) → i < length tree → e ≡ get_or tree i e
     → address < e.range.start → more ≤ spent + 1
     → Descent tree address i found spent limit → Descent tree address (2 * i + 1) found more limit

@@ -1,4 +1,4 @@
--- How a list of regions is ordered by address.
+-- How a list finds its regions by address, and what is left to an iterator over them.
 use Rattle.std.specs.Prelude.{List, Option}
 use Rattle.std.specs.Slice.Iter.{iter_rest}
 use Rattle.minidump_index.specs.declared.range.Range.{Range}
@@ -9,7 +9,7 @@ use Rattle.minidump_index.specs.declared.by_address.Rest.TheVariants.{Listed, Ke
 use Rattle.minidump_index.specs.Kept.{IsIndexOf}
 use Rattle.minidump_index.specs.Starts.{AreStarts}
 
--- it has the starts of these ranges, or is an index of them
+-- the order is the starts of these ranges, or an index of them
 abbrev pub IsOrderOf : List (Option Range) → Order → Type 0
 IsOrderOf ranges (Starts v) = AreStarts ranges v.items
 IsOrderOf ranges (Index i) = IsIndexOf ranges i

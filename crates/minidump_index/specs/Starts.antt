@@ -11,10 +11,10 @@ pub record AreStarts (ranges : List (Option Range)) (starts : List ℕ) : Type 0
   pub each : (place : ℕ) → place < length ranges → (r : Range) × HasRange ranges place r × (slice_get starts place ≡ Some r.start)
   pub apart : (p q : ℕ) → p < q → EndsBefore ranges p q
 
--- no range ends behind this address
+-- no range ends after this address
 abbrev pub EndBy : List (Option Range) → ℕ → Type 0
 EndBy ranges end = (place : ℕ) (r : Range) → HasRange ranges place r → r.end ≤ end
 
--- the starts are those of these ranges, if there are any
+-- if there are starts, they are those of these ranges, none of which ends after `end`
 abbrev pub AreOf : List (Option Range) → Starts → Type 0
 AreOf ranges s = IfSome s.items (λ v. AreStarts ranges v.items × EndBy ranges s.end)

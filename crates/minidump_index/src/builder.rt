@@ -6,8 +6,8 @@ use minidump_format::Error;
 use std::alloc::{AllocError, Global};
 use std::marker::Model;
 
-/// Makes a [`RegionList`] of regions that come one by one. As long as they ascend it collects the starts of their ranges, so
-/// that a list that ascends is done with the last of them.
+/// Makes a [`RegionList`] of regions that come one by one. As long as they ascend, it collects the starts of their ranges,
+/// and then `build` has nothing left to do.
 #[derive(Drop)]
 pub struct RegionListBuilder<R: Region> {
     regions: Vec<R>,
@@ -26,7 +26,7 @@ impl<R: Region> Model for RegionListBuilder<R> {
 }
 
 impl<R: Region + Drop> RegionListBuilder<R> {
-    /// Makes room for so many regions. Returns `AllocError` only if there is one.
+    /// Makes a builder of no regions, with room for `count`. Returns `AllocError` only if `count` isn't 0.
     pub fn with_capacity(alloc: Global, count: usize) -> Result<RegionListBuilder<R>, AllocError>
         ensures none { IfOk result (λ regions. regions ≡ []) }
         ensures some { OnErr result (0 < count) }
@@ -36,7 +36,7 @@ impl<R: Region + Drop> RegionListBuilder<R> {
         Ok(RegionListBuilder { regions, starts })
     }
 
-    /// Appends a region. After an error the regions are as they were.
+    /// Appends a region. After an error the regions are as they were, and the region is dropped.
     pub fn push(&mut self, region: R) -> Result<(), AllocError>
         ensures pushed { IfOk result (λ _. self.new ≡ self.old ++ region ∷ []) }
         ensures same { OnErr result (self.new ≡ self.old) }

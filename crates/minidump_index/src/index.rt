@@ -1,4 +1,4 @@
-ghost use Rattle.std.specs.Prelude.{◌≡◌, ◌+◌, ◌-◌, ◌*◌, ◌^◌, ◌<◌, ◌≤◌, ℕ, Some, IfOk, IfErr, IfSome, OnErr, IsTrue, MatchBool, All, Any, MatchOption, [], ◌∷◌, ◌++◌, length, map, List, Option};
+ghost use Rattle.std.specs.Prelude.{◌≡◌, ◌+◌, ◌-◌, ◌*◌, ◌^◌, ◌<◌, ◌≤◌, ℕ, Some, IfOk, IfErr, IfSome, OnErr, MatchBool, All, Any, MatchOption, [], ◌∷◌, ◌++◌, length, map, List, Option};
 ghost use Rattle.std.specs.Iterator.{YieldsFirst, YieldsLast, UpTo, at_most, item_count};
 ghost use Rattle.std.specs.Iterator.SizeHint.{IsWithinCount};
 ghost use Rattle.std.specs.List.Sorted.{IsPermutation};
@@ -226,7 +226,7 @@ fn find<S: Stored>(tree: &[S], address: u64, steps: &mut Steps) -> Option<usize>
 
 impl AddressIndex {
     // Makes the index of no ranges.
-    pub(crate) fn empty(alloc: Global) -> AddressIndex
+    fn empty(alloc: Global) -> AddressIndex
         ensures { result ≡ [] }
     {
         AddressIndex {

@@ -14,7 +14,7 @@ use std::cmp::Ordering;
 pub struct Starts {
     /// The starts, or `None` if the list isn't so.
     pub items: Option<Vec<u64>>,
-    /// The last address of the last range.
+    /// No range ends after this address, as long as there are starts.
     pub end: u64,
 }
 
@@ -66,7 +66,7 @@ fn goes_on(starts: &[u64], end: u64, range: Range) -> bool
     starts.is_empty() || end < range.start
 }
 
-// Tells whether a range that starts at `start` does so at or below the address. Counts one comparison.
+// Tells whether `start` is at or below the address. Counts one comparison.
 #[inline(always)]
 fn starts_by(start: u64, address: u64, steps: &mut Steps) -> bool
     ensures answer { MatchBool result (start ≤ address) (address < start) }
@@ -84,9 +84,7 @@ pub(crate) fn count_up_to(starts: &[u64], address: u64, steps: &mut Steps) -> us
     ensures count { result ≤ length starts.now }
     ensures below { (place default : ℕ) → place < result → get_or starts.now place default ≤ address }
     ensures above { (place default : ℕ) → result ≤ place → place < length starts.now → address < get_or starts.now place default }
-    ensures within { steps.new ≤ steps.old + digits (length starts.now) }
-    ensures grows { steps.old ≤ steps.new }
-    ensures compared { 0 < length starts.now → after steps.old 1 ≤ steps.new }
+    ensures steps { steps.new ≡ after steps.old (digits (length starts.now)) }
 {
     // The starts before `first` are at or below the address, those `len` places on are above it.
     let mut first = 0;

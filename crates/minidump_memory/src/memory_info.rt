@@ -154,7 +154,7 @@ impl<'a> MinidumpMemoryInfoList<'a> {
         self.memory_info_at_address_counted(address, &mut Steps::new())
     }
 
-    /// Looks up as `memory_info_at_address` does, and counts the regions that it compares: at most as many as the
+    /// Looks up as `memory_info_at_address` does, and counts its comparisons with regions: at most as many as the
     /// number of kept regions has binary digits, and at least one if a region is kept.
     pub fn memory_info_at_address_counted(
         &self,

@@ -71,7 +71,7 @@ impl<'a, D: Drop> MinidumpMemoryListBase<'a, D> {
         self.memory_at_address_counted(address, &mut Steps::new())
     }
 
-    /// Looks up as `memory_at_address` does, and counts the regions that it compares: at most as many as the
+    /// Looks up as `memory_at_address` does, and counts its comparisons with regions: at most as many as the
     /// number of kept regions has binary digits, and at least one if a region is kept.
     pub fn memory_at_address_counted(
         &self,

@@ -71,7 +71,7 @@ impl MinidumpModuleList {
         self.module_at_address_counted(address, &mut Steps::new())
     }
 
-    /// Looks up as `module_at_address` does, and counts the modules that it compares: at most as many as the
+    /// Looks up as `module_at_address` does, and counts its comparisons with modules: at most as many as the
     /// number of kept modules has binary digits, and at least one if a module is kept.
     pub fn module_at_address_counted(
         &self,

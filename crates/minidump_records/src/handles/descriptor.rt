@@ -41,6 +41,8 @@ impl MinidumpHandleDescriptor {
 }
 
 // Reads the names of a descriptor and the information on its object.
+// Inlined, so that a handle is made where it stays.
+#[inline(always)]
 pub(super) fn read_handle(
     alloc: Global,
     raw: RawHandleDescriptor,
@@ -66,6 +68,7 @@ pub(super) fn read_handle(
 }
 
 // Reads the name at an RVA. Returns `Ok(None)` if the RVA is 0 or no text is there.
+#[inline(always)]
 #[tactic(auto, unfolding(crate::specs::Handles::name_at_rva))]
 fn read_name(
     alloc: Global,

@@ -12,7 +12,7 @@ returns-in_err-place g c =
     let n = c.count_up_to.ensures in
     rw c.from_residual.ensures
     (above_none g.R.Region.range c.args.regions.now c.args.starts.now c.requires c.args.address c.count_up_to.result n.below n.above c.args.steps.now
-    c.count_up_to.new.steps n.within n.grows n.compared (omega (arith, c.in_err-place.ensures)))
+    c.count_up_to.new.steps n.steps (omega (arith, c.in_err-place.ensures)))
 
 pub returns-in_err-memory_range : goal.returns-in_err-memory_range
 returns-in_err-memory_range g c =
@@ -27,7 +27,7 @@ pub returns-then-branch-address : goal.returns-then-branch-address
 returns-then-branch-address g c =
     let n = c.count_up_to.ensures in
     behind_last g.R.Region.range c.args.regions.now c.args.starts.now c.requires c.args.address c.count_up_to.result n.below n.above c.args.steps.now
-    c.count_up_to.new.steps n.within n.grows n.compared c.in_ok-place.place c.index-regions-place.result c.memory_range.result c.in_ok-memory_range.field-0
+    c.count_up_to.new.steps n.steps c.in_ok-place.place c.index-regions-place.result c.memory_range.result c.in_ok-memory_range.field-0
     (omega (arith, c.in_ok-place.ensures))
     (last_within g.R.Region.range c.args.regions.now c.args.starts.now c.requires c.args.address c.count_up_to.result c.in_ok-place.place
     (omega (arith, c.in_ok-place.ensures)) n.count)
@@ -37,7 +37,7 @@ pub returns : goal.returns
 returns g c =
     let n = c.count_up_to.ensures in
     in_last g.R.Region.range c.args.regions.now c.args.starts.now c.requires c.args.address c.count_up_to.result n.below n.above c.args.steps.now
-    c.count_up_to.new.steps n.within n.grows n.compared c.in_ok-place.place c.index-regions-place.result c.memory_range.result c.in_ok-memory_range.field-0
+    c.count_up_to.new.steps n.steps c.in_ok-place.place c.index-regions-place.result c.memory_range.result c.in_ok-memory_range.field-0
     (omega (arith, c.in_ok-place.ensures))
     (last_within g.R.Region.range c.args.regions.now c.args.starts.now c.requires c.args.address c.count_up_to.result c.in_ok-place.place
     (omega (arith, c.in_ok-place.ensures)) n.count)
