@@ -1,56 +1,32 @@
 -- Lines that are written one after another.
 use Rattle.std.specs.Prelude.{◌≡◌, ℕ, List, ◌++◌, Option, Some, None, Result, Ok, Err, IfErr, IsErrAnd}
-use Rattle.std.proofs.Common.{inl, inr, refl, ap, sym, ◌∙◌, append_assoc, subst}
-use Rattle.std.proofs.KnownBytes.{Appends-trans}
-use Rattle.minidump_bytes.proofs.ToldLemmas.{not_dead}
+use Rattle.std.proofs.Common.{inl, inr, refl}
 use Rattle.minidump_bytes.specs.declared.told.Told.{Told}
-use Rattle.minidump_bytes.specs.Told.{PutsAll, PutsBeginning}
+use Rattle.minidump_format.proofs.Blocking.{but_lost}
+use Rattle.minidump_format.proofs.Printing.{but_first, prints_longer, prints_then}
 use Rattle.minidump_format.specs.declared.error.Error.{Error}
+use Rattle.minidump_format.specs.Print.{out_of_memory}
 use Rattle.mdump.specs.Done.{IsOutputRefusal, TookAll, TookBeginning, Writes}
 use Rattle.minidump_index.specs.declared.range.Range.{Range}
 use Rattle.minidump_index.specs.Lookup.{HasRegionLaws}
 use Rattle.mdump.specs.Lines.{IsAt, Joined}
 
 module _ {D : Type 0} (contents : D → Option (List ℕ)) (First Rest : List ℕ → Type 0) where
-  -- a text that went out is a beginning of each longer one
-  went_out : (a b : Told D) (xs ys : List ℕ) → PutsAll contents a b xs → PutsBeginning contents a b (xs ++ ys)
-  went_out a b xs ys all = record { front = xs; rest = ys; split = refl; grown = all.grown; dead = not_dead all.ready }
-
   -- a line went out, and the rest was written
   pub joined : (a b c : Told D) (r : Result (Unit {0}) Error) → (text : List ℕ) × Rest text → TookAll First contents a b → Writes Rest contents b c r
       → Writes (Joined First Rest) contents a c r
-  joined a b c (Ok u) some (xs, first, all) (ys, rest, more) =
-      (xs ++ ys, (xs, ys, first, rest, refl), record { ready = all.ready; grown = Appends-trans _ _ _ _ _ all.grown more.grown; alive = more.alive })
+  joined a b c (Ok u) some (xs, first, all) (ys, rest, more) = (xs ++ ys, (xs, ys, first, rest, refl), prints_then contents a b c xs ys (Ok u) all more)
   joined a b c (Err e) (ys, rest) (xs, first, all) (inl same) =
-      inr (xs ++ ys, (xs, ys, first, rest, refl), subst (λ (t : Told D). PutsBeginning contents a t (xs ++ ys)) (sym same) (went_out a b xs ys all))
+      inr (xs ++ ys, (xs, ys, first, rest, refl), rw same (but_lost contents a b (xs ++ ys) ys (but_first contents a b xs ys all)))
   joined a b c (Err e) some (xs, first, all) (inr (ys, rest, part)) =
-      inr (
-        xs ++ ys,
-        (xs, ys, first, rest, refl),
-        record {
-          front = xs ++ part.front;
-          rest = part.rest;
-          split = ap (λ (l : List ℕ). xs ++ l) part.split ∙ sym (append_assoc xs part.front part.rest);
-          grown = Appends-trans _ _ _ _ _ all.grown part.grown;
-          dead = not_dead all.ready;
-        },
-      )
+      inr (xs ++ ys, (xs, ys, first, rest, refl), (prints_then contents a b c xs ys (Err (out_of_memory c)) all (part, refl)).0)
 
   -- a line was refused, and with it the rest
   pub cut : (a b : Told D) (r : Result (Unit {0}) Error) (e : Error) → IsErrAnd r (λ y. y ≡ e) → (text : List ℕ) × Rest text
       → TookBeginning First contents a b → Writes (Joined First Rest) contents a b r
   cut a b (Err x) e refused some (inl same) = inl same
-  cut a b (Err x) e refused (ys, rest) (inr (xs, first, part)) = inr (
-    xs ++ ys,
-    (xs, ys, first, rest, refl),
-    record {
-      front = part.front;
-      rest = part.rest ++ ys;
-      split = ap (λ (l : List ℕ). l ++ ys) part.split ∙ append_assoc part.front part.rest ys;
-      grown = part.grown;
-      dead = part.dead;
-    },
-  )
+  cut a b (Err x) e refused (ys, rest) (inr (xs, first, part)) =
+      inr (xs ++ ys, (xs, ys, first, rest, refl), (prints_longer contents a b xs ys (out_of_memory b) (part, refl)).0)
   cut a b (Ok u) e refused some began = absurd refused
 
 -- the line of what a lookup answers, where each list has an answer

@@ -1,38 +1,15 @@
 -- The codes of a family among those that are listed.
-use Rattle.std.proofs.Common.{◌≡◌, ℕ, ◌+◌, ◌<◌, Bool, true, false, zero, suc, List, [], ◌∷◌, ◌++◌, length, get_or, map, take}
+use Rattle.std.proofs.Common.{◌≡◌, ℕ, ◌<◌, Bool, true, false, zero, suc, List, [], ◌∷◌, length}
 use Rattle.std.proofs.Common.{refl, sym, ◌∙◌, All, AllPairs, filter, arith}
 use Rattle.std.specs.Borrow.{Bor}
 use Rattle.std.specs.Prelude.{if◌then◌else◌}
-use Rattle.std.proofs.lemmas.List.{get_or-map, length-map, map-append, map_push, take_more}
-use Rattle.std.proofs.lemmas.List.Elements.{filter-append}
+use Rattle.std.proofs.lemmas.List.{get_or-map, length-map}
 use Rattle.std.proofs.lemmas.List.Kept.{AllPairs-filter}
 use Rattle.minidump_reason.specs.declared.family.CodeFamily.{CodeFamily}
 use Rattle.minidump_reason.specs.Names.{LentEntries, IsAscending, entries_of, is_family}
-use Rattle.minidump_names.specs.declared.line.Listed.{Listed}
-use Rattle.minidump_names.specs.NameLine.{Listing, listing_of}
+use Rattle.minidump_names.specs.NameLine.{Listing}
 use Rattle.minidump_names.specs.NamesText.{InOrder, entries_of_family, entry_of}
 use Rattle.minidump_names.proofs.FamilyLemmas.{same_family}
-
--- ---- one more
-
-one : (b : Bool) (l : Listing) → map entry_of (if b then l ∷ [] else []) ≡ (if b then entry_of l ∷ [] else [])
-one true l = refl
-one false l = refl
-
-kept : (p : Listing → Bool) (l : Listing) → filter p (l ∷ []) ≡ (if p l then l ∷ [] else [])
-kept p l = refl
-
-pub entries_push : (ls : List Listing) (l : Listing) (f : CodeFamily)
-    → entries_of_family (ls ++ l ∷ []) f ≡ entries_of_family ls f ++ (if is_family l.family f then entry_of l ∷ [] else [])
-entries_push ls l f =
-    let p = λ (l : Listing). is_family l.family f in
-    rw (filter-append p ls (l ∷ []), map-append entry_of (filter p ls) (filter p (l ∷ [])), kept p l, one (p l) l) refl
-
-pub entries_more : (xs : List Listed) (i : ℕ) (d : Listed) (f : CodeFamily) → i < length xs
-    → entries_of_family (map listing_of (take (i + 1) xs)) f
-    ≡ entries_of_family (map listing_of (take i xs)) f ++ (if is_family (get_or xs i d).family f then entry_of (listing_of (get_or xs i d)) ∷ [] else [])
-entries_more xs i d f inside =
-    rw (take_more xs i d inside, map_push listing_of (take i xs) (get_or xs i d)) (entries_push (map listing_of (take i xs)) (listing_of (get_or xs i d)) f)
 
 -- ---- they ascend
 

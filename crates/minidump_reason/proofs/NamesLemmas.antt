@@ -1,6 +1,6 @@
 -- The lists of names as they are lent: when they are accepted, and what is found in them.
-use Rattle.std.proofs.Common.{rules, ◌≡◌, ◌≢◌, ℕ, zero, suc, ◌+◌, ◌-◌, ◌<◌, ◌≤◌, true, false, List, [], ◌∷◌, length, get_or, take, drop, Some, None}
-use Rattle.std.proofs.Common.{Result, Ok, Err, refl, sym, ap, subst, ◌∙◌, inl, inr, arith, add-one, if◌then◌else◌, All}
+use Rattle.std.proofs.Common.{rules, ◌≡◌, ◌≢◌, ℕ, zero, suc, ◌+◌, ◌-◌, ◌<◌, ◌≤◌, true, false, List, [], ◌∷◌, length, get_or, take, Some, None}
+use Rattle.std.proofs.Common.{Result, Ok, Err, refl, sym, ap, subst, ◌∙◌, inl, inr, arith, if◌then◌else◌, All}
 use Rattle.std.specs.Borrow.{Bor}
 use Rattle.std.specs.List.{list_any}
 use Rattle.std.specs.List.Sorted.{IsSearchInRange, IsBinarySearchResult, IsNonDecreasingBy}
@@ -13,14 +13,12 @@ use Rattle.std.proofs.lemmas.List.{get_or_default, take_more}
 use Rattle.std.proofs.lemmas.List.Elements.{All-more}
 use Rattle.std.proofs.lemmas.List.Folds.{Any-from_list_any, list_any_at}
 use Rattle.std.proofs.lemmas.List.Quantifiers.{all_pairs_push}
-use Rattle.std.proofs.Math.ListN.{drop_of_length-le}
-use Rattle.std.proofs.Math.Seq.{drop-cons}
 use borrow.Author.Tests.{eq-eqb, ne_eqb}
 use denote.Enum.Bare.{same_true, true_same}
 use mathlib.Core.Bool.{false≢true}
 use Rattle.minidump_reason.specs.contracts.family.CodeFamily.{the_type}
 use Rattle.minidump_reason.specs.declared.family.CodeFamily.{CodeFamily}
-use Rattle.minidump_reason.specs.Names.{LentEntries, LentLists, IsAscending, AreCodeNames, HasFamily, entries_of, lists_of, is_family, list_of, name_in}
+use Rattle.minidump_reason.specs.Names.{LentEntries, LentLists, IsAscending, AreCodeNames, HasFamily, entries_of, is_family, name_in}
 
 -- ---- numbers that ascend
 
@@ -91,24 +89,6 @@ module _ (xs : LentEntries) (up : IsAscending xs) (number : ℕ) where
     | inl before ↦ (let less = ranked _ number _ (sym ((parted comparisons_rise).0 k d (omega arith) before)) in omega (arith, less, same))
     | inr after ↦ (let more = ranked _ number _ (sym ((parted comparisons_rise).1 k d after h)) in omega (arith, more, same))
   ])
-
--- ---- the list of a family
-
-pub list_passed : (xs : LentLists) (i : ℕ) (family : CodeFamily) (d : CodeFamily × Bor LentEntries) → i < length xs → is_family (get_or xs i d).0 family ≡ false
-    → list_of (lists_of (drop i xs)) family ≡ list_of (lists_of (drop (i + 1) xs)) family
-list_passed xs i family d within other =
-    ap (λ l. list_of (lists_of l) family) (drop-cons xs i d within)
-    ∙ ap (λ t. if t then entries_of (get_or xs i d).1.now else list_of (lists_of (drop (suc i) xs)) family) other
-    ∙ ap (λ n. list_of (lists_of (drop n xs)) family) (sym (add-one i))
-
-pub list_here : (xs : LentLists) (i : ℕ) (family : CodeFamily) (d : CodeFamily × Bor LentEntries) → i < length xs → is_family (get_or xs i d).0 family ≡ true
-    → list_of (lists_of (drop i xs)) family ≡ entries_of (get_or xs i d).1.now
-list_here xs i family d within same =
-    ap (λ l. list_of (lists_of l) family) (drop-cons xs i d within)
-    ∙ ap (λ t. if t then entries_of (get_or xs i d).1.now else list_of (lists_of (drop (suc i) xs)) family) same
-
-pub list_missing : (xs : LentLists) (i : ℕ) (family : CodeFamily) → length xs ≤ i → list_of (lists_of (drop i xs)) family ≡ []
-list_missing xs i family past = ap (λ l. list_of (lists_of l) family) (drop_of_length-le xs past)
 
 -- ---- families
 
