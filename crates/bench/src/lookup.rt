@@ -2,7 +2,7 @@ ghost use Rattle.std.specs.Prelude.{◌≡◌, ◌==◌, IfOk, length};
 
 use anyhow::Result;
 use minidump_bytes::Steps;
-use minidump_index::{AddressIndex, Range, RegionList};
+use minidump_index::{AddressIndex, Range, Region, RegionList};
 use std::alloc::{AllocError, Global};
 
 /// Makes an index of `count` ranges, and looks up a million addresses in each round. Returns how many lookups found a
@@ -31,7 +31,12 @@ impl Lookup for AddressIndex {
 
 impl Lookup for RegionList<Option<Range>> {
     fn finds(&self, address: u64) -> bool {
-        self.at_address(address, &mut Steps::new()).is_some()
+        let Some(region) = self.at_address(address, &mut Steps::new()) else {
+            return false;
+        };
+        region
+            .memory_range()
+            .is_some_and(|range| address <= range.end)
     }
 }
 

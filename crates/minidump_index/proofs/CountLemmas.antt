@@ -1,12 +1,13 @@
 -- How many of ascending numbers are at most an address: a search that halves what is left.
 use Rattle.std.proofs.Common.{◌≡◌, ℕ, ◌<◌, ◌≤◌, ◌+◌, ◌-◌, ◌/◌, List, length, get_or, arith}
-use Rattle.std.proofs.Common.{inl, inr}
+use Rattle.std.proofs.Common.{ap, inl, inr}
 use Rattle.std.specs.Prelude.{AllPairs}
 use Rattle.std.proofs.lemmas.Bool.{cases_lt}
 use Rattle.std.proofs.lemmas.List.{get_or_default}
 use Rattle.minidump_bytes.specs.Steps.{after}
 use Rattle.minidump_index.specs.Digits.{digits}
-use Rattle.minidump_index.proofs.DigitsLemmas.{digits-half}
+use Rattle.minidump_index.specs.Starts.{IsCount}
+use Rattle.minidump_index.proofs.DigitsLemmas.{digits-half, digits-zero}
 
 -- those before `first` are at most the address, those `len` places on are above it, and each probe has halved what was left
 pub record Halved (numbers : List ℕ) (address first len old now : ℕ) : Type 0 where
@@ -15,6 +16,15 @@ pub record Halved (numbers : List ℕ) (address first len old now : ℕ) : Type 
   pub above : (place default : ℕ) → first + len ≤ place → place < length numbers → address < get_or numbers place default
   pub levels : digits len ≤ digits (length numbers)
   pub spent : now ≡ after old (digits (length numbers) - digits len)
+
+-- where nothing is left, they are counted
+pub counted : (numbers : List ℕ) (address first len old now : ℕ) → len ≡ 0 → Halved numbers address first len old now → IsCount numbers address first old now
+counted numbers address first len old now none h = record {
+  within = omega (arith, h.within);
+  below = h.below;
+  above = λ place d ge lt. h.above place d (omega (arith, ge, none)) lt;
+  steps = omega (arith, h.spent, ap digits none, digits-zero);
+}
 
 module _ (numbers : List ℕ) (up : AllPairs (λ p q. p < q) numbers) (address first len half now more old number : ℕ)
     (some : 0 < len) (halves : half ≡ len / 2) (at : number ≡ get_or numbers (first + half) number) (step : more ≡ after now 1)
@@ -56,3 +66,10 @@ module _ (numbers : List ℕ) (up : AllPairs (λ p q. p < q) numbers) (address f
     levels = omega (arith, h.levels, fewer);
     spent = omega (arith, h.levels, h.spent, fewer, step);
   }
+
+  -- a comparison goes on behind the middle, or stays
+  pub stepped : (by : ℕ) → (number ≤ address → by ≡ len - half) → (address < number → by ≡ 0) → Halved numbers address (first + by) half old more
+  stepped by right left = elim (cases_lt address number) [
+    | inl lt ↦ (let none = left lt in let same : first + by ≡ first = omega (arith, none) in rw same (halved_left lt))
+    | inr ge ↦ (let all = right ge in halved_right (first + by) ge (omega (arith, all, halves, some)))
+  ]

@@ -1,8 +1,7 @@
-ghost use Rattle.std.specs.Prelude.{◌≡◌, ◌↔◌, ◌+◌, ◌<◌, ◌≤◌, [], ◌∷◌, ◌++◌, ℕ, List, Option, Some, IfOk, OnErr, AllPairs, IsTrue, MatchBool, get_or, length, map};
+ghost use Rattle.std.specs.Prelude.{◌≡◌, ◌↔◌, ◌+◌, ◌^◌, ◌<◌, ◌≤◌, [], ◌∷◌, ◌++◌, List, Option, Some, IfOk, OnErr, AllPairs, IsTrue, MatchBool, length, map};
 ghost use Rattle.minidump_bytes.specs.Steps.{after};
 ghost use Rattle.minidump_index.specs.declared.range.Range.{Range};
-ghost use Rattle.minidump_index.specs.Digits.{digits};
-ghost use Rattle.minidump_index.specs.Starts.{AreOf};
+ghost use Rattle.minidump_index.specs.Starts.{AreOf, IsCount};
 
 use crate::{Range, Region};
 use minidump_bytes::{Steps, probe};
@@ -80,20 +79,64 @@ fn starts_by(start: u64, address: u64, steps: &mut Steps) -> bool
 // The number of comparisons depends on the number of starts alone: each halves what is left, whichever way it goes.
 #[inline(always)]
 pub(crate) fn count_up_to(starts: &[u64], address: u64, steps: &mut Steps) -> usize
-    requires { AllPairs (λ p q. p < q) starts.now }
-    ensures count { result ≤ length starts.now }
-    ensures below { (place default : ℕ) → place < result → get_or starts.now place default ≤ address }
-    ensures above { (place default : ℕ) → result ≤ place → place < length starts.now → address < get_or starts.now place default }
-    ensures steps { steps.new ≡ after steps.old (digits (length starts.now)) }
+    requires few { length starts.now < 2 ^ 63 }
+    requires ascending { AllPairs (λ p q. p < q) starts.now }
+    ensures { IsCount starts.now address result steps.old steps.new }
+{
+    if starts.len() < NEAR {
+        count_near(starts, address, steps)
+    } else {
+        count_far(starts, address, steps)
+    }
+}
+
+// So many starts and more don't stay in a processor's second cache.
+const NEAR: usize = 1 << 16;
+
+// Counts without a branch on a comparison: a wrong prediction costs more than to wait for a cache that is near.
+#[inline(always)]
+fn count_near(starts: &[u64], address: u64, steps: &mut Steps) -> usize
+    requires few { length starts.now < 2 ^ 63 }
+    requires ascending { AllPairs (λ p q. p < q) starts.now }
+    ensures { IsCount starts.now address result steps.old steps.new }
 {
     // The starts before `first` are at or below the address, those `len` places on are above it.
     let mut first = 0;
     let mut len = starts.len();
     while len > 0 {
         let half = len / 2;
-        // A number and no branch: which way it goes can't be foretold.
-        let right = starts_by(starts[first + half], address, steps);
-        first = if right { first + len - half } else { first };
+        first += step_to(starts[first + half], len - half, address, steps);
+        len = half;
+    }
+    first
+}
+
+// Returns `size` if `start` is at or below the address, and else 0. Counts one comparison.
+#[inline(always)]
+fn step_to(start: u64, size: usize, address: u64, steps: &mut Steps) -> usize
+    requires { size < 2 ^ 63 }
+    ensures right { start ≤ address → result ≡ size }
+    ensures left { address < start → result ≡ 0 }
+    ensures step { steps.new ≡ after steps.old 1 }
+{
+    // A shift, since the compiler makes a branch of a product or a choice.
+    (size << starts_by(start, address, steps) as u32) - size
+}
+
+// Counts with a branch: where the processor predicts it, it reads the next start before it has this one.
+#[inline(always)]
+fn count_far(starts: &[u64], address: u64, steps: &mut Steps) -> usize
+    requires { AllPairs (λ p q. p < q) starts.now }
+    ensures { IsCount starts.now address result steps.old steps.new }
+{
+    // The starts before `first` are at or below the address, those `len` places on are above it.
+    let mut first = 0;
+    let mut len = starts.len();
+    while len > 0 {
+        let half = len / 2;
+        if starts_by(starts[first + half], address, steps) {
+            first += len - half;
+        }
         len = half;
     }
     first

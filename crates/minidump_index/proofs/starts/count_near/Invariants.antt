@@ -1,6 +1,6 @@
 -- What is left is halved.
 use Rattle.minidump_index.proofs.CountLemmas.{Halved}
-use Rattle.minidump_index.proofs.starts.count_up_to.Given as goal
+use Rattle.minidump_index.proofs.starts.count_near.Given as goal
 
 abbrev pub invariant-loop-len : goal.invariant-loop-len
 invariant-loop-len l = Halved l.starts l.address l.first l.len l.fn.steps l.steps
