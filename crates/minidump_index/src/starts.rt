@@ -79,8 +79,7 @@ fn starts_by(start: u64, address: u64, steps: &mut Steps) -> bool
 // The number of comparisons depends on the number of starts alone: each halves what is left, whichever way it goes.
 #[inline(always)]
 pub(crate) fn count_up_to(starts: &[u64], address: u64, steps: &mut Steps) -> usize
-    requires few { length starts.now < 2 ^ 63 }
-    requires ascending { AllPairs (λ p q. p < q) starts.now }
+    requires { AllPairs (λ p q. p < q) starts.now }
     ensures { IsCount starts.now address result steps.old steps.new }
 {
     if starts.len() < NEAR {
@@ -96,7 +95,7 @@ const NEAR: usize = 1 << 16;
 // Counts without a branch on a comparison: a wrong prediction costs more than to wait for a cache that is near.
 #[inline(always)]
 fn count_near(starts: &[u64], address: u64, steps: &mut Steps) -> usize
-    requires few { length starts.now < 2 ^ 63 }
+    requires near { length starts.now < 2 ^ 16 }
     requires ascending { AllPairs (λ p q. p < q) starts.now }
     ensures { IsCount starts.now address result steps.old steps.new }
 {
