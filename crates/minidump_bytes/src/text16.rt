@@ -3,7 +3,7 @@ ghost use Rattle.std.specs.List.{before_first, position};
 ghost use Rattle.std.specs.Option.{option_map};
 ghost use Rattle.minidump_bytes.specs.Source.{bytes_of};
 ghost use Rattle.minidump_bytes.specs.Steps.{after};
-ghost use Rattle.minidump_bytes.specs.Text16.{HoldsText16, text16, text_before_nul, utf16_text};
+ghost use Rattle.minidump_bytes.specs.Text16.{TakesMemory16, text16, text_before_nul, utf16_text};
 
 use crate::utf16::text_at;
 use crate::{Endian, Source, Steps};
@@ -14,7 +14,8 @@ impl<'a> Source<'a> {
     /// then the code units.
     ///
     /// Returns `Ok(None)` if the bytes don't hold all of it, the size is odd, or a surrogate lacks its
-    /// partner. Returns `AllocError` only if the bytes of the text are there. Counts one step.
+    /// partner. Returns `AllocError` only if the bytes of the text are there, and hold a code unit. Counts
+    /// one step.
     pub fn text16(
         self,
         alloc: Global,
@@ -23,7 +24,7 @@ impl<'a> Source<'a> {
         steps: &mut Steps,
     ) -> Result<Option<String>, AllocError>
         ensures value { IfOk result (λ text. option_map string_bytes text ≡ text16 endian place (bytes_of self.entry)) }
-        ensures memory { OnErr result (HoldsText16 endian place (bytes_of self.entry)) }
+        ensures memory { OnErr result (TakesMemory16 endian place (bytes_of self.entry)) }
         ensures step { steps.new ≡ after steps.old 1 }
     {
         let Some(size) = self.record::<u32>(place, endian, steps) else {

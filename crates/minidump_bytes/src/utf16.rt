@@ -1,5 +1,5 @@
 //! UTF-16 in the bytes of a file.
-ghost use Rattle.std.specs.Prelude.{◌≡◌, ◌+◌, ◌*◌, ◌≤◌, ◌<◌, ◌∷◌, slice_index, drop, length, IfOk, MatchBool, MatchOption, string_bytes};
+ghost use Rattle.std.specs.Prelude.{◌≡◌, ◌+◌, ◌*◌, ◌≤◌, ◌<◌, ◌∷◌, slice_index, drop, length, IfOk, OnErr, MatchBool, MatchOption, string_bytes};
 ghost use Rattle.std.specs.Char.Utf16.{utf16_chars};
 ghost use Rattle.std.specs.Option.{option_map};
 ghost use Rattle.std.specs.Str.{IsAscii, IsNotAscii};
@@ -9,7 +9,7 @@ use crate::Endian;
 use crate::array::record_in;
 use std::alloc::{AllocError, Global};
 
-// Decodes `count` code units from offset `place` on, if they spell a text.
+// Decodes `count` code units from offset `place` on, if they spell a text. None of them take no memory.
 pub(crate) fn text_at(
     alloc: Global,
     bytes: &[u8],
@@ -18,8 +18,12 @@ pub(crate) fn text_at(
     endian: Endian,
 ) -> Result<Option<String>, AllocError>
     requires { place + 2 * count ≤ length bytes.now }
-    ensures { IfOk result (λ text. option_map string_bytes text ≡ utf16_text (units_at endian place count bytes.now)) }
+    ensures text { IfOk result (λ text. option_map string_bytes text ≡ utf16_text (units_at endian place count bytes.now)) }
+    ensures some { OnErr result (0 < count) }
 {
+    if count == 0 {
+        return Ok(Some(String::new(alloc)));
+    }
     if let Some(text) = ascii_at(alloc, bytes, place, count, endian)? {
         return Ok(Some(text));
     }

@@ -1,7 +1,7 @@
 ghost use Rattle.std.specs.Prelude.{◌≡◌, IfOk, IsOkUnless};
 ghost use Rattle.minidump_bytes.specs.Source.{bytes_of};
 ghost use Rattle.minidump_bytes.specs.Steps.{after};
-ghost use Rattle.minidump_bytes.specs.Text16.{HoldsText16};
+ghost use Rattle.minidump_bytes.specs.Text16.{TakesMemory16};
 ghost use Rattle.minidump_format.specs.Answer.{Gives};
 ghost use Rattle.minidump_modules.specs.UnloadedModule.{new_unloaded, read_unloaded, unloaded_of, unloaded_range};
 
@@ -53,7 +53,7 @@ impl MinidumpUnloadedModule {
         bytes: &[u8],
         endian: Endian,
     ) -> Result<MinidumpUnloadedModule, Error>
-        ensures { Gives unloaded_of (HoldsText16 endian raw.module_name_rva bytes.now) result (read_unloaded endian bytes.now raw) }
+        ensures { Gives unloaded_of (TakesMemory16 endian raw.module_name_rva bytes.now) result (read_unloaded endian bytes.now raw) }
     {
         MinidumpUnloadedModule::read_counted(
             alloc,
@@ -73,7 +73,7 @@ impl MinidumpUnloadedModule {
         endian: Endian,
         steps: &mut Steps,
     ) -> Result<MinidumpUnloadedModule, Error>
-        ensures means { Gives unloaded_of (HoldsText16 endian raw.now.module_name_rva (bytes_of all.entry)) result
+        ensures means { Gives unloaded_of (TakesMemory16 endian raw.now.module_name_rva (bytes_of all.entry)) result
             (read_unloaded endian (bytes_of all.entry) raw.now) }
         ensures step { steps.new ≡ after steps.old 1 }
     {

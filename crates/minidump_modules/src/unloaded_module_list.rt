@@ -2,7 +2,7 @@ ghost use Rattle.std.specs.Prelude.{◌≡◌, ◌+◌, ◌<◌, ◌≤◌, [], 
 ghost use Rattle.std.specs.Slice.Iter.{iter_rest};
 ghost use Rattle.minidump_bytes.specs.Source.{bytes_of};
 ghost use Rattle.minidump_bytes.specs.Steps.{after};
-ghost use Rattle.minidump_bytes.specs.Text16.{HoldsText16};
+ghost use Rattle.minidump_bytes.specs.Text16.{TakesMemory16};
 ghost use Rattle.minidump_format.specs.Answer.{Gives};
 ghost use Rattle.minidump_format.specs.StreamType.{number_of};
 ghost use Rattle.minidump_system.specs.Reads.{all_ok};
@@ -194,7 +194,7 @@ fn listed_module(
     endian: Endian,
     steps: &mut Steps,
 ) -> Result<MinidumpUnloadedModule, Error>
-    ensures means { Gives unloaded_of (HoldsText16 endian raw.now.module_name_rva (bytes_of all.entry)) result
+    ensures means { Gives unloaded_of (TakesMemory16 endian raw.now.module_name_rva (bytes_of all.entry)) result
         (listed_unloaded endian (bytes_of all.entry) raw.now) }
     ensures within { steps.new ≤ steps.old + 1 }
     ensures grows { steps.old ≤ steps.new }

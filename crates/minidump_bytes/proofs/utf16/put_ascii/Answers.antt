@@ -1,5 +1,5 @@
 -- One unit more was written, or it isn't ASCII.
-use Rattle.std.proofs.Common.{◌≡◌, ◌∙◌, ◌%◌, ◌<◌, sym, ap, inl, inr, refl, arith, length, ◌+◌, take, set, ◌++◌, ◌∷◌, []}
+use Rattle.std.proofs.Common.{◌≡◌, ◌∙◌, ◌%◌, ◌<◌, sym, ap, inl, inr, refl, arith, length, ◌+◌, take, ◌++◌, ◌∷◌, []}
 use Rattle.std.proofs.lemmas.Bool.{cases_lt, le-ltb, lt-ltb}
 use Rattle.std.proofs.lemmas.List.{take_all, take_more, take_more_set, length-set}
 use Rattle.std.proofs.lemmas.Nat.{le_or_l, le_or_r, or_lt}
