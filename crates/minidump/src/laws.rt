@@ -54,8 +54,8 @@ pub use minidump_context::laws::{
 use minidump_format::format::GUID;
 pub use minidump_format::laws as records;
 pub use minidump_index::laws::{
-    a_kept_set, a_lookup, an_address_order, one_address_order, one_kept_set,
-    one_region_at_an_address, region_laws as laws_of_regions, regions_by_address,
+    a_kept_set, a_lookup, an_address_order, digits_lie_between_powers_of_two, one_address_order,
+    one_kept_set, one_region_at_an_address, region_laws as laws_of_regions, regions_by_address,
 };
 pub use minidump_memory::laws::{
     clones_are_the_same as memory_clones_are_the_same, information_compares_and_copies_exactly,

@@ -32,7 +32,8 @@ module _ (numbers : List ℕ) (up : AllPairs (λ p q. p < q) numbers) (address f
   -- a number before another is below it
   before : (place d : ℕ) → place ≤ first + half → get_or numbers place d ≤ number
   before place d le =
-      let same : get_or numbers (first + half) d ≡ get_or numbers (first + half) number = get_or_default numbers (first + half) d number (omega (arith, h.within, some, halves)) in
+      let same : get_or numbers (first + half) d ≡ get_or numbers (first + half) number
+      = get_or_default numbers (first + half) d number (omega (arith, h.within, some, halves)) in
       elim (cases_lt place (first + half)) [
         | inl lt ↦ (let lower = up place (first + half) d lt (omega (arith, h.within, some, halves)) in omega (arith, lower, same, at))
         | inr ge ↦ (let here : place ≡ first + half = omega arith in rw here (omega (arith, same, at)))
@@ -40,7 +41,8 @@ module _ (numbers : List ℕ) (up : AllPairs (λ p q. p < q) numbers) (address f
 
   behind : (place d : ℕ) → first + half ≤ place → place < length numbers → number ≤ get_or numbers place d
   behind place d ge within =
-      let same : get_or numbers (first + half) d ≡ get_or numbers (first + half) number = get_or_default numbers (first + half) d number (omega (arith, h.within, some, halves)) in
+      let same : get_or numbers (first + half) d ≡ get_or numbers (first + half) number
+      = get_or_default numbers (first + half) d number (omega (arith, h.within, some, halves)) in
       elim (cases_lt (first + half) place) [
         | inl lt ↦ (let higher = up (first + half) place d lt within in omega (arith, higher, same, at))
         | inr le ↦ (let here : place ≡ first + half = omega arith in rw here (omega (arith, same, at)))

@@ -49,7 +49,8 @@ module _ {R : Type 0} (range : R → Option Range) (regions : List R) (starts : 
         (at : region ≡ get_or regions place region) (is : o ≡ range region) (some : o ≡ Some r) where
       pub behind_last : r.end < address → IsCountedLookup range regions address old new None
       behind_last past =
-          nowhere (ends_below (map range regions) starts a address count n.below n.above place r next (has_region range regions place region o r lt at is some) past)
+          nowhere (ends_below (map range regions) starts a address count n.below n.above place r next
+          (has_region range regions place region o r lt at is some) past)
 
       pub in_last : address ≤ r.end → IsCountedLookup range regions address old new (Some region)
       in_last le =
