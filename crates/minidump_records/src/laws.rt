@@ -94,7 +94,7 @@ pub fn object_chain_is_the_longest()
         → map (information_at order file) (chain_offsets order file link) ≡ map Some (object_chain order file link) }
 {}
 
-/// There is only one such list.
+/// The list of offsets that `object_chain_is_the_longest` describes is the only one.
 #[tactic(auto, using(minidump_system::proofs::OneChain::chain_is_one))]
 pub fn object_chain_is_one()
     ensures { (order : Endian) (file : List ℕ) (link : ℕ) (offsets other : List ℕ)
