@@ -106,8 +106,9 @@ fn summary_in<'a>(
     })
 }
 
-// Returns the system information of a dump.
-fn system_of(alloc: Global, dump: &Minidump<'_>) -> Result<Option<MinidumpSystemInfo>, Error>
+/// Returns the system information of a dump, or `None` if it is missing or malformed. The only error is
+/// [`Error::OutOfMemory`].
+pub fn system_of(alloc: Global, dump: &Minidump<'_>) -> Result<Option<MinidumpSystemInfo>, Error>
     ensures value { IfOk result (λ system. option_map system_info_stream.value system ≡ dump_system (dump_of dump.now)) }
     ensures memory { IsOkUnless result Error.OutOfMemory }
 {

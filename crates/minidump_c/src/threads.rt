@@ -1,7 +1,6 @@
 ghost use Rattle.std.specs.Prelude.{◌≡◌, IfErr, IfOk, OnErr, IsOkUnless, [], map, unwrap_or};
 ghost use Rattle.std.specs.Option.{option_copied, option_map};
 ghost use Rattle.minidump.specs.Below.Records.ThreadNames.{name_of_thread, thread_names_stream};
-ghost use Rattle.minidump.specs.Dump.{dump_system};
 ghost use Rattle.minidump.specs.DumpValue.{dump_of};
 ghost use Rattle.minidump.specs.Promise.{system_info_stream, thread_list_stream};
 ghost use Rattle.minidump.specs.Thread.{known_context, thread_of};
@@ -12,6 +11,7 @@ ghost use Rattle.minidump_c.specs.Threads.{AreThreadRows, IsThreadName, instruct
 
 use crate::status::status_of;
 use crate::text::fill;
+use crash_summary::system_of;
 use minidump::{
     Error, Minidump, MinidumpContext, MinidumpSystemInfo, MinidumpThread, MinidumpThreadList,
     MinidumpThreadNames,
@@ -62,15 +62,6 @@ fn thread_rows(alloc: Global, bytes: &[u8]) -> Result<Vec<ThreadRow>, Error>
         Ok(rows) => Ok(rows),
         Err(_) => Err(Error::OutOfMemory),
     }
-}
-
-// Returns the system information of a dump.
-fn system_of(alloc: Global, dump: &Minidump<'_>) -> Result<Option<MinidumpSystemInfo>, Error>
-    ensures value { IfOk result (λ system. option_map system_info_stream.value system ≡ dump_system (dump_of dump.now)) }
-    ensures memory { IsOkUnless result Error.OutOfMemory }
-{
-    minidump::laws::system_information_is_the_dumps();
-    dump.find_stream(alloc)
 }
 
 fn rows(
