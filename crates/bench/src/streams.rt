@@ -7,7 +7,7 @@ use minidump::{
 use std::alloc::Global;
 
 /// Reads a minidump, whose bytes are `bytes`, or the stream that a verb names, so many times. Returns how often a list
-/// has an entry of number or address 65536.
+/// has an entry of number or address 65536; for `read`, how many headers have 65536 streams.
 pub(crate) fn read_often(alloc: Global, verb: &str, bytes: &[u8], rounds: u32) -> Result<u32> {
     let dump = Minidump::read(alloc, bytes)?;
     let found = match verb {
