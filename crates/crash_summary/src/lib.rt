@@ -17,7 +17,7 @@ ghost use Rattle.std.specs.Option.{option_copied, option_map};
 ghost use Rattle.minidump.specs.Below.Format.Answer.{Refuses};
 ghost use Rattle.minidump.specs.Below.MemoryLists.Unified.{unified_list};
 ghost use Rattle.minidump.specs.Below.Modules.Module.{module_of};
-ghost use Rattle.minidump.specs.Dump.{dump_system};
+ghost use Rattle.minidump.specs.Dump.{IsFoundStream, dump_system};
 ghost use Rattle.minidump.specs.DumpValue.{dump_of};
 ghost use Rattle.minidump.specs.Promise.{exception_stream, module_list_stream, system_info_stream, thread_list_stream};
 ghost use Rattle.minidump.specs.Thread.{IsLastThread, thread_of};
@@ -110,7 +110,7 @@ fn summary_in<'a>(
 /// [`Error::OutOfMemory`].
 pub fn system_of(alloc: Global, dump: &Minidump<'_>) -> Result<Option<MinidumpSystemInfo>, Error>
     ensures value { IfOk result (λ system. option_map system_info_stream.value system ≡ dump_system (dump_of dump.now)) }
-    ensures memory { IsOkUnless result Error.OutOfMemory }
+    ensures found { IsFoundStream system_info_stream (dump_of dump.now) result }
 {
     minidump::laws::system_information_is_the_dumps();
     dump.find_stream(alloc)

@@ -1,5 +1,6 @@
 -- The memory of a minidump, by either kind of list.
-use Rattle.std.specs.Prelude.{◌⊎◌, List, Option, Some, None, Result, Ok, Err}
+use Rattle.std.specs.Prelude.{◌≡◌, ◌⊎◌, List, Option, Some, None, Result, Ok, Err}
+use Rattle.std.specs.Result.{result_ok}
 use Rattle.minidump_format.specs.declared.error.Error.{Error}
 use Rattle.minidump_format.specs.declared.format.memory.MINIDUMP_MEMORY_DESCRIPTOR.{MINIDUMP_MEMORY_DESCRIPTOR}
 use Rattle.minidump_format.specs.declared.format.memory.MINIDUMP_MEMORY_DESCRIPTOR64.{MINIDUMP_MEMORY_DESCRIPTOR64}
@@ -20,6 +21,6 @@ abbrev pub memories_of_dump : Dump → Option UnifiedRegions
 memories_of_dump d =
     first_accepted (stream_of memory64_list_stream d) (stream_of memory_list_stream d)
 
--- one of the two lists takes memory
+-- the 64-bit list takes memory, or it is missing or refused and the memory list does
 abbrev pub TakesMemory : Dump → Type 0
-TakesMemory d = stream_memory memory64_list_stream d ⊎ stream_memory memory_list_stream d
+TakesMemory d = stream_memory memory64_list_stream d ⊎ ((result_ok (stream_of memory64_list_stream d) ≡ None) × stream_memory memory_list_stream d)

@@ -29,6 +29,8 @@ impl<'a> Minidump<'a> {
         ensures grows { steps.old ≤ steps.new }
         ensures counted { raw_stream stream_type (dump_of self.now) ≢ Err Error.StreamNotFound
             → steps.new ≡ after steps.old 1 }
+        ensures absent { raw_stream stream_type (dump_of self.now) ≡ Err Error.StreamNotFound
+            → steps.new ≡ steps.old }
         ensures inside { IfOk result (λ b. length b.now ≤ length (dump_of self.now).file) }
     {
         let entries = self.entries.as_slice();
@@ -50,7 +52,7 @@ impl<'a> Minidump<'a> {
     }
 
     /// Reads as [`Minidump::get_stream`] does, and counts the reads: at most one more than the type
-    /// takes.
+    /// takes, none if the directory has no entry of the type.
     pub fn get_stream_counted<S: MinidumpStream<'a>>(
         &self,
         alloc: Global,
@@ -61,6 +63,8 @@ impl<'a> Minidump<'a> {
         ensures grows { steps.old ≤ steps.new }
         ensures counted { raw_stream (number_of S.spec.stream_type) (dump_of self.now) ≢ Err Error.StreamNotFound
             → after steps.old 1 ≤ steps.new }
+        ensures absent { raw_stream (number_of S.spec.stream_type) (dump_of self.now) ≡ Err Error.StreamNotFound
+            → steps.new ≡ steps.old }
         ensures at_least { IfOk result (λ x. IfOk (raw_stream (number_of S.spec.stream_type) (dump_of self.now))
             (λ b. after steps.old (1 + S.spec.fewest (dump_of self.now).order b (S.spec.value x)) ≤ steps.new)) }
     {
@@ -95,6 +99,8 @@ impl<'a> Minidump<'a> {
         ensures grows { steps.old ≤ steps.new }
         ensures counted { raw_stream (number_of S.spec.stream_type) (dump_of self.now) ≢ Err Error.StreamNotFound
             → after steps.old 1 ≤ steps.new }
+        ensures absent { raw_stream (number_of S.spec.stream_type) (dump_of self.now) ≡ Err Error.StreamNotFound
+            → steps.new ≡ steps.old }
         ensures at_least { IfOk result (λ found. IfSome found
             (λ x. IfOk (raw_stream (number_of S.spec.stream_type) (dump_of self.now))
             (λ b. after steps.old (1 + S.spec.fewest (dump_of self.now).order b (S.spec.value x)) ≤ steps.new))) }

@@ -1,5 +1,5 @@
 ghost use Rattle.std.proofs.Common.{rules};
-ghost use Rattle.std.specs.Prelude.{◌≡◌, IfOk, IfSome, IsOkUnless, IsSome, Some, map, string_bytes};
+ghost use Rattle.std.specs.Prelude.{◌≡◌, IfOk, IfSome, IsOkUnless, IsSome, OnErr, Some, map, string_bytes};
 ghost use Rattle.std.specs.Option.{option_copied};
 ghost use Rattle.minidump_context.specs.Register.{names_of, register_text, set_names, value_of};
 ghost use Rattle.minidump_context.specs.Context.{accepted, context_in, context_of, context_registers_left, value_in, is_of, map_ok, memoized_in, registers_of, valid_value_in, valid_registers_from};
@@ -153,11 +153,12 @@ impl MinidumpContext {
         with_context!(&self.raw, context => register_size_of(context))
     }
 
-    /// Copies the context. The only error is `OutOfMemory`.
+    /// Copies the context. The only error is `OutOfMemory`, and only if not all registers are valid.
     pub fn try_clone(&self, alloc: Global) -> Result<Self, Error>
         ensures raw { IfOk result (λ copy. copy.raw ≡ self.now.raw) }
         ensures valid { IfOk result (λ copy. set_names copy.valid ≡ set_names self.now.valid) }
         ensures memory { IsOkUnless result Error.OutOfMemory }
+        ensures some { OnErr result (IsSome (set_names self.now.valid)) }
     {
         Ok(MinidumpContext {
             raw: self.raw,

@@ -1,4 +1,4 @@
-ghost use Rattle.std.specs.Prelude.{◌≡◌, ◌&&◌, IfOk, IsOkUnless, map};
+ghost use Rattle.std.specs.Prelude.{◌≡◌, ◌&&◌, IfOk, IsOkUnless, IsSome, OnErr, map};
 ghost use Rattle.std.specs.List.{list_any};
 ghost use Rattle.std.specs.Str.{bytes_eq};
 ghost use Rattle.minidump_context.specs.Register.{holds, holds_any, set_names};
@@ -17,10 +17,11 @@ pub enum MinidumpContextValidity {
 }
 
 impl MinidumpContextValidity {
-    /// Copies the set. The only error is `OutOfMemory`.
+    /// Copies the set. The only error is `OutOfMemory`, and only if there is a set.
     pub fn try_clone(&self, alloc: Global) -> Result<Self, Error>
         ensures same { IfOk result (λ copy. set_names copy ≡ set_names self.now) }
         ensures memory { IsOkUnless result Error.OutOfMemory }
+        ensures some { OnErr result (IsSome (set_names self.now)) }
     {
         match self {
             MinidumpContextValidity::All => Ok(MinidumpContextValidity::All),

@@ -1,4 +1,4 @@
-ghost use Rattle.std.specs.Prelude.{◌≡◌, ◌+◌, ◌≤◌, ◌<◌, [], length, map, ◌↔◌, IfOk, IfSome, IsOkUnless, IsTrue, OnErr};
+ghost use Rattle.std.specs.Prelude.{◌≡◌, ◌+◌, ◌≤◌, ◌<◌, [], ◌↔◌, IfOk, IfSome, IsOkUnless, IsTrue, OnErr, length, map};
 ghost use Rattle.std.specs.Option.{option_copied};
 ghost use Rattle.std.specs.Slice.Iter.{iter_rest};
 ghost use Rattle.minidump_format.specs.StreamType.{number_of};
@@ -201,11 +201,15 @@ impl<'a> MinidumpMemoryInfoList<'a> {
         self.regions.as_slice()
     }
 
-    /// Copies the list. The only error is [`Error::OutOfMemory`].
+    /// Copies the list. The only error is [`Error::OutOfMemory`], and only if there is a region.
     pub fn try_clone(&self, alloc: Global) -> Result<MinidumpMemoryInfoList<'a>, Error>
         ensures same { IfOk result (λ list. infos_of list ≡ infos_of self.now) }
         ensures memory { IsOkUnless result Error.OutOfMemory }
+        ensures some { OnErr result (0 < length (infos_of self.now)) }
     {
+        if self.regions.as_slice().is_empty() {
+            return Ok(MinidumpMemoryInfoList::new(alloc));
+        }
         let regions = Vec::from_slice(alloc, self.regions.as_slice())?;
         MinidumpMemoryInfoList::from_regions(alloc, regions)
     }

@@ -112,10 +112,11 @@ impl MinidumpModuleList {
         self.modules.by_addr()
     }
 
-    /// Copies the list. The only error is [`Error::OutOfMemory`].
+    /// Copies the list. The only error is [`Error::OutOfMemory`], and only if there is a module.
     pub fn try_clone(&self, alloc: Global) -> Result<MinidumpModuleList, Error>
         ensures same { IfOk result (λ list. module_list_of list ≡ module_list_of self.now) }
         ensures memory { IsOkUnless result Error.OutOfMemory }
+        ensures some { OnErr result (0 < length (modules_of self.now)) }
     {
         let modules = copied_modules(alloc, self.modules.as_slice())?;
         MinidumpModuleList::from_modules(alloc, modules)
@@ -210,6 +211,7 @@ fn has_range(raw: &MINIDUMP_MODULE) -> bool
 fn copied_modules(alloc: Global, modules: &[MinidumpModule]) -> Result<Vec<MinidumpModule>, Error>
     ensures same { IfOk result (λ copies. map module_of copies.items ≡ map module_of modules.now) }
     ensures memory { IsOkUnless result Error.OutOfMemory }
+    ensures some { OnErr result (0 < length modules.now) }
 {
     let mut copies = Vec::with_capacity(alloc, modules.len())?;
     for module in modules {

@@ -1,4 +1,4 @@
-ghost use Rattle.std.specs.Prelude.{◌≡◌, ◌+◌, ◌<◌, ◌≤◌, [], IfOk, IsOkUnless, IsTrue, OnErr, ◌↔◌, length, map};
+ghost use Rattle.std.specs.Prelude.{◌≡◌, ◌+◌, ◌<◌, ◌≤◌, [], ◌↔◌, IfOk, IsOkUnless, IsTrue, OnErr, length, map};
 ghost use Rattle.std.specs.Slice.Iter.{iter_rest};
 ghost use Rattle.minidump_bytes.specs.Source.{bytes_of};
 ghost use Rattle.minidump_bytes.specs.Steps.{after};
@@ -106,10 +106,11 @@ impl MinidumpUnloadedModuleList {
         UnloadedModulesByAddress::new(&self.order, &self.modules)
     }
 
-    /// Copies the list. The only error is [`Error::OutOfMemory`].
+    /// Copies the list. The only error is [`Error::OutOfMemory`], and only if there is a module.
     pub fn try_clone(&self, alloc: Global) -> Result<MinidumpUnloadedModuleList, Error>
         ensures same { IfOk result (λ list. unloaded_module_list_of list ≡ unloaded_module_list_of self.now) }
         ensures memory { IsOkUnless result Error.OutOfMemory }
+        ensures some { OnErr result (0 < length self.now) }
     {
         let modules = copied_modules(alloc, &self.modules)?;
         MinidumpUnloadedModuleList::from_modules(alloc, modules)
@@ -213,6 +214,7 @@ fn copied_modules(
 ) -> Result<Vec<MinidumpUnloadedModule>, Error>
     ensures same { IfOk result (λ copies. map unloaded_of copies.items ≡ map unloaded_of modules.now) }
     ensures memory { IsOkUnless result Error.OutOfMemory }
+    ensures some { OnErr result (0 < length modules.now) }
 {
     let mut copies = Vec::with_capacity(alloc, modules.len())?;
     for module in modules {

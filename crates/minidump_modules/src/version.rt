@@ -1,4 +1,4 @@
-ghost use Rattle.std.specs.Prelude.{◌≡◌, IfOk, string_bytes};
+ghost use Rattle.std.specs.Prelude.{◌≡◌, IfOk, IsSome, OnErr, string_bytes};
 ghost use Rattle.std.specs.Option.{option_map};
 ghost use Rattle.minidump_modules.specs.Version.{dotted, version_of};
 
@@ -13,7 +13,8 @@ pub(crate) fn version_of(
     os: Option<Os>,
     version: &VS_FIXEDFILEINFO,
 ) -> Result<Option<String>, AllocError>
-    ensures { IfOk result (λ t. option_map string_bytes t ≡ version_of os version.now) }
+    ensures text { IfOk result (λ t. option_map string_bytes t ≡ version_of os version.now) }
+    ensures some { OnErr result (IsSome (version_of os version.now)) }
 {
     if version.signature != VS_FFI_SIGNATURE || version.struct_version != VS_FFI_STRUCVERSION {
         return Ok(None);

@@ -1,4 +1,4 @@
-ghost use Rattle.std.specs.Prelude.{◌≡◌, ◌+◌, ◌++◌, ◌≤◌, IfOk, IsOkUnless, IfSome, length, nat_le, if◌then◌else◌};
+ghost use Rattle.std.specs.Prelude.{◌≡◌, ◌+◌, ◌++◌, ◌≤◌, IfErr, IfOk, IsOkUnless, IfSome, IsSome, OnErr, length, nat_le, if◌then◌else◌};
 ghost use Rattle.std.proofs.Common.{rules};
 ghost use Rattle.minidump_bytes.specs.Source.{bytes_of};
 ghost use Rattle.minidump_bytes.specs.Steps.{after};
@@ -23,10 +23,11 @@ pub struct MinidumpMacBootargs {
 }
 
 impl MinidumpMacBootargs {
-    /// Copies the arguments. The only error is [`Error::OutOfMemory`].
+    /// Copies the arguments. The only error is [`Error::OutOfMemory`], and only if there are some.
     pub fn try_clone(&self, alloc: Global) -> Result<MinidumpMacBootargs, Error>
         ensures same { IfOk result (λ copy. mac_bootargs_of copy ≡ mac_bootargs_of self.now) }
         ensures memory { IsOkUnless result Error.OutOfMemory }
+        ensures some { OnErr result (IsSome self.now.bootargs) }
     {
         Ok(MinidumpMacBootargs {
             raw: self.raw,
@@ -34,10 +35,12 @@ impl MinidumpMacBootargs {
         })
     }
 
-    /// Prints the arguments, or nothing behind their label if they are `None`.
+    /// Prints the arguments, or nothing behind their label if they are `None`. The only error is
+    /// [`Error::IoError`].
     #[tactic(auto, using(minidump_format::proofs::Printing::prints_then, minidump_format::proofs::Printing::prints_exit))]
     pub fn print<W: Write>(&self, _alloc: Global, f: &mut Told<W>) -> Result<(), Error>
-        ensures { Prints W.contents f.old f.new (mac_bootargs_text (mac_bootargs_of self.now)) result }
+        ensures prints { Prints W.contents f.old f.new (mac_bootargs_text (mac_bootargs_of self.now)) result }
+        ensures refusal { IfErr result (λ e. e ≡ Error.IoError) }
     {
         print_label(f)?;
         self.print_text(f)
@@ -45,14 +48,16 @@ impl MinidumpMacBootargs {
 
     #[tactic(auto, using(minidump_format::proofs::Printing::prints_then, minidump_format::proofs::Printing::prints_exit))]
     fn print_text<W: Write>(&self, f: &mut Told<W>) -> Result<(), Error>
-        ensures { Prints W.contents f.old f.new (text_or_nothing (mac_bootargs_of self.now).text ++ boot_args_end) result }
+        ensures prints { Prints W.contents f.old f.new (text_or_nothing (mac_bootargs_of self.now).text ++ boot_args_end) result }
+        ensures refusal { IfErr result (λ e. e ≡ Error.IoError) }
     {
         self.print_arguments(f)?;
         print_end(f)
     }
 
     fn print_arguments<W: Write>(&self, f: &mut Told<W>) -> Result<(), Error>
-        ensures { Prints W.contents f.old f.new (text_or_nothing (mac_bootargs_of self.now).text) result }
+        ensures prints { Prints W.contents f.old f.new (text_or_nothing (mac_bootargs_of self.now).text) result }
+        ensures refusal { IfErr result (λ e. e ≡ Error.IoError) }
     {
         match &self.bootargs {
             Some(text) => put_text(f, text.as_str()),
@@ -63,14 +68,16 @@ impl MinidumpMacBootargs {
 
 #[tactic(auto, unfolding(crate::specs::BootArgs::boot_args_label))]
 fn print_label<W: Write>(f: &mut Told<W>) -> Result<(), Error>
-    ensures { Prints W.contents f.old f.new boot_args_label result }
+    ensures prints { Prints W.contents f.old f.new boot_args_label result }
+    ensures refusal { IfErr result (λ e. e ≡ Error.IoError) }
 {
     put_text(f, "mac_boot_args = ")
 }
 
 #[tactic(auto, unfolding(crate::specs::BootArgs::boot_args_end))]
 fn print_end<W: Write>(f: &mut Told<W>) -> Result<(), Error>
-    ensures { Prints W.contents f.old f.new boot_args_end result }
+    ensures prints { Prints W.contents f.old f.new boot_args_end result }
+    ensures refusal { IfErr result (λ e. e ≡ Error.IoError) }
 {
     put_text(f, "\n\n")
 }

@@ -1,4 +1,4 @@
-ghost use Rattle.std.specs.Prelude.{◌≡◌, ◌+◌, ◌*◌, ◌≤◌, ⊤, length, map, IfOk, IsOkUnless};
+ghost use Rattle.std.specs.Prelude.{◌≡◌, ◌+◌, ◌*◌, ◌≤◌, ⊤, ◌<◌, IfOk, IsOkUnless, OnErr, length, map};
 ghost use Rattle.std.specs.List.{sum_by};
 ghost use Rattle.minidump_bytes.specs.Source.{bytes_of};
 ghost use Rattle.minidump_bytes.specs.Steps.{after};
@@ -27,10 +27,11 @@ pub struct MinidumpMacCrashInfo {
 }
 
 impl MinidumpMacCrashInfo {
-    /// Copies the information. The only error is [`Error::OutOfMemory`].
+    /// Copies the information. The only error is [`Error::OutOfMemory`], and only if there is a record.
     pub fn try_clone(&self, alloc: Global) -> Result<MinidumpMacCrashInfo, Error>
         ensures same { IfOk result (λ copy. mac_crash_info_of copy ≡ mac_crash_info_of self.now) }
         ensures memory { IsOkUnless result Error.OutOfMemory }
+        ensures some { OnErr result (0 < length self.now.raw.items) }
     {
         let mut raw = Vec::with_capacity(alloc, self.raw.len())?;
         for record in &self.raw {

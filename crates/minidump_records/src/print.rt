@@ -1,5 +1,5 @@
 //! Prints what an iterator yields.
-ghost use Rattle.std.specs.Prelude.{◌≡◌, ◌++◌, ℕ, List, OnOk};
+ghost use Rattle.std.specs.Prelude.{◌≡◌, ◌++◌, ℕ, List, IfErr, OnOk};
 ghost use Rattle.std.specs.Iterator.{IsFinite};
 ghost use Rattle.std.specs.List.{flat_map};
 ghost use Rattle.std.proofs.lemmas.Iterator.{YieldsList};
@@ -61,7 +61,8 @@ pub(crate) fn print_each<I: Iterator + Drop, P: PushItem<I::Item>, W: Write>(
 /// Prints a line feed.
 #[tactic(auto, unfolding(crate::specs::Print::line_end))]
 pub(crate) fn print_line_end<W: Write>(f: &mut Told<W>) -> Result<(), Error>
-    ensures { Prints W.contents f.old f.new line_end result }
+    ensures prints { Prints W.contents f.old f.new line_end result }
+    ensures refusal { IfErr result (λ e. e ≡ Error.IoError) }
 {
     put_text(f, "\n")
 }

@@ -1,4 +1,4 @@
-ghost use Rattle.std.specs.Prelude.{◌≡◌, ◌++◌, []};
+ghost use Rattle.std.specs.Prelude.{◌≡◌, ◌++◌, [], IfErr};
 ghost use Rattle.minidump_format.specs.Print.{Prints};
 ghost use Rattle.minidump_format.specs.StreamType.{number_of};
 ghost use Rattle.minidump_records.specs.Print.{line_end};
@@ -33,10 +33,11 @@ impl<'a> MinidumpSoftErrors<'a> {
     }
 
     /// Prints the name of the type of stream and the text, each with a line feed. The Rust crate has no such
-    /// call: this is the text that a report has for the stream.
+    /// call: this is the text that a report has for the stream. The only error is [`Error::IoError`].
     #[tactic(auto, using(minidump_format::proofs::Printing::prints_then, minidump_format::proofs::Printing::prints_exit))]
     pub fn print<W: Write>(&self, _alloc: Global, f: &mut Told<W>) -> Result<(), Error>
-        ensures { Prints W.contents f.old f.new (soft_errors_text (soft_errors_stream.value self.now)) result }
+        ensures prints { Prints W.contents f.old f.new (soft_errors_text (soft_errors_stream.value self.now)) result }
+        ensures refusal { IfErr result (λ e. e ≡ Error.IoError) }
     {
         print_heading(f)?;
         self.print_text(f)
@@ -44,7 +45,8 @@ impl<'a> MinidumpSoftErrors<'a> {
 
     #[tactic(auto, using(minidump_format::proofs::Printing::prints_then, minidump_format::proofs::Printing::prints_exit))]
     fn print_text<W: Write>(&self, f: &mut Told<W>) -> Result<(), Error>
-        ensures { Prints W.contents f.old f.new (soft_errors_stream.value self.now ++ line_end) result }
+        ensures prints { Prints W.contents f.old f.new (soft_errors_stream.value self.now ++ line_end) result }
+        ensures refusal { IfErr result (λ e. e ≡ Error.IoError) }
     {
         put_text(f, self.text)?;
         print_line_end(f)
@@ -53,7 +55,8 @@ impl<'a> MinidumpSoftErrors<'a> {
 
 #[tactic(auto, unfolding(crate::specs::SoftErrors::soft_errors_heading))]
 fn print_heading<W: Write>(f: &mut Told<W>) -> Result<(), Error>
-    ensures { Prints W.contents f.old f.new soft_errors_heading result }
+    ensures prints { Prints W.contents f.old f.new soft_errors_heading result }
+    ensures refusal { IfErr result (λ e. e ≡ Error.IoError) }
 {
     put_text(f, "MozSoftErrors\n")
 }

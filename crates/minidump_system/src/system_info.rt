@@ -1,4 +1,4 @@
-ghost use Rattle.std.specs.Prelude.{◌≡◌, ◌+◌, ◌++◌, ◌≤◌, IfOk, IsOk, IsOkUnless, OnOk, string_bytes};
+ghost use Rattle.std.specs.Prelude.{◌≡◌, ◌+◌, ◌++◌, ◌≤◌, ◌⊎◌, IfOk, IsOk, IsOkUnless, IsSome, OnErr, OnOk, string_bytes};
 ghost use Rattle.std.specs.Option.{option_copied, option_map};
 ghost use Rattle.minidump_bytes.specs.Source.{bytes_of};
 ghost use Rattle.minidump_bytes.specs.Steps.{after};
@@ -110,10 +110,11 @@ impl MinidumpSystemInfo {
         print_item(self, alloc, f)
     }
 
-    /// Copies the system information. The only error is `OutOfMemory`.
+    /// Copies the system information. The only error is `OutOfMemory`, and only if there is a text.
     pub fn try_clone(&self, alloc: Global) -> Result<MinidumpSystemInfo, Error>
         ensures same { IfOk result (λ s. system_info_of s ≡ system_info_of self.now) }
         ensures memory { IsOkUnless result Error.OutOfMemory }
+        ensures texts { OnErr result (IsSome (system_info_of self.now).csd_version ⊎ IsSome (system_info_of self.now).cpu_info) }
     {
         Ok(MinidumpSystemInfo {
             raw: self.raw,

@@ -36,6 +36,11 @@ abbrev pub annotation_reads : Annotation → ℕ
 annotation_reads (text bytes) = 1
 annotation_reads _ = 0
 
+-- the value is a text
+abbrev pub IsText : Annotation → Type 0
+IsText (text bytes) = ⊤
+IsText _ = ⊥
+
 -- both are invalid, or equal texts
 abbrev pub AreSame : Annotation → Annotation → Type 0
 AreSame invalid invalid = ⊤

@@ -1,5 +1,5 @@
 -- A record of the crash information of macOS: Mozilla's MDRawMacCrashInfoRecord, by its version.
-use Rattle.std.specs.Prelude.{ℕ, ◌+◌, ◌==◌, List, length, Option, Some, None, Result, Ok, Err, nat_lt, string_bytes, if◌then◌else◌}
+use Rattle.std.specs.Prelude.{⊤, ℕ, ◌+◌, ◌==◌, List, length, Option, Some, None, Result, Ok, Err, nat_lt, string_bytes, if◌then◌else◌}
 use Rattle.std.specs.Option.{ok_or}
 use Rattle.minidump_bytes.specs.declared.endian.Endian.{Endian}
 use Rattle.minidump_bytes.specs.Layout.{Layout}
@@ -139,6 +139,12 @@ by_version order start head bytes =
     if head.version == 4
     then and_then (fixed_part mac_record_4 order start bytes) (λ raw. and_then (texts_in start bytes) (λ texts. Ok (Some (v4 raw texts))))
     else and_then (fixed_part mac_record_5 order start bytes) (λ raw. and_then (texts_in start bytes) (λ texts. Ok (Some (v5 raw texts))))))
+
+-- the record is of a version that has texts
+abbrev pub HasTexts : MacRecord → Type 0
+HasTexts (v1 raw) = ⊥
+HasTexts (v4 raw texts) = ⊤
+HasTexts (v5 raw texts) = ⊤
 
 -- the fewest reads of a record behind its head: from version 4 on the fixed part and five texts
 abbrev pub record_reads : MacRecord → ℕ

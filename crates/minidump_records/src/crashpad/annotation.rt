@@ -1,5 +1,5 @@
-ghost use Rattle.std.specs.Prelude.{◌≡◌, ◌↔◌, ◌+◌, ◌≤◌, IfOk, IsOkUnless, IsTrue};
-ghost use Rattle.minidump_records.specs.Crashpad.Annotations.{AreSame, annotation_of};
+ghost use Rattle.std.specs.Prelude.{◌≡◌, ◌↔◌, ◌+◌, ◌≤◌, IfOk, IsOkUnless, IsTrue, OnErr};
+ghost use Rattle.minidump_records.specs.Crashpad.Annotations.{AreSame, IsText, annotation_of};
 
 use super::dictionary::Valued;
 use minidump_bytes::{Endian, Source, Steps};
@@ -33,10 +33,11 @@ impl MinidumpAnnotation {
         }
     }
 
-    /// Copies the annotation. The only error is [`Error::OutOfMemory`].
+    /// Copies the annotation. The only error is [`Error::OutOfMemory`], and only if it is a text.
     pub fn try_clone(&self, alloc: Global) -> Result<MinidumpAnnotation, Error>
         ensures same { IfOk result (λ copy. annotation_of copy ≡ annotation_of self.now) }
         ensures memory { IsOkUnless result Error.OutOfMemory }
+        ensures some { OnErr result (IsText (annotation_of self.now)) }
     {
         Ok(match self {
             MinidumpAnnotation::Invalid => MinidumpAnnotation::Invalid,

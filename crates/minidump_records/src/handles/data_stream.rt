@@ -1,4 +1,4 @@
-ghost use Rattle.std.specs.Prelude.{◌≡◌, ◌+◌, ◌*◌, ◌<◌, ◌≤◌, [], length, map, ◌↔◌, IfOk, IsOkUnless, IsTrue, OnErr};
+ghost use Rattle.std.specs.Prelude.{◌≡◌, ◌+◌, ◌*◌, ◌<◌, ◌≤◌, [], ◌↔◌, IfOk, IsOkUnless, IsTrue, OnErr, length, map};
 ghost use Rattle.std.specs.List.{sum_by};
 ghost use Rattle.std.specs.Slice.Iter.{iter_rest};
 ghost use Rattle.minidump_bytes.specs.Source.{bytes_of};
@@ -61,10 +61,11 @@ impl MinidumpHandleDataStream {
         self.handles.iter()
     }
 
-    /// Copies the list. The only error is [`Error::OutOfMemory`].
+    /// Copies the list. The only error is [`Error::OutOfMemory`], and only if there is a handle.
     pub fn try_clone(&self, alloc: Global) -> Result<MinidumpHandleDataStream, Error>
         ensures same { IfOk result (λ list. handle_data_of list ≡ handle_data_of self.now) }
         ensures memory { IsOkUnless result Error.OutOfMemory }
+        ensures some { OnErr result (0 < length self.now.handles.items) }
     {
         let mut handles = Vec::with_capacity(alloc, self.handles.len())?;
         for handle in &self.handles {

@@ -1,6 +1,6 @@
-ghost use Rattle.std.specs.Prelude.{◌≡◌, IfOk, IsOkUnless};
+ghost use Rattle.std.specs.Prelude.{◌≡◌, IfOk, IsOkUnless, OnErr};
 ghost use Rattle.std.specs.Option.{option_copied};
-ghost use Rattle.minidump_records.specs.MacCrashInfo.Record.{abort_cause, dialog_mode, if_nonzero, if_some, mac_record_of, text_of, texts_4, texts_5, thread, version};
+ghost use Rattle.minidump_records.specs.MacCrashInfo.Record.{HasTexts, abort_cause, dialog_mode, if_nonzero, if_some, mac_record_of, text_of, texts_4, texts_5, thread, version};
 
 use minidump_format::Error;
 use minidump_format::format::{
@@ -104,10 +104,11 @@ impl RawMacCrashInfo {
         from_version_4!(self, (_, texts) => if_some(texts.message2.as_str()))
     }
 
-    /// Copies the record. The only error is [`Error::OutOfMemory`].
+    /// Copies the record. The only error is [`Error::OutOfMemory`], and only if its version has texts.
     pub fn try_clone(&self, alloc: Global) -> Result<RawMacCrashInfo, Error>
         ensures same { IfOk result (λ copy. mac_record_of copy ≡ mac_record_of self.now) }
         ensures memory { IsOkUnless result Error.OutOfMemory }
+        ensures some { OnErr result (HasTexts (mac_record_of self.now)) }
     {
         Ok(match self {
             RawMacCrashInfo::V1(raw, _) => {
