@@ -14,7 +14,7 @@
 //! # Errors
 //!
 //! A read returns `None` where nothing stands at the offset. [`Refused`] is the failure of a device. Calls
-//! that are passed an allocator return `AllocError` where memory runs out.
+//! that may take memory return `AllocError` where it runs out.
 //!
 //! # What is proved
 //!

@@ -48,8 +48,8 @@ impl<'a> Source<'a> {
         Some(R::decode(bytes, endian))
     }
 
-    /// Returns an iterator over `count` consecutive records, of which the first begins at offset `place`.
-    /// Counts `count` steps at once.
+    /// Returns an iterator over `count` consecutive records, of which the first begins at offset `place`. The
+    /// bytes hold all of them. Counts `count` steps at once.
     #[tactic(auto, using(crate::proofs::EntryLemmas::entries_len))]
     pub fn entries<R: Record>(
         self,

@@ -1,4 +1,4 @@
-ghost use Rattle.std.specs.Prelude.{◌≡◌, ◌==◌, IfOk, OnErr, string_bytes};
+ghost use Rattle.std.specs.Prelude.{◌≡◌, ◌==◌, ◌<◌, IfOk, OnErr, length, string_bytes};
 ghost use Rattle.std.specs.List.{before_first, position};
 ghost use Rattle.std.specs.Option.{option_map};
 ghost use Rattle.minidump_bytes.specs.Source.{bytes_of};
@@ -40,9 +40,10 @@ impl<'a> Source<'a> {
 }
 
 /// Decodes the code units before the first 0, or all if none is 0. Returns `Ok(None)` if a surrogate
-/// lacks its partner.
+/// lacks its partner. Returns `AllocError` only if a code unit stands before the first 0.
 pub fn text_before_nul(alloc: Global, units: &[u16]) -> Result<Option<String>, AllocError>
-    ensures { IfOk result (λ text. option_map string_bytes text ≡ text_before_nul units.now) }
+    ensures value { IfOk result (λ text. option_map string_bytes text ≡ text_before_nul units.now) }
+    ensures memory { OnErr result (0 < length (before_first (λ unit. unit == 0) units.now)) }
 {
     text_of_units(alloc, before_nul(units))
 }
@@ -63,11 +64,15 @@ fn first_nul(units: &[u16]) -> Option<usize>
     units.iter().position(|unit| *unit == 0)
 }
 
-// Decodes code units, if they spell a text.
+// Decodes code units, if they spell a text. None of them take no memory.
 #[tactic(auto, unfolding(crate::specs::Text16::utf16_text))]
 fn text_of_units(alloc: Global, units: &[u16]) -> Result<Option<String>, AllocError>
-    ensures { IfOk result (λ text. option_map string_bytes text ≡ utf16_text units.now) }
+    ensures value { IfOk result (λ text. option_map string_bytes text ≡ utf16_text units.now) }
+    ensures memory { OnErr result (0 < length units.now) }
 {
+    if units.is_empty() {
+        return Ok(Some(String::new(alloc)));
+    }
     match String::from_utf16(alloc, units)? {
         Ok(text) => Ok(Some(text)),
         Err(_) => Ok(None),

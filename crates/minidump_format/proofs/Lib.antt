@@ -6,4 +6,3 @@ pub mod Printing
 pub mod Blocking
 pub mod NumberedLemmas
 pub mod XstateLemmas
-pub mod GuidLemmas

@@ -1,10 +1,10 @@
 -- A GUID, as Microsoft's guiddef.h has it, and its text.
-use Rattle.std.specs.Prelude.{ℕ, List, [], ◌∷◌, ◌++◌, ◌-◌, length, replicate, false, slice_index}
+use Rattle.std.specs.Prelude.{ℕ, List, [], ◌∷◌, slice_index}
 use Rattle.minidump_bytes.specs.Layout.{Layout, byte_layout}
 use Rattle.minidump_bytes.specs.Number.{number_at}
 use Rattle.minidump_bytes.specs.Entries.{entries}
+use Rattle.minidump_bytes.specs.Piece.{wide_hex}
 use Rattle.minidump_format.specs.declared.format.guid.GUID.{GUID}
-use Rattle.std.specs.Fmt.{digits}
 use Rattle.std.specs.List.{flat_map, join_with_byte}
 
 -- Microsoft's GUID
@@ -18,10 +18,6 @@ guid = record {
     data4 = entries byte_layout order bytes 8 8;
   };
 }
-
--- the digits of a number in hexadecimal, in lower case, with zeros before them up to a width
-unfoldable pub wide_hex : ℕ → ℕ → List ℕ
-wide_hex width n = replicate (width - length (digits 16 false n)) 48 ++ digits 16 false n
 
 -- the digits of a byte of the last eight
 abbrev pub byte_hex : GUID → ℕ → List ℕ

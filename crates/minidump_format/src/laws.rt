@@ -1,8 +1,9 @@
 //! Laws of the records and constants: each is a call that does nothing, and says what holds.
-ghost use Rattle.std.specs.Prelude.{◌≡◌};
+ghost use Rattle.std.specs.Prelude.{◌≡◌, Some};
 ghost use Rattle.minidump_bytes.specs.Exact.{IsExact};
 ghost use Rattle.minidump_format.specs.Assertion.{assertion_info};
 ghost use Rattle.minidump_format.specs.Breakpad.{breakpad_info};
+ghost use Rattle.minidump_format.specs.CodeView.{signature_number, signature_of};
 ghost use Rattle.minidump_format.specs.ContextAmd64.{context_amd64};
 ghost use Rattle.minidump_format.specs.ContextArm.{arm_float_save, context_arm};
 ghost use Rattle.minidump_format.specs.ContextArm64.{context_arm64, context_arm64_old};
@@ -10,32 +11,35 @@ ghost use Rattle.minidump_format.specs.ContextX86.{context_x86, x86_float_save};
 ghost use Rattle.minidump_format.specs.Crashpad.{annotation, crashpad_info, dictionary_entry, module_crashpad_info, module_link};
 ghost use Rattle.minidump_format.specs.Exception.{exception, exception_layout};
 ghost use Rattle.minidump_format.specs.Guid.{guid};
-ghost use Rattle.minidump_format.specs.Handle.{handle_descriptor, handle_descriptor_2, object_information};
+ghost use Rattle.minidump_format.specs.Handle.{handle_descriptor, handle_descriptor_2, information_type_number, information_type_of, object_information};
 ghost use Rattle.minidump_format.specs.Header.{directory_entry, header, location};
 ghost use Rattle.minidump_format.specs.Mac.{mac_boot_args, mac_crash_info, mac_record, mac_record_4, mac_record_5};
 ghost use Rattle.minidump_format.specs.Memory.{memory_descriptor, memory_descriptor_64};
 ghost use Rattle.minidump_format.specs.MemoryInfo.{memory_info};
 ghost use Rattle.minidump_format.specs.Misc.{misc_info, misc_info_2, misc_info_3, misc_info_4, misc_info_5, system_time, time_zone, xstate_config, xstate_feature};
 ghost use Rattle.minidump_format.specs.Module.{fixed_file_info, module_entry, unloaded_module_entry};
-ghost use Rattle.minidump_format.specs.System.{arm_cpu_info, system_info, x86_cpu_info};
+ghost use Rattle.minidump_format.specs.StreamType.{number_of, stream_type_of};
+ghost use Rattle.minidump_format.specs.System.{architecture_number, architecture_of, arm_cpu_info, platform_number, platform_of, system_info, x86_cpu_info};
 ghost use Rattle.minidump_format.specs.Thread.{thread, thread_info, thread_name};
+ghost use Rattle.minidump_format.specs.Xstate.{feature_of, index_of};
 
 use crate::format::{
     ARMCpuInfo, CONTEXT_AMD64, CONTEXT_ARM, CONTEXT_ARM64, CONTEXT_ARM64_OLD, CONTEXT_X86,
-    FLOATING_SAVE_AREA_ARM, FLOATING_SAVE_AREA_X86, GUID, MINIDUMP_ANNOTATION,
+    CvSignature, FLOATING_SAVE_AREA_ARM, FLOATING_SAVE_AREA_X86, GUID, MINIDUMP_ANNOTATION,
     MINIDUMP_ASSERTION_INFO, MINIDUMP_BREAKPAD_INFO, MINIDUMP_CRASHPAD_INFO, MINIDUMP_DIRECTORY,
     MINIDUMP_EXCEPTION, MINIDUMP_EXCEPTION_STREAM, MINIDUMP_HANDLE_DESCRIPTOR,
-    MINIDUMP_HANDLE_DESCRIPTOR_2, MINIDUMP_HANDLE_OBJECT_INFORMATION, MINIDUMP_HEADER,
-    MINIDUMP_LOCATION_DESCRIPTOR, MINIDUMP_MAC_BOOTARGS, MINIDUMP_MAC_CRASH_INFO,
-    MINIDUMP_MAC_CRASH_INFO_RECORD, MINIDUMP_MAC_CRASH_INFO_RECORD_4,
-    MINIDUMP_MAC_CRASH_INFO_RECORD_5, MINIDUMP_MEMORY_DESCRIPTOR, MINIDUMP_MEMORY_DESCRIPTOR64,
-    MINIDUMP_MEMORY_INFO, MINIDUMP_MISC_INFO, MINIDUMP_MISC_INFO_2, MINIDUMP_MISC_INFO_3,
-    MINIDUMP_MISC_INFO_4, MINIDUMP_MISC_INFO_5, MINIDUMP_MODULE, MINIDUMP_MODULE_CRASHPAD_INFO,
-    MINIDUMP_MODULE_CRASHPAD_INFO_LINK, MINIDUMP_SIGNATURE,
-    MINIDUMP_SIMPLE_STRING_DICTIONARY_ENTRY, MINIDUMP_SYSTEM_INFO, MINIDUMP_THREAD,
-    MINIDUMP_THREAD_INFO, MINIDUMP_THREAD_NAME, MINIDUMP_UNLOADED_MODULE, MINIDUMP_VERSION,
-    SYSTEMTIME, TIME_ZONE_INFORMATION, VS_FFI_SIGNATURE, VS_FFI_STRUCVERSION, VS_FIXEDFILEINFO,
-    X86CpuInfo, XSTATE_CONFIG_FEATURE_MSC_INFO, XSTATE_FEATURE,
+    MINIDUMP_HANDLE_DESCRIPTOR_2, MINIDUMP_HANDLE_OBJECT_INFORMATION,
+    MINIDUMP_HANDLE_OBJECT_INFORMATION_TYPE, MINIDUMP_HEADER, MINIDUMP_LOCATION_DESCRIPTOR,
+    MINIDUMP_MAC_BOOTARGS, MINIDUMP_MAC_CRASH_INFO, MINIDUMP_MAC_CRASH_INFO_RECORD,
+    MINIDUMP_MAC_CRASH_INFO_RECORD_4, MINIDUMP_MAC_CRASH_INFO_RECORD_5, MINIDUMP_MEMORY_DESCRIPTOR,
+    MINIDUMP_MEMORY_DESCRIPTOR64, MINIDUMP_MEMORY_INFO, MINIDUMP_MISC_INFO, MINIDUMP_MISC_INFO_2,
+    MINIDUMP_MISC_INFO_3, MINIDUMP_MISC_INFO_4, MINIDUMP_MISC_INFO_5, MINIDUMP_MODULE,
+    MINIDUMP_MODULE_CRASHPAD_INFO, MINIDUMP_MODULE_CRASHPAD_INFO_LINK, MINIDUMP_SIGNATURE,
+    MINIDUMP_SIMPLE_STRING_DICTIONARY_ENTRY, MINIDUMP_STREAM_TYPE, MINIDUMP_SYSTEM_INFO,
+    MINIDUMP_THREAD, MINIDUMP_THREAD_INFO, MINIDUMP_THREAD_NAME, MINIDUMP_UNLOADED_MODULE,
+    MINIDUMP_VERSION, PlatformId, ProcessorArchitecture, SYSTEMTIME, TIME_ZONE_INFORMATION,
+    VS_FFI_SIGNATURE, VS_FFI_STRUCVERSION, VS_FIXEDFILEINFO, X86CpuInfo,
+    XSTATE_CONFIG_FEATURE_MSC_INFO, XSTATE_FEATURE, XstateFeatureIndex,
 };
 use minidump_bytes::Record;
 
@@ -115,6 +119,18 @@ pub fn contexts_are_copied()
     ensures arm_float_save { (x y : FLOATING_SAVE_AREA_ARM) → ⟦<FLOATING_SAVE_AREA_ARM as Clone>⟧.is_clone x y → y ≡ x }
     ensures arm64 { (x y : CONTEXT_ARM64) → ⟦<CONTEXT_ARM64 as Clone>⟧.is_clone x y → y ≡ x }
     ensures arm64_old { (x y : CONTEXT_ARM64_OLD) → ⟦<CONTEXT_ARM64_OLD as Clone>⟧.is_clone x y → y ≡ x }
+{}
+
+/// Each type of stream, platform, architecture, feature of the extended state, CodeView signature and type of
+/// information is the one that has its number.
+pub fn numbers_name_their_values()
+    ensures stream_type { (t : MINIDUMP_STREAM_TYPE) → stream_type_of (number_of t) ≡ Some t }
+    ensures platform { (p : PlatformId) → platform_of (platform_number p) ≡ Some p }
+    ensures architecture { (a : ProcessorArchitecture) → architecture_of (architecture_number a) ≡ Some a }
+    ensures feature { (f : XstateFeatureIndex) → feature_of (index_of f) ≡ Some f }
+    ensures signature { (s : CvSignature) → signature_of (signature_number s) ≡ Some s }
+    ensures information_type { (t : MINIDUMP_HANDLE_OBJECT_INFORMATION_TYPE)
+        → information_type_of (information_type_number t) ≡ Some t }
 {}
 
 /// The constants of a file's version are Microsoft's `VS_FFI_SIGNATURE` and `VS_FFI_STRUCVERSION`.

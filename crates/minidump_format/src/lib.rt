@@ -11,8 +11,10 @@
 //!
 //! # Errors
 //!
-//! Printing returns [`Error::IoError`] where the writer has failed by then, and else [`Error::OutOfMemory`];
-//! [`put_text`] and [`put_bytes`] return the first alone. After either, a beginning of the text was written.
+//! Printing returns [`Error::IoError`] where the writer has failed by then, and else [`Error::OutOfMemory`].
+//! [`put_text`] and [`put_bytes`] return the first alone; so do [`put_formatted`] of a text that could be made, and
+//! [`print_list`], [`print_list_by`] and [`print_counted`] where there is no item. After either, a beginning of the
+//! text was written.
 //!
 //! # What is proved
 //!
@@ -21,8 +23,9 @@
 //!   `MINIDUMP_LOCATION_DESCRIPTOR::bytes_in`.
 //! - The enumerations have the format's numbers: `MINIDUMP_STREAM_TYPE::from_u32`, `PlatformId::from_u32`,
 //!   `ProcessorArchitecture::from_u16`, `XstateFeatureIndex::from_index`, `CvSignature::from_u32`,
-//!   `MINIDUMP_HANDLE_OBJECT_INFORMATION_TYPE::from_u32`, and `number` of each. The stream types have their
-//!   names, whether they are read, and their vendors: `name`, `is_unimplemented`, `stream_vendor`.
+//!   `MINIDUMP_HANDLE_OBJECT_INFORMATION_TYPE::from_u32`, and `number` of each. Each is the one that has its
+//!   number: `laws::numbers_name_their_values`. The stream types have their names, whether they are read, and
+//!   their vendors: `name`, `is_unimplemented`, `stream_vendor`.
 //! - A set of flags contains a flag exactly where all of its bits are set, by its table: `Flags` of
 //!   `MiscInfoFlags`, `ArmElfHwCaps`, `MemoryProtection`, `MemoryState`, `MemoryType`, `BreakpadInfoValid`.
 //! - The enabled features of the extended state, ascending: `XSTATE_CONFIG_FEATURE_MSC_INFO::iter`. The text
@@ -50,7 +53,8 @@ mod print;
 mod vendor;
 
 pub use blocks::{
-    Counted, PushText, Pushed, print_counted, print_item, print_list, print_list_by, put_bytes,
+    BLOCK, Counted, PushText, Pushed, print_counted, print_item, print_list, print_list_by,
+    put_bytes,
 };
 pub use error::Error;
 pub use numbered::{print_count, print_numbered, push_index};

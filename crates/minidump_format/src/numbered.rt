@@ -1,4 +1,5 @@
-ghost use Rattle.std.specs.Prelude.{◌≡◌, ◌++◌, OnOk};
+ghost use Rattle.std.specs.Prelude.{◌≡◌, ◌++◌, OnErr, OnOk};
+ghost use Rattle.std.specs.Io.{StartsWith};
 ghost use Rattle.minidump_format.specs.Print.{Prints};
 ghost use Rattle.minidump_format.specs.Numbered.{count_text, index_line, numbered_list, numbered_text};
 
@@ -82,10 +83,12 @@ fn print_items<'a, T: Pushed, W: Write>(
     print_counted(&Numbered { name, items }, alloc, f)
 }
 
-/// Appends the line in front of an item.
+/// Appends the line in front of an item. Returns `AllocError` if memory runs out; what the bytes were before is
+/// at their front then too.
 #[tactic(auto, unfolding(crate::specs::Numbered::index_line))]
 pub fn push_index(out: &mut Vec<u8>, name: &str, index: usize) -> Result<(), AllocError>
-    ensures { OnOk result (out.new.items ≡ out.old.items ++ index_line name.now index) }
+    ensures ok { OnOk result (out.new.items ≡ out.old.items ++ index_line name.now index) }
+    ensures kept { OnErr result (StartsWith out.new.items out.old.items) }
 {
     push_pieces(
         out,

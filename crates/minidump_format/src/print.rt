@@ -17,8 +17,8 @@ pub fn put_text<W: Write>(f: &mut Told<W>, text: &str) -> Result<(), Error>
     }
 }
 
-/// Prints a text that was made in memory. If it could not be made, returns [`Error::OutOfMemory`], or
-/// [`Error::IoError`] if the writer has failed.
+/// Prints a text that was made in memory. Returns [`Error::IoError`] if the writer fails or has failed, and
+/// [`Error::OutOfMemory`] only if the text could not be made.
 pub fn put_formatted<W: Write>(
     f: &mut Told<W>,
     text: Result<String, AllocError>,
@@ -26,6 +26,7 @@ pub fn put_formatted<W: Write>(
     ensures prints { (bytes : List ℕ) → IfOk text (λ t. string_bytes t ≡ bytes)
         → Prints W.contents f.old f.new bytes result }
     ensures made { IfOk result (λ _. IsOk text) }
+    ensures refusal { IsOk text → IfErr result (λ e. e ≡ Error.IoError) }
 {
     match text {
         Ok(t) => put_text(f, t.as_str()),

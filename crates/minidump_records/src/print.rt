@@ -7,12 +7,9 @@ ghost use Rattle.minidump_format.specs.Print.{Prints};
 ghost use Rattle.minidump_records.specs.Print.{line_end};
 
 use minidump_bytes::Told;
-use minidump_format::{Error, put_bytes, put_text};
+use minidump_format::{BLOCK, Error, put_bytes, put_text};
 use std::alloc::{AllocError, Global};
 use std::io::Write;
-
-// Bytes that wait are written once there are so many.
-const BLOCK: usize = 32768;
 
 /// A way to append the text of an item of type `T` to bytes.
 pub(crate) trait PushItem<T> {

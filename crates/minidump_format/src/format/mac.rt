@@ -177,6 +177,10 @@ impl Exact for MINIDUMP_MAC_BOOTARGS {
 #[derive(Clone, Copy, Debug, PartialEq, Eq)]
 pub struct MINIDUMP_MAC_CRASH_INFO_RECORD_STRINGS {}
 
+impl Exact for MINIDUMP_MAC_CRASH_INFO_RECORD_STRINGS {
+    ghost exact = { Prim.search rules };
+}
+
 /// The texts of a record of version 4, in their order.
 #[derive(Drop)]
 pub struct MINIDUMP_MAC_CRASH_INFO_RECORD_STRINGS_4 {

@@ -4,4 +4,4 @@ use Rattle.minidump.proofs.print.push_stream.Goals as goal
 
 pub returns : goal.returns
 unfolding stream_text
-returns c = rw (← c.type_name.ensures) c.push_pieces.ensures
+returns c = rw (← c.type_name.ensures) c.push_pieces.ensures.ok

@@ -10,11 +10,11 @@ use Rattle.minidump_format.proofs.blocks.print_list_by.Goals as goal
 pub loop-item-init : goal.loop-item-init
 loop-item-init g c = rw c.new-block.ensures.items (but_all _ _ _ (sym c.failed.ensures ∙ c.if-failed.false))
 
-pub returns-in-Err : goal.returns-in-Err
-returns-in-Err g c = (but_lost _ _ _ _ _ c.loop-item.invariant, rw c.loop-item.invariant.put.alive refl)
+pub returns-in-Err-clause-prints : goal.returns-in-Err-clause-prints
+returns-in-Err-clause-prints g c = (but_lost _ _ _ _ _ c.loop-item.invariant, rw c.loop-item.invariant.put.alive refl)
 
-pub returns-in_err-put_bytes : goal.returns-in_err-put_bytes
-returns-in_err-put_bytes g c =
+pub returns-in_err-put_bytes-clause-prints : goal.returns-in_err-put_bytes-clause-prints
+returns-in_err-put_bytes-clause-prints g c =
     but_exit _ _ _ _ _ _ _ _ _
     (but_joined _ _ _ _ c.loop-item.block.items (g.P.PushText.text c.item-item.result) _ _ (c.as_slice.ensures.value
     ∙ c.in-Ok.ensures) (rw (drop-cons _ _ c.item-item.result c.loop-item-test.true, ← c.item-item.is) at c.loop-item.invariant))
@@ -31,8 +31,8 @@ loop-item-preserved g c =
           (but_joined _ _ _ _ c.loop-item.block.items (g.P.PushText.text c.item-item.result) _ _ c.in-Ok.ensures before))
     ]
 
-pub returns : goal.returns
-returns g c =
+pub returns-clause-prints : goal.returns-clause-prints
+returns-clause-prints g c =
     let none = drop_all c.loop-item.item-index c.args.items.now (omega (arith, c.loop-item-test.false)) in
     but_last _ _ _ _ _ _ _ (rw (c.as_slice-2.ensures.value, ← append-nil c.loop-item.block.items) (rw none at c.loop-item.invariant))
     c.put_bytes-2.ensures.prints

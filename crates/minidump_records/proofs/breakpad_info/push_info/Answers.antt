@@ -4,4 +4,4 @@ use Rattle.minidump_records.proofs.breakpad_info.push_info.Goals as goal
 
 pub returns : goal.returns
 unfolding breakpad_info_text
-returns c = rw (← c.optional_hex.ensures, ← c.optional_hex-2.ensures) c.push_pieces.ensures
+returns c = rw (← c.optional_hex.ensures, ← c.optional_hex-2.ensures) c.push_pieces.ensures.ok

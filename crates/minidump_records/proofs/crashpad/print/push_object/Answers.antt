@@ -4,4 +4,4 @@ use Rattle.minidump_records.proofs.crashpad.print.push_object.Goals as goal
 
 pub returns : goal.returns
 unfolding object_line
-returns c = rw (← c.shown.ensures) c.push_pieces.ensures
+returns c = rw (← c.shown.ensures) c.push_pieces.ensures.ok

@@ -4,4 +4,4 @@ use Rattle.minidump_records.proofs.crashpad.print.push_simple.Goals as goal
 
 pub returns : goal.returns
 unfolding simple_line
-returns c = c.push_pieces.ensures
+returns c = c.push_pieces.ensures.ok

@@ -11,4 +11,4 @@ returns c = rw (
   ← c.decimal_piece-2.ensures,
   ← c.dialog_mode.ensures,
   ← c.digits_piece.ensures,
-) c.push_pieces.ensures
+) c.push_pieces.ensures.ok

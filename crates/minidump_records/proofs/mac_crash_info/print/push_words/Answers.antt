@@ -15,4 +15,4 @@ returns c = rw (
   ← c.words_piece-4.ensures,
   ← c.message2.ensures,
   ← c.words_piece-5.ensures,
-) c.push_pieces.ensures
+) c.push_pieces.ensures.ok

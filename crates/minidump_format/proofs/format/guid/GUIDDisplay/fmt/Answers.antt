@@ -1,7 +1,7 @@
 -- The text of a GUID: what each `{:0Nx}` writes, one behind another.
 use Rattle.std.proofs.Common.{append_assoc, append-nil}
 use Rattle.minidump_format.specs.Guid.{byte_hex}
-use Rattle.minidump_format.proofs.GuidLemmas.{wide_digits}
+use Rattle.minidump_bytes.proofs.HexLemmas.{padded_hex}
 use Rattle.minidump_format.proofs.format.guid.GUIDDisplay.fmt.Goals as goal
 
 pub returns-clause-writes : goal.returns-clause-writes
@@ -10,7 +10,7 @@ returns-clause-writes g c =
       append-nil (byte_hex c.args.self.now 1),
       append-nil (byte_hex c.args.self.now 7),
       append_assoc (byte_hex c.args.self.now 0),
-    ) (simp (
+    ) (simp (append_assoc) (simp (
       c.laid_out.ensures,
       c.in_radix.ensures,
       c.laid_out-2.ensures,
@@ -33,6 +33,6 @@ returns-clause-writes g c =
       c.in_radix-10.ensures,
       c.laid_out-11.ensures,
       c.in_radix-11.ensures,
-      wide_digits,
+      padded_hex,
       append_assoc,
-    ) at c.write.ensures.writes)
+    ) at c.write.ensures.writes))
