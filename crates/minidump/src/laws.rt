@@ -55,7 +55,8 @@ use minidump_format::format::GUID;
 pub use minidump_format::laws as records;
 pub use minidump_index::laws::{
     a_kept_set, a_lookup, an_address_order, digits_lie_between_powers_of_two, one_address_order,
-    one_kept_set, one_region_at_an_address, region_laws as laws_of_regions, regions_by_address,
+    one_kept_set, one_region_at_an_address, ranges_are_ordered, region_laws as laws_of_regions,
+    regions_by_address, trees_in_level_order,
 };
 pub use minidump_memory::laws::{
     clones_are_the_same as memory_clones_are_the_same, information_compares_and_copies_exactly,

@@ -6,8 +6,8 @@ use minidump_format::Error;
 use std::alloc::{AllocError, Global};
 use std::marker::Model;
 
-/// Makes a [`RegionList`] of regions that come one by one. As long as they ascend, it collects the starts of their ranges,
-/// and then `build` has nothing left to do.
+/// Makes a [`RegionList`] of regions that come one by one. As long as they ascend, it collects the starts of their ranges;
+/// where they don't, `build` makes an index.
 #[derive(Drop)]
 pub struct RegionListBuilder<R: Region> {
     regions: Vec<R>,

@@ -14,7 +14,7 @@ pub struct RegionsByAddress<'a, R> {
 
 // The regions that are left: of a list that is in order, or of an index.
 #[derive(Drop)]
-pub enum Rest<'a, R> {
+pub(crate) enum Rest<'a, R> {
     Listed(slice::Iter<'a, R>),
     Kept(KeptRegions<'a, R>),
 }
@@ -73,7 +73,7 @@ impl<'a, R> ExactSizeIterator for RegionsByAddress<'a, R> {
 
 // The regions at the places of an index.
 #[derive(Drop)]
-pub struct KeptRegions<'a, R> {
+pub(crate) struct KeptRegions<'a, R> {
     pub(crate) places: ByAddress<'a>,
     pub(crate) regions: &'a [R],
 }

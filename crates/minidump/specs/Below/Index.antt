@@ -3,3 +3,4 @@ pub use Rattle.minidump_index.specs.Digits
 pub use Rattle.minidump_index.specs.Kept
 pub use Rattle.minidump_index.specs.Lookup
 pub use Rattle.minidump_index.specs.Overlap
+pub use Rattle.minidump_index.specs.Tree
