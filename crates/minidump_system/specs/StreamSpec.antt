@@ -37,6 +37,6 @@ pub record IsSame {S V : Type 0} (one other : StreamSpec S V) : Type 0 where
 abbrev pub linear : ℕ → ℕ
 linear n = n + 7
 
--- about the square of the number of bytes
+-- the square of eight more than the number of bytes, less one
 abbrev pub square : ℕ → ℕ
 square n = (n + 8) * (n + 8) - 1

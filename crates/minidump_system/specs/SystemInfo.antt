@@ -1,12 +1,12 @@
 -- The system information: Microsoft's MINIDUMP_SYSTEM_INFO.
-use Rattle.std.specs.Prelude.{ℕ, List, [], ◌∷◌, ◌++◌, codes, Option, Some, None, Result, Ok, Err, string_bytes, unwrap_or, ⊤}
+use Rattle.std.specs.Prelude.{ℕ, List, [], ◌∷◌, ◌++◌, codes, Option, Some, None, Result, Ok, Err, string_bytes, unwrap_or, IsSome, ◌⊎◌, ⊤}
 use Rattle.std.specs.Fmt.{decimal}
 use Rattle.std.specs.List.{concat}
 use Rattle.std.specs.Option.{option_map}
 use Rattle.minidump_bytes.specs.declared.endian.Endian.{Endian}
 use Rattle.minidump_bytes.specs.Piece.{hex}
 use Rattle.minidump_bytes.specs.Span.{record_at}
-use Rattle.minidump_bytes.specs.Text16.{text16}
+use Rattle.minidump_bytes.specs.Text16.{text16, TakesMemory16}
 use Rattle.minidump_format.specs.declared.error.Error.{Error}
 use Rattle.minidump_format.specs.declared.error.Error.TheVariants.{StreamReadFailure}
 use Rattle.minidump_format.specs.declared.format.system.MINIDUMP_SYSTEM_INFO.{MINIDUMP_SYSTEM_INFO}
@@ -42,6 +42,17 @@ with_record order file (Some raw) = Ok (record {
 -- the system of the record that the stream begins with
 abbrev pub system_read : Endian → List ℕ → List ℕ → Result System Error
 system_read order file bytes = with_record order file (record_at system_info order 0 bytes)
+
+-- a record takes memory: its text of the service pack does, or its processor has a description
+abbrev RecordTakesMemory : Endian → List ℕ → Option MINIDUMP_SYSTEM_INFO → Type 0
+RecordTakesMemory order file None = ⊥
+RecordTakesMemory order file (Some raw) =
+    TakesMemory16 order raw.csd_version_rva file
+    ⊎ IsSome (cpu_info_text order (cpu_of raw.processor_architecture) raw.processor_level raw.processor_revision raw.cpu)
+
+-- the record that the stream begins with takes memory
+abbrev pub TakesMemory : Endian → List ℕ → List ℕ → Type 0
+TakesMemory order file bytes = RecordTakesMemory order file (record_at system_info order 0 bytes)
 
 -- a system information that is handed in is answered again; else the stream is read
 abbrev pub system_info_in : Endian → List ℕ → List ℕ → Option System → Result System Error

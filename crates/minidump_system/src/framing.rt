@@ -1,5 +1,5 @@
 //! How a stream that is a list lays out its entries: their count, and where they begin.
-ghost use Rattle.std.specs.Prelude.{◌≡◌, ◌+◌, ◌*◌, ◌≤◌, length, IfOk};
+ghost use Rattle.std.specs.Prelude.{◌≡◌, ◌+◌, ◌*◌, ◌<◌, ◌≤◌, ◌⊎◌, length, IfOk, OnErr};
 ghost use Rattle.std.proofs.Common.{rules};
 ghost use Rattle.minidump_bytes.specs.Source.{bytes_of};
 ghost use Rattle.minidump_bytes.specs.Steps.{after};
@@ -28,6 +28,7 @@ pub fn plain_entries<'a, R: Record>(
     ensures within { steps.new ≤ steps.old + length (bytes_of bytes.entry) + 1 }
     ensures begun { after steps.old 1 ≤ steps.new }
     ensures steps { IfOk result (λ list. steps.new ≡ after steps.old (1 + length list)) }
+    ensures refused { OnErr result (steps.new ≡ after steps.old 1) }
 {
     let count: u32 = bytes
         .record(0, endian, steps)
@@ -63,6 +64,8 @@ pub fn entries_64<'a, R: Record>(
     ensures within { steps.new ≤ steps.old + length (bytes_of bytes.entry) + 2 }
     ensures begun { after steps.old 1 ≤ steps.new }
     ensures steps { IfOk result (λ l. steps.new ≡ after steps.old (2 + length l.1)) }
+    ensures refused { OnErr result (((length (bytes_of bytes.entry) < 8) × (steps.new ≡ after steps.old 1))
+        ⊎ ((8 ≤ length (bytes_of bytes.entry)) × (steps.new ≡ after steps.old 2))) }
 {
     let count: u64 = bytes
         .record(0, endian, steps)
@@ -127,6 +130,7 @@ pub fn extended_entries<'a, R: Record>(
     ensures within { steps.new ≤ steps.old + length (bytes_of bytes.entry) + 1 }
     ensures begun { after steps.old 1 ≤ steps.new }
     ensures steps { IfOk result (λ list. steps.new ≡ after steps.old (1 + length list)) }
+    ensures refused { OnErr result (steps.new ≡ after steps.old 1) }
 {
     let header: ListHeader = bytes
         .record(0, endian, steps)
@@ -172,6 +176,7 @@ pub fn handle_entries<'a>(
     ensures within { steps.new ≤ steps.old + length (bytes_of bytes.entry) + 1 }
     ensures begun { after steps.old 1 ≤ steps.new }
     ensures steps { IfOk result (λ list. steps.new ≡ after steps.old (1 + handles_in list)) }
+    ensures refused { OnErr result (steps.new ≡ after steps.old 1) }
 {
     let header: ListHeader = bytes
         .record(0, endian, steps)

@@ -9,8 +9,9 @@
 //!
 //! # Errors
 //!
-//! `StreamReadFailure` where a stream is too short for its numbers, `StreamSizeMismatch` where a list has
-//! another length than its count asks for, `OutOfMemory` where an allocation fails.
+//! `StreamReadFailure` where a stream is too short for its numbers, where an entry has another size than its type's, or
+//! where the header of an extended list is shorter than its numbers; `StreamSizeMismatch` where a list has another length
+//! than its count asks for; `OutOfMemory` where an allocation fails; `IoError` where the writer of a print fails.
 //!
 //! # What is proved
 //!
@@ -21,7 +22,7 @@
 //!   the number of reads, without taking memory: `framing::plain_entries`, `entries_64`,
 //!   `extended_entries`, `handle_entries`.
 //! - The system information: the record, what its numbers name, the service pack and the processor in words;
-//!   two reads from its stream: `MinidumpSystemInfo::read_record`, by `system_read`.
+//!   one read of its stream and one of the file: `MinidumpSystemInfo::read_record`, by `system_read`.
 //! - The misc information is the largest layout that the stream holds; it takes no memory, and at least one
 //!   read for each layout that is tried: `read`, by `misc_info_in` and `layouts_tried`;
 //!   `laws::misc_info_depends_on_its_stream_alone`, `misc_info_clones_are_the_same`. A field is absent exactly

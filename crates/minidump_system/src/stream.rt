@@ -27,7 +27,9 @@ pub trait MinidumpStream<'a>: Sized {
     fn number_of_type() -> u32
         ensures { result ≡ number_of spec.stream_type };
 
-    /// Reads the stream from its `bytes` and those of the whole file, `all`.
+    /// Reads the stream from its `bytes` and those of the whole file, `all`. `system_info` is the system information of
+    /// the dump, if it has one. Returns the error that the type's table assigns, or `OutOfMemory` where its `memory`
+    /// holds.
     fn read(
         alloc: Global,
         bytes: Source<'a>,
