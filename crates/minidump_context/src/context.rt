@@ -30,7 +30,9 @@ impl Exact for ContextError {
 /// The registers of a thread, and which of them are valid.
 #[derive(Debug, Drop)]
 pub struct MinidumpContext {
+    /// The record, in the layout of its processor.
     pub raw: MinidumpRawContext,
+    /// Which registers are valid.
     pub valid: MinidumpContextValidity,
 }
 
@@ -88,8 +90,8 @@ impl MinidumpContext {
 
     /// Returns the value of a register. `memoize_register` must know its name.
     ///
-    /// A literal isn't enough for the proof at the call, since the names depend on the processor of the context.
-    /// Where it isn't known that the name is one of them, use [`MinidumpContext::get_register`].
+    /// A caller has to prove that the name belongs to the processor of this context, so a literal such as `"rip"` isn't
+    /// enough. Use [`MinidumpContext::get_register`] where that isn't known.
     pub fn get_register_always(&self, reg: &str) -> u64
         requires { IsSome (memoized_in (registers_of self.now.raw) reg.now) }
         ensures { value_in (registers_of self.now.raw) reg.now ≡ Some result }

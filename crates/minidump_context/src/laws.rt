@@ -1,5 +1,5 @@
 //! Laws of registers, for the context of every processor.
-ghost use Rattle.std.specs.Prelude.{◌≡◌, ◌≢◌, ◌↔◌, ℕ, [], codes, IsTrue, List, Option, Some, None, is_some, true, length, map, position};
+ghost use Rattle.std.specs.Prelude.{◌≡◌, ◌≢◌, ◌↔◌, ◌%◌, ◌^◌, ℕ, [], codes, IsSome, IsTrue, List, Option, Some, None, is_some, true, length, map, position};
 ghost use Rattle.std.specs.List.{range_with_len, list_all};
 ghost use Rattle.std.specs.Str.{bytes_eq};
 ghost use Rattle.minidump_bytes.specs.declared.endian.Endian.{Endian};
@@ -46,13 +46,16 @@ pub fn registers_stand_at_their_places<T: CpuContext>()
         ≡ map (λ row. number_at order T.Register.SIZE row.1 bytes) T.table }
 {}
 
-/// Each canonical name stands for the register of its own row, and each alias for that of its canonical name.
+/// Each canonical name stands for the register of its own row, and each alias for that of its canonical name. The names
+/// of the stack pointer and of the instruction pointer are names of registers.
 pub fn names_name_their_registers<T: CpuContext>()
     ensures listed { map (place_of (names_of T.table) T.aliases) (names_of T.table)
         ≡ map Some (range_with_len 0 (length T.table)) }
     ensures aliases { map (λ a. place_of (names_of T.table) T.aliases a.0) T.aliases
         ≡ map (λ a. position (λ n. bytes_eq n a.1) (names_of T.table)) T.aliases }
     ensures known { list_all (λ a. is_some (place_of (names_of T.table) T.aliases a.0)) T.aliases ≡ true }
+    ensures stack_pointer { IsSome (place_of (names_of T.table) T.aliases T.stack_pointer) }
+    ensures instruction_pointer { IsSome (place_of (names_of T.table) T.aliases T.instruction_pointer) }
 {}
 
 /// A register is valid under each of its names if the set has any of them.
@@ -80,36 +83,47 @@ pub fn clones_are_the_same<T: CpuContext + Clone + 'static>()
 {}
 
 /// The table, the aliases, the values and the rest of each processor's context are those that the crate
-/// defines for that processor, and so are the names of the stack pointer and of the instruction pointer.
+/// defines for that processor, and so are the processor's bit in the flags, the flags, and the names of the stack
+/// pointer and of the instruction pointer.
 pub fn contexts_are_as_defined()
     ensures x86_table { ⟦<CONTEXT_X86 as CpuRegisterNames>⟧.table ≡ x86_registers }
     ensures x86_aliases { ⟦<CONTEXT_X86 as CpuContext>⟧.aliases ≡ [] }
     ensures x86_values { ⟦<CONTEXT_X86 as CpuContext>⟧.values ≡ x86_values }
     ensures x86_rest { ⟦<CONTEXT_X86 as CpuContext>⟧.rest ≡ x86_rest }
+    ensures x86_processor { ⟦<CONTEXT_X86 as CpuContext>⟧.processor ≡ 0x1_0000 }
+    ensures x86_flags { ⟦<CONTEXT_X86 as CpuContext>⟧.flags ≡ (λ c. c.context_flags) }
     ensures x86_stack { ⟦<CONTEXT_X86 as CpuContext>⟧.stack_pointer ≡ codes "esp" }
     ensures x86_instruction { ⟦<CONTEXT_X86 as CpuContext>⟧.instruction_pointer ≡ codes "eip" }
     ensures amd64_table { ⟦<CONTEXT_AMD64 as CpuRegisterNames>⟧.table ≡ amd64_registers }
     ensures amd64_aliases { ⟦<CONTEXT_AMD64 as CpuContext>⟧.aliases ≡ [] }
     ensures amd64_values { ⟦<CONTEXT_AMD64 as CpuContext>⟧.values ≡ amd64_values }
     ensures amd64_rest { ⟦<CONTEXT_AMD64 as CpuContext>⟧.rest ≡ amd64_rest }
+    ensures amd64_processor { ⟦<CONTEXT_AMD64 as CpuContext>⟧.processor ≡ 0x10_0000 }
+    ensures amd64_flags { ⟦<CONTEXT_AMD64 as CpuContext>⟧.flags ≡ (λ c. c.context_flags) }
     ensures amd64_stack { ⟦<CONTEXT_AMD64 as CpuContext>⟧.stack_pointer ≡ codes "rsp" }
     ensures amd64_instruction { ⟦<CONTEXT_AMD64 as CpuContext>⟧.instruction_pointer ≡ codes "rip" }
     ensures arm_table { ⟦<CONTEXT_ARM as CpuRegisterNames>⟧.table ≡ arm_registers }
     ensures arm_aliases { ⟦<CONTEXT_ARM as CpuContext>⟧.aliases ≡ arm_aliases }
     ensures arm_values { ⟦<CONTEXT_ARM as CpuContext>⟧.values ≡ arm_values }
     ensures arm_rest { ⟦<CONTEXT_ARM as CpuContext>⟧.rest ≡ arm_rest }
+    ensures arm_processor { ⟦<CONTEXT_ARM as CpuContext>⟧.processor ≡ 0x4000_0000 }
+    ensures arm_flags { ⟦<CONTEXT_ARM as CpuContext>⟧.flags ≡ (λ c. c.context_flags) }
     ensures arm_stack { ⟦<CONTEXT_ARM as CpuContext>⟧.stack_pointer ≡ codes "sp" }
     ensures arm_instruction { ⟦<CONTEXT_ARM as CpuContext>⟧.instruction_pointer ≡ codes "pc" }
     ensures arm64_table { ⟦<CONTEXT_ARM64 as CpuRegisterNames>⟧.table ≡ arm64_registers }
     ensures arm64_aliases { ⟦<CONTEXT_ARM64 as CpuContext>⟧.aliases ≡ arm64_aliases }
     ensures arm64_values { ⟦<CONTEXT_ARM64 as CpuContext>⟧.values ≡ arm64_values }
     ensures arm64_rest { ⟦<CONTEXT_ARM64 as CpuContext>⟧.rest ≡ arm64_rest }
+    ensures arm64_processor { ⟦<CONTEXT_ARM64 as CpuContext>⟧.processor ≡ 0x40_0000 }
+    ensures arm64_flags { ⟦<CONTEXT_ARM64 as CpuContext>⟧.flags ≡ (λ c. c.context_flags) }
     ensures arm64_stack { ⟦<CONTEXT_ARM64 as CpuContext>⟧.stack_pointer ≡ codes "sp" }
     ensures arm64_instruction { ⟦<CONTEXT_ARM64 as CpuContext>⟧.instruction_pointer ≡ codes "pc" }
     ensures arm64_old_table { ⟦<CONTEXT_ARM64_OLD as CpuRegisterNames>⟧.table ≡ arm64_registers }
     ensures arm64_old_aliases { ⟦<CONTEXT_ARM64_OLD as CpuContext>⟧.aliases ≡ arm64_aliases }
     ensures arm64_old_values { ⟦<CONTEXT_ARM64_OLD as CpuContext>⟧.values ≡ arm64_old_values }
     ensures arm64_old_rest { ⟦<CONTEXT_ARM64_OLD as CpuContext>⟧.rest ≡ arm64_old_rest }
+    ensures arm64_old_processor { ⟦<CONTEXT_ARM64_OLD as CpuContext>⟧.processor ≡ 0x8000_0000 }
+    ensures arm64_old_flags { ⟦<CONTEXT_ARM64_OLD as CpuContext>⟧.flags ≡ (λ c. c.context_flags % 2 ^ 32) }
     ensures arm64_old_stack { ⟦<CONTEXT_ARM64_OLD as CpuContext>⟧.stack_pointer ≡ codes "sp" }
     ensures arm64_old_instruction { ⟦<CONTEXT_ARM64_OLD as CpuContext>⟧.instruction_pointer ≡ codes "pc" }
 {}

@@ -25,7 +25,7 @@
 //!   registers come in the order of the list of names: `registers`, `valid_registers`.
 //! - `set_register` changes one register, under all of its names, and nothing else. With a name of no register
 //!   it changes nothing: by `IsChanged`; `laws::a_change_is_seen_under_all_names`, `nothing_else_is_changed`.
-//!   What the table, the values and the rest of each context are: `laws::contexts_are_as_defined`.
+//!   What the table, the values, the flags and the rest of each context are: `laws::contexts_are_as_defined`.
 //! - The printed text is that of the record, a line for each register: `print`, by `context_text`.
 //! - A copy equals what it copies, and two sets of valid registers are equal if they have the same names:
 //!   `try_clone`, `laws::clones_are_the_same`, `sets_are_equal_by_their_names`.
