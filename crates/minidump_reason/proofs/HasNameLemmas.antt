@@ -12,13 +12,13 @@ use Rattle.minidump_reason.specs.Names.{LentLists, AreCodeNames, Entries, Lists,
 
 -- ---- what holds of elements holds of what they are mapped to
 
-all_map : {X Y : Type 0} (P : Y → Type 0) (h : X → Y) (xs : List X) → All (λ x. P (h x)) xs → All P (map h xs)
+pub all_map : {X Y : Type 0} (P : Y → Type 0) (h : X → Y) (xs : List X) → All (λ x. P (h x)) xs → All P (map h xs)
 all_map P h [] all k d within = absurd (omega (arith, within))
 all_map P h (x ∷ xs) all k d within =
     let inside : k < length (x ∷ xs) = omega (arith, within, length-map (x ∷ xs) h) in
     rw (get_or-map h (x ∷ xs) k x d inside) (all k x inside)
 
-all_pairs_map : {X Y : Type 0} (R : Y → Y → Type 0) (h : X → Y) (xs : List X) → AllPairs (λ a b. R (h a) (h b)) xs → AllPairs R (map h xs)
+pub all_pairs_map : {X Y : Type 0} (R : Y → Y → Type 0) (h : X → Y) (xs : List X) → AllPairs (λ a b. R (h a) (h b)) xs → AllPairs R (map h xs)
 all_pairs_map R h [] all i j d lt within = absurd (omega (arith, within))
 all_pairs_map R h (x ∷ xs) all i j d lt within =
     let last : j < length (x ∷ xs) = omega (arith, within, length-map (x ∷ xs) h) in

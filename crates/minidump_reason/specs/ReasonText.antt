@@ -51,20 +51,36 @@ details numbers last = flat_map detail numbers ++ last
 abbrev limit : Lists → ℕ → ℕ → CodeFamily → List (List ℕ × ℕ) → List ℕ → List ℕ
 limit names code subcode family numbers last = flavored (name_of names family (bits_of code 58 3)) (details numbers last) code subcode
 
+-- the limits of each resource, by the bits of the code and of the subcode
+abbrev pub cpu_limit : Lists → ℕ → ℕ → List ℕ
+cpu_limit names code subcode = limit names code subcode family.MacResourceCpu (
+    (codes " interval: ", bits_of code 7 25) ∷ (codes "s CPU limit: ", bits_of code 0 3)
+    ∷ (codes "% CPU consumed: ", bits_of subcode 0 3) ∷ []) (codes "%")
+
+abbrev pub wakeups_limit : Lists → ℕ → ℕ → List ℕ
+wakeups_limit names code subcode = limit names code subcode family.MacResourceWakeups (
+    (codes " interval: ", bits_of code 20 20) ∷ (codes "s wakeups permitted: ", bits_of code 0 12)
+    ∷ (codes " wakeups observed: ", bits_of subcode 0 12) ∷ []) []
+
+abbrev pub memory_limit : Lists → ℕ → ℕ → List ℕ
+memory_limit names code subcode = limit names code subcode family.MacResourceMemory ((codes " high watermark limit: ", bits_of code 0 13) ∷ []) (codes "MiB")
+
+abbrev pub io_limit : Lists → ℕ → ℕ → List ℕ
+io_limit names code subcode = limit names code subcode family.MacResourceIo (
+    (codes " interval: ", bits_of code 15 17) ∷ (codes "s I/O limit: ", bits_of code 0 15)
+    ∷ (codes "% I/O observed: ", bits_of subcode 0 15) ∷ []) (codes "%")
+
+abbrev pub threads_limit : Lists → ℕ → ℕ → List ℕ
+threads_limit names code subcode = limit names code subcode family.MacResourceThreads ((codes " high watermark limit: ", bits_of code 0 15) ∷ []) []
+
 -- a limit by the type of the resource: 1 CPU, 2 WAKEUPS, 3 MEMORY, 4 IO, 5 THREADS
 unfoldable pub resource_flavor : Lists → ℕ → ℕ → ℕ → List ℕ
 resource_flavor names kind code subcode =
-    if kind == 1 then limit names code subcode family.MacResourceCpu (
-    (codes " interval: ", bits_of code 7 25) ∷ (codes "s CPU limit: ", bits_of code 0 3)
-    ∷ (codes "% CPU consumed: ", bits_of subcode 0 3) ∷ []) (codes "%") else (
-    if kind == 2 then limit names code subcode family.MacResourceWakeups (
-    (codes " interval: ", bits_of code 20 20) ∷ (codes "s wakeups permitted: ", bits_of code 0 12)
-    ∷ (codes " wakeups observed: ", bits_of subcode 0 12) ∷ []) [] else (
-    if kind == 3 then limit names code subcode family.MacResourceMemory ((codes " high watermark limit: ", bits_of code 0 13) ∷ []) (codes "MiB") else (
-    if kind == 4 then limit names code subcode family.MacResourceIo (
-    (codes " interval: ", bits_of code 15 17) ∷ (codes "s I/O limit: ", bits_of code 0 15)
-    ∷ (codes "% I/O observed: ", bits_of subcode 0 15) ∷ []) (codes "%") else (
-    if kind == 5 then limit names code subcode family.MacResourceThreads ((codes " high watermark limit: ", bits_of code 0 15) ∷ []) []
+    if kind == 1 then cpu_limit names code subcode else (
+    if kind == 2 then wakeups_limit names code subcode else (
+    if kind == 3 then memory_limit names code subcode else (
+    if kind == 4 then io_limit names code subcode else (
+    if kind == 5 then threads_limit names code subcode
     else flavored None [] code subcode))))
 
 -- EXC_RESOURCE

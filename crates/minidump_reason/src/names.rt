@@ -32,9 +32,10 @@ impl<'n> Model for CodeNames<'n> {
 }
 
 impl<'n> CodeNames<'n> {
-    /// Makes names without any list. With them almost every reason is
-    /// [`CrashReason::Unknown`](crate::CrashReason::Unknown): the lists decide which reason an exception has, and
-    /// not only its text.
+    /// Makes names without any list. With them the reason of each exception is
+    /// [`CrashReason::Unknown`](crate::CrashReason::Unknown), or on Windows
+    /// [`CrashReason::WindowsUnknown`](crate::CrashReason::WindowsUnknown): the lists decide which reason an exception
+    /// has, and not only its text.
     pub fn empty() -> CodeNames<'n>
         ensures { result ≡ [] }
     {

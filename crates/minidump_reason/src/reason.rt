@@ -72,13 +72,14 @@ pub enum CrashReason {
     WindowsStackBufferOverrun(u64),
     /// A code of Windows that is in no list.
     WindowsUnknown(u32),
-    /// An exception on an unsupported system or with an unlisted code: its code and flags.
+    /// An exception on an unsupported system, or with an unlisted code on one other than Windows: its code and flags.
     Unknown(u32, u32),
 }
 
 impl CrashReason {
     /// Returns the reason for an exception on any system. It is [`CrashReason::Unknown`] if the system is
-    /// none of Windows, macOS, iOS, Linux and Android, or if the code is unlisted.
+    /// none of Windows, macOS, iOS, Linux and Android, or if the code is unlisted; on Windows an unlisted code is
+    /// [`CrashReason::WindowsUnknown`].
     ///
     /// The lists of `names` decide which reason it is: a code counts as one of a family only if the family's
     /// list has it.

@@ -1,5 +1,6 @@
 ghost use Rattle.std.specs.Prelude.{◌≡◌, ◌++◌, OnOk, string_bytes};
-ghost use Rattle.minidump_reason.specs.ReasonText.{resource_flavor, resource_text};
+ghost use Rattle.minidump_reason.specs.Bits.{bits_of};
+ghost use Rattle.minidump_reason.specs.ReasonText.{cpu_limit, io_limit, memory_limit, resource_flavor, resource_text, threads_limit, wakeups_limit};
 
 use crate::bits::bits_of;
 use crate::flavor::Flavor;
@@ -49,53 +50,113 @@ fn push_resource_flavor(
 ) -> Result<(), AllocError>
     ensures { OnOk result (string_bytes out.new ≡ string_bytes out.old ++ resource_flavor names.now kind code subcode) }
 {
-    let flavor = Flavor {
+    match kind {
+        RESOURCE_TYPE_CPU => push_cpu_limit(out, names, code, subcode),
+        RESOURCE_TYPE_WAKEUPS => push_wakeups_limit(out, names, code, subcode),
+        RESOURCE_TYPE_MEMORY => push_memory_limit(out, names, code, subcode),
+        RESOURCE_TYPE_IO => push_io_limit(out, names, code, subcode),
+        RESOURCE_TYPE_THREADS => push_threads_limit(out, names, code, subcode),
+        _ => limit(code, subcode).push_unnamed(out),
+    }
+}
+
+// Returns the flavor of a limit.
+fn limit(code: u64, subcode: u64) -> Flavor
+    ensures number { result.number ≡ bits_of code 58 3 }
+    ensures code { result.code ≡ code }
+    ensures subcode { result.subcode ≡ subcode }
+{
+    Flavor {
         number: bits_of(code, 58, 3),
         code,
         subcode,
-    };
-    match kind {
-        RESOURCE_TYPE_CPU => {
-            let interval = bits_of(code, 7, 25);
-            let limit = bits_of(code, 0, 3);
-            let consumed = bits_of(subcode, 0, 3);
-            let numbers = [
-                (" interval: ", interval),
-                ("s CPU limit: ", limit),
-                ("% CPU consumed: ", consumed),
-            ];
-            flavor.push(out, names, CodeFamily::MacResourceCpu, &numbers, "%")
-        }
-        RESOURCE_TYPE_WAKEUPS => {
-            let interval = bits_of(code, 20, 20);
-            let permitted = bits_of(code, 0, 12);
-            let observed = bits_of(subcode, 0, 12);
-            let numbers = [
-                (" interval: ", interval),
-                ("s wakeups permitted: ", permitted),
-                (" wakeups observed: ", observed),
-            ];
-            flavor.push(out, names, CodeFamily::MacResourceWakeups, &numbers, "")
-        }
-        RESOURCE_TYPE_MEMORY => {
-            let numbers = [(" high watermark limit: ", bits_of(code, 0, 13))];
-            flavor.push(out, names, CodeFamily::MacResourceMemory, &numbers, "MiB")
-        }
-        RESOURCE_TYPE_IO => {
-            let interval = bits_of(code, 15, 17);
-            let limit = bits_of(code, 0, 15);
-            let observed = bits_of(subcode, 0, 15);
-            let numbers = [
-                (" interval: ", interval),
-                ("s I/O limit: ", limit),
-                ("% I/O observed: ", observed),
-            ];
-            flavor.push(out, names, CodeFamily::MacResourceIo, &numbers, "%")
-        }
-        RESOURCE_TYPE_THREADS => {
-            let numbers = [(" high watermark limit: ", bits_of(code, 0, 15))];
-            flavor.push(out, names, CodeFamily::MacResourceThreads, &numbers, "")
-        }
-        _ => flavor.push_unnamed(out),
     }
+}
+
+// Appends a limit of the time of processors.
+fn push_cpu_limit(
+    out: &mut String,
+    names: &CodeNames<'_>,
+    code: u64,
+    subcode: u64,
+) -> Result<(), AllocError>
+    ensures { OnOk result (string_bytes out.new ≡ string_bytes out.old ++ cpu_limit names.now code subcode) }
+{
+    let interval = bits_of(code, 7, 25);
+    let permitted = bits_of(code, 0, 3);
+    let consumed = bits_of(subcode, 0, 3);
+    let numbers = [
+        (" interval: ", interval),
+        ("s CPU limit: ", permitted),
+        ("% CPU consumed: ", consumed),
+    ];
+    limit(code, subcode).push(out, names, CodeFamily::MacResourceCpu, &numbers, "%")
+}
+
+// Appends a limit of wakeups.
+fn push_wakeups_limit(
+    out: &mut String,
+    names: &CodeNames<'_>,
+    code: u64,
+    subcode: u64,
+) -> Result<(), AllocError>
+    ensures { OnOk result (string_bytes out.new ≡ string_bytes out.old ++ wakeups_limit names.now code subcode) }
+{
+    let interval = bits_of(code, 20, 20);
+    let permitted = bits_of(code, 0, 12);
+    let observed = bits_of(subcode, 0, 12);
+    let numbers = [
+        (" interval: ", interval),
+        ("s wakeups permitted: ", permitted),
+        (" wakeups observed: ", observed),
+    ];
+    limit(code, subcode).push(out, names, CodeFamily::MacResourceWakeups, &numbers, "")
+}
+
+// Appends a limit of memory.
+fn push_memory_limit(
+    out: &mut String,
+    names: &CodeNames<'_>,
+    code: u64,
+    subcode: u64,
+) -> Result<(), AllocError>
+    ensures { OnOk result (string_bytes out.new ≡ string_bytes out.old ++ memory_limit names.now code subcode) }
+{
+    let permitted = bits_of(code, 0, 13);
+    let numbers = [(" high watermark limit: ", permitted)];
+    limit(code, subcode).push(out, names, CodeFamily::MacResourceMemory, &numbers, "MiB")
+}
+
+// Appends a limit of I/O.
+fn push_io_limit(
+    out: &mut String,
+    names: &CodeNames<'_>,
+    code: u64,
+    subcode: u64,
+) -> Result<(), AllocError>
+    ensures { OnOk result (string_bytes out.new ≡ string_bytes out.old ++ io_limit names.now code subcode) }
+{
+    let interval = bits_of(code, 15, 17);
+    let permitted = bits_of(code, 0, 15);
+    let observed = bits_of(subcode, 0, 15);
+    let numbers = [
+        (" interval: ", interval),
+        ("s I/O limit: ", permitted),
+        ("% I/O observed: ", observed),
+    ];
+    limit(code, subcode).push(out, names, CodeFamily::MacResourceIo, &numbers, "%")
+}
+
+// Appends a limit of threads.
+fn push_threads_limit(
+    out: &mut String,
+    names: &CodeNames<'_>,
+    code: u64,
+    subcode: u64,
+) -> Result<(), AllocError>
+    ensures { OnOk result (string_bytes out.new ≡ string_bytes out.old ++ threads_limit names.now code subcode) }
+{
+    let permitted = bits_of(code, 0, 15);
+    let numbers = [(" high watermark limit: ", permitted)];
+    limit(code, subcode).push(out, names, CodeFamily::MacResourceThreads, &numbers, "")
 }
