@@ -7,27 +7,15 @@ use Rattle.minidump_bytes.proofs.ListLemmas.{mapped_more}
 use Rattle.minidump_reason.specs.declared.family.CodeFamily.{CodeFamily}
 use Rattle.minidump_reason.specs.declared.names.CodeNamesError.{CodeNamesError}
 use Rattle.minidump_reason.specs.declared.names.CodeNamesError.TheVariants.{NotAscending, Repeated}
+use Rattle.minidump_reason.proofs.HasNameLemmas.{all_map, all_pairs_map}
 use Rattle.minidump_reason.specs.Names.{AreCodeNames, Entries, IsAscending, IsFirstRefusal, IsRefused, LentEntries, LentLists, entries_of, lists_of}
 
 -- ---- what holds of elements, and of what they are mapped to
-
-pub all_map : {X Y : Type 0} (P : Y → Type 0) (h : X → Y) (xs : List X) → All (λ x. P (h x)) xs → All P (map h xs)
-all_map P h [] all k d within = absurd (omega (arith, within))
-all_map P h (x ∷ xs) all k d within =
-    let inside : k < length (x ∷ xs) = omega (arith, within, length-map (x ∷ xs) h) in
-    rw (get_or-map h (x ∷ xs) k x d inside) (all k x inside)
 
 pub all_unmap : {X Y : Type 0} (P : Y → Type 0) (h : X → Y) (xs : List X) → All P (map h xs) → All (λ x. P (h x)) xs
 all_unmap P h xs all k d within =
     let inside : k < length (map h xs) = omega (arith, within, length-map xs h) in
     rw (get_or-map h xs k d (h d) within) at (all k (h d) inside)
-
-pub pairs_map : {X Y : Type 0} (R : Y → Y → Type 0) (h : X → Y) (xs : List X) → AllPairs (λ a b. R (h a) (h b)) xs → AllPairs R (map h xs)
-pairs_map R h [] all i j d lt within = absurd (omega (arith, within))
-pairs_map R h (x ∷ xs) all i j d lt within =
-    let last : j < length (x ∷ xs) = omega (arith, within, length-map (x ∷ xs) h) in
-    let first : i < length (x ∷ xs) = omega arith in
-    rw (get_or-map h (x ∷ xs) i x d first, get_or-map h (x ∷ xs) j x d last) (all i j x lt last)
 
 pub pairs_unmap : {X Y : Type 0} (R : Y → Y → Type 0) (h : X → Y) (xs : List X) → AllPairs R (map h xs) → AllPairs (λ a b. R (h a) (h b)) xs
 pairs_unmap R h xs all i j d lt within =
@@ -54,7 +42,7 @@ module _ {X : Type 0} (raw : List X) (lends : X → CodeFamily × LentEntries) (
       let R : CodeFamily × LentEntries → CodeFamily × LentEntries → Type 0 = λ a b. a.0 ≢ b.0 in
       record {
         ascending = all_unmap P lent_list lists (subst (λ (l : List (CodeFamily × LentEntries)). All P l) (sym same) (all_map P lends raw up));
-        apart = pairs_unmap R lent_list lists (subst (λ (l : List (CodeFamily × LentEntries)). AllPairs R l) (sym same) (pairs_map R lends raw apart));
+        apart = pairs_unmap R lent_list lists (subst (λ (l : List (CodeFamily × LentEntries)). AllPairs R l) (sym same) (all_pairs_map R lends raw apart));
       }
 
   pub lent_value : lists_of lists ≡ map (λ x. value_list (lends x)) raw
@@ -83,7 +71,7 @@ pub apart_by : {X : Type 0} (lends : X → CodeFamily × Entries) (entries : Cod
 apart_by lends entries xs fs same apart =
     let R : CodeFamily × Entries → CodeFamily × Entries → Type 0 = λ a b. a.0 ≢ b.0 in
     let each : CodeFamily → CodeFamily × Entries = λ f. (f, entries f) in
-    pairs_unmap R lends xs (subst (λ (l : List (CodeFamily × Entries)). AllPairs R l) (sym same) (pairs_map R each fs apart))
+    pairs_unmap R lends xs (subst (λ (l : List (CodeFamily × Entries)). AllPairs R l) (sym same) (all_pairs_map R each fs apart))
 
 -- ---- a list that is accepted is not refused
 
