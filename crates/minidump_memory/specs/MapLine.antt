@@ -1,5 +1,5 @@
 -- A line of /proc/PID/maps, as Linux's proc_pid_maps(5) has it: `first-last perms offset major:minor inode pathname`.
-use Rattle.std.specs.Prelude.{◌≡◌, ◌≢◌, ◌↔◌, ◌<◌, ℕ, ◌+◌, ◌-◌, ◌/◌, ◌%◌, Bool, false, ◌&&◌, Contains, List, [], ◌∷◌, ◌++◌, length, codes, slice_index}
+use Rattle.std.specs.Prelude.{⊤, ◌≡◌, ◌≢◌, ◌↔◌, ◌<◌, ℕ, ◌+◌, ◌-◌, ◌/◌, ◌%◌, Bool, false, ◌&&◌, Contains, List, [], ◌∷◌, ◌++◌, length, codes, slice_index}
 use Rattle.std.specs.Prelude.{slice_range, Option, Some, None, ◌==◌, nat_le, if◌then◌else◌}
 use Rattle.std.specs.List.{AllByRecursion, list_any}
 use Rattle.std.specs.Option.{option_and_then, option_map}
@@ -30,6 +30,12 @@ pub data MapPath : Type 0 where
   Path Other : List ℕ → MapPath
   Heap Stack Vdso Vvar Vsyscall Rollup Anonymous : MapPath
   TStack Vsys : ℕ → MapPath
+
+-- what is mapped has a text of its own: a path, or another text in brackets
+abbrev pub HasText : MapPath → Type 0
+HasText (Path text) = ⊤
+HasText (Other text) = ⊤
+HasText _ = ⊥
 
 -- what the six names in brackets stand for
 unfoldable pub named : List ℕ → Option MapPath
