@@ -8,8 +8,8 @@
 //!   Linux knows: a [`MinidumpLinuxMapInfo`] for each line of `/proc/PID/maps`. [`UnifiedMemoryInfoList`] is
 //!   either of them. Their regions say whether they may be read, written to or run.
 //!
-//! Each has a `print`, which leaves out the bytes of regions if `brief` is set. It prints bytes line by line, so
-//! their text is never whole in memory.
+//! Each has a `print`; that of memory leaves out the bytes of regions if `brief` is set. It prints bytes line by
+//! line, so their text is never whole in memory.
 //!
 //! # Errors
 //!
@@ -23,7 +23,8 @@
 //! - Reading a stream returns the regions that the format assigns to it, in their order, or the error that
 //!   the format assigns: `MinidumpStream::read` of the four lists, by `memory_list_in`, `memory64_list_in`,
 //!   `memory_info_list_in` and `linux_maps_in`. It takes at most n + 7 reads, where n is the length of the
-//!   longer of stream and file, and at least one for each number, entry, line and region. One region by its
+//!   longer of stream and file, and at least one for the header of a list (two in a 64-bit list) or the end of
+//!   the maps, and one for each entry, each line and each region whose bytes are read. One region by its
 //!   descriptor: `MinidumpMemory::read`, `read_counted`, by `described`.
 //! - A lookup returns the kept region that contains the address, and compares it with at most as many regions
 //!   as the number of kept ones has binary digits: `memory_at_address`, `memory_info_at_address`, and their
@@ -45,7 +46,7 @@
 //!   `information_compares_and_copies_exactly`, `maps_compare_by_what_their_lines_say`.
 //!
 //! What isn't: that a forged count reserves no memory (the contracts show that no `OutOfMemory` is returned
-//! for it), and that a region's bytes are the file's own memory and outlive the list, which tests show.
+//! for it). That a region's bytes outlive the list is their lifetime.
 #![tactic(auto)]
 
 mod contents;

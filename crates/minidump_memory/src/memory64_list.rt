@@ -16,7 +16,8 @@ use minidump_system::{MinidumpStream, MinidumpSystemInfo};
 use std::alloc::Global;
 
 /// Microsoft's `MINIDUMP_MEMORY64_LIST`: a 64-bit list of descriptors, whose bytes lie one behind another
-/// from the list's RVA on. Returns `StreamReadFailure` if some of them are not in the file.
+/// from the list's RVA on. Returns `StreamReadFailure` if some of them are not in the file, or the stream is
+/// shorter than its two numbers, `StreamSizeMismatch` if its length isn't that of the descriptors that it counts.
 impl<'a> MinidumpStream<'a> for MinidumpMemoryListBase<'a, MINIDUMP_MEMORY_DESCRIPTOR64> {
     ghost use Rattle.std.specs.Prelude.{List};
     ghost use Rattle.minidump_format.specs.declared.format.memory.MINIDUMP_MEMORY_DESCRIPTOR64.{MINIDUMP_MEMORY_DESCRIPTOR64};

@@ -6,8 +6,8 @@
 //!
 //! # Errors
 //!
-//! `DataError` where the stream spells no fields, where a known field has another wire type, or where it
-//! holds a message that spells no fields; `OutOfMemory` where an allocation fails.
+//! `DataError` where the bytes of the stream, or of a message in it, aren't fields one after another, or
+//! where a known field has another wire type; `OutOfMemory` where an allocation fails.
 //!
 //! # What is proved
 //!
