@@ -1,17 +1,19 @@
 -- A message is read field by field.
-use Rattle.std.proofs.Common.{◌≡◌, ℕ, zero, suc, ◌<◌, ◌≤◌, ◌+◌, true, false, List, [], ◌∷◌, length, arith, refl, ap, sym, ◌∙◌}
+use Rattle.std.proofs.Common.{◌≡◌, ℕ, zero, suc, ◌<◌, ◌≤◌, ◌+◌, true, false, List, [], ◌∷◌, ◌++◌, length, drop, slice_range, arith, refl, ap, sym, ◌∙◌}
+use Rattle.std.proofs.Common.{append_assoc, append-nil}
 use Rattle.std.specs.Prelude.{unwrap_or, Option, Some, None, Result, Ok, Err, ◌==◌}
 use Rattle.std.specs.Option.{ok_or, option_and_then, option_map}
 use Rattle.std.proofs.lemmas.Bool.Decides.{nat_tests}
 use Rattle.std.proofs.lemmas.List.Sums.{sum_by-cons}
 use Rattle.std.proofs.lemmas.Result.{err_from_is_err_and}
 use Rattle.std.specs.Result.{IsErrAnd}
-use Rattle.std.specs.Prelude.{⊤, IfErr, IsSome}
-use Rattle.minidump_bytes.specs.Wire.{Field, field_at}
+use Rattle.std.proofs.lemmas.List.Folds.{drop_split}
+use Rattle.minidump_bytes.specs.Wire.{Field, SpellsField, SpellsFields, field_at}
+use Rattle.minidump_bytes.proofs.WireFieldLemmas.{field_there}
 use Rattle.minidump_format.specs.Answer.{Gives, Refuses}
 use Rattle.minidump_format.specs.declared.error.Error.{Error}
 use Rattle.minidump_format.specs.declared.error.Error.TheVariants.{DataError, OutOfMemory}
-use Rattle.minidump_stability.specs.Fields.{counted, fields_from, fields_in}
+use Rattle.minidump_stability.specs.Fields.{HasField, counted, fields_from, fields_in}
 use Rattle.minidump_stability.specs.Rows.{merged_bytes, merged_fields, puts}
 
 pub fields_end : (most place : ℕ) (bytes : List ℕ) → place ≡ length bytes → fields_from (suc most) place bytes ≡ Some []
@@ -127,23 +129,31 @@ module _ (inside : Field → ℕ) where
       }
 
 -- ---- how refusals are handed on
-module _ {A B : Type 0} where
-  pub refused_alike : (e : Error) (part : Option A) (whole : Option B) → (part ≡ None → whole ≡ None) → Refuses ⊤ e (ok_or part DataError)
-      → Refuses ⊤ e (ok_or whole DataError)
-  refused_alike OutOfMemory part whole rule h = h
+module _ {A B : Type 0} (P Q : Type 0) (weaker : P → Q) where
+  pub refused_alike : (e : Error) (part : Option A) (whole : Option B) → (part ≡ None → whole ≡ None) → Refuses P e (ok_or part DataError)
+      → Refuses Q e (ok_or whole DataError)
+  refused_alike OutOfMemory part whole rule h = weaker h
   refused_alike e (Some x) whole rule h = (let k : Ok x ≡ Err e = h in cc)
   refused_alike e None whole rule h = (let k : ok_or {T = A} None DataError ≡ Err e = h in let s : DataError ≡ e = cc in rw (rule refl, s) refl)
 
 -- the exit of a `?`: where a part was refused, the whole is
-pub gives_refused : {X A B : Type 0} (view : X → B) (r : Result X Error) (e : Error) (part : Option A) (whole : Option B) → IsErrAnd r (λ y. y ≡ e)
-    → Refuses ⊤ e (ok_or part DataError)
-    → (part ≡ None → whole ≡ None) → Gives view ⊤ r (ok_or whole DataError)
-gives_refused view r e part whole exit refusal rule = let p = err_from_is_err_and r exit in rw (p.1, p.2) (refused_alike e part whole rule refusal)
+pub gives_refused : {X A B : Type 0} (P Q : Type 0) (view : X → B) (r : Result X Error) (e : Error) (part : Option A) (whole : Option B)
+    → IsErrAnd r (λ y. y ≡ e) → Refuses P e (ok_or part DataError) → (P → Q) → (part ≡ None → whole ≡ None)
+    → Gives view Q r (ok_or whole DataError)
+gives_refused P Q view r e part whole exit refusal weaker rule =
+    let p = err_from_is_err_and r exit in rw (p.1, p.2) (refused_alike P Q weaker e part whole rule refusal)
 
 -- and where it is known that nothing is there
-pub gives_none : {X B : Type 0} (view : X → B) (r : Result X Error) (e : Error) (whole : Option B) → IsErrAnd r (λ y. y ≡ e) → whole ≡ None → DataError ≡ e
-    → Gives view ⊤ r (ok_or whole DataError)
-gives_none view r e whole exit none is = let p = err_from_is_err_and r exit in rw (p.1, p.2, none, ← is) refl
+pub gives_none : {X B : Type 0} (P : Type 0) (view : X → B) (r : Result X Error) (e : Error) (whole : Option B) → IsErrAnd r (λ y. y ≡ e) → whole ≡ None
+    → DataError ≡ e → Gives view P r (ok_or whole DataError)
+gives_none P view r e whole exit none is = let p = err_from_is_err_and r exit in rw (p.1, p.2, none, ← is) refl
+
+-- where memory is taken for no field, none is taken
+pub gives_plain : {X V : Type 0} (view : X → V) (kind : Field → Type 0) (bytes : List ℕ) (r : Result X Error) (a : Result V Error)
+    → ((f : Field) → kind f → ⊥) → Gives view (HasField kind bytes) r a → Gives view ⊥ r a
+gives_plain view kind bytes (Ok x) a plain h = h
+gives_plain view kind bytes (Err OutOfMemory) a plain h = plain h.field h.is_kind
+gives_plain view kind bytes (Err e) a plain h = h
 
 pub none_seen : {A B : Type 0} (seen : A → B) (r : Option A) (o : Option B) (d e : Error) → option_map seen r ≡ o → Err e ≡ ok_or r d → (o ≡ None) × (d ≡ e)
 none_seen seen (Some x) o d e s h = (let k : Err e ≡ Ok x = h in cc)
@@ -152,23 +162,46 @@ none_seen seen None o d e s h = (sym s, (let k : e ≡ d = cc in sym k))
 pub some_seen : {A B : Type 0} (seen : A → B) (r : Option A) (o : Option B) (x : A) → option_map seen r ≡ o → r ≡ Some x → o ≡ Some (seen x)
 some_seen seen r o x s h = sym (rw h at s)
 
--- memory may run out only where a field was read
-pub first_there : {A : Type 0} (seen : ℕ → Option A) (place : ℕ) (x : A) → seen place ≡ Some x → (0 < place → IsSome (seen 0)) → IsSome (seen 0)
-first_there seen zero x is before = rw is refl
-first_there seen (suc place) x is before = before (omega arith)
+-- ---- the fields that were read
+-- the bytes before a place are fields one after another
+pub record Reading (bytes : List ℕ) (place : ℕ) : Type 0 where
+  pub front : List ℕ
+  pub fields : List Field
+  pub joined : bytes ≡ front ++ drop place bytes
+  pub spelled : SpellsFields front fields
 
-pub memory_held : {X : Type 0} (P : Type 0) (r : Result X Error) → P → IfErr r (λ e. e ≡ OutOfMemory → P)
-memory_held P (Ok x) p = tt
-memory_held P (Err e) p = λ h. p
+pub reading_none : (bytes : List ℕ) → Reading bytes 0
+reading_none bytes = record { front = []; fields = []; joined = refl; spelled = refl }
 
-pub memory_none : {X : Type 0} (P : Type 0) (r : Result X Error) (e : Error) → IsErrAnd r (λ y. y ≡ e) → DataError ≡ e → IfErr r (λ y. y ≡ OutOfMemory → P)
-memory_none P r e exit is = let p = err_from_is_err_and r exit in rw (p.1, p.2, ← is) (λ h. (let k : DataError ≡ OutOfMemory = h in cc))
+spells_then : (front piece : List ℕ) (fs : List Field) (f : Field) → SpellsFields front fs → SpellsField piece f
+    → SpellsFields (front ++ piece) (fs ++ f ∷ [])
+spells_then front piece [] f none one = (piece, [], rw none (sym (append-nil piece)), one, refl)
+spells_then front piece (g ∷ gs) f (a, b, joined, first, more) one =
+    (a, b ++ piece, rw joined (append_assoc a b piece), first, spells_then b piece gs f more one)
 
-pub gives_where : {X V : Type 0} (view : X → V) (memory : Type 0) (r : Result X Error) (a : Result V Error) → Gives view ⊤ r a
-    → IfErr r (λ e. e ≡ OutOfMemory → memory) → Gives view memory r a
-gives_where view memory (Ok x) a h m = h
-gives_where view memory (Err OutOfMemory) a h m = m refl
-gives_where view memory (Err e) a h m = h
+module _ (bytes : List ℕ) (place next : ℕ) (f : Field) (at : field_at place bytes ≡ Some (f, next)) (r : Reading bytes place) where
+  whole : bytes ≡ (r.front ++ slice_range bytes place next) ++ drop next bytes
+  whole = let there = field_there bytes place f next at in
+      r.joined ∙ ap (λ l. r.front ++ l) (drop_split bytes place next there.forward) ∙ sym (append_assoc r.front (slice_range bytes place next) (drop next bytes))
+
+  more : SpellsFields (r.front ++ slice_range bytes place next) (r.fields ++ f ∷ [])
+  more = spells_then r.front (slice_range bytes place next) r.fields f r.spelled (field_there bytes place f next at).spelled
+
+  -- one field more was read
+  pub reading_more : Reading bytes next
+  reading_more = record { front = r.front ++ slice_range bytes place next; fields = r.fields ++ f ∷ []; joined = whole; spelled = more }
+
+  -- a field that is read is among those that the bytes begin with
+  pub reading_has : (kind : Field → Type 0) → kind f → HasField kind bytes
+  reading_has kind is = record {
+    front = r.front ++ slice_range bytes place next;
+    back = drop next bytes;
+    before = r.fields;
+    field = f;
+    joined = whole;
+    spelled = more;
+    is_kind = is;
+  }
 
 pub is_there : {A : Type 0} (o : Option A) (d : Error) (x : A) → ok_or o d ≡ Ok x → o ≡ Some x
 is_there (Some a) d x h = (let k : a ≡ x = cc in ap Some k)

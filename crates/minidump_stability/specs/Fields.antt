@@ -1,9 +1,9 @@
 -- What the fields of a message mean, as the encoding guide of Protocol Buffers has it.
-use Rattle.std.specs.Prelude.{ℕ, ℤ, pos, ◌-ℤ◌, zero, suc, ◌+◌, ◌%◌, ◌^◌, ◌==◌, nat_lt, List, [], ◌∷◌, ◌++◌, length, Option, Some, None, unwrap_or}
+use Rattle.std.specs.Prelude.{◌≡◌, ℕ, ℤ, pos, ◌-ℤ◌, zero, suc, ◌+◌, ◌%◌, ◌^◌, ◌==◌, nat_lt, List, [], ◌∷◌, ◌++◌, length, Option, Some, None, unwrap_or}
 use Rattle.std.specs.Prelude.{if◌then◌else◌}
 use Rattle.std.specs.List.{sum_by}
 use Rattle.std.specs.Option.{option_and_then, option_map}
-use Rattle.minidump_bytes.specs.Wire.{Bytes, Eight, Field, Four, Payload, Varint, field_at}
+use Rattle.minidump_bytes.specs.Wire.{Bytes, Eight, Field, Four, Payload, SpellsFields, Varint, field_at}
 
 -- the values of all, or none where one has none
 abbrev pub each : {A B : Type 0} → (A → Option B) → List A → Option (List B)
@@ -14,6 +14,7 @@ each value (x ∷ xs) = option_and_then (λ y. option_map (λ ys. y ∷ ys) (eac
 abbrev pub both : {A B : Type 0} → Option A → Option B → Option (A × B)
 both a b = option_and_then (λ x. option_map (λ y. (x, y)) b) a
 
+-- ---- the fields as a function; `SpellsFields` says what they are, by the law `fields_are_what_bytes_spell`
 -- the fields from a place on, fewer than so many
 unfoldable pub fields_from : ℕ → ℕ → List ℕ → Option (List Field)
 fields_from zero place bytes = None
@@ -24,6 +25,17 @@ fields_from (suc most) place bytes =
 -- the fields that bytes spell
 unfoldable pub fields_in : List ℕ → Option (List Field)
 fields_in bytes = fields_from (1 + length bytes) 0 bytes
+
+-- ---- what fields hold
+-- a field of a kind is among the fields that bytes begin with; what stands behind it may be no field
+pub record HasField (kind : Field → Type 0) (bytes : List ℕ) : Type 0 where
+  pub front : List ℕ
+  pub back : List ℕ
+  pub before : List Field
+  pub field : Field
+  pub joined : bytes ≡ front ++ back
+  pub spelled : SpellsFields front (before ++ field ∷ [])
+  pub is_kind : kind field
 
 -- what stands in the fields of a number, in their order
 abbrev pub payloads : ℕ → List Field → List Payload

@@ -1,4 +1,4 @@
--- The messages of a stability report with one field more, as tables of rows.
+-- How a field is added to each message of a stability report, as tables of rows. What the fields mean is StabilityReport.antt.
 use Rattle.std.specs.Prelude.{Option, None}
 use Rattle.minidump_bytes.specs.Wire.{Field}
 use Rattle.minidump_stability.specs.declared.process_state.FileSystemState.{FileSystemState}

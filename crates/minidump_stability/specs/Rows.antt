@@ -1,4 +1,4 @@
--- How a message changes when a field is added to it, by a table of its fields.
+-- How a field is added to a message, by a table of its fields. What the fields of a message mean is StabilityReport.antt.
 use Rattle.std.specs.Prelude.{ℕ, List, [], ◌∷◌, ◌++◌, ◌==◌, Option, Some, unwrap_or, if◌then◌else◌}
 use Rattle.std.specs.Option.{option_and_then, option_map}
 use Rattle.minidump_bytes.specs.Wire.{Field, Payload}

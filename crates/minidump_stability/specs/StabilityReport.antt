@@ -1,7 +1,7 @@
 -- The messages of Chromium's stability_report_in.proto: each field by its number, other fields are skipped.
-use Rattle.std.specs.Prelude.{ℕ, ◌+◌, List, [], Option, None, Result, unwrap_or, IsSome}
+use Rattle.std.specs.Prelude.{◌≡◌, ℕ, ◌+◌, List, [], Option, None, Result, unwrap_or}
 use Rattle.std.specs.Option.{ok_or, option_and_then, option_map}
-use Rattle.minidump_bytes.specs.Wire.{Field, field_at}
+use Rattle.minidump_bytes.specs.Wire.{Bytes, Field}
 use Rattle.minidump_format.specs.declared.error.Error.{Error}
 use Rattle.minidump_format.specs.declared.format.stream_type.MINIDUMP_STREAM_TYPE.TheVariants.{StabilityReportStream}
 use Rattle.minidump_format.specs.declared.error.Error.TheVariants.{DataError}
@@ -15,7 +15,7 @@ use Rattle.minidump_stability.specs.declared.report.ProcessState.{ProcessState}
 use Rattle.minidump_stability.specs.declared.report.StabilityReport.{StabilityReport}
 use Rattle.minidump_stability.specs.declared.report.SystemMemoryState.{SystemMemoryState}
 use Rattle.minidump_stability.specs.declared.system_memory_state.WindowsMemory as system
-use Rattle.minidump_stability.specs.Fields.{both, counted, fields_in, int64_in, nested, none_within, repeated, scalar, uint32_in, within}
+use Rattle.minidump_stability.specs.Fields.{HasField, both, counted, fields_in, int64_in, nested, none_within, repeated, scalar, uint32_in, within}
 
 -- ProcessState.MemoryState.WindowsMemory
 abbrev pub windows_memory : List Field → Option WindowsMemory
@@ -83,6 +83,15 @@ stability_report_in bytes = ok_or (option_and_then report (fields_in bytes)) Dat
 abbrev pub stability_report_of : StabilityReport → Report
 stability_report_of r = record { process_states = r.process_states.items; system_memory_state = r.system_memory_state }
 
+-- ---- where memory is taken
+-- a field of the state of a process: its number is 2, and its payload is bytes
+abbrev pub IsState : Field → Type 0
+IsState f = (f.number ≡ 2) × (bytes : List ℕ) × (f.payload ≡ Bytes bytes)
+
+-- no field, of a message that takes no memory
+abbrev pub NoField : Field → Type 0
+NoField f = ⊥
+
 -- ---- how many fields are inside a field of each message
 unfoldable pub memory_state_fields : Field → ℕ
 memory_state_fields f = within 1 none_within f
@@ -111,5 +120,5 @@ stability_report_stream = record {
   meaning = λ order file bytes system. stability_report_in bytes;
   most = linear;
   fewest = λ order bytes report. fields_of_report bytes;
-  memory = λ order bytes. IsSome (field_at 0 bytes);
+  memory = λ order bytes. HasField IsState bytes;
 }

@@ -21,9 +21,8 @@
 //!   `stability_report_text`.
 //! - A copy is the same report, and reports are equal where they hold the same: `StabilityReport::try_clone`,
 //!   `laws::reports_compare_by_what_they_hold`; each message copies and compares exactly.
-//!
-//! What isn't: where memory may run out within a stream; the contract allows it for every stream that begins
-//! with a field.
+//! - Memory may run out only where a process state is among the fields that the stream begins with: `memory`
+//!   of `stability_report_stream`.
 #![tactic(auto)]
 
 pub mod laws;

@@ -1,10 +1,10 @@
-ghost use Rattle.std.specs.Prelude.{◌≡◌, ◌+◌, ◌≤◌, ⊤, ℕ, [], Option, length, unwrap_or, IfErr, IfOk, IsSome};
+ghost use Rattle.std.specs.Prelude.{◌≡◌, ◌+◌, ◌≤◌, ℕ, [], Option, length, unwrap_or, IfOk};
 ghost use Rattle.std.specs.Option.{ok_or, option_map};
 ghost use Rattle.minidump_bytes.specs.Steps.{after};
-ghost use Rattle.minidump_bytes.specs.Wire.{Field, field_at, field_of, payload_of, room};
+ghost use Rattle.minidump_bytes.specs.Wire.{Field, field_of, payload_of, room};
 ghost use Rattle.minidump_format.specs.declared.error.Error.TheVariants.{DataError};
 ghost use Rattle.minidump_format.specs.Answer.{Gives};
-ghost use Rattle.minidump_stability.specs.Fields.{count_in, counted, fields_in, int64_in, uint32_in};
+ghost use Rattle.minidump_stability.specs.Fields.{HasField, count_in, counted, fields_in, int64_in, uint32_in};
 ghost use Rattle.minidump_stability.specs.Rows.{merged_bytes, one_nested, one_scalar};
 
 use minidump_bytes::{Source, Steps, WireField, WireValue};
@@ -23,6 +23,9 @@ pub trait Message: Sized {
     // the message with one field more
     ghost put: { Field → Value → Option Value };
 
+    // the fields for which memory may be taken
+    ghost memory: { Field → Type 0 };
+
     // how many fields are inside one of its fields
     ghost inside: { Field → ℕ };
 
@@ -33,10 +36,17 @@ pub trait Message: Sized {
     /// Adds a field to the message. Returns `DataError` if the field is known and has another type, or if it
     /// holds a message that can't be read.
     fn put(self, alloc: Global, field: WireField<'_>, steps: &mut Steps) -> Result<Self, Error>
-        ensures means { Gives value ⊤ result (ok_or (put (field_of field.entry) (value self)) DataError) }
+        ensures means { Gives value (memory (field_of field.entry)) result
+            (ok_or (put (field_of field.entry) (value self)) DataError) }
         ensures within { steps.new ≤ steps.old + room (payload_of field.entry.value) }
         ensures grows { steps.old ≤ steps.new }
         ensures counted { IfOk result (λ _. steps.new ≡ after steps.old (inside (field_of field.entry))) };
+}
+
+/// A message that takes no memory.
+pub trait Plain: Message {
+    // memory is taken for no field
+    ghost plain: { (f : Field) → Self.memory f → ⊥ };
 }
 
 /// Adds the fields that the bytes encode to the message `old`. Returns `DataError` if they don't encode
@@ -47,12 +57,12 @@ pub fn merge<M: Message + Drop>(
     bytes: &[u8],
     steps: &mut Steps,
 ) -> Result<M, Error>
-    ensures means { Gives M.value ⊤ result (ok_or (merged_bytes M.put bytes.now (M.value old)) DataError) }
+    ensures means { Gives M.value (HasField M.memory bytes.now) result
+        (ok_or (merged_bytes M.put bytes.now (M.value old)) DataError) }
     ensures within { steps.new ≤ steps.old + length bytes.now }
     ensures grows { steps.old ≤ steps.new }
     ensures counted { IfOk result
         (λ _. steps.new ≡ after steps.old (counted M.inside (unwrap_or (fields_in bytes.now) []))) }
-    ensures memory { IfErr result (λ e. e ≡ Error.OutOfMemory → IsSome (field_at 0 bytes.now)) }
 {
     let source = Source::new(bytes);
     let mut message = old;
@@ -65,18 +75,35 @@ pub fn merge<M: Message + Drop>(
     Ok(message)
 }
 
+/// Adds fields to a message that takes no memory, as [`merge`] does.
+pub fn merge_plain<M: Plain + Drop>(
+    alloc: Global,
+    old: M,
+    bytes: &[u8],
+    steps: &mut Steps,
+) -> Result<M, Error>
+    ensures means { Gives M.Message.value ⊥ result
+        (ok_or (merged_bytes M.Message.put bytes.now (M.Message.value old)) DataError) }
+    ensures within { steps.new ≤ steps.old + length bytes.now }
+    ensures grows { steps.old ≤ steps.new }
+    ensures counted { IfOk result
+        (λ _. steps.new ≡ after steps.old (counted M.Message.inside (unwrap_or (fields_in bytes.now) []))) }
+{
+    merge(alloc, old, bytes, steps)
+}
+
 /// Adds the fields in the payload of a field to the nested message that it holds, which is empty at first.
-pub fn nested<M: Message + Drop>(
+pub fn nested<M: Plain + Drop>(
     alloc: Global,
     old: Option<M>,
     value: WireValue<'_>,
     steps: &mut Steps,
 ) -> Result<Option<M>, Error>
-    ensures means { Gives (option_map M.value) ⊤ result
-        (ok_or (one_nested M.put M.empty (payload_of value.entry) (option_map M.value old)) DataError) }
+    ensures means { Gives (option_map M.Message.value) ⊥ result (ok_or
+        (one_nested M.Message.put M.Message.empty (payload_of value.entry) (option_map M.Message.value old)) DataError) }
     ensures within { steps.new ≤ steps.old + room (payload_of value.entry) }
     ensures grows { steps.old ≤ steps.new }
-    ensures counted { IfOk result (λ _. steps.new ≡ after steps.old (count_in M.inside (payload_of value.entry))) }
+    ensures counted { IfOk result (λ _. steps.new ≡ after steps.old (count_in M.Message.inside (payload_of value.entry))) }
 {
     let WireValue::Bytes(bytes) = value else {
         return Err(Error::DataError);
@@ -85,7 +112,7 @@ pub fn nested<M: Message + Drop>(
         Some(old) => old,
         None => M::none(alloc),
     };
-    Ok(Some(merge(alloc, old, bytes, steps)?))
+    Ok(Some(merge_plain(alloc, old, bytes, steps)?))
 }
 
 /// Returns the low 32 bits of a varint. Returns `DataError` if the value is no varint.

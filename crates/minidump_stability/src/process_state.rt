@@ -4,7 +4,7 @@ pub mod memory_state;
 
 ghost use Rattle.std.proofs.Common.{rules};
 
-use crate::message::{Message, nested};
+use crate::message::{Message, Plain, nested};
 use file_system_state::{PosixFileSystemState, WindowsFileSystemState};
 use memory_state::WindowsMemory;
 use minidump_bytes::{Exact, Steps, WireField};
@@ -21,7 +21,7 @@ pub struct MemoryState {
 impl Message for MemoryState {
     ghost use Rattle.minidump_stability.specs.declared.process_state.MemoryState.{MemoryState};
     ghost use Rattle.minidump_stability.specs.ReportRows.{no_memory_state, put_memory_state};
-    ghost use Rattle.minidump_stability.specs.StabilityReport.{memory_state_fields};
+    ghost use Rattle.minidump_stability.specs.StabilityReport.{NoField, memory_state_fields};
 
     ghost Value = { MemoryState };
 
@@ -30,6 +30,8 @@ impl Message for MemoryState {
     ghost empty = { no_memory_state };
 
     ghost put = { put_memory_state };
+
+    ghost memory = { NoField };
 
     ghost inside = { memory_state_fields };
 
@@ -48,6 +50,10 @@ impl Message for MemoryState {
         }
         Ok(new)
     }
+}
+
+impl Plain for MemoryState {
+    ghost plain = { λ f none. none };
 }
 
 impl Exact for MemoryState {
@@ -69,7 +75,7 @@ pub struct FileSystemState {
 impl Message for FileSystemState {
     ghost use Rattle.minidump_stability.specs.declared.process_state.FileSystemState.{FileSystemState};
     ghost use Rattle.minidump_stability.specs.ReportRows.{no_file_system_state, put_file_system_state};
-    ghost use Rattle.minidump_stability.specs.StabilityReport.{file_system_state_fields};
+    ghost use Rattle.minidump_stability.specs.StabilityReport.{NoField, file_system_state_fields};
 
     ghost Value = { FileSystemState };
 
@@ -78,6 +84,8 @@ impl Message for FileSystemState {
     ghost empty = { no_file_system_state };
 
     ghost put = { put_file_system_state };
+
+    ghost memory = { NoField };
 
     ghost inside = { file_system_state_fields };
 
@@ -108,6 +116,10 @@ impl Message for FileSystemState {
         }
         Ok(new)
     }
+}
+
+impl Plain for FileSystemState {
+    ghost plain = { λ f none. none };
 }
 
 impl Exact for FileSystemState {

@@ -4,7 +4,7 @@ ghost use Rattle.minidump_format.specs.declared.format.stream_type.MINIDUMP_STRE
 ghost use Rattle.minidump_format.specs.StreamType.{number_of};
 ghost use Rattle.minidump_stability.specs.StabilityReport.{no_report, stability_report_of};
 
-use crate::message::{Message, int64, merge, nested};
+use crate::message::{Message, Plain, int64, merge, merge_plain, nested};
 use crate::process_state::{FileSystemState, MemoryState};
 use crate::system_memory_state;
 use minidump_bytes::{Endian, Exact, Source, Steps, WireField, WireValue};
@@ -26,7 +26,7 @@ pub struct ProcessState {
 impl Message for ProcessState {
     ghost use Rattle.minidump_stability.specs.declared.report.ProcessState.{ProcessState};
     ghost use Rattle.minidump_stability.specs.ReportRows.{no_process_state, put_process_state};
-    ghost use Rattle.minidump_stability.specs.StabilityReport.{process_state_fields};
+    ghost use Rattle.minidump_stability.specs.StabilityReport.{NoField, process_state_fields};
 
     ghost Value = { ProcessState };
 
@@ -35,6 +35,8 @@ impl Message for ProcessState {
     ghost empty = { no_process_state };
 
     ghost put = { put_process_state };
+
+    ghost memory = { NoField };
 
     ghost inside = { process_state_fields };
 
@@ -59,6 +61,10 @@ impl Message for ProcessState {
     }
 }
 
+impl Plain for ProcessState {
+    ghost plain = { λ f none. none };
+}
+
 /// The memory of a system.
 #[derive(Clone, Copy, PartialEq, Eq)]
 pub struct SystemMemoryState {
@@ -69,7 +75,7 @@ pub struct SystemMemoryState {
 impl Message for SystemMemoryState {
     ghost use Rattle.minidump_stability.specs.declared.report.SystemMemoryState.{SystemMemoryState};
     ghost use Rattle.minidump_stability.specs.ReportRows.{no_system_memory_state, put_system_memory_state};
-    ghost use Rattle.minidump_stability.specs.StabilityReport.{system_memory_state_fields};
+    ghost use Rattle.minidump_stability.specs.StabilityReport.{NoField, system_memory_state_fields};
 
     ghost Value = { SystemMemoryState };
 
@@ -78,6 +84,8 @@ impl Message for SystemMemoryState {
     ghost empty = { no_system_memory_state };
 
     ghost put = { put_system_memory_state };
+
+    ghost memory = { NoField };
 
     ghost inside = { system_memory_state_fields };
 
@@ -96,6 +104,10 @@ impl Message for SystemMemoryState {
         }
         Ok(new)
     }
+}
+
+impl Plain for SystemMemoryState {
+    ghost plain = { λ f none. none };
 }
 
 impl Exact for SystemMemoryState {
@@ -137,7 +149,7 @@ impl StabilityReport {
 }
 
 impl Message for StabilityReport {
-    ghost use Rattle.minidump_stability.specs.StabilityReport.{Report, no_report, stability_report_of, report_fields};
+    ghost use Rattle.minidump_stability.specs.StabilityReport.{IsState, Report, no_report, report_fields, stability_report_of};
     ghost use Rattle.minidump_stability.specs.ReportRows.{put_report};
 
     ghost Value = { Report };
@@ -147,6 +159,8 @@ impl Message for StabilityReport {
     ghost empty = { no_report };
 
     ghost put = { put_report };
+
+    ghost memory = { IsState };
 
     ghost inside = { report_fields };
 
@@ -162,7 +176,7 @@ impl Message for StabilityReport {
                 let WireValue::Bytes(bytes) = field.value else {
                     return Err(Error::DataError);
                 };
-                let state = merge(alloc, ProcessState::none(alloc), bytes, steps)?;
+                let state = merge_plain(alloc, ProcessState::none(alloc), bytes, steps)?;
                 new.process_states.push(state)?;
             }
             7 => {

@@ -1,7 +1,7 @@
 //! Messages of the memory of a system.
 ghost use Rattle.std.proofs.Common.{rules};
 
-use crate::message::{Message, uint32};
+use crate::message::{Message, Plain, uint32};
 use minidump_bytes::{Exact, Steps, WireField};
 use minidump_format::Error;
 use std::alloc::Global;
@@ -21,6 +21,7 @@ impl Message for WindowsMemory {
     ghost use Rattle.minidump_stability.specs.declared.system_memory_state.WindowsMemory.{WindowsMemory};
     ghost use Rattle.minidump_stability.specs.ReportRows.{no_system_windows_memory, put_system_windows_memory};
     ghost use Rattle.minidump_stability.specs.Fields.{none_within};
+    ghost use Rattle.minidump_stability.specs.StabilityReport.{NoField};
 
     ghost Value = { WindowsMemory };
 
@@ -29,6 +30,8 @@ impl Message for WindowsMemory {
     ghost empty = { no_system_windows_memory };
 
     ghost put = { put_system_windows_memory };
+
+    ghost memory = { NoField };
 
     ghost inside = { none_within };
 
@@ -51,6 +54,10 @@ impl Message for WindowsMemory {
         }
         Ok(new)
     }
+}
+
+impl Plain for WindowsMemory {
+    ghost plain = { λ f none. none };
 }
 
 impl Exact for WindowsMemory {

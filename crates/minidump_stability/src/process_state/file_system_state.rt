@@ -1,7 +1,7 @@
 //! Messages of the files of a process.
 ghost use Rattle.std.proofs.Common.{rules};
 
-use crate::message::{Message, uint32};
+use crate::message::{Message, Plain, uint32};
 use minidump_bytes::{Exact, Steps, WireField};
 use minidump_format::Error;
 use std::alloc::Global;
@@ -17,6 +17,7 @@ impl Message for PosixFileSystemState {
     ghost use Rattle.minidump_stability.specs.declared.process_state.file_system_state.PosixFileSystemState.{PosixFileSystemState};
     ghost use Rattle.minidump_stability.specs.ReportRows.{no_posix_file_system_state, put_posix_file_system_state};
     ghost use Rattle.minidump_stability.specs.Fields.{none_within};
+    ghost use Rattle.minidump_stability.specs.StabilityReport.{NoField};
 
     ghost Value = { PosixFileSystemState };
 
@@ -25,6 +26,8 @@ impl Message for PosixFileSystemState {
     ghost empty = { no_posix_file_system_state };
 
     ghost put = { put_posix_file_system_state };
+
+    ghost memory = { NoField };
 
     ghost inside = { none_within };
 
@@ -45,6 +48,10 @@ impl Message for PosixFileSystemState {
     }
 }
 
+impl Plain for PosixFileSystemState {
+    ghost plain = { λ f none. none };
+}
+
 impl Exact for PosixFileSystemState {
     ghost exact = { Prim.search rules };
 }
@@ -60,6 +67,7 @@ impl Message for WindowsFileSystemState {
     ghost use Rattle.minidump_stability.specs.declared.process_state.file_system_state.WindowsFileSystemState.{WindowsFileSystemState};
     ghost use Rattle.minidump_stability.specs.ReportRows.{no_windows_file_system_state, put_windows_file_system_state};
     ghost use Rattle.minidump_stability.specs.Fields.{none_within};
+    ghost use Rattle.minidump_stability.specs.StabilityReport.{NoField};
 
     ghost Value = { WindowsFileSystemState };
 
@@ -68,6 +76,8 @@ impl Message for WindowsFileSystemState {
     ghost empty = { no_windows_file_system_state };
 
     ghost put = { put_windows_file_system_state };
+
+    ghost memory = { NoField };
 
     ghost inside = { none_within };
 
@@ -86,6 +96,10 @@ impl Message for WindowsFileSystemState {
         }
         Ok(new)
     }
+}
+
+impl Plain for WindowsFileSystemState {
+    ghost plain = { λ f none. none };
 }
 
 impl Exact for WindowsFileSystemState {

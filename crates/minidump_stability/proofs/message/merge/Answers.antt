@@ -5,7 +5,7 @@ use Rattle.std.specs.Option.{ok_or}
 use Rattle.minidump_format.specs.declared.error.Error.TheVariants.{DataError}
 use Rattle.minidump_bytes.specs.Source.{bytes_of}
 use Rattle.minidump_bytes.specs.Wire.{field_at, field_of}
-use Rattle.minidump_stability.proofs.MergeLemmas.{counting_end, counting_more, counting_none, first_there, memory_held, memory_none, gives_none}
+use Rattle.minidump_stability.proofs.MergeLemmas.{counting_end, counting_more, counting_none, gives_none, reading_has, reading_more, reading_none}
 use Rattle.minidump_stability.proofs.MergeLemmas.{gives_refused, is_there, merging_end, merging_more, merging_none, merging_refused, merging_stuck}
 use Rattle.minidump_stability.proofs.MergeLemmas.{none_seen, some_seen}
 use Rattle.minidump_stability.proofs.message.merge.Goals as goal
@@ -15,7 +15,7 @@ loop-place-init g c = record {
   merging = merging_none g.M.Message.put c.args.bytes.now (g.M.Message.value c.args.old);
   within = omega arith;
   grows = omega arith;
-  first = λ h. absurd (omega (arith, h));
+  read = reading_none c.args.bytes.now;
   counted = (0, counting_none g.M.Message.inside c.args.bytes.now, omega arith);
 }
 
@@ -23,7 +23,7 @@ pub returns-in_err-field-clause-means : goal.returns-in_err-field-clause-means
 returns-in_err-field-clause-means g c =
     let size : length (bytes_of c.new-source.result) ≡ length c.args.bytes.now = ap length c.new-source.ensures in
     let none = none_seen _ c.wire_field.result _ _ _ (rw c.new-source.ensures at c.wire_field.ensures.value) c.in_err-field.ensures.value in
-    gives_none _ _ _ _ c.from_residual.ensures.1
+    gives_none _ _ _ _ _ c.from_residual.ensures.1
     (merging_stuck g.M.Message.put _ c.args.bytes.now c.loop-place.place _ (omega (arith, size)) none.0 c.loop-place.invariant.merging) none.1
 
 pub returns-in_err-message-clause-means : goal.returns-in_err-message-clause-means
@@ -31,20 +31,10 @@ returns-in_err-message-clause-means g c =
     let size : length (bytes_of c.new-source.result) ≡ length c.args.bytes.now = ap length c.new-source.ensures in
     let is : field_at c.loop-place.place c.args.bytes.now ≡ Some (field_of c.in_ok-field.field, c.in_ok-field.next) = some_seen _ c.wire_field.result _
     (c.in_ok-field.field, c.in_ok-field.next) (rw c.new-source.ensures at c.wire_field.ensures.value) c.in_ok-field.ensures.ok_part in
-    gives_refused _ _ _ _ _ c.from_residual-in_err-message.ensures.1 c.in_err-message.ensures.means
+    gives_refused _ _ _ _ _ _ _ c.from_residual-in_err-message.ensures.1 c.in_err-message.ensures.means
+    (reading_has c.args.bytes.now c.loop-place.place c.in_ok-field.next (field_of c.in_ok-field.field) is c.loop-place.invariant.read g.M.Message.memory)
     (λ h. merging_refused g.M.Message.put _ c.args.bytes.now c.loop-place.place c.in_ok-field.next (field_of c.in_ok-field.field) _
     (omega (arith, size)) is h c.loop-place.invariant.merging)
-
-pub returns-in_err-field-clause-memory : goal.returns-in_err-field-clause-memory
-returns-in_err-field-clause-memory g c =
-    let none = none_seen _ c.wire_field.result _ _ _ (rw c.new-source.ensures at c.wire_field.ensures.value) c.in_err-field.ensures.value in
-    memory_none _ _ _ c.from_residual.ensures.1 none.1
-
-pub returns-in_err-message-clause-memory : goal.returns-in_err-message-clause-memory
-returns-in_err-message-clause-memory g c =
-    let is : field_at c.loop-place.place c.args.bytes.now ≡ Some (field_of c.in_ok-field.field, c.in_ok-field.next) = some_seen _ c.wire_field.result _
-    (c.in_ok-field.field, c.in_ok-field.next) (rw c.new-source.ensures at c.wire_field.ensures.value) c.in_ok-field.ensures.ok_part in
-    memory_held _ _ (first_there (λ p. field_at p c.args.bytes.now) c.loop-place.place _ is c.loop-place.invariant.first)
 
 pub loop-place-preserved : goal.loop-place-preserved
 loop-place-preserved g c =
@@ -56,7 +46,7 @@ loop-place-preserved g c =
           (omega (arith, inside.0)) inside.1 is (is_there _ _ _ c.in_ok-message.ensures.means) c.loop-place.invariant.merging;
       within = omega (arith, inside.0, c.put.ensures.within, c.wire_field.ensures.step, c.loop-place.invariant.within);
       grows = omega (arith, c.put.ensures.grows, c.wire_field.ensures.step, c.loop-place.invariant.grows);
-      first = λ h. first_there (λ p. field_at p c.args.bytes.now) c.loop-place.place _ is c.loop-place.invariant.first;
+      read = reading_more c.args.bytes.now c.loop-place.place c.in_ok-field.next (field_of c.in_ok-field.field) is c.loop-place.invariant.read;
       counted = (
         c.loop-place.invariant.counted.0 + (1 + g.M.Message.inside (field_of c.in_ok-field.field)),
         counting_more g.M.Message.inside c.args.bytes.now c.loop-place.place c.in_ok-field.next _ (field_of c.in_ok-field.field)

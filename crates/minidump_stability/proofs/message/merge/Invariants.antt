@@ -1,10 +1,8 @@
 -- How far a message is read.
-use Rattle.std.proofs.Common.{◌≡◌, ℕ, ◌+◌, ◌-◌, ◌<◌, ◌≤◌, length}
-use Rattle.std.specs.Prelude.{IsSome}
-use Rattle.minidump_bytes.specs.Wire.{field_at}
+use Rattle.std.proofs.Common.{◌≡◌, ℕ, ◌+◌, ◌-◌, ◌≤◌, length}
 use Rattle.minidump_bytes.specs.Steps.{after}
 use Rattle.minidump_stability.specs.Rows.{merged_bytes}
-use Rattle.minidump_stability.proofs.MergeLemmas.{Counting, Merging}
+use Rattle.minidump_stability.proofs.MergeLemmas.{Counting, Merging, Reading}
 use Rattle.minidump_stability.proofs.message.merge.Given as goal
 
 abbrev pub invariant-loop-place : goal.invariant-loop-place
@@ -12,7 +10,7 @@ invariant-loop-place g l = record {
   merging : Merging g.M.Message.put (merged_bytes g.M.Message.put l.bytes (g.M.Message.value l.fn.old)) l.bytes l.place (g.M.Message.value l.message);
   within : l.steps ≤ l.fn.steps + l.place;
   grows : l.fn.steps ≤ l.steps;
-  first : 0 < l.place → IsSome (field_at 0 l.bytes);
+  read : Reading l.bytes l.place;
   counted : (done : ℕ) × Counting g.M.Message.inside l.bytes l.place done × (l.steps ≡ after l.fn.steps done);
 }
 
