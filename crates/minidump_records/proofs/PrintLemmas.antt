@@ -22,6 +22,10 @@ module _ {S A B : Type 0} (steps : S → Option A → S → Type 0) (v : A → B
   yields_some s t x [] e p = absurd (e.runs x t p)
   yields_some s t x (y ∷ ys) e p = (ys, ap (λ z. z ∷ ys) (sym (e.runs.1 x t p).0), record { runs = (e.runs.1 x t p).1 })
 
+  -- an iterator that yields nothing has no item
+  pub never_some : (s t : S) (x : A) → YieldsList steps v s [] → steps s (Some x) t → ⊥
+  never_some s t x e p = e.runs x t p
+
   -- at the end nothing is left
   pub yields_none : (s t : S) (all : List B) → YieldsList steps v s all → steps s None t → all ≡ []
   yields_none s t [] e p = refl
@@ -35,7 +39,7 @@ module _ {S A B : Type 0} (steps : S → Option A → S → Type 0) (v : A → B
   pub yields_by : {C : Type 0} (g : B → C) (s : S) (ys : List B) → YieldsList steps v s ys → YieldsList steps (λ x. g (v x)) s (map g ys)
   yields_by g s ys e = record { runs = always_by g s ys e.runs }
 
--- the items of a slice with their indexes, and the entries of a map, where a function reads each
+-- the items of a slice with their indexes, and the entries of a map, also with their indexes, where a function reads each
 pub yields_numbered : {A B : Type 0} (value : A → B) (xs : List A) (s : _) → iter_rest (enumerate_source s) ≡ xs → enumerate_count s ≡ 0
     → YieldsList (enumerate_steps fronts) (λ p. (p.0, value p.1.now)) s (enumerate_from 0 (map value xs))
 yields_numbered value xs s e n =
@@ -44,6 +48,10 @@ yields_numbered value xs s e n =
 pub yields_entries : {K V B : Type 0} (value : K × V → B) (es s : List (K × V)) → s ≡ es
     → YieldsList (TakesFirst deref_pair) (λ e. value (deref_pair e)) s (map value es)
 yields_entries value es s e = yields_by (TakesFirst deref_pair) deref_pair value s es (YieldsList-from_rest es e)
+
+pub yields_numbered_entries : {K V B : Type 0} (value : K × V → B) (es : List (K × V)) (s : _) → enumerate_source s ≡ es → enumerate_count s ≡ 0
+    → YieldsList (enumerate_steps (TakesFirst deref_pair)) (λ p. (p.0, value (deref_pair p.1))) s (enumerate_from 0 (map value es))
+yields_numbered_entries value es s e n = YieldsList-from_enumerate (yields_entries value es (enumerate_source s) e) n
 
 module _ {D : Type 0} (contents : D → Option (List ℕ)) {S A B : Type 0} (steps : S → Option A → S → Type 0) (v : A → B) (text : B → List ℕ) where
   -- the writer took all but what waits in a block and the texts of what is left

@@ -1,5 +1,5 @@
 //! Prints what an iterator yields.
-ghost use Rattle.std.specs.Prelude.{◌≡◌, ◌++◌, ℕ, List, IfErr, OnOk};
+ghost use Rattle.std.specs.Prelude.{◌≡◌, ◌++◌, ℕ, List, [], IfErr, OnOk};
 ghost use Rattle.std.specs.Iterator.{IsFinite};
 ghost use Rattle.std.specs.List.{flat_map};
 ghost use Rattle.std.proofs.lemmas.Iterator.{YieldsList};
@@ -35,8 +35,9 @@ pub(crate) fn print_each<I: Iterator + Drop, P: PushItem<I::Item>, W: Write>(
 ) -> Result<(), Error>
     requires can { I.can_next items }
     requires ends { IsFinite (I.remaining items) }
-    ensures { (all : List P.Value) → YieldsList I.next_gives P.value items all
+    ensures prints { (all : List P.Value) → YieldsList I.next_gives P.value items all
         → Prints W.contents f.old f.new (flat_map (P.text line.now) all) result }
+    ensures none { YieldsList I.next_gives P.value items [] → IfErr result (λ e. e ≡ Error.IoError) }
 {
     if f.failed() {
         return Err(Error::IoError);

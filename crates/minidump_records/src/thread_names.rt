@@ -7,20 +7,18 @@ ghost use Rattle.minidump_bytes.specs.Source.{bytes_of};
 ghost use Rattle.minidump_bytes.specs.Steps.{after};
 ghost use Rattle.minidump_bytes.specs.Text16.{text16};
 ghost use Rattle.minidump_format.specs.Print.{Prints};
-ghost use Rattle.minidump_format.specs.Numbered.{count_text, numbered_item, numbered_text};
+ghost use Rattle.minidump_format.specs.Numbered.{count_text, numbered_text};
 ghost use Rattle.minidump_records.specs.ThreadNames.{last_names, name_of_thread, named, thread_name_text, thread_names_of, thread_names_stream, thread_names_text};
 
+use crate::print::{PushItem, print_each};
 use minidump_bytes::{Endian, Entries, Piece, Source, Steps, Told, push_pieces};
 use minidump_format::format::MINIDUMP_THREAD_NAME;
-use minidump_format::{Error, print_count, push_index, put_bytes};
+use minidump_format::{Error, print_count, push_index};
 use minidump_system::framing::plain_entries;
 use minidump_system::{MinidumpStream, MinidumpSystemInfo};
 use std::alloc::{AllocError, Global};
 use std::collections::{BTreeMap, btree_map};
 use std::io::Write;
-
-// Bytes that wait are written once there are so many.
-const BLOCK: usize = 32768;
 
 /// The names of threads, by their ids.
 #[derive(Drop)]
@@ -87,26 +85,12 @@ impl MinidumpThreadNames {
         print_count(heading, self.names.len(), alloc, f)
     }
 
-    // Prints the names in blocks.
+    // Prints the names behind their indexes.
     fn print_names<W: Write>(&self, alloc: Global, f: &mut Told<W>) -> Result<(), Error>
         ensures { Prints W.contents f.old f.new
             (numbered_text (codes "thread_name") thread_name_text (thread_names_of self.now)) result }
     {
-        if f.failed() {
-            return Err(Error::IoError);
-        }
-        let mut block = Vec::new(alloc);
-        for (index, (id, name)) in self.names.iter().enumerate() {
-            match push_entry(&mut block, index, *id, name) {
-                Ok(()) => {}
-                Err(AllocError) => return Err(Error::OutOfMemory),
-            }
-            if block.len() >= BLOCK {
-                put_bytes(f, block.as_slice())?;
-                block.clear();
-            }
-        }
-        put_bytes(f, block.as_slice())
+        print_each(self.names.iter().enumerate(), &NameLine, alloc, f)
     }
 }
 
@@ -212,13 +196,30 @@ fn put_name(
     Ok(())
 }
 
-// Appends the name of a thread, behind its index.
-fn push_entry(out: &mut Vec<u8>, index: usize, id: u32, name: &String) -> Result<(), AllocError>
-    ensures { OnOk result (out.new.items ≡ out.old.items
-        ++ numbered_item (codes "thread_name") thread_name_text (index, (id, string_bytes name.now))) }
-{
-    push_index(out, "thread_name", index)?;
-    push_name(out, id, name.as_str())
+// The name of a thread, behind its index.
+#[derive(Clone, Copy)]
+struct NameLine;
+
+impl<'a> PushItem<(usize, (&'a u32, &'a String))> for NameLine {
+    ghost use Rattle.std.specs.Prelude.{ℕ, codes, string_bytes};
+    ghost use Rattle.minidump_format.specs.Numbered.{numbered_item};
+    ghost use Rattle.minidump_records.specs.ThreadNames.{ThreadName, thread_name_text};
+
+    ghost Value = { ℕ × ThreadName };
+
+    ghost value = { λ e. (e.0, (e.1.0.now, string_bytes e.1.1.now)) };
+
+    ghost text = { λ line e. numbered_item (codes "thread_name") thread_name_text e };
+
+    fn push(
+        &self,
+        entry: (usize, (&'a u32, &'a String)),
+        out: &mut Vec<u8>,
+    ) -> Result<(), AllocError> {
+        let (index, (id, name)) = entry;
+        push_index(out, "thread_name", index)?;
+        push_name(out, *id, name.as_str())
+    }
 }
 
 #[tactic(auto, unfolding(crate::specs::ThreadNames::thread_name_text))]

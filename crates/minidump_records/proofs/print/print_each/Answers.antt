@@ -1,10 +1,10 @@
 -- One item more waits or went out, and the end.
 use Rattle.std.proofs.Common.{◌∙◌}
-use Rattle.minidump_records.proofs.PrintLemmas.{last_went, one_refused, one_waits, one_went}
+use Rattle.minidump_records.proofs.PrintLemmas.{last_went, never_some, one_refused, one_waits, one_went}
 use Rattle.minidump_records.proofs.print.print_each.Goals as goal
 
-pub returns-in_err-put_bytes : goal.returns-in_err-put_bytes
-returns-in_err-put_bytes g c = λ all e.
+pub returns-in_err-put_bytes-clause-prints : goal.returns-in_err-put_bytes-clause-prints
+returns-in_err-put_bytes-clause-prints g c = λ all e.
     one_refused g.W.Write.contents g.I.Iterator.next_gives g.P.PushItem.value (g.P.PushItem.text c.args.line.now)
     c.loop-item.item-iterator c.next.new.self c.in-Some.item c.args.f.now c.loop-item.f all c.loop-item.block.items c.as_slice.result.now
     (c.as_slice.ensures.value ∙ c.in-Ok.ensures) c.in-Some.ensures.steps _ _ _ c.from_residual.ensures.1 c.in_err-put_bytes.ensures.prints
@@ -20,6 +20,8 @@ loop-item-preserved-then-len-ge-BLOCK g c =
           c.loop-item.item-iterator c.next.new.self c.in-Some.item c.args.f.now c.loop-item.f all c.loop-item.block.items c.as_slice.result.now
           (c.as_slice.ensures.value ∙ c.in-Ok.ensures) c.in-Some.ensures.steps c.put_bytes.new.f c.in_ok-put_bytes.ensures.prints
           (c.loop-item.invariant.2 all e)),
+      λ e. absurd (never_some g.I.Iterator.next_gives g.P.PushItem.value c.loop-item.item-iterator c.next.new.self c.in-Some.item
+          (c.loop-item.invariant.3 e) c.in-Some.ensures.steps),
     )
 
 pub loop-item-preserved : goal.loop-item-preserved
@@ -31,10 +33,22 @@ loop-item-preserved g c =
           one_waits g.W.Write.contents g.I.Iterator.next_gives g.P.PushItem.value (g.P.PushItem.text c.args.line.now)
           c.loop-item.item-iterator c.next.new.self c.in-Some.item c.args.f.now c.loop-item.f all c.loop-item.block.items c.push.new.out.items
           c.in-Ok.ensures c.in-Some.ensures.steps (c.loop-item.invariant.2 all e),
+      λ e. absurd (never_some g.I.Iterator.next_gives g.P.PushItem.value c.loop-item.item-iterator c.next.new.self c.in-Some.item
+          (c.loop-item.invariant.3 e) c.in-Some.ensures.steps),
     )
 
-pub returns : goal.returns
-returns g c = λ all e.
+pub returns-clause-prints : goal.returns-clause-prints
+returns-clause-prints g c = λ all e.
     last_went g.W.Write.contents g.I.Iterator.next_gives g.P.PushItem.value (g.P.PushItem.text c.args.line.now)
     c.loop-item.item-iterator c.next.new.self c.args.f.now c.loop-item.f all c.loop-item.block.items c.in-None.ensures.steps
     c.put_bytes-2.new.f c.put_bytes-2.result (rw c.as_slice-2.ensures.value at c.put_bytes-2.ensures.prints) (c.loop-item.invariant.2 all e)
+
+pub returns-in_err-put_bytes-clause-none : goal.returns-in_err-put_bytes-clause-none
+returns-in_err-put_bytes-clause-none g c = λ e.
+    absurd (never_some g.I.Iterator.next_gives g.P.PushItem.value c.loop-item.item-iterator c.next.new.self c.in-Some.item
+    (c.loop-item.invariant.3 e) c.in-Some.ensures.steps)
+
+pub returns-in-Err-clause-none : goal.returns-in-Err-clause-none
+returns-in-Err-clause-none g c = λ e.
+    absurd (never_some g.I.Iterator.next_gives g.P.PushItem.value c.loop-item.item-iterator c.next.new.self c.in-Some.item
+    (c.loop-item.invariant.3 e) c.in-Some.ensures.steps)

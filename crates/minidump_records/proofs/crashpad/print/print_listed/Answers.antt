@@ -6,5 +6,5 @@ use Rattle.minidump_records.proofs.crashpad.print.print_listed.Goals as goal
 
 pub returns : goal.returns
 returns g c =
-    c.print_each.ensures (enumerate_from 0 (map string_bytes c.args.texts.now))
+    c.print_each.ensures.prints (enumerate_from 0 (map string_bytes c.args.texts.now))
     (yields_numbered string_bytes c.args.texts.now c.enumerate.result (cc) (cc))

@@ -7,5 +7,5 @@ use Rattle.minidump_records.proofs.crashpad.print.print_objects.Goals as goal
 
 pub returns : goal.returns
 returns g c =
-    c.print_each.ensures (entries_of annotation_of c.args.annotations.now.entries)
+    c.print_each.ensures.prints (entries_of annotation_of c.args.annotations.now.entries)
     (yields_entries (λ e. (string_bytes e.0, annotation_of e.1)) c.args.annotations.now.entries c.iter.result c.iter.ensures.rest)

@@ -6,5 +6,5 @@ use Rattle.minidump_records.proofs.crashpad.print.print_simple.Goals as goal
 
 pub returns : goal.returns
 returns g c =
-    c.print_each.ensures (entries_of string_bytes c.args.texts.now.entries)
+    c.print_each.ensures.prints (entries_of string_bytes c.args.texts.now.entries)
     (yields_entries (λ e. (string_bytes e.0, string_bytes e.1)) c.args.texts.now.entries c.iter.result c.iter.ensures.rest)

@@ -7,5 +7,5 @@ use Rattle.minidump_records.proofs.mac_crash_info.print.print_record_list.Goals 
 
 pub returns : goal.returns
 returns g c =
-    c.print_each.ensures (enumerate_from 0 (map mac_record_of c.args.records.now))
+    c.print_each.ensures.prints (enumerate_from 0 (map mac_record_of c.args.records.now))
     (yields_numbered mac_record_of c.args.records.now c.enumerate.result (cc) (cc))
