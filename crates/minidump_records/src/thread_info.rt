@@ -39,6 +39,7 @@ impl Pushed for MinidumpThreadInfo {
 /// The state of each thread, in the order of the file.
 #[derive(Drop)]
 pub struct MinidumpThreadInfoList {
+    /// What the stream has of each thread.
     pub thread_infos: Vec<MinidumpThreadInfo>,
 }
 

@@ -13,6 +13,7 @@ use Rattle.minidump_format.specs.declared.format.mac.MINIDUMP_MAC_CRASH_INFO_REC
 use Rattle.minidump_format.specs.declared.format.mac.MINIDUMP_MAC_CRASH_INFO_RECORD_STRINGS_4.{MINIDUMP_MAC_CRASH_INFO_RECORD_STRINGS_4}
 use Rattle.minidump_format.specs.declared.format.mac.MINIDUMP_MAC_CRASH_INFO_RECORD_STRINGS_5.{MINIDUMP_MAC_CRASH_INFO_RECORD_STRINGS_5}
 use Rattle.minidump_format.specs.Mac.{mac_record_4, mac_record_5}
+use Rattle.minidump_system.specs.OsParts.{unless_empty}
 use Rattle.minidump_system.specs.Reads.{and_then}
 use Rattle.minidump_records.specs.declared.mac_crash_info.raw.RawMacCrashInfo.{RawMacCrashInfo}
 use Rattle.minidump_records.specs.declared.mac_crash_info.raw.RawMacCrashInfo.TheVariants.{V1, V4, V5}
@@ -71,9 +72,6 @@ mac_record_of (V5 raw texts) = v5 raw (texts_5 texts)
 abbrev pub if_nonzero : ℕ → Option ℕ
 if_nonzero n = if n == 0 then None else Some n
 
-abbrev pub if_some : List ℕ → Option (List ℕ)
-if_some text = if length text == 0 then None else Some text
-
 abbrev pub version : MacRecord → Option ℕ
 version (v1 raw) = if_nonzero raw.version
 version (v4 raw texts) = if_nonzero raw.version
@@ -97,8 +95,8 @@ abort_cause (v5 raw texts) = if_nonzero raw.abort_cause
 -- a text of version 4 and above
 abbrev pub text_of : (MacTexts → List ℕ) → MacRecord → Option (List ℕ)
 text_of field (v1 raw) = None
-text_of field (v4 raw texts) = if_some (field texts)
-text_of field (v5 raw texts) = if_some (field texts)
+text_of field (v4 raw texts) = unless_empty (field texts)
+text_of field (v5 raw texts) = unless_empty (field texts)
 
 -- ---- its bytes
 

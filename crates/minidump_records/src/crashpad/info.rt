@@ -48,7 +48,10 @@ fn read_record(
 }
 
 /// Reads Crashpad's `MinidumpCrashpadInfo`: a record, then its dictionary and its list of links to modules.
-/// Returns `VersionMismatch` if the version of the record is 0.
+///
+/// Returns `StreamReadFailure` if a record, a location, a text or an entry isn't in the file,
+/// `StreamSizeMismatch` if a list of texts or of links counts more bytes than the file has, `VersionMismatch` if
+/// the version of the record is 0.
 impl<'a> MinidumpStream<'a> for MinidumpCrashpadInfo {
     ghost use Rattle.minidump_records.specs.Crashpad.{Crashpad, crashpad_info_stream};
 

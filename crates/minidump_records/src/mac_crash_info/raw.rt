@@ -1,6 +1,7 @@
 ghost use Rattle.std.specs.Prelude.{◌≡◌, IfOk, IsOkUnless, OnErr};
 ghost use Rattle.std.specs.Option.{option_copied};
-ghost use Rattle.minidump_records.specs.MacCrashInfo.Record.{HasTexts, abort_cause, dialog_mode, if_nonzero, if_some, mac_record_of, text_of, texts_4, texts_5, thread, version};
+ghost use Rattle.minidump_system.specs.OsParts.{unless_empty};
+ghost use Rattle.minidump_records.specs.MacCrashInfo.Record.{HasTexts, abort_cause, dialog_mode, if_nonzero, mac_record_of, text_of, texts_4, texts_5, thread, version};
 
 use minidump_format::Error;
 use minidump_format::format::{
@@ -73,35 +74,35 @@ impl RawMacCrashInfo {
     pub fn module_path(&self) -> Option<&str>
         ensures { option_copied result ≡ text_of (λ t. t.module_path) (mac_record_of self.now) }
     {
-        from_version_4!(self, (_, texts) => if_some(texts.module_path.as_str()))
+        from_version_4!(self, (_, texts) => unless_empty(texts.module_path.as_str()))
     }
 
     /// Returns the first message.
     pub fn message(&self) -> Option<&str>
         ensures { option_copied result ≡ text_of (λ t. t.message) (mac_record_of self.now) }
     {
-        from_version_4!(self, (_, texts) => if_some(texts.message.as_str()))
+        from_version_4!(self, (_, texts) => unless_empty(texts.message.as_str()))
     }
 
     /// Returns the signature.
     pub fn signature_string(&self) -> Option<&str>
         ensures { option_copied result ≡ text_of (λ t. t.signature_string) (mac_record_of self.now) }
     {
-        from_version_4!(self, (_, texts) => if_some(texts.signature_string.as_str()))
+        from_version_4!(self, (_, texts) => unless_empty(texts.signature_string.as_str()))
     }
 
     /// Returns the backtrace.
     pub fn backtrace(&self) -> Option<&str>
         ensures { option_copied result ≡ text_of (λ t. t.backtrace) (mac_record_of self.now) }
     {
-        from_version_4!(self, (_, texts) => if_some(texts.backtrace.as_str()))
+        from_version_4!(self, (_, texts) => unless_empty(texts.backtrace.as_str()))
     }
 
     /// Returns the second message.
     pub fn message2(&self) -> Option<&str>
         ensures { option_copied result ≡ text_of (λ t. t.message2) (mac_record_of self.now) }
     {
-        from_version_4!(self, (_, texts) => if_some(texts.message2.as_str()))
+        from_version_4!(self, (_, texts) => unless_empty(texts.message2.as_str()))
     }
 
     /// Copies the record. The only error is [`Error::OutOfMemory`], and only if its version has texts.
@@ -128,8 +129,8 @@ fn if_nonzero(n: &u64) -> Option<&u64>
 }
 
 // Returns a text, or `None` if it is empty.
-fn if_some(text: &str) -> Option<&str>
-    ensures { option_copied result ≡ if_some text.now }
+fn unless_empty(text: &str) -> Option<&str>
+    ensures { option_copied result ≡ unless_empty text.now }
 {
     if text.len() == 0 { None } else { Some(text) }
 }
