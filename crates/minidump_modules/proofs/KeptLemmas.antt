@@ -1,8 +1,9 @@
 -- The digits that are kept of a text, byte by byte.
-use Rattle.std.proofs.Common.{◌≡◌, ℕ, ◌+◌, ◌<◌, true, false, List, [], ◌∷◌, ◌++◌, length, get_or, take, refl, ap, ◌∙◌, arith, append-nil, encode_utf8}
+use Rattle.std.proofs.Common.{◌≡◌, ℕ, zero, suc, ◌+◌, ◌<◌, Bool, true, false, List, [], ◌∷◌, ◌++◌, filter, length, get_or, take, refl, ap, ◌∙◌, arith}
+use Rattle.std.proofs.Common.{append-nil, encode_utf8}
 use Rattle.std.specs.Char.{is_ascii_hexdigit, to_ascii_lowercase}
 use Rattle.std.proofs.lemmas.List.Elements.{filter_more}
-use Rattle.std.proofs.lemmas.List.{map-append}
+use Rattle.std.proofs.lemmas.List.{length-map, map-append}
 use Rattle.std.proofs.lemmas.Bool.Decides.{nat_tests}
 use Rattle.std.proofs.lemmas.Str.{encode_ascii}
 use Rattle.minidump_modules.specs.CodeId.{kept_digits}
@@ -24,3 +25,20 @@ pub kept_other : (xs : List ℕ) (i : ℕ) (old : List ℕ) → i < length xs �
     → old ≡ kept_digits (take (i + 1) xs)
 unfolding kept_digits
 kept_other xs i old lt before is = before ∙ rw (filter_more is_ascii_hexdigit xs i 0 lt, is, append-nil) refl
+
+-- where a byte passes a test, some are kept
+front_kept : (p : ℕ → Bool) (x : ℕ) (xs : List ℕ) → p x ≡ true → 0 < length (filter p (x ∷ xs))
+front_kept p x xs is = rw is (omega arith)
+
+more_kept : (p : ℕ → Bool) (x : ℕ) (xs : List ℕ) (t : Bool) → p x ≡ t → 0 < length (filter p xs) → 0 < length (filter p (x ∷ xs))
+more_kept p x xs true is more = rw is (omega arith)
+more_kept p x xs false is more = rw is more
+
+some_kept : (p : ℕ → Bool) (xs : List ℕ) (i : ℕ) → i < length xs → p (get_or xs i 0) ≡ true → 0 < length (filter p xs)
+some_kept p [] i lt is = absurd (omega (arith, lt))
+some_kept p (x ∷ xs) zero lt is = front_kept p x xs is
+some_kept p (x ∷ xs) (suc i) lt is = more_kept p x xs (p x) refl (some_kept p xs i (omega (arith, lt)) is)
+
+pub digit_kept : (xs : List ℕ) (i : ℕ) → i < length xs → is_ascii_hexdigit (get_or xs i 0) ≡ true → 0 < length (kept_digits xs)
+unfolding kept_digits
+digit_kept xs i lt is = rw (length-map (filter is_ascii_hexdigit xs) to_ascii_lowercase) (some_kept is_ascii_hexdigit xs i lt is)

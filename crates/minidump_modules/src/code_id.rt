@@ -1,7 +1,8 @@
-ghost use Rattle.std.specs.Prelude.{◌≡◌, IfOk, IsOkUnless, string_bytes};
+ghost use Rattle.std.specs.Prelude.{◌≡◌, ◌<◌, IfOk, IsOkUnless, OnErr, length, string_bytes};
 ghost use Rattle.hex.specs.Hex.{encode_lower};
 ghost use Rattle.minidump_modules.specs.CodeId.{kept_digits, stamp_form, text_of};
 
+use crate::text::copied;
 use minidump_format::Error;
 use std::alloc::{AllocError, Global};
 use std::fmt;
@@ -14,21 +15,29 @@ pub struct CodeId {
 
 impl CodeId {
     /// Makes the identifier of the hexadecimal digits in a text, in lower case; other characters are left
-    /// out. The only error is [`Error::OutOfMemory`].
+    /// out. The only error is [`Error::OutOfMemory`], which comes only if there is a digit.
     pub fn new(alloc: Global, text: &str) -> Result<CodeId, Error>
         ensures digits { IfOk result (λ id. text_of id ≡ kept_digits text.now) }
         ensures memory { IsOkUnless result Error.OutOfMemory }
+        ensures some { OnErr result (0 < length (kept_digits text.now)) }
     {
         Ok(CodeId {
             text: kept_digits(alloc, text.as_bytes())?,
         })
     }
 
-    /// Makes the identifier of bytes, two digits each. The only error is [`Error::OutOfMemory`].
+    /// Makes the identifier of bytes, two digits each. The only error is [`Error::OutOfMemory`], which comes
+    /// only if there is a byte.
     pub fn from_binary(alloc: Global, bytes: &[u8]) -> Result<CodeId, Error>
         ensures digits { IfOk result (λ id. text_of id ≡ encode_lower bytes.now) }
         ensures memory { IsOkUnless result Error.OutOfMemory }
+        ensures some { OnErr result (0 < length bytes.now) }
     {
+        if bytes.is_empty() {
+            return Ok(CodeId {
+                text: String::new(alloc),
+            });
+        }
         Ok(CodeId {
             text: hex::encode(alloc, bytes)?,
         })
@@ -51,13 +60,14 @@ impl CodeId {
         self.text.as_str()
     }
 
-    /// Copies the identifier. The only error is [`Error::OutOfMemory`].
+    /// Copies the identifier. The only error is [`Error::OutOfMemory`], which comes only if it has a digit.
     pub fn try_clone(&self, alloc: Global) -> Result<CodeId, Error>
         ensures same { IfOk result (λ id. text_of id ≡ text_of self.now) }
         ensures memory { IsOkUnless result Error.OutOfMemory }
+        ensures some { OnErr result (0 < length (text_of self.now)) }
     {
         Ok(CodeId {
-            text: String::from_str(alloc, self.text.as_str())?,
+            text: copied(alloc, self.text.as_str())?,
         })
     }
 }
@@ -81,7 +91,8 @@ fn stamp_text(alloc: Global, stamp: u32, size: u32) -> Result<String, AllocError
 }
 
 fn kept_digits(alloc: Global, bytes: &[u8]) -> Result<String, AllocError>
-    ensures { IfOk result (λ t. string_bytes t ≡ kept_digits bytes.now) }
+    ensures digits { IfOk result (λ t. string_bytes t ≡ kept_digits bytes.now) }
+    ensures some { OnErr result (0 < length (kept_digits bytes.now)) }
 {
     let mut digits = String::new(alloc);
     for byte in bytes {

@@ -47,6 +47,7 @@ pub mod laws;
 mod module;
 mod module_list;
 mod print;
+mod text;
 mod unloaded_iter;
 mod unloaded_module;
 mod unloaded_module_list;

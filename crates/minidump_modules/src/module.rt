@@ -1,4 +1,4 @@
-ghost use Rattle.std.specs.Prelude.{◌≡◌, ◌+◌, ◌-◌, ◌<◌, ◌≤◌, ◌&&◌, [], IfOk, IsOkUnless, None, Some, if◌then◌else◌, nat_le, nat_lt, string_bytes};
+ghost use Rattle.std.specs.Prelude.{◌≡◌, ◌+◌, ◌-◌, ◌<◌, ◌≤◌, ◌&&◌, [], IfOk, IsOkUnless, None, OnErr, Some, if◌then◌else◌, length, nat_le, nat_lt, string_bytes};
 ghost use Rattle.std.specs.Option.{ok_or, option_copied, option_map};
 ghost use Rattle.minidump_bytes.specs.declared.endian.Endian.TheVariants.{Little};
 ghost use Rattle.minidump_bytes.specs.Source.{bytes_of};
@@ -13,6 +13,7 @@ ghost use Rattle.minidump_modules.specs.Module.{identity_of, new_module, module_
 
 use crate::code_view::{code_view_at, lossy_name};
 use crate::debug_id::uuid_of;
+use crate::text::copied;
 use crate::version::version_of;
 use crate::{CodeId, CodeView, DebugId, Module};
 use minidump_bytes::{Endian, Record, Source, Steps};
@@ -49,14 +50,15 @@ pub(crate) enum CodeSource<'a> {
 
 impl MinidumpModule {
     /// Makes a module of a base address, a size and a name, with nothing else. The only error is
-    /// [`Error::OutOfMemory`].
+    /// [`Error::OutOfMemory`], which comes only if the name isn't empty.
     pub fn new(alloc: Global, base: u64, size: u32, name: &str) -> Result<MinidumpModule, Error>
         ensures value { IfOk result (λ m. module_of m ≡ new_module base size name.now) }
         ensures memory { IsOkUnless result Error.OutOfMemory }
+        ensures some { OnErr result (0 < length name.now) }
     {
         Ok(MinidumpModule {
             raw: empty_entry(base, size),
-            name: String::from_str(alloc, name)?,
+            name: copied(alloc, name)?,
             codeview_info: None,
             endian: Endian::Little,
             os: None,

@@ -139,8 +139,9 @@ impl<'l> IntoIterator for &'l MinidumpModuleList {
     }
 }
 
-/// Microsoft's `MINIDUMP_MODULE_LIST`: a plain list of entries. One without addresses is skipped, with its
-/// name and its CodeView record unread.
+/// Reads Microsoft's `MINIDUMP_MODULE_LIST`: a plain list of entries. One without addresses is skipped, with
+/// its name and its CodeView record unread. Returns `CodeViewReadFailure` if the name or the CodeView record of
+/// another one is malformed.
 impl<'a> MinidumpStream<'a> for MinidumpModuleList {
     ghost use Rattle.std.specs.Prelude.{List};
     ghost use Rattle.minidump_modules.specs.Module.{ModuleValue};

@@ -1,10 +1,11 @@
-ghost use Rattle.std.specs.Prelude.{◌≡◌, IfOk, IsOkUnless};
+ghost use Rattle.std.specs.Prelude.{◌≡◌, ◌<◌, IfOk, IsOkUnless, OnErr, length};
 ghost use Rattle.minidump_bytes.specs.Source.{bytes_of};
 ghost use Rattle.minidump_bytes.specs.Steps.{after};
 ghost use Rattle.minidump_bytes.specs.Text16.{TakesMemory16};
 ghost use Rattle.minidump_format.specs.Answer.{Gives};
 ghost use Rattle.minidump_modules.specs.UnloadedModule.{new_unloaded, read_unloaded, unloaded_of, unloaded_range};
 
+use crate::text::copied;
 use crate::{CodeId, DebugId, Module};
 use minidump_bytes::{Endian, Source, Steps};
 use minidump_format::Error;
@@ -23,7 +24,7 @@ pub struct MinidumpUnloadedModule {
 
 impl MinidumpUnloadedModule {
     /// Makes a module of a base address, a size and a name, with nothing else. The only error is
-    /// [`Error::OutOfMemory`].
+    /// [`Error::OutOfMemory`], which comes only if the name isn't empty.
     pub fn new(
         alloc: Global,
         base: u64,
@@ -32,6 +33,7 @@ impl MinidumpUnloadedModule {
     ) -> Result<MinidumpUnloadedModule, Error>
         ensures value { IfOk result (λ m. unloaded_of m ≡ new_unloaded base size name.now) }
         ensures memory { IsOkUnless result Error.OutOfMemory }
+        ensures some { OnErr result (0 < length name.now) }
     {
         Ok(MinidumpUnloadedModule {
             raw: MINIDUMP_UNLOADED_MODULE {
@@ -41,7 +43,7 @@ impl MinidumpUnloadedModule {
                 time_date_stamp: 0,
                 module_name_rva: 0,
             },
-            name: String::from_str(alloc, name)?,
+            name: copied(alloc, name)?,
         })
     }
 
@@ -83,14 +85,15 @@ impl MinidumpUnloadedModule {
         }
     }
 
-    /// Copies the module. The only error is [`Error::OutOfMemory`].
+    /// Copies the module. The only error is [`Error::OutOfMemory`], which comes only if its name isn't empty.
     pub fn try_clone(&self, alloc: Global) -> Result<MinidumpUnloadedModule, Error>
         ensures same { IfOk result (λ m. unloaded_of m ≡ unloaded_of self.now) }
         ensures memory { IsOkUnless result Error.OutOfMemory }
+        ensures some { OnErr result (0 < length (unloaded_of self.now).name) }
     {
         Ok(MinidumpUnloadedModule {
             raw: self.raw,
-            name: String::from_str(alloc, self.name.as_str())?,
+            name: copied(alloc, self.name.as_str())?,
         })
     }
 }

@@ -1,0 +1,15 @@
+//! Copies of texts.
+ghost use Rattle.std.specs.Prelude.{◌≡◌, ◌<◌, IfOk, OnErr, length, string_bytes};
+
+use std::alloc::{AllocError, Global};
+
+// Copies a text. An empty one takes no memory.
+pub(crate) fn copied(alloc: Global, text: &str) -> Result<String, AllocError>
+    ensures same { IfOk result (λ copy. string_bytes copy ≡ text.now) }
+    ensures some { OnErr result (0 < length text.now) }
+{
+    if text.is_empty() {
+        return Ok(String::new(alloc));
+    }
+    String::from_str(alloc, text)
+}
