@@ -8,9 +8,9 @@
  * at the same time.
  *
  * A call about a dump returns MINIDUMP_OK or an error, but never MINIDUMP_FILE_NOT_FOUND or MINIDUMP_IO_ERROR. After an
- * error every buffer, number and struct is as it was. A missing or malformed list of modules or threads, or an
- * exception, is an error of the calls that ask for it; memory and names of threads that are missing or malformed count
- * as none.
+ * error every buffer, number and struct is as it was. A missing or malformed list of modules or threads is an error of
+ * the calls for its table and names, and so is the exception for minidump_summary; there every other missing or
+ * malformed stream, and in the calls for memory and names of threads theirs, counts as none.
  *
  * Names and reasons are UTF-8; a report also has bytes of the dump as they are. A text that is cut may end within a
  * character. No zero is written behind a text, and a name may hold zeros. Codes have no names here, so most reasons are
@@ -63,8 +63,8 @@ size_t minidump_error_name(uint32_t status, uint8_t *out, size_t out_len);
 uint32_t minidump_dir(const uint8_t *bytes, size_t len, uint8_t *out, size_t out_len, size_t *size);
 
 /* The same for the report: the header, the directory, each stream that can be read, and where and why the process
- * crashed. The text is made anew at each call, so begin with a buffer of a guess, and call again if *size is larger.
- * The whole text is in memory besides. */
+ * crashed. A malformed stream is a line with its error. The text is made anew at each call, so begin with a buffer of a
+ * guess, and call again if *size is larger. The whole text is in memory besides. */
 uint32_t minidump_report(const uint8_t *bytes, size_t len, uint8_t *out, size_t out_len, size_t *size);
 
 /* The summary of a crash. What is absent has 0 in has_.., and 0 for its numbers. */
@@ -103,8 +103,9 @@ uint32_t minidump_read_memory(const uint8_t *bytes, size_t len, uint64_t address
                               size_t *count);
 
 /* Writes the regions of memory that minidump_memory_at finds, ascending by address, to the front of regions, as far as they
- * fit, and their number to *count. Of regions that overlap the one that begins first is found; one that would go on
- * beyond the last address isn't. A program that asks often keeps this table and searches it by itself. */
+ * fit, and their number to *count. Regions are taken by their beginnings, of two that begin at one address the shorter
+ * first, and each is found that overlaps none found before; one without a size, or that would go on beyond the last
+ * address, isn't. A program that asks often keeps this table and searches it by itself. */
 uint32_t minidump_memory_table(const uint8_t *bytes, size_t len, struct minidump_region *regions, size_t regions_len,
                                size_t *count);
 
@@ -112,7 +113,9 @@ uint32_t minidump_memory_table(const uint8_t *bytes, size_t len, struct minidump
 struct minidump_module {
     uint64_t base;
     uint64_t size;
-    uint64_t name_rva; /* where the size of the name in bytes stands, in 4 bytes, with the name in UTF-16 behind it */
+    /* where the size of the name in bytes stands, in 4 bytes, with the name in UTF-16 behind it, both in the byte order
+     * of the dump: little if it begins with MDMP */
+    uint64_t name_rva;
 };
 
 /* Writes the modules, in the order of the dump's list, to the front of modules, as far as they fit, and their number to
