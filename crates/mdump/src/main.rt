@@ -4,7 +4,7 @@
 //! - `mdump at FILE HEXADDRESS` writes three lines: the base address and the size of the region of memory that
 //!   contains the address, or `memory none`; the base address, the size and the name of the module that
 //!   contains it, or `module none`; the first and the last address of the region that contains it by the
-//!   memory information, or by the maps of a dump without that, or `info none`.
+//!   memory information, or by the maps, where that is missing or malformed, or `info none`.
 //! - `mdump report FILE` writes all that is read of the dump: the header and the directory, each stream, and
 //!   where and why the process crashed, without names of codes.
 //! - `mdump` alone writes its usage.
