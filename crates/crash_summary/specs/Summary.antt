@@ -31,9 +31,11 @@ pub record Loaded : Type 0 where
   pub size : ℕ
   pub name : List ℕ
 
+-- the module of a hit, as the call returns it
 abbrev pub loaded_of : ModuleHit → Loaded
 loaded_of hit = record { base = hit.base; size = hit.size; name = string_bytes hit.name }
 
+-- the thread's id, the address, the text of the reason, the module, and the stack of the thread that crashed
 pub record Summary : Type 0 where
   pub thread : ℕ
   pub address : Option ℕ
@@ -41,6 +43,7 @@ pub record Summary : Type 0 where
   pub loaded : Option Loaded
   pub stack : Option StackHit
 
+-- the summary that a call returns
 abbrev pub summary_of : CrashSummary → Summary
 summary_of s = record {
   thread = s.thread;
@@ -60,9 +63,11 @@ found_stream spec d = result_ok (stream_of spec d)
 abbrev pub threads_in : Dump → List Thread
 threads_in d = unwrap_or (found_stream thread_list_stream d) []
 
+-- the modules of a dump: none where the stream is missing or malformed
 abbrev pub modules_in : Dump → List ModuleValue
 modules_in d = unwrap_or (found_stream module_list_stream d) []
 
+-- the regions of memory of a dump: none where both lists are missing or malformed
 abbrev pub memory_in : Dump → UnifiedRegions
 memory_in d = unwrap_or (memories_of_dump d) (Memory [])
 
@@ -70,6 +75,7 @@ memory_in d = unwrap_or (memories_of_dump d) (Memory [])
 abbrev pub address_in : Option System → Exception → Option ℕ
 address_in system e = option_map (λ s. crash_address s.os s.cpu e.raw.exception_record) system
 
+-- the text of the reason of a crash, where there is system information
 abbrev pub reason_in : Lists → Option System → Exception → Option (List ℕ)
 reason_in names system e = option_map (λ s. reason_text names (crash_reason names s.os s.cpu e.raw.exception_record)) system
 
@@ -77,6 +83,7 @@ reason_in names system e = option_map (λ s. reason_text names (crash_reason nam
 abbrev pub thread_context : ℕ → Option Thread → Option MinidumpRawContext
 thread_context architecture thread = option_and_then (λ t. accepted_context architecture t.order t.context) thread
 
+-- the registers at the crash
 abbrev pub crash_context : Option System → Exception → Option Thread → Option MinidumpRawContext
 crash_context system e thread = option_and_then (λ s. option_or
     (accepted_context s.raw.processor_architecture e.order e.context)
@@ -91,6 +98,7 @@ crash_pointer system e thread =
 abbrev pub loaded_at : ModuleValue → Loaded
 loaded_at m = record { base = m.raw.base_of_image; size = m.raw.size_of_image; name = m.name }
 
+-- the module whose range contains an address, or none; none without an address
 abbrev pub IsModuleAt : List ModuleValue → Option ℕ → Option Loaded → Type 0
 IsModuleAt modules None found = found ≡ None
 IsModuleAt modules (Some address) found =
@@ -100,6 +108,7 @@ IsModuleAt modules (Some address) found =
 abbrev pub stack_at : UnifiedRegion → StackHit
 stack_at region = record { base = region.base_address; size = region.size }
 
+-- the region of memory that has the stack of a thread, or none; none without a thread
 abbrev pub IsStackOf : UnifiedRegions → Option Thread → Option StackHit → Type 0
 IsStackOf memory None found = found ≡ None
 IsStackOf memory (Some thread) found =

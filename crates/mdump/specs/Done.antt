@@ -25,6 +25,7 @@ use Rattle.mdump.specs.declared.command.Command.TheVariants.{Dir, At, Report}
 use Rattle.mdump.specs.Command.{IsCommand, IsCommandOf}
 use Rattle.mdump.specs.Lines.{IsAt, Joined, info_line, memory_line, module_line}
 
+-- the help that is printed without arguments
 abbrev pub usage : List ℕ
 usage = codes "usage: mdump dir FILE | at FILE HEXADDRESS | report FILE\n"
 
@@ -55,6 +56,7 @@ abbrev pub information_of : Option (List MemoryInfo) → Option (List MapRegion)
 information_of (Some info) maps = Some (OfInfo info)
 information_of None maps = option_map OfMaps maps
 
+-- what the dump has on regions: the memory information or the map of Linux
 abbrev pub info_of_dump : Dump → Option InfoRegions
 info_of_dump dump = information_of (result_ok (stream_of memory_info_list_stream dump)) (result_ok (stream_of linux_maps_stream dump))
 
@@ -75,6 +77,7 @@ AreLinesOf dump address = Joined (IsMemoryLine dump address) (AreLastLines dump 
 abbrev pub AreLines : {F : Type 0} → (F → Option (List ℕ)) → ℕ → List ℕ → Type 0
 AreLines remaining address text = (dump : Dump) × IsFileDump remaining dump × AreLinesOf dump address text
 
+-- what a command prints on a file
 abbrev pub IsTextOf : {F : Type 0} → (F → Option (List ℕ)) → Command → List ℕ → Type 0
 IsTextOf remaining (Dir path) text = IsDirectoryText remaining text
 IsTextOf remaining (At path address) text = AreLines remaining address text

@@ -42,6 +42,7 @@ number_line words n = concat (words ∷ hex n ∷ codes "\n" ∷ [])
 unfoldable pub reason_line : List ℕ → Lists → CrashReason → List ℕ
 reason_line words names reason = words ++ (reason_text names reason ++ codes "\n")
 
+-- the line of the last error of the crashed thread, where it has one
 abbrev pub last_error_line : Lists → Option CrashReason → List ℕ
 last_error_line names None = []
 last_error_line names (Some reason) = reason_line (codes "last_error = ") names reason
@@ -58,6 +59,7 @@ system_lines names dump e (Some s) =
     values_text names (crash_address s.os s.cpu e.raw.exception_record) (crash_reason names s.os s.cpu e.raw.exception_record)
     (last_error_of names dump s.cpu e.thread_id)
 
+-- the lines on the crash at the end of the report: none without an exception
 abbrev pub crash_lines : Lists → Dump → Option Exception → List ℕ
 crash_lines names dump None = []
 crash_lines names dump (Some e) = number_line (codes "crash_thread = ") e.thread_id ++ system_lines names dump e (dump_system dump)

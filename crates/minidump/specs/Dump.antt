@@ -16,11 +16,13 @@ use Rattle.minidump.specs.declared.directory.DecidingEntry.{DecidingEntry}
 use Rattle.minidump.specs.Header.{header_of}
 use Rattle.minidump.specs.Directory.{directory, deciding, deciding_below, is_readable}
 
+-- a minidump: the bytes of the file, their byte order, and Microsoft's MINIDUMP_HEADER
 pub record Dump : Type 0 where
   pub file : List ℕ
   pub order : Endian
   pub header : MINIDUMP_HEADER
 
+-- the minidump of a header, where each entry of the directory lies in the file
 abbrev with_header : List ℕ → Result (Endian × MINIDUMP_HEADER) Error → Result Dump Error
 with_header file (Err e) = Err e
 with_header file (Ok h) = if is_readable file h.1 then Ok (record { file = file; order = h.0; header = h.1 }) else Err MissingDirectory
@@ -42,6 +44,7 @@ abbrev pub spanned : Option (List ℕ) → Result (List ℕ) Error
 spanned None = Err StreamReadFailure
 spanned (Some bytes) = Ok bytes
 
+-- the bytes of the stream that an entry of the directory decides, or the error
 abbrev decided_bytes : List ℕ → Option DecidingEntry → Result (List ℕ) Error
 decided_bytes file None = Err StreamNotFound
 decided_bytes file (Some d) = spanned (located file d.entry.location)
@@ -50,6 +53,7 @@ decided_bytes file (Some d) = spanned (located file d.entry.location)
 abbrev pub raw_stream : ℕ → Dump → Result (List ℕ) Error
 raw_stream stream_type d = decided_bytes d.file (deciding stream_type (directory d.order d.file d.header))
 
+-- what the bytes of a stream mean, or their error
 abbrev meant : {V : Type 0} → Meaning V → Dump → Option System → Result (List ℕ) Error → Result V Error
 meant meaning d system (Ok bytes) = meaning d.order d.file bytes system
 meant meaning d system (Err e) = Err e
@@ -62,6 +66,7 @@ stream_with system stream_type meaning d = meant meaning d system (raw_stream st
 abbrev pub dump_system : Dump → Option System
 dump_system d = result_ok (stream_with None (number_of SystemInfoStream) system_info_in d)
 
+-- how many of the three are read: the span of the stream, MINIDUMP_SYSTEM_INFO and the text of the service pack
 abbrev span_record_and_text : Result (List ℕ) Error → Option System → ℕ
 span_record_and_text (Err StreamNotFound) system = 0
 span_record_and_text (Err _) system = 1

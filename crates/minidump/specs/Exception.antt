@@ -36,6 +36,7 @@ pub record Exception : Type 0 where
   pub context : Option (List ℕ)
   pub order : Endian
 
+-- the exception of a `MinidumpException`, as its fields have it
 abbrev pub exception_of : MinidumpException → Exception
 exception_of e = record { raw = e.raw; thread_id = e.thread_id; context = option_copied e.context; order = e.endian }
 
@@ -91,6 +92,7 @@ unfoldable pub parameter_line : ℕ → ℕ → List ℕ
 parameter_line index value =
     concat (codes "  exception_record.exception_information[" ∷ right 2 (decimal index) ∷ codes "] = " ∷ hex value ∷ codes "\n" ∷ [])
 
+-- a line for each of the exception's parameters: NumberParameters of them, at most 15
 unfoldable pub parameter_lines : MINIDUMP_EXCEPTION → List ℕ
 parameter_lines r = flat_map (λ p. parameter_line p.0 p.1) (enumerate_from 0 (take (min r.number_parameters 15) r.exception_information))
 
@@ -105,9 +107,11 @@ location_lines l = concat (
 unfoldable pub line_before : List ℕ
 line_before = codes "\n"
 
+-- the text in the place of a context that there is none of
 unfoldable pub no_exception_context : List ℕ
 no_exception_context = codes "  (no context)\n\n    "
 
+-- the text of the context of an exception
 abbrev pub exception_context_text : Option MinidumpRawContext → List ℕ
 exception_context_text (Some c) = line_before ++ context_text c
 exception_context_text None = no_exception_context
@@ -118,5 +122,6 @@ exception_with e context =
     exception_head e.thread_id e.raw.exception_record
     ++ (parameter_lines e.raw.exception_record ++ (location_lines e.raw.thread_context ++ exception_context_text context))
 
+-- the printed text of an exception
 abbrev pub exception_text : Option System → Exception → List ℕ
 exception_text system e = exception_with e (known_context system e.order e.context)

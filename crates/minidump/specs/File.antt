@@ -42,6 +42,7 @@ IsPathRefusal remaining _ = ⊥
 abbrev pub IsFileDump : {F : Type 0} → (F → Option (List ℕ)) → Dump → Type 0
 IsFileDump remaining dump = IsFile remaining dump.file × (dump_in dump.file ≡ Ok dump)
 
+-- what reading a path returns: the minidump that the file is, or the error of the file or of its bytes
 abbrev pub ReadsPath : {F : Type 0} → (F → Option (List ℕ)) → Result Minidump Error → Type 0
 ReadsPath remaining (Ok d) = IsFileDump remaining (dump_of d)
 ReadsPath remaining (Err e) = IsPathRefusal remaining e

@@ -21,6 +21,7 @@ order_of bytes =
 abbrev checked : Endian → MINIDUMP_HEADER → Result (Endian × MINIDUMP_HEADER) Error
 checked order h = if h.version % 2 ^ 16 == 0xa793 then Ok (order, h) else Err VersionMismatch
 
+-- the header in a byte order, or the error where the signature is that of neither order
 abbrev in_order : List ℕ → Option Endian → Result (Endian × MINIDUMP_HEADER) Error
 in_order bytes None = Err HeaderMismatch
 in_order bytes (Some order) = checked order (header_in order bytes)

@@ -17,6 +17,7 @@ first_accepted (Ok long) plain = Some (Memory64 long)
 first_accepted (Err _) (Ok plain) = Some (Memory plain)
 first_accepted (Err _) (Err _) = None
 
+-- the memory of a dump: of Memory64ListStream, else of MemoryListStream, the first that is there and not malformed
 abbrev pub memories_of_dump : Dump → Option UnifiedRegions
 memories_of_dump d =
     first_accepted (stream_of memory64_list_stream d) (stream_of memory_list_stream d)

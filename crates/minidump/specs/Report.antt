@@ -102,6 +102,7 @@ sections_text dump = flat_map (section_text dump) sections
 abbrev pub report_text : Lists → Dump → List ℕ
 report_text names dump = dump_text dump ++ (sections_text dump ++ crash_text names dump)
 
+-- the report on a dump is printed; or an error is returned, where the bytes are no dump, and the writer is left as it was
 abbrev pub ReportsOn : {D : Type 0} → (D → Option (List ℕ)) → Told D → Told D → Lists → Result (Unit {0}) Error → Result Dump Error → Type 0
 ReportsOn contents old new names result (Ok dump) = Prints contents old new (report_text names dump) result
 ReportsOn contents old new names result (Err refusal) = (new ≡ old) × (result ≡ Err refusal)

@@ -20,12 +20,15 @@ pub record Described (T : Type 0) : Type 0 where
   pub location : MINIDUMP_LOCATION_DESCRIPTOR
   pub vendor : List ℕ
 
+-- a stream whose type has no name, as the call returns it
 abbrev pub unknown_of : MinidumpUnknownStream → Described ℕ
 unknown_of s = record { stream_type = s.stream_type; location = s.location; vendor = s.vendor.now }
 
+-- a stream whose type has a name and is not read, as the call returns it
 abbrev pub unimplemented_of : MinidumpUnimplementedStream → Described MINIDUMP_STREAM_TYPE
 unimplemented_of s = record { stream_type = s.stream_type; location = s.location; vendor = s.vendor.now }
 
+-- the stream of an entry whose type has no name
 abbrev where_unnamed : MINIDUMP_DIRECTORY → Option MINIDUMP_STREAM_TYPE → Option (Described ℕ)
 where_unnamed e None = Some (record { stream_type = e.stream_type; location = e.location; vendor = vendor_of e.stream_type })
 where_unnamed e (Some t) = None
@@ -34,6 +37,7 @@ where_unnamed e (Some t) = None
 abbrev pub as_unknown : MINIDUMP_DIRECTORY → Option (Described ℕ)
 as_unknown e = where_unnamed e (stream_type_of e.stream_type)
 
+-- the stream of an entry whose type has a name and is not read
 abbrev where_unimplemented : MINIDUMP_DIRECTORY → Option MINIDUMP_STREAM_TYPE → Option (Described MINIDUMP_STREAM_TYPE)
 where_unimplemented e None = None
 where_unimplemented e (Some t) =
@@ -51,8 +55,10 @@ entries_of ds = map (λ d. d.entry) ds
 abbrev pub streams_left : Streams → List MINIDUMP_DIRECTORY
 streams_left s = entries_of (iter_rest s.entries)
 
+-- the streams without a name that an iterator has left
 abbrev pub unknown_left : UnknownStreams → List (Described ℕ)
 unknown_left s = filter_map as_unknown (streams_left s.streams)
 
+-- the streams with a name that are not read, which an iterator has left
 abbrev pub unimplemented_left : UnimplementedStreams → List (Described MINIDUMP_STREAM_TYPE)
 unimplemented_left s = filter_map as_unimplemented (streams_left s.streams)

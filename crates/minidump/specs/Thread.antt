@@ -44,9 +44,11 @@ pub record Thread : Type 0 where
   pub stack : Option (MemoryRegion MINIDUMP_MEMORY_DESCRIPTOR)
   pub order : Endian
 
+-- the thread of a `MinidumpThread`, as its fields have it
 abbrev pub thread_of : MinidumpThread → Thread
 thread_of t = record { raw = t.raw; context = option_copied t.context; stack = option_map memory_of t.stack; order = t.endian }
 
+-- the threads of a `MinidumpThreadList`, as its entries have them
 abbrev pub thread_list_of : MinidumpThreadList → List Thread
 thread_list_of l = map thread_of l.threads.items
 
@@ -73,6 +75,7 @@ IsLastThread id threads (Some last) =
 abbrev pub thread_reads : Thread → ℕ
 thread_reads t = 1 + spans_read t.raw.stack
 
+-- the stack is the thread's own, where it has one, else the one of a list of memory
 abbrev IsOwnOrListed : Option (MemoryRegion MINIDUMP_MEMORY_DESCRIPTOR) → Type 0 → Option UnifiedRegion → Type 0
 IsOwnOrListed (Some own) listed found = found ≡ Some (of_kind Memory own)
 IsOwnOrListed None listed found = listed

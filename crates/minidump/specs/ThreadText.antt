@@ -40,6 +40,7 @@ thread_head t = concat (
 unfoldable pub no_thread_context : List ℕ
 no_thread_context = codes "  (no context)\n\n"
 
+-- the text of the context of a thread
 abbrev pub thread_context_text : Option MinidumpRawContext → List ℕ
 thread_context_text (Some c) = context_text c
 thread_context_text None = no_thread_context
@@ -58,18 +59,23 @@ word_line size offset word = concat (codes "    0x" ∷ wide_hex 8 offset ∷ co
 abbrev pub words_of : Endian → ℕ → List ℕ → List ℕ
 words_of order size bytes = flat_map (λ i. word_line size (size * i) (number_at order size (size * i) bytes)) (range_with_len 0 (length bytes / size))
 
+-- the words of a stack, each as wide as a pointer
 unfoldable pub words_text : Endian → PointerWidth → List ℕ → List ℕ
 words_text order width bytes = words_of order (word_bytes width) bytes
 
+-- the heading of a stack
 unfoldable pub stack_heading : List ℕ
 stack_heading = codes "Stack\n"
 
+-- the text in the place of a stack that there is none of
 unfoldable pub no_stack : List ℕ
 no_stack = codes "No stack\n\n"
 
+-- an empty line
 unfoldable pub empty_line : List ℕ
 empty_line = codes "\n"
 
+-- the text of the stack of a thread
 abbrev pub stack_text : Endian → PointerWidth → Option UnifiedRegion → List ℕ
 stack_text order width (Some stack) = stack_heading ++ (words_text order width stack.bytes ++ empty_line)
 stack_text order width None = no_stack
@@ -84,9 +90,11 @@ abbrev pub own_or : Option (MemoryRegion MINIDUMP_MEMORY_DESCRIPTOR) → Option 
 own_or (Some own) listed = Some (of_kind Memory own)
 own_or None listed = listed
 
+-- the region in a list of memory that contains an address
 abbrev pub listed_stack : Option UnifiedRegions → ℕ → Option UnifiedRegion
 listed_stack memory address = option_and_then (λ m. looked_up region_range (unified_regions m) address) memory
 
+-- the stack of a thread
 abbrev pub stack_of : Option UnifiedRegions → Thread → Option UnifiedRegion
 stack_of memory t = own_or t.stack (listed_stack memory t.raw.stack.start_of_memory_range)
 
@@ -107,6 +115,7 @@ thread_text memory system brief t = thread_with t (known_context system t.order 
 unfoldable pub place_line : ℕ → List ℕ
 place_line place = concat (codes "thread[" ∷ decimal place ∷ codes "]\n" ∷ [])
 
+-- the text of a thread at its place in the list
 unfoldable pub placed_thread_text : Option UnifiedRegions → Option System → Bool → ℕ → Thread → List ℕ
 placed_thread_text memory system brief place t = place_line place ++ thread_text memory system brief t
 
@@ -114,9 +123,11 @@ placed_thread_text memory system brief place t = place_line place ++ thread_text
 unfoldable pub thread_list_heading : ℕ → List ℕ
 thread_list_heading count = concat (codes "MinidumpThreadList\n  thread_count = " ∷ decimal count ∷ codes "\n\n" ∷ [])
 
+-- the texts of threads, numbered from a place on
 abbrev pub threads_from : Option UnifiedRegions → Option System → Bool → ℕ → List Thread → List ℕ
 threads_from memory system brief place threads =
     flat_map (λ r. placed_thread_text memory system brief r.0 r.1) (enumerate_from place threads)
 
+-- the printed text of the list of threads
 abbrev pub thread_list_text : Option UnifiedRegions → Option System → Bool → List Thread → List ℕ
 thread_list_text memory system brief threads = thread_list_heading (length threads) ++ threads_from memory system brief 0 threads

@@ -14,6 +14,7 @@ row_of m = record { base = m.raw.base_of_image; size = m.raw.size_of_image; name
 abbrev pub AreModules : List ℕ → List ModuleValue → Type 0
 AreModules bytes modules = (dump : Dump) × (dump_in bytes ≡ Ok dump) × (stream_of module_list_stream dump ≡ Ok modules)
 
+-- the table of the modules of a dump, a row each
 abbrev pub AreModuleRows : List ℕ → List ModuleRow → Type 0
 AreModuleRows bytes rows = (modules : List ModuleValue) × AreModules bytes modules × (rows ≡ map row_of modules)
 
@@ -21,5 +22,6 @@ AreModuleRows bytes rows = (modules : List ModuleValue) × AreModules bytes modu
 abbrev pub name_at : List ModuleValue → ℕ → List ℕ
 name_at modules index = unwrap_or (option_map (λ m. m.name) (slice_get modules index)) []
 
+-- the name of the module at an index of the list of a dump
 abbrev pub IsModuleName : List ℕ → ℕ → List ℕ → Type 0
 IsModuleName bytes index name = (modules : List ModuleValue) × AreModules bytes modules × (name ≡ name_at modules index)

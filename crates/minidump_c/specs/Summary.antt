@@ -16,6 +16,7 @@ flag None = 0
 abbrev pub reason_of : Summary → List ℕ
 reason_of s = unwrap_or s.reason []
 
+-- the name of the module of a crash, empty where it lies in none
 abbrev pub name_of : Summary → List ℕ
 name_of s = unwrap_or (option_map (λ m. m.name) s.loaded) []
 

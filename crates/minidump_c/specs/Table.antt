@@ -17,5 +17,6 @@ abbrev pub IsTableIn : Option UnifiedRegions → List Region → Type 0
 IsTableIn (Some memory) rows = IsTableOfRegions (unified_regions memory) rows
 IsTableIn None rows = rows ≡ []
 
+-- the table of the regions of memory of a dump
 abbrev pub IsTableOf : List ℕ → List Region → Type 0
 IsTableOf bytes rows = (dump : Dump) × (dump_in bytes ≡ Ok dump) × IsTableIn (memories_of_dump dump) rows

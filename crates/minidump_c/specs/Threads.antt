@@ -16,6 +16,7 @@ use Rattle.minidump_c.specs.declared.threads.ThreadRow.{ThreadRow}
 abbrev pub instruction_of : Option MinidumpRawContext → Option ℕ
 instruction_of context = option_and_then (λ c. value_in (registers_of c) (registers_of c).instruction_pointer) context
 
+-- the stack pointer of a context
 abbrev pub stack_of : Option MinidumpRawContext → Option ℕ
 stack_of context = option_and_then (λ c. value_in (registers_of c) (registers_of c).stack_pointer) context
 

@@ -59,5 +59,6 @@ arm64_rest c = record c { iregs = []; sp = 0; pc = 0 }
 unfoldable pub arm64_old_values : CONTEXT_ARM64_OLD → List ℕ
 arm64_old_values c = map (slice_index c.iregs) (range_with_len 0 31) ++ c.sp ∷ c.pc ∷ []
 
+-- Breakpad's MDRawContextARM64_Old but its general registers: the flags, the status and the float registers
 unfoldable pub arm64_old_rest : CONTEXT_ARM64_OLD → CONTEXT_ARM64_OLD
 arm64_old_rest c = record c { iregs = []; sp = 0; pc = 0 }

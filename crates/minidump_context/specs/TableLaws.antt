@@ -19,62 +19,76 @@ use Rattle.minidump_context.specs.Arm.{arm_registers, arm_aliases, arm_numbers, 
 use Rattle.minidump_context.specs.Arm64.{arm64_registers, arm64_aliases, arm64_values, arm64_old_values}
 use Rattle.minidump_bytes.proofs.ArrayLemmas.{numbers_by_offset}
 
+-- CONTEXT_X86 has as many values as names
 pub x86_as_many : (c : CONTEXT_X86) → length (x86_values c) ≡ length x86_registers
 unfolding x86_registers x86_values
 x86_as_many c = refl
 
+-- the registers of CONTEXT_X86 are the numbers of 4 bytes at their offsets
 pub x86_placed : (order : Endian) (bytes : List ℕ)
     → map (λ n. n) (x86_values (context_x86.value order bytes)) ≡ map (λ row. number_at order 4 row.1 bytes) x86_registers
 unfolding x86_registers x86_values
 x86_placed order bytes = refl
 
+-- the names of the registers of x86
 pub x86_named : IsNamed x86_registers [] (codes "esp") (codes "eip")
 unfolding x86_registers canonical_name place_of
 x86_named = record { listed = refl; aliased = refl; known = refl; stack_pointer_known = refl; instruction_pointer_known = refl }
 
+-- CONTEXT_AMD64 has as many values as names
 pub amd64_as_many : (c : CONTEXT_AMD64) → length (amd64_values c) ≡ length amd64_registers
 unfolding amd64_registers amd64_values
 amd64_as_many c = refl
 
+-- the registers of CONTEXT_AMD64 are the numbers of 8 bytes at their offsets
 pub amd64_placed : (order : Endian) (bytes : List ℕ)
     → map (λ n. n) (amd64_values (context_amd64.value order bytes)) ≡ map (λ row. number_at order 8 row.1 bytes) amd64_registers
 unfolding amd64_registers amd64_values
 amd64_placed order bytes = refl
 
+-- the names of the registers of x86-64
 pub amd64_named : IsNamed amd64_registers [] (codes "rsp") (codes "rip")
 unfolding amd64_registers canonical_name place_of
 amd64_named = record { listed = refl; aliased = refl; known = refl; stack_pointer_known = refl; instruction_pointer_known = refl }
 
+-- CONTEXT_ARM has as many values as names
 pub arm_as_many : (c : CONTEXT_ARM) → length (arm_values c) ≡ length arm_registers
 unfolding arm_registers arm_values arm_numbers
 arm_as_many c = refl
 
+-- the registers of CONTEXT_ARM are the numbers of 4 bytes at their offsets
 pub arm_placed : (order : Endian) (bytes : List ℕ)
     → map (λ n. n) (arm_values (context_arm.value order bytes)) ≡ map (λ row. number_at order 4 row.1 bytes) arm_registers
 unfolding arm_registers arm_values arm_numbers
 arm_placed order bytes = rw (numbers_by_offset order 4 bytes 4 16) refl
 
+-- the names of the registers of ARM
 pub arm_named : IsNamed arm_registers arm_aliases (codes "sp") (codes "pc")
 unfolding arm_registers arm_aliases canonical_name place_of
 arm_named = record { listed = refl; aliased = refl; known = refl; stack_pointer_known = refl; instruction_pointer_known = refl }
 
+-- CONTEXT_ARM64 has as many values as names
 pub arm64_as_many : (c : CONTEXT_ARM64) → length (arm64_values c) ≡ length arm64_registers
 unfolding arm64_registers arm64_values
 arm64_as_many c = refl
 
+-- the registers of CONTEXT_ARM64 are the numbers of 8 bytes at their offsets
 pub arm64_placed : (order : Endian) (bytes : List ℕ)
     → map (λ n. n) (arm64_values (context_arm64.value order bytes)) ≡ map (λ row. number_at order 8 row.1 bytes) arm64_registers
 unfolding arm64_registers arm64_values
 arm64_placed order bytes = rw (numbers_by_offset order 8 bytes 8 31) refl
 
+-- the names of the registers of ARM64
 pub arm64_named : IsNamed arm64_registers arm64_aliases (codes "sp") (codes "pc")
 unfolding arm64_registers arm64_aliases canonical_name place_of
 arm64_named = record { listed = refl; aliased = refl; known = refl; stack_pointer_known = refl; instruction_pointer_known = refl }
 
+-- CONTEXT_ARM64_OLD has as many values as names
 pub arm64_old_as_many : (c : CONTEXT_ARM64_OLD) → length (arm64_old_values c) ≡ length arm64_registers
 unfolding arm64_registers arm64_old_values
 arm64_old_as_many c = refl
 
+-- the registers of CONTEXT_ARM64_OLD are the numbers of 8 bytes at their offsets
 pub arm64_old_placed : (order : Endian) (bytes : List ℕ)
     → map (λ n. n) (arm64_old_values (context_arm64_old.value order bytes)) ≡ map (λ row. number_at order 8 row.1 bytes) arm64_registers
 unfolding arm64_registers arm64_old_values

@@ -21,9 +21,11 @@ register_line front value = front ++ (hex value ++ codes "\n")
 abbrev pub left_front : List ℕ → List ℕ → ℕ → List ℕ
 left_front before behind number = before ++ (left 2 (decimal number) ++ behind)
 
+-- what stands in front of the value of a numbered register, the number at the right of its two columns
 abbrev pub right_front : List ℕ → List ℕ → ℕ → List ℕ
 right_front before behind number = before ++ (right 2 (decimal number) ++ behind)
 
+-- what stands in front of the value of a numbered register
 abbrev pub front_text : Front → ℕ → List ℕ
 front_text (Left before behind) = left_front before.now behind.now
 front_text (Right before behind) = right_front before.now behind.now
@@ -36,6 +38,7 @@ numbered_lines front values = flat_map (λ r. register_line (front r.0) r.1) (en
 unfoldable pub bytes_line : List ℕ → List ℕ → List ℕ
 bytes_line front bytes = front ++ (bytes_hex bytes ++ codes "\n")
 
+-- an empty line
 unfoldable pub empty_line : List ℕ
 empty_line = codes "\n"
 
@@ -58,9 +61,11 @@ x86_debug_lines c = concat (
     ∷ register_line (codes "  float_save.data_selector     = ") c.float_save.data_selector
     ∷ [])
 
+-- the line of FLOATING_SAVE_AREA's RegisterArea, 80 bytes
 unfoldable pub x86_area_line : CONTEXT_X86 → List ℕ
 x86_area_line c = bytes_line (codes "  float_save.register_area[80] = 0x") c.float_save.register_area
 
+-- the lines of Cr0NpxState, the segment registers, the integer registers and the control registers
 unfoldable pub x86_lines : CONTEXT_X86 → List ℕ
 x86_lines c = concat (
     register_line (codes "  float_save.cr0_npx_state     = ") c.float_save.cr0_npx_state
@@ -82,9 +87,11 @@ x86_lines c = concat (
     ∷ register_line (codes "  ss                           = ") c.ss
     ∷ [])
 
+-- the line of ExtendedRegisters, 512 bytes
 unfoldable pub x86_extended_line : CONTEXT_X86 → List ℕ
 x86_extended_line c = bytes_line (codes "  extended_registers[512]      = 0x") c.extended_registers
 
+-- the text of a context of x86
 abbrev pub x86_text : CONTEXT_X86 → List ℕ
 x86_text c = x86_debug_lines c ++ (x86_area_line c ++ (x86_lines c ++ (x86_extended_line c ++ empty_line)))
 
@@ -131,6 +138,7 @@ amd64_lines c = concat (
     ∷ register_line (codes "  rip           = ") c.rip
     ∷ [])
 
+-- the text of a context of x86-64
 abbrev pub amd64_text : CONTEXT_AMD64 → List ℕ
 amd64_text c = amd64_lines c ++ empty_line
 
@@ -138,19 +146,24 @@ amd64_text c = amd64_lines c ++ empty_line
 unfoldable pub arm_flags_line : CONTEXT_ARM → List ℕ
 arm_flags_line c = register_line (codes "CONTEXT_ARM\n  context_flags       = ") c.context_flags
 
+-- the lines of iregs, the registers r0 to r15
 unfoldable pub arm_iregs_lines : CONTEXT_ARM → List ℕ
 arm_iregs_lines c = numbered_lines (right_front (codes "  iregs[") (codes "]            = ")) c.iregs
 
+-- the lines of the status registers: cpsr, and fpscr of the float area
 unfoldable pub arm_status_lines : CONTEXT_ARM → List ℕ
 arm_status_lines c =
     register_line (codes "  cpsr                = ") c.cpsr ++ register_line (codes "  float_save.fpscr     = ") c.float_save.fpscr
 
+-- the lines of the 32 float registers
 unfoldable pub arm_float_lines : CONTEXT_ARM → List ℕ
 arm_float_lines c = numbered_lines (right_front (codes "  float_save.regs[") (codes "] = ")) c.float_save.regs
 
+-- the lines of the 8 further words of the float area
 unfoldable pub arm_extra_lines : CONTEXT_ARM → List ℕ
 arm_extra_lines c = numbered_lines (right_front (codes "  float_save.extra[") (codes "] = ")) c.float_save.extra
 
+-- the text of a context of ARM
 abbrev pub arm_text : CONTEXT_ARM → List ℕ
 arm_text c = arm_flags_line c ++ (arm_iregs_lines c ++ (arm_status_lines c ++ (arm_float_lines c ++ arm_extra_lines c)))
 
@@ -158,6 +171,7 @@ arm_text c = arm_flags_line c ++ (arm_iregs_lines c ++ (arm_status_lines c ++ (a
 unfoldable pub x_lines : List ℕ → List ℕ
 x_lines iregs = numbered_lines (left_front (codes "  x") (codes "                  = ")) (take 29 iregs)
 
+-- the lines of x29, x30, the stack pointer and the instruction pointer
 unfoldable pub pointer_lines : List ℕ → ℕ → ℕ → List ℕ
 pointer_lines iregs sp pc = concat (
     register_line (codes "  x29 (fp)             = ") (slice_index iregs 29)
@@ -166,6 +180,7 @@ pointer_lines iregs sp pc = concat (
     ∷ register_line (codes "  pc                   = ") pc
     ∷ [])
 
+-- the lines of the status registers: cpsr, fpsr and fpcr
 unfoldable pub status_lines : ℕ → ℕ → ℕ → List ℕ
 status_lines cpsr fpsr fpcr = concat (
     register_line (codes "  cpsr                 = ") cpsr
@@ -173,9 +188,11 @@ status_lines cpsr fpsr fpcr = concat (
     ∷ register_line (codes "  fpcr                 = ") fpcr
     ∷ [])
 
+-- the lines of the 32 float registers, d0 to d31
 unfoldable pub d_lines : List ℕ → List ℕ
 d_lines float_regs = numbered_lines (left_front (codes "  d") (codes " = ")) float_regs
 
+-- the lines that the two layouts of ARM64 have in common
 abbrev pub arm64_lines : List ℕ → ℕ → ℕ → ℕ → ℕ → ℕ → List ℕ → List ℕ
 arm64_lines iregs sp pc cpsr fpsr fpcr float_regs =
     x_lines iregs ++ (pointer_lines iregs sp pc ++ (status_lines cpsr fpsr fpcr ++ d_lines float_regs))
@@ -184,21 +201,27 @@ arm64_lines iregs sp pc cpsr fpsr fpcr float_regs =
 unfoldable pub arm64_flags_line : CONTEXT_ARM64 → List ℕ
 arm64_flags_line c = register_line (codes "CONTEXT_ARM64\n  context_flags        = ") c.context_flags
 
+-- the lines of the control registers of hardware breakpoints
 unfoldable pub bcr_lines : CONTEXT_ARM64 → List ℕ
 bcr_lines c = numbered_lines (right_front (codes "  bcr[") (codes "] = ")) c.bcr
 
+-- the lines of the value registers of hardware breakpoints
 unfoldable pub bvr_lines : CONTEXT_ARM64 → List ℕ
 bvr_lines c = numbered_lines (right_front (codes "  bvr[") (codes "] = ")) c.bvr
 
+-- the lines of the control registers of hardware watchpoints
 unfoldable pub wcr_lines : CONTEXT_ARM64 → List ℕ
 wcr_lines c = numbered_lines (right_front (codes "  wcr[") (codes "] = ")) c.wcr
 
+-- the lines of the value registers of hardware watchpoints
 unfoldable pub wvr_lines : CONTEXT_ARM64 → List ℕ
 wvr_lines c = numbered_lines (right_front (codes "  wvr[") (codes "] = ")) c.wvr
 
+-- the lines of the registers of hardware breakpoints and watchpoints
 abbrev pub watch_lines : CONTEXT_ARM64 → List ℕ
 watch_lines c = bcr_lines c ++ (bvr_lines c ++ (wcr_lines c ++ wvr_lines c))
 
+-- the text of a context of ARM64
 abbrev pub arm64_text : CONTEXT_ARM64 → List ℕ
 arm64_text c = arm64_flags_line c ++ (arm64_lines c.iregs c.sp c.pc c.cpsr c.fpsr c.fpcr c.float_regs ++ watch_lines c)
 
@@ -206,6 +229,7 @@ arm64_text c = arm64_flags_line c ++ (arm64_lines c.iregs c.sp c.pc c.cpsr c.fps
 unfoldable pub arm64_old_flags_line : CONTEXT_ARM64_OLD → List ℕ
 arm64_old_flags_line c = register_line (codes "CONTEXT_ARM64_OLD\n  context_flags        = ") c.context_flags
 
+-- the text of a context of ARM64 in Breakpad's old layout
 abbrev pub arm64_old_text : CONTEXT_ARM64_OLD → List ℕ
 arm64_old_text c = arm64_old_flags_line c ++ arm64_lines c.iregs c.sp c.pc c.cpsr c.fpsr c.fpcr c.float_regs
 

@@ -6,6 +6,7 @@ use Rattle.minidump_format.specs.declared.error.Error.TheVariants.{MissingDirect
 use Rattle.minidump_format.specs.declared.error.Error.TheVariants.{ModuleReadFailure, MemoryReadFailure, DataError, CodeViewReadFailure}
 use Rattle.minidump_format.specs.declared.error.Error.TheVariants.{UknownElementType, OutOfMemory}
 
+-- the name of an error; that of `UknownElementType` is `UnknownElementType`
 abbrev pub refusal_name : Error → List ℕ
 refusal_name FileNotFound = codes "FileNotFound"
 refusal_name IoError = codes "IoError"

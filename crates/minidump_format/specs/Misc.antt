@@ -119,6 +119,7 @@ fields_of_4 raw = record {
   dbg_bld_str = raw.dbg_bld_str;
 }
 
+-- Microsoft's MINIDUMP_MISC_INFO_4
 abbrev pub misc_info_4 : Layout MINIDUMP_MISC_INFO_4
 misc_info_4 = record { size = 832; value = λ order bytes. fields_of_4 (misc_info_5.value order bytes) }
 
@@ -143,6 +144,7 @@ fields_of_3 raw = record {
   time_zone = raw.time_zone;
 }
 
+-- Microsoft's MINIDUMP_MISC_INFO_3
 abbrev pub misc_info_3 : Layout MINIDUMP_MISC_INFO_3
 misc_info_3 = record { size = 232; value = λ order bytes. fields_of_3 (misc_info_4.value order bytes) }
 
@@ -162,6 +164,7 @@ fields_of_2 raw = record {
   processor_current_idle_state = raw.processor_current_idle_state;
 }
 
+-- Microsoft's MINIDUMP_MISC_INFO_2
 abbrev pub misc_info_2 : Layout MINIDUMP_MISC_INFO_2
 misc_info_2 = record { size = 44; value = λ order bytes. fields_of_2 (misc_info_3.value order bytes) }
 
@@ -176,5 +179,6 @@ fields_of_1 raw = record {
   process_kernel_time = raw.process_kernel_time;
 }
 
+-- Microsoft's MINIDUMP_MISC_INFO
 abbrev pub misc_info : Layout MINIDUMP_MISC_INFO
 misc_info = record { size = 24; value = λ order bytes. fields_of_1 (misc_info_2.value order bytes) }

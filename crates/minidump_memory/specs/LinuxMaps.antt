@@ -46,6 +46,7 @@ path_of (owned.Other text) = Other (string_bytes text)
 abbrev pub map_of : MemoryMap → MapRegion
 map_of m = record { address = m.address; perms = m.perms.0; offset = m.offset; dev = m.dev; inode = m.inode; pathname = path_of m.pathname }
 
+-- the mapped region of a `MinidumpLinuxMapInfo`
 abbrev pub map_info_of : MinidumpLinuxMapInfo → MapRegion
 map_info_of m = map_of m.map
 
@@ -53,6 +54,7 @@ map_info_of m = map_of m.map
 abbrev pub region_range : MapRegion → Option Range
 region_range m = range_of m.address.0 (m.address.1 - m.address.0)
 
+-- the range of addresses of a mapped region
 abbrev pub map_range : MinidumpLinuxMapInfo → Option Range
 map_range m = region_range (map_info_of m)
 

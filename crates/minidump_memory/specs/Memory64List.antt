@@ -32,6 +32,7 @@ all_placed order file l = map (λ p. placed order file (place_64 l p.0) p.1) (en
 abbrev pub is_inside : List ℕ → List64 MINIDUMP_MEMORY_DESCRIPTOR64 → Bool
 is_inside file l = length l.items == 0 || nat_le (place_64 l (length l.items)) (length file)
 
+-- the regions, each behind the one before it from BaseRva on, where all of them are in the file
 abbrev pub regions_64 : Endian → List ℕ → List64 MINIDUMP_MEMORY_DESCRIPTOR64 → Result (List (MemoryRegion MINIDUMP_MEMORY_DESCRIPTOR64)) Error
 regions_64 order file l = if is_inside file l then Ok (all_placed order file l) else Err StreamReadFailure
 

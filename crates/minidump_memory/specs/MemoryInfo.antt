@@ -23,6 +23,7 @@ pub record MemoryInfo : Type 0 where
   pub protection : ℕ
   pub ty : ℕ
 
+-- the memory information of a `MinidumpMemoryInfo`, as its fields have it
 abbrev pub info_of : MinidumpMemoryInfo → MemoryInfo
 info_of m = record {
   raw = m.raw;
@@ -46,6 +47,7 @@ info_in raw = record {
 abbrev pub info_range : MemoryInfo → Option Range
 info_range m = range_of m.raw.base_address m.raw.region_size
 
+-- the range of addresses of a memory information
 abbrev pub memory_info_range : MinidumpMemoryInfo → Option Range
 memory_info_range m = info_range (info_of m)
 

@@ -30,6 +30,7 @@ all_described order file ds = filter_map (λ d. result_ok (described order file 
 abbrev pub memory_list_in : Endian → List ℕ → List ℕ → Result (List (MemoryRegion MINIDUMP_MEMORY_DESCRIPTOR)) Error
 memory_list_in order file bytes = and_then (plain_list memory_descriptor order bytes) (λ ds. Ok (all_described order file ds))
 
+-- how many spans are read of the descriptors of a list
 abbrev spans_in : Result (List MINIDUMP_MEMORY_DESCRIPTOR) Error → ℕ
 spans_in (Err e) = 0
 spans_in (Ok ds) = sum_by spans_read ds

@@ -48,12 +48,15 @@ bytes_part false bytes = bytes_heading ++ (contents_text bytes ++ line_end)
 abbrev pub region_text : {D : Type 0} → (D → List ℕ) → Bool → MemoryRegion D → List ℕ
 region_text descriptor brief m = descriptor m.desc ++ bytes_part brief m.bytes
 
+-- the printed text of a region of a MINIDUMP_MEMORY_LIST
 abbrev pub memory_text : Bool → MemoryRegion MINIDUMP_MEMORY_DESCRIPTOR → List ℕ
 memory_text = region_text descriptor_text
 
+-- the printed text of a region of a MINIDUMP_MEMORY64_LIST
 abbrev pub memory64_text : Bool → MemoryRegion MINIDUMP_MEMORY_DESCRIPTOR64 → List ℕ
 memory64_text = region_text descriptor_64_text
 
+-- the printed text of a region of either list
 abbrev pub unified_memory_text : Bool → UnifiedRegion → List ℕ
 unified_memory_text = region_text unified_descriptor_text
 

@@ -28,6 +28,7 @@ pub data View : Type 0 where
   elf : ℕ → List ℕ → View
   unknown : List ℕ → View
 
+-- the CodeView record of a `CodeView`
 abbrev pub view_of : CodeView → View
 view_of (Pdb70 r) = pdb70 r.cv_signature r.signature r.age r.pdb_file_name.items
 view_of (Pdb20 r) = pdb20 r.cv_signature r.cv_offset r.signature r.age r.pdb_file_name.items

@@ -14,9 +14,11 @@ use Rattle.minidump_modules.specs.declared.debug_id.Kind.TheVariants.{Guid, Stam
 unfoldable pub guid_bytes : GUID → List ℕ
 guid_bytes g = to_be_bytes w32 g.data1 ++ (to_be_bytes w16 g.data2 ++ (to_be_bytes w16 g.data3 ++ g.data4))
 
+-- the identifier of a GUID and an appendix
 abbrev pub by_guid : List ℕ → ℕ → DebugId
 by_guid bytes appendix = record { kind = Guid bytes appendix }
 
+-- the identifier of a time stamp and an age
 abbrev pub by_stamp : ℕ → ℕ → DebugId
 by_stamp stamp age = record { kind = Stamp stamp age }
 
@@ -43,9 +45,11 @@ eight_upper n = replicate (8 - length (digits 16 true n)) 48 ++ digits 16 true n
 unfoldable pub guid_text : List ℕ → List ℕ
 guid_text bytes = hyphenated_text lower bytes
 
+-- the text of a GUID or of a time stamp, with its appendix
 abbrev kind_text : Kind → List ℕ
 kind_text (Guid bytes appendix) = guid_text bytes ++ appendix_text appendix
 kind_text (Stamp stamp age) = eight_upper stamp ++ appendix_text age
 
+-- the text of a debug identifier
 abbrev pub debug_id_text : DebugId → List ℕ
 debug_id_text id = kind_text id.kind

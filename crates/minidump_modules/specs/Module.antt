@@ -28,6 +28,7 @@ pub record ModuleValue : Type 0 where
   pub order : Endian
   pub os : Option Os
 
+-- the module of a `MinidumpModule`, as its fields have it
 abbrev pub module_of : MinidumpModule → ModuleValue
 module_of m = record { raw = m.raw; name = string_bytes m.name; view = option_map view_of m.codeview_info; order = m.endian; os = m.os }
 
@@ -75,6 +76,7 @@ identity_of m = record {
   version = version_of m.os m.raw.version_info;
 }
 
+-- the names, the identifiers and the version of a `MinidumpModule`
 abbrev pub module_identity : MinidumpModule → Identity
 module_identity m = identity_of (module_of m)
 

@@ -37,6 +37,7 @@ image_text title base size checksum = concat (
 unfoldable pub stamp_text : List ℕ → ℕ → List ℕ → List ℕ
 stamp_text label stamp date = concat (label ∷ hex stamp ∷ codes " " ∷ date ∷ codes "\n" ∷ [])
 
+-- the line of ModuleNameRva
 unfoldable pub name_rva_text : ℕ → List ℕ
 name_rva_text rva = concat (codes "  module_name_rva                 = " ∷ hex rva ∷ codes "\n" ∷ [])
 
@@ -97,6 +98,7 @@ pdb20_header signature offset = concat (
     ∷ codes "  (cv_record).cv_header.offset    = " ∷ hex offset ∷ codes "\n"
     ∷ [])
 
+-- the line of the age of a PDB
 unfoldable pub age_text : ℕ → List ℕ
 age_text age = concat (codes "  (cv_record).age                 = " ∷ decimal age ∷ codes "\n" ∷ [])
 

@@ -18,6 +18,7 @@ pub record UnloadedValue : Type 0 where
   pub raw : MINIDUMP_UNLOADED_MODULE
   pub name : List ℕ
 
+-- the unloaded module of a `MinidumpUnloadedModule`
 abbrev pub unloaded_of : MinidumpUnloadedModule → UnloadedValue
 unloaded_of m = record { raw = m.raw; name = string_bytes m.name }
 

@@ -14,11 +14,13 @@ is_set v = (v.signature == 0xfeef04bd) && (v.struct_version == 0x10000)
 unfoldable pub dotted : ℕ → ℕ → ℕ → ℕ → List ℕ
 dotted a b c d = concat (decimal a ∷ codes "." ∷ decimal b ∷ codes "." ∷ decimal c ∷ codes "." ∷ decimal d ∷ [])
 
+-- the system is macOS or iOS
 abbrev pub is_apple : Option Os → Bool
 is_apple (Some MacOs) = true
 is_apple (Some Ios) = true
 is_apple _ = false
 
+-- the system is Windows
 abbrev pub is_windows : Option Os → Bool
 is_windows (Some Windows) = true
 is_windows _ = false
@@ -34,5 +36,6 @@ version_text (Some MacOs) v = halves v
 version_text (Some Ios) v = halves v
 version_text _ v = dotted v.file_version_hi v.file_version_lo v.product_version_hi v.product_version_lo
 
+-- the version in a module's VS_FIXEDFILEINFO, where that is set
 abbrev pub version_of : Option Os → VS_FIXEDFILEINFO → Option (List ℕ)
 version_of os v = if is_set v then Some (version_text os v) else None

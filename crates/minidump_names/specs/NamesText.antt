@@ -55,6 +55,7 @@ IsNames text names = AreLines (lines_in text) × (names ≡ lists_in (listings_i
 abbrev pub IsAbove : List Listing → Listing → Type 0
 IsAbove before l = All (λ e. e.family ≡ l.family → e.number < l.number) before
 
+-- a name of the same family has this number or a higher one
 abbrev pub IsNotAbove : List Listing → Listing → Type 0
 IsNotAbove before l = Any (λ e. (e.family ≡ l.family) × (l.number ≤ e.number)) before
 

@@ -64,10 +64,12 @@ abbrev is_arm : Cpu → Bool
 is_arm Arm64 = true
 is_arm _ = false
 
+-- the processor is a PowerPC of 32 bits
 abbrev is_ppc : Cpu → Bool
 is_ppc Ppc = true
 is_ppc _ = false
 
+-- the processor is an x86 or an x86-64
 abbrev is_x86 : Cpu → Bool
 is_x86 X86 = true
 is_x86 X86_64 = true

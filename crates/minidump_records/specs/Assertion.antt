@@ -49,5 +49,6 @@ fields_text raw expression function file = concat (
 abbrev pub shown_units : List ℕ → List ℕ
 shown_units units = unwrap_or (text_before_nul units) []
 
+-- the printed text of a MINIDUMP_ASSERTION_INFO
 abbrev pub assertion_text : MINIDUMP_ASSERTION_INFO → List ℕ
 assertion_text raw = fields_text raw (shown_units raw.expression) (shown_units raw.function) (shown_units raw.file)

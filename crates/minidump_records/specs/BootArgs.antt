@@ -22,6 +22,7 @@ pub record BootArgs : Type 0 where
   pub raw : MINIDUMP_MAC_BOOTARGS
   pub text : Option (List ℕ)
 
+-- the boot arguments of a `MinidumpMacBootargs`
 abbrev pub mac_bootargs_of : MinidumpMacBootargs → BootArgs
 mac_bootargs_of b = record { raw = b.raw; text = option_map string_bytes b.bootargs }
 
@@ -35,6 +36,7 @@ short_boot_args = record {
   };
 }
 
+-- a record of 8 bytes as one of 12
 abbrev widened : ShortBootArgs → MINIDUMP_MAC_BOOTARGS
 widened short = record { stream_type = short.stream_type; bootargs = short.bootargs }
 
@@ -62,9 +64,11 @@ mac_bootargs_stream = record {
   memory = λ order bytes. 8 ≤ length bytes;
 }
 
+-- the words before the text
 unfoldable pub boot_args_label : List ℕ
 boot_args_label = codes "mac_boot_args = "
 
+-- the end of the line, and an empty line
 unfoldable pub boot_args_end : List ℕ
 boot_args_end = codes "\n\n"
 

@@ -45,6 +45,7 @@ pub record Module : Type 0 where
   pub simple_annotations : List (List ℕ × List ℕ)
   pub annotation_objects : List (List ℕ × Annotation)
 
+-- the information of a `MinidumpModuleCrashpadInfo`
 abbrev pub module_of : MinidumpModuleCrashpadInfo → Module
 module_of m = record {
   raw = m.raw;
@@ -88,6 +89,7 @@ pub record Crashpad : Type 0 where
   pub simple_annotations : List (List ℕ × List ℕ)
   pub module_list : List Module
 
+-- the information of a `MinidumpCrashpadInfo`
 abbrev pub crashpad_info_of : MinidumpCrashpadInfo → Crashpad
 crashpad_info_of c = record {
   raw = c.raw;

@@ -36,6 +36,7 @@ pub record Handle : Type 0 where
   pub object_name : Option (List ℕ)
   pub object_infos : List MinidumpHandleObjectInformation
 
+-- the handle of a `MinidumpHandleDescriptor`
 abbrev pub handle_of : MinidumpHandleDescriptor → Handle
 handle_of h = record {
   raw = h.raw;
@@ -137,6 +138,7 @@ names_text type_name object_name = concat (
     ∷ codes "  (object_name)     = " ∷ object_name ∷ codes "\n"
     ∷ [])
 
+-- a name, or `(null)`
 abbrev pub or_null : Option (List ℕ) → List ℕ
 or_null name = unwrap_or name (codes "(null)")
 
@@ -144,12 +146,15 @@ or_null name = unwrap_or name (codes "(null)")
 unfoldable pub info_label : List ℕ
 info_label = codes "  (object_info)     = "
 
+-- the line of a piece of information on an object
 unfoldable pub info_line : MinidumpHandleObjectInformation → List ℕ
 info_line i = info_label ++ (information_text i ++ codes "\n")
 
+-- the line of an object without information
 unfoldable pub no_info_line : List ℕ
 no_info_line = info_label ++ codes "(null)\n"
 
+-- the lines of the information on an object
 abbrev pub infos_text : List MinidumpHandleObjectInformation → List ℕ
 infos_text infos = if length infos == 0 then no_info_line else flat_map info_line infos
 

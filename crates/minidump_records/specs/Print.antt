@@ -6,8 +6,10 @@ abbrev pub or_nothing : {X : Type 0} → (X → List ℕ) → Option X → List 
 or_nothing text (Some x) = text x
 or_nothing text None = []
 
+-- a text, or nothing where there is none
 abbrev pub text_or_nothing : Option (List ℕ) → List ℕ
 text_or_nothing text = or_nothing (λ t. t) text
 
+-- a line feed
 unfoldable pub line_end : List ℕ
 line_end = codes "\n"

@@ -28,6 +28,7 @@ soft_errors_stream = record {
   memory = λ order bytes. ⊥;
 }
 
+-- the heading of the stream
 unfoldable pub soft_errors_heading : List ℕ
 soft_errors_heading = codes "MozSoftErrors\n"
 

@@ -103,5 +103,6 @@ count_in inside p = counted inside (unwrap_or (message_in p) [])
 abbrev pub within : ℕ → (Field → ℕ) → Field → ℕ
 within number inside f = if f.number == number then count_in inside f.payload else 0
 
+-- no field is inside a scalar
 abbrev pub none_within : Field → ℕ
 none_within f = 0

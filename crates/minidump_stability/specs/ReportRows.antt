@@ -18,6 +18,7 @@ abbrev pub no_windows_memory : WindowsMemory
 no_windows_memory =
     record { process_private_usage = None; process_peak_workingset_size = None; process_peak_pagefile_usage = None; process_allocation_attempt = None }
 
+-- ProcessState.MemoryState.WindowsMemory with one field more
 unfoldable pub put_windows_memory : Field → WindowsMemory → Option WindowsMemory
 put_windows_memory =
     through (λ m. (m.process_private_usage, (m.process_peak_workingset_size, (m.process_peak_pagefile_usage, m.process_allocation_attempt))))
@@ -33,6 +34,7 @@ put_windows_memory =
 abbrev pub no_memory_state : MemoryState
 no_memory_state = record { windows_memory = None }
 
+-- ProcessState.MemoryState with one field more
 unfoldable pub put_memory_state : Field → MemoryState → Option MemoryState
 put_memory_state =
     through (λ m. m.windows_memory) (λ v. record { windows_memory = v })
@@ -42,6 +44,7 @@ put_memory_state =
 abbrev pub no_posix_file_system_state : PosixFileSystemState
 no_posix_file_system_state = record { open_file_descriptors = None }
 
+-- ProcessState.FileSystemState.PosixFileSystemState with one field more
 unfoldable pub put_posix_file_system_state : Field → PosixFileSystemState → Option PosixFileSystemState
 put_posix_file_system_state =
     through (λ m. m.open_file_descriptors) (λ v. record { open_file_descriptors = v })
@@ -51,6 +54,7 @@ put_posix_file_system_state =
 abbrev pub no_windows_file_system_state : WindowsFileSystemState
 no_windows_file_system_state = record { process_handle_count = None }
 
+-- ProcessState.FileSystemState.WindowsFileSystemState with one field more
 unfoldable pub put_windows_file_system_state : Field → WindowsFileSystemState → Option WindowsFileSystemState
 put_windows_file_system_state =
     through (λ m. m.process_handle_count) (λ v. record { process_handle_count = v })
@@ -60,6 +64,7 @@ put_windows_file_system_state =
 abbrev pub no_file_system_state : FileSystemState
 no_file_system_state = record { posix_file_system_state = None; windows_file_system_state = None }
 
+-- ProcessState.FileSystemState with one field more
 unfoldable pub put_file_system_state : Field → FileSystemState → Option FileSystemState
 put_file_system_state =
     through (λ m. (m.posix_file_system_state, m.windows_file_system_state)) (λ v. record { posix_file_system_state = v.0; windows_file_system_state = v.1 })
@@ -69,6 +74,7 @@ put_file_system_state =
 abbrev pub no_process_state : ProcessState
 no_process_state = record { process_id = None; memory_state = None; file_system_state = None }
 
+-- ProcessState with one field more
 unfoldable pub put_process_state : Field → ProcessState → Option ProcessState
 put_process_state =
     through (λ m. (m.process_id, (m.memory_state, m.file_system_state))) (λ v. record { process_id = v.0; memory_state = v.1.0; file_system_state = v.1.1 })
@@ -78,6 +84,7 @@ put_process_state =
 abbrev pub no_system_windows_memory : system.WindowsMemory
 no_system_windows_memory = record { system_commit_limit = None; system_commit_remaining = None; system_handle_count = None }
 
+-- SystemMemoryState.WindowsMemory with one field more
 unfoldable pub put_system_windows_memory : Field → system.WindowsMemory → Option system.WindowsMemory
 put_system_windows_memory =
     through (λ m. (m.system_commit_limit, (m.system_commit_remaining, m.system_handle_count)))
@@ -88,6 +95,7 @@ put_system_windows_memory =
 abbrev pub no_system_memory_state : SystemMemoryState
 no_system_memory_state = record { windows_memory = None }
 
+-- SystemMemoryState with one field more
 unfoldable pub put_system_memory_state : Field → SystemMemoryState → Option SystemMemoryState
 put_system_memory_state =
     through (λ m. m.windows_memory) (λ v. record { windows_memory = v })

@@ -29,6 +29,7 @@ state_line i name n = concat (codes "  process_state[" ∷ decimal i ∷ codes "
 unfoldable pub process_id_front : ℕ → List ℕ
 process_id_front i = concat (codes "  process_state[" ∷ decimal i ∷ codes "].process_id = " ∷ [])
 
+-- the line of process_id
 abbrev pub process_id_line : ℕ → ℤ → List ℕ
 process_id_line i id = process_id_front i ++ (signed_decimal id ++ codes "\n")
 
@@ -85,9 +86,11 @@ abbrev pub first_state_text : ℕ → List ProcessState → List ℕ
 first_state_text i [] = []
 first_state_text i (s ∷ states) = process_state_text i s
 
+-- the text of the process state at an index
 abbrev pub state_text_at : List ProcessState → ℕ → List ℕ
 state_text_at states i = first_state_text i (drop i states)
 
+-- the heading of the report
 unfoldable pub report_heading : List ℕ
 report_heading = codes "StabilityReport\n"
 

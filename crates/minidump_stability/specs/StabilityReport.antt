@@ -68,9 +68,11 @@ pub record Report : Type 0 where
   pub process_states : List ProcessState
   pub system_memory_state : Option SystemMemoryState
 
+-- the StabilityReport of no fields
 abbrev pub no_report : Report
 no_report = record { process_states = []; system_memory_state = None }
 
+-- the StabilityReport of fields, with process_states as 2 and system_memory_state as 7
 abbrev pub report : List Field → Option Report
 report fs =
     option_map (λ v. record { process_states = v.0; system_memory_state = v.1 })
@@ -80,6 +82,7 @@ report fs =
 abbrev pub stability_report_in : List ℕ → Result Report Error
 stability_report_in bytes = ok_or (option_and_then report (fields_in bytes)) DataError
 
+-- the report of a `StabilityReport`
 abbrev pub stability_report_of : StabilityReport → Report
 stability_report_of r = record { process_states = r.process_states.items; system_memory_state = r.system_memory_state }
 
@@ -93,18 +96,23 @@ abbrev pub NoField : Field → Type 0
 NoField f = ⊥
 
 -- ---- how many fields are inside a field of each message
+-- how many fields are inside a ProcessState.MemoryState
 unfoldable pub memory_state_fields : Field → ℕ
 memory_state_fields f = within 1 none_within f
 
+-- how many fields are inside a ProcessState.FileSystemState
 unfoldable pub file_system_state_fields : Field → ℕ
 file_system_state_fields f = within 1 none_within f + within 2 none_within f
 
+-- how many fields are inside a ProcessState
 unfoldable pub process_state_fields : Field → ℕ
 process_state_fields f = within 4 memory_state_fields f + within 7 file_system_state_fields f
 
+-- how many fields are inside a SystemMemoryState
 unfoldable pub system_memory_state_fields : Field → ℕ
 system_memory_state_fields f = within 1 none_within f
 
+-- how many fields are inside a StabilityReport
 unfoldable pub report_fields : Field → ℕ
 report_fields f = within 2 process_state_fields f + within 7 system_memory_state_fields f
 

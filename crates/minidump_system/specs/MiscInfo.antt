@@ -34,15 +34,19 @@ use Rattle.minidump_system.specs.Dates.{date_text_of, system_time_text}
 unfoldable pub layout_1 : Endian → List ℕ → Option RawMiscInfo
 layout_1 order bytes = option_map MiscInfo (record_at misc_info order 0 bytes)
 
+-- Microsoft's MINIDUMP_MISC_INFO_2
 unfoldable pub layout_2 : Endian → List ℕ → Option RawMiscInfo
 layout_2 order bytes = option_map MiscInfo2 (record_at misc_info_2 order 0 bytes)
 
+-- Microsoft's MINIDUMP_MISC_INFO_3
 unfoldable pub layout_3 : Endian → List ℕ → Option RawMiscInfo
 layout_3 order bytes = option_map MiscInfo3 (record_at misc_info_3 order 0 bytes)
 
+-- Microsoft's MINIDUMP_MISC_INFO_4
 unfoldable pub layout_4 : Endian → List ℕ → Option RawMiscInfo
 layout_4 order bytes = option_map MiscInfo4 (record_at misc_info_4 order 0 bytes)
 
+-- Microsoft's MINIDUMP_MISC_INFO_5
 unfoldable pub layout_5 : Endian → List ℕ → Option RawMiscInfo
 layout_5 order bytes = option_map MiscInfo5 (record_at misc_info_5 order 0 bytes)
 
@@ -52,13 +56,16 @@ largest_layout order bytes =
     option_or (layout_5 order bytes)
     (option_or (layout_4 order bytes) (option_or (layout_3 order bytes) (option_or (layout_2 order bytes) (layout_1 order bytes))))
 
+-- the layout, or the error where the bytes hold none
 abbrev or_refused : Option RawMiscInfo → Result RawMiscInfo Error
 or_refused (Some raw) = Ok raw
 or_refused None = Err StreamReadFailure
 
+-- the misc information that the bytes of the stream hold
 abbrev pub misc_info_in : Endian → List ℕ → Result RawMiscInfo Error
 misc_info_in order bytes = or_refused (largest_layout order bytes)
 
+-- the layout of a `MinidumpMiscInfo`
 abbrev pub misc_info_of : MinidumpMiscInfo → RawMiscInfo
 misc_info_of m = m.raw
 
@@ -93,6 +100,7 @@ from_layout_1 (MiscInfo3 raw) = Some (fields_of_1 (fields_of_2 raw))
 from_layout_1 (MiscInfo4 raw) = Some (fields_of_1 (fields_of_2 (fields_of_3 raw)))
 from_layout_1 (MiscInfo5 raw) = Some (fields_of_1 (fields_of_2 (fields_of_3 (fields_of_4 raw))))
 
+-- the fields of MINIDUMP_MISC_INFO_2, where the record is of that layout or of a larger one
 abbrev pub from_layout_2 : RawMiscInfo → Option MINIDUMP_MISC_INFO_2
 from_layout_2 (MiscInfo raw) = None
 from_layout_2 (MiscInfo2 raw) = Some raw
@@ -100,6 +108,7 @@ from_layout_2 (MiscInfo3 raw) = Some (fields_of_2 raw)
 from_layout_2 (MiscInfo4 raw) = Some (fields_of_2 (fields_of_3 raw))
 from_layout_2 (MiscInfo5 raw) = Some (fields_of_2 (fields_of_3 (fields_of_4 raw)))
 
+-- the fields of MINIDUMP_MISC_INFO_3, where the record is of that layout or of a larger one
 abbrev pub from_layout_3 : RawMiscInfo → Option MINIDUMP_MISC_INFO_3
 from_layout_3 (MiscInfo raw) = None
 from_layout_3 (MiscInfo2 raw) = None
@@ -107,6 +116,7 @@ from_layout_3 (MiscInfo3 raw) = Some raw
 from_layout_3 (MiscInfo4 raw) = Some (fields_of_3 raw)
 from_layout_3 (MiscInfo5 raw) = Some (fields_of_3 (fields_of_4 raw))
 
+-- the fields of MINIDUMP_MISC_INFO_4, where the record is of that layout or of a larger one
 abbrev pub from_layout_4 : RawMiscInfo → Option MINIDUMP_MISC_INFO_4
 from_layout_4 (MiscInfo raw) = None
 from_layout_4 (MiscInfo2 raw) = None
@@ -114,6 +124,7 @@ from_layout_4 (MiscInfo3 raw) = None
 from_layout_4 (MiscInfo4 raw) = Some raw
 from_layout_4 (MiscInfo5 raw) = Some (fields_of_4 raw)
 
+-- the fields of MINIDUMP_MISC_INFO_5, where the record is of that layout
 abbrev pub from_layout_5 : RawMiscInfo → Option MINIDUMP_MISC_INFO_5
 from_layout_5 (MiscInfo5 raw) = Some raw
 from_layout_5 (MiscInfo4 raw) = None
@@ -126,18 +137,23 @@ from_layout_5 (MiscInfo raw) = None
 unfoldable pub size_of_info : RawMiscInfo → Option ℕ
 size_of_info info = option_and_then (λ raw. Some raw.size_of_info) (from_layout_1 info)
 
+-- Flags1: which fields are set
 unfoldable pub flags1 : RawMiscInfo → Option ℕ
 flags1 info = option_and_then (λ raw. Some raw.flags1) (from_layout_1 info)
 
+-- ProcessId (MINIDUMP_MISC1_PROCESS_ID)
 unfoldable pub process_id : RawMiscInfo → Option ℕ
 process_id info = option_and_then (λ raw. where_set raw.flags1 0x1 raw.process_id) (from_layout_1 info)
 
+-- ProcessCreateTime: seconds since 1970 (MINIDUMP_MISC1_PROCESS_TIMES)
 unfoldable pub process_create_time : RawMiscInfo → Option ℕ
 process_create_time info = option_and_then (λ raw. where_set raw.flags1 0x2 raw.process_create_time) (from_layout_1 info)
 
+-- ProcessUserTime: seconds in user mode (MINIDUMP_MISC1_PROCESS_TIMES)
 unfoldable pub process_user_time : RawMiscInfo → Option ℕ
 process_user_time info = option_and_then (λ raw. where_set raw.flags1 0x2 raw.process_user_time) (from_layout_1 info)
 
+-- ProcessKernelTime: seconds in kernel mode (MINIDUMP_MISC1_PROCESS_TIMES)
 unfoldable pub process_kernel_time : RawMiscInfo → Option ℕ
 process_kernel_time info = option_and_then (λ raw. where_set raw.flags1 0x2 raw.process_kernel_time) (from_layout_1 info)
 
@@ -145,15 +161,19 @@ process_kernel_time info = option_and_then (λ raw. where_set raw.flags1 0x2 raw
 unfoldable pub processor_max_mhz : RawMiscInfo → Option ℕ
 processor_max_mhz info = option_and_then (λ raw. where_set raw.flags1 0x4 raw.processor_max_mhz) (from_layout_2 info)
 
+-- ProcessorCurrentMhz: the clock speed in MHz (MINIDUMP_MISC1_PROCESSOR_POWER_INFO)
 unfoldable pub processor_current_mhz : RawMiscInfo → Option ℕ
 processor_current_mhz info = option_and_then (λ raw. where_set raw.flags1 0x4 raw.processor_current_mhz) (from_layout_2 info)
 
+-- ProcessorMhzLimit: the limit of the clock speed in MHz (MINIDUMP_MISC1_PROCESSOR_POWER_INFO)
 unfoldable pub processor_mhz_limit : RawMiscInfo → Option ℕ
 processor_mhz_limit info = option_and_then (λ raw. where_set raw.flags1 0x4 raw.processor_mhz_limit) (from_layout_2 info)
 
+-- ProcessorMaxIdleState: the highest idle state (MINIDUMP_MISC1_PROCESSOR_POWER_INFO)
 unfoldable pub processor_max_idle_state : RawMiscInfo → Option ℕ
 processor_max_idle_state info = option_and_then (λ raw. where_set raw.flags1 0x4 raw.processor_max_idle_state) (from_layout_2 info)
 
+-- ProcessorCurrentIdleState: the current idle state (MINIDUMP_MISC1_PROCESSOR_POWER_INFO)
 unfoldable pub processor_current_idle_state : RawMiscInfo → Option ℕ
 processor_current_idle_state info = option_and_then (λ raw. where_set raw.flags1 0x4 raw.processor_current_idle_state) (from_layout_2 info)
 
@@ -161,15 +181,19 @@ processor_current_idle_state info = option_and_then (λ raw. where_set raw.flags
 unfoldable pub process_integrity_level : RawMiscInfo → Option ℕ
 process_integrity_level info = option_and_then (λ raw. where_set raw.flags1 0x10 raw.process_integrity_level) (from_layout_3 info)
 
+-- ProcessExecuteFlags (MINIDUMP_MISC3_PROCESS_EXECUTE_FLAGS)
 unfoldable pub process_execute_flags : RawMiscInfo → Option ℕ
 process_execute_flags info = option_and_then (λ raw. where_set raw.flags1 0x20 raw.process_execute_flags) (from_layout_3 info)
 
+-- ProtectedProcess (MINIDUMP_MISC3_PROTECTED_PROCESS)
 unfoldable pub protected_process : RawMiscInfo → Option ℕ
 protected_process info = option_and_then (λ raw. where_set raw.flags1 0x80 raw.protected_process) (from_layout_3 info)
 
+-- TimeZoneId (MINIDUMP_MISC3_TIMEZONE)
 unfoldable pub time_zone_id : RawMiscInfo → Option ℕ
 time_zone_id info = option_and_then (λ raw. where_set raw.flags1 0x40 raw.time_zone_id) (from_layout_3 info)
 
+-- TimeZone: a TIME_ZONE_INFORMATION (MINIDUMP_MISC3_TIMEZONE)
 unfoldable pub time_zone : RawMiscInfo → Option TIME_ZONE_INFORMATION
 time_zone info = option_and_then (λ raw. where_set raw.flags1 0x40 raw.time_zone) (from_layout_3 info)
 
@@ -177,6 +201,7 @@ time_zone info = option_and_then (λ raw. where_set raw.flags1 0x40 raw.time_zon
 unfoldable pub build_string : RawMiscInfo → Option (List ℕ)
 build_string info = option_and_then (λ raw. where_set raw.flags1 0x100 raw.build_string) (from_layout_4 info)
 
+-- DbgBldStr: the debugger's build, in UTF-16 (MINIDUMP_MISC4_BUILDSTRING)
 unfoldable pub dbg_bld_str : RawMiscInfo → Option (List ℕ)
 dbg_bld_str info = option_and_then (λ raw. where_set raw.flags1 0x100 raw.dbg_bld_str) (from_layout_4 info)
 
@@ -184,6 +209,7 @@ dbg_bld_str info = option_and_then (λ raw. where_set raw.flags1 0x100 raw.dbg_b
 unfoldable pub xstate_data : RawMiscInfo → Option XSTATE_CONFIG_FEATURE_MSC_INFO
 xstate_data info = option_and_then (λ raw. Some raw.xstate_data) (from_layout_5 info)
 
+-- ProcessCookie (MINIDUMP_MISC5_PROCESS_COOKIE)
 unfoldable pub process_cookie : RawMiscInfo → Option ℕ
 process_cookie info = option_and_then (λ raw. where_set raw.flags1 0x200 raw.process_cookie) (from_layout_5 info)
 
@@ -224,6 +250,7 @@ policy_text raw = concat (
     ∷ codes "  time_zone_id                 = " ∷ or_invalid decimal (time_zone_id raw) ∷ codes "\n"
     ∷ [])
 
+-- the lines of a field, or `(invalid)` where it is absent
 abbrev lines_or_invalid : {X : Type 0} → (X → List ℕ) → Option X → List ℕ
 lines_or_invalid lines (Some x) = lines x
 lines_or_invalid lines None = codes "(invalid)\n"
@@ -232,6 +259,7 @@ lines_or_invalid lines None = codes "(invalid)\n"
 unfoldable pub create_time_line : ℕ → List ℕ
 create_time_line seconds = concat (hex seconds ∷ codes " " ∷ date_text_of seconds ∷ codes "\n" ∷ [])
 
+-- the line of ProcessCreateTime, in seconds and as a date
 abbrev pub create_time_text : RawMiscInfo → List ℕ
 create_time_text raw = codes "  process_create_time          = " ++ lines_or_invalid create_time_line (process_create_time raw)
 
@@ -256,6 +284,7 @@ zone_lines z =
     ++ (two_lines (codes "    daylight_name = ") (shown_units z.daylight_name) (codes "    daylight_date = ") (system_time_text z.daylight_date)
     ++ bias_line (codes "    daylight_bias = ") z.daylight_bias)))
 
+-- the lines of TimeZone, one for each of its fields
 abbrev pub time_zone_text : RawMiscInfo → List ℕ
 time_zone_text raw = codes "  time_zone                    = " ++ lines_or_invalid zone_lines (time_zone raw)
 
@@ -266,10 +295,12 @@ lines_of_builds build debug_build = concat (
     ∷ codes "  dbg_bld_str                  = " ∷ debug_build ∷ codes "\n"
     ∷ [])
 
+-- a text of code units up to its first 0, or `(invalid)` where it is absent
 abbrev pub shown_field : Option (List ℕ) → List ℕ
 shown_field (Some units) = shown_units units
 shown_field None = codes "(invalid)"
 
+-- the lines of BuildString and DbgBldStr
 abbrev pub builds_text : RawMiscInfo → List ℕ
 builds_text raw = lines_of_builds (shown_field (build_string raw)) (shown_field (dbg_bld_str raw))
 
@@ -285,9 +316,11 @@ feature_text p = concat (
     ∷ codes ", size " ∷ right 4 (decimal p.1.size) ∷ codes "\n"
     ∷ [])
 
+-- a line for each enabled feature
 abbrev pub feature_lines : XSTATE_CONFIG_FEATURE_MSC_INFO → List ℕ
 feature_lines x = codes "\n" ++ flat_map feature_text (xstate_features x)
 
+-- the lines of XStateData
 abbrev pub xstate_text : RawMiscInfo → List ℕ
 xstate_text raw = codes "  xstate_data                  = " ++ lines_or_invalid feature_lines (xstate_data raw)
 
@@ -299,8 +332,10 @@ cookie_text raw = concat (codes "  process_cookie               = " ∷ or_inval
 abbrev pub process_text : RawMiscInfo → List ℕ
 process_text raw = head_text raw ++ (create_time_text raw ++ (times_text raw ++ processor_text raw))
 
+-- the settings of the process, the time zone and the builds
 abbrev pub settings_text : RawMiscInfo → List ℕ
 settings_text raw = policy_text raw ++ (time_zone_text raw ++ builds_text raw)
 
+-- the printed text of the misc information
 abbrev pub misc_info_text : RawMiscInfo → List ℕ
 misc_info_text raw = process_text raw ++ (settings_text raw ++ (xstate_text raw ++ cookie_text raw))

@@ -19,6 +19,7 @@ use Rattle.minidump_system.specs.Os.{os_of}
 use Rattle.minidump_system.specs.Cpu.{cpu_of}
 use Rattle.minidump_system.specs.CpuInfo.{cpu_info_text}
 
+-- the system information of a `MinidumpSystemInfo`
 abbrev pub system_info_of : MinidumpSystemInfo → System
 system_info_of s = record {
   raw = s.raw;
@@ -96,5 +97,6 @@ names_text raw csd_version cpu_info = concat (
     ∷ codes "\n"
     ∷ [])
 
+-- the printed text of a MINIDUMP_SYSTEM_INFO
 abbrev pub system_info_text : System → List ℕ
 system_info_text s = numbers_text s.raw ++ names_text s.raw (unwrap_or s.csd_version []) (unwrap_or s.cpu_info [])

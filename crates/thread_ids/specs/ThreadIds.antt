@@ -9,10 +9,12 @@ use Rattle.minidump.specs.Thread.{Thread}
 abbrev pub ids_of : List Thread → List ℕ
 ids_of threads = map (λ t. t.raw.thread_id) threads
 
+-- the ids of a list of threads, or its error
 abbrev ids_in_list : Result (List Thread) Error → Result (List ℕ) Error
 ids_in_list (Ok threads) = Ok (ids_of threads)
 ids_in_list (Err e) = Err e
 
+-- the ids of the threads of a dump, or the error of the dump or of its list
 abbrev ids_in_dump : Result Dump Error → Result (List ℕ) Error
 ids_in_dump (Ok dump) = ids_in_list (stream_of thread_list_stream dump)
 ids_in_dump (Err e) = Err e

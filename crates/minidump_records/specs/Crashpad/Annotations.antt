@@ -17,6 +17,7 @@ pub data Annotation : Type 0 where
   user_defined : MINIDUMP_ANNOTATION → Annotation
   unsupported : MINIDUMP_ANNOTATION → Annotation
 
+-- the annotation of a `MinidumpAnnotation`
 abbrev pub annotation_of : MinidumpAnnotation → Annotation
 annotation_of Invalid = invalid
 annotation_of (String s) = text (string_bytes s)

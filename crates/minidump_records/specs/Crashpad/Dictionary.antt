@@ -25,6 +25,7 @@ HasText order file rva = IsOk (text_in order file rva)
 abbrev pub keyed : {E V : Type 0} → (E → ℕ) → (Endian → List ℕ → E → Result V Error) → Endian → List ℕ → E → Result (List ℕ × V) Error
 keyed key value order file e = and_then (text_in order file (key e)) (λ k. and_then (value order file e) (λ v. Ok (k, v)))
 
+-- the key and the value of an entry
 abbrev pub pair_of : {V W : Type 0} → (V → W) → Keyed V → List ℕ × W
 pair_of value p = (string_bytes p.key, value p.value)
 

@@ -20,6 +20,7 @@ pub record CountedList : Type 0 where
   pub bytes : List ℕ
   pub count : ℕ
 
+-- a list of so many entries, behind its count
 abbrev pub list_of : List ℕ → ℕ → CountedList
 list_of bytes count = record { bytes = bytes; count = count }
 

@@ -17,6 +17,7 @@ process_lines version report_id client_id = concat (
     ∷ codes "  client_id = " ∷ client_id ∷ codes "\n"
     ∷ [])
 
+-- the lines on the process: MinidumpCrashpadInfo's version, report_id and client_id
 abbrev pub process_text : MINIDUMP_CRASHPAD_INFO → List ℕ
 process_text raw = process_lines raw.version (guid_text raw.report_id) (guid_text raw.client_id)
 
@@ -56,6 +57,7 @@ object_line m e = concat (
 abbrev pub objects_text : ℕ × Module → List ℕ
 objects_text m = flat_map (simple_line m.0) m.1.simple_annotations ++ flat_map (object_line m.0) m.1.annotation_objects
 
+-- the lines on a module: its own, and those of its list, of its dictionary and of its annotations
 abbrev pub module_text : ℕ × Module → List ℕ
 module_text m = module_lines m ++ (flat_map (listed_line m.0) (enumerate_from 0 m.1.list_annotations) ++ objects_text m)
 

@@ -27,5 +27,6 @@ readable order file place i h = by_zero (place == 0) h
     by_zero true k = cc
     by_zero false k = by_room (nat_le (place + 12) (length file)) refl k
 
+-- the chain of information on an object, and that it is the only one
 pub one_object_chain : (order : Endian) (file : List ℕ) (link : ℕ) → ExactlyOne (IsChain (information_at order file) next_of link)
 one_object_chain order file link = one_chain (information_at order file) next_of (length file) (readable order file) link

@@ -29,6 +29,7 @@ linux_pairs_text stream_type separator text = name_line stream_type ++ flat_map 
 abbrev pub linux_cpu_info_text : List ℕ → List ℕ
 linux_cpu_info_text text = linux_pairs_text LinuxCpuInfo 58 text
 
+-- the printed text of /proc/PID/status
 abbrev pub linux_proc_status_text : List ℕ → List ℕ
 linux_proc_status_text text = linux_pairs_text LinuxProcStatus 58 text
 
@@ -36,6 +37,7 @@ linux_proc_status_text text = linux_pairs_text LinuxProcStatus 58 text
 abbrev pub linux_lsb_release_text : List ℕ → List ℕ
 linux_lsb_release_text text = linux_pairs_text LinuxLsbRelease 61 text
 
+-- the printed text of /proc/PID/environ
 abbrev pub linux_environ_text : List ℕ → List ℕ
 linux_environ_text text = linux_pairs_text LinuxEnviron 61 text
 

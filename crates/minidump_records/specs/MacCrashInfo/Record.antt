@@ -35,6 +35,7 @@ pub data MacRecord : Type 0 where
   v4 : MINIDUMP_MAC_CRASH_INFO_RECORD_4 → MacTexts → MacRecord
   v5 : MINIDUMP_MAC_CRASH_INFO_RECORD_5 → MacTexts → MacRecord
 
+-- the texts of a record of version 4
 abbrev pub texts_4 : MINIDUMP_MAC_CRASH_INFO_RECORD_STRINGS_4 → MacTexts
 texts_4 t = record {
   module_path = string_bytes t.module_path;
@@ -44,6 +45,7 @@ texts_4 t = record {
   message2 = string_bytes t.message2;
 }
 
+-- the texts of a record of version 5
 abbrev pub texts_5 : MINIDUMP_MAC_CRASH_INFO_RECORD_STRINGS_5 → MacTexts
 texts_5 t = record {
   module_path = string_bytes t.module_path;
@@ -53,6 +55,7 @@ texts_5 t = record {
   message2 = string_bytes t.message2;
 }
 
+-- the texts of a record, whatever its version
 abbrev pub texts_of : Texts → MacTexts
 texts_of t = record {
   module_path = string_bytes t.module_path;
@@ -62,6 +65,7 @@ texts_of t = record {
   message2 = string_bytes t.message2;
 }
 
+-- the record of a `RawMacCrashInfo`
 abbrev pub mac_record_of : RawMacCrashInfo → MacRecord
 mac_record_of (V1 raw texts) = v1 raw
 mac_record_of (V4 raw texts) = v4 raw (texts_4 texts)
@@ -69,24 +73,29 @@ mac_record_of (V5 raw texts) = v5 raw (texts_5 texts)
 
 -- ---- its fields: a number that is 0, and an empty text, are absent
 
+-- a number, or none where it is 0
 abbrev pub if_nonzero : ℕ → Option ℕ
 if_nonzero n = if n == 0 then None else Some n
 
+-- version: that of the record (Apple's crashreporter_annotations_t)
 abbrev pub version : MacRecord → Option ℕ
 version (v1 raw) = if_nonzero raw.version
 version (v4 raw texts) = if_nonzero raw.version
 version (v5 raw texts) = if_nonzero raw.version
 
+-- thread, from version 4 on (Apple's crashreporter_annotations_t)
 abbrev pub thread : MacRecord → Option ℕ
 thread (v1 raw) = None
 thread (v4 raw texts) = if_nonzero raw.thread
 thread (v5 raw texts) = if_nonzero raw.thread
 
+-- dialog_mode, from version 4 on (Apple's crashreporter_annotations_t)
 abbrev pub dialog_mode : MacRecord → Option ℕ
 dialog_mode (v1 raw) = None
 dialog_mode (v4 raw texts) = if_nonzero raw.dialog_mode
 dialog_mode (v5 raw texts) = if_nonzero raw.dialog_mode
 
+-- abort_cause, from version 5 on (Apple's crashreporter_annotations_t)
 abbrev pub abort_cause : MacRecord → Option ℕ
 abort_cause (v1 raw) = None
 abort_cause (v4 raw texts) = None
@@ -150,6 +159,7 @@ record_reads (v1 raw) = 0
 record_reads (v4 raw texts) = 6
 record_reads (v5 raw texts) = 6
 
+-- the fewest reads behind the head of a record that may be left out
 abbrev pub item_reads : Option MacRecord → ℕ
 item_reads None = 0
 item_reads (Some r) = record_reads r

@@ -24,9 +24,11 @@ words_text r = concat (
     ∷ codes "    message2          = " ∷ text_or_nothing (text_of (λ t. t.message2) r) ∷ codes "\n"
     ∷ [])
 
+-- the line of abort_cause
 unfoldable pub cause_text : MacRecord → List ℕ
 cause_text r = concat (codes "    abort_cause       = " ∷ or_nothing plain_hex (abort_cause r) ∷ codes "\n" ∷ [])
 
+-- the heading of a record, with its index
 unfoldable pub record_heading : ℕ → List ℕ
 record_heading index = concat (codes "\n" ∷ codes "  RECORD[" ∷ decimal index ∷ codes "] \n" ∷ [])
 
