@@ -14,7 +14,9 @@ use std::alloc::Global;
 #[repr(C)]
 #[derive(Clone, Copy)]
 pub struct Region {
+    /// The first address.
     pub base: u64,
+    /// The number of bytes.
     pub size: u64,
 }
 

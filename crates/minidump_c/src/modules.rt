@@ -15,8 +15,11 @@ use std::alloc::{AllocError, Global};
 #[repr(C)]
 #[derive(Clone, Copy)]
 pub struct ModuleRow {
+    /// The first address.
     pub base: u64,
+    /// The number of bytes of memory that it takes.
     pub size: u64,
+    /// The offset of its name in the file.
     pub name_rva: u64,
 }
 

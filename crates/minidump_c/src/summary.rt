@@ -14,17 +14,29 @@ use std::alloc::Global;
 #[repr(C)]
 #[derive(Clone, Copy)]
 pub struct Crash {
+    /// The address that the crash is about.
     pub address: u64,
+    /// The first address of the module with the instruction pointer.
     pub module_base: u64,
+    /// The number of bytes of memory that the module takes.
     pub module_size: u64,
+    /// The first address of the region of memory with the thread's stack.
     pub stack_base: u64,
+    /// The number of bytes of that region.
     pub stack_size: u64,
+    /// The number of bytes of the whole text of the reason.
     pub reason_len: usize,
+    /// The number of bytes of the whole name of the module.
     pub module_len: usize,
+    /// The id of the thread that crashed.
     pub thread: u32,
+    /// 1 if there is an address, else 0.
     pub has_address: u8,
+    /// 1 if there is a reason, else 0.
     pub has_reason: u8,
+    /// 1 if there is a module, else 0.
     pub has_module: u8,
+    /// 1 if there is a stack, else 0.
     pub has_stack: u8,
 }
 

@@ -22,11 +22,17 @@ use std::alloc::{AllocError, Global};
 #[repr(C)]
 #[derive(Clone, Copy)]
 pub struct ThreadRow {
+    /// The instruction pointer.
     pub instruction_pointer: u64,
+    /// The stack pointer.
     pub stack_pointer: u64,
+    /// The first address of its stack.
     pub stack_base: u64,
+    /// The number of bytes of its stack.
     pub stack_size: u64,
+    /// The id of the thread.
     pub id: u32,
+    /// 1 if the thread has a context, else 0.
     pub has_context: u32,
 }
 

@@ -6,10 +6,12 @@ use std::io::{ErrorKind, Read, Write};
 /// A reader or writer that moves one byte a call.
 #[derive(Drop)]
 pub struct OneByte<D> {
+    /// The reader or writer that it calls.
     pub inner: D,
 }
 
 impl<D> OneByte<D> {
+    /// Wraps a device that is to be passed one byte a call.
     pub fn new(inner: D) -> OneByte<D> {
         OneByte { inner }
     }
@@ -44,7 +46,9 @@ impl<R: Read> Read for OneByte<R> {
 /// A reader or writer whose calls fail from call number `at` on, counted from 0.
 #[derive(Drop)]
 pub struct FailsAt<D> {
+    /// The reader or writer that it calls.
     pub inner: D,
+    /// The number of calls that succeed before they fail.
     pub at: usize,
     /// The number of calls, failed ones included.
     pub calls: usize,
@@ -90,7 +94,9 @@ impl<R: Read> Read for FailsAt<R> {
 /// A writer that takes no bytes from call number `at` on, counted from 0: it returns `Ok(0)`.
 #[derive(Drop)]
 pub struct TakesNone<D> {
+    /// The writer that it calls.
     pub inner: D,
+    /// The number of calls that take bytes before they take none.
     pub at: usize,
     /// The number of calls, those that took nothing included.
     pub calls: usize,
@@ -131,6 +137,7 @@ pub struct Full {
 }
 
 impl Full {
+    /// Makes a writer that has not been called yet.
     pub fn new() -> Full {
         Full { calls: 0 }
     }

@@ -16,14 +16,19 @@ use std::alloc::{AllocError, Global};
 /// don't say so; [`SynthMinidump::finish`] does.
 #[derive(Drop)]
 pub struct SynthMinidump {
+    /// The signature.
     pub signature: u32,
+    /// The version.
     pub version: u32,
     /// The number of entries that the header states, if it isn't the number that there are.
     pub stream_count: Option<u32>,
     /// The RVA of the directory that the header states, if it isn't behind all that was added.
     pub stream_directory_rva: Option<RVA>,
+    /// The checksum.
     pub checksum: u32,
+    /// When the dump was written, in seconds since 1970.
     pub time_date_stamp: u32,
+    /// The flags.
     pub flags: u64,
     alloc: Global,
     endian: Endian,

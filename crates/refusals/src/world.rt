@@ -5,14 +5,19 @@ use std::alloc::Global;
 /// The dump that the calls are made on, and what some of them are passed.
 #[derive(Drop)]
 pub struct World<'a> {
+    /// The allocator that each call is passed.
     pub alloc: Global,
+    /// The runtime, for files.
     pub rt: &'a HostRuntime,
     /// The path of another dump, for `read_path`.
     pub path: &'a str,
     /// The bytes of the dump.
     pub bytes: &'a [u8],
+    /// The dump.
     pub dump: Minidump<'a>,
+    /// The system information of the dump.
     pub system: MinidumpSystemInfo,
+    /// The memory of the dump.
     pub memory: UnifiedMemoryList<'a>,
 }
 

@@ -75,5 +75,6 @@ pub struct CV_INFO_PDB20 {
 pub struct CV_INFO_ELF {
     /// [`CvSignature::Elf`], as a number.
     pub cv_signature: u32,
+    /// The record's bytes from here to its end: the build id.
     pub build_id: Vec<u8>,
 }

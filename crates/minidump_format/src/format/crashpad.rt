@@ -7,6 +7,7 @@ use minidump_bytes::{Endian, Exact, Record};
 /// Crashpad's information on the process: `MinidumpCrashpadInfo`.
 #[derive(Clone, Copy, Debug, PartialEq, Eq)]
 pub struct MINIDUMP_CRASHPAD_INFO {
+    /// The version of the record.
     pub version: u32,
     /// The identifier of this report.
     pub report_id: GUID,
@@ -79,6 +80,7 @@ impl Exact for MINIDUMP_MODULE_CRASHPAD_INFO_LINK {
 /// Crashpad's information on a module: `MinidumpModuleCrashpadInfo`.
 #[derive(Clone, Copy, Debug, PartialEq, Eq)]
 pub struct MINIDUMP_MODULE_CRASHPAD_INFO {
+    /// The version of the record.
     pub version: u32,
     /// The location of its list of texts.
     pub list_annotations: MINIDUMP_LOCATION_DESCRIPTOR,
@@ -152,6 +154,7 @@ pub struct MINIDUMP_ANNOTATION {
     pub name: RVA,
     /// The type of the value: one of the `TYPE_` constants, or a user-defined number.
     pub ty: u16,
+    /// Reserved; 0.
     pub reserved: u16,
     /// The RVA of the value.
     pub value: RVA,

@@ -17,6 +17,7 @@ pub struct MINIDUMP_EXCEPTION {
     pub exception_address: u64,
     /// The number of elements of `exception_information` that are set.
     pub number_parameters: u32,
+    /// Padding.
     pub unused1: u32,
     /// The parameters, whose meaning depends on the code.
     pub exception_information: [u64; 15],
@@ -55,6 +56,7 @@ impl Exact for MINIDUMP_EXCEPTION {
 pub struct MINIDUMP_EXCEPTION_STREAM {
     /// The id of the thread on which the exception happened.
     pub thread_id: u32,
+    /// Padding.
     pub unused1: u32,
     /// The exception.
     pub exception_record: MINIDUMP_EXCEPTION,

@@ -9,9 +9,13 @@ use std::fmt;
 /// A globally unique identifier: Microsoft's `GUID`.
 #[derive(Clone, Copy, Debug, PartialEq, Eq)]
 pub struct GUID {
+    /// The first eight hexadecimal digits.
     pub data1: u32,
+    /// The first group of four hexadecimal digits.
     pub data2: u16,
+    /// The second group of four hexadecimal digits.
     pub data3: u16,
+    /// The third group of four hexadecimal digits, and the last twelve.
     pub data4: [u8; 8],
 }
 

@@ -14,6 +14,7 @@ pub struct MINIDUMP_HANDLE_DESCRIPTOR {
     pub type_name_rva: RVA,
     /// The RVA of the name of its object, or 0.
     pub object_name_rva: RVA,
+    /// The attributes of the handle.
     pub attributes: u32,
     /// The access that was granted.
     pub granted_access: u32,
@@ -60,6 +61,7 @@ pub struct MINIDUMP_HANDLE_DESCRIPTOR_2 {
     pub type_name_rva: RVA,
     /// The RVA of the name of its object, or 0.
     pub object_name_rva: RVA,
+    /// The attributes of the handle.
     pub attributes: u32,
     /// The access that was granted.
     pub granted_access: u32,
@@ -69,6 +71,7 @@ pub struct MINIDUMP_HANDLE_DESCRIPTOR_2 {
     pub pointer_count: u32,
     /// The RVA of the first piece of information on its object, or 0.
     pub object_info_rva: RVA,
+    /// Reserved; 0.
     pub reserved: u32,
 }
 

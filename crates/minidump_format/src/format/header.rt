@@ -19,6 +19,7 @@ pub const MINIDUMP_VERSION: u32 = 0xa793;
 /// The header of a minidump, its first 32 bytes: Microsoft's `MINIDUMP_HEADER`.
 #[derive(Clone, Copy, Debug, PartialEq, Eq)]
 pub struct MINIDUMP_HEADER {
+    /// [`MINIDUMP_SIGNATURE`].
     pub signature: u32,
     /// The low 16 bits are [`MINIDUMP_VERSION`]; the others are the writer's own.
     pub version: u32,
@@ -26,9 +27,11 @@ pub struct MINIDUMP_HEADER {
     pub stream_count: u32,
     /// The RVA of the directory.
     pub stream_directory_rva: RVA,
+    /// The checksum of the file, which may be 0.
     pub checksum: u32,
     /// When the dump was written, in seconds since 1970.
     pub time_date_stamp: u32,
+    /// Which information was asked for: Microsoft's `MINIDUMP_TYPE`, as a number.
     pub flags: u64,
 }
 

@@ -6,6 +6,7 @@ use minidump_bytes::{Endian, Exact, Record, array_at};
 /// The crash information of macOS: Mozilla's `MDRawMacCrashInfo`.
 #[derive(Clone, Copy, Debug, PartialEq, Eq)]
 pub struct MINIDUMP_MAC_CRASH_INFO {
+    /// The type of the stream, as a number.
     pub stream_type: u32,
     /// The number of records that are set.
     pub record_count: u32,
@@ -40,6 +41,7 @@ impl Record for MINIDUMP_MAC_CRASH_INFO {
 /// `MDRawMacCrashInfoRecord`.
 #[derive(Clone, Copy, Debug, PartialEq, Eq)]
 pub struct MINIDUMP_MAC_CRASH_INFO_RECORD {
+    /// The type of the stream, as a number.
     pub stream_type: u64,
     /// The version of the record.
     pub version: u64,
@@ -71,11 +73,13 @@ impl Exact for MINIDUMP_MAC_CRASH_INFO_RECORD {
 /// A record of crash information from version 4 on, before its texts.
 #[derive(Clone, Copy, Debug, PartialEq, Eq)]
 pub struct MINIDUMP_MAC_CRASH_INFO_RECORD_4 {
+    /// The type of the stream, as a number.
     pub stream_type: u64,
     /// The version of the record.
     pub version: u64,
     /// The thread that crashed.
     pub thread: u64,
+    /// The dialog mode that the module set for the crash report.
     pub dialog_mode: u64,
 }
 
@@ -107,12 +111,15 @@ impl Exact for MINIDUMP_MAC_CRASH_INFO_RECORD_4 {
 /// A record of crash information from version 5 on, before its texts.
 #[derive(Clone, Copy, Debug, PartialEq, Eq)]
 pub struct MINIDUMP_MAC_CRASH_INFO_RECORD_5 {
+    /// The type of the stream, as a number.
     pub stream_type: u64,
     /// The version of the record.
     pub version: u64,
     /// The thread that crashed.
     pub thread: u64,
+    /// The dialog mode that the module set for the crash report.
     pub dialog_mode: u64,
+    /// The cause of an abort that the module set for the crash report.
     pub abort_cause: u64,
 }
 
@@ -145,6 +152,7 @@ impl Exact for MINIDUMP_MAC_CRASH_INFO_RECORD_5 {
 /// The boot arguments of macOS: Mozilla's `MDRawMacBootargs`.
 #[derive(Clone, Copy, Debug, PartialEq, Eq)]
 pub struct MINIDUMP_MAC_BOOTARGS {
+    /// The type of the stream, as a number.
     pub stream_type: u32,
     /// The RVA of the text.
     pub bootargs: u64,
@@ -186,9 +194,13 @@ impl Exact for MINIDUMP_MAC_CRASH_INFO_RECORD_STRINGS {
 pub struct MINIDUMP_MAC_CRASH_INFO_RECORD_STRINGS_4 {
     /// The path of the module that the record belongs to.
     pub module_path: String,
+    /// The message that the module set for the crash report.
     pub message: String,
+    /// The signature that the module set for the crash report.
     pub signature_string: String,
+    /// The backtrace that the module set for the crash report.
     pub backtrace: String,
+    /// The second message that the module set for the crash report.
     pub message2: String,
 }
 
@@ -197,8 +209,12 @@ pub struct MINIDUMP_MAC_CRASH_INFO_RECORD_STRINGS_4 {
 pub struct MINIDUMP_MAC_CRASH_INFO_RECORD_STRINGS_5 {
     /// The path of the module that the record belongs to.
     pub module_path: String,
+    /// The message that the module set for the crash report.
     pub message: String,
+    /// The signature that the module set for the crash report.
     pub signature_string: String,
+    /// The backtrace that the module set for the crash report.
     pub backtrace: String,
+    /// The second message that the module set for the crash report.
     pub message2: String,
 }

@@ -14,6 +14,7 @@ pub struct MINIDUMP_MEMORY_INFO {
     pub allocation_base: u64,
     /// The protection when the region was allocated: [`MemoryProtection`], as a number.
     pub allocation_protection: u32,
+    /// Padding, Microsoft's `__alignment1`.
     pub unused1: u32,
     /// The number of bytes.
     pub region_size: u64,
@@ -23,6 +24,7 @@ pub struct MINIDUMP_MEMORY_INFO {
     pub protection: u32,
     /// The type: [`MemoryType`], as a number.
     pub _type: u32,
+    /// Padding, Microsoft's `__alignment2`.
     pub unused2: u32,
 }
 

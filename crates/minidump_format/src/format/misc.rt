@@ -10,6 +10,7 @@ pub struct MINIDUMP_MISC_INFO {
     pub size_of_info: u32,
     /// Which of the other fields are set: [`MiscInfoFlags`](super::MiscInfoFlags), as a number.
     pub flags1: u32,
+    /// The id of the process.
     pub process_id: u32,
     /// The time at which the process began, in seconds since 1970.
     pub process_create_time: u32,
@@ -50,6 +51,7 @@ pub struct MINIDUMP_MISC_INFO_2 {
     pub size_of_info: u32,
     /// Which of the other fields are set: [`MiscInfoFlags`](super::MiscInfoFlags), as a number.
     pub flags1: u32,
+    /// The id of the process.
     pub process_id: u32,
     /// The time at which the process began, in seconds since 1970.
     pub process_create_time: u32,
@@ -63,7 +65,9 @@ pub struct MINIDUMP_MISC_INFO_2 {
     pub processor_current_mhz: u32,
     /// The limit that the system sets to the clock rate, in MHz.
     pub processor_mhz_limit: u32,
+    /// The processor's highest idle state.
     pub processor_max_idle_state: u32,
+    /// The processor's current idle state.
     pub processor_current_idle_state: u32,
 }
 
@@ -107,9 +111,13 @@ pub struct SYSTEMTIME {
     /// The day of the month; in a date that recurs every year, which occurrence of `day_of_week` in the
     /// month, 5 for the last.
     pub day: u16,
+    /// The hour, 0 to 23.
     pub hour: u16,
+    /// The minute, 0 to 59.
     pub minute: u16,
+    /// The second, 0 to 59.
     pub second: u16,
+    /// The milliseconds, 0 to 999.
     pub milliseconds: u16,
 }
 
@@ -189,6 +197,7 @@ pub struct MINIDUMP_MISC_INFO_3 {
     pub size_of_info: u32,
     /// Which of the other fields are set: [`MiscInfoFlags`](super::MiscInfoFlags), as a number.
     pub flags1: u32,
+    /// The id of the process.
     pub process_id: u32,
     /// The time at which the process began, in seconds since 1970.
     pub process_create_time: u32,
@@ -202,13 +211,19 @@ pub struct MINIDUMP_MISC_INFO_3 {
     pub processor_current_mhz: u32,
     /// The limit that the system sets to the clock rate, in MHz.
     pub processor_mhz_limit: u32,
+    /// The processor's highest idle state.
     pub processor_max_idle_state: u32,
+    /// The processor's current idle state.
     pub processor_current_idle_state: u32,
+    /// The integrity level of the process.
     pub process_integrity_level: u32,
+    /// The execute flags of the process.
     pub process_execute_flags: u32,
+    /// Whether the process is protected.
     pub protected_process: u32,
     /// The time zone id: 0 no daylight saving time, 1 standard time, 2 daylight saving time.
     pub time_zone_id: u32,
+    /// The time zone.
     pub time_zone: TIME_ZONE_INFORMATION,
 }
 
@@ -253,6 +268,7 @@ pub struct MINIDUMP_MISC_INFO_4 {
     pub size_of_info: u32,
     /// Which of the other fields are set: [`MiscInfoFlags`](super::MiscInfoFlags), as a number.
     pub flags1: u32,
+    /// The id of the process.
     pub process_id: u32,
     /// The time at which the process began, in seconds since 1970.
     pub process_create_time: u32,
@@ -266,13 +282,19 @@ pub struct MINIDUMP_MISC_INFO_4 {
     pub processor_current_mhz: u32,
     /// The limit that the system sets to the clock rate, in MHz.
     pub processor_mhz_limit: u32,
+    /// The processor's highest idle state.
     pub processor_max_idle_state: u32,
+    /// The processor's current idle state.
     pub processor_current_idle_state: u32,
+    /// The integrity level of the process.
     pub process_integrity_level: u32,
+    /// The execute flags of the process.
     pub process_execute_flags: u32,
+    /// Whether the process is protected.
     pub protected_process: u32,
     /// The time zone id: 0 no daylight saving time, 1 standard time, 2 daylight saving time.
     pub time_zone_id: u32,
+    /// The time zone.
     pub time_zone: TIME_ZONE_INFORMATION,
     /// The build of the system, in UTF-16, up to the first 0.
     pub build_string: [u16; 260],
@@ -385,6 +407,7 @@ pub struct MINIDUMP_MISC_INFO_5 {
     pub size_of_info: u32,
     /// Which of the other fields are set: [`MiscInfoFlags`](super::MiscInfoFlags), as a number.
     pub flags1: u32,
+    /// The id of the process.
     pub process_id: u32,
     /// The time at which the process began, in seconds since 1970.
     pub process_create_time: u32,
@@ -398,13 +421,19 @@ pub struct MINIDUMP_MISC_INFO_5 {
     pub processor_current_mhz: u32,
     /// The limit that the system sets to the clock rate, in MHz.
     pub processor_mhz_limit: u32,
+    /// The processor's highest idle state.
     pub processor_max_idle_state: u32,
+    /// The processor's current idle state.
     pub processor_current_idle_state: u32,
+    /// The integrity level of the process.
     pub process_integrity_level: u32,
+    /// The execute flags of the process.
     pub process_execute_flags: u32,
+    /// Whether the process is protected.
     pub protected_process: u32,
     /// The time zone id: 0 no daylight saving time, 1 standard time, 2 daylight saving time.
     pub time_zone_id: u32,
+    /// The time zone.
     pub time_zone: TIME_ZONE_INFORMATION,
     /// The build of the system, in UTF-16, up to the first 0.
     pub build_string: [u16; 260],
@@ -412,6 +441,7 @@ pub struct MINIDUMP_MISC_INFO_5 {
     pub dbg_bld_str: [u16; 40],
     /// The layout of the processor's extended state.
     pub xstate_data: XSTATE_CONFIG_FEATURE_MSC_INFO,
+    /// The process cookie.
     pub process_cookie: u32,
 }
 

@@ -20,10 +20,13 @@ pub struct VS_FIXEDFILEINFO {
     pub product_version_lo: u32,
     /// The bits of `file_flags` that are valid.
     pub file_flags_mask: u32,
+    /// The attributes of the file: Microsoft's `VS_FF_` numbers.
     pub file_flags: u32,
     /// The system that the file was built for.
     pub file_os: u32,
+    /// The type of the file: Microsoft's `VFT_` numbers.
     pub file_type: u32,
+    /// The function of the file, by its type: Microsoft's `VFT2_` numbers.
     pub file_subtype: u32,
     /// The high half of the file's date.
     pub file_date_hi: u32,
@@ -84,6 +87,7 @@ pub struct MINIDUMP_MODULE {
     pub cv_record: MINIDUMP_LOCATION_DESCRIPTOR,
     /// The location of its miscellaneous debug record.
     pub misc_record: MINIDUMP_LOCATION_DESCRIPTOR,
+    /// Microsoft's `Reserved0` and `Reserved1`.
     pub unused1: [u8; 16],
 }
 

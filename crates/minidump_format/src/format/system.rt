@@ -10,18 +10,27 @@ use minidump_bytes::{Endian, Record, array_at};
 pub struct MINIDUMP_SYSTEM_INFO {
     /// The architecture: [`ProcessorArchitecture`], as a number.
     pub processor_architecture: u16,
+    /// The processor level, by the architecture; on x86 the family.
     pub processor_level: u16,
+    /// The processor revision, by the architecture; on x86 the model and the stepping.
     pub processor_revision: u16,
+    /// The number of processors.
     pub number_of_processors: u8,
+    /// The kind of system: 1 workstation, 2 domain controller, 3 server.
     pub product_type: u8,
+    /// The system's major version.
     pub major_version: u32,
+    /// The system's minor version.
     pub minor_version: u32,
+    /// The system's build number.
     pub build_number: u32,
     /// The platform: [`PlatformId`], as a number.
     pub platform_id: u32,
     /// The RVA of the text of the service pack.
     pub csd_version_rva: RVA,
+    /// The product suites of the system: Microsoft's `VER_SUITE_` numbers.
     pub suite_mask: u16,
+    /// Reserved, Microsoft's `Reserved2`.
     pub reserved: u16,
     /// The CPU information: an [`X86CpuInfo`] or an [`ARMCpuInfo`], by the architecture.
     pub cpu: [u8; 24],
@@ -62,6 +71,7 @@ impl Record for MINIDUMP_SYSTEM_INFO {
 pub struct X86CpuInfo {
     /// The vendor's 12 characters, the lowest byte of each number first.
     pub vendor_id: [u32; 3],
+    /// Microsoft's `VersionInformation`, `FeatureInformation` and `AMDExtendedCpuFeatures`.
     pub unused1: [u32; 3],
 }
 
@@ -87,6 +97,7 @@ impl Record for X86CpuInfo {
 /// The ARM CPU information: cpuid and feature bits.
 #[derive(Clone, Copy, Debug, PartialEq, Eq)]
 pub struct ARMCpuInfo {
+    /// The main id register, which names the implementer and the part.
     pub cpuid: u32,
     /// The features that the kernel reports: [`ArmElfHwCaps`](super::ArmElfHwCaps), as a number.
     pub elf_hwcaps: u32,

@@ -6,10 +6,13 @@ use minidump_bytes::{Endian, Exact, Record};
 /// A thread: Microsoft's `MINIDUMP_THREAD`.
 #[derive(Clone, Copy, Debug, PartialEq, Eq)]
 pub struct MINIDUMP_THREAD {
+    /// The id of the thread.
     pub thread_id: u32,
     /// The suspend count.
     pub suspend_count: u32,
+    /// The priority class.
     pub priority_class: u32,
+    /// The priority level.
     pub priority: u32,
     /// The address of the thread environment block.
     pub teb: u64,
@@ -50,6 +53,7 @@ impl Exact for MINIDUMP_THREAD {
 /// The name of a thread: Microsoft's `MINIDUMP_THREAD_NAME`.
 #[derive(Clone, Copy, Debug, PartialEq, Eq)]
 pub struct MINIDUMP_THREAD_NAME {
+    /// The id of the thread.
     pub thread_id: u32,
     /// The RVA of the name.
     pub thread_name_rva: u64,
@@ -81,6 +85,7 @@ impl Exact for MINIDUMP_THREAD_NAME {
 /// The state of a thread: Microsoft's `MINIDUMP_THREAD_INFO`.
 #[derive(Clone, Copy, Debug, PartialEq, Eq)]
 pub struct MINIDUMP_THREAD_INFO {
+    /// The id of the thread.
     pub thread_id: u32,
     /// The state of the thread: Microsoft's `MINIDUMP_THREAD_INFO_` numbers.
     pub dump_flags: u32,

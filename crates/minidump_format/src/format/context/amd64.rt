@@ -8,44 +8,80 @@ use minidump_bytes::{Endian, Record, array_at};
 pub struct CONTEXT_AMD64 {
     /// The home space of a call's first parameter; the next five fields likewise.
     pub p1_home: u64,
+    /// The home space of a call's second parameter.
     pub p2_home: u64,
+    /// The home space of a call's third parameter.
     pub p3_home: u64,
+    /// The home space of a call's fourth parameter.
     pub p4_home: u64,
+    /// The home space of a call's fifth parameter.
     pub p5_home: u64,
+    /// The home space of a call's sixth parameter.
     pub p6_home: u64,
     /// The processor, as [`ContextFlagsCpu`](super::ContextFlagsCpu) names it, and which registers are
     /// set.
     pub context_flags: u32,
+    /// The control and status register of SSE, `mxcsr`.
     pub mx_csr: u32,
+    /// Segment register `cs`.
     pub cs: u16,
+    /// Segment register `ds`.
     pub ds: u16,
+    /// Segment register `es`.
     pub es: u16,
+    /// Segment register `fs`.
     pub fs: u16,
+    /// Segment register `gs`.
     pub gs: u16,
+    /// Segment register `ss`.
     pub ss: u16,
+    /// The flags register `eflags`.
     pub eflags: u32,
+    /// Debug register `dr0`.
     pub dr0: u64,
+    /// Debug register `dr1`.
     pub dr1: u64,
+    /// Debug register `dr2`.
     pub dr2: u64,
+    /// Debug register `dr3`.
     pub dr3: u64,
+    /// Debug register `dr6`.
     pub dr6: u64,
+    /// Debug register `dr7`.
     pub dr7: u64,
+    /// General register `rax`.
     pub rax: u64,
+    /// General register `rcx`.
     pub rcx: u64,
+    /// General register `rdx`.
     pub rdx: u64,
+    /// General register `rbx`.
     pub rbx: u64,
+    /// The stack pointer `rsp`.
     pub rsp: u64,
+    /// General register `rbp`.
     pub rbp: u64,
+    /// General register `rsi`.
     pub rsi: u64,
+    /// General register `rdi`.
     pub rdi: u64,
+    /// General register `r8`.
     pub r8: u64,
+    /// General register `r9`.
     pub r9: u64,
+    /// General register `r10`.
     pub r10: u64,
+    /// General register `r11`.
     pub r11: u64,
+    /// General register `r12`.
     pub r12: u64,
+    /// General register `r13`.
     pub r13: u64,
+    /// General register `r14`.
     pub r14: u64,
+    /// General register `r15`.
     pub r15: u64,
+    /// The instruction pointer `rip`.
     pub rip: u64,
     /// The x87 and SSE registers, as `FXSAVE` writes them.
     pub unused1: [u8; 512],

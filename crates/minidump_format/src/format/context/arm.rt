@@ -9,6 +9,7 @@ pub struct FLOATING_SAVE_AREA_ARM {
     pub fpscr: u64,
     /// The registers d0 to d31.
     pub regs: [u64; 32],
+    /// Eight further words, Breakpad's `extra`.
     pub extra: [u32; 8],
 }
 
@@ -41,7 +42,9 @@ pub struct CONTEXT_ARM {
     /// The registers r0 to r15; r11 is the frame pointer, r13 the stack pointer, r14 the link
     /// register, r15 the instruction pointer.
     pub iregs: [u32; 16],
+    /// The program status register `cpsr`.
     pub cpsr: u32,
+    /// The floating-point registers.
     pub float_save: FLOATING_SAVE_AREA_ARM,
 }
 

@@ -9,14 +9,19 @@ pub struct CONTEXT_ARM64 {
     /// The processor, as [`ContextFlagsCpu`](super::ContextFlagsCpu) names it, and which registers are
     /// set.
     pub context_flags: u32,
+    /// The program status register `cpsr`.
     pub cpsr: u32,
     /// The registers x0 to x30; x29 is the frame pointer, x30 the link register.
     pub iregs: [u64; 31],
+    /// The stack pointer `sp`.
     pub sp: u64,
+    /// The instruction pointer `pc`.
     pub pc: u64,
     /// The registers v0 to v31.
     pub float_regs: [u128; 32],
+    /// The floating-point control register `fpcr`.
     pub fpcr: u32,
+    /// The floating-point status register `fpsr`.
     pub fpsr: u32,
     /// The control registers of the breakpoints.
     pub bcr: [u32; 8],
@@ -65,10 +70,15 @@ pub struct CONTEXT_ARM64_OLD {
     pub context_flags: u64,
     /// The registers x0 to x30; x29 is the frame pointer, x30 the link register.
     pub iregs: [u64; 31],
+    /// The stack pointer `sp`.
     pub sp: u64,
+    /// The instruction pointer `pc`.
     pub pc: u64,
+    /// The program status register `cpsr`.
     pub cpsr: u32,
+    /// The floating-point status register `fpsr`.
     pub fpsr: u32,
+    /// The floating-point control register `fpcr`.
     pub fpcr: u32,
     /// The registers v0 to v31.
     pub float_regs: [u128; 32],

@@ -5,15 +5,23 @@ use minidump_bytes::{Endian, Record, array_at};
 /// The floating-point state of an x86 processor: Microsoft's `FLOATING_SAVE_AREA`.
 #[derive(Clone, Copy, Debug)]
 pub struct FLOATING_SAVE_AREA_X86 {
+    /// The x87 control word.
     pub control_word: u32,
+    /// The x87 status word.
     pub status_word: u32,
+    /// The x87 tag word: which registers are in use.
     pub tag_word: u32,
+    /// The offset of the last x87 instruction.
     pub error_offset: u32,
+    /// The segment selector of the last x87 instruction.
     pub error_selector: u32,
+    /// The offset of its operand in memory.
     pub data_offset: u32,
+    /// The segment selector of its operand in memory.
     pub data_selector: u32,
     /// The eight x87 registers, ten bytes each.
     pub register_area: [u8; 80],
+    /// The control register `cr0`, as it was for the x87.
     pub cr0_npx_state: u32,
 }
 
@@ -50,29 +58,51 @@ pub struct CONTEXT_X86 {
     /// The processor, as [`ContextFlagsCpu`](super::ContextFlagsCpu) names it, and which registers are
     /// set.
     pub context_flags: u32,
+    /// Debug register `dr0`.
     pub dr0: u32,
+    /// Debug register `dr1`.
     pub dr1: u32,
+    /// Debug register `dr2`.
     pub dr2: u32,
+    /// Debug register `dr3`.
     pub dr3: u32,
+    /// Debug register `dr6`.
     pub dr6: u32,
+    /// Debug register `dr7`.
     pub dr7: u32,
     /// The x87 registers.
     pub float_save: FLOATING_SAVE_AREA_X86,
+    /// Segment register `gs`.
     pub gs: u32,
+    /// Segment register `fs`.
     pub fs: u32,
+    /// Segment register `es`.
     pub es: u32,
+    /// Segment register `ds`.
     pub ds: u32,
+    /// General register `edi`.
     pub edi: u32,
+    /// General register `esi`.
     pub esi: u32,
+    /// General register `ebx`.
     pub ebx: u32,
+    /// General register `edx`.
     pub edx: u32,
+    /// General register `ecx`.
     pub ecx: u32,
+    /// General register `eax`.
     pub eax: u32,
+    /// General register `ebp`.
     pub ebp: u32,
+    /// The instruction pointer `eip`.
     pub eip: u32,
+    /// Segment register `cs`.
     pub cs: u32,
+    /// The flags register `eflags`.
     pub eflags: u32,
+    /// The stack pointer `esp`.
     pub esp: u32,
+    /// Segment register `ss`.
     pub ss: u32,
     /// The x87 and SSE registers, as `FXSAVE` writes them.
     pub extended_registers: [u8; 512],
