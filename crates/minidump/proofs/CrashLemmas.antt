@@ -4,13 +4,13 @@ use Rattle.std.proofs.Common.{refl, sym, ◌∙◌, ap, cond}
 use Rattle.std.proofs.lemmas.List.{reverse-append}
 use Rattle.std.specs.Option.{option_and_then, option_map, option_or}
 use Rattle.std.proofs.lemmas.List.Folds.{find-append}
-use Rattle.minidump_index.proofs.LookedUp.{is_looked_up}
 use Rattle.minidump_format.specs.declared.error.Error.{Error}
 use Rattle.minidump_memory.specs.Memory.{region_range}
 use Rattle.minidump_memory.specs.Unified.{UnifiedRegions, unified_regions}
 use Rattle.minidump_reason.specs.declared.reason.CrashReason.{CrashReason}
 use Rattle.minidump_reason.specs.Names.{Lists}
 use Rattle.minidump_system.specs.declared.cpu.Cpu.{Cpu}
+use Rattle.minidump.proofs.LookedUpLemmas.{is_looked_up}
 use Rattle.minidump.specs.Crash.{error_in, last_with}
 use Rattle.minidump.specs.Thread.{IsErrorIn, Thread, error_at, last_error_address}
 

@@ -1,7 +1,9 @@
 -- The lemmas of this crate.
 pub mod DirectoryLemmas
+pub mod EntryLemmas
 pub mod LawsLemmas
 pub mod ListRules
+pub mod LookedUpLemmas
 pub mod PlacedLemmas
 pub mod StackLemmas
 pub mod ThreadLemmas

@@ -4,7 +4,6 @@ use Rattle.std.specs.List.{concat}
 use Rattle.std.specs.Option.{option_and_then}
 use Rattle.std.specs.Result.{result_ok}
 use Rattle.minidump_bytes.specs.Piece.{hex}
-use Rattle.minidump_index.proofs.LookedUp.{looked_up}
 use Rattle.minidump_memory.specs.Memory.{region_range}
 use Rattle.minidump_memory.specs.Unified.{UnifiedRegions, unified_regions}
 use Rattle.minidump_reason.specs.declared.reason.CrashReason.{CrashReason}
@@ -15,6 +14,7 @@ use Rattle.minidump_system.specs.declared.cpu.Cpu.{Cpu}
 use Rattle.minidump_system.specs.System.{System}
 use Rattle.minidump.specs.Dump.{Dump, dump_system, stream_of}
 use Rattle.minidump.specs.Exception.{Exception, crash_address}
+use Rattle.minidump.specs.LookedUp.{looked_up}
 use Rattle.minidump.specs.Memory.{memories_of_dump}
 use Rattle.minidump.specs.Promise.{exception_stream, thread_list_stream}
 use Rattle.minidump.specs.Thread.{Thread, error_at, last_error_address}

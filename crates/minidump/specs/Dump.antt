@@ -1,10 +1,10 @@
 -- A minidump without its addresses in memory: which files are one, and what their streams are.
-use Rattle.std.specs.Prelude.{ℕ, ◌+◌, ◌^◌, ◌<◌, List, Option, Some, None, Result, Ok, Err, IsOkAnd, if◌then◌else◌}
+use Rattle.std.specs.Prelude.{◌≡◌, ◌⊎◌, ℕ, ◌+◌, ◌^◌, ◌<◌, List, Option, Some, None, Result, Ok, Err, IsOkAnd, if◌then◌else◌}
 use Rattle.std.specs.Option.{option_map}
 use Rattle.std.specs.Result.{result_ok}
 use Rattle.minidump_bytes.specs.declared.endian.Endian.{Endian}
 use Rattle.minidump_format.specs.declared.error.Error.{Error}
-use Rattle.minidump_format.specs.declared.error.Error.TheVariants.{MissingDirectory, StreamNotFound, StreamReadFailure}
+use Rattle.minidump_format.specs.declared.error.Error.TheVariants.{MissingDirectory, OutOfMemory, StreamNotFound, StreamReadFailure}
 use Rattle.minidump_format.specs.declared.format.header.MINIDUMP_HEADER.{MINIDUMP_HEADER}
 use Rattle.minidump_format.specs.declared.format.stream_type.MINIDUMP_STREAM_TYPE.TheVariants.{SystemInfoStream}
 use Rattle.minidump_format.specs.Header.{located}
@@ -34,6 +34,14 @@ dump_in file = with_header file (header_of file)
 -- a file is a minidump whose directory has entries, which take memory
 abbrev pub HasEntries : List ℕ → Type 0
 HasEntries file = IsOkAnd (dump_in file) (λ d. 0 < d.header.stream_count)
+
+-- an error over a file: the file is no minidump and this is why, or memory ran out where it may
+abbrev pub IsRefusedWith : Type 0 → List ℕ → Error → Type 0
+IsRefusedWith memory file e = (dump_in file ≡ Err e) ⊎ ((e ≡ OutOfMemory) × memory)
+
+-- the same where memory may run out only at a directory with entries
+abbrev pub IsRefused : List ℕ → Error → Type 0
+IsRefused file e = IsRefusedWith (HasEntries file) file e
 
 -- the entries that decide a type of stream, ascending by type
 abbrev pub streams_of : Dump → List DecidingEntry

@@ -15,7 +15,7 @@ use Rattle.minidump_format.specs.declared.format.exception.MINIDUMP_EXCEPTION_ST
 use Rattle.minidump_format.specs.Exception.{exception_layout}
 use Rattle.minidump_format.specs.declared.format.header.MINIDUMP_LOCATION_DESCRIPTOR.{MINIDUMP_LOCATION_DESCRIPTOR}
 use Rattle.minidump_format.specs.Header.{located}
-use Rattle.minidump_system.specs.StreamSpec.{StreamSpec, linear}
+use Rattle.minidump_system.specs.StreamSpec.{StreamSpec}
 use Rattle.minidump_system.specs.declared.cpu.Cpu.{Cpu}
 use Rattle.minidump_system.specs.declared.cpu.PointerWidth.{PointerWidth}
 use Rattle.minidump_system.specs.declared.cpu.PointerWidth.TheVariants.{Bits32}
@@ -70,7 +70,7 @@ exception_stream = record {
   stream_type = ExceptionStream;
   value = exception_of;
   meaning = λ order file bytes system. exception_in order file bytes;
-  most = linear;
+  most = λ n. 2;
   fewest = λ order bytes exception. 2;
   memory = λ order bytes. ⊥;
 }

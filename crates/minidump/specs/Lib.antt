@@ -9,6 +9,7 @@ pub mod Text
 pub mod File
 pub mod Promise
 pub mod Memory
+pub mod LookedUp
 pub mod Thread
 pub mod ThreadText
 pub mod Exception

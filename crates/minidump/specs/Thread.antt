@@ -20,7 +20,7 @@ use Rattle.minidump_system.specs.Cpu.{pointer_bytes, width_of}
 use Rattle.minidump_system.specs.Framing.{plain_list}
 use Rattle.minidump_system.specs.Reads.{and_then}
 use Rattle.minidump_context.specs.declared.raw_context.MinidumpRawContext.{MinidumpRawContext}
-use Rattle.minidump_context.specs.Context.{context_in}
+use Rattle.minidump_context.specs.Context.{context_in, registers_of, value_in}
 use Rattle.minidump_memory.specs.Memory.{MemoryRegion, described, memory_of, number_in, region_range, spans_read}
 use Rattle.minidump_memory.specs.Unified.{Memory, UnifiedRegion, UnifiedRegions, of_kind, unified_regions}
 use Rattle.minidump_reason.specs.declared.reason.CrashReason.{CrashReason}
@@ -36,6 +36,10 @@ accepted_context architecture order bytes = option_and_then (λ b. result_ok (co
 -- the context that bytes hold on the machine of a dump: none where that is unknown
 abbrev pub known_context : Option System → Endian → Option (List ℕ) → Option MinidumpRawContext
 known_context system order bytes = option_and_then (λ s. accepted_context s.raw.processor_architecture order bytes) system
+
+-- the instruction pointer of a context
+abbrev pub instruction_of : Option MinidumpRawContext → Option ℕ
+instruction_of context = option_and_then (λ c. value_in (registers_of c) (registers_of c).instruction_pointer) context
 
 -- a thread: its entry, the bytes of its context, its own stack, and their byte order
 pub record Thread : Type 0 where

@@ -8,7 +8,6 @@ use Rattle.minidump_bytes.specs.Number.{number_at}
 use Rattle.minidump_bytes.specs.Piece.{hex, wide_hex}
 use Rattle.minidump_format.specs.declared.format.memory.MINIDUMP_MEMORY_DESCRIPTOR.{MINIDUMP_MEMORY_DESCRIPTOR}
 use Rattle.minidump_format.specs.declared.format.thread.MINIDUMP_THREAD.{MINIDUMP_THREAD}
-use Rattle.minidump_index.proofs.LookedUp.{looked_up}
 use Rattle.minidump_system.specs.Cpu.{width_of}
 use Rattle.minidump_system.specs.declared.cpu.PointerWidth.{PointerWidth}
 use Rattle.minidump_system.specs.declared.cpu.PointerWidth.TheVariants.{Bits32, Bits64, Unknown}
@@ -17,6 +16,7 @@ use Rattle.minidump_context.specs.declared.raw_context.MinidumpRawContext.{Minid
 use Rattle.minidump_context.specs.Text.{context_text}
 use Rattle.minidump_memory.specs.Memory.{MemoryRegion, region_range}
 use Rattle.minidump_memory.specs.Unified.{Memory, UnifiedRegion, UnifiedRegions, of_kind, unified_regions}
+use Rattle.minidump.specs.LookedUp.{looked_up}
 use Rattle.minidump.specs.Thread.{Thread, known_context}
 
 -- MINIDUMP_THREAD: the numbers of the entry

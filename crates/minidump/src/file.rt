@@ -10,8 +10,10 @@ use std::fs;
 use std::io::Read;
 use std::rt::Files;
 
-/// Empties `into`, and reads into it up to the end of the reader, 64 KiB a call at most. Returns `IoError` if
-/// a read fails and `OutOfMemory`, both of which leave `into` empty.
+/// Empties `into`, and reads into it up to the end of the reader, 64 KiB a call at most.
+///
+/// Returns `IoError` if a read fails, and `OutOfMemory` if an allocation fails. Either leaves `into` empty. A
+/// reader that had failed stays as it was: `IoError`.
 pub fn read_all<R: Read>(reader: &mut Told<R>, into: &mut Vec<u8>) -> Result<(), Error>
     ensures all { OnOk result (IsWhole R.remaining (device_of reader.old) into.new.items) }
     ensures alive { OnOk result (has_failed reader.new ≡ false) }

@@ -1,7 +1,7 @@
 //! Laws of the directory, of the streams and of lists of regions, over the definitions that the contracts of
 //! this crate name. Each is a call that does nothing; its contract says what holds. Those of reading are in
 //! `reading`, those of the records of the format in `records`.
-ghost use Rattle.std.specs.Prelude.{◌≡◌, ◌≢◌, ◌↔◌, ◌<◌, ◌^◌, ◌+◌, ℕ, ◌++◌, ◌∷◌, All, Contains, List, length, map, Option, Some};
+ghost use Rattle.std.specs.Prelude.{◌≡◌, ◌≢◌, ◌↔◌, ◌<◌, ◌^◌, ◌+◌, ℕ, ◌++◌, ◌∷◌, All, Contains, IsOk, IsSome, List, length, map, Option, Some};
 ghost use Rattle.std.specs.List.Sorted.{IsStrictlyIncreasing};
 ghost use Rattle.std.specs.Result.{result_ok};
 ghost use Rattle.minidump_format.specs.declared.format.header.MINIDUMP_DIRECTORY.{MINIDUMP_DIRECTORY};
@@ -10,13 +10,15 @@ ghost use Rattle.minidump_format.specs.Header.{located};
 ghost use Rattle.minidump_format.specs.declared.format.memory.MINIDUMP_MEMORY_DESCRIPTOR.{MINIDUMP_MEMORY_DESCRIPTOR};
 ghost use Rattle.minidump_format.specs.declared.format.memory.MINIDUMP_MEMORY_DESCRIPTOR64.{MINIDUMP_MEMORY_DESCRIPTOR64};
 ghost use Rattle.minidump_format.specs.declared.format.thread.MINIDUMP_THREAD_INFO.{MINIDUMP_THREAD_INFO};
-ghost use Rattle.minidump_index.proofs.LookedUp.{looked_up};
 ghost use Rattle.minidump_index.specs.Lookup.{IsLookedUp};
 ghost use Rattle.minidump_system.specs.Cpu.{cpu_name};
 ghost use Rattle.minidump_system.specs.Os.{os_name};
 ghost use Rattle.minidump_system.specs.StreamSpec.{IsSame};
+ghost use Rattle.minidump_memory.specs.declared.linux_maps.MinidumpLinuxMaps.{MinidumpLinuxMaps};
 ghost use Rattle.minidump_memory.specs.declared.memory_list.MinidumpMemoryListBase.{MinidumpMemoryListBase};
 ghost use Rattle.minidump_memory.specs.declared.memory_info.MinidumpMemoryInfoList.{MinidumpMemoryInfoList};
+ghost use Rattle.minidump_memory.specs.LinuxMaps.{map_info_of, maps_of};
+ghost use Rattle.minidump_memory.specs.MapLine.{MapRegion};
 ghost use Rattle.minidump_memory.specs.Memory.{MemoryRegion, memory_of, region_range};
 ghost use Rattle.minidump_memory.specs.MemoryInfo.{MemoryInfo, info_of, infos_of};
 ghost use Rattle.minidump_memory.specs.MemoryList.{regions_of};
@@ -29,12 +31,16 @@ ghost use Rattle.minidump_modules.specs.Module.{ModuleValue, module_of};
 ghost use Rattle.minidump_modules.specs.ModuleList.{modules_of};
 ghost use Rattle.minidump_modules.specs.UnloadedModule.{UnloadedValue, unloaded_of};
 ghost use Rattle.minidump_records.specs.declared.handles.data_stream.MinidumpHandleDataStream.{MinidumpHandleDataStream};
+ghost use Rattle.minidump_records.specs.declared.mac_crash_info.MinidumpMacCrashInfo.{MinidumpMacCrashInfo};
 ghost use Rattle.minidump_records.specs.declared.thread_info.MinidumpThreadInfoList.{MinidumpThreadInfoList};
 ghost use Rattle.minidump_records.specs.Handles.{Handle, handle_of};
 ghost use Rattle.minidump_records.specs.Handles.ObjectChain.{information_text};
+ghost use Rattle.minidump_records.specs.MacCrashInfo.Record.{MacRecord, mac_record_of};
 ghost use Rattle.minidump.specs.declared.directory.DecidingEntry.{DecidingEntry};
 ghost use Rattle.minidump.specs.Directory.{deciding, deciding_below, directory};
-ghost use Rattle.minidump.specs.Dump.{Dump, raw_stream, spanned, stream_of, streams_of, dump_system};
+ghost use Rattle.minidump.specs.Dump.{Dump, raw_stream, spanned, stream_memory, stream_of, streams_of, dump_system};
+ghost use Rattle.minidump.specs.LookedUp.{looked_up};
+ghost use Rattle.minidump.specs.Memory.{TakesMemory, memories_of_dump};
 ghost use Rattle.minidump.specs.Promise.{assertion_stream, breakpad_info_stream, crashpad_info_stream, exception_stream, handle_data_stream, linux_cpu_info_stream, linux_environ_stream, linux_lsb_release_stream, linux_maps_stream, linux_proc_limits_stream, linux_proc_status_stream, mac_bootargs_stream, mac_crash_info_stream, memory64_list_stream, memory_info_list_stream, memory_list_stream, misc_info_stream, module_list_stream, soft_errors_stream, stability_report_stream, system_info_stream, thread_info_list_stream, thread_list_stream, thread_names_stream, unloaded_module_list_stream};
 ghost use Rattle.minidump.specs.Streams.{unimplemented_of, unknown_of};
 ghost use Rattle.minidump.specs.Thread.{IsLastThread, Thread, thread_of};
@@ -128,6 +134,20 @@ pub fn listed_streams_decide()
         → deciding stream_type (directory d.order d.file d.header) ≡ Some s → Contains (streams_of d) s }
 {}
 
+/// A directory in which the bytes of a stream, or a stream of type `S`, are found has an entry. So it has where reading
+/// that stream may run out of memory.
+pub fn a_found_stream_has_an_entry<'a, S: MinidumpStream<'a>>()
+    ensures bytes { (d : Dump) (stream_type : ℕ) → IsOk (raw_stream stream_type d) → 0 < d.header.stream_count }
+    ensures found { (d : Dump) → IsOk (stream_of S.spec d) → 0 < d.header.stream_count }
+    ensures memory { (d : Dump) → stream_memory S.spec d → 0 < d.header.stream_count }
+{}
+
+/// A directory of a dump whose memory is found, or where reading it may run out of memory, has an entry.
+pub fn found_memory_has_an_entry()
+    ensures found { (d : Dump) → IsSome (memories_of_dump d) → 0 < d.header.stream_count }
+    ensures memory { (d : Dump) → TakesMemory d → 0 < d.header.stream_count }
+{}
+
 /// Exactly one thread, or none, is the last of an id: it has the id, and no later thread has.
 pub fn one_last_thread()
     ensures one { (id : ℕ) (threads : List Thread) (last other : Option Thread)
@@ -205,6 +225,10 @@ pub fn clones_are_the_same()
 pub fn values_are_those_of_the_entries<T>()
     ensures handles { (list : MinidumpHandleDataStream) (f : Handle → T)
         → map f (handle_data_stream.value list) ≡ map (λ h. f (handle_of h)) list.handles.items }
+    ensures mac_records { (list : MinidumpMacCrashInfo) (f : MacRecord → T)
+        → map f (mac_crash_info_stream.value list) ≡ map (λ r. f (mac_record_of r)) list.raw.items }
+    ensures maps { (list : MinidumpLinuxMaps) (f : MapRegion → T)
+        → map f (linux_maps_stream.value list) ≡ map (λ m. f (map_info_of m)) (maps_of list) }
     ensures memory { (list : MinidumpMemoryListBase MINIDUMP_MEMORY_DESCRIPTOR) (f : MemoryRegion MINIDUMP_MEMORY_DESCRIPTOR → T)
         → map f (memory_list_stream.value list) ≡ map (λ m. f (memory_of m)) (regions_of list) }
     ensures memory64 { (list : MinidumpMemoryListBase MINIDUMP_MEMORY_DESCRIPTOR64) (f : MemoryRegion MINIDUMP_MEMORY_DESCRIPTOR64 → T)

@@ -10,9 +10,10 @@ use minidump_format::format::{
 use minidump_format::stream_vendor;
 use std::slice;
 
-/// A stream whose type this crate reads.
+/// A stream whose type this crate reads. No call returns one.
 #[derive(Drop)]
 pub struct MinidumpImplementedStream {
+    /// The type.
     pub stream_type: MINIDUMP_STREAM_TYPE,
     /// The location of its bytes.
     pub location: MINIDUMP_LOCATION_DESCRIPTOR,
@@ -34,6 +35,7 @@ pub struct MinidumpUnknownStream {
 /// A stream whose type has a name, but is never read.
 #[derive(Clone, Debug, Drop)]
 pub struct MinidumpUnimplementedStream {
+    /// The type.
     pub stream_type: MINIDUMP_STREAM_TYPE,
     /// The location of its bytes.
     pub location: MINIDUMP_LOCATION_DESCRIPTOR,

@@ -98,11 +98,11 @@ impl<'a> MinidumpThread<'a> {
         }
     }
 
-    /// Returns the last error of the thread on Windows: the number at `LastErrorValue` of its thread
-    /// environment block, in the kept region of `memory` that contains the address of that field. Returns
-    /// `None` if the width of a pointer is unknown, the address is 2^64 or more, no kept region contains
-    /// it, or the region doesn't hold all four bytes. The thread's own stack is not looked at. Takes no
-    /// memory.
+    /// Returns the last error of the thread as Windows keeps it, whatever the system of the dump: the
+    /// number at `LastErrorValue` of its thread environment block, in the kept region of `memory` that
+    /// contains the address of that field. Returns `None` if the width of a pointer is unknown, the
+    /// address is 2^64 or more, no kept region contains it, or the region doesn't hold all four bytes.
+    /// The thread's own stack is not looked at. Takes no memory.
     pub fn last_error(
         &self,
         cpu: Cpu,

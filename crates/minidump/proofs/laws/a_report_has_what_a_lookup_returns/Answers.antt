@@ -1,6 +1,6 @@
 -- The lemma on the one answer of a lookup.
-use Rattle.minidump_index.proofs.LookedUp.{answers_alone}
 use Rattle.minidump_memory.specs.Memory.{region_range}
+use Rattle.minidump.proofs.LookedUpLemmas.{answers_alone}
 use Rattle.minidump.proofs.laws.a_report_has_what_a_lookup_returns.Goals as goal
 
 pub returns : goal.returns

@@ -1,6 +1,6 @@
 -- What the list answers is the one answer of a lookup.
-use Rattle.minidump_index.proofs.LookedUp.{is_looked_up}
 use Rattle.minidump_memory.specs.Memory.{region_range}
+use Rattle.minidump.proofs.LookedUpLemmas.{is_looked_up}
 use Rattle.minidump.proofs.thread.print.listed_stack.Goals as goal
 
 pub returns-in-Some : goal.returns-in-Some

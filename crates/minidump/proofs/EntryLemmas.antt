@@ -1,0 +1,67 @@
+-- A directory in which a stream is found has an entry.
+use Rattle.std.proofs.Common.{◌≡◌, ℕ, ◌<◌, List, Some, None, length, refl, inl, inr}
+use Rattle.std.proofs.lemmas.Bool.{false≢true}
+use Rattle.std.specs.Prelude.{Option, Result, Ok, Err, IsOk, IsSome}
+use Rattle.minidump_bytes.proofs.EntryLemmas.{length-entries}
+use Rattle.minidump_format.specs.declared.error.Error.{Error}
+use Rattle.minidump_format.specs.declared.format.memory.MINIDUMP_MEMORY_DESCRIPTOR.{MINIDUMP_MEMORY_DESCRIPTOR}
+use Rattle.minidump_format.specs.declared.format.memory.MINIDUMP_MEMORY_DESCRIPTOR64.{MINIDUMP_MEMORY_DESCRIPTOR64}
+use Rattle.minidump_format.specs.Header.{directory_entry}
+use Rattle.minidump_format.specs.StreamType.{number_of}
+use Rattle.minidump_system.specs.StreamSpec.{StreamSpec}
+use Rattle.minidump_memory.specs.Memory.{MemoryRegion}
+use Rattle.minidump.specs.declared.directory.DecidingEntry.{DecidingEntry}
+use Rattle.minidump.specs.Directory.{deciding, directory}
+use Rattle.minidump.specs.Dump.{Dump, raw_stream, stream_memory, stream_of}
+use Rattle.minidump.specs.Memory.{TakesMemory, memories_of_dump}
+use Rattle.minidump.specs.Promise.{memory64_list_stream, memory_list_stream}
+use Rattle.minidump.proofs.DirectoryLemmas.{deciding-among_some}
+
+-- where the bytes of a stream are found
+pub bytes_have_entry : (d : Dump) (stream_type : ℕ) → IsOk (raw_stream stream_type d) → 0 < d.header.stream_count
+bytes_have_entry d stream_type found = by_entry (deciding stream_type (directory d.order d.file d.header)) refl found
+  where
+    by_entry : (o : Option DecidingEntry) → deciding stream_type (directory d.order d.file d.header) ≡ o → IsOk (raw_stream stream_type d)
+        → 0 < d.header.stream_count
+    by_entry (Some entry) is k =
+        let some : 0 < length (directory d.order d.file d.header) = deciding-among_some stream_type (directory d.order d.file d.header) entry is in
+        rw (length-entries directory_entry d.order d.file d.header.stream_directory_rva d.header.stream_count) at some
+    by_entry None is k = absurd (false≢true (rw is at k))
+
+module _ {S V : Type 0} (spec : StreamSpec S V) (d : Dump) where
+  -- where its value is found, its bytes are
+  by_value : (r : Result (List ℕ) Error) → raw_stream (number_of spec.stream_type) d ≡ r → IsOk (stream_of spec d)
+      → IsOk (raw_stream (number_of spec.stream_type) d)
+  by_value (Ok bytes) is k = rw is refl
+  by_value (Err e) is k = absurd (false≢true (rw is at k))
+
+  pub stream_has_entry : IsOk (stream_of spec d) → 0 < d.header.stream_count
+  stream_has_entry found =
+      bytes_have_entry d (number_of spec.stream_type) (by_value (raw_stream (number_of spec.stream_type) d) refl found)
+
+  -- where it takes memory, its bytes are found
+  by_memory : (r : Result (List ℕ) Error) → raw_stream (number_of spec.stream_type) d ≡ r → stream_memory spec d
+      → IsOk (raw_stream (number_of spec.stream_type) d)
+  by_memory (Ok bytes) is k = rw is refl
+  by_memory (Err e) is k = absurd (rw is at k)
+
+  pub memory_has_entry : stream_memory spec d → 0 < d.header.stream_count
+  memory_has_entry takes =
+      bytes_have_entry d (number_of spec.stream_type) (by_memory (raw_stream (number_of spec.stream_type) d) refl takes)
+
+-- the same of the memory of a dump, by either list
+pub regions_take_entry : (d : Dump) → TakesMemory d → 0 < d.header.stream_count
+regions_take_entry d takes = elim takes [
+  | inl long ↦ memory_has_entry memory64_list_stream d long
+  | inr plain ↦ memory_has_entry memory_list_stream d plain.1
+]
+
+pub regions_have_entry : (d : Dump) → IsSome (memories_of_dump d) → 0 < d.header.stream_count
+regions_have_entry d some = by_lists (stream_of memory64_list_stream d) (stream_of memory_list_stream d) refl refl some
+  where
+    by_lists : (long : Result (List (MemoryRegion MINIDUMP_MEMORY_DESCRIPTOR64)) Error) (plain : Result (List (MemoryRegion MINIDUMP_MEMORY_DESCRIPTOR)) Error)
+        → stream_of memory64_list_stream d ≡ long → stream_of memory_list_stream d ≡ plain
+        → IsSome (memories_of_dump d) → 0 < d.header.stream_count
+    by_lists (Ok l) plain is_long is_plain k = stream_has_entry memory64_list_stream d (rw is_long refl)
+    by_lists (Err e) (Ok p) is_long is_plain k = stream_has_entry memory_list_stream d (rw is_plain refl)
+    by_lists (Err e) (Err f) is_long is_plain k = absurd (false≢true (rw (is_long, is_plain) at k))
