@@ -85,7 +85,7 @@ module _ (module_laws : (modules : List ModuleValue) → HasRegionLaws value_ran
       → (names : Lists) (d : Dump) (e : Exception) → (summary : Summary) × IsSummary names d e summary
   a_summary a_last names d e =
       let thread = a_last e.thread_id (threads_in d) in
-      let loaded = a_module (modules_in d) (crash_pointer (dump_system d) e thread.0) in
+      let loaded = a_module (modules_in d) (crash_pointer (dump_system d) (Some e) thread.0) in
       let stack = a_stack (memory_in d) thread.0 in (
         record {
           thread = e.thread_id;

@@ -4,7 +4,6 @@ use Rattle.std.specs.Option.{option_and_then, option_map, option_or}
 use Rattle.std.specs.Result.{result_ok}
 use Rattle.minidump.specs.declared.Error.{Error}
 use Rattle.minidump.specs.declared.MinidumpRawContext.{MinidumpRawContext}
-use Rattle.minidump.specs.Below.Contexts.Context.{registers_of, value_in}
 use Rattle.minidump.specs.Below.Index.Lookup.{IsLookedUp}
 use Rattle.minidump.specs.Below.MemoryLists.Unified.{Memory, UnifiedRegion, UnifiedRegions}
 use Rattle.minidump.specs.Below.Modules.Module.{ModuleValue, value_range}
@@ -18,7 +17,7 @@ use Rattle.minidump.specs.Dump.{Dump, HasEntries, dump_in, dump_system, stream_o
 use Rattle.minidump.specs.Exception.{Exception, crash_address}
 use Rattle.minidump.specs.Memory.{memories_of_dump}
 use Rattle.minidump.specs.Promise.{exception_stream, module_list_stream, thread_list_stream}
-use Rattle.minidump.specs.Thread.{IsLastThread, IsStack, Thread, accepted_context}
+use Rattle.minidump.specs.Thread.{IsLastThread, IsStack, Thread, instruction_of, known_context}
 use Rattle.crash_summary.specs.declared.CrashSummary.{CrashSummary}
 use Rattle.crash_summary.specs.declared.ModuleHit.{ModuleHit}
 use Rattle.crash_summary.specs.declared.StackHit.{StackHit}
@@ -79,20 +78,16 @@ address_in system e = option_map (λ s. crash_address s.os s.cpu e.raw.exception
 abbrev pub reason_in : Lists → Option System → Exception → Option (List ℕ)
 reason_in names system e = option_map (λ s. reason_text names (crash_reason names s.os s.cpu e.raw.exception_record)) system
 
--- the context of a crash: the exception's, where it is accepted, else the thread's. There is none without system information
-abbrev pub thread_context : ℕ → Option Thread → Option MinidumpRawContext
-thread_context architecture thread = option_and_then (λ t. accepted_context architecture t.order t.context) thread
-
--- the registers at the crash
-abbrev pub crash_context : Option System → Exception → Option Thread → Option MinidumpRawContext
-crash_context system e thread = option_and_then (λ s. option_or
-    (accepted_context s.raw.processor_architecture e.order e.context)
-    (thread_context s.raw.processor_architecture thread)) system
+-- the context of a thread: the exception's, where there is one and it is accepted, else the thread's own. There is none without system
+-- information
+abbrev pub crash_context : Option System → Option Exception → Option Thread → Option MinidumpRawContext
+crash_context system exception thread = option_or
+    (option_and_then (λ e. known_context system e.order e.context) exception)
+    (option_and_then (λ t. known_context system t.order t.context) thread)
 
 -- the instruction pointer of that context
-abbrev pub crash_pointer : Option System → Exception → Option Thread → Option ℕ
-crash_pointer system e thread =
-    option_and_then (λ raw. value_in (registers_of raw) (registers_of raw).instruction_pointer) (crash_context system e thread)
+abbrev pub crash_pointer : Option System → Option Exception → Option Thread → Option ℕ
+crash_pointer system exception thread = instruction_of (crash_context system exception thread)
 
 -- the module that has an address
 abbrev pub loaded_at : ModuleValue → Loaded
@@ -123,7 +118,7 @@ pub record IsSummary (names : Lists) (d : Dump) (e : Exception) (s : Summary) : 
   pub reason : s.reason ≡ reason_in names (dump_system d) e
   pub crashed : Option Thread
   pub last : IsLastThread e.thread_id (threads_in d) crashed
-  pub loaded : IsModuleAt (modules_in d) (crash_pointer (dump_system d) e crashed) s.loaded
+  pub loaded : IsModuleAt (modules_in d) (crash_pointer (dump_system d) (Some e) crashed) s.loaded
   pub stack : IsStackOf (memory_in d) crashed s.stack
 
 -- the dump that a file is, with its exception; or the error of the dump, or that of the exception's stream
@@ -134,6 +129,6 @@ crash_in file = and_then (dump_in file) (λ d. and_then (stream_of exception_str
 abbrev pub IsSummaryOf : List ℕ → Lists → Summary → Type 0
 IsSummaryOf file names s = (d : Dump) × (e : Exception) × (crash_in file ≡ Ok (d, e)) × IsSummary names d e s
 
--- where memory may run out: at a directory with entries, and behind the exception
+-- where memory may run out: at a directory with entries, as that of each file with a crash is
 abbrev pub TakesMemory : List ℕ → Type 0
 TakesMemory file = HasEntries file ⊎ IsOk (crash_in file)

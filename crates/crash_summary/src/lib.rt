@@ -8,7 +8,7 @@
 //! # What is proved
 //!
 //! The summary is the one that the format assigns to the bytes and the names: [`summarise`], by `IsSummaryOf`; an
-//! error is the format's, or `OutOfMemory` where memory is taken. A file has exactly one summary, if it has a crash:
+//! error is the format's, or `OutOfMemory` at a directory with entries. A file has exactly one summary, if it has a crash:
 //! [`laws::one_summary`]. The proofs use the contracts and the laws of `minidump`, and nothing below.
 #![tactic(auto)]
 
@@ -70,7 +70,7 @@ pub struct StackHit {
 /// Summarises the crash of a minidump, whose bytes are `bytes`. The names of codes are those of `names`.
 ///
 /// Returns the error of [`Minidump::read`], else `StreamNotFound` or `StreamReadFailure` if the exception is
-/// missing or malformed, else `OutOfMemory` if an allocation fails.
+/// missing or malformed, else `OutOfMemory` if an allocation fails. A directory without entries takes no memory.
 pub fn summarise(alloc: Global, bytes: &[u8], names: &CodeNames<'_>) -> Result<CrashSummary, Error>
     ensures summary { IfOk result (λ s. IsSummaryOf bytes.now names.now (summary_of s)) }
     ensures refused { IfErr result (λ e. Refuses (TakesMemory bytes.now) e (crash_in bytes.now)) }
@@ -95,7 +95,7 @@ fn summary_in<'a>(
     let threads = threads_of(alloc, dump)?;
     let thread = crashed_thread(&threads, exception);
     let modules = modules_of(alloc, dump)?;
-    let pointer = instruction_pointer(system, exception, thread);
+    let pointer = instruction_pointer(system, Some(exception), thread);
     let memory = memory_of(alloc, dump)?;
     Ok(CrashSummary {
         thread: exception.thread_id,
@@ -161,17 +161,24 @@ fn crashed_thread<'l, 'a>(
     threads.get_thread(exception.thread_id)
 }
 
-// Returns the instruction pointer of the exception's context, else of the thread's.
-fn instruction_pointer(
+/// Returns the instruction pointer of a thread: that of the exception's context, if there is an exception and its
+/// context is accepted, else that of the thread's own. Pass an exception for its own thread alone.
+///
+/// Returns `None` without system information, or if neither context is there and accepted.
+pub fn instruction_pointer(
     system: Option<&MinidumpSystemInfo>,
-    exception: &MinidumpException<'_>,
+    exception: Option<&MinidumpException<'_>>,
     thread: Option<&MinidumpThread<'_>>,
 ) -> Option<u64>
     ensures { result ≡ crash_pointer (option_map system_info_stream.value (option_copied system.entry))
-        (exception_stream.value exception.now) (option_map thread_of (option_copied thread.entry)) }
+        (option_map exception_stream.value (option_copied exception.entry)) (option_map thread_of (option_copied thread.entry)) }
 {
     let system = system?;
-    let context = match exception.context(system, None) {
+    let own = match exception {
+        Some(exception) => exception.context(system, None),
+        None => None,
+    };
+    let context = match own {
         Some(context) => context,
         None => thread?.context(system, None)?,
     };
