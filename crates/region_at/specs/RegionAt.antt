@@ -1,8 +1,6 @@
 -- The region of a minidump's memory in which an address lies: of overlapping regions one is kept, and the kept ones answer.
-use Rattle.std.specs.Prelude.{◌≡◌, ◌⊎◌, ℕ, List, Option, Some, None, Ok, Err, IsOk}
+use Rattle.std.specs.Prelude.{◌≡◌, ℕ, List, Option, Some, None, Ok}
 use Rattle.std.specs.Option.{option_map}
-use Rattle.minidump.specs.declared.Error.{Error}
-use Rattle.minidump.specs.declared.Error.TheVariants.{OutOfMemory}
 use Rattle.minidump.specs.Dump.{Dump, dump_in}
 use Rattle.minidump.specs.Below.Index.Lookup.{IsLookedUp}
 use Rattle.minidump.specs.Memory.{memories_of_dump}
@@ -22,7 +20,3 @@ IsInMemory (Some memory) address found = IsRegionIn (unified_regions memory) add
 -- of the regions that the format assigns to the bytes
 abbrev pub IsRegionAt : List ℕ → ℕ → Option (ℕ × List ℕ) → Type 0
 IsRegionAt bytes address found = (dump : Dump) × (dump_in bytes ≡ Ok dump) × IsInMemory (memories_of_dump dump) address found
-
--- the bytes are no minidump, or memory ran out behind their header and directory
-abbrev pub IsRefused : List ℕ → Error → Type 0
-IsRefused bytes e = (dump_in bytes ≡ Err e) ⊎ ((e ≡ OutOfMemory) × IsOk (dump_in bytes))

@@ -3,25 +3,28 @@
 //!
 //! # Errors
 //!
-//! The error that the format assigns to the bytes, or `OutOfMemory`.
+//! The error that the format assigns to the bytes, or `OutOfMemory`, at a directory with entries alone.
 //!
 //! # What is proved
 //!
 //! The region is the kept one that contains the address, of those that the format assigns to these bytes, and
 //! it is `None` where no kept region contains it: `region_at`, by `IsRegionAt` and `IsRefused`. The proof uses
-//! the contracts of `minidump`, and nothing below.
+//! the contracts and a lemma of `minidump`, and nothing below.
 #![tactic(auto)]
 
 ghost use Rattle.std.specs.Prelude.{IfErr, IfOk};
 ghost use Rattle.std.specs.Option.{option_map};
 ghost use Rattle.minidump.specs.Below.MemoryLists.Unified.{unified_list, unified_regions};
-ghost use Rattle.region_at.specs.RegionAt.{IsRefused, IsRegionAt, IsRegionIn};
+ghost use Rattle.minidump.specs.Dump.{IsRefused};
+ghost use Rattle.region_at.specs.RegionAt.{IsRegionAt, IsRegionIn};
 
 use minidump::{Error, Minidump, UnifiedMemoryList};
 use std::alloc::Global;
 
 /// Returns the base address and the bytes of the region of memory that contains `address`, or `None` if
 /// no kept region does. `bytes` are those of a minidump.
+///
+/// Returns the errors of [`Minidump::read`], and `OutOfMemory` also where [`Minidump::get_memory`] does.
 pub fn region_at<'a>(
     alloc: Global,
     bytes: &'a [u8],
