@@ -2,18 +2,19 @@
 //!
 //! # Errors
 //!
-//! The error that the format assigns to the bytes or to their list of threads, or `OutOfMemory`.
+//! The error that the format assigns to the bytes or to their list of threads, or `OutOfMemory`, at a directory with
+//! entries alone.
 //!
 //! # What is proved
 //!
 //! The ids are those of the threads that the format assigns to these bytes, one for each, in the order of the
 //! list, or the error is the one that it assigns to them: `thread_ids`, by `ids_in`. The proof uses the contracts
-//! of `minidump`, and nothing below.
+//! of `minidump`, one of its laws and two of its lemmas, and nothing below.
 #![tactic(auto)]
 
-ghost use Rattle.std.specs.Prelude.{◌≡◌, IfOk, IsOk, map};
+ghost use Rattle.std.specs.Prelude.{◌≡◌, IfOk, map};
 ghost use Rattle.minidump.specs.Below.Format.Answer.{Gives};
-ghost use Rattle.minidump.specs.Dump.{dump_in};
+ghost use Rattle.minidump.specs.Dump.{HasEntries};
 ghost use Rattle.minidump.specs.Promise.{thread_list_stream};
 ghost use Rattle.thread_ids.specs.ThreadIds.{ids_in, ids_of};
 
@@ -24,7 +25,7 @@ use std::alloc::{AllocError, Global};
 ///
 /// Returns the errors of [`Minidump::read`] and [`Minidump::get_stream`].
 pub fn thread_ids(alloc: Global, bytes: &[u8]) -> Result<Vec<u32>, Error>
-    ensures { Gives (λ ids. ids.items) (IsOk (dump_in bytes.now)) result (ids_in bytes.now) }
+    ensures { Gives (λ ids. ids.items) (HasEntries bytes.now) result (ids_in bytes.now) }
 {
     let dump = Minidump::read(alloc, bytes)?;
     let threads = dump.get_stream(alloc)?;
