@@ -1,2 +1,3 @@
--- Lemmas of the report.
+-- Lemmas of the report and of refusals.
+pub mod RefusedLemmas
 pub mod ReportLemmas

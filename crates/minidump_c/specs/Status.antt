@@ -7,7 +7,7 @@ use Rattle.minidump.specs.declared.Error.TheVariants.{ModuleReadFailure, MemoryR
 use Rattle.minidump.specs.declared.Error.TheVariants.{UknownElementType, OutOfMemory}
 use Rattle.minidump.specs.Below.Format.Error.{refusal_name}
 use Rattle.minidump.specs.Below.System.StreamSpec.{StreamSpec}
-use Rattle.minidump.specs.Dump.{Dump, dump_in, stream_of}
+use Rattle.minidump.specs.Dump.{Dump, IsRefused, IsRefusedWith, dump_in, stream_of}
 
 -- the numbers of the errors
 abbrev pub status_of : Error → ℕ
@@ -31,11 +31,11 @@ status_of OutOfMemory = 15
 abbrev pub Ends : ℕ → Type 0 → (Error → Type 0) → Type 0 → Type 0
 Ends status done refuses kept = ((status ≡ 0) × done) ⊎ (((e : Error) × refuses e × (status ≡ status_of e)) × kept)
 
--- the bytes are no minidump, or memory ran out behind their header and directory
-abbrev pub IsRefused : List ℕ → Error → Type 0
-IsRefused bytes e = (dump_in bytes ≡ Err e) ⊎ ((e ≡ OutOfMemory) × IsOk (dump_in bytes))
+-- the bytes are no minidump, or memory ran out for the text, which every minidump has
+abbrev pub IsTextRefused : List ℕ → Error → Type 0
+IsTextRefused bytes e = IsRefusedWith (IsOk (dump_in bytes)) bytes e
 
--- the same, or the error of a stream of the dump
+-- the bytes are no minidump, or memory ran out at a directory with entries, or it is the error of a stream of the dump
 abbrev pub IsStreamRefused : {S V : Type 0} → StreamSpec S V → List ℕ → Error → Type 0
 IsStreamRefused spec bytes e = IsRefused bytes e ⊎ ((dump : Dump) × (dump_in bytes ≡ Ok dump) × (stream_of spec dump ≡ Err e))
 

@@ -42,6 +42,6 @@ abbrev pub IsSummarised : List ℕ → Crash → List ℕ → List ℕ → List 
 IsSummarised bytes crash reason new_reason name new_name =
     (s : Summary) × IsSummaryOf bytes [] s × (crash ≡ crash_of s) × (new_reason ≡ filled (reason_of s) reason) × (new_name ≡ filled (name_of s) name)
 
--- the error of the dump or of the exception's stream, or memory ran out where it is taken
+-- the error of the dump or of the exception's stream, or memory ran out at a directory with entries
 abbrev pub IsSummaryRefusal : List ℕ → Error → Type 0
 IsSummaryRefusal bytes e = Refuses (TakesMemory bytes) e (crash_in bytes)

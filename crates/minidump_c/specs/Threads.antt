@@ -8,13 +8,9 @@ use Rattle.minidump.specs.Below.Records.ThreadNames.{ThreadName, name_of_thread,
 use Rattle.minidump.specs.Below.System.System.{System}
 use Rattle.minidump.specs.Dump.{Dump, dump_in, dump_system, stream_of}
 use Rattle.minidump.specs.Promise.{thread_list_stream}
-use Rattle.minidump.specs.Thread.{Thread, known_context}
+use Rattle.minidump.specs.Thread.{Thread, instruction_of, known_context}
 use Rattle.minidump_c.specs.Summary.{flag}
 use Rattle.minidump_c.specs.declared.threads.ThreadRow.{ThreadRow}
-
--- the instruction pointer and the stack pointer of a context
-abbrev pub instruction_of : Option MinidumpRawContext → Option ℕ
-instruction_of context = option_and_then (λ c. value_in (registers_of c) (registers_of c).instruction_pointer) context
 
 -- the stack pointer of a context
 abbrev pub stack_of : Option MinidumpRawContext → Option ℕ

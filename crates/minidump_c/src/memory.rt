@@ -1,8 +1,9 @@
 ghost use Rattle.std.specs.Prelude.{◌≡◌, IfErr, IfOk};
 ghost use Rattle.std.specs.Option.{option_copied, option_map};
 ghost use Rattle.minidump.specs.Below.MemoryLists.Unified.{unified_list, unified_region};
+ghost use Rattle.minidump.specs.Dump.{IsRefused};
 ghost use Rattle.minidump_c.specs.Memory.{IsIn, IsReadAt, IsRegionAt, bytes_from, shown};
-ghost use Rattle.minidump_c.specs.Status.{Ends, IsRefused};
+ghost use Rattle.minidump_c.specs.Status.{Ends};
 ghost use Rattle.minidump_c.specs.Text.{IsFilled};
 
 use crate::status::status_of;

@@ -1,7 +1,8 @@
-ghost use Rattle.std.specs.Prelude.{◌≡◌, IfErr, IfOk};
+ghost use Rattle.std.specs.Prelude.{◌≡◌, IfErr, IfOk, IsSome, OnErr};
 ghost use Rattle.std.specs.Option.{option_copied, option_map};
 ghost use Rattle.minidump.specs.Below.MemoryLists.Unified.{unified_list, unified_regions};
-ghost use Rattle.minidump_c.specs.Status.{Ends, IsRefused};
+ghost use Rattle.minidump.specs.Dump.{IsRefused};
+ghost use Rattle.minidump_c.specs.Status.{Ends};
 ghost use Rattle.minidump_c.specs.Table.{IsTableIn, IsTableOf, IsTableOfRegions};
 ghost use Rattle.minidump_c.specs.Text.{IsFilled};
 
@@ -45,7 +46,8 @@ fn table(alloc: Global, bytes: &[u8]) -> Result<Vec<Region>, Error>
 }
 
 fn rows(alloc: Global, memory: Option<&UnifiedMemoryList<'_>>) -> Result<Vec<Region>, AllocError>
-    ensures { IfOk result (λ rows. IsTableIn (option_map unified_list (option_copied memory.entry)) rows.items) }
+    ensures rows { IfOk result (λ rows. IsTableIn (option_map unified_list (option_copied memory.entry)) rows.items) }
+    ensures memory { OnErr result (IsSome memory.entry) }
 {
     match memory {
         Some(memory) => listed(alloc, memory),

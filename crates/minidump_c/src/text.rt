@@ -1,5 +1,5 @@
 ghost use Rattle.std.specs.Prelude.{◌≡◌, IfErr, IfOk, length};
-ghost use Rattle.minidump_c.specs.Status.{Ends, IsRefused};
+ghost use Rattle.minidump_c.specs.Status.{Ends, IsTextRefused};
 ghost use Rattle.minidump_c.specs.Text.{IsDirectoryOf, IsFilled, IsReportOf, filled};
 
 use crate::status::status_of;
@@ -11,7 +11,7 @@ use std::alloc::Global;
 #[unsafe(no_mangle)]
 pub extern "C" fn minidump_dir(alloc: Global, bytes: &[u8], out: &mut [u8], size: &mut usize) -> u32
     ensures { Ends result (IsFilled (IsDirectoryOf bytes.now) out.old out.new size.new)
-        (IsRefused bytes.now) ((out.new ≡ out.old) × (size.new ≡ size.old)) }
+        (IsTextRefused bytes.now) ((out.new ≡ out.old) × (size.new ≡ size.old)) }
 {
     match dir_text(alloc, bytes) {
         Ok(text) => {
@@ -32,7 +32,7 @@ pub extern "C" fn minidump_report(
     size: &mut usize,
 ) -> u32
     ensures { Ends result (IsFilled (IsReportOf bytes.now) out.old out.new size.new)
-        (IsRefused bytes.now) ((out.new ≡ out.old) × (size.new ≡ size.old)) }
+        (IsTextRefused bytes.now) ((out.new ≡ out.old) × (size.new ≡ size.old)) }
 {
     match report(alloc, bytes) {
         Ok(text) => {
@@ -46,7 +46,7 @@ pub extern "C" fn minidump_report(
 // Makes the text of the header and the directory.
 fn dir_text(alloc: Global, bytes: &[u8]) -> Result<Vec<u8>, Error>
     ensures text { IfOk result (λ text. IsDirectoryOf bytes.now text.items) }
-    ensures refused { IfErr result (IsRefused bytes.now) }
+    ensures refused { IfErr result (IsTextRefused bytes.now) }
 {
     let dump = Minidump::read(alloc, bytes)?;
     let mut out = Told::new(Vec::new(alloc));
@@ -59,7 +59,7 @@ fn dir_text(alloc: Global, bytes: &[u8]) -> Result<Vec<u8>, Error>
 // Makes the report. A vector fails to take bytes only where memory runs out.
 fn report(alloc: Global, bytes: &[u8]) -> Result<Vec<u8>, Error>
     ensures text { IfOk result (λ text. IsReportOf bytes.now text.items) }
-    ensures refused { IfErr result (IsRefused bytes.now) }
+    ensures refused { IfErr result (IsTextRefused bytes.now) }
 {
     let mut out = Told::new(Vec::new(alloc));
     match write_report(alloc, bytes, &CodeNames::empty(), &mut out) {

@@ -1,13 +1,14 @@
-ghost use Rattle.std.specs.Prelude.{◌≡◌, IfErr, IfOk, OnErr, IsOkUnless, [], map, unwrap_or};
+ghost use Rattle.std.specs.Prelude.{◌≡◌, ◌<◌, IfErr, IfOk, OnErr, [], map, unwrap_or};
 ghost use Rattle.std.specs.Option.{option_copied, option_map};
 ghost use Rattle.minidump.specs.Below.Records.ThreadNames.{name_of_thread, thread_names_stream};
+ghost use Rattle.minidump.specs.Dump.{IsRefused};
 ghost use Rattle.minidump.specs.DumpValue.{dump_of};
 ghost use Rattle.minidump.specs.Promise.{system_info_stream, thread_list_stream};
-ghost use Rattle.minidump.specs.Thread.{known_context, thread_of};
-ghost use Rattle.minidump_c.specs.Status.{Ends, IsRefused, IsStreamRefused};
+ghost use Rattle.minidump.specs.Thread.{instruction_of, known_context, thread_of};
+ghost use Rattle.minidump_c.specs.Status.{Ends, IsStreamRefused};
 ghost use Rattle.minidump_c.specs.Summary.{flag};
 ghost use Rattle.minidump_c.specs.Text.{IsFilled};
-ghost use Rattle.minidump_c.specs.Threads.{AreThreadRows, IsThreadName, instruction_of, names_in, row_of, stack_of};
+ghost use Rattle.minidump_c.specs.Threads.{AreThreadRows, IsThreadName, names_in, row_of, stack_of};
 
 use crate::status::status_of;
 use crate::text::fill;
@@ -161,7 +162,7 @@ fn thread_name(alloc: Global, bytes: &[u8], id: u32, out: &mut [u8]) -> Result<u
 // Returns the names of a dump's threads, none if it has none that can be read.
 fn names_of(alloc: Global, dump: &Minidump<'_>) -> Result<MinidumpThreadNames, Error>
     ensures value { IfOk result (λ names. thread_names_stream.value names ≡ names_in (dump_of dump.now)) }
-    ensures memory { IsOkUnless result Error.OutOfMemory }
+    ensures memory { IfErr result (λ e. (e ≡ Error.OutOfMemory) × (0 < (dump_of dump.now).header.stream_count)) }
 {
     match dump.find_stream(alloc)? {
         Some(names) => Ok(names),
