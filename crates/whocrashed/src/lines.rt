@@ -1,7 +1,7 @@
-use crate::places::{name_of, place_of, pointer_of};
+use crate::places::{name_of, place_of};
 use crate::streams::{Streams, streams_of};
 use anyhow::Result;
-use crash_summary::{CrashSummary, summarise};
+use crash_summary::{CrashSummary, instruction_pointer, summarise};
 use minidump::{
     CodeNames, Error, Minidump, MinidumpException, MinidumpModuleList, MinidumpSystemInfo,
     MinidumpThread, Module,
@@ -86,7 +86,7 @@ fn print_thread(
     if let Some(name) = name_of(streams.names.as_ref(), id) {
         print!(rt; " \"{name}\"")?;
     }
-    match pointer_of(streams.system.as_ref(), exception, thread) {
+    match instruction_pointer(streams.system.as_ref(), exception, Some(thread)) {
         Some(pointer) => print_place(rt, streams.modules.as_ref(), pointer),
         None => println!(rt; " has no context"),
     }
