@@ -3,7 +3,9 @@ use crate::run;
 use crate::start::arguments;
 use minidump::format::MINIDUMP_MEMORY_INFO;
 use minidump::{Endian, MinidumpModule, Told};
-use minidump_synth::{Full, OVERLAPPING, SynthMinidump, zeroed};
+use minidump_synth::{
+    Full, ONE_STREAM, ONE_STREAM_TEXT, OVERLAPPING, SynthMinidump, one_stream_with_byte, zeroed,
+};
 use std::alloc::{AllocError, Global};
 use std::env::{Env, FillError};
 use std::test::Fail;
@@ -17,32 +19,6 @@ const MEMORY_INFO_LIST: u32 = 16;
 const LINUX_MAPS: u32 = 0x4767_0009;
 
 const USAGE: &str = "usage: mdump dir FILE | at FILE HEXADDRESS | report FILE\n";
-
-// One stream of an unknown type, of four bytes.
-const ONE: [u8; 48] = [
-    0x4d, 0x44, 0x4d, 0x50, 0x93, 0xa7, 0, 0, 1, 0, 0, 0, 0x20, 0, 0, 0, 0, 0, 0, 0, 0, 0, 0, 0, 0,
-    0, 0, 0, 0, 0, 0, 0, 0x44, 0x33, 0x22, 0x11, 4, 0, 0, 0, 0x2c, 0, 0, 0, 0x88, 0x77, 0x66, 0x55,
-];
-
-const ONE_TEXT: &str = "MDRawHeader
-  signature            = 0x504d444d
-  version              = 0xa793
-  stream_count         = 1
-  stream_directory_rva = 0x20
-  checksum             = 0x0
-  time_date_stamp      = 0x0
-  flags                = 0x0
-
-mDirectory[0]
-MDRawDirectory
-  stream_type        = 0x11223344 (unknown)
-  location.data_size = 4
-  location.rva       = 0x2c
-
-Streams:
-  stream type 0x11223344 (unknown) at index 0
-
-";
 
 // The words of a run; its status, what the output took, and what the errors took.
 type Row = (&'static [&'static str], u8, &'static str, &'static str);
@@ -79,11 +55,11 @@ fn answers_of(rt: &HostRuntime, path: &str, bytes: &[u8], rows: &[Row]) -> Resul
     Ok(holds)
 }
 
-const DIRECTORY: &[Row] = &[(&["dir", "writes_the_directory.dmp"], 0, ONE_TEXT, "")];
+const DIRECTORY: &[Row] = &[(&["dir", "writes_the_directory.dmp"], 0, ONE_STREAM_TEXT, "")];
 
 #[test]
 fn writes_the_directory(rt: HostRuntime) -> Result<(), Fail> {
-    assert!(rt; answers_of(&rt, "writes_the_directory.dmp", &ONE, DIRECTORY)?);
+    assert!(rt; answers_of(&rt, "writes_the_directory.dmp", &ONE_STREAM, DIRECTORY)?);
     Ok(())
 }
 
@@ -104,24 +80,16 @@ fn is_refused(rt: &HostRuntime, bytes: &[u8], name: &'static str) -> Result<bool
     answers_of(rt, "names_refusals.dmp", bytes, &rows)
 }
 
-fn with_byte(place: usize, byte: u8) -> [u8; 48] {
-    let mut bytes = ONE;
-    if place < bytes.len() {
-        bytes[place] = byte;
-    }
-    bytes
-}
-
 #[test]
 fn names_refusals(rt: HostRuntime) -> Result<(), Fail> {
     for row in NO_FILES {
         assert!(rt; answers(&rt, row)?, "{}", row.3);
     }
     for (bytes, name) in &[
-        (&ONE[..31], "MissingHeader\n"),
-        (&ONE[1..], "HeaderMismatch\n"),
-        (&with_byte(4, 0x94)[..], "VersionMismatch\n"),
-        (&with_byte(12, 0x25)[..], "MissingDirectory\n"),
+        (&ONE_STREAM[..31], "MissingHeader\n"),
+        (&ONE_STREAM[1..], "HeaderMismatch\n"),
+        (&one_stream_with_byte(4, 0x94)[..], "VersionMismatch\n"),
+        (&one_stream_with_byte(12, 0x25)[..], "MissingDirectory\n"),
     ] {
         assert!(rt; is_refused(&rt, *bytes, *name)?, "{name}");
     }
@@ -158,7 +126,7 @@ MiscInfoStream: StreamReadFailure
 
 #[test]
 fn writes_the_error_of_a_stream(rt: HostRuntime) -> Result<(), Fail> {
-    let mut bytes = ONE;
+    let mut bytes = ONE_STREAM;
     bytes[32] = 15;
     bytes[33] = 0;
     bytes[34] = 0;
@@ -231,7 +199,7 @@ const NO_LISTS: &[Row] = &[(
 #[test]
 fn writes_that_a_dump_has_no_lists(rt: HostRuntime) -> Result<(), Fail> {
     let path = "writes_that_a_dump_has_no_lists.dmp";
-    assert!(rt; answers_of(&rt, path, &ONE, NO_LISTS)?);
+    assert!(rt; answers_of(&rt, path, &ONE_STREAM, NO_LISTS)?);
     Ok(())
 }
 
@@ -383,7 +351,7 @@ fn is_status_2(rt: &HostRuntime) -> Result<bool, AllocError> {
 
 #[test]
 fn reports_a_full_output(rt: HostRuntime) -> Result<(), Fail> {
-    fs::write(&rt, FULL_PATH, &ONE)?;
+    fs::write(&rt, FULL_PATH, &ONE_STREAM)?;
     for words in TO_A_FULL_OUTPUT {
         assert!(rt; is_reported(&rt, *words)?);
     }

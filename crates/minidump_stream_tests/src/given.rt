@@ -3,8 +3,6 @@ use minidump_format::Error;
 use minidump_system::{MinidumpStream, MinidumpSystemInfo};
 use std::alloc::Global;
 
-pub(crate) const BOTH: &[Endian] = &[Endian::Little, Endian::Big];
-
 // The stream that these bytes are, in a file of these.
 pub(crate) fn read_in<'a, S: MinidumpStream<'a>>(
     alloc: Global,
@@ -21,6 +19,24 @@ pub(crate) fn read_in<'a, S: MinidumpStream<'a>>(
         None,
         steps,
     )
+}
+
+// The bytes of a file, and those of a list in it.
+#[derive(Drop)]
+pub(crate) struct Listed {
+    pub(crate) file: Vec<u8>,
+    pub(crate) stream: Vec<u8>,
+    pub(crate) endian: Endian,
+}
+
+impl Listed {
+    pub(crate) fn read<'a, S: MinidumpStream<'a>>(
+        &'a self,
+        alloc: Global,
+        steps: &mut Steps,
+    ) -> Result<S, Error> {
+        read_in(alloc, &self.stream, &self.file, self.endian, steps)
+    }
 }
 
 // The system of a processor's architecture and a platform, by their numbers.

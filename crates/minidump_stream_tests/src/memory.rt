@@ -3,21 +3,11 @@ mod lists;
 mod map_lines;
 mod regions;
 
-use crate::given::read_in;
-use minidump_bytes::{Endian, Steps};
-use minidump_format::Error;
+use crate::given::Listed;
+use minidump_bytes::Endian;
 use minidump_memory::{MinidumpMemory, MinidumpMemory64};
 use minidump_synth::{Section, SynthMinidump, zeroed};
-use minidump_system::MinidumpStream;
 use std::alloc::{AllocError, Global};
-
-// The bytes of a file, and those of its list of memory.
-#[derive(Drop)]
-struct Listed {
-    file: Vec<u8>,
-    stream: Vec<u8>,
-    endian: Endian,
-}
 
 impl Listed {
     // A plain list of regions by their first addresses and their bytes.
@@ -53,16 +43,6 @@ impl Listed {
             file: file.finish()?,
             endian,
         })
-    }
-
-    fn read<'a, S: MinidumpStream<'a>>(&'a self, alloc: Global) -> Result<S, Error> {
-        read_in(
-            alloc,
-            &self.stream,
-            &self.file,
-            self.endian,
-            &mut Steps::new(),
-        )
     }
 }
 

@@ -1,13 +1,12 @@
 mod identity;
 mod lists;
 
-use crate::given::read_in;
-use minidump_bytes::{Endian, Steps};
+use crate::given::Listed;
+use minidump_bytes::Endian;
 use minidump_format::Error;
 use minidump_format::format::{MINIDUMP_MODULE, MINIDUMP_UNLOADED_MODULE};
 use minidump_modules::MinidumpModule;
 use minidump_synth::SynthMinidump;
-use minidump_system::MinidumpStream;
 use std::alloc::{AllocError, Global};
 
 // A module to be written: its entry but for the places, its name and its CodeView record.
@@ -33,14 +32,6 @@ fn added(
     raw.module_name_rva = dump.add_text16(module.name);
     raw.cv_record = dump.add_located(&module.view);
     Ok(raw)
-}
-
-// The bytes of a file, and those of its list of modules.
-#[derive(Drop)]
-struct Listed {
-    file: Vec<u8>,
-    stream: Vec<u8>,
-    endian: Endian,
 }
 
 impl Listed {
@@ -78,13 +69,5 @@ impl Listed {
             file: dump.finish()?,
             endian,
         })
-    }
-
-    fn read<'a, S: MinidumpStream<'a>>(
-        &'a self,
-        alloc: Global,
-        steps: &mut Steps,
-    ) -> Result<S, Error> {
-        read_in(alloc, &self.stream, &self.file, self.endian, steps)
     }
 }

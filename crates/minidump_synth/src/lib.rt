@@ -13,8 +13,10 @@
 //! - [`SynthMinidump`] is a dump in the making: header, what was added, directory.
 //! - [`every_stream`] is a dump with a stream of each type that is read, and [`handle_circle`] one of handles whose
 //!   objects share a circle.
-//! - [`Section`] is bytes that grow, with a byte order. [`Encode`] is what has bytes in a minidump, and
-//!   [`zeroed`] the record of zeros.
+//! - [`ONE_STREAM`] is a dump written by hand, [`ONE_STREAM_TEXT`] its printed text, and [`one_stream_with_byte`]
+//!   the dump with another byte.
+//! - [`Section`] is bytes that grow, with a byte order, and [`BOTH`] has the two orders. [`Encode`] is what has
+//!   bytes in a minidump, and [`zeroed`] the record of zeros.
 //! - [`OneByte`], [`FailsAt`], [`TakesNone`] and [`Full`] are readers and writers.
 //!
 //! # Errors
@@ -32,6 +34,7 @@ mod dump;
 mod encode;
 mod every;
 mod memory;
+mod one_stream;
 mod section;
 
 pub use device::{FailsAt, Full, OneByte, TakesNone};
@@ -39,4 +42,5 @@ pub use dump::SynthMinidump;
 pub use encode::{Encode, zeroed};
 pub use every::{every_stream, handle_circle};
 pub use memory::OVERLAPPING;
-pub use section::Section;
+pub use one_stream::{ONE_STREAM, ONE_STREAM_TEXT, one_stream_with_byte};
+pub use section::{BOTH, Section};

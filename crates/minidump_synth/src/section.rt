@@ -2,6 +2,9 @@ use crate::Encode;
 use minidump_bytes::{Endian, Record};
 use std::alloc::{AllocError, Global};
 
+/// Both byte orders.
+pub const BOTH: &[Endian] = &[Endian::Little, Endian::Big];
+
 /// Bytes that grow at their end, with a byte order for their numbers.
 ///
 /// Calls that append return the section, so that they chain. Calls that run out of memory don't say so;

@@ -1,40 +1,21 @@
 //! The header, the directory, what they list, and their print.
 
-use crate::given::{BOTH, ONE};
 use minidump::format::{MINIDUMP_LOCATION_DESCRIPTOR, MINIDUMP_STREAM_TYPE, MINIDUMP_THREAD};
 use minidump::{
     Endian, Error, Minidump, MinidumpException, MinidumpThreadList, MinidumpThreadNames, Steps,
     Told,
 };
-use minidump_synth::{FailsAt, OneByte, Section, SynthMinidump, TakesNone, zeroed};
+use minidump_synth::{
+    BOTH, FailsAt, ONE_STREAM, ONE_STREAM_TEXT, OneByte, Section, SynthMinidump, TakesNone, zeroed,
+};
 use std::alloc::{AllocError, Global};
 use std::io::Write;
 
-// `ONE` in the other byte order, but for the bytes of the stream.
+// `ONE_STREAM` in the other byte order, but for the bytes of the stream.
 const ONE_BIG: [u8; 48] = [
     0x50, 0x4d, 0x44, 0x4d, 0, 0, 0xa7, 0x93, 0, 0, 0, 1, 0, 0, 0, 0x20, 0, 0, 0, 0, 0, 0, 0, 0, 0,
     0, 0, 0, 0, 0, 0, 0, 0x11, 0x22, 0x33, 0x44, 0, 0, 0, 4, 0, 0, 0, 0x2c, 0x55, 0x66, 0x77, 0x88,
 ];
-
-const ONE_TEXT: &str = "MDRawHeader
-  signature            = 0x504d444d
-  version              = 0xa793
-  stream_count         = 1
-  stream_directory_rva = 0x20
-  checksum             = 0x0
-  time_date_stamp      = 0x0
-  flags                = 0x0
-
-mDirectory[0]
-MDRawDirectory
-  stream_type        = 0x11223344 (unknown)
-  location.data_size = 4
-  location.rva       = 0x2c
-
-Streams:
-  stream type 0x11223344 (unknown) at index 0
-
-";
 
 // Tells whether too few bytes for a header are refused, in the fewest reads.
 fn is_too_short(alloc: Global, bytes: &[u8]) -> bool {
@@ -45,7 +26,7 @@ fn is_too_short(alloc: Global, bytes: &[u8]) -> bool {
 
 #[test]
 fn refuses_short_files(rt: HostRuntime) {
-    assert!(rt; is_too_short(rt.alloc(), &[]) && is_too_short(rt.alloc(), &ONE[..31]));
+    assert!(rt; is_too_short(rt.alloc(), &[]) && is_too_short(rt.alloc(), &ONE_STREAM[..31]));
 }
 
 // The signature, the version, the count of streams and the directory of a header of 32 bytes, and its error.
@@ -138,7 +119,7 @@ fn lends_what_decides(alloc: Global) -> Result<bool, AllocError> {
 #[test]
 fn finds_the_bytes_of_the_deciding_entries(rt: HostRuntime) {
     let alloc = rt.alloc();
-    let found = [&ONE, &ONE_BIG].map(|bytes| raw_stream(alloc, bytes, 0x1122_3344));
+    let found = [&ONE_STREAM, &ONE_BIG].map(|bytes| raw_stream(alloc, bytes, 0x1122_3344));
     assert!(rt;
         found
             == [
@@ -248,7 +229,7 @@ fn lists_streams_by_what_is_known_of_them(rt: HostRuntime) {
 
 // Prints a dump to a device, and returns the error.
 fn printed<W: Write + Drop>(alloc: Global, device: W) -> Result<(Option<Error>, W), Error> {
-    let dump = Minidump::read(alloc, &ONE)?;
+    let dump = Minidump::read(alloc, &ONE_STREAM)?;
     let mut f = Told::new(device);
     let error = dump.print(alloc, &mut f).err();
     Ok((error, f.into_device()))
@@ -258,12 +239,12 @@ fn printed<W: Write + Drop>(alloc: Global, device: W) -> Result<(Option<Error>, 
 // is the beginning of the text.
 fn stops_at(alloc: Global, at: usize) -> Result<bool, Error> {
     let (error, device) = printed(alloc, FailsAt::new(OneByte::new(Vec::new(alloc)), at))?;
-    let want = if at < ONE_TEXT.len() {
+    let want = if at < ONE_STREAM_TEXT.len() {
         Some(Error::IoError)
     } else {
         None
     };
-    let text = ONE_TEXT.as_bytes().get(..at);
+    let text = ONE_STREAM_TEXT.as_bytes().get(..at);
     Ok(error == want && text == Some(device.inner.inner.as_slice()))
 }
 
@@ -275,7 +256,7 @@ fn stops_where_none_is_taken(alloc: Global) -> Result<bool, Error> {
 
 #[test]
 fn prints_to_slow_and_failing_writers(rt: HostRuntime) {
-    for at in 0..=ONE_TEXT.len() {
+    for at in 0..=ONE_STREAM_TEXT.len() {
         assert!(rt; stops_at(rt.alloc(), at) == Ok(true), "at {at}");
     }
     assert!(rt; stops_where_none_is_taken(rt.alloc()) == Ok(true));

@@ -1,6 +1,6 @@
 //! The exception: the address and the reason of a crash, and the context of its thread.
 
-use crate::given::{BOTH, counted_stream_of, stream_of};
+use crate::given::{counted_stream_of, stream_of};
 use minidump::format::{
     CONTEXT_ARM, MINIDUMP_EXCEPTION, MINIDUMP_EXCEPTION_STREAM, MINIDUMP_SYSTEM_INFO,
 };
@@ -9,7 +9,7 @@ use minidump::{
     CodeFamily, CodeNames, CrashReason, Endian, Error, MinidumpException, MinidumpStream,
     MinidumpSystemInfo, Source, Steps, Told,
 };
-use minidump_synth::{Section, SynthMinidump, zeroed};
+use minidump_synth::{BOTH, Section, SynthMinidump, zeroed};
 use std::alloc::{AllocError, Global};
 
 const EXCEPTION: u32 = 6;

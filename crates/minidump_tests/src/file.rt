@@ -1,8 +1,7 @@
 //! Files: what `read_path` answers, and what it leaves in the vector that it is lent.
 
-use crate::given::ONE;
 use minidump::{Endian, Error, Minidump};
-use minidump_synth::SynthMinidump;
+use minidump_synth::{ONE_STREAM, SynthMinidump, one_stream_with_byte};
 use std::alloc::{AllocError, Global};
 use std::fs;
 use std::test::Fail;
@@ -38,23 +37,15 @@ fn long(alloc: Global) -> Result<Vec<u8>, AllocError> {
     dump.finish()
 }
 
-fn with_byte(place: usize, byte: u8) -> [u8; 48] {
-    let mut bytes = ONE;
-    if place < bytes.len() {
-        bytes[place] = byte;
-    }
-    bytes
-}
-
 // After each refusal of the format, and after none, the vector holds the bytes of the file.
 #[test]
 fn fills_the_vector_with_the_file(rt: HostRuntime) -> Result<(), Fail> {
     assert!(rt; fills(&rt, &long(rt.alloc())?, None)?);
     for (bytes, error) in &[
-        (&ONE[..31], Error::MissingHeader),
-        (&ONE[1..], Error::HeaderMismatch),
-        (&with_byte(4, 0x94)[..], Error::VersionMismatch),
-        (&with_byte(12, 0x25)[..], Error::MissingDirectory),
+        (&ONE_STREAM[..31], Error::MissingHeader),
+        (&ONE_STREAM[1..], Error::HeaderMismatch),
+        (&one_stream_with_byte(4, 0x94)[..], Error::VersionMismatch),
+        (&one_stream_with_byte(12, 0x25)[..], Error::MissingDirectory),
     ] {
         assert!(rt; fills(&rt, *bytes, Some(*error))?);
     }

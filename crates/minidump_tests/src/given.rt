@@ -1,16 +1,18 @@
-//! What the tests are given: byte orders, dumps of one stream, and how a stream of a dump is read.
+//! What the tests are given: dumps of one stream, a place outside of any file, and how a stream of a dump is read.
 
+use minidump::format::MINIDUMP_LOCATION_DESCRIPTOR;
 use minidump::{Endian, Error, Minidump, MinidumpStream, Steps};
 use minidump_synth::SynthMinidump;
 use std::alloc::{AllocError, Global};
 
-pub(crate) const BOTH: &[Endian] = &[Endian::Little, Endian::Big];
+// The type of the stream that lists regions of memory.
+pub(crate) const MEMORY_LIST: u32 = 5;
 
-// One stream of an unknown type, of four bytes.
-pub(crate) const ONE: [u8; 48] = [
-    0x4d, 0x44, 0x4d, 0x50, 0x93, 0xa7, 0, 0, 1, 0, 0, 0, 0x20, 0, 0, 0, 0, 0, 0, 0, 0, 0, 0, 0, 0,
-    0, 0, 0, 0, 0, 0, 0, 0x44, 0x33, 0x22, 0x11, 4, 0, 0, 0, 0x2c, 0, 0, 0, 0x88, 0x77, 0x66, 0x55,
-];
+// No file of a test is so long.
+pub(crate) const OUTSIDE: MINIDUMP_LOCATION_DESCRIPTOR = MINIDUMP_LOCATION_DESCRIPTOR {
+    data_size: 16,
+    rva: 0xffff_0000,
+};
 
 // A dump with a stream of these bytes.
 pub(crate) fn dump_of(

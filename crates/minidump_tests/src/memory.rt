@@ -1,21 +1,12 @@
 //! The memory of a dump by either of its lists, and the region at an address.
 
-use crate::given::BOTH;
-use minidump::format::MINIDUMP_LOCATION_DESCRIPTOR;
+use crate::given::{MEMORY_LIST, OUTSIDE};
 use minidump::{Endian, Error, Minidump, UnifiedMemory, UnifiedMemoryList};
-use minidump_synth::SynthMinidump;
+use minidump_synth::{BOTH, SynthMinidump};
 use region_at::region_at;
 use std::alloc::{AllocError, Global};
 
-const MEMORY_LIST: u32 = 5;
-
 const MEMORY64_LIST: u32 = 9;
-
-// No file of a test is so long.
-const OUTSIDE: MINIDUMP_LOCATION_DESCRIPTOR = MINIDUMP_LOCATION_DESCRIPTOR {
-    data_size: 16,
-    rva: 0xffff_0000,
-};
 
 // What a dump has of a kind of list.
 #[derive(Clone, Copy)]

@@ -1,9 +1,9 @@
 //! The names of threads, and the information on them.
 
-use crate::given::{BOTH, counted_stream_of, stream_of};
+use crate::given::{counted_stream_of, stream_of};
 use minidump::format::{MINIDUMP_THREAD_INFO, MINIDUMP_THREAD_NAME};
 use minidump::{Endian, Error, MinidumpThreadInfoList, MinidumpThreadNames};
-use minidump_synth::{SynthMinidump, zeroed};
+use minidump_synth::{BOTH, SynthMinidump, zeroed};
 use std::alloc::{AllocError, Global};
 
 const THREAD_INFO_LIST: u32 = 17;

@@ -1,13 +1,12 @@
 //! The summary of a crash: `crash_summary`.
 
-use crate::given::BOTH;
 use crash_summary::{CrashSummary, ModuleHit, StackHit, summarise};
 use minidump::format::{
     CONTEXT_AMD64, MINIDUMP_EXCEPTION, MINIDUMP_EXCEPTION_STREAM, MINIDUMP_LOCATION_DESCRIPTOR,
     MINIDUMP_MODULE, MINIDUMP_SYSTEM_INFO, MINIDUMP_THREAD,
 };
 use minidump::{CodeFamily, CodeNames, Endian, Error};
-use minidump_synth::{SynthMinidump, zeroed};
+use minidump_synth::{BOTH, SynthMinidump, zeroed};
 use std::alloc::Global;
 
 const STACK: u64 = 0x1000_0000_1000_0000;

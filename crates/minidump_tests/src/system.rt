@@ -1,10 +1,10 @@
 //! The system information of a dump.
 
-use crate::given::{BOTH, counted_stream_of, dump_of, stream_of};
+use crate::given::{counted_stream_of, dump_of, stream_of};
 use minidump::format::MINIDUMP_SYSTEM_INFO;
 use minidump::system_info::{Cpu, Os};
 use minidump::{Endian, Error, MinidumpMiscInfo, MinidumpSystemInfo};
-use minidump_synth::{SynthMinidump, zeroed};
+use minidump_synth::{BOTH, SynthMinidump, zeroed};
 use std::alloc::{AllocError, Global};
 
 const SYSTEM_INFO: u32 = 7;

@@ -1,13 +1,13 @@
 //! The records and texts of Breakpad, of Mozilla and of Linux.
 
-use crate::given::{BOTH, counted_stream_of, dump_of, is_text, stream_of};
+use crate::given::{counted_stream_of, dump_of, is_text, stream_of};
 use minidump::format::{MINIDUMP_BREAKPAD_INFO, MINIDUMP_MAC_BOOTARGS};
 use minidump::{
     Endian, Error, LinuxPairs, MinidumpAssertion, MinidumpBreakpadInfo, MinidumpLinuxCpuInfo,
     MinidumpLinuxEnviron, MinidumpLinuxLsbRelease, MinidumpLinuxProcLimits,
     MinidumpLinuxProcStatus, MinidumpMacBootargs, MinidumpSoftErrors,
 };
-use minidump_synth::SynthMinidump;
+use minidump_synth::{BOTH, SynthMinidump};
 use std::alloc::{AllocError, Global};
 
 const BREAKPAD_INFO: u32 = 0x4767_0001;

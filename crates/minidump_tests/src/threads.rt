@@ -1,6 +1,6 @@
 //! Threads: their stacks, their contexts and their last errors.
 
-use crate::given::{BOTH, counted_stream_of, stream_of};
+use crate::given::{MEMORY_LIST, OUTSIDE, counted_stream_of, stream_of};
 use minidump::format::{
     CONTEXT_AMD64, MINIDUMP_LOCATION_DESCRIPTOR, MINIDUMP_MEMORY_DESCRIPTOR, MINIDUMP_SYSTEM_INFO,
     MINIDUMP_THREAD,
@@ -10,18 +10,10 @@ use minidump::{
     CodeFamily, CodeNames, CrashReason, Endian, Error, Minidump, MinidumpSystemInfo,
     MinidumpThread, MinidumpThreadList, Told, UnifiedMemoryList,
 };
-use minidump_synth::{OVERLAPPING, SynthMinidump, zeroed};
+use minidump_synth::{BOTH, OVERLAPPING, SynthMinidump, zeroed};
 use std::alloc::{AllocError, Global};
 
 const THREAD_LIST: u32 = 3;
-
-const MEMORY_LIST: u32 = 5;
-
-// No file of a test is so long.
-const OUTSIDE: MINIDUMP_LOCATION_DESCRIPTOR = MINIDUMP_LOCATION_DESCRIPTOR {
-    data_size: 16,
-    rva: 0xffff_0000,
-};
 
 const NO_RVA: MINIDUMP_LOCATION_DESCRIPTOR = MINIDUMP_LOCATION_DESCRIPTOR {
     data_size: 16,

@@ -1,7 +1,6 @@
 // Each enumeration with its numbers, and numbers beside them that name nothing.
 use minidump_format::format::{
-    CvSignature, MINIDUMP_ANNOTATION, MINIDUMP_HANDLE_OBJECT_INFORMATION_TYPE, MINIDUMP_SIGNATURE,
-    MINIDUMP_VERSION, PlatformId, ProcessorArchitecture, VS_FFI_SIGNATURE, VS_FFI_STRUCVERSION,
+    CvSignature, MINIDUMP_HANDLE_OBJECT_INFORMATION_TYPE, PlatformId, ProcessorArchitecture,
 };
 
 #[rattlefmt::skip]
@@ -110,16 +109,4 @@ fn knows_no_other_numbers(rt: HostRuntime) {
             .all(|n| PlatformId::from_u32(*n) == None),
     ];
     assert!(rt; found == [true; 4]);
-}
-
-#[test]
-fn numbers_constants(rt: HostRuntime) {
-    assert!(rt; [MINIDUMP_SIGNATURE, MINIDUMP_VERSION] == [u32::from_le_bytes(*b"MDMP"), 0xa793]);
-    assert!(rt; [VS_FFI_SIGNATURE, VS_FFI_STRUCVERSION] == [0xfeef_04bd, 0x1_0000]);
-    let types = [
-        MINIDUMP_ANNOTATION::TYPE_INVALID,
-        MINIDUMP_ANNOTATION::TYPE_STRING,
-        MINIDUMP_ANNOTATION::TYPE_USER_DEFINED,
-    ];
-    assert!(rt; types == [0, 1, 0x8000]);
 }

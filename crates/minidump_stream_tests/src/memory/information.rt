@@ -1,4 +1,4 @@
-use crate::given::{BOTH, read_in};
+use crate::given::read_in;
 use bitflags::Flags;
 use minidump_bytes::{Endian, Steps};
 use minidump_format::Error;
@@ -7,7 +7,7 @@ use minidump_index::{Range, Region};
 use minidump_memory::{
     MinidumpLinuxMaps, MinidumpMemoryInfo, MinidumpMemoryInfoList, UnifiedMemoryInfoList,
 };
-use minidump_synth::{Section, zeroed};
+use minidump_synth::{BOTH, Section, zeroed};
 use std::alloc::{AllocError, Global};
 use std::test::Fail;
 

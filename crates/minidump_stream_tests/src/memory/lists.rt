@@ -1,25 +1,15 @@
 use super::regions::described;
-use super::{Listed, region, region_64};
-use crate::given::{BOTH, read_in};
+use super::{region, region_64};
+use crate::given::{Listed, read_in};
 use minidump_bytes::{Endian, Steps};
 use minidump_format::Error;
 use minidump_index::Range;
 use minidump_memory::{MinidumpMemory64List, MinidumpMemoryList, UnifiedMemoryList};
-use minidump_synth::Section;
+use minidump_synth::{BOTH, OVERLAPPING, Section};
 use std::alloc::{AllocError, Global};
 use std::test::Fail;
 
 const FILE: &[u8] = &[0, 1, 2, 3, 4, 5, 6, 7];
-
-// The second has the addresses of the first, the third and the fourth share some with it, and the last
-// begins where the first ends.
-const FIVE: &[(u64, &[u8])] = &[
-    (0x1000, &[0; 0x1000]),
-    (0x1000, &[1; 0x1000]),
-    (0x1001, &[2; 0x1000]),
-    (0x1001, &[3; 0x100]),
-    (0x2000, &[4; 0x1000]),
-];
 
 // The base addresses of all regions, and of those that are kept, from both ends.
 fn listed(alloc: Global, list: &UnifiedMemoryList<'_>) -> Result<Vec<u64>, AllocError> {
@@ -83,14 +73,14 @@ fn keeps_two_of(alloc: Global, list: &UnifiedMemoryList<'_>) -> Result<bool, All
 }
 
 fn plain_keeps_two(alloc: Global, endian: Endian) -> Result<bool, Error> {
-    let listed = Listed::plain(alloc, endian, FIVE)?;
-    let list: MinidumpMemoryList = listed.read(alloc)?;
+    let listed = Listed::plain(alloc, endian, OVERLAPPING)?;
+    let list: MinidumpMemoryList = listed.read(alloc, &mut Steps::new())?;
     Ok(keeps_two_of(alloc, &UnifiedMemoryList::Memory(list))?)
 }
 
 fn long_keeps_two(alloc: Global, endian: Endian) -> Result<bool, Error> {
-    let listed = Listed::long(alloc, endian, FIVE)?;
-    let list: MinidumpMemory64List = listed.read(alloc)?;
+    let listed = Listed::long(alloc, endian, OVERLAPPING)?;
+    let list: MinidumpMemory64List = listed.read(alloc, &mut Steps::new())?;
     Ok(keeps_two_of(alloc, &UnifiedMemoryList::Memory64(list))?)
 }
 
@@ -257,8 +247,8 @@ const TWO: &[(u64, &[u8])] = &[(0x1000, &[0xa0, 0xa1]), (0x2000, &[0xb0, 0xb1, 0
 fn outlive_their_list(alloc: Global) -> Result<bool, Error> {
     let plain = Listed::plain(alloc, Endian::Little, TWO)?;
     let long = Listed::long(alloc, Endian::Little, TWO)?;
-    let second = bytes_at(plain.read(alloc)?, 0x2000);
-    let third = long_bytes_at(long.read(alloc)?, 0x2002);
+    let second = bytes_at(plain.read(alloc, &mut Steps::new())?, 0x2000);
+    let third = long_bytes_at(long.read(alloc, &mut Steps::new())?, 0x2002);
     Ok(
         second == plain.file.get(34..37)
             && third == long.file.get(3..6)

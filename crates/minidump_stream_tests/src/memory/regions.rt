@@ -1,9 +1,10 @@
-use super::{Listed, region, region_64};
-use crate::given::BOTH;
-use minidump_bytes::{Endian, FixedRead, Told};
+use super::{region, region_64};
+use crate::given::Listed;
+use minidump_bytes::{Endian, FixedRead, Steps, Told};
 use minidump_format::Error;
 use minidump_format::format::{MINIDUMP_LOCATION_DESCRIPTOR, MINIDUMP_MEMORY_DESCRIPTOR};
 use minidump_memory::{MinidumpMemory, UnifiedMemory, UnifiedMemoryList};
+use minidump_synth::BOTH;
 use std::alloc::{AllocError, Global};
 use std::test::Fail;
 
@@ -170,8 +171,8 @@ fn prints_the_bytes(alloc: Global) -> Result<bool, Error> {
     let row: &[(u64, &[u8])] = &[(0x1000, b"memory_contents")];
     let plain = Listed::plain(alloc, Endian::Little, row)?;
     let long = Listed::long(alloc, Endian::Little, row)?;
-    let plain = UnifiedMemoryList::Memory(plain.read(alloc)?);
-    let long = UnifiedMemoryList::Memory64(long.read(alloc)?);
+    let plain = UnifiedMemoryList::Memory(plain.read(alloc, &mut Steps::new())?);
+    let long = UnifiedMemoryList::Memory64(long.read(alloc, &mut Steps::new())?);
     Ok(prints(alloc, &plain, PRINTED)? && prints(alloc, &long, PRINTED_64)?)
 }
 

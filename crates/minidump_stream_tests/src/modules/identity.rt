@@ -1,9 +1,9 @@
 use super::{Written, added};
-use crate::given::{BOTH, system};
+use crate::given::system;
 use minidump_bytes::Endian;
 use minidump_format::Error;
 use minidump_modules::{CodeId, CodeView, DebugId, MinidumpModule, MinidumpUnloadedModule, Module};
-use minidump_synth::SynthMinidump;
+use minidump_synth::{BOTH, SynthMinidump};
 use std::alloc::{AllocError, Global};
 use std::test::Fail;
 

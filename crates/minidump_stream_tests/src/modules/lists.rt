@@ -1,8 +1,9 @@
-use super::{Listed, Written};
-use crate::given::BOTH;
+use super::Written;
+use crate::given::Listed;
 use minidump_bytes::{Endian, Steps};
 use minidump_format::Error;
 use minidump_modules::{MinidumpModuleList, MinidumpUnloadedModuleList};
+use minidump_synth::BOTH;
 use std::alloc::{AllocError, Global};
 use std::test::Fail;
 

@@ -1,4 +1,4 @@
-use crate::given::{BOTH, read_in};
+use crate::given::read_in;
 use minidump_bytes::{Endian, Steps};
 use minidump_format::Error;
 use minidump_format::format::{
@@ -7,7 +7,7 @@ use minidump_format::format::{
     MINIDUMP_SIMPLE_STRING_DICTIONARY_ENTRY, RVA,
 };
 use minidump_records::{MinidumpAnnotation, MinidumpCrashpadInfo, MinidumpModuleCrashpadInfo};
-use minidump_synth::{Encode, Section, SynthMinidump, zeroed};
+use minidump_synth::{BOTH, Encode, Section, SynthMinidump, zeroed};
 use std::alloc::{AllocError, Global};
 use std::collections::BTreeMap;
 use std::test::Fail;

@@ -1,4 +1,4 @@
-use crate::given::{BOTH, read_in};
+use crate::given::read_in;
 use minidump_bytes::{Endian, Steps};
 use minidump_format::Error;
 use minidump_format::format::MINIDUMP_HANDLE_DESCRIPTOR_2;
@@ -6,7 +6,7 @@ use minidump_records::{
     MinidumpHandleDataStream, MinidumpHandleDescriptor, MinidumpHandleObjectInformation,
     RawHandleDescriptor,
 };
-use minidump_synth::{Section, SynthMinidump, handle_circle, zeroed};
+use minidump_synth::{BOTH, Section, SynthMinidump, handle_circle, zeroed};
 use std::alloc::{AllocError, Global};
 use std::test::Fail;
 

@@ -1,9 +1,9 @@
-use crate::given::{BOTH, read_in};
+use crate::given::read_in;
 use minidump_bytes::{Endian, Steps};
 use minidump_format::Error;
 use minidump_format::format::MINIDUMP_MAC_CRASH_INFO;
 use minidump_records::{MinidumpMacCrashInfo, RawMacCrashInfo};
-use minidump_synth::{Section, SynthMinidump, zeroed};
+use minidump_synth::{BOTH, Section, SynthMinidump, zeroed};
 use std::alloc::Global;
 use std::test::Fail;
 
