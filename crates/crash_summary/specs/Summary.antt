@@ -1,5 +1,5 @@
 -- The summary of a crash: which thread, where, why, in which module and on which stack, by what the streams of a minidump are.
-use Rattle.std.specs.Prelude.{◌≡◌, ◌⊎◌, ℕ, List, [], Option, Some, None, Result, Ok, IsOk, string_bytes, unwrap_or}
+use Rattle.std.specs.Prelude.{◌≡◌, ℕ, List, [], Option, Some, None, Result, Ok, string_bytes, unwrap_or}
 use Rattle.std.specs.Option.{option_and_then, option_map, option_or}
 use Rattle.std.specs.Result.{result_ok}
 use Rattle.minidump.specs.declared.Error.{Error}
@@ -13,7 +13,7 @@ use Rattle.minidump.specs.Below.Reasons.ReasonText.{reason_text}
 use Rattle.minidump.specs.Below.System.Reads.{and_then}
 use Rattle.minidump.specs.Below.System.StreamSpec.{StreamSpec}
 use Rattle.minidump.specs.Below.System.System.{System}
-use Rattle.minidump.specs.Dump.{Dump, HasEntries, dump_in, dump_system, stream_of}
+use Rattle.minidump.specs.Dump.{Dump, dump_in, dump_system, stream_of}
 use Rattle.minidump.specs.Exception.{Exception, crash_address}
 use Rattle.minidump.specs.Memory.{memories_of_dump}
 use Rattle.minidump.specs.Promise.{exception_stream, module_list_stream, thread_list_stream}
@@ -128,7 +128,3 @@ crash_in file = and_then (dump_in file) (λ d. and_then (stream_of exception_str
 -- the summary of a file
 abbrev pub IsSummaryOf : List ℕ → Lists → Summary → Type 0
 IsSummaryOf file names s = (d : Dump) × (e : Exception) × (crash_in file ≡ Ok (d, e)) × IsSummary names d e s
-
--- where memory may run out: at a directory with entries, as that of each file with a crash is
-abbrev pub TakesMemory : List ℕ → Type 0
-TakesMemory file = HasEntries file ⊎ IsOk (crash_in file)

@@ -1,10 +1,12 @@
 //! Laws of summaries, over the definitions that the contract of [`crate::summarise`] names.
 ghost use Rattle.std.specs.Prelude.{◌≡◌, ℕ, List, Ok};
+ghost use Rattle.minidump.specs.Below.Bytes.Exact.{IsExact};
 ghost use Rattle.minidump.specs.Below.Reasons.Names.{Lists};
 ghost use Rattle.minidump.specs.Dump.{Dump};
 ghost use Rattle.minidump.specs.Exception.{Exception};
 ghost use Rattle.crash_summary.specs.Summary.{IsSummary, IsSummaryOf, Summary, crash_in};
 
+use crate::StackHit;
 use minidump::format::MINIDUMP_MEMORY_DESCRIPTOR;
 use minidump::laws;
 
@@ -18,3 +20,8 @@ pub fn one_summary()
     laws::module_laws();
     laws::region_laws::<MINIDUMP_MEMORY_DESCRIPTOR>();
 }
+
+/// A stack equals the same stack alone, and a clone of it is the same stack.
+pub fn stacks_compare_and_copy_exactly()
+    ensures { IsExact ⟦<StackHit as PartialEq>⟧.eq ⟦<StackHit as Clone>⟧.is_clone }
+{}

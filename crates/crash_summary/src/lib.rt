@@ -12,16 +12,16 @@
 //! [`laws::one_summary`]. The proofs use the contracts and the laws of `minidump`, and nothing below.
 #![tactic(auto)]
 
-ghost use Rattle.std.specs.Prelude.{◌≡◌, IfErr, IfOk, IsOkUnless, string_bytes};
+ghost use Rattle.std.specs.Prelude.{◌≡◌, ◌<◌, IfErr, IfOk, IsOkUnless, string_bytes};
 ghost use Rattle.std.specs.Option.{option_copied, option_map};
 ghost use Rattle.minidump.specs.Below.Format.Answer.{Refuses};
 ghost use Rattle.minidump.specs.Below.MemoryLists.Unified.{unified_list};
 ghost use Rattle.minidump.specs.Below.Modules.Module.{module_of};
-ghost use Rattle.minidump.specs.Dump.{IsFoundStream, dump_system};
+ghost use Rattle.minidump.specs.Dump.{HasEntries, IsFoundStream, dump_system};
 ghost use Rattle.minidump.specs.DumpValue.{dump_of};
 ghost use Rattle.minidump.specs.Promise.{exception_stream, module_list_stream, system_info_stream, thread_list_stream};
 ghost use Rattle.minidump.specs.Thread.{IsLastThread, thread_of};
-ghost use Rattle.crash_summary.specs.Summary.{IsModuleAt, IsStackOf, IsSummary, IsSummaryOf, TakesMemory, address_in, crash_in, crash_pointer, loaded_at, loaded_of, memory_in, modules_in, reason_in, summary_of, threads_in};
+ghost use Rattle.crash_summary.specs.Summary.{IsModuleAt, IsStackOf, IsSummary, IsSummaryOf, address_in, crash_in, crash_pointer, loaded_at, loaded_of, memory_in, modules_in, reason_in, summary_of, threads_in};
 
 pub mod laws;
 
@@ -73,7 +73,7 @@ pub struct StackHit {
 /// missing or malformed, else `OutOfMemory` if an allocation fails. A directory without entries takes no memory.
 pub fn summarise(alloc: Global, bytes: &[u8], names: &CodeNames<'_>) -> Result<CrashSummary, Error>
     ensures summary { IfOk result (λ s. IsSummaryOf bytes.now names.now (summary_of s)) }
-    ensures refused { IfErr result (λ e. Refuses (TakesMemory bytes.now) e (crash_in bytes.now)) }
+    ensures refused { IfErr result (λ e. Refuses (HasEntries bytes.now) e (crash_in bytes.now)) }
 {
     let dump = Minidump::read(alloc, bytes)?;
     let exception = dump.get_stream::<MinidumpException>(alloc)?;
@@ -107,10 +107,11 @@ fn summary_in<'a>(
 }
 
 /// Returns the system information of a dump, or `None` if it is missing or malformed. The only error is
-/// [`Error::OutOfMemory`].
+/// [`Error::OutOfMemory`]. A directory without entries takes no memory.
 pub fn system_of(alloc: Global, dump: &Minidump<'_>) -> Result<Option<MinidumpSystemInfo>, Error>
     ensures value { IfOk result (λ system. option_map system_info_stream.value system ≡ dump_system (dump_of dump.now)) }
     ensures found { IsFoundStream system_info_stream (dump_of dump.now) result }
+    ensures memory { IfErr result (λ e. (e ≡ Error.OutOfMemory) × (0 < (dump_of dump.now).header.stream_count)) }
 {
     minidump::laws::system_information_is_the_dumps();
     dump.find_stream(alloc)

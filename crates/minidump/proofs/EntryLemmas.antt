@@ -1,9 +1,10 @@
 -- A directory in which a stream is found has an entry.
 use Rattle.std.proofs.Common.{◌≡◌, ℕ, ◌<◌, List, Some, None, length, refl, inl, inr}
 use Rattle.std.proofs.lemmas.Bool.{false≢true}
-use Rattle.std.specs.Prelude.{Option, Result, Ok, Err, IsOk, IsSome}
+use Rattle.std.specs.Prelude.{Option, Result, Ok, Err, IfErr, IsOk, IsSome, OnOk}
 use Rattle.minidump_bytes.proofs.EntryLemmas.{length-entries}
 use Rattle.minidump_format.specs.declared.error.Error.{Error}
+use Rattle.minidump_format.specs.declared.error.Error.TheVariants.{OutOfMemory}
 use Rattle.minidump_format.specs.declared.format.memory.MINIDUMP_MEMORY_DESCRIPTOR.{MINIDUMP_MEMORY_DESCRIPTOR}
 use Rattle.minidump_format.specs.declared.format.memory.MINIDUMP_MEMORY_DESCRIPTOR64.{MINIDUMP_MEMORY_DESCRIPTOR64}
 use Rattle.minidump_format.specs.Header.{directory_entry}
@@ -65,3 +66,14 @@ regions_have_entry d some = by_lists (stream_of memory64_list_stream d) (stream_
     by_lists (Ok l) plain is_long is_plain k = stream_has_entry memory64_list_stream d (rw is_long refl)
     by_lists (Err e) (Ok p) is_long is_plain k = stream_has_entry memory_list_stream d (rw is_plain refl)
     by_lists (Err e) (Err f) is_long is_plain k = absurd (false≢true (rw (is_long, is_plain) at k))
+
+-- ---- what a call returns
+
+-- what holds behind an entry, whatever is returned
+pub on_ok : {X P : Type 0} (r : Result X Error) → P → OnOk r P
+on_ok (Ok x) has = has
+on_ok (Err e) has = tt
+
+pub on_want : {X P : Type 0} (r : Result X Error) → P → IfErr r (λ e. e ≡ OutOfMemory → P)
+on_want (Ok x) has = tt
+on_want (Err e) has = λ out. has

@@ -99,7 +99,7 @@ stream_of spec d = stream (number_of spec.stream_type) spec.meaning d
 
 -- where reading that stream may run out of memory
 abbrev pub stream_memory : {S V : Type 0} → StreamSpec S V → Dump → Type 0
-stream_memory spec d = IsOkAnd (raw_stream (number_of spec.stream_type) d) (λ b. spec.memory d.order b)
+stream_memory spec d = IsOkAnd (raw_stream (number_of spec.stream_type) d) (λ b. spec.memory d.order d.file b (dump_system d))
 
 -- a result is the stream of a table or its error; or memory ran out where it may
 abbrev pub IsStreamOf : {S V : Type 0} → StreamSpec S V → Dump → Result S Error → Type 0

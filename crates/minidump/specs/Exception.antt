@@ -15,6 +15,7 @@ use Rattle.minidump_format.specs.declared.format.exception.MINIDUMP_EXCEPTION_ST
 use Rattle.minidump_format.specs.Exception.{exception_layout}
 use Rattle.minidump_format.specs.declared.format.header.MINIDUMP_LOCATION_DESCRIPTOR.{MINIDUMP_LOCATION_DESCRIPTOR}
 use Rattle.minidump_format.specs.Header.{located}
+use Rattle.minidump_format.specs.Text.{line_end}
 use Rattle.minidump_system.specs.StreamSpec.{StreamSpec}
 use Rattle.minidump_system.specs.declared.cpu.Cpu.{Cpu}
 use Rattle.minidump_system.specs.declared.cpu.PointerWidth.{PointerWidth}
@@ -72,7 +73,7 @@ exception_stream = record {
   meaning = λ order file bytes system. exception_in order file bytes;
   most = λ n. 2;
   fewest = λ order bytes exception. 2;
-  memory = λ order bytes. ⊥;
+  memory = λ order file bytes system. ⊥;
 }
 
 -- the printed text, line by line: the numbers of the record
@@ -103,17 +104,13 @@ location_lines l = concat (
     ∷ codes "  thread_context.rva                         = " ∷ hex l.rva ∷ codes "\n"
     ∷ [])
 
--- the context behind an empty line; else the text ends with four blanks and no line feed
-unfoldable pub line_before : List ℕ
-line_before = codes "\n"
-
 -- the text in the place of a context that there is none of
 unfoldable pub no_exception_context : List ℕ
 no_exception_context = codes "  (no context)\n\n    "
 
--- the text of the context of an exception
+-- the text of the context of an exception, behind an empty line; without a context the text ends with four blanks and no line feed
 abbrev pub exception_context_text : Option MinidumpRawContext → List ℕ
-exception_context_text (Some c) = line_before ++ context_text c
+exception_context_text (Some c) = line_end ++ context_text c
 exception_context_text None = no_exception_context
 
 -- the text of an exception with such a context

@@ -114,5 +114,5 @@ thread_list_stream = record {
   meaning = λ order file bytes system. thread_list_in order file bytes;
   most = linear;
   fewest = λ order bytes threads. 1 + length threads + sum_by thread_reads threads;
-  memory = λ order bytes. IsOkAnd (plain_list thread order bytes) (λ raws. 0 < length raws);
+  memory = λ order file bytes system. IsOkAnd (plain_list thread order bytes) (λ raws. 0 < length raws);
 }

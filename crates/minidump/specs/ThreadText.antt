@@ -8,6 +8,7 @@ use Rattle.minidump_bytes.specs.Number.{number_at}
 use Rattle.minidump_bytes.specs.Piece.{hex, wide_hex}
 use Rattle.minidump_format.specs.declared.format.memory.MINIDUMP_MEMORY_DESCRIPTOR.{MINIDUMP_MEMORY_DESCRIPTOR}
 use Rattle.minidump_format.specs.declared.format.thread.MINIDUMP_THREAD.{MINIDUMP_THREAD}
+use Rattle.minidump_format.specs.Text.{line_end}
 use Rattle.minidump_system.specs.Cpu.{width_of}
 use Rattle.minidump_system.specs.declared.cpu.PointerWidth.{PointerWidth}
 use Rattle.minidump_system.specs.declared.cpu.PointerWidth.TheVariants.{Bits32, Bits64, Unknown}
@@ -71,13 +72,9 @@ stack_heading = codes "Stack\n"
 unfoldable pub no_stack : List ℕ
 no_stack = codes "No stack\n\n"
 
--- an empty line
-unfoldable pub empty_line : List ℕ
-empty_line = codes "\n"
-
 -- the text of the stack of a thread
 abbrev pub stack_text : Endian → PointerWidth → Option UnifiedRegion → List ℕ
-stack_text order width (Some stack) = stack_heading ++ (words_text order width stack.bytes ++ empty_line)
+stack_text order width (Some stack) = stack_heading ++ (words_text order width stack.bytes ++ line_end)
 stack_text order width None = no_stack
 
 -- how wide a pointer is on the machine of a dump
@@ -100,7 +97,7 @@ stack_of memory t = own_or t.stack (listed_stack memory t.raw.stack.start_of_mem
 
 -- what stands behind the context: an empty line where the text is brief, else the stack
 abbrev pub thread_end : Bool → Endian → PointerWidth → Option UnifiedRegion → List ℕ
-thread_end brief order width stack = if brief then empty_line else stack_text order width stack
+thread_end brief order width stack = if brief then line_end else stack_text order width stack
 
 -- a thread, by its context and its stack
 abbrev pub thread_with : Thread → Option MinidumpRawContext → Bool → PointerWidth → Option UnifiedRegion → List ℕ

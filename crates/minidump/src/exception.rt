@@ -6,8 +6,9 @@ ghost use Rattle.minidump_context.specs.declared.validity.MinidumpContextValidit
 ghost use Rattle.minidump_reason.specs.Reason.{crash_reason};
 ghost use Rattle.minidump_context.specs.Text.{context_text};
 ghost use Rattle.minidump_format.specs.Print.{Prints};
+ghost use Rattle.minidump_format.specs.Text.{line_end};
 ghost use Rattle.minidump_system.specs.SystemInfo.{system_info_of};
-ghost use Rattle.minidump.specs.Exception.{crash_address, exception_context_text, exception_head, exception_of, exception_stream, exception_text, exception_with, line_before, location_lines, no_exception_context, parameter_line, parameter_lines};
+ghost use Rattle.minidump.specs.Exception.{crash_address, exception_context_text, exception_head, exception_of, exception_stream, exception_text, exception_with, location_lines, no_exception_context, parameter_line, parameter_lines};
 ghost use Rattle.minidump.specs.Thread.{accepted_context};
 
 use crate::thread::{accepted_context, known_context};
@@ -16,7 +17,7 @@ use minidump_context::MinidumpContext;
 use minidump_format::format::{
     MINIDUMP_EXCEPTION, MINIDUMP_EXCEPTION_STREAM, MINIDUMP_LOCATION_DESCRIPTOR,
 };
-use minidump_format::{Error, Pushed, print_item};
+use minidump_format::{Error, Pushed, print_item, push_line_end};
 use minidump_reason::{CodeNames, CrashReason};
 use minidump_system::{
     Cpu, MinidumpMiscInfo, MinidumpStream, MinidumpSystemInfo, Os, PointerWidth,
@@ -247,17 +248,10 @@ fn push_context(out: &mut Vec<u8>, context: &Option<MinidumpContext>) -> Result<
 }
 
 fn push_context_behind_line(out: &mut Vec<u8>, context: &MinidumpContext) -> Result<(), AllocError>
-    ensures { OnOk result (out.new.items ≡ out.old.items ++ (line_before ++ context_text context.now.raw)) }
+    ensures { OnOk result (out.new.items ≡ out.old.items ++ (line_end ++ context_text context.now.raw)) }
 {
-    push_line_before(out)?;
+    push_line_end(out)?;
     context.push(out)
-}
-
-#[tactic(auto, unfolding(crate::specs::Exception::line_before))]
-fn push_line_before(out: &mut Vec<u8>) -> Result<(), AllocError>
-    ensures { OnOk result (out.new.items ≡ out.old.items ++ line_before) }
-{
-    out.extend_from_slice(b"\n")
 }
 
 #[tactic(auto, unfolding(crate::specs::Exception::no_exception_context))]

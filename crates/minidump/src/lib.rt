@@ -37,7 +37,7 @@
 //! - The memory is the 64-bit list, else, where that is missing or malformed, the memory list: `get_memory`,
 //!   by `memories_of_dump`. `OutOfMemory` is no reason to take the other list.
 //! - A directory without entries has no stream and no memory, so that no read of either takes memory there:
-//!   `laws::a_found_stream_has_an_entry`, `found_memory_has_an_entry`.
+//!   `get_stream`, `find_stream`, `get_memory`; `laws::a_found_stream_has_an_entry`, `found_memory_has_an_entry`.
 //! - The threads, in the order of the file, each with the bytes of its context and its stack:
 //!   `laws::streams_are_read_as_promised`, by `thread_list_in`; the last one of an id: `get_thread`,
 //!   `laws::one_last_thread`. A context: `MinidumpThread::context`, `MinidumpException::context`. A stack is

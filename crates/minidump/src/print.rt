@@ -1,7 +1,8 @@
 ghost use Rattle.std.specs.Prelude.{◌≡◌, ◌++◌, OnOk};
 ghost use Rattle.std.specs.List.{flat_map};
 ghost use Rattle.minidump_format.specs.Print.{Prints};
-ghost use Rattle.minidump.specs.Text.{dump_text, entry_text, header_text, line_end, shown_type, stream_text, streams_heading};
+ghost use Rattle.minidump_format.specs.Text.{line_end};
+ghost use Rattle.minidump.specs.Text.{dump_text, entry_text, header_text, shown_type, stream_text, streams_heading};
 ghost use Rattle.minidump.specs.Dump.{streams_of};
 ghost use Rattle.minidump.specs.DumpValue.{dump_of};
 
@@ -9,7 +10,9 @@ use crate::Minidump;
 use crate::directory::DecidingEntry;
 use minidump_bytes::{Piece, Told, push_pieces};
 use minidump_format::format::{MINIDUMP_HEADER, MINIDUMP_STREAM_TYPE};
-use minidump_format::{Error, PushText, Pushed, print_item, print_list_by, put_text};
+use minidump_format::{
+    Error, PushText, Pushed, print_item, print_line_end, print_list_by, put_text,
+};
 use std::alloc::{AllocError, Global};
 use std::io::Write;
 
@@ -63,13 +66,6 @@ fn print_heading<W: Write>(f: &mut Told<W>) -> Result<(), Error>
     ensures { Prints W.contents f.old f.new streams_heading result }
 {
     put_text(f, "Streams:\n")
-}
-
-#[tactic(auto, unfolding(crate::specs::Text::line_end))]
-fn print_line_end<W: Write>(f: &mut Told<W>) -> Result<(), Error>
-    ensures { Prints W.contents f.old f.new line_end result }
-{
-    put_text(f, "\n")
 }
 
 #[derive(Clone, Copy)]

@@ -1,4 +1,4 @@
-ghost use Rattle.std.specs.Prelude.{◌≡◌, ◌≢◌, ◌+◌, ◌≤◌, length, IfOk, IfSome};
+ghost use Rattle.std.specs.Prelude.{◌≡◌, ◌≢◌, ◌+◌, ◌<◌, ◌≤◌, length, IfErr, IfOk, IfSome, OnOk, OnSome};
 ghost use Rattle.minidump_bytes.specs.Steps.{after};
 ghost use Rattle.minidump_format.specs.Answer.{Gives};
 ghost use Rattle.minidump_format.specs.StreamType.{number_of};
@@ -44,9 +44,11 @@ impl<'a> Minidump<'a> {
 
     /// Reads the stream of the type `S`, and hands it the dump's system information. Returns
     /// `StreamNotFound` and `StreamReadFailure` as [`Minidump::get_raw_stream`] does, else the errors of
-    /// the type.
+    /// the type. A directory without entries takes no memory.
     pub fn get_stream<S: MinidumpStream<'a>>(&self, alloc: Global) -> Result<S, Error>
-        ensures { IsStreamOf S.spec (dump_of self.now) result }
+        ensures means { IsStreamOf S.spec (dump_of self.now) result }
+        ensures entry { OnOk result (0 < (dump_of self.now).header.stream_count) }
+        ensures memory { IfErr result (λ e. e ≡ Error.OutOfMemory → 0 < (dump_of self.now).header.stream_count) }
     {
         self.get_stream_counted(alloc, &mut Steps::new())
     }
@@ -59,6 +61,8 @@ impl<'a> Minidump<'a> {
         steps: &mut Steps,
     ) -> Result<S, Error>
         ensures means { IsStreamOf S.spec (dump_of self.now) result }
+        ensures entry { OnOk result (0 < (dump_of self.now).header.stream_count) }
+        ensures memory { IfErr result (λ e. e ≡ Error.OutOfMemory → 0 < (dump_of self.now).header.stream_count) }
         ensures within { steps.new ≤ steps.old + S.spec.most (length (dump_of self.now).file) + 1 }
         ensures grows { steps.old ≤ steps.new }
         ensures counted { raw_stream (number_of S.spec.stream_type) (dump_of self.now) ≢ Err Error.StreamNotFound
@@ -80,9 +84,11 @@ impl<'a> Minidump<'a> {
     }
 
     /// Reads the stream of the type `S`, or returns `None` if it is missing or malformed. The only error is
-    /// [`Error::OutOfMemory`].
+    /// [`Error::OutOfMemory`]. A directory without entries takes no memory.
     pub fn find_stream<S: MinidumpStream<'a>>(&self, alloc: Global) -> Result<Option<S>, Error>
-        ensures { IsFoundStream S.spec (dump_of self.now) result }
+        ensures means { IsFoundStream S.spec (dump_of self.now) result }
+        ensures entry { IfOk result (λ found. OnSome found (0 < (dump_of self.now).header.stream_count)) }
+        ensures memory { IfErr result (λ e. (e ≡ Error.OutOfMemory) × (0 < (dump_of self.now).header.stream_count)) }
     {
         self.find_stream_counted(alloc, &mut Steps::new())
     }
@@ -95,6 +101,8 @@ impl<'a> Minidump<'a> {
         steps: &mut Steps,
     ) -> Result<Option<S>, Error>
         ensures means { IsFoundStream S.spec (dump_of self.now) result }
+        ensures entry { IfOk result (λ found. OnSome found (0 < (dump_of self.now).header.stream_count)) }
+        ensures memory { IfErr result (λ e. (e ≡ Error.OutOfMemory) × (0 < (dump_of self.now).header.stream_count)) }
         ensures within { steps.new ≤ steps.old + S.spec.most (length (dump_of self.now).file) + 1 }
         ensures grows { steps.old ≤ steps.new }
         ensures counted { raw_stream (number_of S.spec.stream_type) (dump_of self.now) ≢ Err Error.StreamNotFound

@@ -8,9 +8,9 @@
  * at the same time.
  *
  * A call about a dump returns MINIDUMP_OK or an error, but never MINIDUMP_FILE_NOT_FOUND or MINIDUMP_IO_ERROR. After an
- * error every buffer, number and struct is as it was. A missing or malformed list of modules or threads is an error of
- * the calls for its table and names, and so is the exception for minidump_summary; there every other missing or
- * malformed stream, and in the calls for memory and names of threads theirs, counts as none.
+ * error every buffer, number and struct is as it was. A missing or malformed stream is an error of a call in three cases:
+ * the list of modules of minidump_module_table and minidump_module_name, the list of threads of minidump_thread_table,
+ * and the exception of minidump_summary. Any other one counts as none; in a report a malformed one is a line.
  *
  * Names and reasons are UTF-8; a report also has bytes of the dump as they are. A text that is cut may end within a
  * character. No zero is written behind a text, and a name may hold zeros. Codes have no names here, so most reasons are
@@ -124,7 +124,7 @@ uint32_t minidump_module_table(const uint8_t *bytes, size_t len, struct minidump
                                size_t *count);
 
 /* Writes the name of the module with an index in that table, in UTF-8, to the front of out, as far as it fits, and the
- * size of the whole name to *size: 0 for an index behind the table's end. */
+ * size of the whole name to *size: 0 for an index past the end of the table. */
 uint32_t minidump_module_name(const uint8_t *bytes, size_t len, size_t index, uint8_t *out, size_t out_len,
                               size_t *size);
 

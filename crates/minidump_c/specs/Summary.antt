@@ -3,7 +3,8 @@ use Rattle.std.specs.Prelude.{◌≡◌, ℕ, List, [], length, Option, Some, No
 use Rattle.std.specs.Option.{option_map}
 use Rattle.minidump.specs.Below.Format.Answer.{Refuses}
 use Rattle.minidump.specs.declared.Error.{Error}
-use Rattle.crash_summary.specs.Summary.{IsSummaryOf, Summary, TakesMemory, crash_in}
+use Rattle.minidump.specs.Dump.{HasEntries}
+use Rattle.crash_summary.specs.Summary.{IsSummaryOf, Summary, crash_in}
 use Rattle.minidump_c.specs.declared.summary.Crash.{Crash}
 use Rattle.minidump_c.specs.Text.{filled}
 
@@ -44,4 +45,4 @@ IsSummarised bytes crash reason new_reason name new_name =
 
 -- the error of the dump or of the exception's stream, or memory ran out at a directory with entries
 abbrev pub IsSummaryRefusal : List ℕ → Error → Type 0
-IsSummaryRefusal bytes e = Refuses (TakesMemory bytes) e (crash_in bytes)
+IsSummaryRefusal bytes e = Refuses (HasEntries bytes) e (crash_in bytes)

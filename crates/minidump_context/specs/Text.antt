@@ -8,6 +8,7 @@ use Rattle.minidump_format.specs.declared.format.context.arm.CONTEXT_ARM.{CONTEX
 use Rattle.minidump_format.specs.declared.format.context.arm64.CONTEXT_ARM64.{CONTEXT_ARM64}
 use Rattle.minidump_format.specs.declared.format.context.arm64.CONTEXT_ARM64_OLD.{CONTEXT_ARM64_OLD}
 use Rattle.minidump_format.specs.declared.format.context.x86.CONTEXT_X86.{CONTEXT_X86}
+use Rattle.minidump_format.specs.Text.{line_end}
 use Rattle.minidump_context.specs.declared.print.lines.Front.{Front}
 use Rattle.minidump_context.specs.declared.print.lines.Front.TheVariants.{Left, Right}
 use Rattle.minidump_context.specs.declared.raw_context.MinidumpRawContext.{MinidumpRawContext}
@@ -37,10 +38,6 @@ numbered_lines front values = flat_map (λ r. register_line (front r.0) r.1) (en
 -- the line of a register that is many bytes, two digits each
 unfoldable pub bytes_line : List ℕ → List ℕ → List ℕ
 bytes_line front bytes = front ++ (bytes_hex bytes ++ codes "\n")
-
--- an empty line
-unfoldable pub empty_line : List ℕ
-empty_line = codes "\n"
 
 -- CONTEXT_X86
 unfoldable pub x86_debug_lines : CONTEXT_X86 → List ℕ
@@ -93,7 +90,7 @@ x86_extended_line c = bytes_line (codes "  extended_registers[512]      = 0x") c
 
 -- the text of a context of x86
 abbrev pub x86_text : CONTEXT_X86 → List ℕ
-x86_text c = x86_debug_lines c ++ (x86_area_line c ++ (x86_lines c ++ (x86_extended_line c ++ empty_line)))
+x86_text c = x86_debug_lines c ++ (x86_area_line c ++ (x86_lines c ++ (x86_extended_line c ++ line_end)))
 
 -- CONTEXT_AMD64
 unfoldable pub amd64_lines : CONTEXT_AMD64 → List ℕ
@@ -140,7 +137,7 @@ amd64_lines c = concat (
 
 -- the text of a context of x86-64
 abbrev pub amd64_text : CONTEXT_AMD64 → List ℕ
-amd64_text c = amd64_lines c ++ empty_line
+amd64_text c = amd64_lines c ++ line_end
 
 -- CONTEXT_ARM
 unfoldable pub arm_flags_line : CONTEXT_ARM → List ℕ

@@ -2,6 +2,7 @@
 pub mod Error
 pub mod Answer
 pub mod Print
+pub mod Text
 pub mod Numbered
 pub mod Header
 pub mod StreamType

@@ -2,20 +2,22 @@
 ghost use Rattle.std.specs.Prelude.{◌≡◌, Some};
 ghost use Rattle.minidump_bytes.specs.Exact.{IsExact};
 ghost use Rattle.minidump_format.specs.Assertion.{assertion_info};
-ghost use Rattle.minidump_format.specs.Breakpad.{breakpad_info};
+ghost use Rattle.minidump_format.specs.Breakpad.{breakpad_info, breakpad_info_valid};
 ghost use Rattle.minidump_format.specs.CodeView.{signature_number, signature_of};
 ghost use Rattle.minidump_format.specs.ContextAmd64.{context_amd64};
 ghost use Rattle.minidump_format.specs.ContextArm.{arm_float_save, context_arm};
 ghost use Rattle.minidump_format.specs.ContextArm64.{context_arm64, context_arm64_old};
 ghost use Rattle.minidump_format.specs.ContextX86.{context_x86, x86_float_save};
 ghost use Rattle.minidump_format.specs.Crashpad.{annotation, crashpad_info, dictionary_entry, module_crashpad_info, module_link};
+ghost use Rattle.minidump_format.specs.ContextFlags.{context_flags};
 ghost use Rattle.minidump_format.specs.Exception.{exception, exception_layout};
+ghost use Rattle.minidump_format.specs.Flags.{arm_features, misc_info_flags};
 ghost use Rattle.minidump_format.specs.Guid.{guid};
 ghost use Rattle.minidump_format.specs.Handle.{handle_descriptor, handle_descriptor_2, information_type_number, information_type_of, object_information};
 ghost use Rattle.minidump_format.specs.Header.{directory_entry, header, location};
 ghost use Rattle.minidump_format.specs.Mac.{mac_boot_args, mac_crash_info, mac_record, mac_record_4, mac_record_5};
 ghost use Rattle.minidump_format.specs.Memory.{memory_descriptor, memory_descriptor_64};
-ghost use Rattle.minidump_format.specs.MemoryInfo.{memory_info};
+ghost use Rattle.minidump_format.specs.MemoryInfo.{memory_info, memory_protection, memory_state, memory_type};
 ghost use Rattle.minidump_format.specs.Misc.{misc_info, misc_info_2, misc_info_3, misc_info_4, misc_info_5, system_time, time_zone, xstate_config, xstate_feature};
 ghost use Rattle.minidump_format.specs.Module.{fixed_file_info, module_entry, unloaded_module_entry};
 ghost use Rattle.minidump_format.specs.StreamType.{number_of, stream_type_of};
@@ -24,23 +26,26 @@ ghost use Rattle.minidump_format.specs.Thread.{thread, thread_info, thread_name}
 ghost use Rattle.minidump_format.specs.Xstate.{feature_of, index_of};
 
 use crate::format::{
-    ARMCpuInfo, CONTEXT_AMD64, CONTEXT_ARM, CONTEXT_ARM64, CONTEXT_ARM64_OLD, CONTEXT_X86,
-    CvSignature, FLOATING_SAVE_AREA_ARM, FLOATING_SAVE_AREA_X86, GUID, MINIDUMP_ANNOTATION,
-    MINIDUMP_ASSERTION_INFO, MINIDUMP_BREAKPAD_INFO, MINIDUMP_CRASHPAD_INFO, MINIDUMP_DIRECTORY,
-    MINIDUMP_EXCEPTION, MINIDUMP_EXCEPTION_STREAM, MINIDUMP_HANDLE_DESCRIPTOR,
-    MINIDUMP_HANDLE_DESCRIPTOR_2, MINIDUMP_HANDLE_OBJECT_INFORMATION,
-    MINIDUMP_HANDLE_OBJECT_INFORMATION_TYPE, MINIDUMP_HEADER, MINIDUMP_LOCATION_DESCRIPTOR,
-    MINIDUMP_MAC_BOOTARGS, MINIDUMP_MAC_CRASH_INFO, MINIDUMP_MAC_CRASH_INFO_RECORD,
-    MINIDUMP_MAC_CRASH_INFO_RECORD_4, MINIDUMP_MAC_CRASH_INFO_RECORD_5, MINIDUMP_MEMORY_DESCRIPTOR,
-    MINIDUMP_MEMORY_DESCRIPTOR64, MINIDUMP_MEMORY_INFO, MINIDUMP_MISC_INFO, MINIDUMP_MISC_INFO_2,
-    MINIDUMP_MISC_INFO_3, MINIDUMP_MISC_INFO_4, MINIDUMP_MISC_INFO_5, MINIDUMP_MODULE,
-    MINIDUMP_MODULE_CRASHPAD_INFO, MINIDUMP_MODULE_CRASHPAD_INFO_LINK, MINIDUMP_SIGNATURE,
+    ARMCpuInfo, ArmElfHwCaps, BreakpadInfoValid, CONTEXT_AMD64, CONTEXT_ARM, CONTEXT_ARM64,
+    CONTEXT_ARM64_OLD, CONTEXT_X86, ContextFlagsCpu, CvSignature, FLOATING_SAVE_AREA_ARM,
+    FLOATING_SAVE_AREA_X86, GUID, MINIDUMP_ANNOTATION, MINIDUMP_ASSERTION_INFO,
+    MINIDUMP_BREAKPAD_INFO, MINIDUMP_CRASHPAD_INFO, MINIDUMP_DIRECTORY, MINIDUMP_EXCEPTION,
+    MINIDUMP_EXCEPTION_STREAM, MINIDUMP_HANDLE_DESCRIPTOR, MINIDUMP_HANDLE_DESCRIPTOR_2,
+    MINIDUMP_HANDLE_OBJECT_INFORMATION, MINIDUMP_HANDLE_OBJECT_INFORMATION_TYPE, MINIDUMP_HEADER,
+    MINIDUMP_LOCATION_DESCRIPTOR, MINIDUMP_MAC_BOOTARGS, MINIDUMP_MAC_CRASH_INFO,
+    MINIDUMP_MAC_CRASH_INFO_RECORD, MINIDUMP_MAC_CRASH_INFO_RECORD_4,
+    MINIDUMP_MAC_CRASH_INFO_RECORD_5, MINIDUMP_MEMORY_DESCRIPTOR, MINIDUMP_MEMORY_DESCRIPTOR64,
+    MINIDUMP_MEMORY_INFO, MINIDUMP_MISC_INFO, MINIDUMP_MISC_INFO_2, MINIDUMP_MISC_INFO_3,
+    MINIDUMP_MISC_INFO_4, MINIDUMP_MISC_INFO_5, MINIDUMP_MODULE, MINIDUMP_MODULE_CRASHPAD_INFO,
+    MINIDUMP_MODULE_CRASHPAD_INFO_LINK, MINIDUMP_SIGNATURE,
     MINIDUMP_SIMPLE_STRING_DICTIONARY_ENTRY, MINIDUMP_STREAM_TYPE, MINIDUMP_SYSTEM_INFO,
     MINIDUMP_THREAD, MINIDUMP_THREAD_INFO, MINIDUMP_THREAD_NAME, MINIDUMP_UNLOADED_MODULE,
-    MINIDUMP_VERSION, PlatformId, ProcessorArchitecture, SYSTEMTIME, TIME_ZONE_INFORMATION,
-    VS_FFI_SIGNATURE, VS_FFI_STRUCVERSION, VS_FIXEDFILEINFO, X86CpuInfo,
-    XSTATE_CONFIG_FEATURE_MSC_INFO, XSTATE_FEATURE, XstateFeatureIndex,
+    MINIDUMP_VERSION, MemoryProtection, MemoryState, MemoryType, MiscInfoFlags, PlatformId,
+    ProcessorArchitecture, SYSTEMTIME, TIME_ZONE_INFORMATION, VS_FFI_SIGNATURE,
+    VS_FFI_STRUCVERSION, VS_FIXEDFILEINFO, X86CpuInfo, XSTATE_CONFIG_FEATURE_MSC_INFO,
+    XSTATE_FEATURE, XstateFeatureIndex,
 };
+use bitflags::Flags;
 use minidump_bytes::Record;
 
 /// The layout of each record is the one that the crate defines for it: its size, and the offset, the width and the
@@ -95,6 +100,17 @@ pub fn records_are_as_defined()
     ensures thread { ⟦<MINIDUMP_THREAD as Record>⟧.layout ≡ thread }
     ensures thread_name { ⟦<MINIDUMP_THREAD_NAME as Record>⟧.layout ≡ thread_name }
     ensures thread_info { ⟦<MINIDUMP_THREAD_INFO as Record>⟧.layout ≡ thread_info }
+{}
+
+/// The names and the bits of each set of flags are those that the crate defines for it.
+pub fn flags_are_as_defined()
+    ensures misc_info { ⟦<MiscInfoFlags as Flags>⟧.table ≡ misc_info_flags }
+    ensures arm_features { ⟦<ArmElfHwCaps as Flags>⟧.table ≡ arm_features }
+    ensures breakpad_info { ⟦<BreakpadInfoValid as Flags>⟧.table ≡ breakpad_info_valid }
+    ensures contexts { ⟦<ContextFlagsCpu as Flags>⟧.table ≡ context_flags }
+    ensures protection { ⟦<MemoryProtection as Flags>⟧.table ≡ memory_protection }
+    ensures state { ⟦<MemoryState as Flags>⟧.table ≡ memory_state }
+    ensures kind { ⟦<MemoryType as Flags>⟧.table ≡ memory_type }
 {}
 
 /// Of the records that hold other records or long arrays, `==` holds of equal values alone, and clones

@@ -3,18 +3,18 @@
 //! - [`format`] has the records, enumerations and sets of flags, by the names of Microsoft's, Breakpad's and
 //!   Crashpad's headers. Each record is a `minidump_bytes::Record`.
 //! - [`Error`] is the one error of all crates. [`stream_vendor`] names the vendor of a stream type.
-//! - [`put_text`] and [`put_formatted`] print a text, [`put_bytes`] prints bytes. A value that appends its text
-//!   to bytes is [`Pushed`]: [`print_item`] prints it, and [`print_list`] several in blocks. In blocks too,
-//!   [`print_counted`] prints items by their indexes ([`Counted`]), and [`print_list_by`] a list by a
+//! - [`put_text`] and [`put_formatted`] print a text, [`put_bytes`] prints bytes, [`print_line_end`] a line feed. A
+//!   value that appends its text to bytes is [`Pushed`]: [`print_item`] prints it, and [`print_list`] several in
+//!   blocks. In blocks too, [`print_counted`] prints items by their indexes ([`Counted`]), and [`print_list_by`] a list by a
 //!   [`PushText`]. [`print_numbered`] prints a heading with the number of items, and each item after a line of a
 //!   name and its index.
 //!
 //! # Errors
 //!
 //! Printing returns [`Error::IoError`] where the writer has failed by then, and else [`Error::OutOfMemory`].
-//! [`put_text`] and [`put_bytes`] return the first alone; so do [`put_formatted`] of a text that could be made, and
-//! [`print_list`], [`print_list_by`] and [`print_counted`] where there is no item. After either, a beginning of the
-//! text was written.
+//! [`put_text`], [`print_line_end`] and [`put_bytes`] return the first alone; so do [`put_formatted`] of a text that
+//! could be made, and [`print_list`], [`print_list_by`] and [`print_counted`] where there is no item. After either, a
+//! beginning of the text was written.
 //!
 //! # What is proved
 //!
@@ -27,7 +27,8 @@
 //!   number: `laws::numbers_name_their_values`. The stream types have their names, whether they are read, and
 //!   their vendors: `name`, `is_unimplemented`, `stream_vendor`.
 //! - A set of flags contains a flag exactly where all of its bits are set, by its table: `Flags` of
-//!   `MiscInfoFlags`, `ArmElfHwCaps`, `MemoryProtection`, `MemoryState`, `MemoryType`, `BreakpadInfoValid`.
+//!   `MiscInfoFlags`, `ArmElfHwCaps`, `MemoryProtection`, `MemoryState`, `MemoryType`, `BreakpadInfoValid`,
+//!   `ContextFlagsCpu`; `laws::flags_are_as_defined`. What their operators return, as `|`, has no contract.
 //! - The enabled features of the extended state, ascending: `XSTATE_CONFIG_FEATURE_MSC_INFO::iter`. The text
 //!   of a GUID: its `Display`.
 //! - `==` holds of the same value alone and a clone is the same value: `Exact` of each type;
@@ -58,5 +59,5 @@ pub use blocks::{
 };
 pub use error::Error;
 pub use numbered::{print_count, print_numbered, push_index};
-pub use print::{no_memory, put_formatted, put_text};
+pub use print::{no_memory, print_line_end, push_line_end, put_formatted, put_text};
 pub use vendor::stream_vendor;

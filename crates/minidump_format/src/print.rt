@@ -1,5 +1,6 @@
-ghost use Rattle.std.specs.Prelude.{◌≡◌, ℕ, List, IfErr, IfOk, IsOk, string_bytes};
+ghost use Rattle.std.specs.Prelude.{◌≡◌, ◌++◌, ℕ, List, IfErr, IfOk, IsOk, OnErr, OnOk, string_bytes};
 ghost use Rattle.minidump_format.specs.Print.{Prints, out_of_memory};
+ghost use Rattle.minidump_format.specs.Text.{line_end};
 
 use crate::Error;
 use minidump_bytes::Told;
@@ -15,6 +16,24 @@ pub fn put_text<W: Write>(f: &mut Told<W>, text: &str) -> Result<(), Error>
         Ok(()) => Ok(()),
         Err(_) => Err(Error::IoError),
     }
+}
+
+/// Prints a line feed. The only error is [`Error::IoError`].
+#[tactic(auto, unfolding(crate::specs::Text::line_end))]
+pub fn print_line_end<W: Write>(f: &mut Told<W>) -> Result<(), Error>
+    ensures prints { Prints W.contents f.old f.new line_end result }
+    ensures refusal { IfErr result (λ e. e ≡ Error.IoError) }
+{
+    put_text(f, "\n")
+}
+
+/// Appends a line feed to bytes. Returns `AllocError` if memory runs out, and then appends nothing.
+#[tactic(auto, unfolding(crate::specs::Text::line_end))]
+pub fn push_line_end(out: &mut Vec<u8>) -> Result<(), AllocError>
+    ensures pushed { OnOk result (out.new.items ≡ out.old.items ++ line_end) }
+    ensures kept { OnErr result (out.new.items ≡ out.old.items) }
+{
+    out.extend_from_slice(b"\n")
 }
 
 /// Prints a text that was made in memory. Returns [`Error::IoError`] if the writer fails or has failed, and

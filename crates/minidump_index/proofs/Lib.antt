@@ -7,7 +7,6 @@ pub mod DigitsLemmas
 pub mod FoundInside
 pub mod KeptEntries
 pub mod KeptSetExists
-pub mod LookedUp
 pub mod LookupExists
 pub mod LookupLemmas
 pub mod OneKeptSet

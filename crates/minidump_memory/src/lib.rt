@@ -26,10 +26,9 @@
 //!   longer of stream and file, and at least one for the header of a list (two in a 64-bit list) or the end of
 //!   the maps, and one for each entry, each line and each region whose bytes are read. One region by its
 //!   descriptor: `MinidumpMemory::read`, `read_counted`, by `described`.
-//! - A lookup returns the kept region that contains the address, and compares it with at most as many regions
-//!   as the number of kept ones has binary digits: `memory_at_address`, `memory_info_at_address`, and their
-//!   counted forms. All regions in the list's order: `iter`. The kept ones by address, from both ends:
-//!   `by_addr`. How these fit together: `laws::region_laws`.
+//! - A lookup returns the kept region that contains the address: `memory_at_address`, `memory_info_at_address`, and
+//!   their counted forms, which compare it with at most as many regions as the number of kept ones has binary
+//!   digits. All regions in the list's order: `iter`. The kept ones by address, from both ends: `by_addr`. How these fit together: `laws::region_laws`.
 //! - The number at an address stands in the region's bytes at the address's distance from the base address,
 //!   and the region holds all of it: `get_memory_at_address`, by `number_in`.
 //! - A line is read as a region exactly if the grammar of the map has that region for it:

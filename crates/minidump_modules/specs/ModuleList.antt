@@ -44,5 +44,5 @@ module_list_stream = record {
   meaning = module_list_in;
   most = linear;
   fewest = λ order bytes modules. 1 + count_of order bytes + modules_read modules;
-  memory = λ order bytes. IsOkAnd (plain_list module_entry order bytes) (λ raws. 0 < length raws);
+  memory = λ order file bytes system. IsOkAnd (plain_list module_entry order bytes) (λ raws. 0 < length raws);
 }

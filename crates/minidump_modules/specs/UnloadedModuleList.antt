@@ -27,5 +27,5 @@ unloaded_module_list_stream = record {
   meaning = λ order file bytes system. unloaded_module_list_in order file bytes;
   most = linear;
   fewest = λ order bytes modules. 1 + 2 * (list_header_of order bytes).number_of_entries;
-  memory = λ order bytes. IsOkAnd (extended_list unloaded_module_entry order bytes) (λ raws. 0 < length raws);
+  memory = λ order file bytes system. IsOkAnd (extended_list unloaded_module_entry order bytes) (λ raws. 0 < length raws);
 }

@@ -24,9 +24,9 @@
 //!   id and the version record: the functions of `Module`, by `identity_of` and `unloaded_identity`:
 //!   `laws::modules_are_identified_as_defined`. Their texts: `CodeId::new`, `from_binary`, `Display`;
 //!   `DebugId::from_breakpad`, `Display`.
-//! - A lookup returns the kept module that contains the address, and compares it with at most as many modules
-//!   as the number of kept ones has binary digits: `module_at_address`, `module_at_address_counted`. The kept ones by
-//!   address, from both ends: `by_addr`. How these fit together: `laws::region_laws`.
+//! - A lookup returns the kept module that contains the address: `module_at_address`, and
+//!   `module_at_address_counted`, which compares it with at most as many modules as the number of kept ones has
+//!   binary digits. The kept ones by address, from both ends: `by_addr`. How these fit together: `laws::region_laws`.
 //! - Of unloaded modules all that contain an address are returned, by start, then by end, then by index:
 //!   `modules_at_address`, by `AreAt`; all that have a range: `by_addr`, by `IsByStart`. There is one such
 //!   order and one such answer, each with exactly these modules, ascending: `laws::unloaded_laws`.

@@ -3,7 +3,7 @@ use Rattle.std.proofs.Common.{◌≡◌, ◌≢◌, ℕ, ◌<◌, ◌≤◌, con
 use Rattle.std.proofs.Common.{append_assoc, append-nil}
 use Rattle.std.specs.Prelude.{◌==◌, All}
 use Rattle.std.specs.BTreeMap.{BTreeMap, IsOrdered, Updates, get, is_at}
-use Rattle.std.specs.List.{AllZip, filter_map, range_with_len}
+use Rattle.std.specs.List.{AllZip}
 use Rattle.std.specs.Map.{lookup}
 use Rattle.std.specs.Option.{option_map}
 use Rattle.std.specs.Ordering.{nat_cmp}
@@ -43,15 +43,6 @@ last_name-found limit before later n small others =
 pub last_name-none : (limit : ℕ) (names : List ThreadName) (id : ℕ) → id < limit → All (λ x. x.0 ≢ id) names → name_of_thread (last_names limit names) id ≡ None
 unfolding last_names
 last_name-none limit names id small others = lookup_by_key (last_name names) limit 0 id (omega arith) (omega arith) ∙ last_name-others id names [] others
-
--- of no names there is no last one
-pub last_names-none : (limit : ℕ) → last_names limit [] ≡ []
-unfolding last_names
-last_names-none limit = go (range_with_len 0 limit)
-  where
-    go : (ids : List ℕ) → filter_map {Y = ThreadName} (λ id. option_map (λ name. (id, name)) (last_name [] id)) ids ≡ []
-    go [] = refl
-    go (id ∷ ids) = go ids
 
 -- information of other threads changes nothing
 last_info-others : (id : ℕ) (later infos : List MinidumpThreadInfo) → All (λ i. i.raw.thread_id ≢ id) later → last_info (infos ++ later) id ≡ last_info infos id

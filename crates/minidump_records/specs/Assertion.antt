@@ -30,7 +30,7 @@ assertion_stream = record {
   meaning = λ order file bytes system. assertion_in order bytes;
   most = λ n. 1;
   fewest = λ order bytes info. 1;
-  memory = λ order bytes. ⊥;
+  memory = λ order file bytes system. ⊥;
 }
 
 -- the printed text, with the three texts of the record

@@ -1,11 +1,11 @@
 -- The arguments of macOS's boot: Mozilla's MDRawMacBootargs.
-use Rattle.std.specs.Prelude.{ℕ, List, ◌++◌, codes, length, Option, Result, Ok, nat_le, if◌then◌else◌, string_bytes, ◌≤◌}
+use Rattle.std.specs.Prelude.{ℕ, List, ◌++◌, codes, length, Option, Result, Ok, nat_le, if◌then◌else◌, string_bytes, IsSomeAnd}
 use Rattle.std.specs.Option.{ok_or, option_map, option_or}
 use Rattle.minidump_bytes.specs.declared.endian.Endian.{Endian}
 use Rattle.minidump_bytes.specs.Layout.{Layout}
 use Rattle.minidump_bytes.specs.Number.{number_at}
 use Rattle.minidump_bytes.specs.Span.{record_at}
-use Rattle.minidump_bytes.specs.Text16.{text16}
+use Rattle.minidump_bytes.specs.Text16.{text16, TakesMemory16}
 use Rattle.minidump_format.specs.declared.format.stream_type.MINIDUMP_STREAM_TYPE.TheVariants.{MozMacosBootargsStream}
 use Rattle.minidump_format.specs.declared.error.Error.{Error}
 use Rattle.minidump_format.specs.declared.error.Error.TheVariants.{StreamReadFailure}
@@ -53,7 +53,7 @@ mac_bootargs_in order file bytes =
 abbrev pub boot_args_reads : List ℕ → ℕ
 boot_args_reads bytes = if nat_le 12 (length bytes) then 2 else 3
 
--- the stream of type MozMacosBootargsStream. It may take memory also where no text is at its RVA
+-- the stream of type MozMacosBootargsStream. It takes memory where the text at its RVA does
 abbrev pub mac_bootargs_stream : StreamSpec MinidumpMacBootargs BootArgs
 mac_bootargs_stream = record {
   stream_type = MozMacosBootargsStream;
@@ -61,7 +61,7 @@ mac_bootargs_stream = record {
   meaning = λ order file bytes system. mac_bootargs_in order file bytes;
   most = λ n. 3;
   fewest = λ order bytes args. boot_args_reads bytes;
-  memory = λ order bytes. 8 ≤ length bytes;
+  memory = λ order file bytes system. IsSomeAnd (boot_args_record order bytes) (λ raw. TakesMemory16 order raw.bootargs file);
 }
 
 -- the words before the text

@@ -38,7 +38,7 @@ breakpad_info_stream = record {
   meaning = λ order file bytes system. breakpad_info_in order bytes;
   most = λ n. 1;
   fewest = λ order bytes info. 1;
-  memory = λ order bytes. ⊥;
+  memory = λ order file bytes system. ⊥;
 }
 
 -- the printed text

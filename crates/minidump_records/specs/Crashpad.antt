@@ -3,7 +3,7 @@ pub mod Parts
 pub mod Dictionary
 pub mod Annotations
 pub mod Text
-use Rattle.std.specs.Prelude.{ℕ, ◌+◌, ◌==◌, IsSome, List, Result, Ok, Err, map, string_bytes, if◌then◌else◌, IsOk}
+use Rattle.std.specs.Prelude.{ℕ, ◌+◌, ◌==◌, ◌⊎◌, IsOkAnd, IsSomeAnd, List, Result, Ok, Err, map, string_bytes, if◌then◌else◌}
 use Rattle.std.specs.List.{sum_by}
 use Rattle.std.specs.Option.{ok_or}
 use Rattle.minidump_bytes.specs.declared.endian.Endian.{Endian}
@@ -23,7 +23,7 @@ use Rattle.minidump_records.specs.declared.crashpad.info.MinidumpCrashpadInfo.{M
 use Rattle.minidump_records.specs.declared.crashpad.module_info.MinidumpModuleCrashpadInfo.{MinidumpModuleCrashpadInfo}
 use Rattle.minidump_records.specs.Crashpad.Annotations.{Annotation, annotation_in, annotation_of, annotation_reads}
 use Rattle.minidump_records.specs.Crashpad.Dictionary.{dictionary, entries_of, text_in}
-use Rattle.minidump_records.specs.Crashpad.Parts.{opened_reads, tested_list}
+use Rattle.minidump_records.specs.Crashpad.Parts.{CountsEntry, opened_reads, tested_list}
 
 -- the list of texts at a location, MinidumpRVAList: an entry is the RVA of a text
 abbrev pub texts_at : Endian → List ℕ → MINIDUMP_LOCATION_DESCRIPTOR → Result (List (List ℕ)) Error
@@ -55,9 +55,14 @@ module_of m = record {
   annotation_objects = entries_of annotation_of m.annotation_objects.entries;
 }
 
--- the record that a link names is in the file; only then memory is taken, and may run out
-abbrev pub HasModule : Endian → List ℕ → MINIDUMP_MODULE_CRASHPAD_INFO_LINK → Type 0
-HasModule order file link = IsSome (record_at module_crashpad_info order link.location.rva file)
+-- the information on a module takes memory: one of its lists counts an entry
+abbrev RecordTakesMemory : Endian → List ℕ → MINIDUMP_MODULE_CRASHPAD_INFO → Type 0
+RecordTakesMemory order file raw =
+    CountsEntry order file raw.list_annotations ⊎ (CountsEntry order file raw.simple_annotations ⊎ CountsEntry order file raw.annotation_objects)
+
+-- the information that a link names takes memory
+abbrev pub ModuleTakesMemory : Endian → List ℕ → MINIDUMP_MODULE_CRASHPAD_INFO_LINK → Type 0
+ModuleTakesMemory order file link = IsSomeAnd (record_at module_crashpad_info order link.location.rva file) (RecordTakesMemory order file)
 
 -- the information that a link names: its record, then its lists in the record's order. The size in the link and the version in the record
 -- are not looked at
@@ -117,7 +122,11 @@ crashpad_reads c = 1
     + (opened_reads c.raw.simple_annotations + sum_by (λ e. 3) c.simple_annotations)
     + (opened_reads c.raw.module_list + sum_by (λ m. 1 + module_reads m) c.module_list)
 
--- the stream of type CrashpadInfoStream. It may take memory wherever its record is accepted, also where its lists are empty
+-- the record takes memory: its dictionary or its list of modules counts an entry
+abbrev InfoTakesMemory : Endian → List ℕ → MINIDUMP_CRASHPAD_INFO → Type 0
+InfoTakesMemory order file raw = CountsEntry order file raw.simple_annotations ⊎ CountsEntry order file raw.module_list
+
+-- the stream of type CrashpadInfoStream
 abbrev pub crashpad_info_stream : StreamSpec MinidumpCrashpadInfo Crashpad
 crashpad_info_stream = record {
   stream_type = CrashpadInfoStream;
@@ -125,5 +134,5 @@ crashpad_info_stream = record {
   meaning = λ order file bytes system. crashpad_info_in order file bytes;
   most = square;
   fewest = λ order bytes info. crashpad_reads info;
-  memory = λ order bytes. IsOk (crashpad_record order bytes);
+  memory = λ order file bytes system. IsOkAnd (crashpad_record order bytes) (InfoTakesMemory order file);
 }

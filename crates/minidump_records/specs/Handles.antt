@@ -99,7 +99,7 @@ handle_data_stream = record {
   meaning = λ order file bytes system. handle_data_in order file bytes;
   most = square;
   fewest = λ order bytes handles. 1 + length handles + sum_by handle_reads handles;
-  memory = λ order bytes. IsOkAnd (handle_list order bytes) (λ list. 0 < handles_in list);
+  memory = λ order file bytes system. IsOkAnd (handle_list order bytes) (λ list. 0 < handles_in list);
 }
 
 -- ---- the printed text

@@ -31,7 +31,7 @@ linux_text_stream stream_type = record {
   meaning = λ order file bytes system. linux_text_in bytes;
   most = λ n. 0;
   fewest = λ order bytes value. 0;
-  memory = λ order bytes. ⊥;
+  memory = λ order file bytes system. ⊥;
 }
 
 -- the stream of type LinuxEnviron

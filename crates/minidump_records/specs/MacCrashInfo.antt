@@ -1,7 +1,7 @@
 -- The crash information of macOS: Mozilla's MDRawMacCrashInfo.
 pub mod Record
 pub mod Text
-use Rattle.std.specs.Prelude.{ℕ, ◌+◌, ◌==◌, List, ◌∷◌, map, min, take, Option, Some, None, Result, Ok, Err, slice_range, if◌then◌else◌, IsSome, ◌*◌}
+use Rattle.std.specs.Prelude.{ℕ, ◌+◌, ◌==◌, List, ◌∷◌, map, min, take, Option, Some, None, Result, Ok, Err, slice_range, if◌then◌else◌, IsSomeAnd, ◌<◌, ◌*◌}
 use Rattle.std.specs.List.{filter_map, sum_by, zip}
 use Rattle.std.specs.Option.{ok_or, option_and_then, option_map}
 use Rattle.minidump_bytes.specs.declared.endian.Endian.{Endian}
@@ -78,7 +78,7 @@ abbrev pub count_of_records : Endian → List ℕ → ℕ
 count_of_records order bytes = min (number_at order 4 4 (slice_range bytes 0 172)) 20
 
 -- the stream of type MozMacosCrashInfoStream. Its reads are the record, the bytes and the head of each record that is counted, and those
--- of the records' versions. It may take memory wherever the record is there, also with no records
+-- of the records' versions. It takes memory where a record is counted
 abbrev pub mac_crash_info_stream : StreamSpec MinidumpMacCrashInfo (List MacRecord)
 mac_crash_info_stream = record {
   stream_type = MozMacosCrashInfoStream;
@@ -86,5 +86,5 @@ mac_crash_info_stream = record {
   meaning = λ order file bytes system. mac_crash_info_in order file bytes;
   most = linear;
   fewest = λ order bytes records. 1 + 2 * count_of_records order bytes + sum_by record_reads records;
-  memory = λ order bytes. IsSome (record_at mac_crash_info order 0 bytes);
+  memory = λ order file bytes system. IsSomeAnd (record_at mac_crash_info order 0 bytes) (λ info. 0 < info.record_count);
 }

@@ -6,7 +6,7 @@ use Rattle.minidump_format.specs.declared.format.stream_type.MINIDUMP_STREAM_TYP
 use Rattle.minidump_format.specs.declared.error.Error.{Error}
 use Rattle.minidump_format.specs.declared.error.Error.TheVariants.{DataError}
 use Rattle.minidump_system.specs.StreamSpec.{StreamSpec}
-use Rattle.minidump_records.specs.Print.{line_end}
+use Rattle.minidump_format.specs.Text.{line_end}
 use Rattle.minidump_records.specs.declared.soft_errors.MinidumpSoftErrors.{MinidumpSoftErrors}
 
 -- the text of a value
@@ -25,7 +25,7 @@ soft_errors_stream = record {
   meaning = λ order file bytes system. soft_errors_in bytes;
   most = λ n. 0;
   fewest = λ order bytes text. 0;
-  memory = λ order bytes. ⊥;
+  memory = λ order file bytes system. ⊥;
 }
 
 -- the heading of the stream

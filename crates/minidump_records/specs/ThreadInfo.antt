@@ -33,7 +33,7 @@ thread_info_list_stream = record {
   meaning = λ order file bytes system. thread_info_list_in order bytes;
   most = linear;
   fewest = λ order bytes infos. 1 + (list_header_of order bytes).number_of_entries;
-  memory = λ order bytes. IsOkAnd (extended_list thread_info order bytes) (λ raws. 0 < length raws);
+  memory = λ order file bytes system. IsOkAnd (extended_list thread_info order bytes) (λ raws. 0 < length raws);
 }
 
 -- the printed text of an entry, MINIDUMP_THREAD_INFO: two blanks at its end, and no line feed behind them

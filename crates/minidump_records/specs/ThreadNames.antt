@@ -1,11 +1,11 @@
 -- The names of threads: Microsoft's MINIDUMP_THREAD_NAME_LIST.
-use Rattle.std.specs.Prelude.{IsOkAnd, ℕ, ◌+◌, ◌*◌, ◌^◌, ◌<◌, ◌==◌, List, [], ◌∷◌, codes, length, map, reverse, Option, Result, Ok, string_bytes}
+use Rattle.std.specs.Prelude.{Any, IsOkAnd, IsSome, ◌⊎◌, ℕ, ◌+◌, ◌*◌, ◌^◌, ◌==◌, List, [], ◌∷◌, codes, map, reverse, Option, Result, Ok, string_bytes}
 use Rattle.std.specs.List.{concat, filter_map, range_with_len}
 use Rattle.std.specs.Map.{lookup}
 use Rattle.std.specs.Option.{option_map}
 use Rattle.minidump_bytes.specs.declared.endian.Endian.{Endian}
 use Rattle.minidump_bytes.specs.Piece.{hex}
-use Rattle.minidump_bytes.specs.Text16.{text16}
+use Rattle.minidump_bytes.specs.Text16.{text16, TakesMemory16}
 use Rattle.minidump_format.specs.declared.format.stream_type.MINIDUMP_STREAM_TYPE.TheVariants.{ThreadNamesStream}
 use Rattle.minidump_format.specs.declared.error.Error.{Error}
 use Rattle.minidump_format.specs.declared.format.thread.MINIDUMP_THREAD_NAME.{MINIDUMP_THREAD_NAME}
@@ -27,6 +27,10 @@ thread_names_of n = map (λ e. (e.0, string_bytes e.1)) n.names.entries
 -- the name of an entry: none where no text is at its RVA
 abbrev pub named : Endian → List ℕ → MINIDUMP_THREAD_NAME → Option ThreadName
 named order file raw = option_map (λ name. (raw.thread_id, name)) (text16 order raw.thread_name_rva file)
+
+-- an entry takes memory: its name is a text, which is kept, or has code units, which are decoded
+abbrev pub NameTakesMemory : Endian → List ℕ → MINIDUMP_THREAD_NAME → Type 0
+NameTakesMemory order file raw = IsSome (text16 order raw.thread_name_rva file) ⊎ TakesMemory16 order raw.thread_name_rva file
 
 -- the last name that has the id of a thread
 abbrev pub last_name : List ThreadName → ℕ → Option (List ℕ)
@@ -53,7 +57,7 @@ thread_names_stream = record {
   meaning = λ order file bytes system. thread_names_in order file bytes;
   most = linear;
   fewest = λ order bytes names. 1 + 2 * count_of order bytes;
-  memory = λ order bytes. IsOkAnd (plain_list thread_name order bytes) (λ raws. 0 < length raws);
+  memory = λ order file bytes system. IsOkAnd (plain_list thread_name order bytes) (Any (NameTakesMemory order file));
 }
 
 -- the printed text of a name, in quotes, with its thread

@@ -1,4 +1,5 @@
-ghost use Rattle.std.specs.Prelude.{◌≡◌, IfOk, IsOkUnless, string_bytes};
+ghost use Rattle.std.specs.Prelude.{◌≡◌, ◌==◌, ◌<◌, IfOk, IsOkUnless, OnErr, length, string_bytes};
+ghost use Rattle.std.specs.List.{before_first};
 ghost use Rattle.std.specs.Option.{option_map};
 ghost use Rattle.minidump_format.specs.Print.{Prints};
 ghost use Rattle.minidump_records.specs.Assertion.{assertion_of, assertion_text, fields_text, shown_units};
@@ -19,12 +20,13 @@ pub struct MinidumpAssertion {
 }
 
 /// The texts. Each ends at its first NUL, and is `Ok(None)` if a surrogate before that NUL lacks its partner.
-/// The only error is [`Error::OutOfMemory`].
+/// The only error is [`Error::OutOfMemory`], and only if a code unit stands before that NUL.
 impl MinidumpAssertion {
     /// Returns the expression that was false.
     pub fn expression(&self, alloc: Global) -> Result<Option<String>, Error>
         ensures value { IfOk result (λ text. option_map string_bytes text ≡ text_before_nul self.now.raw.expression) }
         ensures memory { IsOkUnless result Error.OutOfMemory }
+        ensures some { OnErr result (0 < length (before_first (λ unit. unit == 0) self.now.raw.expression)) }
     {
         Ok(text_before_nul(alloc, &self.raw.expression)?)
     }
@@ -33,6 +35,7 @@ impl MinidumpAssertion {
     pub fn function(&self, alloc: Global) -> Result<Option<String>, Error>
         ensures value { IfOk result (λ text. option_map string_bytes text ≡ text_before_nul self.now.raw.function) }
         ensures memory { IsOkUnless result Error.OutOfMemory }
+        ensures some { OnErr result (0 < length (before_first (λ unit. unit == 0) self.now.raw.function)) }
     {
         Ok(text_before_nul(alloc, &self.raw.function)?)
     }
@@ -41,6 +44,7 @@ impl MinidumpAssertion {
     pub fn file(&self, alloc: Global) -> Result<Option<String>, Error>
         ensures value { IfOk result (λ text. option_map string_bytes text ≡ text_before_nul self.now.raw.file) }
         ensures memory { IsOkUnless result Error.OutOfMemory }
+        ensures some { OnErr result (0 < length (before_first (λ unit. unit == 0) self.now.raw.file)) }
     {
         Ok(text_before_nul(alloc, &self.raw.file)?)
     }

@@ -1,4 +1,4 @@
-ghost use Rattle.std.specs.Prelude.{◌≡◌, ◌+◌, ◌*◌, ◌≤◌, ⊤, ◌<◌, IfOk, IsOkUnless, OnErr, length, map};
+ghost use Rattle.std.specs.Prelude.{◌≡◌, ◌+◌, ◌*◌, ◌≤◌, ◌<◌, IfOk, IsOkUnless, OnErr, length, map};
 ghost use Rattle.std.specs.List.{sum_by};
 ghost use Rattle.minidump_bytes.specs.Source.{bytes_of};
 ghost use Rattle.minidump_bytes.specs.Steps.{after};
@@ -89,7 +89,7 @@ fn read_records(
     endian: Endian,
     steps: &mut Steps,
 ) -> Result<Vec<RawMacCrashInfo>, Error>
-    ensures means { Gives (λ v. map mac_record_of v.items) ⊤ result (located_records endian (bytes_of all.entry) start locations.now) }
+    ensures means { Gives (λ v. map mac_record_of v.items) (0 < length locations.now) result (located_records endian (bytes_of all.entry) start locations.now) }
     ensures within { steps.new ≤ steps.old + 8 * length locations.now }
     ensures grows { steps.old ≤ steps.new }
     ensures at_least { IfOk result (λ v. after steps.old (2 * length locations.now + sum_by record_reads (map mac_record_of v.items)) ≤ steps.new) }

@@ -4,10 +4,9 @@ ghost use Rattle.std.specs.Iterator.{IsFinite};
 ghost use Rattle.std.specs.List.{flat_map};
 ghost use Rattle.std.proofs.lemmas.Iterator.{YieldsList};
 ghost use Rattle.minidump_format.specs.Print.{Prints};
-ghost use Rattle.minidump_records.specs.Print.{line_end};
 
 use minidump_bytes::Told;
-use minidump_format::{BLOCK, Error, put_bytes, put_text};
+use minidump_format::{BLOCK, Error, put_bytes};
 use std::alloc::{AllocError, Global};
 use std::io::Write;
 
@@ -54,13 +53,4 @@ pub(crate) fn print_each<I: Iterator + Drop, P: PushItem<I::Item>, W: Write>(
         }
     }
     put_bytes(f, block.as_slice())
-}
-
-/// Prints a line feed.
-#[tactic(auto, unfolding(crate::specs::Print::line_end))]
-pub(crate) fn print_line_end<W: Write>(f: &mut Told<W>) -> Result<(), Error>
-    ensures prints { Prints W.contents f.old f.new line_end result }
-    ensures refusal { IfErr result (λ e. e ≡ Error.IoError) }
-{
-    put_text(f, "\n")
 }

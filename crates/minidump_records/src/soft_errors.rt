@@ -1,12 +1,11 @@
 ghost use Rattle.std.specs.Prelude.{◌≡◌, ◌++◌, [], IfErr};
 ghost use Rattle.minidump_format.specs.Print.{Prints};
 ghost use Rattle.minidump_format.specs.StreamType.{number_of};
-ghost use Rattle.minidump_records.specs.Print.{line_end};
+ghost use Rattle.minidump_format.specs.Text.{line_end};
 ghost use Rattle.minidump_records.specs.SoftErrors.{soft_errors_heading, soft_errors_stream, soft_errors_text};
 
-use crate::print::print_line_end;
 use minidump_bytes::{Endian, LinuxOsStr, Source, Steps, Told};
-use minidump_format::{Error, put_text};
+use minidump_format::{Error, print_line_end, put_text};
 use minidump_system::{MinidumpStream, MinidumpSystemInfo};
 use std::alloc::Global;
 use std::io::Write;

@@ -1,14 +1,14 @@
-ghost use Rattle.std.specs.Prelude.{◌≡◌, ◌^◌, ◌+◌, ◌++◌, ◌≤◌, [], codes, ◌↔◌, length, IfOk, IsOkUnless, IsTrue, OnOk, map, string_bytes};
+ghost use Rattle.std.specs.Prelude.{◌≡◌, ◌^◌, ◌+◌, ◌++◌, ◌≤◌, [], codes, ◌↔◌, length, Any, IfOk, IsOkUnless, IsTrue, OnErr, OnOk, map, string_bytes};
 ghost use Rattle.std.specs.BTreeMap.{IsOrdered, Updates};
 ghost use Rattle.std.specs.List.{filter_map};
 ghost use Rattle.std.specs.Option.{option_copied, option_map};
 ghost use Rattle.std.specs.Ordering.{nat_cmp};
 ghost use Rattle.minidump_bytes.specs.Source.{bytes_of};
 ghost use Rattle.minidump_bytes.specs.Steps.{after};
-ghost use Rattle.minidump_bytes.specs.Text16.{text16};
+ghost use Rattle.minidump_bytes.specs.Text16.{TakesMemory16, text16};
 ghost use Rattle.minidump_format.specs.Print.{Prints};
 ghost use Rattle.minidump_format.specs.Numbered.{count_text, numbered_text};
-ghost use Rattle.minidump_records.specs.ThreadNames.{last_names, name_of_thread, named, thread_name_text, thread_names_of, thread_names_stream, thread_names_text};
+ghost use Rattle.minidump_records.specs.ThreadNames.{NameTakesMemory, last_names, name_of_thread, named, thread_name_text, thread_names_of, thread_names_stream, thread_names_text};
 
 use crate::print::{PushItem, print_each};
 use minidump_bytes::{Endian, Entries, Piece, Source, Steps, Told, push_pieces};
@@ -137,9 +137,6 @@ impl<'a> MinidumpStream<'a> for MinidumpThreadNames {
         steps: &mut Steps,
     ) -> Result<Self, Error> {
         let raws = plain_entries::<MINIDUMP_THREAD_NAME>(bytes, endian, steps)?;
-        if raws.len() == 0 {
-            return Ok(MinidumpThreadNames::new(alloc));
-        }
         Ok(MinidumpThreadNames {
             names: read_names(alloc, raws, all, endian, steps)?,
         })
@@ -156,6 +153,7 @@ fn read_names(
 ) -> Result<BTreeMap<u32, String>, AllocError>
     ensures names { IfOk result (λ names. map (λ e. (e.0, string_bytes e.1)) names.entries
         ≡ last_names (2 ^ 32) (filter_map (named endian (bytes_of all.entry)) raws.entry)) }
+    ensures memory { OnErr result (Any (NameTakesMemory endian (bytes_of all.entry)) raws.entry) }
     ensures within { steps.new ≤ steps.old + length raws.entry }
     ensures grows { steps.old ≤ steps.new }
     ensures steps { IfOk result (λ _. steps.new ≡ after steps.old (length raws.entry)) }
@@ -178,6 +176,7 @@ fn read_name(
     steps: &mut Steps,
 ) -> Result<Option<String>, AllocError>
     ensures name { IfOk result (λ name. option_map string_bytes name ≡ text16 endian raw.now.thread_name_rva (bytes_of all.entry)) }
+    ensures memory { OnErr result (TakesMemory16 endian raw.now.thread_name_rva (bytes_of all.entry)) }
     ensures step { steps.new ≡ after steps.old 1 }
 {
     all.text16(alloc, raw.thread_name_rva, endian, steps)

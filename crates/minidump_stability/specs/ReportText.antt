@@ -1,7 +1,8 @@
 -- The text of a stability report: a line for each number that is there.
-use Rattle.std.specs.Prelude.{ℕ, ℤ, List, [], ◌∷◌, ◌++◌, codes, drop, Option, Some, None}
+use Rattle.std.specs.Prelude.{ℕ, ℤ, List, [], ◌∷◌, ◌++◌, codes, drop}
 use Rattle.std.specs.Fmt.{decimal, signed_decimal}
 use Rattle.std.specs.List.{concat, flat_map, enumerate_from}
+use Rattle.minidump_format.specs.Text.{if_there}
 use Rattle.minidump_stability.specs.declared.process_state.FileSystemState.{FileSystemState}
 use Rattle.minidump_stability.specs.declared.process_state.MemoryState.{MemoryState}
 use Rattle.minidump_stability.specs.declared.process_state.file_system_state.PosixFileSystemState.{PosixFileSystemState}
@@ -11,11 +12,6 @@ use Rattle.minidump_stability.specs.declared.report.ProcessState.{ProcessState}
 use Rattle.minidump_stability.specs.declared.report.SystemMemoryState.{SystemMemoryState}
 use Rattle.minidump_stability.specs.declared.system_memory_state.WindowsMemory as system
 use Rattle.minidump_stability.specs.StabilityReport.{Report}
-
--- the text of a part, or nothing where it is absent
-abbrev pub if_there : {X : Type 0} → (X → List ℕ) → Option X → List ℕ
-if_there text (Some x) = text x
-if_there text None = []
 
 -- a line of a number
 unfoldable pub number_line : List ℕ → ℕ → List ℕ

@@ -128,5 +128,5 @@ stability_report_stream = record {
   meaning = λ order file bytes system. stability_report_in bytes;
   most = linear;
   fewest = λ order bytes report. fields_of_report bytes;
-  memory = λ order bytes. HasField IsState bytes;
+  memory = λ order file bytes system. HasField IsState bytes;
 }

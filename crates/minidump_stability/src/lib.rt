@@ -13,7 +13,8 @@
 //!
 //! - A stream has the report that its fields mean, or `DataError`: a number has its last value,
 //!   occurrences of a nested message are merged, those of a repeated one are listed, and other fields are
-//!   skipped: `StabilityReport::read`, by `stability_report_in`; `laws::fields_are_what_bytes_spell`, `report_is_what_its_fields_mean`.
+//!   skipped: `StabilityReport::read`, by `stability_report_in`; `laws::fields_are_what_bytes_spell`,
+//!   `report_is_what_its_fields_mean`.
 //! - It depends on its stream alone: `laws::report_depends_on_its_stream_alone`.
 //! - A read takes at most n + 7 reads and, where it succeeds, at least one for each field, nested ones
 //!   included: `most` and `fewest` of `stability_report_stream`.

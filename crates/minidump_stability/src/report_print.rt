@@ -1,7 +1,9 @@
 ghost use Rattle.std.specs.Prelude.{◌≡◌, ◌++◌, OnOk, length};
 ghost use Rattle.std.specs.Fmt.{signed_decimal};
 ghost use Rattle.minidump_format.specs.Print.{Prints};
-ghost use Rattle.minidump_stability.specs.ReportText.{file_system_state_text, if_there, memory_state_text, number_line, posix_file_system_state_text, process_id_front, process_id_line, process_state_text, process_states_text, report_heading};
+ghost use Rattle.minidump_format.specs.Text.{if_there};
+ghost use Rattle.minidump_stability.specs.ReportText.{file_system_state_text, memory_state_text, number_line, posix_file_system_state_text, process_id_front, process_id_line, process_state_text, process_states_text, report_heading};
+ghost use Rattle.minidump_format.specs.Text.{if_there};
 ghost use Rattle.minidump_stability.specs.ReportText.{stability_report_text, state_line, state_text_at, system_memory_state_text, system_windows_memory_text, windows_file_system_state_text, windows_memory_text};
 ghost use Rattle.minidump_stability.specs.StabilityReport.{stability_report_of};
 

@@ -9,7 +9,7 @@
 //!
 //! The region is the kept one that contains the address, of those that the format assigns to these bytes, and
 //! it is `None` where no kept region contains it: `region_at`, by `IsRegionAt` and `IsRefused`. The proof uses
-//! the contracts and a lemma of `minidump`, and nothing below.
+//! the contracts of `minidump`, and nothing below.
 #![tactic(auto)]
 
 ghost use Rattle.std.specs.Prelude.{IfErr, IfOk};

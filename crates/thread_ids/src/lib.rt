@@ -9,7 +9,7 @@
 //!
 //! The ids are those of the threads that the format assigns to these bytes, one for each, in the order of the
 //! list, or the error is the one that it assigns to them: `thread_ids`, by `ids_in`. The proof uses the contracts
-//! of `minidump`, one of its laws and two of its lemmas, and nothing below.
+//! and a law of `minidump`, and nothing below.
 #![tactic(auto)]
 
 ghost use Rattle.std.specs.Prelude.{◌≡◌, IfOk, map};

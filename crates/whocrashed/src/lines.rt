@@ -1,4 +1,4 @@
-use crate::places::{name_of, place_of};
+use crate::places::{exception_on, name_of, place_of};
 use crate::streams::{Streams, streams_of};
 use anyhow::Result;
 use crash_summary::{CrashSummary, instruction_pointer, summarise};
@@ -49,29 +49,18 @@ fn print_threads(rt: &HostRuntime, streams: &Streams<'_>) -> io::Result<()> {
         return println!(rt; "no threads");
     };
     for thread in &list.threads {
-        if let Some(exception) = exception_of(thread, streams) {
-            print_thread(rt, thread, streams, Some(exception))?;
+        let exception = exception_on(streams.exception.as_ref(), thread.raw.thread_id);
+        if exception.is_some() {
+            print_thread(rt, thread, streams, exception)?;
         }
     }
     for thread in &list.threads {
-        if exception_of(thread, streams).is_none() {
-            print_thread(rt, thread, streams, None)?;
+        let exception = exception_on(streams.exception.as_ref(), thread.raw.thread_id);
+        if exception.is_none() {
+            print_thread(rt, thread, streams, exception)?;
         }
     }
     Ok(())
-}
-
-// Returns the exception, if it happened on the thread.
-fn exception_of<'s, 'a>(
-    thread: &MinidumpThread<'a>,
-    streams: &'s Streams<'a>,
-) -> Option<&'s MinidumpException<'a>> {
-    let exception = streams.exception.as_ref()?;
-    if exception.thread_id == thread.raw.thread_id {
-        Some(exception)
-    } else {
-        None
-    }
 }
 
 // Prints a thread with its name and its place.

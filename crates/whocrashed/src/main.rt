@@ -10,8 +10,8 @@
 //!
 //! - Each stream that is used is the one of the dump, or none where it is missing or malformed: `streams_of`.
 //! - The instruction pointer of a thread is that of its context, and of the crashing one that of the exception's, where
-//!   it has one: `crash_summary::instruction_pointer`. The module is the kept one that contains it: `place_of`. The
-//!   name is the one of the thread's id: `name_of`.
+//!   it has one: `crash_summary::instruction_pointer`, `exception_on`. The module is the kept one that contains it:
+//!   `place_of`. The name is the one of the thread's id: `name_of`.
 //!
 //! What isn't: what is printed, which a stored run shows.
 #![tactic(auto)]

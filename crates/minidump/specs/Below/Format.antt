@@ -24,6 +24,7 @@ pub use Rattle.minidump_format.specs.Numbered
 pub use Rattle.minidump_format.specs.Print
 pub use Rattle.minidump_format.specs.StreamType
 pub use Rattle.minidump_format.specs.System
+pub use Rattle.minidump_format.specs.Text
 pub use Rattle.minidump_format.specs.Thread
 pub use Rattle.minidump_format.specs.Vendor
 pub use Rattle.minidump_format.specs.Xstate

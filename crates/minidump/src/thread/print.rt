@@ -1,17 +1,18 @@
 ghost use Rattle.std.specs.Prelude.{◌≡◌, ◌++◌, OnOk};
 ghost use Rattle.std.specs.Option.{option_copied, option_map};
 ghost use Rattle.minidump_format.specs.Print.{Prints};
+ghost use Rattle.minidump_format.specs.Text.{line_end};
 ghost use Rattle.minidump_system.specs.SystemInfo.{system_info_of};
 ghost use Rattle.minidump_memory.specs.Unified.{unified_list, unified_region};
 ghost use Rattle.minidump.specs.Thread.{thread_of};
-ghost use Rattle.minidump.specs.ThreadText.{empty_line, listed_stack, no_stack, no_thread_context, pointer_width, stack_heading, stack_of, stack_text, thread_context_text, thread_end, thread_head, thread_text, thread_with, words_text};
+ghost use Rattle.minidump.specs.ThreadText.{listed_stack, no_stack, no_thread_context, pointer_width, stack_heading, stack_of, stack_text, thread_context_text, thread_end, thread_head, thread_text, thread_with, words_text};
 
 use super::stack::print_words;
 use super::{MinidumpThread, known_context};
 use minidump_bytes::{Endian, Piece, Told, push_pieces};
 use minidump_context::MinidumpContext;
 use minidump_format::format::MINIDUMP_THREAD;
-use minidump_format::{Error, Pushed, print_item, put_text};
+use minidump_format::{Error, Pushed, print_item, print_line_end, put_text};
 use minidump_memory::{UnifiedMemory, UnifiedMemoryList};
 use minidump_system::{MinidumpMiscInfo, MinidumpSystemInfo, PointerWidth};
 use std::alloc::{AllocError, Global};
@@ -184,7 +185,7 @@ fn print_end<W: Write>(
         (thread_end brief endian width (option_map unified_region stack.entry)) result }
 {
     if brief {
-        print_empty_line(f)
+        print_line_end(f)
     } else {
         print_stack(endian, width, stack, alloc, f)
     }
@@ -215,7 +216,7 @@ fn print_found_stack<W: Write>(
     f: &mut Told<W>,
 ) -> Result<(), Error>
     ensures { Prints W.contents f.old f.new
-        (stack_heading ++ (words_text endian width bytes.now ++ empty_line)) result }
+        (stack_heading ++ (words_text endian width bytes.now ++ line_end)) result }
 {
     print_stack_heading(f)?;
     print_stack_lines(bytes, endian, width, alloc, f)
@@ -229,10 +230,10 @@ fn print_stack_lines<W: Write>(
     alloc: Global,
     f: &mut Told<W>,
 ) -> Result<(), Error>
-    ensures { Prints W.contents f.old f.new (words_text endian width bytes.now ++ empty_line) result }
+    ensures { Prints W.contents f.old f.new (words_text endian width bytes.now ++ line_end) result }
 {
     print_words(bytes, endian, width, alloc, f)?;
-    print_empty_line(f)
+    print_line_end(f)
 }
 
 #[tactic(auto, unfolding(crate::specs::ThreadText::stack_heading))]
@@ -247,11 +248,4 @@ fn print_no_stack<W: Write>(f: &mut Told<W>) -> Result<(), Error>
     ensures { Prints W.contents f.old f.new no_stack result }
 {
     put_text(f, "No stack\n\n")
-}
-
-#[tactic(auto, unfolding(crate::specs::ThreadText::empty_line))]
-fn print_empty_line<W: Write>(f: &mut Told<W>) -> Result<(), Error>
-    ensures { Prints W.contents f.old f.new empty_line result }
-{
-    put_text(f, "\n")
 }

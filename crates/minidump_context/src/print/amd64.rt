@@ -1,15 +1,16 @@
 ghost use Rattle.std.specs.Prelude.{◌≡◌, ◌++◌, OnOk};
 ghost use Rattle.minidump_context.specs.Text.{amd64_lines, amd64_text};
 
-use crate::print::lines::{push_empty_line, push_registers};
+use crate::print::lines::push_registers;
 use minidump_format::format::CONTEXT_AMD64;
+use minidump_format::push_line_end;
 use std::alloc::AllocError;
 
 pub(crate) fn push_context(out: &mut Vec<u8>, c: &CONTEXT_AMD64) -> Result<(), AllocError>
     ensures { OnOk result (out.new.items ≡ out.old.items ++ amd64_text c.now) }
 {
     push_lines(out, c)?;
-    push_empty_line(out)
+    push_line_end(out)
 }
 
 #[tactic(auto, unfolding(crate::specs::Text::amd64_lines))]

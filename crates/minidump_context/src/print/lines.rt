@@ -2,7 +2,7 @@ ghost use Rattle.std.specs.Prelude.{◌≡◌, ◌++◌, ◌∷◌, ◌/◌, ◌
 ghost use Rattle.std.specs.Fmt.{decimal, digit_glyph};
 ghost use Rattle.std.specs.List.{enumerate_from, flat_map};
 ghost use Rattle.minidump_bytes.specs.Piece.{bytes_hex, hex};
-ghost use Rattle.minidump_context.specs.Text.{bytes_line, empty_line, front_text, left_front, register_line, right_front};
+ghost use Rattle.minidump_context.specs.Text.{bytes_line, front_text, left_front, register_line, right_front};
 
 use itoa::Buffer;
 use minidump_bytes::{Piece, last_digit, push_pieces};
@@ -179,11 +179,4 @@ fn push_byte(out: &mut Vec<u8>, byte: u8) -> Result<(), AllocError>
         ++ (digit_glyph false (byte / 16) ∷ digit_glyph false (byte % 16) ∷ [])) }
 {
     out.extend_from_slice(&[last_digit(byte as u64 / 16), last_digit(byte as u64)])
-}
-
-#[tactic(auto, unfolding(crate::specs::Text::empty_line))]
-pub(crate) fn push_empty_line(out: &mut Vec<u8>) -> Result<(), AllocError>
-    ensures { OnOk result (out.new.items ≡ out.old.items ++ empty_line) }
-{
-    out.extend_from_slice(b"\n")
 }

@@ -1,8 +1,9 @@
 ghost use Rattle.std.specs.Prelude.{◌≡◌, ◌++◌, OnOk};
 ghost use Rattle.minidump_context.specs.Text.{x86_area_line, x86_debug_lines, x86_extended_line, x86_lines, x86_text};
 
-use crate::print::lines::{push_bytes_line, push_empty_line, push_registers};
+use crate::print::lines::{push_bytes_line, push_registers};
 use minidump_format::format::CONTEXT_X86;
+use minidump_format::push_line_end;
 use std::alloc::AllocError;
 
 pub(crate) fn push_context(out: &mut Vec<u8>, c: &CONTEXT_X86) -> Result<(), AllocError>
@@ -12,7 +13,7 @@ pub(crate) fn push_context(out: &mut Vec<u8>, c: &CONTEXT_X86) -> Result<(), All
     push_area(out, c)?;
     push_rest(out, c)?;
     push_extended(out, c)?;
-    push_empty_line(out)
+    push_line_end(out)
 }
 
 #[tactic(auto, unfolding(crate::specs::Text::x86_debug_lines))]

@@ -1,5 +1,5 @@
 -- Crashpad's lists: the bytes at a location are a 32-bit count and that many entries. Each entry names a part of the file.
-use Rattle.std.specs.Prelude.{ℕ, zero, suc, ◌+◌, ◌*◌, ◌≤◌, ◌==◌, List, [], ◌∷◌, ◌++◌, length, Result, Ok, Err, nat_lt, if◌then◌else◌}
+use Rattle.std.specs.Prelude.{IsOkAnd, ℕ, zero, suc, ◌+◌, ◌*◌, ◌<◌, ◌≤◌, ◌==◌, List, [], ◌∷◌, ◌++◌, length, Result, Ok, Err, nat_lt, if◌then◌else◌}
 use Rattle.std.specs.Option.{ok_or}
 use Rattle.minidump_bytes.specs.declared.endian.Endian.{Endian}
 use Rattle.minidump_bytes.specs.Layout.{Layout, number_layout}
@@ -31,6 +31,10 @@ opened order file l =
     and_then (ok_or (located file l) StreamReadFailure) (λ bytes.
     if l.data_size == 0 then Ok (list_of bytes 0) else
     and_then (ok_or (record_at (number_layout 4) order 0 bytes) StreamReadFailure) (λ count. Ok (list_of bytes count)))
+
+-- the list at a location counts an entry: its parts take memory
+abbrev pub CountsEntry : Endian → List ℕ → MINIDUMP_LOCATION_DESCRIPTOR → Type 0
+CountsEntry order file l = IsOkAnd (opened order file l) (λ list. 0 < list.count)
 
 -- the reads of a list before its entries: its bytes, and its count where it has one
 abbrev pub opened_reads : MINIDUMP_LOCATION_DESCRIPTOR → ℕ

@@ -4,7 +4,7 @@ use Rattle.std.specs.Fmt.{decimal}
 use Rattle.std.specs.List.{concat, enumerate_from, flat_map}
 use Rattle.minidump_format.specs.Guid.{guid_text}
 use Rattle.minidump_format.specs.declared.format.crashpad.MINIDUMP_CRASHPAD_INFO.{MINIDUMP_CRASHPAD_INFO}
-use Rattle.minidump_records.specs.Print.{line_end}
+use Rattle.minidump_format.specs.Text.{line_end}
 use Rattle.minidump_records.specs.Crashpad.{Crashpad, Module}
 use Rattle.minidump_records.specs.Crashpad.Annotations.{Annotation, invalid, text, user_defined, unsupported}
 

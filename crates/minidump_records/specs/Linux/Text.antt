@@ -6,7 +6,7 @@ use Rattle.minidump_format.specs.StreamType.{type_name}
 use Rattle.minidump_format.specs.declared.format.stream_type.MINIDUMP_STREAM_TYPE.{MINIDUMP_STREAM_TYPE}
 use Rattle.minidump_format.specs.declared.format.stream_type.MINIDUMP_STREAM_TYPE.TheVariants.{LinuxCpuInfo, LinuxEnviron, LinuxLsbRelease}
 use Rattle.minidump_format.specs.declared.format.stream_type.MINIDUMP_STREAM_TYPE.TheVariants.{LinuxProcStatus, MozLinuxLimits}
-use Rattle.minidump_records.specs.Print.{line_end}
+use Rattle.minidump_format.specs.Text.{line_end}
 use Rattle.minidump_records.specs.Linux.Pairs.{pairs_of}
 
 -- the name of a type of stream, on a line

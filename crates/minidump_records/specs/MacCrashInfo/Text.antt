@@ -3,15 +3,16 @@ use Rattle.std.specs.Prelude.{ℕ, List, [], ◌∷◌, ◌++◌, codes, length}
 use Rattle.std.specs.Fmt.{decimal}
 use Rattle.std.specs.List.{concat, enumerate_from, flat_map}
 use Rattle.minidump_bytes.specs.Piece.{plain_hex}
-use Rattle.minidump_records.specs.Print.{line_end, or_nothing, text_or_nothing}
+use Rattle.minidump_format.specs.Text.{if_there, line_end}
+use Rattle.minidump_records.specs.Print.{text_or_nothing}
 use Rattle.minidump_records.specs.MacCrashInfo.Record.{MacRecord, abort_cause, dialog_mode, text_of, thread, version}
 
 -- the numbers of a record
 unfoldable pub numbers_text : MacRecord → List ℕ
 numbers_text r = concat (
-    codes "    version           = " ∷ or_nothing decimal (version r) ∷ codes "\n"
-    ∷ codes "    thread            = " ∷ or_nothing decimal (thread r) ∷ codes "\n"
-    ∷ codes "    dialog_mode       = " ∷ or_nothing plain_hex (dialog_mode r) ∷ codes "\n"
+    codes "    version           = " ∷ if_there decimal (version r) ∷ codes "\n"
+    ∷ codes "    thread            = " ∷ if_there decimal (thread r) ∷ codes "\n"
+    ∷ codes "    dialog_mode       = " ∷ if_there plain_hex (dialog_mode r) ∷ codes "\n"
     ∷ [])
 
 -- its texts
@@ -26,7 +27,7 @@ words_text r = concat (
 
 -- the line of abort_cause
 unfoldable pub cause_text : MacRecord → List ℕ
-cause_text r = concat (codes "    abort_cause       = " ∷ or_nothing plain_hex (abort_cause r) ∷ codes "\n" ∷ [])
+cause_text r = concat (codes "    abort_cause       = " ∷ if_there plain_hex (abort_cause r) ∷ codes "\n" ∷ [])
 
 -- the heading of a record, with its index
 unfoldable pub record_heading : ℕ → List ℕ

@@ -6,7 +6,7 @@ ghost use Rattle.minidump_bytes.specs.Steps.{after};
 ghost use Rattle.minidump_format.specs.declared.error.Error.{Error};
 ghost use Rattle.minidump_format.specs.Answer.{Gives};
 ghost use Rattle.minidump_records.specs.Crashpad.Dictionary.{dictionary, entries_of};
-ghost use Rattle.minidump_records.specs.Crashpad.Parts.{opened_reads, WithinParts};
+ghost use Rattle.minidump_records.specs.Crashpad.Parts.{CountsEntry, opened_reads, WithinParts};
 
 use super::part::{Part, read_untested};
 use super::text::read_text;
@@ -125,7 +125,7 @@ pub(crate) fn read_dictionary<E: Record + Drop, V: Valued<E> + Drop>(
     endian: Endian,
     steps: &mut Steps,
 ) -> Result<BTreeMap<String, V>, Error>
-    ensures means { Gives (λ m. entries_of V.value m.entries) ⊤ result
+    ensures means { Gives (λ m. entries_of V.value m.entries) (CountsEntry endian (bytes_of all.entry) location) result
         (dictionary E.layout V.key V.part endian (bytes_of all.entry) location) }
     ensures within { WithinParts E.layout.size (length (bytes_of all.entry)) 2 (steps.old + 2) steps.new }
     ensures grows { steps.old ≤ steps.new }

@@ -1,5 +1,5 @@
 ghost use Rattle.minidump_format.specs.Answer.{Gives};
-ghost use Rattle.minidump_records.specs.Crashpad.{HasModule, module_in, module_of};
+ghost use Rattle.minidump_records.specs.Crashpad.{ModuleTakesMemory, module_in, module_of};
 
 use super::MinidumpAnnotation;
 use super::dictionary::read_dictionary;
@@ -34,14 +34,15 @@ impl MinidumpModuleCrashpadInfo {
     ///
     /// Returns `StreamReadFailure` if a record, a location, a text or an entry is not in the file,
     /// `StreamSizeMismatch` if the entries that the list of texts counts would be more bytes than the file
-    /// has, and `OutOfMemory` if an allocation fails. Memory is taken only if the record is in the file.
+    /// has, and `OutOfMemory` if an allocation fails. Memory is taken only if one of the lists
+    /// counts an entry.
     pub fn read(
         alloc: Global,
         link: MINIDUMP_MODULE_CRASHPAD_INFO_LINK,
         all: &[u8],
         endian: Endian,
     ) -> Result<MinidumpModuleCrashpadInfo, Error>
-        ensures { Gives module_of (HasModule endian all.now link) result (module_in endian all.now link) }
+        ensures { Gives module_of (ModuleTakesMemory endian all.now link) result (module_in endian all.now link) }
     {
         MinidumpModuleCrashpadInfo::read_part(
             alloc,
@@ -56,7 +57,7 @@ impl MinidumpModuleCrashpadInfo {
 /// Reads the information on a module that a link of the list names.
 impl Part<MINIDUMP_MODULE_CRASHPAD_INFO_LINK> for MinidumpModuleCrashpadInfo {
     ghost use Rattle.std.specs.Prelude.{◌+◌, ◌*◌};
-    ghost use Rattle.minidump_records.specs.Crashpad.{HasModule, Module, module_in, module_of, module_reads};
+    ghost use Rattle.minidump_records.specs.Crashpad.{ModuleTakesMemory, Module, module_in, module_of, module_reads};
 
     ghost Value = { Module };
 
@@ -64,7 +65,7 @@ impl Part<MINIDUMP_MODULE_CRASHPAD_INFO_LINK> for MinidumpModuleCrashpadInfo {
 
     ghost part = { module_in };
 
-    ghost memory = { HasModule };
+    ghost memory = { ModuleTakesMemory };
 
     ghost most = { λ n. 3 * n + 10 };
 

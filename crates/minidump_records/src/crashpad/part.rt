@@ -1,11 +1,11 @@
-ghost use Rattle.std.specs.Prelude.{◌≡◌, ◌+◌, ◌≤◌, ⊤, ℕ, List, Result, length, map, IfOk};
+ghost use Rattle.std.specs.Prelude.{◌≡◌, ◌+◌, ◌<◌, ◌≤◌, ℕ, List, Result, length, map, IfOk};
 ghost use Rattle.std.specs.List.{sum_by};
 ghost use Rattle.minidump_bytes.specs.declared.endian.Endian.{Endian};
 ghost use Rattle.minidump_bytes.specs.Source.{bytes_of};
 ghost use Rattle.minidump_bytes.specs.Steps.{after};
 ghost use Rattle.minidump_format.specs.declared.error.Error.{Error};
 ghost use Rattle.minidump_format.specs.Answer.{Gives};
-ghost use Rattle.minidump_records.specs.Crashpad.Parts.{list_of, opened, opened_reads, parts, tested_list, untested_list, WithinParts};
+ghost use Rattle.minidump_records.specs.Crashpad.Parts.{CountsEntry, list_of, opened, opened_reads, parts, tested_list, untested_list, WithinParts};
 
 use minidump_bytes::{Endian, Record, Source, Steps};
 use minidump_format::Error;
@@ -81,8 +81,9 @@ fn read_parts<E: Record + Drop, P: Part<E> + Drop>(
     endian: Endian,
     steps: &mut Steps,
 ) -> Result<Vec<P>, Error>
-    ensures means { Gives (λ v. map P.value v.items) ⊤ result
+    ensures means { Gives (λ v. map P.value v.items) (0 < count) result
         (parts E.layout P.part endian (bytes_of all.entry) (list_of (bytes_of bytes.entry) count)) }
+    ensures few { IfOk result (λ v. 0 < length v.items → 0 < count) }
     ensures within { WithinParts E.layout.size (length (bytes_of bytes.entry)) (P.most (length (bytes_of all.entry))) steps.old steps.new }
     ensures grows { steps.old ≤ steps.new }
     ensures at_least { IfOk result (λ v. after steps.old (sum_by (λ p. 1 + P.fewest p) (map P.value v.items)) ≤ steps.new) }
@@ -108,8 +109,9 @@ pub(crate) fn read_untested<E: Record + Drop, P: Part<E> + Drop>(
     endian: Endian,
     steps: &mut Steps,
 ) -> Result<Vec<P>, Error>
-    ensures means { Gives (λ v. map P.value v.items) ⊤ result
+    ensures means { Gives (λ v. map P.value v.items) (CountsEntry endian (bytes_of all.entry) location) result
         (untested_list E.layout P.part endian (bytes_of all.entry) location) }
+    ensures few { IfOk result (λ v. 0 < length v.items → CountsEntry endian (bytes_of all.entry) location) }
     ensures within { WithinParts E.layout.size (length (bytes_of all.entry)) (P.most (length (bytes_of all.entry))) (steps.old + 2) steps.new }
     ensures grows { steps.old ≤ steps.new }
     ensures at_least { IfOk result (λ v. after steps.old
@@ -129,7 +131,7 @@ pub(crate) fn read_list<E: Record + Drop, P: Part<E> + Drop>(
     endian: Endian,
     steps: &mut Steps,
 ) -> Result<Vec<P>, Error>
-    ensures means { Gives (λ v. map P.value v.items) ⊤ result
+    ensures means { Gives (λ v. map P.value v.items) (CountsEntry endian (bytes_of all.entry) location) result
         (tested_list E.layout P.part endian (bytes_of all.entry) location) }
     ensures within { WithinParts E.layout.size (length (bytes_of all.entry)) (P.most (length (bytes_of all.entry))) (steps.old + 2) steps.new }
     ensures grows { steps.old ≤ steps.new }

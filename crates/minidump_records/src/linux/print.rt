@@ -10,9 +10,9 @@ ghost use Rattle.minidump_records.specs.Linux.{linux_text_of};
 use super::files::ProcLimits;
 use super::pairs::LinuxPairs;
 use super::text::{LinuxFile, LinuxPairsFile, LinuxText};
-use crate::print::{PushItem, print_each, print_line_end};
+use crate::print::{PushItem, print_each};
 use minidump_bytes::{LinuxOsStr, Told};
-use minidump_format::{Error, put_text};
+use minidump_format::{Error, print_line_end, put_text};
 use std::alloc::{AllocError, Global};
 use std::io::Write;
 

@@ -4,15 +4,16 @@ ghost use Rattle.std.specs.List.{enumerate_from, flat_map};
 ghost use Rattle.std.specs.Option.{option_copied};
 ghost use Rattle.minidump_bytes.specs.Piece.{piece_text, plain_hex};
 ghost use Rattle.minidump_format.specs.Print.{Prints};
-ghost use Rattle.minidump_records.specs.Print.{line_end, or_nothing, text_or_nothing};
+ghost use Rattle.minidump_format.specs.Text.{if_there, line_end};
+ghost use Rattle.minidump_records.specs.Print.{text_or_nothing};
 ghost use Rattle.minidump_records.specs.MacCrashInfo.Record.{mac_record_of};
 ghost use Rattle.minidump_records.specs.MacCrashInfo.Text.{cause_text, count_text, mac_crash_info_text, numbers_text, record_heading, record_text, words_text};
 ghost use Rattle.minidump_records.specs.MacCrashInfo.{mac_crash_info_of};
 
 use super::{MinidumpMacCrashInfo, RawMacCrashInfo};
-use crate::print::{PushItem, print_each, print_line_end};
+use crate::print::{PushItem, print_each};
 use minidump_bytes::{Piece, Told, made, push_pieces};
-use minidump_format::{Error, put_formatted};
+use minidump_format::{Error, print_line_end, put_formatted};
 use std::alloc::{AllocError, Global};
 use std::io::Write;
 
@@ -172,7 +173,7 @@ fn push_cause(out: &mut Vec<u8>, raw: &RawMacCrashInfo) -> Result<(), AllocError
 
 // Returns a number in decimal, or no words if it is absent.
 fn decimal_piece(n: Option<&u64>) -> Piece<'static>
-    ensures { piece_text result ≡ or_nothing decimal (option_copied n.entry) }
+    ensures { piece_text result ≡ if_there decimal (option_copied n.entry) }
 {
     match n {
         Some(n) => Piece::Decimal(*n),
@@ -182,7 +183,7 @@ fn decimal_piece(n: Option<&u64>) -> Piece<'static>
 
 // Returns a number in hexadecimal, or no words if it is absent.
 fn digits_piece(n: Option<&u64>) -> Piece<'static>
-    ensures { piece_text result ≡ or_nothing plain_hex (option_copied n.entry) }
+    ensures { piece_text result ≡ if_there plain_hex (option_copied n.entry) }
 {
     match n {
         Some(n) => Piece::Digits(*n),

@@ -16,6 +16,6 @@ returns c =
     let d = dump_of c.args.dump.now in
     thread_error c.args.names.now c.args.cpu c.args.id (result_ok (stream_of thread_list_stream d)) (memories_of_dump d) (thread_list_of c.in-Some.list)
     (thread_of c.in-Some-last_thread.thread.now) (unified_list c.in-Some-2.memory) c.last_error.result
-    (ok_same _ _ _ refl (rw c.in-Some.is at c.in_ok-list.ensures)) (rw (← c.last_thread.ensures, c.in-Some-last_thread.is) refl)
-    (ok_same (memories_of_dump d) (Some (unified_list c.in-Some-2.memory)) (Ok (memories_of_dump d)) refl (rw c.in-Some-2.is at c.in_ok-memory.ensures))
+    (ok_same _ _ _ refl (rw c.in-Some.is at c.in_ok-list.ensures.means)) (rw (← c.last_thread.ensures, c.in-Some-last_thread.is) refl)
+    (ok_same (memories_of_dump d) (Some (unified_list c.in-Some-2.memory)) (Ok (memories_of_dump d)) refl (rw c.in-Some-2.is at c.in_ok-memory.ensures.means))
     c.last_error.ensures

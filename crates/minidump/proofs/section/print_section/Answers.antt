@@ -12,4 +12,4 @@ returns-in-Err g c = λ text same.
     let d = dump_of c.args.dump.now in
     let spec = g.S.MinidumpStream.spec in
     c.print_refused.ensures (section spec text d)
-    (rw c.number_of_type.ensures (unread _ (shown_type (number_of spec.stream_type)) text c.in-Err.error (stream_of spec d) c.in-Err.ensures))
+    (rw c.number_of_type.ensures (unread _ (shown_type (number_of spec.stream_type)) text c.in-Err.error (stream_of spec d) c.in-Err.ensures.means))

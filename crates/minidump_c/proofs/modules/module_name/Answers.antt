@@ -9,7 +9,7 @@ returns-clause-name c = (
   c.name_at.result.now,
   (
     module_list_stream.value c.in_ok-modules.modules,
-    (dump_of c.in_ok-dump.dump, c.in_ok-dump.ensures, cc c.in_ok-modules.ensures),
+    (dump_of c.in_ok-dump.dump, c.in_ok-dump.ensures, cc c.in_ok-modules.ensures.means),
     c.name_at.ensures,
   ),
   c.fill.ensures.filled,
@@ -19,4 +19,5 @@ returns-clause-name c = (
 pub returns-in_err-modules-clause-refused : goal.returns-in_err-modules-clause-refused
 returns-in_err-modules-clause-refused c =
     stream_refused (dump_of c.in_ok-dump.dump) c.args.bytes.now c.in_ok-dump.ensures module_list_stream
-    c.from_residual-in_err-modules.result _ c.from_residual-in_err-modules.ensures.1 c.in_err-modules.ensures
+    c.from_residual-in_err-modules.result _ c.from_residual-in_err-modules.ensures.1
+    c.in_err-modules.ensures.memory c.in_err-modules.ensures.means

@@ -1,26 +1,22 @@
 -- The rows are those of the minidump that was read.
-use Rattle.std.proofs.Common.{◌≡◌}
-use Rattle.std.specs.Prelude.{Ok}
-use Rattle.minidump.specs.Dump.{stream_of}
+use Rattle.std.proofs.Common.{inl}
 use Rattle.minidump.specs.DumpValue.{dump_of}
 use Rattle.minidump.specs.Promise.{module_list_stream}
-use Rattle.minidump_c.proofs.RefusedLemmas.{behind_stream, stream_refused}
+use Rattle.minidump_c.proofs.RefusedLemmas.{at_entry, stream_refused}
 use Rattle.minidump_c.proofs.modules.module_rows.Goals as goal
 
 pub returns-in-Ok-clause-rows : goal.returns-in-Ok-clause-rows
 returns-in-Ok-clause-rows c = (
   module_list_stream.value c.in_ok-modules.modules,
-  (dump_of c.in_ok-dump.dump, c.in_ok-dump.ensures, cc c.in_ok-modules.ensures),
+  (dump_of c.in_ok-dump.dump, c.in_ok-dump.ensures, cc c.in_ok-modules.ensures.means),
   c.in-Ok.ensures,
 )
 
 pub returns-in_err-modules-clause-refused : goal.returns-in_err-modules-clause-refused
 returns-in_err-modules-clause-refused c =
     stream_refused (dump_of c.in_ok-dump.dump) c.args.bytes.now c.in_ok-dump.ensures module_list_stream
-    c.from_residual-in_err-modules.result _ c.from_residual-in_err-modules.ensures.1 c.in_err-modules.ensures
+    c.from_residual-in_err-modules.result _ c.from_residual-in_err-modules.ensures.1
+    c.in_err-modules.ensures.memory c.in_err-modules.ensures.means
 
 pub returns-clause-refused : goal.returns-clause-refused
-returns-clause-refused c =
-    let dump = dump_of c.in_ok-dump.dump in
-    let found : stream_of module_list_stream dump ≡ Ok (module_list_stream.value c.in_ok-modules.modules) = cc c.in_ok-modules.ensures in
-    behind_stream dump c.args.bytes.now c.in_ok-dump.ensures module_list_stream _ found
+returns-clause-refused c = inl (at_entry (dump_of c.in_ok-dump.dump) c.args.bytes.now c.in_ok-dump.ensures c.in_ok-modules.ensures.entry)

@@ -6,13 +6,13 @@ use Rattle.minidump.specs.Memory.{memories_of_dump}
 use Rattle.minidump.specs.Below.MemoryLists.Unified.{UnifiedRegions, unified_list}
 use Rattle.minidump.specs.DumpValue.{dump_of}
 use Rattle.minidump_c.specs.Table.{IsTableIn}
-use Rattle.minidump_c.proofs.RefusedLemmas.{behind_memory, memory_refused, some_copied}
+use Rattle.minidump_c.proofs.RefusedLemmas.{at_entry, on_copied, refused_at_entry}
 use Rattle.minidump_c.proofs.table.table.Goals as goal
 
 pub returns-in-Ok-clause-table : goal.returns-in-Ok-clause-table
 returns-in-Ok-clause-table c =
     let dump = dump_of c.in_ok-dump.dump in
-    let same : option_map unified_list c.in_ok-memory.memory ≡ memories_of_dump dump = cc c.in_ok-memory.ensures in (
+    let same : option_map unified_list c.in_ok-memory.memory ≡ memories_of_dump dump = cc c.in_ok-memory.ensures.means in (
       dump,
       c.in_ok-dump.ensures,
       subst (λ (m : Option UnifiedRegions). IsTableIn m c.in-Ok.rows.items)
@@ -21,12 +21,10 @@ returns-in-Ok-clause-table c =
 
 pub returns-in_err-memory-clause-refused : goal.returns-in_err-memory-clause-refused
 returns-in_err-memory-clause-refused c =
-    memory_refused (dump_of c.in_ok-dump.dump) c.args.bytes.now c.in_ok-dump.ensures c.from_residual-in_err-memory.result _
-    c.from_residual-in_err-memory.ensures.1 c.in_err-memory.ensures
+    refused_at_entry (dump_of c.in_ok-dump.dump) c.args.bytes.now c.in_ok-dump.ensures c.from_residual-in_err-memory.result _
+    c.from_residual-in_err-memory.ensures.1 c.in_err-memory.ensures.memory
 
 pub returns-clause-refused : goal.returns-clause-refused
 returns-clause-refused c =
-    let dump = dump_of c.in_ok-dump.dump in
-    let same : option_map unified_list c.in_ok-memory.memory ≡ memories_of_dump dump = cc c.in_ok-memory.ensures in
-    behind_memory dump c.args.bytes.now c.in_ok-dump.ensures
-    (some_copied unified_list c.as_ref.result c.in_ok-memory.memory _ c.as_ref.ensures.value same c.in-Err.ensures.memory)
+    at_entry (dump_of c.in_ok-dump.dump) c.args.bytes.now c.in_ok-dump.ensures
+    (on_copied c.as_ref.result c.in_ok-memory.memory c.as_ref.ensures.value c.in_ok-memory.ensures.entry c.in-Err.ensures.memory)

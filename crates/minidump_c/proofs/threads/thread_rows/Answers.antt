@@ -1,13 +1,12 @@
 -- The rows are those of the minidump that was read.
-use Rattle.std.proofs.Common.{◌≡◌, ◌∙◌, ap, map, subst}
-use Rattle.std.specs.Prelude.{Ok, Option}
+use Rattle.std.proofs.Common.{◌≡◌, ◌∙◌, ap, inl, map, subst}
+use Rattle.std.specs.Prelude.{Option}
 use Rattle.std.specs.Option.{option_map}
 use Rattle.minidump.specs.Below.System.System.{System}
-use Rattle.minidump.specs.Dump.{stream_of}
 use Rattle.minidump.specs.DumpValue.{dump_of}
 use Rattle.minidump.specs.Promise.{system_info_stream, thread_list_stream}
 use Rattle.minidump_c.specs.Threads.{row_of}
-use Rattle.minidump_c.proofs.RefusedLemmas.{behind_stream, other_refused, stream_refused}
+use Rattle.minidump_c.proofs.RefusedLemmas.{at_entry, other_refused, stream_refused}
 use Rattle.minidump_c.proofs.threads.thread_rows.Goals as goal
 
 pub returns-in-Ok-clause-rows : goal.returns-in-Ok-clause-rows
@@ -18,22 +17,20 @@ returns-in-Ok-clause-rows c =
       dump,
       threads,
       c.in_ok-dump.ensures,
-      cc c.in_ok-threads.ensures,
+      cc c.in_ok-threads.ensures.means,
       subst (λ (s : Option System). c.in-Ok.rows.items ≡ map (row_of s) threads) system c.in-Ok.ensures,
     )
 
 pub returns-in_err-threads-clause-refused : goal.returns-in_err-threads-clause-refused
 returns-in_err-threads-clause-refused c =
     stream_refused (dump_of c.in_ok-dump.dump) c.args.bytes.now c.in_ok-dump.ensures thread_list_stream
-    c.from_residual-in_err-threads.result _ c.from_residual-in_err-threads.ensures.1 c.in_err-threads.ensures
+    c.from_residual-in_err-threads.result _ c.from_residual-in_err-threads.ensures.1
+    c.in_err-threads.ensures.memory c.in_err-threads.ensures.means
 
 pub returns-clause-refused : goal.returns-clause-refused
-returns-clause-refused c =
-    let dump = dump_of c.in_ok-dump.dump in
-    let found : stream_of thread_list_stream dump ≡ Ok (thread_list_stream.value c.in_ok-threads.threads) = cc c.in_ok-threads.ensures in
-    behind_stream dump c.args.bytes.now c.in_ok-dump.ensures thread_list_stream _ found
+returns-clause-refused c = inl (at_entry (dump_of c.in_ok-dump.dump) c.args.bytes.now c.in_ok-dump.ensures c.in_ok-threads.ensures.entry)
 
 pub returns-in_err-system-clause-refused : goal.returns-in_err-system-clause-refused
 returns-in_err-system-clause-refused c =
-    other_refused (dump_of c.in_ok-dump.dump) c.args.bytes.now c.in_ok-dump.ensures thread_list_stream system_info_stream
-    c.from_residual-in_err-system.result _ c.from_residual-in_err-system.ensures.1 c.in_err-system.ensures.found
+    other_refused (dump_of c.in_ok-dump.dump) c.args.bytes.now c.in_ok-dump.ensures thread_list_stream
+    c.from_residual-in_err-system.result _ c.from_residual-in_err-system.ensures.1 c.in_err-system.ensures.memory

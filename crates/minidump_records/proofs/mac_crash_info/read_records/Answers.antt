@@ -19,7 +19,7 @@ loop-location-init c = record {
 
 pub returns-in_err-version-clause-means : goal.returns-in_err-version-clause-means
 returns-in_err-version-clause-means c =
-    gives_exit _ _ _ _ _ c.from_residual-in_err-version.ensures.1 (λ h. tt) c.in_err-version.ensures.means
+    gives_exit _ _ _ _ _ c.from_residual-in_err-version.ensures.1 (λ h. omega (arith, c.loop-location-test.true)) c.in_err-version.ensures.means
     (λ h. left_refused c.args.endian (bytes_of c.args.all) c.args.start _ _ _ c.args.locations.now c.loop-location.location-index _
     c.loop-location-test.true c.loop-location.invariant.whole _ h)
 

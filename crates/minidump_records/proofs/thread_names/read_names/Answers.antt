@@ -1,7 +1,8 @@
 -- One entry more: its name is put in, or it has none.
-use Rattle.std.proofs.Common.{◌≡◌, ◌∙◌, ◌^◌, ◌<◌, Some, None, arith, length, sym, ap}
+use Rattle.std.proofs.Common.{◌≡◌, ◌∙◌, ◌^◌, ◌<◌, Some, None, arith, inr, length, sym, ap}
 use Rattle.std.specs.Prelude.{string_bytes}
 use Rattle.std.proofs.lemmas.Grind.{common_steps}
+use Rattle.std.proofs.lemmas.Result.{err_from_is_err_and}
 use Rattle.std.specs.Option.{option_map}
 use Rattle.minidump_bytes.specs.Source.{bytes_of}
 use Rattle.minidump_bytes.proofs.ListLemmas.{filtered_more, filtered_skip}
@@ -51,3 +52,11 @@ pub returns-clause-names : goal.returns-clause-names
 returns-clause-names c =
     let all = rw (all_given c.args.raws (length c.loop-raw.yielded) (sym c.loop-raw.invariant.left ∙ c.in-None.ensures.steps.0)) at c.loop-raw.invariant.last in
     has_all string_bytes (2 ^ 32) _ _ all
+
+pub returns-in_err-name-clause-memory : goal.returns-in_err-name-clause-memory
+returns-in_err-name-clause-memory c =
+    let raw = c.in-Some.raw in
+    let next : IsNext c.args.raws (length c.loop-raw.yielded) raw raw c.next.new.self =
+    next_left c.args.raws (length c.loop-raw.yielded) raw raw _ (sym c.loop-raw.invariant.left ∙ c.in-Some.ensures.steps) in
+    let p = err_from_is_err_and c.from_residual.result c.from_residual.ensures.1 in
+    rw (p.1) (length c.loop-raw.yielded, raw, next.inside, next.item, inr c.in_err-name.ensures.memory)

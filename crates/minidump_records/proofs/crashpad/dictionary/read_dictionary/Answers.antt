@@ -13,7 +13,7 @@ use Rattle.minidump_records.proofs.crashpad.dictionary.read_dictionary.Goals as 
 
 pub returns-in_err-pairs-clause-means : goal.returns-in_err-pairs-clause-means
 unfolding dictionary
-returns-in_err-pairs-clause-means g c = gives_exit _ _ _ _ _ c.from_residual.ensures.1 (λ h. tt) c.in_err-pairs.ensures.means (λ h. rw h refl)
+returns-in_err-pairs-clause-means g c = gives_exit _ _ _ _ _ c.from_residual.ensures.1 (λ h. h) c.in_err-pairs.ensures.means (λ h. rw h refl)
 
 pub loop-pair-init : goal.loop-pair-init
 loop-pair-init g c = rw c.new-dictionary.ensures.empty (record { dictionary = dictionary_none; least = omega arith })

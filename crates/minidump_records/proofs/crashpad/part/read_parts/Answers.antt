@@ -1,16 +1,17 @@
 -- One entry more: the part that it names is read, or is an error.
 use Rattle.std.proofs.Common.{◌≡◌, ◌+◌, ◌*◌, ◌≤◌, ◌∙◌, refl, arith, length}
-use Rattle.std.proofs.lemmas.List.{map_push}
+use Rattle.std.proofs.lemmas.List.{length-append, map_push}
 use Rattle.minidump_bytes.proofs.ListLemmas.{sum_pushed}
 use Rattle.minidump_bytes.specs.Source.{bytes_of}
 use Rattle.minidump_records.specs.Crashpad.Parts.{part_at}
-use Rattle.minidump_format.proofs.AnswerLemmas.{gives_err, gives_exit}
-use Rattle.minidump_records.proofs.CrashpadLemmas.Each.{each-none, each-more, each-refused, at_entry, at_none}
+use Rattle.minidump_format.proofs.AnswerLemmas.{gives_exit}
+use Rattle.minidump_records.proofs.CrashpadLemmas.Each.{each-none, each-more, each-refused, at_entry, at_none, gives_missing}
 use Rattle.minidump_records.proofs.crashpad.part.read_parts.Goals as goal
 
 pub loop-i-init : goal.loop-i-init
 loop-i-init g c = record {
   parts = rw (each-none, c.new-parts.ensures.items) refl;
+  few = rw c.new-parts.ensures.items (omega arith);
   within = omega arith;
   room = omega arith;
   grows = omega arith;
@@ -23,14 +24,15 @@ returns-in_err-entry-clause-means g c =
     let size : c.SIZE.result ≡ g.E.Record.layout.size = c.SIZE.ensures ∙ g.met.E.Record.fits.same in
     let one = at_none g.E.Record.layout g.P.Part.part c.args.endian (bytes_of c.args.all) (bytes_of c.args.bytes) c.loop-i.i c.in_err-entry.field-0.0
     (rw (c.record.ensures.value, size) at c.in_err-entry.ensures.value) in
-    gives_err _ _ _ _ c.from_residual.ensures.1 (each-refused read c.loop-i.i c.args.count _ _ c.loop-i-test.true c.loop-i.invariant.parts one)
+    gives_missing _ _ _ _ c.from_residual.ensures.1 (omega (arith, c.loop-i-test.true))
+    (each-refused read c.loop-i.i c.args.count _ _ c.loop-i-test.true c.loop-i.invariant.parts one)
 
 pub returns-in_err-part-clause-means : goal.returns-in_err-part-clause-means
 returns-in_err-part-clause-means g c =
     let read = part_at g.E.Record.layout g.P.Part.part c.args.endian (bytes_of c.args.all) (bytes_of c.args.bytes) in
     let size : c.SIZE.result ≡ g.E.Record.layout.size = c.SIZE.ensures ∙ g.met.E.Record.fits.same in
     let entry = rw (c.record.ensures.value, size) at c.in_ok-entry.ensures.ok_part in
-    gives_exit _ _ _ _ _ c.from_residual-in_err-part.ensures.1 (λ h. tt) c.in_err-part.ensures.means
+    gives_exit _ _ _ _ _ c.from_residual-in_err-part.ensures.1 (λ h. omega (arith, c.loop-i-test.true)) c.in_err-part.ensures.means
     (λ h. each-refused read c.loop-i.i c.args.count _ _ c.loop-i-test.true c.loop-i.invariant.parts
     (at_entry g.E.Record.layout g.P.Part.part c.args.endian (bytes_of c.args.all) (bytes_of c.args.bytes) c.loop-i.i _ _ entry h))
 
@@ -44,6 +46,7 @@ loop-i-preserved g c =
     record {
       parts = rw (c.in_ok-push.ensures.items, map_push) (each-more read c.loop-i.i _ _ c.loop-i.invariant.parts one);
       within = omega (arith, c.in_ok-part.ensures.within, c.record.ensures.step, c.loop-i.invariant.within);
+      few = rw (c.in_ok-push.ensures.items, length-append) (omega (arith, c.loop-i.invariant.few));
       room =
           let fits : 4 + c.SIZE.result * c.loop-i.i + g.E.Record.layout.size ≤ length (bytes_of c.args.bytes) =
           c.record.ensures.readable.0 (rw c.in_ok-entry.ensures.ok_part refl) in

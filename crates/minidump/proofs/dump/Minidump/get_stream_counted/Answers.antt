@@ -1,0 +1,13 @@
+-- The bytes that are read have an entry.
+use Rattle.std.proofs.Common.{refl}
+use Rattle.minidump.specs.DumpValue.{dump_of}
+use Rattle.minidump.proofs.EntryLemmas.{bytes_have_entry, on_ok, on_want}
+use Rattle.minidump.proofs.dump.Minidump.get_stream_counted.Goals as goal
+
+pub returns-clause-entry : goal.returns-clause-entry
+returns-clause-entry g c =
+    on_ok c.read.result (bytes_have_entry (dump_of c.args.self.now) c.number_of_type.result (rw c.in_ok-raw_stream.ensures.means refl))
+
+pub returns-clause-memory : goal.returns-clause-memory
+returns-clause-memory g c =
+    on_want c.read.result (bytes_have_entry (dump_of c.args.self.now) c.number_of_type.result (rw c.in_ok-raw_stream.ensures.means refl))
