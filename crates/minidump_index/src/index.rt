@@ -182,11 +182,22 @@ fn below(
     )
 }
 
+// Reads two of the eight entries three levels below a place, or the last entry where the tree ends before them.
+#[inline(always)]
+fn bits_below<S: Stored>(tree: &[S], place: usize) -> u32
+    requires { 0 < length tree.now }
+    ensures { result < 2 ^ 31 }
+{
+    let last = tree.len() - 1;
+    let lowest = place.wrapping_mul(8);
+    let one = tree[lowest.wrapping_add(8).min(last)].bits();
+    one & tree[lowest.wrapping_add(12).min(last)].bits()
+}
+
 // Returns the index in the list of the range that contains the address, or `None` if no range does.
 //
-// While the lookup is at a place, the first and the last of the four entries two levels below are read, so that
-// they are there when it gets to them; near the bottom it reads one. What is read is below 2^31. The compiler
-// doesn't know that, so it keeps the reads.
+// While the lookup is at a place, two of the eight entries three levels below are read, so that they are there when it
+// gets to them. What is read is below 2^31. The compiler doesn't know that, so it keeps the reads.
 #[inline(always)]
 fn find<S: Stored>(tree: &[S], address: u64, steps: &mut Steps) -> Option<usize>
     requires few { length tree.now < 2 ^ 63 }
@@ -203,13 +214,13 @@ fn find<S: Stored>(tree: &[S], address: u64, steps: &mut Steps) -> Option<usize>
     let mut first = 0;
     let mut place = 0;
     let mut found = len;
-    while first < len / 8 {
-        ahead &= tree[4 * place + 3].bits() & tree[4 * place + 6].bits();
+    while first < len / 16 {
+        ahead &= tree[8 * place + 8].bits() & tree[8 * place + 12].bits();
         (place, found) = below(tree[place].entry().range, place, found, address, steps);
         first = 2 * first + 1;
     }
+    ahead &= bits_below(tree, place);
     while first < len / 2 {
-        ahead &= tree[place.wrapping_mul(4).wrapping_add(5).min(len - 1)].bits();
         (place, found) = below(tree[place].entry().range, place, found, address, steps);
         first = 2 * first + 1;
     }

@@ -90,12 +90,12 @@ pub(crate) fn count_up_to(starts: &[u64], address: u64, steps: &mut Steps) -> us
 }
 
 // So many starts and more don't stay in a processor's second cache.
-const NEAR: usize = 1 << 16;
+const NEAR: usize = 1 << 17;
 
 // Counts without a branch on a comparison: a wrong prediction costs more than to wait for a cache that is near.
 #[inline(always)]
 fn count_near(starts: &[u64], address: u64, steps: &mut Steps) -> usize
-    requires near { length starts.now < 2 ^ 16 }
+    requires near { length starts.now < 2 ^ 17 }
     requires ascending { AllPairs (λ p q. p < q) starts.now }
     ensures { IsCount starts.now address result steps.old steps.new }
 {

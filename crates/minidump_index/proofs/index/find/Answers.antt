@@ -53,7 +53,6 @@ loop-first-2-preserved g c =
       high = omega (arith, sides.1, c.loop-first-2.invariant.high);
       grows = omega (arith, c.loop-first-2.invariant.grows, r.ensures.step);
       compared = λ _. omega (arith, c.loop-first-2.invariant.grows, r.ensures.step);
-      ahead = omega (arith, c.loop-first-2.invariant.ahead, and_le_l c.loop-first-2.ahead c.bits-in-loop-first-2.result);
     }
 
 pub below-requires-then-place-len : goal.below-requires-then-place-len
@@ -115,7 +114,7 @@ returns-else-ahead-clause-found g c =
     let e = c.entry-entry.result in
     let above : e.range.end < c.args.address = elim c.else-ahead.branch [
       | else-ahead-via-then-ahead+else-address-entry v ↦ v.if-address-entry.false
-      | else-ahead-via-else-ahead v ↦ absurd (omega (arith, v.if-ahead.false, c.loop-first-2.invariant.ahead))
+      | else-ahead-via-else-ahead v ↦ absurd (omega (arith, v.if-ahead.false, c.loop-first.invariant.ahead, and_le_l c.loop-first.ahead c.bits_below.result))
     ] in
     elim c.if-place-len.branch [
       | then-place-len w ↦ (

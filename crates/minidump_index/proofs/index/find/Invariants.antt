@@ -25,7 +25,6 @@ invariant-loop-first-2 g l = record {
   high : l.place ≤ 2 * l.first;
   grows : l.fn.steps ≤ l.steps;
   compared : 0 < l.place → after l.fn.steps 1 ≤ l.steps;
-  ahead : l.ahead < 2 ^ 31;
 }
 
 abbrev pub decreases-loop-first-2 : goal.decreases-loop-first-2
