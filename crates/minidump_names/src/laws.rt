@@ -1,4 +1,5 @@
-//! Laws of lines, over the definitions that the contract of [`NameTable::read`](crate::NameTable::read) names, and of errors.
+//! Laws of lines, over the definitions that the contract of [`NameTable::read`](crate::NameTable::read) names, and of
+//! errors.
 ghost use Rattle.std.specs.Prelude.{◌≡◌, ◌↔◌, ℕ, List, Some};
 ghost use Rattle.minidump_bytes.specs.Exact.{IsExact};
 ghost use Rattle.minidump_names.specs.NameLine.{IsLine, Listing, line_in};

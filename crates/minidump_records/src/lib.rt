@@ -54,6 +54,8 @@
 //! - Streams whose value depends on their bytes and the byte order alone:
 //!   `laws::streams_depend_on_their_bytes_alone`. Copies are the same: `try_clone`,
 //!   `laws::breakpad_info_clones_are_the_same`.
+//! - The length of the file bounds how many handles there are, how many pieces of information on an object, how many
+//!   links to modules, and how many texts in the list of a module: `laws::values_are_bounded_by_the_file`.
 //! - Each read takes at most n + 7 steps, of handles and of Crashpad's information (n + 8)² - 1: `most` of each
 //!   table.
 //! - Handles, thread information, thread names, assertions and Breakpad's information print the text of their value,

@@ -45,8 +45,8 @@ impl MinidumpMacCrashInfo {
 /// out.
 ///
 /// Returns `StreamReadFailure` if the stream is shorter than 172 bytes, if the bytes of a record, its fixed part
-/// or one of its texts is missing, or if the texts would begin within the fixed part, or one is not UTF-8. Returns `VersionMismatch` if a record has another version than the record
-/// before it.
+/// or one of its texts is missing, or if the texts would begin within the fixed part, or one is not UTF-8. Returns
+/// `VersionMismatch` if a record has another version than the record before it.
 impl<'a> MinidumpStream<'a> for MinidumpMacCrashInfo {
     ghost use Rattle.std.specs.Prelude.{List};
     ghost use Rattle.minidump_records.specs.MacCrashInfo.Record.{MacRecord};

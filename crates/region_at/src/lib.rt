@@ -3,7 +3,7 @@
 //!
 //! # Errors
 //!
-//! The error that the format assigns to the bytes, or `OutOfMemory`, at a directory with entries alone.
+//! The error that the format assigns to the bytes, or `OutOfMemory`, which comes only if the directory has entries.
 //!
 //! # What is proved
 //!

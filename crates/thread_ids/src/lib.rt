@@ -2,8 +2,8 @@
 //!
 //! # Errors
 //!
-//! The error that the format assigns to the bytes or to their list of threads, or `OutOfMemory`, at a directory with
-//! entries alone.
+//! The error that the format assigns to the bytes or to their list of threads, or `OutOfMemory`, which comes only if the
+//! directory has entries.
 //!
 //! # What is proved
 //!
