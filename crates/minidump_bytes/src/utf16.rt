@@ -40,7 +40,8 @@ pub(crate) fn text_at(
     Ok(Some(text))
 }
 
-// Decodes the code units if all of them are ASCII, as they nearly always are.
+// Decodes the code units if all of them are ASCII, as they nearly always are. It doesn't stop at one that isn't, so that
+// the compiler can take several units at a time.
 fn ascii_at(
     alloc: Global,
     bytes: &[u8],
@@ -51,28 +52,18 @@ fn ascii_at(
     requires { place + 2 * count ≤ length bytes.now }
     ensures { let units = units_at endian place count bytes.now in IfOk result (λ text. MatchOption text (IsNotAscii units) (λ ascii. IsAscii units × (string_bytes ascii ≡ units))) }
 {
-    let mut ascii = vec![in alloc; 0; count]?;
-    if !put_ascii(bytes, place, count, endian, &mut ascii) {
-        return Ok(None);
-    }
-    // What is ASCII is UTF-8, so it isn't looked at again.
-    Ok(Some(unsafe { String::from_utf8_unchecked(ascii) }))
-}
-
-// Writes the code units as bytes, and tells whether all of them are ASCII; if not, what is written means nothing. It
-// doesn't stop at one that isn't, so that the compiler can take several units at a time.
-fn put_ascii(bytes: &[u8], place: usize, count: usize, endian: Endian, ascii: &mut [u8]) -> bool
-    requires whole { place + 2 * count ≤ length bytes.now }
-    requires room { length ascii.old ≡ count }
-    ensures { let units = units_at endian place count bytes.now in MatchBool result (IsAscii units × (ascii.new ≡ units)) (IsNotAscii units) }
-{
+    let mut ascii = Vec::with_capacity(alloc, count)?;
     let mut all = 0;
     for i in 0..count {
         let unit = unit_at(bytes, place, count, endian, i);
         all |= unit;
-        ascii[i] = (unit % 0x80) as u8;
+        ascii.push_reserved((unit % 0x80) as u8);
     }
-    all < 0x80
+    if all >= 0x80 {
+        return Ok(None);
+    }
+    // What is ASCII is UTF-8, so it isn't looked at again.
+    Ok(Some(unsafe { String::from_utf8_unchecked(ascii) }))
 }
 
 // The character at an index of the code units, or `None` where that unit lacks its partner, and the index
