@@ -10,6 +10,8 @@ use crate::array::record_in;
 use std::alloc::{AllocError, Global};
 
 // Decodes `count` code units from offset `place` on, if they spell a text. None of them take no memory.
+// Inlined, so that a text of ASCII isn't passed on in memory.
+#[inline(always)]
 pub(crate) fn text_at(
     alloc: Global,
     bytes: &[u8],
@@ -27,6 +29,20 @@ pub(crate) fn text_at(
     if let Some(text) = ascii_at(alloc, bytes, place, count, endian)? {
         return Ok(Some(text));
     }
+    decoded(alloc, bytes, place, count, endian)
+}
+
+// Decodes the code units one by one.
+fn decoded(
+    alloc: Global,
+    bytes: &[u8],
+    place: usize,
+    count: usize,
+    endian: Endian,
+) -> Result<Option<String>, AllocError>
+    requires { place + 2 * count ≤ length bytes.now }
+    ensures { IfOk result (λ text. option_map string_bytes text ≡ utf16_text (units_at endian place count bytes.now)) }
+{
     let mut text = String::with_capacity(alloc, count)?;
     let mut at = 0;
     while at < count {
@@ -42,6 +58,7 @@ pub(crate) fn text_at(
 
 // Decodes the code units if all of them are ASCII, as they nearly always are. It doesn't stop at one that isn't, so that
 // the compiler can take several units at a time.
+#[inline(always)]
 fn ascii_at(
     alloc: Global,
     bytes: &[u8],
