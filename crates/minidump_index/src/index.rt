@@ -182,7 +182,8 @@ fn below(
     )
 }
 
-// Reads two of the eight entries three levels below a place, or the last entry where the tree ends before them.
+// Reads two of the eight entries three levels below a place, or the last entry where the tree ends before them. Returns a
+// number below 2^31 that depends on both. The numbers of their places may wrap: then it reads other entries.
 #[inline(always)]
 fn bits_below<S: Stored>(tree: &[S], place: usize) -> u32
     requires { 0 < length tree.now }
