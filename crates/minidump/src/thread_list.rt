@@ -267,12 +267,13 @@ fn read_threads<'a>(
     steps: &mut Steps,
 ) -> Result<Vec<MinidumpThread<'a>>, AllocError>
     ensures items { IfOk result (λ v. map thread_of v.items ≡ map (thread_at endian (bytes_of all.entry)) raws.entry) }
-    ensures within { steps.new ≤ steps.old + 2 * length raws.entry }
+    ensures within { steps.new ≤ steps.old + 3 * length raws.entry }
     ensures grows { steps.old ≤ steps.new }
-    ensures steps { IfOk result (λ v. steps.new ≡ after steps.old (sum_by thread_reads (map thread_of v.items))) }
+    ensures steps { IfOk result (λ v. steps.new ≡ after steps.old (length raws.entry + sum_by thread_reads (map thread_of v.items))) }
 {
     let mut threads = Vec::with_capacity(alloc, raws.len())?;
-    for raw in raws {
+    for entry in raws {
+        let raw = entry.read(steps);
         threads.push(MinidumpThread::read(raw, all, endian, steps))?;
     }
     Ok(threads)

@@ -192,7 +192,8 @@ fn read_modules(
     ensures steps { IfOk result (λ v. steps.new ≡ after steps.old (modules_read (map module_of v))) }
 {
     let mut modules = RegionListBuilder::with_capacity(alloc, raws.len())?;
-    for raw in raws {
+    for entry in raws {
+        let raw = entry.read(steps);
         if has_range(&raw) {
             modules.push(MinidumpModule::read_counted(alloc, &raw, all, endian, os, steps)?)?;
         }

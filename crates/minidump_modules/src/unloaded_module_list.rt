@@ -180,7 +180,8 @@ fn read_modules(
     ensures steps { IfOk result (λ _. steps.new ≡ after steps.old (length raws.entry)) }
 {
     let mut modules = Vec::with_capacity(alloc, raws.len())?;
-    for raw in raws {
+    for entry in raws {
+        let raw = entry.read(steps);
         modules.push(listed_module(alloc, &raw, all, endian, steps)?)?;
     }
     Ok(modules)

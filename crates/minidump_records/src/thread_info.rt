@@ -134,7 +134,7 @@ impl<'a> MinidumpStream<'a> for MinidumpThreadInfoList {
             return Ok(MinidumpThreadInfoList::new(alloc));
         }
         Ok(MinidumpThreadInfoList {
-            thread_infos: all_infos(alloc, raws)?,
+            thread_infos: all_infos(alloc, raws, steps)?,
         })
     }
 }
@@ -143,11 +143,13 @@ impl<'a> MinidumpStream<'a> for MinidumpThreadInfoList {
 fn all_infos(
     alloc: Global,
     raws: Entries<'_, MINIDUMP_THREAD_INFO>,
+    steps: &mut Steps,
 ) -> Result<Vec<MinidumpThreadInfo>, AllocError>
     ensures { IfOk result (λ infos. map (λ i. i.raw) infos.items ≡ raws.entry) }
 {
     let mut infos = Vec::with_capacity(alloc, raws.len())?;
-    for raw in raws {
+    for entry in raws {
+        let raw = entry.read(steps);
         infos.push(MinidumpThreadInfo { raw })?;
     }
     Ok(infos)

@@ -159,7 +159,8 @@ fn read_names(
     ensures steps { IfOk result (λ _. steps.new ≡ after steps.old (length raws.entry)) }
 {
     let mut names = BTreeMap::new(alloc);
-    for raw in raws {
+    for entry in raws {
+        let raw = entry.read(steps);
         if let Some(name) = read_name(alloc, &raw, all, endian, steps)? {
             put_name(&mut names, raw.thread_id, name)?;
         }

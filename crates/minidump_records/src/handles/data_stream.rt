@@ -171,7 +171,8 @@ fn read_handles<R: Descriptor>(
         return Ok(Vec::new(alloc));
     }
     let mut handles = Vec::with_capacity(alloc, raws.len())?;
-    for raw in raws {
+    for entry in raws {
+        let raw = entry.read(steps);
         handles.push(read_handle(alloc, raw.raw(), all, endian, steps)?)?;
     }
     Ok(handles)
