@@ -1,5 +1,6 @@
-ghost use Rattle.std.specs.Prelude.{◌≡◌, ◌++◌, ◌↔◌, [], IfOk, IsTrue, OnOk, length, map};
+ghost use Rattle.std.specs.Prelude.{◌≡◌, ◌+◌, ◌++◌, ◌≤◌, ◌↔◌, [], IfOk, IsTrue, OnOk, length, map};
 ghost use Rattle.std.specs.Option.{option_copied};
+ghost use Rattle.minidump_bytes.specs.Steps.{after};
 ghost use Rattle.minidump_format.specs.Print.{Prints};
 ghost use Rattle.minidump_records.specs.ThreadInfo.{thread_info_list_of, last_info, thread_info_text, thread_info_list_text};
 
@@ -145,7 +146,10 @@ fn all_infos(
     raws: Entries<'_, MINIDUMP_THREAD_INFO>,
     steps: &mut Steps,
 ) -> Result<Vec<MinidumpThreadInfo>, AllocError>
-    ensures { IfOk result (λ infos. map (λ i. i.raw) infos.items ≡ raws.entry) }
+    ensures infos { IfOk result (λ infos. map (λ i. i.raw) infos.items ≡ raws.entry) }
+    ensures within { steps.new ≤ steps.old + length raws.entry }
+    ensures grows { steps.old ≤ steps.new }
+    ensures steps { IfOk result (λ _. steps.new ≡ after steps.old (length raws.entry)) }
 {
     let mut infos = Vec::with_capacity(alloc, raws.len())?;
     for entry in raws {

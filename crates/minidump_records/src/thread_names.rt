@@ -1,4 +1,4 @@
-ghost use Rattle.std.specs.Prelude.{◌≡◌, ◌^◌, ◌+◌, ◌++◌, ◌≤◌, [], codes, ◌↔◌, length, Any, IfOk, IsOkUnless, IsTrue, OnErr, OnOk, map, string_bytes};
+ghost use Rattle.std.specs.Prelude.{◌≡◌, ◌^◌, ◌+◌, ◌*◌, ◌++◌, ◌≤◌, [], codes, ◌↔◌, length, Any, IfOk, IsOkUnless, IsTrue, OnErr, OnOk, map, string_bytes};
 ghost use Rattle.std.specs.BTreeMap.{IsOrdered, Updates};
 ghost use Rattle.std.specs.List.{filter_map};
 ghost use Rattle.std.specs.Option.{option_copied, option_map};
@@ -154,9 +154,9 @@ fn read_names(
     ensures names { IfOk result (λ names. map (λ e. (e.0, string_bytes e.1)) names.entries
         ≡ last_names (2 ^ 32) (filter_map (named endian (bytes_of all.entry)) raws.entry)) }
     ensures memory { OnErr result (Any (NameTakesMemory endian (bytes_of all.entry)) raws.entry) }
-    ensures within { steps.new ≤ steps.old + length raws.entry }
+    ensures within { steps.new ≤ steps.old + 2 * length raws.entry }
     ensures grows { steps.old ≤ steps.new }
-    ensures steps { IfOk result (λ _. steps.new ≡ after steps.old (length raws.entry)) }
+    ensures steps { IfOk result (λ _. steps.new ≡ after steps.old (2 * length raws.entry)) }
 {
     let mut names = BTreeMap::new(alloc);
     for entry in raws {

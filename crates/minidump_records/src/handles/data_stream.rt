@@ -162,9 +162,9 @@ fn read_handles<R: Descriptor>(
     steps: &mut Steps,
 ) -> Result<Vec<MinidumpHandleDescriptor>, AllocError>
     ensures items { IfOk result (λ v. map handle_of v.items ≡ map (λ r. handle_in endian (bytes_of all.entry) (R.raw r)) raws.entry) }
-    ensures within { steps.new ≤ steps.old + length raws.entry * (length (bytes_of all.entry) + 3) }
+    ensures within { steps.new ≤ steps.old + length raws.entry * (length (bytes_of all.entry) + 4) }
     ensures grows { steps.old ≤ steps.new }
-    ensures at_least { IfOk result (λ v. after steps.old (sum_by handle_reads (map handle_of v.items)) ≤ steps.new) }
+    ensures at_least { IfOk result (λ v. after steps.old (length v.items + sum_by handle_reads (map handle_of v.items)) ≤ steps.new) }
     ensures some { OnErr result (0 < length raws.entry) }
 {
     if raws.len() == 0 {

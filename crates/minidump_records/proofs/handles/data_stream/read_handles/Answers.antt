@@ -6,25 +6,25 @@ use Rattle.minidump_bytes.proofs.LeftLemmas.{IsNext, all_given, next_left, one_g
 use Rattle.minidump_records.specs.Handles.{handle_in, handle_of, handle_reads}
 use Rattle.minidump_records.proofs.handles.data_stream.read_handles.Goals as goal
 
-pub loop-raw-preserved : goal.loop-raw-preserved
-loop-raw-preserved g c =
+pub loop-entry-preserved : goal.loop-entry-preserved
+loop-entry-preserved g c =
     let xs = c.args.raws in
-    let i = length c.loop-raw.yielded in
-    let raw = c.in-Some.raw in
+    let i = length c.loop-entry.yielded in
+    let raw = c.in-Some.entry in
     let one = c.in_ok-read_handle.field-0 in
-    let next : IsNext xs i raw raw c.next.new.self = next_left xs i raw raw _ (sym c.loop-raw.invariant.left ∙ c.in-Some.ensures.steps) in
-    rw (one_given c.loop-raw.yielded raw) (record {
+    let next : IsNext xs i raw raw c.next.new.self = next_left xs i raw raw _ (sym c.loop-entry.invariant.left ∙ c.in-Some.ensures.steps) in
+    rw (one_given c.loop-entry.yielded raw) (record {
       left = next.left;
       items =
           rw c.in_ok-push.ensures.items (mapped_more (λ r. handle_in c.args.endian (bytes_of c.args.all) (g.R.Descriptor.raw r)) handle_of xs
-          c.loop-raw.handles.items i raw one
-          next.inside c.loop-raw.invariant.items (rw (next.item, ← c.raw.ensures) c.in_ok-read_handle.ensures.value));
-      within = omega (arith, c.read_handle.ensures.within, c.loop-raw.invariant.within);
-      grows = omega (arith, c.read_handle.ensures.grows, c.loop-raw.invariant.grows);
-      least = rw (c.in_ok-push.ensures.items, sum_pushed handle_reads handle_of c.loop-raw.handles.items one)
-          (omega (arith, c.in_ok-read_handle.ensures.at_least, c.loop-raw.invariant.least));
+          c.loop-entry.handles.items i raw one
+          next.inside c.loop-entry.invariant.items (rw (next.item, ← c.read-raw.ensures.value, ← c.raw.ensures) c.in_ok-read_handle.ensures.value));
+      within = omega (arith, c.read-raw.ensures.step, c.read_handle.ensures.within, c.loop-entry.invariant.within);
+      grows = omega (arith, c.read-raw.ensures.step, c.read_handle.ensures.grows, c.loop-entry.invariant.grows);
+      least = rw (c.in_ok-push.ensures.items, one_given c.loop-entry.handles.items one, sum_pushed handle_reads handle_of c.loop-entry.handles.items one)
+          (omega (arith, c.read-raw.ensures.step, c.in_ok-read_handle.ensures.at_least, c.loop-entry.invariant.least));
     })
 
 pub returns-clause-items : goal.returns-clause-items
 returns-clause-items g c =
-    rw (all_given c.args.raws (length c.loop-raw.yielded) (sym c.loop-raw.invariant.left ∙ c.in-None.ensures.steps.0)) at c.loop-raw.invariant.items
+    rw (all_given c.args.raws (length c.loop-entry.yielded) (sym c.loop-entry.invariant.left ∙ c.in-None.ensures.steps.0)) at c.loop-entry.invariant.items
