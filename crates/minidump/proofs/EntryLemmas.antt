@@ -8,7 +8,6 @@ use Rattle.minidump_format.specs.declared.error.Error.TheVariants.{OutOfMemory}
 use Rattle.minidump_format.specs.declared.format.memory.MINIDUMP_MEMORY_DESCRIPTOR.{MINIDUMP_MEMORY_DESCRIPTOR}
 use Rattle.minidump_format.specs.declared.format.memory.MINIDUMP_MEMORY_DESCRIPTOR64.{MINIDUMP_MEMORY_DESCRIPTOR64}
 use Rattle.minidump_format.specs.Header.{directory_entry}
-use Rattle.minidump_format.specs.StreamType.{number_of}
 use Rattle.minidump_system.specs.StreamSpec.{StreamSpec}
 use Rattle.minidump_memory.specs.Memory.{MemoryRegion}
 use Rattle.minidump.specs.declared.directory.DecidingEntry.{DecidingEntry}
@@ -31,24 +30,24 @@ bytes_have_entry d stream_type found = by_entry (deciding stream_type (directory
 
 module _ {S V : Type 0} (spec : StreamSpec S V) (d : Dump) where
   -- where its value is found, its bytes are
-  by_value : (r : Result (List ℕ) Error) → raw_stream (number_of spec.stream_type) d ≡ r → IsOk (stream_of spec d)
-      → IsOk (raw_stream (number_of spec.stream_type) d)
+  by_value : (r : Result (List ℕ) Error) → raw_stream spec.stream_type d ≡ r → IsOk (stream_of spec d)
+      → IsOk (raw_stream spec.stream_type d)
   by_value (Ok bytes) is k = rw is refl
   by_value (Err e) is k = absurd (false≢true (rw is at k))
 
   pub stream_has_entry : IsOk (stream_of spec d) → 0 < d.header.stream_count
   stream_has_entry found =
-      bytes_have_entry d (number_of spec.stream_type) (by_value (raw_stream (number_of spec.stream_type) d) refl found)
+      bytes_have_entry d spec.stream_type (by_value (raw_stream spec.stream_type d) refl found)
 
   -- where it takes memory, its bytes are found
-  by_memory : (r : Result (List ℕ) Error) → raw_stream (number_of spec.stream_type) d ≡ r → stream_memory spec d
-      → IsOk (raw_stream (number_of spec.stream_type) d)
+  by_memory : (r : Result (List ℕ) Error) → raw_stream spec.stream_type d ≡ r → stream_memory spec d
+      → IsOk (raw_stream spec.stream_type d)
   by_memory (Ok bytes) is k = rw is refl
   by_memory (Err e) is k = absurd (rw is at k)
 
   pub memory_has_entry : stream_memory spec d → 0 < d.header.stream_count
   memory_has_entry takes =
-      bytes_have_entry d (number_of spec.stream_type) (by_memory (raw_stream (number_of spec.stream_type) d) refl takes)
+      bytes_have_entry d spec.stream_type (by_memory (raw_stream spec.stream_type d) refl takes)
 
 -- the same of the memory of a dump, by either list
 pub regions_take_entry : (d : Dump) → TakesMemory d → 0 < d.header.stream_count

@@ -95,11 +95,11 @@ stream stream_type meaning d = stream_with (dump_system d) stream_type meaning d
 
 -- the stream of a table
 abbrev pub stream_of : {S V : Type 0} → StreamSpec S V → Dump → Result V Error
-stream_of spec d = stream (number_of spec.stream_type) spec.meaning d
+stream_of spec d = stream spec.stream_type spec.meaning d
 
 -- where reading that stream may run out of memory
 abbrev pub stream_memory : {S V : Type 0} → StreamSpec S V → Dump → Type 0
-stream_memory spec d = IsOkAnd (raw_stream (number_of spec.stream_type) d) (λ b. spec.memory d.order d.file b (dump_system d))
+stream_memory spec d = IsOkAnd (raw_stream spec.stream_type d) (λ b. spec.memory d.order d.file b (dump_system d))
 
 -- a result is the stream of a table or its error; or memory ran out where it may
 abbrev pub IsStreamOf : {S V : Type 0} → StreamSpec S V → Dump → Result S Error → Type 0

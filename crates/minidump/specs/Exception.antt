@@ -15,6 +15,7 @@ use Rattle.minidump_format.specs.declared.format.exception.MINIDUMP_EXCEPTION_ST
 use Rattle.minidump_format.specs.Exception.{exception_layout}
 use Rattle.minidump_format.specs.declared.format.header.MINIDUMP_LOCATION_DESCRIPTOR.{MINIDUMP_LOCATION_DESCRIPTOR}
 use Rattle.minidump_format.specs.Header.{located}
+use Rattle.minidump_format.specs.StreamType.{number_of}
 use Rattle.minidump_format.specs.Text.{line_end}
 use Rattle.minidump_system.specs.StreamSpec.{StreamSpec}
 use Rattle.minidump_system.specs.declared.cpu.Cpu.{Cpu}
@@ -68,7 +69,7 @@ crash_address os cpu r = as_wide (width_of cpu) (if has_address os r then slice_
 -- the stream of type ExceptionStream
 abbrev pub exception_stream : StreamSpec MinidumpException Exception
 exception_stream = record {
-  stream_type = ExceptionStream;
+  stream_type = number_of ExceptionStream;
   value = exception_of;
   meaning = λ order file bytes system. exception_in order file bytes;
   most = λ n. 2;

@@ -6,7 +6,6 @@ use Rattle.minidump_format.specs.declared.error.Error.{Error}
 use Rattle.minidump_format.specs.declared.error.Error.TheVariants.{StreamNotFound}
 use Rattle.minidump_format.specs.Error.{refusal_name}
 use Rattle.minidump_format.specs.Print.{Prints}
-use Rattle.minidump_format.specs.StreamType.{number_of}
 use Rattle.minidump_reason.specs.Names.{Lists}
 use Rattle.minidump_system.specs.StreamSpec.{StreamSpec}
 use Rattle.minidump.specs.Crash.{crash_text}
@@ -55,7 +54,7 @@ reported name text (Err e) = unread_text name e
 
 -- what the stream of a table adds to the report on a dump
 abbrev pub section : {S V : Type 0} → StreamSpec S V → (V → List ℕ) → Dump → List ℕ
-section spec text dump = reported (shown_type (number_of spec.stream_type)) text (stream_of spec dump)
+section spec text dump = reported (shown_type spec.stream_type) text (stream_of spec dump)
 
 -- what each type of stream adds: threads are not brief, and have the memory that `get_memory` returns; both lists of memory are brief
 abbrev pub section_text : Dump → Section → List ℕ

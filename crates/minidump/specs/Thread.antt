@@ -11,6 +11,7 @@ use Rattle.minidump_format.specs.declared.error.Error.{Error}
 use Rattle.minidump_format.specs.declared.format.memory.MINIDUMP_MEMORY_DESCRIPTOR.{MINIDUMP_MEMORY_DESCRIPTOR}
 use Rattle.minidump_format.specs.declared.format.thread.MINIDUMP_THREAD.{MINIDUMP_THREAD}
 use Rattle.minidump_format.specs.Header.{located}
+use Rattle.minidump_format.specs.StreamType.{number_of}
 use Rattle.minidump_format.specs.Thread.{thread}
 use Rattle.minidump_index.specs.Lookup.{IsLookedUp}
 use Rattle.minidump_system.specs.StreamSpec.{StreamSpec, linear}
@@ -109,7 +110,7 @@ IsErrorIn names memory (Some address) found =
 -- the stream of type ThreadListStream
 abbrev pub thread_list_stream : StreamSpec MinidumpThreadList (List Thread)
 thread_list_stream = record {
-  stream_type = ThreadListStream;
+  stream_type = number_of ThreadListStream;
   value = thread_list_of;
   meaning = λ order file bytes system. thread_list_in order file bytes;
   most = linear;

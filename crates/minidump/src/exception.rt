@@ -1,7 +1,6 @@
 ghost use Rattle.std.specs.Prelude.{◌≡◌, ◌++◌, OnOk, IfSome};
 ghost use Rattle.std.specs.List.{enumerate_from, flat_map};
 ghost use Rattle.std.specs.Option.{option_copied, option_map};
-ghost use Rattle.minidump_format.specs.StreamType.{number_of};
 ghost use Rattle.minidump_context.specs.declared.validity.MinidumpContextValidity.TheVariants.{All};
 ghost use Rattle.minidump_reason.specs.Reason.{crash_reason};
 ghost use Rattle.minidump_context.specs.Text.{context_text};
@@ -273,7 +272,7 @@ impl<'a> MinidumpStream<'a> for MinidumpException<'a> {
     const STREAM_TYPE: u32 = 6;
 
     fn number_of_type() -> u32
-        ensures { result ≡ number_of exception_stream.stream_type }
+        ensures { result ≡ exception_stream.stream_type }
     {
         Self::STREAM_TYPE
     }

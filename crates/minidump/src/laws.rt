@@ -166,7 +166,7 @@ pub fn system_information_is_the_dumps()
     ensures { (d : Dump) → result_ok (stream_of system_info_stream d) ≡ dump_system d }
 {}
 
-/// Each type of stream that is read has the table that is promised of it: its name, its value, its meaning, at
+/// Each type of stream that is read has the table that is promised of it: its number, its value, its meaning, at
 /// most `n + 7` reads, or `(n + 8)² - 1` of handles and Crashpad's information, the fewest reads, and where it
 /// may take memory.
 pub fn streams_are_read_as_promised()

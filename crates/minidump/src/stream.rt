@@ -1,7 +1,6 @@
 ghost use Rattle.std.specs.Prelude.{◌≡◌, ◌≢◌, ◌+◌, ◌<◌, ◌≤◌, length, IfErr, IfOk, IfSome, OnOk, OnSome};
 ghost use Rattle.minidump_bytes.specs.Steps.{after};
 ghost use Rattle.minidump_format.specs.Answer.{Gives};
-ghost use Rattle.minidump_format.specs.StreamType.{number_of};
 ghost use Rattle.minidump.specs.Dump.{IsFoundStream, IsStreamOf, raw_stream};
 ghost use Rattle.minidump.specs.DumpValue.{dump_of};
 
@@ -65,11 +64,11 @@ impl<'a> Minidump<'a> {
         ensures memory { IfErr result (λ e. e ≡ Error.OutOfMemory → 0 < (dump_of self.now).header.stream_count) }
         ensures within { steps.new ≤ steps.old + S.spec.most (length (dump_of self.now).file) + 1 }
         ensures grows { steps.old ≤ steps.new }
-        ensures counted { raw_stream (number_of S.spec.stream_type) (dump_of self.now) ≢ Err Error.StreamNotFound
+        ensures counted { raw_stream S.spec.stream_type (dump_of self.now) ≢ Err Error.StreamNotFound
             → after steps.old 1 ≤ steps.new }
-        ensures absent { raw_stream (number_of S.spec.stream_type) (dump_of self.now) ≡ Err Error.StreamNotFound
+        ensures absent { raw_stream S.spec.stream_type (dump_of self.now) ≡ Err Error.StreamNotFound
             → steps.new ≡ steps.old }
-        ensures at_least { IfOk result (λ x. IfOk (raw_stream (number_of S.spec.stream_type) (dump_of self.now))
+        ensures at_least { IfOk result (λ x. IfOk (raw_stream S.spec.stream_type (dump_of self.now))
             (λ b. after steps.old (1 + S.spec.fewest (dump_of self.now).order b (S.spec.value x)) ≤ steps.new)) }
     {
         let bytes = Source::new(self.raw_stream(S::number_of_type(), steps)?);
@@ -105,12 +104,12 @@ impl<'a> Minidump<'a> {
         ensures memory { IfErr result (λ e. (e ≡ Error.OutOfMemory) × (0 < (dump_of self.now).header.stream_count)) }
         ensures within { steps.new ≤ steps.old + S.spec.most (length (dump_of self.now).file) + 1 }
         ensures grows { steps.old ≤ steps.new }
-        ensures counted { raw_stream (number_of S.spec.stream_type) (dump_of self.now) ≢ Err Error.StreamNotFound
+        ensures counted { raw_stream S.spec.stream_type (dump_of self.now) ≢ Err Error.StreamNotFound
             → after steps.old 1 ≤ steps.new }
-        ensures absent { raw_stream (number_of S.spec.stream_type) (dump_of self.now) ≡ Err Error.StreamNotFound
+        ensures absent { raw_stream S.spec.stream_type (dump_of self.now) ≡ Err Error.StreamNotFound
             → steps.new ≡ steps.old }
         ensures at_least { IfOk result (λ found. IfSome found
-            (λ x. IfOk (raw_stream (number_of S.spec.stream_type) (dump_of self.now))
+            (λ x. IfOk (raw_stream S.spec.stream_type (dump_of self.now))
             (λ b. after steps.old (1 + S.spec.fewest (dump_of self.now).order b (S.spec.value x)) ≤ steps.new))) }
     {
         match self.get_stream_counted(alloc, steps) {

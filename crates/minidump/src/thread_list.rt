@@ -4,7 +4,6 @@ ghost use Rattle.std.specs.Option.{option_copied, option_map};
 ghost use Rattle.std.specs.Slice.Iter.{iter_rest};
 ghost use Rattle.minidump_bytes.specs.Source.{bytes_of};
 ghost use Rattle.minidump_bytes.specs.Steps.{after};
-ghost use Rattle.minidump_format.specs.StreamType.{number_of};
 ghost use Rattle.minidump_format.specs.Print.{Prints};
 ghost use Rattle.minidump_system.specs.SystemInfo.{system_info_of};
 ghost use Rattle.minidump_memory.specs.Unified.{unified_list};
@@ -235,7 +234,7 @@ impl<'a> MinidumpStream<'a> for MinidumpThreadList<'a> {
     const STREAM_TYPE: u32 = 3;
 
     fn number_of_type() -> u32
-        ensures { result ≡ number_of thread_list_stream.stream_type }
+        ensures { result ≡ thread_list_stream.stream_type }
     {
         Self::STREAM_TYPE
     }

@@ -7,6 +7,7 @@ use Rattle.minidump_format.specs.declared.format.stream_type.MINIDUMP_STREAM_TYP
 use Rattle.minidump_format.specs.declared.error.Error.{Error}
 use Rattle.minidump_format.specs.declared.format.module.MINIDUMP_MODULE.{MINIDUMP_MODULE}
 use Rattle.minidump_format.specs.Module.{module_entry}
+use Rattle.minidump_format.specs.StreamType.{number_of}
 use Rattle.minidump_system.specs.Framing.{count_of, plain_list}
 use Rattle.minidump_system.specs.StreamSpec.{StreamSpec, linear}
 use Rattle.minidump_system.specs.declared.os.Os.{Os}
@@ -39,7 +40,7 @@ modules_read modules = sum_by module_reads modules
 -- the stream of type ModuleListStream
 abbrev pub module_list_stream : StreamSpec MinidumpModuleList (List ModuleValue)
 module_list_stream = record {
-  stream_type = ModuleListStream;
+  stream_type = number_of ModuleListStream;
   value = module_list_of;
   meaning = module_list_in;
   most = linear;

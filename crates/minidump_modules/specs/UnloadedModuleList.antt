@@ -4,6 +4,7 @@ use Rattle.minidump_bytes.specs.declared.endian.Endian.{Endian}
 use Rattle.minidump_format.specs.declared.format.stream_type.MINIDUMP_STREAM_TYPE.TheVariants.{UnloadedModuleListStream}
 use Rattle.minidump_format.specs.declared.error.Error.{Error}
 use Rattle.minidump_format.specs.Module.{unloaded_module_entry}
+use Rattle.minidump_format.specs.StreamType.{number_of}
 use Rattle.minidump_system.specs.Framing.{list_header_of, extended_list}
 use Rattle.minidump_system.specs.StreamSpec.{StreamSpec, linear}
 use Rattle.minidump_system.specs.Reads.{all_ok, and_then}
@@ -22,7 +23,7 @@ unloaded_module_list_in order file bytes = and_then (extended_list unloaded_modu
 -- the stream of type UnloadedModuleListStream
 abbrev pub unloaded_module_list_stream : StreamSpec MinidumpUnloadedModuleList (List UnloadedValue)
 unloaded_module_list_stream = record {
-  stream_type = UnloadedModuleListStream;
+  stream_type = number_of UnloadedModuleListStream;
   value = unloaded_module_list_of;
   meaning = λ order file bytes system. unloaded_module_list_in order file bytes;
   most = linear;

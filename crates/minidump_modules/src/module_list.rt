@@ -4,7 +4,6 @@ ghost use Rattle.std.specs.Option.{option_copied, option_map};
 ghost use Rattle.minidump_bytes.specs.Source.{bytes_of};
 ghost use Rattle.minidump_bytes.specs.Steps.{after};
 ghost use Rattle.minidump_format.specs.Answer.{Gives};
-ghost use Rattle.minidump_format.specs.StreamType.{number_of};
 ghost use Rattle.minidump_index.specs.Lookup.{IsByAddress, IsCountedLookup, IsLookedUp};
 ghost use Rattle.minidump_modules.specs.Module.{has_range, module_of, value_range};
 ghost use Rattle.minidump_modules.specs.ModuleList.{module_list_of, modules_in, modules_of, modules_read};

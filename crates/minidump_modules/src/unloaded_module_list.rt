@@ -4,7 +4,6 @@ ghost use Rattle.minidump_bytes.specs.Source.{bytes_of};
 ghost use Rattle.minidump_bytes.specs.Steps.{after};
 ghost use Rattle.minidump_bytes.specs.Text16.{TakesMemory16};
 ghost use Rattle.minidump_format.specs.Answer.{Gives};
-ghost use Rattle.minidump_format.specs.StreamType.{number_of};
 ghost use Rattle.minidump_system.specs.Reads.{all_ok};
 ghost use Rattle.minidump_modules.specs.UnloadedModule.{listed_unloaded, unloaded_of};
 ghost use Rattle.minidump_modules.specs.UnloadedModuleList.{unloaded_module_list_of};

@@ -11,6 +11,7 @@ use Rattle.minidump_format.specs.declared.error.Error.{Error}
 use Rattle.minidump_format.specs.declared.error.Error.TheVariants.{StreamReadFailure}
 use Rattle.minidump_format.specs.declared.format.assertion.MINIDUMP_ASSERTION_INFO.{MINIDUMP_ASSERTION_INFO}
 use Rattle.minidump_format.specs.Assertion.{assertion_info}
+use Rattle.minidump_format.specs.StreamType.{number_of}
 use Rattle.minidump_system.specs.StreamSpec.{StreamSpec}
 use Rattle.minidump_records.specs.declared.assertion.MinidumpAssertion.{MinidumpAssertion}
 
@@ -25,7 +26,7 @@ assertion_in order bytes = ok_or (record_at assertion_info order 0 bytes) Stream
 -- the stream of type AssertionInfoStream
 abbrev pub assertion_stream : StreamSpec MinidumpAssertion MINIDUMP_ASSERTION_INFO
 assertion_stream = record {
-  stream_type = AssertionInfoStream;
+  stream_type = number_of AssertionInfoStream;
   value = assertion_of;
   meaning = λ order file bytes system. assertion_in order bytes;
   most = λ n. 1;

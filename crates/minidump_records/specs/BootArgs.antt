@@ -11,6 +11,7 @@ use Rattle.minidump_format.specs.declared.error.Error.{Error}
 use Rattle.minidump_format.specs.declared.error.Error.TheVariants.{StreamReadFailure}
 use Rattle.minidump_format.specs.declared.format.mac.MINIDUMP_MAC_BOOTARGS.{MINIDUMP_MAC_BOOTARGS}
 use Rattle.minidump_format.specs.Mac.{mac_boot_args}
+use Rattle.minidump_format.specs.StreamType.{number_of}
 use Rattle.minidump_system.specs.StreamSpec.{StreamSpec}
 use Rattle.minidump_system.specs.Reads.{and_then}
 use Rattle.minidump_records.specs.Print.{text_or_nothing}
@@ -56,7 +57,7 @@ boot_args_reads bytes = if nat_le 12 (length bytes) then 2 else 3
 -- the stream of type MozMacosBootargsStream. It takes memory where the text at its RVA does
 abbrev pub mac_bootargs_stream : StreamSpec MinidumpMacBootargs BootArgs
 mac_bootargs_stream = record {
-  stream_type = MozMacosBootargsStream;
+  stream_type = number_of MozMacosBootargsStream;
   value = mac_bootargs_of;
   meaning = λ order file bytes system. mac_bootargs_in order file bytes;
   most = λ n. 3;

@@ -10,6 +10,7 @@ use Rattle.minidump_format.specs.declared.error.Error.{Error}
 use Rattle.minidump_format.specs.declared.error.Error.TheVariants.{StreamReadFailure}
 use Rattle.minidump_format.specs.declared.format.breakpad.MINIDUMP_BREAKPAD_INFO.{MINIDUMP_BREAKPAD_INFO}
 use Rattle.minidump_format.specs.Breakpad.{breakpad_info}
+use Rattle.minidump_format.specs.StreamType.{number_of}
 use Rattle.minidump_system.specs.StreamSpec.{StreamSpec}
 use Rattle.minidump_system.specs.Reads.{and_then}
 use Rattle.minidump_records.specs.declared.breakpad_info.MinidumpBreakpadInfo.{MinidumpBreakpadInfo}
@@ -33,7 +34,7 @@ breakpad_info_in order bytes = and_then (ok_or (record_at breakpad_info order 0 
 -- the stream of type BreakpadInfoStream
 abbrev pub breakpad_info_stream : StreamSpec MinidumpBreakpadInfo MinidumpBreakpadInfo
 breakpad_info_stream = record {
-  stream_type = BreakpadInfoStream;
+  stream_type = number_of BreakpadInfoStream;
   value = λ info. info;
   meaning = λ order file bytes system. breakpad_info_in order bytes;
   most = λ n. 1;

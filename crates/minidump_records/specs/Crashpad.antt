@@ -17,6 +17,7 @@ use Rattle.minidump_format.specs.declared.format.crashpad.MINIDUMP_CRASHPAD_INFO
 use Rattle.minidump_format.specs.declared.format.crashpad.MINIDUMP_MODULE_CRASHPAD_INFO.{MINIDUMP_MODULE_CRASHPAD_INFO}
 use Rattle.minidump_format.specs.declared.format.crashpad.MINIDUMP_MODULE_CRASHPAD_INFO_LINK.{MINIDUMP_MODULE_CRASHPAD_INFO_LINK}
 use Rattle.minidump_format.specs.declared.format.header.MINIDUMP_LOCATION_DESCRIPTOR.{MINIDUMP_LOCATION_DESCRIPTOR}
+use Rattle.minidump_format.specs.StreamType.{number_of}
 use Rattle.minidump_system.specs.StreamSpec.{StreamSpec, square}
 use Rattle.minidump_system.specs.Reads.{and_then}
 use Rattle.minidump_records.specs.declared.crashpad.info.MinidumpCrashpadInfo.{MinidumpCrashpadInfo}
@@ -129,7 +130,7 @@ InfoTakesMemory order file raw = CountsEntry order file raw.simple_annotations â
 -- the stream of type CrashpadInfoStream
 abbrev pub crashpad_info_stream : StreamSpec MinidumpCrashpadInfo Crashpad
 crashpad_info_stream = record {
-  stream_type = CrashpadInfoStream;
+  stream_type = number_of CrashpadInfoStream;
   value = crashpad_info_of;
   meaning = Î» order file bytes system. crashpad_info_in order file bytes;
   most = square;

@@ -12,6 +12,7 @@ use Rattle.minidump_bytes.specs.Text16.{text16}
 use Rattle.minidump_format.specs.declared.format.handle.MINIDUMP_HANDLE_DESCRIPTOR.{MINIDUMP_HANDLE_DESCRIPTOR}
 use Rattle.minidump_format.specs.declared.format.stream_type.MINIDUMP_STREAM_TYPE.TheVariants.{HandleDataStream}
 use Rattle.minidump_format.specs.declared.error.Error.{Error}
+use Rattle.minidump_format.specs.StreamType.{number_of}
 use Rattle.minidump_system.specs.StreamSpec.{StreamSpec, square}
 use Rattle.minidump_system.specs.declared.framing.HandleEntries.{HandleEntries}
 use Rattle.minidump_system.specs.declared.framing.HandleEntries.TheVariants.{Short, Long}
@@ -94,7 +95,7 @@ handle_data_in order file bytes = and_then (handle_list order bytes) (λ list. O
 -- the stream of type HandleDataStream
 abbrev pub handle_data_stream : StreamSpec MinidumpHandleDataStream (List Handle)
 handle_data_stream = record {
-  stream_type = HandleDataStream;
+  stream_type = number_of HandleDataStream;
   value = handle_data_of;
   meaning = λ order file bytes system. handle_data_in order file bytes;
   most = square;

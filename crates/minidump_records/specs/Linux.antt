@@ -7,6 +7,7 @@ use Rattle.minidump_format.specs.declared.format.stream_type.MINIDUMP_STREAM_TYP
 use Rattle.minidump_format.specs.declared.format.stream_type.MINIDUMP_STREAM_TYPE.TheVariants.{LinuxCpuInfo, LinuxEnviron, LinuxLsbRelease}
 use Rattle.minidump_format.specs.declared.format.stream_type.MINIDUMP_STREAM_TYPE.TheVariants.{LinuxProcStatus, MozLinuxLimits}
 use Rattle.minidump_format.specs.declared.error.Error.{Error}
+use Rattle.minidump_format.specs.StreamType.{number_of}
 use Rattle.minidump_system.specs.StreamSpec.{StreamSpec}
 use Rattle.minidump_records.specs.declared.linux.files.CpuInfo.{CpuInfo}
 use Rattle.minidump_records.specs.declared.linux.files.Environ.{Environ}
@@ -26,7 +27,7 @@ linux_text_in bytes = Ok bytes
 -- the table of a text: nothing of it is read, and it takes no memory
 abbrev pub linux_text_stream : {F : Type 0} → MINIDUMP_STREAM_TYPE → StreamSpec (LinuxText F) (List ℕ)
 linux_text_stream stream_type = record {
-  stream_type = stream_type;
+  stream_type = number_of stream_type;
   value = linux_text_of;
   meaning = λ order file bytes system. linux_text_in bytes;
   most = λ n. 0;

@@ -13,6 +13,7 @@ use Rattle.minidump_format.specs.declared.error.Error.{Error}
 use Rattle.minidump_format.specs.declared.error.Error.TheVariants.{StreamReadFailure, VersionMismatch}
 use Rattle.minidump_format.specs.declared.format.header.MINIDUMP_LOCATION_DESCRIPTOR.{MINIDUMP_LOCATION_DESCRIPTOR}
 use Rattle.minidump_format.specs.Mac.{mac_crash_info, mac_record}
+use Rattle.minidump_format.specs.StreamType.{number_of}
 use Rattle.minidump_system.specs.StreamSpec.{StreamSpec, linear}
 use Rattle.minidump_system.specs.Reads.{all_ok, and_then}
 use Rattle.minidump_records.specs.MacCrashInfo.Record.{MacRecord, by_version, mac_record_of, record_reads}
@@ -81,7 +82,7 @@ count_of_records order bytes = min (number_at order 4 4 (slice_range bytes 0 172
 -- of the records' versions. It takes memory where a record is counted
 abbrev pub mac_crash_info_stream : StreamSpec MinidumpMacCrashInfo (List MacRecord)
 mac_crash_info_stream = record {
-  stream_type = MozMacosCrashInfoStream;
+  stream_type = number_of MozMacosCrashInfoStream;
   value = mac_crash_info_of;
   meaning = λ order file bytes system. mac_crash_info_in order file bytes;
   most = linear;

@@ -5,6 +5,7 @@ use Rattle.minidump_bytes.specs.Text8.{utf8_text}
 use Rattle.minidump_format.specs.declared.format.stream_type.MINIDUMP_STREAM_TYPE.TheVariants.{MozSoftErrors}
 use Rattle.minidump_format.specs.declared.error.Error.{Error}
 use Rattle.minidump_format.specs.declared.error.Error.TheVariants.{DataError}
+use Rattle.minidump_format.specs.StreamType.{number_of}
 use Rattle.minidump_system.specs.StreamSpec.{StreamSpec}
 use Rattle.minidump_format.specs.Text.{line_end}
 use Rattle.minidump_records.specs.declared.soft_errors.MinidumpSoftErrors.{MinidumpSoftErrors}
@@ -20,7 +21,7 @@ soft_errors_in bytes = ok_or (utf8_text bytes) DataError
 -- the stream of type MozSoftErrors
 abbrev pub soft_errors_stream : StreamSpec MinidumpSoftErrors (List ℕ)
 soft_errors_stream = record {
-  stream_type = MozSoftErrors;
+  stream_type = number_of MozSoftErrors;
   value = soft_errors_of;
   meaning = λ order file bytes system. soft_errors_in bytes;
   most = λ n. 0;

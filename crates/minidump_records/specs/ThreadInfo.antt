@@ -6,6 +6,7 @@ use Rattle.minidump_bytes.specs.Piece.{hex}
 use Rattle.minidump_format.specs.declared.format.stream_type.MINIDUMP_STREAM_TYPE.TheVariants.{ThreadInfoListStream}
 use Rattle.minidump_format.specs.declared.error.Error.{Error}
 use Rattle.minidump_format.specs.declared.format.thread.MINIDUMP_THREAD_INFO.{MINIDUMP_THREAD_INFO}
+use Rattle.minidump_format.specs.StreamType.{number_of}
 use Rattle.minidump_format.specs.Thread.{thread_info}
 use Rattle.minidump_system.specs.Framing.{list_header_of, extended_list}
 use Rattle.minidump_system.specs.StreamSpec.{StreamSpec, linear}
@@ -28,7 +29,7 @@ last_info infos id = find (λ i. i.raw.thread_id == id) (reverse infos)
 -- the stream of type ThreadInfoListStream
 abbrev pub thread_info_list_stream : StreamSpec MinidumpThreadInfoList (List MINIDUMP_THREAD_INFO)
 thread_info_list_stream = record {
-  stream_type = ThreadInfoListStream;
+  stream_type = number_of ThreadInfoListStream;
   value = thread_info_list_of;
   meaning = λ order file bytes system. thread_info_list_in order bytes;
   most = linear;

@@ -9,6 +9,7 @@ use Rattle.minidump_bytes.specs.Text16.{text16, TakesMemory16}
 use Rattle.minidump_format.specs.declared.format.stream_type.MINIDUMP_STREAM_TYPE.TheVariants.{ThreadNamesStream}
 use Rattle.minidump_format.specs.declared.error.Error.{Error}
 use Rattle.minidump_format.specs.declared.format.thread.MINIDUMP_THREAD_NAME.{MINIDUMP_THREAD_NAME}
+use Rattle.minidump_format.specs.StreamType.{number_of}
 use Rattle.minidump_format.specs.Thread.{thread_name}
 use Rattle.minidump_system.specs.Framing.{count_of, plain_list}
 use Rattle.minidump_system.specs.StreamSpec.{StreamSpec, linear}
@@ -52,7 +53,7 @@ name_of_thread names id = lookup (λ t. t == id) names
 -- the stream of type ThreadNamesStream. Its reads are the count, each entry and the name of each
 abbrev pub thread_names_stream : StreamSpec MinidumpThreadNames (List ThreadName)
 thread_names_stream = record {
-  stream_type = ThreadNamesStream;
+  stream_type = number_of ThreadNamesStream;
   value = thread_names_of;
   meaning = λ order file bytes system. thread_names_in order file bytes;
   most = linear;

@@ -3,7 +3,6 @@ ghost use Rattle.std.specs.List.{sum_by};
 ghost use Rattle.minidump_bytes.specs.Source.{bytes_of};
 ghost use Rattle.minidump_bytes.specs.Steps.{after};
 ghost use Rattle.minidump_format.specs.Answer.{Gives};
-ghost use Rattle.minidump_format.specs.StreamType.{number_of};
 ghost use Rattle.minidump_records.specs.MacCrashInfo.Record.{mac_record_of, record_reads};
 ghost use Rattle.minidump_records.specs.MacCrashInfo.{located_records, mac_crash_info_of};
 

@@ -1,6 +1,5 @@
 ghost use Rattle.std.specs.Prelude.{◌≡◌, ◌++◌, [], IfErr};
 ghost use Rattle.minidump_format.specs.Print.{Prints};
-ghost use Rattle.minidump_format.specs.StreamType.{number_of};
 ghost use Rattle.minidump_format.specs.Text.{line_end};
 ghost use Rattle.minidump_records.specs.SoftErrors.{soft_errors_heading, soft_errors_stream, soft_errors_text};
 
@@ -73,7 +72,7 @@ impl<'a> MinidumpStream<'a> for MinidumpSoftErrors<'a> {
     const STREAM_TYPE: u32 = 0x4d7a_0004;
 
     fn number_of_type() -> u32
-        ensures { result ≡ number_of soft_errors_stream.stream_type }
+        ensures { result ≡ soft_errors_stream.stream_type }
     {
         Self::STREAM_TYPE
     }

@@ -5,6 +5,7 @@ use Rattle.minidump_bytes.specs.Wire.{Bytes, Field}
 use Rattle.minidump_format.specs.declared.error.Error.{Error}
 use Rattle.minidump_format.specs.declared.format.stream_type.MINIDUMP_STREAM_TYPE.TheVariants.{StabilityReportStream}
 use Rattle.minidump_format.specs.declared.error.Error.TheVariants.{DataError}
+use Rattle.minidump_format.specs.StreamType.{number_of}
 use Rattle.minidump_system.specs.StreamSpec.{StreamSpec, linear}
 use Rattle.minidump_stability.specs.declared.process_state.FileSystemState.{FileSystemState}
 use Rattle.minidump_stability.specs.declared.process_state.MemoryState.{MemoryState}
@@ -123,7 +124,7 @@ fields_of_report bytes = counted report_fields (unwrap_or (fields_in bytes) [])
 -- the stream of type StabilityReportStream
 abbrev pub stability_report_stream : StreamSpec StabilityReport Report
 stability_report_stream = record {
-  stream_type = StabilityReportStream;
+  stream_type = number_of StabilityReportStream;
   value = stability_report_of;
   meaning = λ order file bytes system. stability_report_in bytes;
   most = linear;

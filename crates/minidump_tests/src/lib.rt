@@ -1,5 +1,5 @@
-//! Tests of `minidump`, of `crash_summary` and of the example `region_at`, on their public calls. They stand
-//! apart from them, since a library with a test is proved twice.
+//! Tests of `minidump`, of `crash_summary` and of the examples `region_at` and `own_stream`, on their public calls.
+//! They stand apart from them, since a library with a test is proved twice.
 //!
 //! They show what no contract says: that a call succeeds where there is memory, that definitions mean the
 //! format, and what becomes of files. So each expected value is written from the format's own tables, not from a
@@ -19,6 +19,8 @@ mod given;
 mod memory;
 #[cfg(test)]
 mod names;
+#[cfg(test)]
+mod own_type;
 #[cfg(test)]
 mod summary;
 #[cfg(test)]

@@ -1,5 +1,4 @@
 -- A refused stream adds the line of its error.
-use Rattle.minidump_format.specs.StreamType.{number_of}
 use Rattle.minidump.specs.Dump.{stream_of}
 use Rattle.minidump.specs.DumpValue.{dump_of}
 use Rattle.minidump.specs.Report.{section}
@@ -12,4 +11,4 @@ returns-in-Err g c = λ text same.
     let d = dump_of c.args.dump.now in
     let spec = g.S.MinidumpStream.spec in
     c.print_refused.ensures (section spec text d)
-    (rw c.number_of_type.ensures (unread _ (shown_type (number_of spec.stream_type)) text c.in-Err.error (stream_of spec d) c.in-Err.ensures.means))
+    (rw c.number_of_type.ensures (unread _ (shown_type spec.stream_type) text c.in-Err.error (stream_of spec d) c.in-Err.ensures.means))
