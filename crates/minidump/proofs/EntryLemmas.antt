@@ -1,18 +1,19 @@
 -- A directory in which a stream is found has an entry.
 use Rattle.std.proofs.Common.{◌≡◌, ℕ, ◌<◌, List, Some, None, length, refl, inl, inr}
 use Rattle.std.proofs.lemmas.Bool.{false≢true}
-use Rattle.std.specs.Prelude.{Option, Result, Ok, Err, IfErr, IsOk, IsSome, OnOk}
+use Rattle.std.specs.Prelude.{◌↔◌, Option, Result, Ok, Err, IfErr, IsOk, IsOkAnd, IsSome, OnOk}
 use Rattle.minidump_bytes.proofs.EntryLemmas.{length-entries}
 use Rattle.minidump_format.specs.declared.error.Error.{Error}
 use Rattle.minidump_format.specs.declared.error.Error.TheVariants.{OutOfMemory}
 use Rattle.minidump_format.specs.declared.format.memory.MINIDUMP_MEMORY_DESCRIPTOR.{MINIDUMP_MEMORY_DESCRIPTOR}
 use Rattle.minidump_format.specs.declared.format.memory.MINIDUMP_MEMORY_DESCRIPTOR64.{MINIDUMP_MEMORY_DESCRIPTOR64}
 use Rattle.minidump_format.specs.Header.{directory_entry}
+use Rattle.minidump_system.specs.Reads.{and_then}
 use Rattle.minidump_system.specs.StreamSpec.{StreamSpec}
 use Rattle.minidump_memory.specs.Memory.{MemoryRegion}
 use Rattle.minidump.specs.declared.directory.DecidingEntry.{DecidingEntry}
 use Rattle.minidump.specs.Directory.{deciding, directory}
-use Rattle.minidump.specs.Dump.{Dump, raw_stream, stream_memory, stream_of}
+use Rattle.minidump.specs.Dump.{Dump, dump_system, raw_stream, stream_memory, stream_of}
 use Rattle.minidump.specs.Memory.{TakesMemory, memories_of_dump}
 use Rattle.minidump.specs.Promise.{memory64_list_stream, memory_list_stream}
 use Rattle.minidump.proofs.DirectoryLemmas.{deciding-among_some}
@@ -48,6 +49,16 @@ module _ {S V : Type 0} (spec : StreamSpec S V) (d : Dump) where
   pub memory_has_entry : stream_memory spec d → 0 < d.header.stream_count
   memory_has_entry takes =
       bytes_have_entry d spec.stream_type (by_memory (raw_stream spec.stream_type d) refl takes)
+
+  -- what is read of its bytes, and where that takes memory
+  pub stream_by_bytes : (r : Result (List ℕ) Error) → raw_stream spec.stream_type d ≡ r
+      → stream_of spec d ≡ and_then r (λ bytes. spec.meaning d.order d.file bytes (dump_system d))
+  stream_by_bytes (Ok bytes) is = rw is refl
+  stream_by_bytes (Err e) is = rw is refl
+
+  pub memory_by_bytes : (r : Result (List ℕ) Error) → raw_stream spec.stream_type d ≡ r
+      → stream_memory spec d ↔ IsOkAnd r (λ bytes. spec.memory d.order d.file bytes (dump_system d))
+  memory_by_bytes r is = rw is (λ x. x, λ x. x)
 
 -- the same of the memory of a dump, by either list
 pub regions_take_entry : (d : Dump) → TakesMemory d → 0 < d.header.stream_count

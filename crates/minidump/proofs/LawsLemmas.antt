@@ -28,6 +28,10 @@ deciding-last es later e others =
     ∙ deciding-others e.stream_type later (es ++ e ∷ []) others
     ∙ deciding-more e.stream_type es e ∙ rw own refl
 
+-- none decides where no entry has the type
+pub deciding-none : (t : ℕ) (es : List MINIDUMP_DIRECTORY) → All (λ x. x.stream_type ≢ t) es → deciding t es ≡ None
+deciding-none t es others = deciding-others t es [] others
+
 -- what a search finds passes
 find_passes : {X : Type 0} (p : X → Bool) (xs : List X) (x : X) → find p xs ≡ Some x → p x ≡ true
 find_passes p [] x found = cc

@@ -1,7 +1,7 @@
 //! Laws of the directory, of the streams and of lists of regions, over the definitions that the contracts of
 //! this crate name. Each is a call that does nothing; its contract says what holds. Those of reading are in
 //! `reading`, those of the records of the format in `records`.
-ghost use Rattle.std.specs.Prelude.{◌≡◌, ◌≢◌, ◌↔◌, ◌<◌, ◌^◌, ◌+◌, ℕ, ◌++◌, ◌∷◌, All, Contains, IsOk, IsSome, List, length, map, Option, Some};
+ghost use Rattle.std.specs.Prelude.{◌≡◌, ◌≢◌, ◌↔◌, ◌<◌, ◌^◌, ◌+◌, ℕ, ◌++◌, ◌∷◌, All, Contains, IsOk, IsOkAnd, IsSome, List, length, map, Option, Some};
 ghost use Rattle.std.specs.List.Sorted.{IsStrictlyIncreasing};
 ghost use Rattle.std.specs.Result.{result_ok};
 ghost use Rattle.minidump_format.specs.declared.format.header.MINIDUMP_DIRECTORY.{MINIDUMP_DIRECTORY};
@@ -13,6 +13,7 @@ ghost use Rattle.minidump_format.specs.declared.format.thread.MINIDUMP_THREAD_IN
 ghost use Rattle.minidump_index.specs.Lookup.{IsLookedUp};
 ghost use Rattle.minidump_system.specs.Cpu.{cpu_name};
 ghost use Rattle.minidump_system.specs.Os.{os_name};
+ghost use Rattle.minidump_system.specs.Reads.{and_then};
 ghost use Rattle.minidump_system.specs.StreamSpec.{IsSame};
 ghost use Rattle.minidump_memory.specs.declared.linux_maps.MinidumpLinuxMaps.{MinidumpLinuxMaps};
 ghost use Rattle.minidump_memory.specs.declared.memory_list.MinidumpMemoryListBase.{MinidumpMemoryListBase};
@@ -57,6 +58,7 @@ pub use minidump_context::laws::{
     names_name_their_registers, nothing_else_is_changed, registers_stand_at_their_places,
     sets_are_equal_by_their_names,
 };
+use minidump_format::Error;
 use minidump_format::format::GUID;
 pub use minidump_format::laws as records;
 pub use minidump_index::laws::{
@@ -119,6 +121,26 @@ pub fn last_entry_decides_the_bytes()
         → directory d.order d.file d.header ≡ es ++ (e ∷ later)
         → All (λ x. x.stream_type ≢ e.stream_type) later
         → raw_stream e.stream_type d ≡ spanned (located d.file e.location) }
+{}
+
+/// The last entry of a type decides what `get_stream` answers: `answer`, what the type makes of the bytes at the entry's
+/// location, or `StreamReadFailure` where that isn't in the file; `memory`, it may run out of memory only where the type does
+/// for these bytes. `none`: if no entry has the type, it is `StreamNotFound`.
+pub fn last_entry_decides_the_stream<'a, S: MinidumpStream<'a>>()
+    ensures answer { (d : Dump) (es later : List MINIDUMP_DIRECTORY) (e : MINIDUMP_DIRECTORY)
+        → directory d.order d.file d.header ≡ es ++ (e ∷ later)
+        → e.stream_type ≡ S.spec.stream_type
+        → All (λ x. x.stream_type ≢ e.stream_type) later
+        → stream_of S.spec d
+            ≡ and_then (spanned (located d.file e.location)) (λ bytes. S.spec.meaning d.order d.file bytes (dump_system d)) }
+    ensures memory { (d : Dump) (es later : List MINIDUMP_DIRECTORY) (e : MINIDUMP_DIRECTORY)
+        → directory d.order d.file d.header ≡ es ++ (e ∷ later)
+        → e.stream_type ≡ S.spec.stream_type
+        → All (λ x. x.stream_type ≢ e.stream_type) later
+        → stream_memory S.spec d
+            ↔ IsOkAnd (spanned (located d.file e.location)) (λ bytes. S.spec.memory d.order d.file bytes (dump_system d)) }
+    ensures none { (d : Dump) → All (λ x. x.stream_type ≢ S.spec.stream_type) (directory d.order d.file d.header)
+        → stream_of S.spec d ≡ Err Error.StreamNotFound }
 {}
 
 /// The listed streams ascend by type, so that each type is listed at most once.

@@ -26,8 +26,8 @@
 //! - Which files are dumps, and the error of every other: `Minidump::read`, by `dump_in`. `OutOfMemory` only
 //!   where the file is a dump whose directory has an entry. One read at least and at most n + 8 for n bytes,
 //!   however it ends, and at least `least_reads` where it succeeds: `read_counted`.
-//! - The last entry of a type decides its bytes: `get_raw_stream`; `laws::last_entry_decides`,
-//!   `last_entry_decides_the_bytes`.
+//! - The last entry of a type decides its bytes, and what `get_stream` answers: `get_raw_stream`;
+//!   `laws::last_entry_decides`, `last_entry_decides_the_bytes`, `last_entry_decides_the_stream`.
 //! - A stream is what its type assigns to its bytes, the file, the byte order and the dump's system
 //!   information, which is present exactly where its own stream parses; at most one read more than the type
 //!   takes: `get_stream`, `get_stream_counted`. The same, with `None` for a stream that is missing or
