@@ -37,7 +37,7 @@ thread_head t = concat (
     ∷ codes "\n"
     ∷ [])
 
--- the context
+-- the text in the place of a context that there is none of
 unfoldable pub no_thread_context : List ℕ
 no_thread_context = codes "  (no context)\n\n"
 
@@ -82,7 +82,7 @@ abbrev pub pointer_width : Option System → PointerWidth
 pointer_width (Some s) = width_of s.cpu
 pointer_width None = Unknown
 
--- the stack of a thread: its own, else the region in a list of memory that the start of its stack lies in
+-- a thread's own stack, else the region that a list of memory has for it
 abbrev pub own_or : Option (MemoryRegion MINIDUMP_MEMORY_DESCRIPTOR) → Option UnifiedRegion → Option UnifiedRegion
 own_or (Some own) listed = Some (of_kind Memory own)
 own_or None listed = listed
@@ -91,7 +91,7 @@ own_or None listed = listed
 abbrev pub listed_stack : Option UnifiedRegions → ℕ → Option UnifiedRegion
 listed_stack memory address = option_and_then (λ m. looked_up region_range (unified_regions m) address) memory
 
--- the stack of a thread
+-- the stack of a thread: its own, else the region in a list of memory that the start of its stack lies in
 abbrev pub stack_of : Option UnifiedRegions → Thread → Option UnifiedRegion
 stack_of memory t = own_or t.stack (listed_stack memory t.raw.stack.start_of_memory_range)
 
@@ -108,7 +108,7 @@ thread_with t context brief width stack =
 abbrev pub thread_text : Option UnifiedRegions → Option System → Bool → Thread → List ℕ
 thread_text memory system brief t = thread_with t (known_context system t.order t.context) brief (pointer_width system) (stack_of memory t)
 
--- a thread of a list, behind the line of its place
+-- the line of a thread's place in the list
 unfoldable pub place_line : ℕ → List ℕ
 place_line place = concat (codes "thread[" ∷ decimal place ∷ codes "]\n" ∷ [])
 
@@ -116,7 +116,7 @@ place_line place = concat (codes "thread[" ∷ decimal place ∷ codes "]\n" ∷
 unfoldable pub placed_thread_text : Option UnifiedRegions → Option System → Bool → ℕ → Thread → List ℕ
 placed_thread_text memory system brief place t = place_line place ++ thread_text memory system brief t
 
--- MINIDUMP_THREAD_LIST
+-- the heading of MINIDUMP_THREAD_LIST, with the number of its threads
 unfoldable pub thread_list_heading : ℕ → List ℕ
 thread_list_heading count = concat (codes "MinidumpThreadList\n  thread_count = " ∷ decimal count ∷ codes "\n\n" ∷ [])
 

@@ -18,7 +18,7 @@ use Rattle.minidump_context.specs.declared.raw_context.MinidumpRawContext.TheVar
 unfoldable pub register_line : List ℕ → ℕ → List ℕ
 register_line front value = front ++ (hex value ++ codes "\n")
 
--- what stands in front of the value of a register that has a number of two columns: the number at their left or at their right
+-- what stands in front of the value of a numbered register, the number at the left of its two columns
 abbrev pub left_front : List ℕ → List ℕ → ℕ → List ℕ
 left_front before behind number = before ++ (left 2 (decimal number) ++ behind)
 
@@ -164,7 +164,7 @@ arm_extra_lines c = numbered_lines (right_front (codes "  float_save.extra[") (c
 abbrev pub arm_text : CONTEXT_ARM → List ℕ
 arm_text c = arm_flags_line c ++ (arm_iregs_lines c ++ (arm_status_lines c ++ (arm_float_lines c ++ arm_extra_lines c)))
 
--- what the two layouts of ARM64 have in common: x0 to x28, x29 to pc, the status registers, d0 to d31
+-- the lines of x0 to x28
 unfoldable pub x_lines : List ℕ → List ℕ
 x_lines iregs = numbered_lines (left_front (codes "  x") (codes "                  = ")) (take 29 iregs)
 
@@ -189,7 +189,7 @@ status_lines cpsr fpsr fpcr = concat (
 unfoldable pub d_lines : List ℕ → List ℕ
 d_lines float_regs = numbered_lines (left_front (codes "  d") (codes " = ")) float_regs
 
--- the lines that the two layouts of ARM64 have in common
+-- the lines that the two layouts of ARM64 have in common: x0 to x28, x29 to pc, the status registers, d0 to d31
 abbrev pub arm64_lines : List ℕ → ℕ → ℕ → ℕ → ℕ → ℕ → List ℕ → List ℕ
 arm64_lines iregs sp pc cpsr fpsr fpcr float_regs =
     x_lines iregs ++ (pointer_lines iregs sp pc ++ (status_lines cpsr fpsr fpcr ++ d_lines float_regs))

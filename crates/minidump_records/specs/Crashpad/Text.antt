@@ -53,11 +53,11 @@ object_line m e = concat (
     codes "  module_list[" ∷ decimal m ∷ codes "].annotation_objects[\"" ∷ e.0 ∷ codes "\"] = " ∷ annotation_text e.1 ∷ codes "\n"
     ∷ [])
 
--- the module at an index: its own lines, and those of its list, of its dictionary and of its annotations
+-- the lines of the dictionary and of the annotations of the module at an index
 abbrev pub objects_text : ℕ × Module → List ℕ
 objects_text m = flat_map (simple_line m.0) m.1.simple_annotations ++ flat_map (object_line m.0) m.1.annotation_objects
 
--- the lines on a module: its own, and those of its list, of its dictionary and of its annotations
+-- the lines on the module at an index: its own, and those of its list, of its dictionary and of its annotations
 abbrev pub module_text : ℕ × Module → List ℕ
 module_text m = module_lines m ++ (flat_map (listed_line m.0) (enumerate_from 0 m.1.list_annotations) ++ objects_text m)
 
