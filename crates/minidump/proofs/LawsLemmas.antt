@@ -33,7 +33,7 @@ pub deciding-none : (t : ℕ) (es : List MINIDUMP_DIRECTORY) → All (λ x. x.st
 deciding-none t es others = deciding-others t es [] others
 
 -- what a search finds passes
-find_passes : {X : Type 0} (p : X → Bool) (xs : List X) (x : X) → find p xs ≡ Some x → p x ≡ true
+pub find_passes : {X : Type 0} (p : X → Bool) (xs : List X) (x : X) → find p xs ≡ Some x → p x ≡ true
 find_passes p [] x found = cc
 find_passes p (y ∷ ys) x found = go (p y) refl (λ rest. find_passes p ys x rest)
   where

@@ -1,22 +1,334 @@
--- The answer of a lookup is the one that `IsLookedUp` allows.
-use Rattle.std.proofs.Common.{◌≡◌, ℕ, subst, sym}
-use Rattle.std.specs.Prelude.{◌↔◌, List, Option}
+-- The answer of a lookup is the one that `IsLookedUp` allows: the tests say what the rule says, and a place is kept exactly where the
+-- test with as many rounds as there are places says so.
+use Rattle.std.proofs.Common.{◌≡◌, ℕ, zero, suc, ◌<◌, ◌≤◌, ◌⊎◌, Bool, true, false, cond, List, [], ◌∷◌, length, get_or, map}
+use Rattle.std.proofs.Common.{arith, ap, refl, subst, sym, ◌∙◌, inl, inr}
+use Rattle.std.specs.Prelude.{◌↔◌, Option, Some, None, MatchOption, find, not, slice_get, nat_le, nat_lt, ◌==◌, ◌&&◌, ◌||◌}
+use Rattle.std.specs.List.{list_any, range_with_len}
+use Rattle.std.specs.Option.{option_and_then, option_map}
+use Rattle.std.proofs.lemmas.Bool.{cases_lt}
+use Rattle.std.proofs.lemmas.Bool.Decides.{nat_tests}
+use Rattle.std.proofs.lemmas.List.Folds.{Any-from_list_any, list_any_at}
+use Rattle.std.proofs.lemmas.List.FromFn.{get_or-range_with_len, length-range_with_len}
+use Rattle.std.proofs.lemmas.Option.{slice_get-map, slice_get_within}
 use Rattle.minidump_index.specs.declared.range.Range.{Range}
-use Rattle.minidump_index.specs.Lookup.{IsLookedUp}
-use Rattle.minidump_index.proofs.LookupExists.{a_lookup}
+use Rattle.minidump_index.specs.Lookup.{IsLookedUp, KeptAt}
+use Rattle.minidump_index.specs.Overlap.{HasRange, IsBefore, IsKeptSet, ShareAddress}
 use Rattle.minidump_index.proofs.RegionLaws.{lookups_agree}
-use Rattle.minidump.specs.LookedUp.{looked_up}
+use Rattle.minidump.specs.LookedUp.{comes_before, drops, has_range, is_kept, kept_at, looked_up, share_address}
+use Rattle.minidump.proofs.LawsLemmas.{find_passes}
+
+-- ---- tests
+both_true : (a b : Bool) → a ≡ true → b ≡ true → (a && b) ≡ true
+both_true a b h k = rw (h, k) refl
+
+each_true : (a b : Bool) → (a && b) ≡ true → (a ≡ true) × (b ≡ true)
+each_true true b h = (refl, h)
+each_true false b h = cc
+
+first_true : (a b : Bool) → a ≡ true → (a || b) ≡ true
+first_true a b h = rw h refl
+
+second_true : (a b : Bool) → b ≡ true → (a || b) ≡ true
+second_true true b h = refl
+second_true false b h = h
+
+some_true : (a b : Bool) → (a || b) ≡ true → (a ≡ true) ⊎ (b ≡ true)
+some_true true b h = inl refl
+some_true false b h = inr h
+
+not_true : (b : Bool) → (b ≡ true → ⊥) → b ≡ false
+not_true true h = absurd (h refl)
+not_true false h = refl
+
+both_ways : (a b : Bool) → (a ≡ true → b ≡ true) → (b ≡ true → a ≡ true) → a ≡ b
+both_ways true b f g = sym (f refl)
+both_ways false true f g = g refl
+both_ways false false f g = refl
+
+opposite : (b : Bool) → (b ≡ true → ⊥) → not b ≡ true
+opposite true h = absurd (h refl)
+opposite false h = refl
+
+opposed : (b : Bool) → not b ≡ true → b ≡ true → ⊥
+opposed true h k = cc
+opposed false h k = cc
+
+lt_test : (m n : ℕ) → nat_lt m n ≡ true → m < n
+lt_test m n h = grind (arith, nat_tests)
+
+test_lt : (m n : ℕ) → m < n → nat_lt m n ≡ true
+test_lt m n h = grind (arith, nat_tests)
+
+le_test : (m n : ℕ) → nat_le m n ≡ true → m ≤ n
+le_test m n h = grind (arith, nat_tests)
+
+test_le : (m n : ℕ) → m ≤ n → nat_le m n ≡ true
+test_le m n h = grind (arith, nat_tests)
+
+eq_test : (m n : ℕ) → (m == n) ≡ true → m ≡ n
+eq_test m n h = grind (arith, nat_tests)
+
+test_eq : (m n : ℕ) → m ≡ n → (m == n) ≡ true
+test_eq m n h = grind (arith, nat_tests)
+
+-- the range that a test found
+got : (test : Range → Bool) (o : Option (Option Range)) → has_range test o ≡ true → (r : Range) × (o ≡ Some (Some r)) × (test r ≡ true)
+got test (Some (Some r)) h = (r, refl, h)
+got test (Some None) h = cc
+got test None h = cc
+
+-- ---- the order of ranges, and addresses that two share
+before_of : (r : Range) (i : ℕ) (s : Range) (j : ℕ) → comes_before r i s j ≡ true → IsBefore r i s j
+before_of r i s j h = elim (some_true _ _ h) [
+  | inl start ↦ inl (lt_test r.start s.start start)
+  | inr more ↦ (let m = each_true _ _ more in inr (
+    eq_test r.start s.start m.0,
+    elim (some_true _ _ m.1) [
+      | inl end ↦ inl (lt_test r.end s.end end)
+      | inr last ↦ (let l = each_true _ _ last in inr (eq_test r.end s.end l.0, lt_test i j l.1))
+    ],
+  ))
+]
+
+of_before : (r : Range) (i : ℕ) (s : Range) (j : ℕ) → IsBefore r i s j → comes_before r i s j ≡ true
+of_before r i s j b = elim b [
+  | inl start ↦ first_true _ _ (test_lt r.start s.start start)
+  | inr more ↦ second_true _ _ (both_true _ _ (test_eq r.start s.start more.0) (elim more.1 [
+    | inl end ↦ first_true _ _ (test_lt r.end s.end end)
+    | inr last ↦ second_true _ _ (both_true _ _ (test_eq r.end s.end last.0) (test_lt i j last.1))
+  ]))
+]
+
+not_itself : (r : Range) (i : ℕ) → IsBefore r i r i → ⊥
+not_itself r i b = elim b [
+  | inl start ↦ omega (arith, start)
+  | inr more ↦ elim more.1 [ inl end ↦ omega (arith, end) | inr last ↦ omega (arith, last.1) ]
+]
+
+onward : (q r s : Range) (h i j : ℕ) → IsBefore q h r i → IsBefore r i s j → IsBefore q h s j
+onward q r s h i j a b = elim a [
+  | inl lt ↦ elim b [ inl further ↦ inl (omega (arith, lt, further)) | inr same ↦ inl (omega (arith, lt, same.0)) ]
+  | inr at ↦ elim b [
+    | inl further ↦ inl (omega (arith, at.0, further))
+    | inr same ↦ inr (at.0 ∙ same.0, elim at.1 [
+      | inl lt ↦ elim same.1 [ inl further ↦ inl (omega (arith, lt, further)) | inr ends ↦ inl (omega (arith, lt, ends.0)) ]
+      | inr end ↦ elim same.1 [
+        | inl further ↦ inl (omega (arith, end.0, further))
+        | inr ends ↦ inr (end.0 ∙ ends.0, omega (arith, end.1, ends.1))
+      ]
+    ])
+  ]
+]
+
+shared_of : (r s : Range) → share_address r s ≡ true → ShareAddress r s
+shared_of r s h =
+    let e = each_true _ _ h in
+    let low : r.start ≤ s.end = le_test r.start s.end e.0 in
+    let high : s.start ≤ r.end = le_test s.start r.end e.1 in
+    elim (cases_lt r.start s.start) [
+      | inl lt ↦ (s.start, (omega (arith, lt), high), (omega arith, s.ordered))
+      | inr ge ↦ (r.start, (omega arith, r.ordered), (ge, low))
+    ]
+
+of_shared : (r s : Range) → ShareAddress r s → share_address r s ≡ true
+of_shared r s (a, of_r, of_s) =
+    both_true _ _ (test_le r.start s.end (omega (arith, of_r.0, of_s.1))) (test_le s.start r.end (omega (arith, of_r.1, of_s.0)))
+
+-- ---- numbers below a bound that pass a test
+abbrev tally : (ℕ → Bool) → ℕ → ℕ
+tally p zero = 0
+tally p (suc n) = cond (p n) (suc (tally p n)) (tally p n)
+
+bits_le : (a b : Bool) (m n : ℕ) → (a ≡ true → b ≡ true) → m ≤ n → cond a (suc m) m ≤ cond b (suc n) n
+bits_le true true m n h le = omega (arith, le)
+bits_le true false m n h le = (let k : false ≡ true = h refl in cc)
+bits_le false true m n h le = omega (arith, le)
+bits_le false false m n h le = le
+
+bits_lt : (a b : Bool) (m n : ℕ) → (a ≡ true → b ≡ true) → m < n → cond a (suc m) m < cond b (suc n) n
+bits_lt true true m n h lt = omega (arith, lt)
+bits_lt true false m n h lt = (let k : false ≡ true = h refl in cc)
+bits_lt false true m n h lt = omega (arith, lt)
+bits_lt false false m n h lt = lt
+
+tally_le : (p q : ℕ → Bool) (n : ℕ) → ((k : ℕ) → p k ≡ true → q k ≡ true) → tally p n ≤ tally q n
+tally_le p q zero sub = omega arith
+tally_le p q (suc n) sub = bits_le (p n) (q n) (tally p n) (tally q n) (sub n) (tally_le p q n sub)
+
+-- fewer pass a stricter test, where one fails it and passes the other
+tally_lt : (p q : ℕ → Bool) (n k : ℕ) → ((k : ℕ) → p k ≡ true → q k ≡ true) → k < n → p k ≡ false → q k ≡ true → tally p n < tally q n
+tally_lt p q zero k sub lt out in_q = absurd (omega (arith, lt))
+tally_lt p q (suc n) k sub lt out in_q = elim (cases_lt k n) [
+  | inl less ↦ bits_lt (p n) (q n) (tally p n) (tally q n) (sub n) (tally_lt p q n k sub less out in_q)
+  | inr last ↦ (let same : k ≡ n = omega (arith, lt, last) in
+      let no : p n ≡ false = subst (λ (i : ℕ). p i ≡ false) same out in
+      let yes : q n ≡ true = subst (λ (i : ℕ). q i ≡ true) same in_q in
+      let le = tally_le p q n sub in
+      rw (no, yes) (omega (arith, le)))
+]
+
+tally_all : (n : ℕ) → tally (λ k. true) n ≡ n
+tally_all zero = refl
+tally_all (suc n) = ap suc (tally_all n)
+
+-- ---- searches among places
+any_place : (p : ℕ → Bool) (n k : ℕ) → k < n → p k ≡ true → list_any p (range_with_len 0 n) ≡ true
+any_place p n k lt h =
+    let within : k < length (range_with_len 0 n) = omega (arith, lt, length-range_with_len 0 n) in
+    let same : k ≡ get_or (range_with_len 0 n) k 0 = omega (arith, get_or-range_with_len 0 n k 0 lt) in
+    list_any_at p (range_with_len 0 n) k 0 within (subst (λ (i : ℕ). p i ≡ true) same h)
+
+find_fails : {X : Type 0} (p : X → Bool) (xs : List X) → find p xs ≡ None → list_any p xs ≡ true → ⊥
+find_fails p [] none some = cc
+find_fails p (y ∷ ys) none some = go (p y) refl (find_fails p ys)
+  where
+    go : (b : Bool) → p y ≡ b → (find p ys ≡ None → list_any p ys ≡ true → ⊥) → ⊥
+    go true is later = (let h : Some y ≡ None = rw is at none in cc)
+    go false is later = later (rw is at none) (rw is at some)
+
+-- ---- the kept places
+module _ (ranges : List (Option Range)) where
+  -- whether the range of a place comes before that of another
+  abbrev earlier : ℕ → ℕ → Bool
+  earlier place other =
+      has_range (λ r. has_range (λ s. comes_before s other r place) (slice_get ranges other)) (slice_get ranges place)
+
+  -- how many come before it
+  abbrev rank : ℕ → ℕ
+  rank place = tally (earlier place) (length ranges)
+
+  within : (place : ℕ) (r : Range) → HasRange ranges place r → place < length ranges
+  within place r has = slice_get_within ranges place (Some r) has
+
+  one : (place : ℕ) (r s : Range) → HasRange ranges place r → HasRange ranges place s → r ≡ s
+  one place r s a b = (let h : Some (Some r) ≡ Some (Some s) = sym a ∙ b in cc)
+
+  of_earlier : (other place : ℕ) (s r : Range) → HasRange ranges other s → HasRange ranges place r → IsBefore s other r place → earlier place other ≡ true
+  of_earlier other place s r has_s has_r before = rw (has_r, has_s) (of_before s other r place before)
+
+  earlier_of : (other place : ℕ) (r : Range) → HasRange ranges place r → earlier place other ≡ true
+      → (s : Range) × HasRange ranges other s × IsBefore s other r place
+  earlier_of other place r has h =
+      let outer = got (λ r. has_range (λ s. comes_before s other r place) (slice_get ranges other)) (slice_get ranges place) h in
+      let inner = got (λ s. comes_before s other outer.0 place) (slice_get ranges other) outer.2 in
+      (inner.0, inner.1, subst (λ (x : Range). IsBefore inner.0 other x place) (one place outer.0 r outer.1 has) (before_of inner.0 other outer.0 place inner.2))
+
+  not_earlier : (place : ℕ) (r : Range) → HasRange ranges place r → earlier place place ≡ false
+  not_earlier place r has = not_true (earlier place place) (λ h.
+      let e = earlier_of place place r has h in
+      not_itself r place (subst (λ (x : Range). IsBefore x place r place) (one place e.0 r e.1 has) e.2))
+
+  rank_lt : (other place : ℕ) (s r : Range) → HasRange ranges other s → HasRange ranges place r → IsBefore s other r place → rank other < rank place
+  rank_lt other place s r has_s has_r before =
+      tally_lt (earlier other) (earlier place) (length ranges) other
+      (λ k h.
+      let e = earlier_of k other s has_s h in
+      of_earlier k place e.0 r e.1 has_r (onward e.0 s r k other place e.2 before))
+      (within other s has_s) (not_earlier other s has_s) (of_earlier other place s r has_s has_r before)
+
+  rank_within : (place : ℕ) (r : Range) → HasRange ranges place r → rank place < length ranges
+  rank_within place r has =
+      let lt = tally_lt (earlier place) (λ k. true) (length ranges) place (λ k h. refl) (within place r has) (not_earlier place r has) refl in
+      omega (arith, lt, tally_all (length ranges))
+
+  module _ (kept : ℕ → Bool) (is : IsKeptSet ranges kept) where
+    -- a place is dropped by an earlier kept one
+    abbrev dropped_by : ℕ → ℕ → Range → ℕ → Bool
+    dropped_by n place range other = is_kept ranges n other && drops ranges other place range
+
+    -- the earlier places are tested right
+    abbrev RightBefore : ℕ → ℕ → Range → Type 0
+    RightBefore n place range =
+        (other : ℕ) (s : Range) → HasRange ranges other s → IsBefore s other range place → is_kept ranges n other ≡ kept other
+
+    none_drops : (n place : ℕ) (r : Range) → HasRange ranges place r → RightBefore n place r
+        → (list_any (dropped_by n place r) (range_with_len 0 (length ranges)) ≡ true → ⊥) → kept place ≡ true
+    none_drops n place r has right none = (is place).1 (r, has, λ other s other_kept has_s before share.
+        none (any_place (dropped_by n place r) (length ranges) other (within other s has_s) (both_true _ _ (right other s has_s before ∙ other_kept)
+        (rw has_s (both_true _ _ (of_before s other r place before) (of_shared s r share))))))
+
+    one_drops : (n place : ℕ) (r : Range) → HasRange ranges place r → RightBefore n place r
+        → list_any (dropped_by n place r) (range_with_len 0 (length ranges)) ≡ true → kept place ≡ true → ⊥
+    one_drops n place r has right some t =
+        let (range, at, clear) = (is place).0 t in
+        let (k, other, lt, is_at, test) = Any-from_list_any (dropped_by n place r) (range_with_len 0 (length ranges)) some in
+        let both = each_true _ _ test in
+        let found = got (λ s. comes_before s other r place && share_address s r) (slice_get ranges other) both.1 in
+        let tests = each_true _ _ found.2 in
+        let before = before_of found.0 other r place tests.0 in
+        let shared = shared_of found.0 r tests.1 in
+        let same : r ≡ range = one place r range has at in
+        clear other found.0 (sym (right other found.0 found.1 before) ∙ both.0) found.1
+        (subst (λ (x : Range). IsBefore found.0 other x place) same before) (subst (λ (x : Range). ShareAddress found.0 x) same shared)
+
+    by_range : (n place : ℕ) (o : Option (Option Range)) → slice_get ranges place ≡ o
+        → ((r : Range) → HasRange ranges place r → RightBefore n place r) → is_kept ranges (suc n) place ≡ kept place
+    by_range n place None at right =
+        rw at (sym (not_true (kept place) (λ t. let f = (is place).0 t in let h : None ≡ Some (Some f.0) = sym at ∙ f.1 in cc)))
+    by_range n place (Some None) at right =
+        rw at (sym (not_true (kept place) (λ t. let f = (is place).0 t in let h : Some None ≡ Some (Some f.0) = sym at ∙ f.1 in cc)))
+    by_range n place (Some (Some r)) at right =
+        rw at (both_ways _ (kept place)
+        (λ h. none_drops n place r at (right r at) (opposed _ h))
+        (λ t. opposite _ (λ some. one_drops n place r at (right r at) some t)))
+
+    tested : (n place : ℕ) → rank place < n → is_kept ranges n place ≡ kept place
+    tested zero place lt = absurd (omega (arith, lt))
+    tested (suc n) place lt =
+        by_range n place (slice_get ranges place) refl
+        (λ r at other s has before. tested n other (omega (arith, lt, rank_lt other place s r has at before)))
+
+    right_at : (place : ℕ) (r : Range) → HasRange ranges place r → is_kept ranges (length ranges) place ≡ kept place
+    right_at place r has = tested (length ranges) place (rank_within place r has)
 
 module _ {R : Type 0} (range : R → Option Range) (regions : List R) (address : ℕ) where
+  abbrev ranges : List (Option Range)
+  ranges = map range regions
+
+  abbrev has_address : Range → Bool
+  has_address r = nat_le r.start address && nat_le address r.end
+
+  abbrev is_it : ℕ → Bool
+  is_it place = is_kept ranges (length ranges) place && has_range has_address (slice_get ranges place)
+
+  module _ (kept : ℕ → Bool) (is : IsKeptSet ranges kept) where
+    abbrev Nowhere : Type 0
+    Nowhere = (place : ℕ) → ¬ KeptAt ranges kept address place
+
+    abbrev There : R → Type 0
+    There region = (place : ℕ) × KeptAt ranges kept address place × (slice_get regions place ≡ Some region)
+
+    region_of : (place : ℕ) (r : Range) → HasRange ranges place r → KeptAt ranges kept address place → (o : Option R) → slice_get regions place ≡ o
+        → MatchOption o Nowhere There
+    region_of place r has k (Some region) at = (place, k, at)
+    region_of place r has k None at =
+        (let h : option_map range None ≡ Some (Some r) = ap (option_map range) (sym at) ∙ sym (slice_get-map range regions place) ∙ has in cc)
+
+    by_place : (o : Option ℕ) → kept_at ranges address ≡ o → MatchOption (option_and_then (slice_get regions) o) Nowhere There
+    by_place None none = λ place k.
+        find_fails is_it (range_with_len 0 (length ranges)) none
+        (any_place is_it (length ranges) place (within ranges place k.range k.has)
+        (both_true _ _ (right_at ranges kept is place k.range k.has ∙ k.is_kept)
+        (rw k.has (both_true _ _ (test_le _ _ k.inside.0) (test_le _ _ k.inside.1)))))
+    by_place (Some place) found =
+        let both = each_true _ _ (find_passes is_it (range_with_len 0 (length ranges)) place found) in
+        let (r, has, tests) = got has_address (slice_get ranges place) both.1 in
+        let sides = each_true _ _ tests in
+        region_of place r has (record {
+          range = r;
+          is_kept = sym (right_at ranges kept is place r has) ∙ both.0;
+          has = has;
+          inside = (le_test r.start address sides.0, le_test address r.end sides.1);
+        }) (slice_get regions place) refl
+
   -- it is an answer
   looked_up_is : IsLookedUp range regions address (looked_up range regions address)
   unfolding looked_up
-  looked_up_is = (a_lookup range regions address).1
+  looked_up_is kept is = by_place kept is (kept_at ranges address) refl
 
   -- and each answer is it
   pub is_looked_up : (found : Option R) → IsLookedUp range regions address found → found ≡ looked_up range regions address
-  unfolding looked_up
-  is_looked_up found is = lookups_agree range regions address found (a_lookup range regions address).0 is (a_lookup range regions address).1
+  is_looked_up found is = lookups_agree range regions address found (looked_up range regions address) is looked_up_is
 
   -- so that it alone is an answer
   pub answers_alone : (found : Option R) → IsLookedUp range regions address found ↔ (found ≡ looked_up range regions address)

@@ -1,8 +1,43 @@
--- The answer of a lookup as a function of the regions and the address: what a report has of an address.
-use Rattle.std.specs.Prelude.{ℕ, List, Option}
+-- The answer of a lookup as a function of the regions and the address: what a report has of an address. It is the rule of
+-- minidump_index's Overlap.antt and Lookup.antt by tests, and by the law `a_report_has_what_a_lookup_returns` the one answer that
+-- `IsLookedUp` allows.
+use Rattle.std.specs.Prelude.{ℕ, zero, suc, Bool, false, not, List, map, length, Option, Some, None, find, slice_get, nat_le, nat_lt, ◌==◌, ◌&&◌, ◌||◌}
+use Rattle.std.specs.List.{list_any, range_with_len}
+use Rattle.std.specs.Option.{option_and_then}
 use Rattle.minidump_index.specs.declared.range.Range.{Range}
-use Rattle.minidump_index.proofs.LookupExists.{a_lookup}
 
--- the one answer that `IsLookedUp` allows
+-- there is a range that passes a test
+abbrev pub has_range : (Range → Bool) → Option (Option Range) → Bool
+has_range test (Some (Some range)) = test range
+has_range test (Some None) = false
+has_range test None = false
+
+-- the range at a place comes before another: by start, then by end, then by list place
+abbrev pub comes_before : Range → ℕ → Range → ℕ → Bool
+comes_before r i s j = nat_lt r.start s.start || ((r.start == s.start) && (nat_lt r.end s.end || ((r.end == s.end) && nat_lt i j)))
+
+-- some address lies in both
+abbrev pub share_address : Range → Range → Bool
+share_address r s = nat_le r.start s.end && nat_le s.start r.end
+
+-- a place drops a later range: its range comes before that one, and shares an address with it
+abbrev pub drops : List (Option Range) → ℕ → ℕ → Range → Bool
+drops ranges other place range =
+    has_range (λ earlier. comes_before earlier other range place && share_address earlier range) (slice_get ranges other)
+
+-- a place is kept: it holds a range that no earlier kept place drops. At most n places come before it
+abbrev pub is_kept : List (Option Range) → ℕ → ℕ → Bool
+is_kept ranges zero place = false
+is_kept ranges (suc n) place =
+    has_range (λ range. not (list_any (λ other. is_kept ranges n other && drops ranges other place range) (range_with_len 0 (length ranges))))
+    (slice_get ranges place)
+
+-- the kept place whose range has the address
+abbrev pub kept_at : List (Option Range) → ℕ → Option ℕ
+kept_at ranges address =
+    find (λ place. is_kept ranges (length ranges) place && has_range (λ r. nat_le r.start address && nat_le address r.end) (slice_get ranges place))
+    (range_with_len 0 (length ranges))
+
+-- its region
 unfoldable pub looked_up : {R : Type 0} → (R → Option Range) → List R → ℕ → Option R
-looked_up range regions address = (a_lookup range regions address).0
+looked_up range regions address = option_and_then (slice_get regions) (kept_at (map range regions) address)

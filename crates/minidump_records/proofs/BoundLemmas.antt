@@ -39,7 +39,7 @@ use Rattle.minidump_records.specs.Crashpad.Dictionary.{text_in}
 use Rattle.minidump_records.specs.Crashpad.Parts.{CountedList, each, list_of, opened, part_at, parts, tested_list}
 use Rattle.minidump_records.specs.Handles.{Handle, all_handles, chain_offsets, handle_data_in, handle_in, object_chain}
 use Rattle.minidump_records.specs.Handles.ObjectChain.{information_at, next_of, typed}
-use Rattle.minidump_records.specs.Handles.OneObjectChain.{one_object_chain}
+use Rattle.minidump_records.proofs.HandleLemmas.OneObjectChain.{is_object_chain}
 use Rattle.minidump_records.proofs.HandleLemmas.Chain.{nonzero}
 
 -- ---- object chains
@@ -98,12 +98,13 @@ length-filter_map h [] = omega arith
 length-filter_map h (x ∷ xs) = omega (arith, cons_length (h x) (filter_map h xs), length-filter_map h xs)
 
 pub few_infos : (order : Endian) (file : List ℕ) (link : ℕ) → length (object_chain order file link) ≤ length file - 12
-unfolding object_chain chain_offsets
+unfolding object_chain
 few_infos order file link =
-    let one = one_object_chain order file link in
+    let the = chain_offsets order file link in
+    let is = is_object_chain order file link in
     let offsets = few_offsets (information_at order file) next_of (length file - 12 + 1)
-    (λ p i is. (nonzero order file p i is, omega (arith, whole order file p i is))) link one.the (omega arith) one.is.follow one.is.distinct in
-    omega (arith, offsets, length-filter_map (information_at order file) one.the)
+    (λ p i is. (nonzero order file p i is, omega (arith, whole order file p i is))) link the (omega arith) is.follow is.distinct in
+    omega (arith, offsets, length-filter_map (information_at order file) the)
 
 -- ---- results
 

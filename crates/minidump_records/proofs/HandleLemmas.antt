@@ -1,5 +1,6 @@
 -- How many reads the list of handles takes.
 pub mod Offsets
+pub mod OneObjectChain
 pub mod Chain
 use Rattle.std.proofs.Common.{ℕ, ◌+◌, ◌-◌, ◌*◌, ◌≤◌, arith}
 use Rattle.std.proofs.Math.Nat.{mul-le-mul_left}

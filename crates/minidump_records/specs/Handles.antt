@@ -1,7 +1,6 @@
 -- The open handles of a process: Microsoft's MINIDUMP_HANDLE_DATA_STREAM.
 pub mod Descriptor
 pub mod ObjectChain
-pub mod OneObjectChain
 use Rattle.std.specs.Prelude.{ℕ, ◌+◌, ◌==◌, List, [], ◌∷◌, ◌++◌, codes, Option, Some, None, Result, Ok, map, string_bytes, if◌then◌else◌, IsOkAnd, ◌<◌, length}
 use Rattle.std.specs.List.{concat, flat_map, sum_by, filter_map}
 use Rattle.std.specs.Fmt.{decimal}
@@ -13,6 +12,7 @@ use Rattle.minidump_format.specs.declared.format.handle.MINIDUMP_HANDLE_DESCRIPT
 use Rattle.minidump_format.specs.declared.format.stream_type.MINIDUMP_STREAM_TYPE.TheVariants.{HandleDataStream}
 use Rattle.minidump_format.specs.declared.error.Error.{Error}
 use Rattle.minidump_format.specs.StreamType.{number_of}
+use Rattle.minidump_system.specs.Chain.{followed}
 use Rattle.minidump_system.specs.StreamSpec.{StreamSpec, square}
 use Rattle.minidump_system.specs.declared.framing.HandleEntries.{HandleEntries}
 use Rattle.minidump_system.specs.declared.framing.HandleEntries.TheVariants.{Short, Long}
@@ -24,8 +24,7 @@ use Rattle.minidump_records.specs.declared.handles.information.MinidumpHandleObj
 use Rattle.minidump_records.specs.declared.handles.raw.RawHandleDescriptor.{RawHandleDescriptor}
 use Rattle.minidump_records.specs.declared.handles.raw.RawHandleDescriptor.TheVariants.{HandleDescriptor, HandleDescriptor2}
 use Rattle.minidump_records.specs.Handles.Descriptor.{object_info_rva, object_name_rva, type_name_rva}
-use Rattle.minidump_records.specs.Handles.ObjectChain.{chain_reads, information_at, information_text, reads_at}
-use Rattle.minidump_records.specs.Handles.OneObjectChain.{one_object_chain}
+use Rattle.minidump_records.specs.Handles.ObjectChain.{chain_reads, information_at, information_text, next_of, reads_at}
 use Rattle.minidump_format.specs.Numbered.{numbered_list}
 
 -- ---- a handle
@@ -54,10 +53,10 @@ or_zero rva = unwrap_or rva 0
 unfoldable pub name_at_rva : Endian → List ℕ → ℕ → Option (List ℕ)
 name_at_rva order file rva = if rva == 0 then None else text16 order rva file
 
--- the offsets of the object chain from a link: the one list that meets `IsChain` of `minidump_system`'s Chain.antt. An offset without a
--- piece of information ends it, and is no error
+-- the offsets of the object chain from a link, each of which lies in the file: by the law `object_chain_is_the_longest` they are the one
+-- list that meets `IsChain` of `minidump_system`'s Chain.antt. An offset without a piece of information ends it, and is no error
 unfoldable pub chain_offsets : Endian → List ℕ → ℕ → List ℕ
-chain_offsets order file link = (one_object_chain order file link).the
+chain_offsets order file link = followed (information_at order file) next_of (length file) [] link
 
 -- the pieces of information that stand at them
 unfoldable pub object_chain : Endian → List ℕ → ℕ → List MinidumpHandleObjectInformation

@@ -7,9 +7,8 @@ ghost use Rattle.minidump_records.specs.declared.thread_info.MinidumpThreadInfo.
 ghost use Rattle.minidump_records.specs.declared.breakpad_info.MinidumpBreakpadInfo.{MinidumpBreakpadInfo};
 ghost use Rattle.minidump_records.specs.Bounds.{CrashpadIsWithin, HandlesAreWithin, IsBoundedByTheFile};
 ghost use Rattle.minidump_records.specs.Crashpad.Annotations.{Annotation, AreSame, unsupported, user_defined};
-ghost use Rattle.minidump_records.specs.Crashpad.Dictionary.{dictionary_of};
 ghost use Rattle.minidump_records.specs.Handles.{chain_offsets, object_chain};
-ghost use Rattle.minidump_system.specs.LastValues.{IsDictionaryOf};
+ghost use Rattle.minidump_system.specs.LastValues.{IsDictionaryOf, dictionary_of};
 ghost use Rattle.minidump_records.specs.ThreadInfo.{last_info};
 ghost use Rattle.minidump_records.specs.ThreadNames.{ThreadName, last_names, name_of_thread};
 ghost use Rattle.minidump_records.specs.declared.handles.information.MinidumpHandleObjectInformation.{MinidumpHandleObjectInformation};

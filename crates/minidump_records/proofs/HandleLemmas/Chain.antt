@@ -12,10 +12,9 @@ use Rattle.minidump_bytes.specs.declared.endian.Endian.{Endian}
 use Rattle.minidump_bytes.specs.Span.{record_at}
 use Rattle.minidump_format.specs.Handle.{object_information}
 use Rattle.minidump_records.specs.declared.handles.information.MinidumpHandleObjectInformation.{MinidumpHandleObjectInformation}
-use Rattle.minidump_records.specs.Handles.{chain_offsets, object_chain}
+use Rattle.minidump_records.specs.Handles.{object_chain}
 use Rattle.minidump_records.specs.Handles.ObjectChain.{information_at, last_link, next_of, typed}
-use Rattle.minidump_system.specs.Chain.{IsChain}
-use Rattle.minidump_records.specs.Handles.OneObjectChain.{one_object_chain, readable}
+use Rattle.minidump_records.proofs.HandleLemmas.OneObjectChain.{is_object_chain, object_chain_is_one, readable}
 use Rattle.minidump_system.proofs.OneChain.{Leading, leading_end, leading_more, leading_none, leading_short}
 use Rattle.minidump_records.proofs.HandleLemmas.Offsets.{same_push}
 
@@ -83,10 +82,11 @@ module _ (order : Endian) (file : List ℕ) where
   -- where no new piece is, these are all
   ended : (link place : ℕ) (infos : List MinidumpHandleObjectInformation) (met : List ℕ) (c : Chaining link place infos met)
       → ((i : MinidumpHandleObjectInformation) → at place ≡ Some i → list_any (nat_eq place) c.done ≡ false → ⊥) → infos ≡ object_chain order file link
-  unfolding object_chain chain_offsets
+  unfolding object_chain
   ended link place infos met c none =
       c.found
-      ∙ ap (λ l. filter_map at l) ((one_object_chain order file link).only c.done (leading_end at next_of (length file) link place c.done none c.leading))
+      ∙ ap (λ l. filter_map at l)
+      (object_chain_is_one order file link c.done (leading_end at next_of (length file) link place c.done none c.leading))
 
   pub chaining_end : (link place : ℕ) (infos : List MinidumpHandleObjectInformation) (met : List ℕ) → at place ≡ None → Chaining link place infos met
       → infos ≡ object_chain order file link
@@ -95,7 +95,3 @@ module _ (order : Endian) (file : List ℕ) where
   pub chaining_met : (link place : ℕ) (infos : List MinidumpHandleObjectInformation) (met : List ℕ) → 0 < place → has met place ≡ true
       → Chaining link place infos met → infos ≡ object_chain order file link
   chaining_met link place infos met some h c = ended link place infos met c (λ i is new. (let k : true ≡ false = sym h ∙ c.same some place ∙ new in cc))
-
-  pub chain_is_longest : (link : ℕ) → IsChain at next_of link (chain_offsets order file link)
-  unfolding chain_offsets
-  chain_is_longest link = (one_object_chain order file link).is

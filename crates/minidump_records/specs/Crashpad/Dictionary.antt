@@ -8,9 +8,9 @@ use Rattle.minidump_bytes.specs.Text8.{text8_nul}
 use Rattle.minidump_format.specs.declared.error.Error.{Error}
 use Rattle.minidump_format.specs.declared.error.Error.TheVariants.{StreamReadFailure}
 use Rattle.minidump_format.specs.declared.format.header.MINIDUMP_LOCATION_DESCRIPTOR.{MINIDUMP_LOCATION_DESCRIPTOR}
+use Rattle.minidump_system.specs.LastValues.{dictionary_of}
 use Rattle.minidump_system.specs.Reads.{and_then}
 use Rattle.minidump_records.specs.declared.crashpad.dictionary.Keyed.{Keyed}
-use Rattle.minidump_system.proofs.OneDictionary.{one_dictionary}
 use Rattle.minidump_records.specs.Crashpad.Parts.{untested_list}
 
 -- the text at an RVA, which has a NUL behind it
@@ -33,11 +33,7 @@ pair_of value p = (string_bytes p.key, value p.value)
 abbrev pub entries_of : {V W : Type 0} → (V → W) → List (String Global × V) → List (List ℕ × W)
 entries_of value es = map (λ e. (string_bytes e.0, value e.1)) es
 
--- the dictionary of pairs: the one list that meets `IsDictionaryOf` of `minidump_system`'s LastValues.antt
-unfoldable pub dictionary_of : {V : Type 0} → List (List ℕ × V) → List (List ℕ × V)
-dictionary_of pairs = (one_dictionary pairs).the
-
--- the dictionary at a location: of entries with one key the last is kept. Each entry is read, so that a malformed one is an error also
+-- the dictionary at a location: of entries with one key the last is kept (`dictionaries_have_the_last_values`). Each entry is read, so that a malformed one is an error also
 -- where a later one has its key
 unfoldable pub dictionary : {R V : Type 0} → Layout R → (R → ℕ) → (Endian → List ℕ → R → Result V Error) → Endian → List ℕ → MINIDUMP_LOCATION_DESCRIPTOR
     → Result (List (List ℕ × V)) Error

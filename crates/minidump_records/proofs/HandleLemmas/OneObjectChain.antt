@@ -1,4 +1,4 @@
--- Lemmas: from each link there is exactly one object chain.
+-- The object chain from a link is a chain, and the only one.
 use Rattle.std.specs.Prelude.{◌≡◌, ℕ, ◌<◌, ◌+◌, List, length, refl, Bool, true, false, nat_le, ◌==◌, if◌then◌else◌, Some, None}
 use Rattle.std.specs.Option.{option_and_then}
 use Rattle.std.proofs.Common.{arith}
@@ -7,9 +7,9 @@ use Rattle.minidump_bytes.specs.declared.endian.Endian.{Endian}
 use Rattle.minidump_bytes.specs.Span.{record_at}
 use Rattle.minidump_format.specs.Handle.{object_information}
 use Rattle.minidump_system.specs.Chain.{IsChain}
-use Rattle.minidump_system.specs.ExactlyOne.{ExactlyOne}
-use Rattle.minidump_system.proofs.OneChain.{one_chain}
+use Rattle.minidump_system.proofs.OneChain.{chain_is_one, followed_is_chain}
 use Rattle.minidump_records.specs.declared.handles.information.MinidumpHandleObjectInformation.{MinidumpHandleObjectInformation}
+use Rattle.minidump_records.specs.Handles.{chain_offsets}
 use Rattle.minidump_records.specs.Handles.ObjectChain.{information_at, next_of, typed}
 
 -- a piece of information stands within the file
@@ -27,6 +27,13 @@ readable order file place i h = by_zero (place == 0) h
     by_zero true k = cc
     by_zero false k = by_room (nat_le (place + 12) (length file)) refl k
 
--- the chain of information on an object, and that it is the only one
-pub one_object_chain : (order : Endian) (file : List ℕ) (link : ℕ) → ExactlyOne (IsChain (information_at order file) next_of link)
-one_object_chain order file link = one_chain (information_at order file) next_of (length file) (readable order file) link
+-- the offsets of the chain of information on an object
+pub is_object_chain : (order : Endian) (file : List ℕ) (link : ℕ) → IsChain (information_at order file) next_of link (chain_offsets order file link)
+unfolding chain_offsets
+is_object_chain order file link = followed_is_chain (information_at order file) next_of (length file) (readable order file) link
+
+-- no other list is one
+pub object_chain_is_one : (order : Endian) (file : List ℕ) (link : ℕ) (other : List ℕ) → IsChain (information_at order file) next_of link other
+    → other ≡ chain_offsets order file link
+object_chain_is_one order file link other c =
+    chain_is_one (information_at order file) next_of link (chain_offsets order file link) other (is_object_chain order file link) c
