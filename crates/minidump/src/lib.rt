@@ -3,7 +3,7 @@
 //! - [`Minidump`] is a dump: `read` takes its bytes, `read_path` a path. `header` and `endian` are its
 //!   fields.
 //! - `get_stream` reads a stream by its type: each type below that implements [`MinidumpStream`], as
-//!   [`MinidumpSystemInfo`], [`MinidumpModuleList`] or [`MinidumpThreadNames`], or a caller's own.
+//!   [`MinidumpSystemInfo`], [`MinidumpModuleList`] or [`MinidumpThreadNames`], or a caller's own, of any number.
 //!   `get_raw_stream` lends the bytes of any stream, `get_memory` the memory of the dump by either list.
 //! - [`MinidumpThread`] has the context, the stack and the last error of a thread, [`MinidumpException`] the address
 //!   and the reason of the crash.
@@ -86,15 +86,17 @@ pub use thread_list::MinidumpThreadList;
 
 // What the crates below have.
 pub use minidump_bytes::{
-    Endian, FixedRead, Readable, Record, Refused, Source, Steps, Told, WireField, WireValue, probe,
-    write_bytes,
+    Endian, Entries, Exact, FixedRead, Readable, Record, Refused, Source, Steps, Told, Unread,
+    WireField, WireValue, array_at, copied, probe, text_before_nul, write_bytes,
 };
 pub use minidump_context::{
     ContextError, ContextRegisters, CpuContext, CpuRegisterNames, CpuRegisters, MinidumpContext,
     MinidumpContextValidity, MinidumpRawContext, RegisterNumber,
 };
 pub use minidump_format::{Error, format, stream_vendor};
-pub use minidump_index::{AddressIndex, ByAddress, Range, Region, RegionsByAddress};
+pub use minidump_index::{
+    AddressIndex, ByAddress, Range, Region, RegionList, RegionListBuilder, RegionsByAddress,
+};
 pub use minidump_memory::{
     MMPermissions, MMapPath, MemoryMap, MinidumpLinuxMapInfo, MinidumpLinuxMaps, MinidumpMemory,
     MinidumpMemory64, MinidumpMemory64List, MinidumpMemoryBase, MinidumpMemoryInfo,
@@ -119,7 +121,7 @@ pub use minidump_stability::{
     ProcessState, StabilityReport, SystemMemoryState, process_state, system_memory_state,
 };
 pub use minidump_system::{
-    MinidumpMiscInfo, MinidumpStream, MinidumpSystemInfo, RawMiscInfo, date_text,
+    MinidumpMiscInfo, MinidumpStream, MinidumpSystemInfo, RawMiscInfo, date_text, framing,
 };
 
 /// Texts of Linux, which need not be UTF-8.
