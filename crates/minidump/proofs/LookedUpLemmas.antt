@@ -110,13 +110,16 @@ onward q r s h i j a b = elim a [
   | inl lt ↦ elim b [ inl further ↦ inl (omega (arith, lt, further)) | inr same ↦ inl (omega (arith, lt, same.0)) ]
   | inr at ↦ elim b [
     | inl further ↦ inl (omega (arith, at.0, further))
-    | inr same ↦ inr (at.0 ∙ same.0, elim at.1 [
-      | inl lt ↦ elim same.1 [ inl further ↦ inl (omega (arith, lt, further)) | inr ends ↦ inl (omega (arith, lt, ends.0)) ]
-      | inr end ↦ elim same.1 [
-        | inl further ↦ inl (omega (arith, end.0, further))
-        | inr ends ↦ inr (end.0 ∙ ends.0, omega (arith, end.1, ends.1))
-      ]
-    ])
+    | inr same ↦ inr (
+      at.0 ∙ same.0,
+      elim at.1 [
+        | inl lt ↦ elim same.1 [ inl further ↦ inl (omega (arith, lt, further)) | inr ends ↦ inl (omega (arith, lt, ends.0)) ]
+        | inr end ↦ elim same.1 [
+          | inl further ↦ inl (omega (arith, end.0, further))
+          | inr ends ↦ inr (end.0 ∙ ends.0, omega (arith, end.1, ends.1))
+        ]
+      ],
+    )
   ]
 ]
 
@@ -243,9 +246,13 @@ module _ (ranges : List (Option Range)) where
 
     none_drops : (n place : ℕ) (r : Range) → HasRange ranges place r → RightBefore n place r
         → (list_any (dropped_by n place r) (range_with_len 0 (length ranges)) ≡ true → ⊥) → kept place ≡ true
-    none_drops n place r has right none = (is place).1 (r, has, λ other s other_kept has_s before share.
-        none (any_place (dropped_by n place r) (length ranges) other (within other s has_s) (both_true _ _ (right other s has_s before ∙ other_kept)
-        (rw has_s (both_true _ _ (of_before s other r place before) (of_shared s r share))))))
+    none_drops n place r has right none = (is place).1 (
+      r,
+      has,
+      λ other s other_kept has_s before share.
+          none (any_place (dropped_by n place r) (length ranges) other (within other s has_s) (both_true _ _ (right other s has_s before ∙ other_kept)
+          (rw has_s (both_true _ _ (of_before s other r place before) (of_shared s r share))))),
+    )
 
     one_drops : (n place : ℕ) (r : Range) → HasRange ranges place r → RightBefore n place r
         → list_any (dropped_by n place r) (range_with_len 0 (length ranges)) ≡ true → kept place ≡ true → ⊥

@@ -1,6 +1,5 @@
--- The answer of a lookup as a function of the regions and the address: what a report has of an address. It is the rule of
--- minidump_index's Overlap.antt and Lookup.antt by tests, and by the law `a_report_has_what_a_lookup_returns` the one answer that
--- `IsLookedUp` allows.
+-- The answer of a lookup as a function of the regions and the address: what a report has of an address. It states the rules of
+-- `IsKeptSet` and `IsLookedUp` by tests, and the law `a_report_has_what_a_lookup_returns` says that it is the one answer that these allow.
 use Rattle.std.specs.Prelude.{ℕ, zero, suc, Bool, false, not, List, map, length, Option, Some, None, find, slice_get, nat_le, nat_lt, ◌==◌, ◌&&◌, ◌||◌}
 use Rattle.std.specs.List.{list_any, range_with_len}
 use Rattle.std.specs.Option.{option_and_then}
@@ -20,12 +19,12 @@ comes_before r i s j = nat_lt r.start s.start || ((r.start == s.start) && (nat_l
 abbrev pub share_address : Range → Range → Bool
 share_address r s = nat_le r.start s.end && nat_le s.start r.end
 
--- a place drops a later range: its range comes before that one, and shares an address with it
+-- a place drops a range at another, if it is kept: its range comes before that one, and shares an address with it
 abbrev pub drops : List (Option Range) → ℕ → ℕ → Range → Bool
 drops ranges other place range =
     has_range (λ earlier. comes_before earlier other range place && share_address earlier range) (slice_get ranges other)
 
--- a place is kept: it holds a range that no earlier kept place drops. At most n places come before it
+-- a place is kept, where fewer than n places come before it: it holds a range that no earlier kept place drops
 abbrev pub is_kept : List (Option Range) → ℕ → ℕ → Bool
 is_kept ranges zero place = false
 is_kept ranges (suc n) place =

@@ -132,13 +132,13 @@ pub fn last_entry_decides_the_stream<'a, S: MinidumpStream<'a>>()
         → e.stream_type ≡ S.spec.stream_type
         → All (λ x. x.stream_type ≢ e.stream_type) later
         → stream_of S.spec d
-            ≡ and_then (spanned (located d.file e.location)) (λ bytes. S.spec.meaning d.order d.file bytes (dump_system d)) }
+        ≡ and_then (spanned (located d.file e.location)) (λ bytes. S.spec.meaning d.order d.file bytes (dump_system d)) }
     ensures memory { (d : Dump) (es later : List MINIDUMP_DIRECTORY) (e : MINIDUMP_DIRECTORY)
         → directory d.order d.file d.header ≡ es ++ (e ∷ later)
         → e.stream_type ≡ S.spec.stream_type
         → All (λ x. x.stream_type ≢ e.stream_type) later
         → stream_memory S.spec d
-            ↔ IsOkAnd (spanned (located d.file e.location)) (λ bytes. S.spec.memory d.order d.file bytes (dump_system d)) }
+        ↔ IsOkAnd (spanned (located d.file e.location)) (λ bytes. S.spec.memory d.order d.file bytes (dump_system d)) }
     ensures none { (d : Dump) → All (λ x. x.stream_type ≢ S.spec.stream_type) (directory d.order d.file d.header)
         → stream_of S.spec d ≡ Err Error.StreamNotFound }
 {}

@@ -86,17 +86,15 @@ pub use thread_list::MinidumpThreadList;
 
 // What the crates below have.
 pub use minidump_bytes::{
-    Endian, Entries, Exact, FixedRead, Readable, Record, Refused, Source, Steps, Told, Unread,
-    WireField, WireValue, array_at, copied, probe, text_before_nul, write_bytes,
+    Endian, FixedRead, Readable, Record, Refused, Source, Steps, Told, WireField, WireValue, probe,
+    write_bytes,
 };
 pub use minidump_context::{
     ContextError, ContextRegisters, CpuContext, CpuRegisterNames, CpuRegisters, MinidumpContext,
     MinidumpContextValidity, MinidumpRawContext, RegisterNumber,
 };
 pub use minidump_format::{Error, format, stream_vendor};
-pub use minidump_index::{
-    AddressIndex, ByAddress, Range, Region, RegionList, RegionListBuilder, RegionsByAddress,
-};
+pub use minidump_index::{AddressIndex, ByAddress, Range, Region, RegionsByAddress};
 pub use minidump_memory::{
     MMPermissions, MMapPath, MemoryMap, MinidumpLinuxMapInfo, MinidumpLinuxMaps, MinidumpMemory,
     MinidumpMemory64, MinidumpMemory64List, MinidumpMemoryBase, MinidumpMemoryInfo,
@@ -121,12 +119,20 @@ pub use minidump_stability::{
     ProcessState, StabilityReport, SystemMemoryState, process_state, system_memory_state,
 };
 pub use minidump_system::{
-    MinidumpMiscInfo, MinidumpStream, MinidumpSystemInfo, RawMiscInfo, date_text, framing,
+    MinidumpMiscInfo, MinidumpStream, MinidumpSystemInfo, RawMiscInfo, date_text,
 };
 
 /// Texts of Linux, which need not be UTF-8.
 pub mod strings {
     pub use minidump_bytes::{Lines, LinuxOsStr, LinuxOsString, Split, SplitAsciiWhitespace};
+}
+
+/// What a caller's own type of stream may be read by, beside [`Source`] and [`Record`]: framings of lists, and regions with
+/// lookups.
+pub mod own_streams {
+    pub use minidump_bytes::{Entries, Exact, Unread, array_at, copied, text_before_nul};
+    pub use minidump_index::{RegionList, RegionListBuilder};
+    pub use minidump_system::framing;
 }
 
 /// The names of operating systems and processors.

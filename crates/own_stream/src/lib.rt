@@ -18,7 +18,9 @@ ghost use Rattle.minidump.specs.Below.Format.Answer.{Gives};
 ghost use Rattle.minidump.specs.Dump.{HasEntries};
 ghost use Rattle.own_stream.specs.Build.{build_of, build_of_file};
 
-use minidump::{Endian, Error, Minidump, MinidumpStream, MinidumpSystemInfo, Record, Source, Steps};
+use minidump::{
+    Endian, Error, Minidump, MinidumpStream, MinidumpSystemInfo, Record, Source, Steps,
+};
 use std::alloc::Global;
 
 /// The build of the program that crashed, as a vendor's own writer of dumps keeps it.
@@ -87,10 +89,11 @@ impl<'a> MinidumpStream<'a> for Build {
             .record(0, endian, steps)
             .ok_or(Error::StreamReadFailure)?;
         let name = all.text16(alloc, raw.name_rva as u64, endian, steps)?;
+        let name = name.ok_or(Error::DataError)?;
         Ok(Build {
             number: raw.number,
             time: raw.time,
-            name: name.ok_or(Error::DataError)?,
+            name,
         })
     }
 }
