@@ -1,7 +1,7 @@
 // Tests of `minidump_index`.
 use minidump_bytes::Steps;
 use minidump_format::Error;
-use minidump_index::{AddressIndex, Range, RegionList, RegionListBuilder};
+use minidump_index::{AddressIndex, Range, RegionList};
 use std::alloc::{AllocError, Global};
 
 // The ranges of regions, by their bases and sizes.
@@ -60,30 +60,19 @@ fn kept_are(alloc: Global, row: &(&[(u64, u64)], &[usize])) -> Result<bool, Erro
     )
 }
 
-// The same regions in a list made of a vector, and in one that takes them one by one.
-fn lists_keep(alloc: Global, row: &(&[(u64, u64)], &[usize])) -> Result<bool, Error> {
+// The same regions in a list.
+fn list_keeps(alloc: Global, row: &(&[(u64, u64)], &[usize])) -> Result<bool, Error> {
     let ranges = ranges_of(alloc, row.0)?;
-    let mut builder = RegionListBuilder::with_capacity(alloc, 0)?;
-    for range in &ranges {
-        builder.push(*range)?;
-    }
-    let built = builder.build(alloc)?;
-    let mut taken = built.by_addr();
     let list = RegionList::from_regions(alloc, ranges_of(alloc, row.0)?)?;
     let mut kept = list.by_addr();
-    Ok(
-        kept.len() == row.1.len()
-            && taken.len() == row.1.len()
-            && row.1.iter().all(|place| kept.next() == ranges.get(*place)
-                && taken.next() == ranges.get(*place)),
-    )
+    Ok(kept.len() == row.1.len() && row.1.iter().all(|place| kept.next() == ranges.get(*place)))
 }
 
 #[test]
 fn keeps_what_shares_no_address(rt: HostRuntime) {
     for row in KEPT {
         assert!(rt; kept_are(rt.alloc(), row) == Ok(true), "{:?}", row.0);
-        assert!(rt; lists_keep(rt.alloc(), row) == Ok(true), "{:?}", row.0);
+        assert!(rt; list_keeps(rt.alloc(), row) == Ok(true), "{:?}", row.0);
     }
 }
 
@@ -111,12 +100,17 @@ const UP: &[(u64, u64)] = &[(0, 4), (10, 4), (20, 4), (30, 4), (40, 4), (50, 4),
 #[rattlefmt::skip]
 const DOWN: &[(u64, u64)] = &[(70, 4), (60, 4), (50, 4), (40, 4), (30, 4), (20, 4), (10, 4), (0, 4)];
 
-// How many regions a lookup in an index, of the base of each of the first regions of `UP`, goes by: one a level of the complete
+// With how many regions a lookup, of the base of each of the first regions of `UP`, compares: one a level of the complete
 // tree whose last level is filled from the left, and none of that level where it has no region below the others.
 #[rattlefmt::skip]
 const DEPTHS: &[&[(u64, u128)]] = &[
+    &[],
     &[(0, 1)],
     &[(0, 2), (10, 1)],
+    &[(0, 2), (10, 2), (20, 2)],
+    &[(0, 3), (10, 2), (20, 2), (30, 2)],
+    &[(0, 3), (10, 3), (20, 3), (30, 2), (40, 2)],
+    &[(0, 3), (10, 3), (20, 3), (30, 3), (40, 3), (50, 2)],
     &[(0, 3), (10, 3), (20, 3), (30, 3), (40, 3), (50, 3), (60, 3)],
     &[(0, 4), (10, 3), (20, 3), (30, 3), (40, 3), (50, 3), (60, 3), (70, 3)],
 ];
@@ -202,11 +196,7 @@ fn lists_regions(alloc: Global) -> Result<bool, Error> {
     )
 }
 
-// How many of the first regions of `UP` are listed, and how many comparisons a lookup makes then.
-#[rattlefmt::skip]
-const COMPARED: &[(usize, u128)] = &[(0, 0), (1, 1), (2, 2), (3, 2), (4, 3), (5, 3), (7, 3), (8, 4)];
-
-// A lookup in a list that ascends, at both ends of a region and behind it.
+// A lookup in a list, at both ends of a region and behind it.
 fn is_found_in(list: &RegionList<Option<Range>>, base: u64, compared: u128) -> bool {
     let mut steps = Steps::new();
     list.at_address(base, &mut steps);
@@ -216,17 +206,17 @@ fn is_found_in(list: &RegionList<Option<Range>>, base: u64, compared: u128) -> b
         && start_at(list, base.wrapping_add(4)) == None
 }
 
-// Such a list is its own order by address.
-fn finds_regions_that_ascend(alloc: Global, row: &(usize, u128)) -> Result<bool, Error> {
-    let regions = UP.get(..row.0).unwrap_or(&[]);
+// A list that ascends is its own order by address, and its lookups go down the same tree.
+fn finds_regions_that_ascend(alloc: Global, depths: &[(u64, u128)]) -> Result<bool, Error> {
+    let regions = UP.get(..depths.len()).unwrap_or(&[]);
     let list = RegionList::from_regions(alloc, ranges_of(alloc, regions)?)?;
     let mut ascending = list.by_addr();
     let mut descending = list.by_addr();
     Ok(
         ascending.len() == regions.len()
-            && regions
+            && depths
                 .iter()
-                .all(|&(base, _)| is_found_in(&list, base, row.1))
+                .all(|&(base, compared)| is_found_in(&list, base, compared))
             && regions.iter().all(|&(base, size)| ascending.next().copied()
                 == Some(Range::from_size(base, size)))
             && regions.iter().rev().all(|&(base, size)| descending.next_back().copied()
@@ -244,11 +234,11 @@ fn an_empty_list_has_no_regions(alloc: Global) -> bool {
 fn holds_lists_of_regions(rt: HostRuntime) {
     let alloc = rt.alloc();
     assert!(rt; lists_regions(alloc) == Ok(true) && an_empty_list_has_no_regions(alloc));
-    for row in COMPARED {
+    for depths in DEPTHS {
         assert!(rt;
-            finds_regions_that_ascend(alloc, row) == Ok(true),
+            finds_regions_that_ascend(alloc, depths) == Ok(true),
             "{}",
-            row.0
+            depths.len()
         );
     }
 }

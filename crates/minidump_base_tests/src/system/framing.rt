@@ -7,7 +7,9 @@ use minidump_system::framing::{
 // Whether the entries are those numbers.
 fn are_numbers(entries: Entries<'_, u32>, numbers: &[u32]) -> bool {
     let mut entries = entries;
-    entries.len() == numbers.len() && numbers.iter().all(|n| entries.next().map(|entry| entry.read(&mut Steps::new())) == Some(*n))
+    entries.len() == numbers.len()
+        && numbers.iter().all(|n| entries.next().map(|entry| entry.read(&mut Steps::new()))
+            == Some(*n))
 }
 
 // A plain list of numbers, and the numbers. Behind the count may stand four bytes that align them.
@@ -139,9 +141,15 @@ fn first_handle(bytes: &[u8]) -> Result<(bool, usize, Option<u64>), Error> {
         HandleEntries::Short(mut list) => Ok((
             false,
             list.len(),
-            list.next().map(|entry| entry.read(&mut Steps::new()).handle),
+            list.next()
+                .map(|entry| entry.read(&mut Steps::new()).handle),
         )),
-        HandleEntries::Long(mut list) => Ok((true, list.len(), list.next().map(|entry| entry.read(&mut Steps::new()).handle))),
+        HandleEntries::Long(mut list) => Ok((
+            true,
+            list.len(),
+            list.next()
+                .map(|entry| entry.read(&mut Steps::new()).handle),
+        )),
     }
 }
 
