@@ -1,14 +1,14 @@
 -- Lines that are written one after another.
 use Rattle.std.specs.Prelude.{◌≡◌, ℕ, List, ◌++◌, Option, Some, None, Result, Ok, Err, IfErr, IsErrAnd}
 use Rattle.std.proofs.Common.{inl, inr, refl}
-use Rattle.minidump_bytes.specs.declared.told.Told.{Told}
-use Rattle.minidump_format.proofs.Blocking.{but_lost}
-use Rattle.minidump_format.proofs.Printing.{but_first, prints_longer, prints_then}
-use Rattle.minidump_format.specs.declared.error.Error.{Error}
-use Rattle.minidump_format.specs.Print.{out_of_memory}
+use Rattle.minidump.specs.declared.Told.{Told}
+use Rattle.minidump.proofs.Blocking.{but_lost}
+use Rattle.minidump.proofs.Printing.{but_first, prints_longer, prints_then}
+use Rattle.minidump.specs.declared.Error.{Error}
+use Rattle.minidump.specs.Below.Format.Print.{out_of_memory}
 use Rattle.mdump.specs.Done.{IsOutputRefusal, TookAll, TookBeginning, Writes}
-use Rattle.minidump_index.specs.declared.range.Range.{Range}
-use Rattle.minidump_index.specs.Lookup.{HasRegionLaws}
+use Rattle.minidump.specs.declared.Range.{Range}
+use Rattle.minidump.specs.Below.Index.Lookup.{HasRegionLaws}
 use Rattle.mdump.specs.Lines.{IsAt, Joined}
 
 module _ {D : Type 0} (contents : D → Option (List ℕ)) (First Rest : List ℕ → Type 0) where

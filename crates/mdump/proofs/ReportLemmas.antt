@@ -1,11 +1,11 @@
 -- The report on a file that was opened.
 use Rattle.std.specs.Prelude.{◌≡◌, ℕ, List, [], Bool, true, false, Option, Result, Ok, Err, IfErr, if◌then◌else◌}
 use Rattle.std.proofs.Common.{inl, inr, refl, sym, ◌∙◌, ap, subst}
-use Rattle.minidump_bytes.specs.declared.endian.Endian.{Endian}
-use Rattle.minidump_bytes.specs.declared.told.Told.{Told}
-use Rattle.minidump_format.specs.declared.error.Error.{Error}
-use Rattle.minidump_format.specs.declared.error.Error.TheVariants.{MissingDirectory}
-use Rattle.minidump_format.specs.declared.format.header.MINIDUMP_HEADER.{MINIDUMP_HEADER}
+use Rattle.minidump.specs.declared.Endian.{Endian}
+use Rattle.minidump.specs.declared.Told.{Told}
+use Rattle.minidump.specs.declared.Error.{Error}
+use Rattle.minidump.specs.declared.Error.TheVariants.{MissingDirectory}
+use Rattle.minidump.specs.declared.format.MINIDUMP_HEADER.{MINIDUMP_HEADER}
 use Rattle.minidump.specs.Directory.{is_readable}
 use Rattle.minidump.specs.Dump.{Dump, dump_in}
 use Rattle.minidump.specs.File.{IsFile}

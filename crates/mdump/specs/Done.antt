@@ -2,18 +2,18 @@
 use Rattle.std.specs.Prelude.{◌≡◌, ◌↔◌, ◌⊎◌, ℕ, ◌<◌, ◌≤◌, ◌++◌, List, [], codes, length, true, Option, Some, None, Result, Ok, Err}
 use Rattle.std.specs.Option.{option_map}
 use Rattle.std.specs.Result.{result_ok}
-use Rattle.minidump_bytes.specs.declared.told.Told.{Told}
-use Rattle.minidump_bytes.specs.Told.{PutsAll, PutsBeginning, has_failed}
-use Rattle.minidump_format.specs.declared.error.Error.{Error}
-use Rattle.minidump_format.specs.declared.error.Error.TheVariants.{IoError, OutOfMemory}
-use Rattle.minidump_format.specs.Error.{refusal_name}
-use Rattle.minidump_format.specs.Print.{out_of_memory}
-use Rattle.minidump_memory.specs.Memory.{region_range}
-use Rattle.minidump_memory.specs.Unified.{UnifiedRegion, unified_regions}
-use Rattle.minidump_memory.specs.MapLine.{MapRegion}
-use Rattle.minidump_memory.specs.MemoryInfo.{MemoryInfo}
-use Rattle.minidump_memory.specs.UnifiedInfo.{InfoRegion, InfoRegions, OfInfo, OfMaps, info_region_range, info_regions}
-use Rattle.minidump_modules.specs.Module.{ModuleValue, value_range}
+use Rattle.minidump.specs.declared.Told.{Told}
+use Rattle.minidump.specs.Below.Bytes.Told.{PutsAll, PutsBeginning, has_failed}
+use Rattle.minidump.specs.declared.Error.{Error}
+use Rattle.minidump.specs.declared.Error.TheVariants.{IoError, OutOfMemory}
+use Rattle.minidump.specs.Below.Format.Error.{refusal_name}
+use Rattle.minidump.specs.Below.Format.Print.{out_of_memory}
+use Rattle.minidump.specs.Below.MemoryLists.Memory.{region_range}
+use Rattle.minidump.specs.Below.MemoryLists.Unified.{UnifiedRegion, unified_regions}
+use Rattle.minidump.specs.Below.MemoryLists.MapLine.{MapRegion}
+use Rattle.minidump.specs.Below.MemoryLists.MemoryInfo.{MemoryInfo}
+use Rattle.minidump.specs.Below.MemoryLists.UnifiedInfo.{InfoRegion, InfoRegions, OfInfo, OfMaps, info_region_range, info_regions}
+use Rattle.minidump.specs.Below.Modules.Module.{ModuleValue, value_range}
 use Rattle.minidump.specs.Dump.{Dump, dump_in, stream_of}
 use Rattle.minidump.specs.File.{IsFile, IsFileDump, IsPathRefusal}
 use Rattle.minidump.specs.Memory.{memories_of_dump}

@@ -2,12 +2,12 @@
 use Rattle.std.specs.Prelude.{◌≡◌, ◌++◌, ℕ, List, [], ◌∷◌, codes, Option, Some, None}
 use Rattle.std.specs.List.{concat}
 use Rattle.std.specs.Option.{option_and_then}
-use Rattle.minidump_bytes.specs.Piece.{hex}
-use Rattle.minidump_index.specs.declared.range.Range.{Range}
-use Rattle.minidump_index.specs.Lookup.{IsLookedUp}
-use Rattle.minidump_memory.specs.Unified.{UnifiedRegion}
-use Rattle.minidump_memory.specs.UnifiedInfo.{InfoRegion, info_region_range}
-use Rattle.minidump_modules.specs.Module.{ModuleValue}
+use Rattle.minidump.specs.Below.Bytes.Piece.{hex}
+use Rattle.minidump.specs.declared.Range.{Range}
+use Rattle.minidump.specs.Below.Index.Lookup.{IsLookedUp}
+use Rattle.minidump.specs.Below.MemoryLists.Unified.{UnifiedRegion}
+use Rattle.minidump.specs.Below.MemoryLists.UnifiedInfo.{InfoRegion, info_region_range}
+use Rattle.minidump.specs.Below.Modules.Module.{ModuleValue}
 
 -- a region of memory, by its first address and its size
 abbrev pub region_line : ℕ → ℕ → List ℕ

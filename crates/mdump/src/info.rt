@@ -1,16 +1,15 @@
 ghost use Rattle.std.specs.Prelude.{◌≡◌, ◌⊎◌, IfErr, IfOk, string_bytes};
 ghost use Rattle.std.specs.Option.{option_and_then, option_copied, option_map};
-ghost use Rattle.minidump_memory.specs.UnifiedInfo.{info_list, info_region, info_region_range, info_regions};
+ghost use Rattle.minidump.specs.Below.MemoryLists.UnifiedInfo.{info_list, info_region, info_region_range, info_regions};
 ghost use Rattle.minidump.specs.DumpValue.{dump_of};
 ghost use Rattle.mdump.specs.Done.{IsInfoLine, IsOutputRefusal, Writes, info_of_dump};
 ghost use Rattle.mdump.specs.Lines.{IsAt, info_line};
 
+use minidump::text::{Piece, made, put_formatted};
 use minidump::{
     Error, Minidump, MinidumpLinuxMaps, MinidumpMemoryInfoList, Range, Told, UnifiedMemoryInfo,
     UnifiedMemoryInfoList,
 };
-use minidump_bytes::{Piece, made};
-use minidump_format::put_formatted;
 use std::alloc::{AllocError, Global};
 use std::io::Write;
 

@@ -1,14 +1,13 @@
 ghost use Rattle.std.specs.Prelude.{◌≡◌, ◌⊎◌, IfErr, IfOk, string_bytes};
 ghost use Rattle.std.specs.Option.{option_copied, option_map};
-ghost use Rattle.minidump_memory.specs.Memory.{region_range};
-ghost use Rattle.minidump_memory.specs.Unified.{unified_list, unified_region, unified_regions};
+ghost use Rattle.minidump.specs.Below.MemoryLists.Memory.{region_range};
+ghost use Rattle.minidump.specs.Below.MemoryLists.Unified.{unified_list, unified_region, unified_regions};
 ghost use Rattle.minidump.specs.DumpValue.{dump_of};
 ghost use Rattle.mdump.specs.Done.{IsMemoryLine, IsOutputRefusal, Writes};
 ghost use Rattle.mdump.specs.Lines.{IsAt, memory_line, region_line};
 
+use minidump::text::{Piece, made, put_formatted};
 use minidump::{Error, Minidump, Told, UnifiedMemory, UnifiedMemoryList};
-use minidump_bytes::{Piece, made};
-use minidump_format::put_formatted;
 use std::alloc::{AllocError, Global};
 use std::io::Write;
 

@@ -1,14 +1,13 @@
 ghost use Rattle.std.specs.Prelude.{◌≡◌, ◌⊎◌, IfErr, IfOk, string_bytes};
 ghost use Rattle.std.specs.Option.{option_copied, option_map};
-ghost use Rattle.minidump_modules.specs.Module.{module_of, value_range};
-ghost use Rattle.minidump_modules.specs.ModuleList.{module_list_of};
+ghost use Rattle.minidump.specs.Below.Modules.Module.{module_of, value_range};
+ghost use Rattle.minidump.specs.Below.Modules.ModuleList.{module_list_of};
 ghost use Rattle.minidump.specs.DumpValue.{dump_of};
 ghost use Rattle.mdump.specs.Done.{IsModuleLine, IsOutputRefusal, Writes};
 ghost use Rattle.mdump.specs.Lines.{IsAt, module_line};
 
+use minidump::text::{Piece, made, put_formatted};
 use minidump::{Error, Minidump, MinidumpModule, MinidumpModuleList, Told};
-use minidump_bytes::{Piece, made};
-use minidump_format::put_formatted;
 use std::alloc::{AllocError, Global};
 use std::io::Write;
 

@@ -1,6 +1,6 @@
 ghost use Rattle.std.specs.Prelude.{◌≡◌, ◌<◌, ◌⊎◌, true, IfErr, IfNone, IfSome, length, map, string_bytes};
-ghost use Rattle.minidump_bytes.specs.Told.{has_failed};
-ghost use Rattle.minidump_format.specs.Print.{Prints};
+ghost use Rattle.minidump.specs.Below.Bytes.Told.{has_failed};
+ghost use Rattle.minidump.specs.Below.Format.Print.{Prints};
 ghost use Rattle.minidump.specs.File.{IsPathRefusal};
 ghost use Rattle.minidump.specs.DumpValue.{dump_of};
 ghost use Rattle.mdump.specs.Command.{IsCommand};
@@ -10,8 +10,8 @@ use crate::command::Command;
 use crate::info::info_line;
 use crate::memory::memory_line;
 use crate::module::module_line;
+use minidump::text::put_text;
 use minidump::{CodeNames, Error, Minidump, Told, laws, read_all, write_report};
-use minidump_format::put_text;
 use std::alloc::Global;
 use std::fs;
 use std::io::Write;

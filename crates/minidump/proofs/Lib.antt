@@ -9,3 +9,6 @@ pub mod StackLemmas
 pub mod ThreadLemmas
 pub mod ReportLemmas
 pub mod CrashLemmas
+-- for the crates above
+pub use Rattle.minidump_format.proofs.Blocking
+pub use Rattle.minidump_format.proofs.Printing

@@ -122,6 +122,12 @@ pub use minidump_system::{
     MinidumpMiscInfo, MinidumpStream, MinidumpSystemInfo, RawMiscInfo, date_text,
 };
 
+/// Text that is made out of pieces, and printed.
+pub mod text {
+    pub use minidump_bytes::{Piece, made};
+    pub use minidump_format::{put_formatted, put_text};
+}
+
 /// Texts of Linux, which need not be UTF-8.
 pub mod strings {
     pub use minidump_bytes::{Lines, LinuxOsStr, LinuxOsString, Split, SplitAsciiWhitespace};

@@ -2,7 +2,7 @@
 use Rattle.std.proofs.Common.{◌≡◌, ap, ◌∙◌, refl, subst}
 use Rattle.std.specs.Prelude.{Option}
 use Rattle.std.specs.Option.{option_map}
-use Rattle.minidump_memory.specs.UnifiedInfo.{InfoRegions, info_list, info_region, info_region_range, info_regions}
+use Rattle.minidump.specs.Below.MemoryLists.UnifiedInfo.{InfoRegions, info_list, info_region, info_region_range, info_regions}
 use Rattle.minidump.specs.DumpValue.{dump_of}
 use Rattle.mdump.specs.Done.{IsInfoLine, info_of_dump}
 use Rattle.mdump.specs.Lines.{IsAt, info_line}

@@ -2,8 +2,8 @@
 use Rattle.std.proofs.Common.{◌≡◌, ap, ◌∙◌, refl, subst}
 use Rattle.std.specs.Prelude.{Option}
 use Rattle.std.specs.Option.{option_map}
-use Rattle.minidump_memory.specs.Memory.{region_range}
-use Rattle.minidump_memory.specs.Unified.{UnifiedRegions, unified_list, unified_region, unified_regions}
+use Rattle.minidump.specs.Below.MemoryLists.Memory.{region_range}
+use Rattle.minidump.specs.Below.MemoryLists.Unified.{UnifiedRegions, unified_list, unified_region, unified_regions}
 use Rattle.minidump.specs.Memory.{memories_of_dump}
 use Rattle.minidump.specs.DumpValue.{dump_of}
 use Rattle.mdump.specs.Done.{IsMemoryLine}

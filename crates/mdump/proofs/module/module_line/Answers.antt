@@ -2,8 +2,8 @@
 use Rattle.std.proofs.Common.{◌≡◌, ap, ◌∙◌, List, refl, subst}
 use Rattle.std.specs.Prelude.{Option}
 use Rattle.std.specs.Option.{option_copied, option_map}
-use Rattle.minidump_modules.specs.Module.{ModuleValue, module_of, value_range}
-use Rattle.minidump_modules.specs.ModuleList.{module_list_of}
+use Rattle.minidump.specs.Below.Modules.Module.{ModuleValue, module_of, value_range}
+use Rattle.minidump.specs.Below.Modules.ModuleList.{module_list_of}
 use Rattle.minidump.specs.DumpValue.{dump_of}
 use Rattle.mdump.specs.Done.{IsModuleLine, modules_of_dump}
 use Rattle.mdump.specs.Lines.{IsAt, module_line}

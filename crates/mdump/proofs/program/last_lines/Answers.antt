@@ -1,7 +1,7 @@
 -- The lines behind that of the memory, one after another.
 use Rattle.minidump.specs.DumpValue.{dump_of}
 use Rattle.std.specs.Option.{option_map}
-use Rattle.minidump_memory.specs.UnifiedInfo.{info_region_range, info_regions}
+use Rattle.minidump.specs.Below.MemoryLists.UnifiedInfo.{info_region_range, info_regions}
 use Rattle.mdump.specs.Done.{IsInfoLine, IsModuleLine, info_of_dump}
 use Rattle.mdump.specs.Lines.{info_line}
 use Rattle.mdump.proofs.JoinedLemmas.{a_line, cut, joined, refused_behind}

@@ -1,8 +1,8 @@
 -- The lines, one after another.
 use Rattle.minidump.specs.DumpValue.{dump_of}
 use Rattle.std.specs.Option.{option_map}
-use Rattle.minidump_memory.specs.UnifiedInfo.{info_region_range, info_regions}
-use Rattle.minidump_modules.specs.Module.{value_range}
+use Rattle.minidump.specs.Below.MemoryLists.UnifiedInfo.{info_region_range, info_regions}
+use Rattle.minidump.specs.Below.Modules.Module.{value_range}
 use Rattle.mdump.specs.Done.{AreLastLines, IsInfoLine, IsMemoryLine, IsModuleLine, info_of_dump, modules_of_dump}
 use Rattle.mdump.specs.Lines.{info_line, module_line}
 use Rattle.mdump.proofs.JoinedLemmas.{a_line, both_lines, cut, joined, refused_behind}

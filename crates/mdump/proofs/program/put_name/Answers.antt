@@ -1,7 +1,7 @@
 -- The name, then the end of its line.
 use Rattle.std.proofs.Common.{[], ◌∷◌}
-use Rattle.minidump_format.specs.Error.{refusal_name}
-use Rattle.minidump_format.proofs.Printing.{prints_then}
+use Rattle.minidump.specs.Below.Format.Error.{refusal_name}
+use Rattle.minidump.proofs.Printing.{prints_then}
 use Rattle.mdump.proofs.program.put_name.Goals as goal
 
 pub returns-in-Ok-clause-prints : goal.returns-in-Ok-clause-prints
