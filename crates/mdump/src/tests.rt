@@ -90,6 +90,7 @@ fn names_refusals(rt: HostRuntime) -> Result<(), Fail> {
         (&ONE_STREAM[1..], "HeaderMismatch\n"),
         (&one_stream_with_byte(4, 0x94)[..], "VersionMismatch\n"),
         (&one_stream_with_byte(12, 0x25)[..], "MissingDirectory\n"),
+        (&ONE_STREAM[..40], "MissingDirectory\n"),
     ] {
         assert!(rt; is_refused(&rt, *bytes, *name)?, "{name}");
     }
