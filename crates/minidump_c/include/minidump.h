@@ -19,12 +19,13 @@
  * An end may be 2^64, which is 0 as a number: test `address - base < size`, not `address < base + size`.
  *
  * Link libminidump_c.a, which `rt lib` makes, and the toolchain's liblibc_c.a. Memory is taken by malloc and realloc and
- * given back by free, before the call returns.
+ * given back by free.
  * Numbers are those of the machine, which must be a 64-bit one; on x86-64 it needs SSE4.2 and POPCNT (x86-64-v2),
  * which is not tested. Call from no signal handler, and not behind a fork of a process with threads.
  *
  * What each call returns and writes is proved from the format's definitions. That this header says what the library
- * does is not; a test calls each function through it. */
+ * does is not; a test calls each function through it. That a call gives back its memory before it returns, and reads
+ * nothing of what it writes to before it has written it, is reviewed and tested under the sanitizers. */
 #ifndef MINIDUMP_H
 #define MINIDUMP_H
 

@@ -50,16 +50,24 @@ pub struct FailsAt<D> {
     pub inner: D,
     /// The number of calls that succeed before they fail.
     pub at: usize,
+    /// The kind of the error with which they fail.
+    pub kind: ErrorKind,
     /// The number of calls, failed ones included.
     pub calls: usize,
 }
 
 impl<D> FailsAt<D> {
-    /// Wraps a device of which the first `at` calls succeed.
+    /// Wraps a device of which the first `at` calls succeed, and the others fail with `ErrorKind::Other`.
     pub fn new(inner: D, at: usize) -> FailsAt<D> {
+        FailsAt::with_kind(inner, at, ErrorKind::Other)
+    }
+
+    /// Wraps a device of which the first `at` calls succeed, and the others fail with an error of this kind.
+    pub fn with_kind(inner: D, at: usize, kind: ErrorKind) -> FailsAt<D> {
         FailsAt {
             inner,
             at,
+            kind,
             calls: 0,
         }
     }
@@ -70,7 +78,7 @@ impl<W: Write> Write for FailsAt<W> {
 
     fn write(&mut self, buf: &[u8]) -> io::Result<usize> {
         if counted(&mut self.calls) >= self.at {
-            return Err(refusal());
+            return Err(io::Error::from(self.kind));
         }
         self.inner.write(buf)
     }
@@ -85,7 +93,7 @@ impl<R: Read> Read for FailsAt<R> {
 
     fn read(&mut self, buf: &mut [u8]) -> io::Result<usize> {
         if counted(&mut self.calls) >= self.at {
-            return Err(refusal());
+            return Err(io::Error::from(self.kind));
         }
         self.inner.read(buf)
     }

@@ -2,6 +2,7 @@
 use minidump_bytes::{Refused, Told, write_bytes};
 use minidump_synth::{FailsAt, Full, OneByte, TakesNone};
 use std::alloc::Global;
+use std::io::ErrorKind;
 
 // Whether a writer of one byte a call whose calls fail from a number on takes that many of five bytes. From a
 // failure on it is not called again, not by a write of nothing either.
@@ -76,4 +77,73 @@ fn writes_whole_or_fails(rt: HostRuntime) {
     let alloc = rt.alloc();
     assert!(rt; nothing_taken_is_a_failure(alloc) && a_full_device_takes_nothing());
     assert!(rt; bytes_are_two_digits_each(alloc));
+}
+
+// Every kind of error, that of an interrupted call among them.
+const KINDS: &[ErrorKind] = &[
+    ErrorKind::NotFound,
+    ErrorKind::PermissionDenied,
+    ErrorKind::ConnectionRefused,
+    ErrorKind::ConnectionReset,
+    ErrorKind::HostUnreachable,
+    ErrorKind::NetworkUnreachable,
+    ErrorKind::ConnectionAborted,
+    ErrorKind::NotConnected,
+    ErrorKind::AddrInUse,
+    ErrorKind::AddrNotAvailable,
+    ErrorKind::NetworkDown,
+    ErrorKind::BrokenPipe,
+    ErrorKind::AlreadyExists,
+    ErrorKind::WouldBlock,
+    ErrorKind::NotADirectory,
+    ErrorKind::IsADirectory,
+    ErrorKind::DirectoryNotEmpty,
+    ErrorKind::ReadOnlyFilesystem,
+    ErrorKind::FilesystemLoop,
+    ErrorKind::StaleNetworkFileHandle,
+    ErrorKind::InvalidInput,
+    ErrorKind::InvalidData,
+    ErrorKind::TimedOut,
+    ErrorKind::WriteZero,
+    ErrorKind::StorageFull,
+    ErrorKind::NotSeekable,
+    ErrorKind::QuotaExceeded,
+    ErrorKind::FileTooLarge,
+    ErrorKind::ResourceBusy,
+    ErrorKind::ExecutableFileBusy,
+    ErrorKind::Deadlock,
+    ErrorKind::CrossesDevices,
+    ErrorKind::TooManyLinks,
+    ErrorKind::InvalidFilename,
+    ErrorKind::ArgumentListTooLong,
+    ErrorKind::Interrupted,
+    ErrorKind::Unsupported,
+    ErrorKind::UnexpectedEof,
+    ErrorKind::OutOfMemory,
+    ErrorKind::InProgress,
+    ErrorKind::Other,
+    ErrorKind::Uncategorized,
+];
+
+// Whether a writer and a reader whose second call fails with an error of the kind are not called again.
+fn fails_for_good(alloc: Global, kind: ErrorKind) -> bool {
+    let mut f = Told::new(FailsAt::with_kind(OneByte::new(Vec::new(alloc)), 1, kind));
+    let puts = [f.put(b"ab"), f.put(b"c"), f.put(b"")];
+    let writer = f.into_device();
+    let mut f = Told::new(FailsAt::with_kind(OneByte::new(&b"ab"[..]), 1, kind));
+    let mut buf = [0; 4];
+    let takes = [f.take(&mut buf), f.take(&mut buf), f.take(&mut buf)];
+    let reader = f.into_device();
+    puts == [Err(Refused); 3]
+        && writer.calls == 2
+        && writer.inner.inner.as_slice() == b"a".as_slice()
+        && takes == [Ok(1), Err(Refused), Err(Refused)]
+        && reader.calls == 2
+        && reader.inner.inner == b"b".as_slice()
+}
+
+#[test]
+fn an_error_of_any_kind_is_a_failure(rt: HostRuntime) {
+    let alloc = rt.alloc();
+    assert!(rt; KINDS.iter().all(|kind| fails_for_good(alloc, *kind)));
 }
