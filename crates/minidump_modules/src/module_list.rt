@@ -12,7 +12,7 @@ use crate::MinidumpModule;
 use minidump_bytes::{Endian, Entries, Source, Steps};
 use minidump_format::Error;
 use minidump_format::format::MINIDUMP_MODULE;
-use minidump_index::{Range, RegionList, RegionListBuilder, RegionsByAddress};
+use minidump_index::{Range, RegionList, RegionsByAddress};
 use minidump_system::framing::plain_entries;
 use minidump_system::{MinidumpStream, MinidumpSystemInfo, Os};
 use std::alloc::Global;
@@ -171,7 +171,7 @@ impl<'a> MinidumpStream<'a> for MinidumpModuleList {
         let os = system_info.map(|system| system.os);
         let modules = read_modules(alloc, raws, all, endian, os, steps)?;
         Ok(MinidumpModuleList {
-            modules: modules.build(alloc)?,
+            modules: RegionList::from_regions(alloc, modules)?,
         })
     }
 }
@@ -184,13 +184,13 @@ fn read_modules(
     endian: Endian,
     os: Option<Os>,
     steps: &mut Steps,
-) -> Result<RegionListBuilder<MinidumpModule>, Error>
-    ensures means { Gives (map module_of) (0 < length raws.entry) result (modules_in endian os (bytes_of all.entry) raws.entry) }
-    ensures within { steps.new ≤ steps.old + 7 * length raws.entry }
+) -> Result<Vec<MinidumpModule>, Error>
+    ensures means { Gives (λ v. map module_of v.items) (0 < length raws.entry) result (modules_in endian os (bytes_of all.entry) raws.entry) }
+    ensures within { steps.new ≤ steps.old + 8 * length raws.entry }
     ensures grows { steps.old ≤ steps.new }
-    ensures steps { IfOk result (λ v. steps.new ≡ after steps.old (modules_read (map module_of v))) }
+    ensures steps { IfOk result (λ v. steps.new ≡ after steps.old (length raws.entry + modules_read (map module_of v.items))) }
 {
-    let mut modules = RegionListBuilder::with_capacity(alloc, raws.len())?;
+    let mut modules = Vec::with_capacity(alloc, raws.len())?;
     for entry in raws {
         let raw = entry.read(steps);
         if has_range(&raw) {

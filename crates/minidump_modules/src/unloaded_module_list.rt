@@ -1,4 +1,4 @@
-ghost use Rattle.std.specs.Prelude.{◌≡◌, ◌+◌, ◌<◌, ◌≤◌, [], ◌↔◌, IfOk, IsOkUnless, IsTrue, OnErr, length, map};
+ghost use Rattle.std.specs.Prelude.{◌≡◌, ◌+◌, ◌*◌, ◌<◌, ◌≤◌, [], ◌↔◌, IfOk, IsOkUnless, IsTrue, OnErr, length, map};
 ghost use Rattle.std.specs.Slice.Iter.{iter_rest};
 ghost use Rattle.minidump_bytes.specs.Source.{bytes_of};
 ghost use Rattle.minidump_bytes.specs.Steps.{after};
@@ -174,9 +174,9 @@ fn read_modules(
     steps: &mut Steps,
 ) -> Result<Vec<MinidumpUnloadedModule>, Error>
     ensures means { Gives (λ v. map unloaded_of v.items) (0 < length raws.entry) result (all_ok (listed_unloaded endian (bytes_of all.entry)) raws.entry) }
-    ensures within { steps.new ≤ steps.old + length raws.entry }
+    ensures within { steps.new ≤ steps.old + 2 * length raws.entry }
     ensures grows { steps.old ≤ steps.new }
-    ensures steps { IfOk result (λ _. steps.new ≡ after steps.old (length raws.entry)) }
+    ensures steps { IfOk result (λ _. steps.new ≡ after steps.old (2 * length raws.entry)) }
 {
     let mut modules = Vec::with_capacity(alloc, raws.len())?;
     for entry in raws {
