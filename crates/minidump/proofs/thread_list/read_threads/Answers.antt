@@ -23,19 +23,20 @@ made_more : {X Y Z : Type 0} (f : X → Y) (view : Z → Y) (xs : List X) (zs : 
     → map view zs ≡ map f (take i xs) → view z ≡ f x → map view (zs ++ z ∷ []) ≡ map f (take (i + 1) xs)
 made_more f view xs zs i x z rest next so_far e = mapped_more f view xs zs i x z next.inside so_far (e ∙ ap f (sym next.item))
 
-pub loop-raw-preserved : goal.loop-raw-preserved
-loop-raw-preserved c =
-    let threads = c.loop-raw.threads.items in
-    let next = next_left c.args.raws (length c.loop-raw.yielded) c.in-Some.raw _ _ (sym c.loop-raw.invariant.left ∙ c.in-Some.ensures.steps) in
-    rw (one_given c.loop-raw.yielded c.in-Some.raw, c.in_ok-push.ensures.items) (record {
+pub loop-entry-preserved : goal.loop-entry-preserved
+loop-entry-preserved c =
+    let threads = c.loop-entry.threads.items in
+    let next = next_left c.args.raws (length c.loop-entry.yielded) c.in-Some.entry _ _ (sym c.loop-entry.invariant.left ∙ c.in-Some.ensures.steps) in
+    rw (one_given c.loop-entry.yielded c.in-Some.entry, c.in_ok-push.ensures.items) (record {
       left = next.left;
-      items = made_more (thread_at c.args.endian (bytes_of c.args.all)) thread_of _ threads _ _ _ _ next c.loop-raw.invariant.items c.read.ensures.value;
-      within = omega (arith, one_span c.in-Some.raw.stack, c.read.ensures.step, c.loop-raw.invariant.within);
-      grows = omega (arith, c.read.ensures.step, c.loop-raw.invariant.grows);
+      items = made_more (thread_at c.args.endian (bytes_of c.args.all)) thread_of _ threads _ _ _ _ next c.loop-entry.invariant.items
+          (rw c.read-raw.ensures.value at c.read.ensures.value);
+      within = omega (arith, one_span c.in-Some.entry.stack, rw c.read-raw.ensures.value at c.read.ensures.step, c.read-raw.ensures.step, c.loop-entry.invariant.within);
+      grows = omega (arith, c.read.ensures.step, c.read-raw.ensures.step, c.loop-entry.invariant.grows);
       counted = rw (map_push thread_of threads, sum_by_push thread_reads (map thread_of threads))
-          (omega (arith, c.read.ensures.step, c.loop-raw.invariant.counted, ap thread_reads c.read.ensures.value));
+          (omega (arith, c.read.ensures.step, c.read-raw.ensures.step, c.loop-entry.invariant.counted, ap thread_reads c.read.ensures.value));
     })
 
 pub returns-clause-items : goal.returns-clause-items
 returns-clause-items c =
-    rw (all_given c.args.raws (length c.loop-raw.yielded) (sym c.loop-raw.invariant.left ∙ c.in-None.ensures.steps.0)) at c.loop-raw.invariant.items
+    rw (all_given c.args.raws (length c.loop-entry.yielded) (sym c.loop-entry.invariant.left ∙ c.in-None.ensures.steps.0)) at c.loop-entry.invariant.items

@@ -6,11 +6,11 @@ use Rattle.minidump_bytes.specs.Steps.{after}
 use Rattle.minidump.specs.Thread.{thread_reads, thread_at, thread_of}
 use Rattle.minidump.proofs.thread_list.read_threads.Given as goal
 
-abbrev pub invariant-loop-raw : goal.invariant-loop-raw
-invariant-loop-raw l = record {
-  left : l.raw-iterator ≡ drop (length l.yielded) l.fn.raws;
+abbrev pub invariant-loop-entry : goal.invariant-loop-entry
+invariant-loop-entry l = record {
+  left : l.entry-iterator ≡ drop (length l.yielded) l.fn.raws;
   items : map thread_of l.threads.items ≡ map (thread_at l.endian (bytes_of l.all)) (take (length l.yielded) l.fn.raws);
-  within : l.steps ≤ l.fn.steps + 2 * length l.yielded;
+  within : l.steps ≤ l.fn.steps + 3 * length l.yielded;
   grows : l.fn.steps ≤ l.steps;
-  counted : l.steps ≡ after l.fn.steps (sum_by thread_reads (map thread_of l.threads.items));
+  counted : l.steps ≡ after l.fn.steps (length l.yielded + sum_by thread_reads (map thread_of l.threads.items));
 }
