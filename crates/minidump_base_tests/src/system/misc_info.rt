@@ -104,29 +104,33 @@ fn each_flag_shows_its_fields(rt: HostRuntime) {
     }
 }
 
-// The misc information of the first so many bytes of a record with every flag, and of a byte behind it.
-fn read(alloc: Global, length: usize) -> Result<MinidumpMiscInfo, Error> {
+// The misc information of the first so many bytes of a record with these flags, and of a byte behind it.
+fn read(alloc: Global, length: usize, flags1: u32) -> Result<MinidumpMiscInfo, Error> {
     let mut section = Section::new(alloc, Endian::Big);
-    section.record(&whole(0x3f7)).u8(0);
+    section.record(&whole(flags1)).u8(0);
     let bytes = section.finish()?;
     let part = Source::new(bytes.get(..length).unwrap_or(&[]));
     MinidumpMiscInfo::read(alloc, part, part, Endian::Big, None, &mut Steps::new())
 }
 
-// The length of a stream, and the last field of its layout. The size that the record states is 1364.
+// The length of a stream, its flags, and the last field that these and its layout show. The size that the record states
+// is 1364.
 #[rattlefmt::skip]
-const LAYOUTS: &[(usize, u32)] = &[
-    (24, 4), (43, 4), (44, 9), (231, 9), (232, 14), (831, 14), (832, 16), (1363, 16), (1364, 17), (1365, 17),
+const LAYOUTS: &[(usize, u32, u32)] = &[
+    (24, 0x1, 1), (24, 0x3f7, 4), (43, 0x3f7, 4), (44, 0x3f7, 9), (231, 0x3f7, 9), (232, 0x3f7, 14),
+    (831, 0x3f7, 14), (832, 0x3f7, 16), (1363, 0x3f7, 16), (1364, 0x3f7, 17), (1365, 0x3f7, 17),
 ];
 
-fn layout_is(alloc: Global, row: &(usize, u32)) -> Result<bool, Error> {
-    let misc = read(alloc, row.0)?;
+fn layout_is(alloc: Global, row: &(usize, u32, u32)) -> Result<bool, Error> {
+    let (length, flags1, last) = *row;
+    let misc = read(alloc, length, flags1)?;
+    let created = if last == 1 { None } else { Some(2) };
     Ok(
-        shows(&misc.raw, 1, row.1)
+        shows(&misc.raw, 1, last)
             && misc.raw.size_of_info().copied() == Some(1364)
-            && misc.raw.flags1().copied() == Some(0x3f7)
-            && misc.raw.xstate_data().is_some() == (row.1 == 17)
-            && misc.process_create_time() == Some(2),
+            && misc.raw.flags1().copied() == Some(flags1)
+            && misc.raw.xstate_data().is_some() == (last == 17)
+            && misc.process_create_time() == created,
     )
 }
 
@@ -135,7 +139,7 @@ fn the_length_decides_the_layout(rt: HostRuntime) {
     for row in LAYOUTS {
         assert!(rt; layout_is(rt.alloc(), row) == Ok(true), "{}", row.0);
     }
-    assert!(rt; read(rt.alloc(), 23).err() == Some(Error::StreamReadFailure));
+    assert!(rt; read(rt.alloc(), 23, 0x3f7).err() == Some(Error::StreamReadFailure));
 }
 
 // Year, month, day, hour, minute, second and milliseconds, and how a print shows them.

@@ -191,14 +191,15 @@ fn regions_without_bytes_in_the_file_are_skipped(rt: HostRuntime) -> Result<(), 
     Ok(())
 }
 
-// A place in the file of eight bytes, the sizes of the regions from there on, and how many regions there are.
+// A place in the file of eight bytes, the sizes of the regions from there on, and how many regions there are, and have
+// addresses.
 #[rattlefmt::skip]
-const PLACED: &[(u64, &[u64], Result<usize, Error>)] = &[
-    (0, &[], Ok(0)),
-    (9, &[], Ok(0)),
-    (u64::MAX, &[], Ok(0)),
-    (8, &[0], Ok(1)),
-    (1, &[3, 4], Ok(2)),
+const PLACED: &[(u64, &[u64], Result<(usize, usize), Error>)] = &[
+    (0, &[], Ok((0, 0))),
+    (9, &[], Ok((0, 0))),
+    (u64::MAX, &[], Ok((0, 0))),
+    (8, &[0], Ok((1, 0))),
+    (1, &[3, 4], Ok((2, 2))),
     (9, &[0], Err(Error::StreamReadFailure)),
     (u64::MAX, &[0], Err(Error::StreamReadFailure)),
     (u64::MAX, &[2], Err(Error::StreamReadFailure)),
@@ -207,7 +208,12 @@ const PLACED: &[(u64, &[u64], Result<usize, Error>)] = &[
     (1, &[3, u64::MAX], Err(Error::StreamReadFailure)),
 ];
 
-fn count_of(alloc: Global, endian: Endian, rva: u64, sizes: &[u64]) -> Result<usize, Error> {
+fn counts_of(
+    alloc: Global,
+    endian: Endian,
+    rva: u64,
+    sizes: &[u64],
+) -> Result<(usize, usize), Error> {
     let mut stream = Section::new(alloc, endian);
     stream.u64(sizes.len() as u64).u64(rva);
     for size in sizes {
@@ -215,7 +221,8 @@ fn count_of(alloc: Global, endian: Endian, rva: u64, sizes: &[u64]) -> Result<us
     }
     let stream = stream.finish()?;
     let list: MinidumpMemory64List = read_in(alloc, &stream, FILE, endian, &mut Steps::new())?;
-    Ok(list.iter().count())
+    let placed = list.iter().filter(|m| m.memory_range().is_some());
+    Ok((list.iter().count(), placed.count()))
 }
 
 #[test]
@@ -223,7 +230,7 @@ fn the_bytes_of_a_64_list_are_in_the_file(rt: HostRuntime) {
     for (rva, sizes, want) in PLACED {
         for endian in BOTH {
             assert!(rt;
-                count_of(rt.alloc(), *endian, *rva, sizes) == *want,
+                counts_of(rt.alloc(), *endian, *rva, sizes) == *want,
                 "at {rva}"
             );
         }

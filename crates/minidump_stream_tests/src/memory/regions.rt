@@ -72,10 +72,17 @@ fn a_region_is_read_where_its_bytes_are_in_the_file(rt: HostRuntime) -> Result<(
 
 const SIXTEEN: &[u8] = &[1, 2, 3, 4, 5, 6, 7, 8, 9, 10, 11, 12, 13, 14, 15, 16];
 
-// The number at an address of sixteen bytes from 0x1000 on, in a region of either kind and as a unified one.
-fn holds<T: FixedRead + PartialEq>(endian: Endian, address: u64, want: &Option<T>) -> bool {
-    let plain = region(0x1000, SIXTEEN, endian);
-    let long = region_64(0x1000, SIXTEEN, endian);
+const FOUR: &[u8] = &[1, 2, 3, 4];
+
+// The number at an address of bytes from 0x1000 on, in a region of either kind and as a unified one.
+fn holds<T: FixedRead + PartialEq>(
+    bytes: &[u8],
+    endian: Endian,
+    address: u64,
+    want: &Option<T>,
+) -> bool {
+    let plain = region(0x1000, bytes, endian);
+    let long = region_64(0x1000, bytes, endian);
     plain.get_memory_at_address::<T>(address) == *want
         && long.get_memory_at_address::<T>(address) == *want
         && UnifiedMemory::Memory(&plain).get_memory_at_address::<T>(address) == *want
@@ -102,6 +109,13 @@ const WORDS: &[(u64, Option<u32>, Option<u32>)] = &[
     (0x100d, None, None),
 ];
 
+// The same of a region of four bytes.
+#[rattlefmt::skip]
+const WORDS_OF_FOUR: &[(u64, Option<u32>, Option<u32>)] = &[
+    (0x1000, Some(0x0403_0201), Some(0x0102_0304)),
+    (0x1001, None, None),
+];
+
 #[rattlefmt::skip]
 const LONGS: &[(u64, Option<u64>, Option<u64>)] = &[
     (0x1008, Some(0x100f_0e0d_0c0b_0a09), Some(0x090a_0b0c_0d0e_0f10)),
@@ -118,9 +132,10 @@ const LONGEST: &[(u64, Option<u128>, Option<u128>)] = &[
     (0x1001, None, None),
 ];
 
-fn all_hold<T: FixedRead + PartialEq>(rows: &[(u64, Option<T>, Option<T>)]) -> bool {
+fn all_hold<T: FixedRead + PartialEq>(bytes: &[u8], rows: &[(u64, Option<T>, Option<T>)]) -> bool {
     for (address, little, big) in rows {
-        if !holds(Endian::Little, *address, little) || !holds(Endian::Big, *address, big) {
+        let is_held = holds(bytes, Endian::Little, *address, little);
+        if !is_held || !holds(bytes, Endian::Big, *address, big) {
             return false;
         }
     }
@@ -130,9 +145,15 @@ fn all_hold<T: FixedRead + PartialEq>(rows: &[(u64, Option<T>, Option<T>)]) -> b
 #[test]
 fn a_number_is_read_where_the_region_holds_it_whole(rt: HostRuntime) {
     for (address, want) in BYTES {
-        assert!(rt; holds(Endian::Little, *address, want), "at {address}");
+        assert!(rt;
+            holds(SIXTEEN, Endian::Little, *address, want),
+            "at {address}"
+        );
     }
-    assert!(rt; all_hold(HALVES) && all_hold(WORDS) && all_hold(LONGS) && all_hold(LONGEST));
+    assert!(rt; all_hold(SIXTEEN, HALVES) && all_hold(SIXTEEN, WORDS));
+    assert!(rt;
+        all_hold(SIXTEEN, LONGS) && all_hold(SIXTEEN, LONGEST) && all_hold(FOUR, WORDS_OF_FOUR)
+    );
 }
 
 // A list of one region of 15 bytes, with them, of either kind.

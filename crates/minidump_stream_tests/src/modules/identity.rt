@@ -56,6 +56,13 @@ const RSDS_AGE_0: &[u8] =
 const RSDS_CUT: &[u8] =
     b"RSDS\x34\x12\xcd\xab\x0d\xf0\xef\xbe\x01\x02\x03\x04\x05\x06\x07\x08\x1f\0\0";
 
+// A GUID of letters with the age 0, and the first GUID with the age 1.
+const RSDS_LETTERS: &[u8] =
+    b"RSDS\xdd\xcc\xbb\xaa\xff\xee\x11\x00\x22\x33\x44\x55\x66\x77\x88\x99\0\0\0\0";
+
+const RSDS_AGE_1: &[u8] =
+    b"RSDS\x34\x12\xcd\xab\x0d\xf0\xef\xbe\x01\x02\x03\x04\x05\x06\x07\x08\x01\0\0\0c:\\foo\\file.pdb\0";
+
 // `NB10`, an offset, a time stamp, an age and a name, in both byte orders; and of 16 and 15 bytes.
 const NB10: &[u8] = b"NB10\x05\0\0\0\xf6\x29\x0a\x3c\x1f\0\0\0a.pdb\0";
 
@@ -113,6 +120,10 @@ const MODULES: &[Row] = &[
         platform: None, view: RSDS_AGE_0, endian: Little, code: STAMPED,
         debug: Some("abcd1234-f00d-beef-0102-030405060708"), file: Some(""),
     },
+    Row {
+        platform: MACOS, view: RSDS_LETTERS, endian: Little, code: Some("aabbccddeeff00112233445566778899"),
+        debug: Some("aabbccdd-eeff-0011-2233-445566778899"), file: Some(""),
+    },
     Row { platform: WINDOWS, view: NB10, endian: Little, code: STAMPED, debug: OLD, file: Some("a.pdb") },
     Row { platform: MACOS, view: NB10_BIG, endian: Big, code: STAMPED, debug: OLD, file: Some("a.pdb") },
     Row { platform: None, view: NB10_LEAST, endian: Little, code: STAMPED, debug: OLD, file: Some("") },
@@ -158,6 +169,18 @@ fn is_identified(alloc: Global, row: &Row) -> Result<bool, Error> {
     )
 }
 
+// A record, and Breakpad's text of the debug identifier.
+const TEXTS: &[(&[u8], &str)] = &[
+    (ELF, "030201000504070600000000000000000"),
+    (RSDS_AGE_1, "ABCD1234F00DBEEF01020304050607081"),
+    (RSDS_LETTERS, "AABBCCDDEEFF001122334455667788990"),
+];
+
+fn is_that_of_a_text(alloc: Global, row: &(&[u8], &str)) -> Result<bool, Error> {
+    let id = module(alloc, Endian::Little, MACOS, row.0)?.debug_identifier();
+    Ok(id.is_some() && id == DebugId::from_breakpad(row.1))
+}
+
 #[test]
 fn a_module_is_identified_by_its_record_and_its_system(rt: HostRuntime) -> Result<(), Fail> {
     for row in MODULES {
@@ -167,6 +190,9 @@ fn a_module_is_identified_by_its_record_and_its_system(rt: HostRuntime) -> Resul
             row.view,
             row.platform
         );
+    }
+    for row in TEXTS {
+        assert!(rt; is_that_of_a_text(rt.alloc(), row)?, "{}", row.1);
     }
     Ok(())
 }
