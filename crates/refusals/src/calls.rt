@@ -1,13 +1,15 @@
+use crate::crash::{crash, names, reason_text, summary};
 use crate::device::Device;
 use crate::records::{
     annotations, code_ids, crashpad_module, handles, identities, mac_records, module_list,
     new_modules, unloaded_list,
 };
 use crate::regions::{
-    index, info_regions, map_line, map_regions, memory, memory_regions, memory_texts, unified_infos,
+    index, info_regions, map_line, map_regions, memory, memory_regions, memory_texts,
+    memory64_regions, unified_infos, unified_maps, wide_index,
 };
 use crate::streams::{copy, show};
-use crate::texts::{assertion_texts, contexts, crash, linux_texts, system_texts, thread_infos};
+use crate::texts::{assertion_texts, contexts, linux_texts, system_texts, thread_infos};
 use crate::whole::{find, read, read_path, read_whole, report};
 use crate::world::World;
 use minidump::format::MINIDUMP_STREAM_TYPE::{self, *};
@@ -30,11 +32,14 @@ pub enum Call {
     Memory,
     MemoryTexts,
     MemoryRegions,
+    Memory64Regions,
     InfoRegions,
     MapRegions,
     UnifiedInfos,
+    UnifiedMaps,
     MapLine,
     Index,
+    WideIndex,
     NewModules,
     Identities,
     CodeIds,
@@ -50,6 +55,9 @@ pub enum Call {
     Contexts,
     ThreadInfos,
     Crash,
+    ReasonText,
+    Names,
+    Summary,
 }
 
 impl Call {
@@ -111,11 +119,14 @@ pub const CALLS: &[(&str, Call)] = &[
     ("memory", Call::Memory),
     ("memory-texts", Call::MemoryTexts),
     ("memory-regions", Call::MemoryRegions),
+    ("memory64-regions", Call::Memory64Regions),
     ("info-regions", Call::InfoRegions),
     ("map-regions", Call::MapRegions),
     ("unified-infos", Call::UnifiedInfos),
+    ("unified-maps", Call::UnifiedMaps),
     ("map-line", Call::MapLine),
     ("index", Call::Index),
+    ("wide-index", Call::WideIndex),
     ("new-modules", Call::NewModules),
     ("identities", Call::Identities),
     ("code-ids", Call::CodeIds),
@@ -131,6 +142,9 @@ pub const CALLS: &[(&str, Call)] = &[
     ("contexts", Call::Contexts),
     ("thread-infos", Call::ThreadInfos),
     ("crash", Call::Crash),
+    ("reason-text", Call::ReasonText),
+    ("names", Call::Names),
+    ("summary", Call::Summary),
 ];
 
 /// Makes a call.
@@ -147,11 +161,14 @@ pub fn make(world: &World<'_>, call: Call, out: &mut Told<Device>) -> Result<(),
         Call::Memory => memory(world, out),
         Call::MemoryTexts => memory_texts(world, out),
         Call::MemoryRegions => memory_regions(world, out),
+        Call::Memory64Regions => memory64_regions(world, out),
         Call::InfoRegions => info_regions(world, out),
         Call::MapRegions => map_regions(world, out),
         Call::UnifiedInfos => unified_infos(world, out),
+        Call::UnifiedMaps => unified_maps(world, out),
         Call::MapLine => map_line(world, out),
         Call::Index => index(world, out),
+        Call::WideIndex => wide_index(world, out),
         Call::NewModules => new_modules(world, out),
         Call::Identities => identities(world, out),
         Call::CodeIds => code_ids(world, out),
@@ -167,5 +184,8 @@ pub fn make(world: &World<'_>, call: Call, out: &mut Told<Device>) -> Result<(),
         Call::Contexts => contexts(world, out),
         Call::ThreadInfos => thread_infos(world, out),
         Call::Crash => crash(world, out),
+        Call::ReasonText => reason_text(world, out),
+        Call::Names => names(world, out),
+        Call::Summary => summary(world, out),
     }
 }

@@ -8,6 +8,9 @@ use std::alloc::{AllocError, Global};
 // Room for what a call writes, so that no device takes memory, and a limit of calls of a device.
 const ROOM: usize = 65536;
 
+// A size of memory that no call asks for.
+const MARK: usize = 65537;
+
 /// What a call answered, of which it is known what it answers with ample memory.
 #[derive(Clone, Copy)]
 pub enum Said {
@@ -17,8 +20,6 @@ pub enum Said {
     Refused,
     /// Something else.
     Wrong,
-    /// It was not made: of the allocations before it so many were given, and then one was refused.
-    NotMade(u32),
 }
 
 // Makes a call, and returns its answer with what went out.
@@ -32,26 +33,20 @@ fn whole(alloc: Global) -> Result<Device, AllocError> {
     failing(alloc, Kind::FailsAt, usize::MAX)
 }
 
-// Takes memory so many times, and gives it back. Returns how many times there was some.
-fn allocate(alloc: Global, times: u32) -> u32 {
-    for taken in 0..times {
-        if Box::new(alloc, 0u8).is_err() {
-            return taken;
-        }
-    }
-    times
+// Takes memory of a size that tells `.ci/refusals` where a call begins and ends, and gives it back.
+fn mark(alloc: Global) -> Result<(), AllocError> {
+    let _memory: Vec<u8> = Vec::with_capacity(alloc, MARK)?;
+    Ok(())
 }
 
-/// Makes a call, and makes it again after so many allocations. If memory runs out, it is made once more, and what went
-/// out before is a beginning of the text.
-pub fn answered(world: &World<'_>, call: Call, times: u32) -> Result<Said, AllocError> {
+/// Makes a call, and makes it again between two marks. If memory runs out, it is made once more, and what went out
+/// before is a beginning of the text.
+pub fn answered(world: &World<'_>, call: Call) -> Result<Said, AllocError> {
     let (device, spare) = (whole(world.alloc)?, whole(world.alloc)?);
     let (ample, text) = made(world, call, whole(world.alloc)?);
-    let taken = allocate(world.alloc, times);
-    if taken < times {
-        return Ok(Said::NotMade(taken));
-    }
+    mark(world.alloc)?;
     let (answer, out) = made(world, call, device);
+    mark(world.alloc)?;
     if answer.is_ok() && ample.is_ok() && out == text {
         return Ok(Said::Ample);
     }

@@ -1,5 +1,5 @@
-//! `refusals FILE [devices]` and `refusals FILE NAME NUMBER`, which show what the library answers where memory runs out,
-//! or a device fails.
+//! `refusals FILE [devices]` and `refusals FILE NAME`, which show what the library answers where memory runs out, or a
+//! device fails.
 //!
 //! On a dump with a stream of each type it makes the calls that may find no memory, twice, and writes a line for each: its
 //! name, and `ok` if it answered and wrote the same. `FILE` is a dump for `read_path`.
@@ -7,16 +7,16 @@
 //! With `devices` it also makes each call on writers that fail, or take nothing, from each of their calls on, and on
 //! one that takes a byte a call; and reads readers alike.
 //!
-//! With a name and a number it makes only the call of that name, and NUMBER allocations before the second time. The
-//! line is `NAME: OutOfMemory, ok` if an allocation of the second call was refused, what it wrote is a beginning of
-//! the text, and a third call answers as the first did. If one of the NUMBER allocations is refused, the line says how
-//! many came before it. `.ci/refusals` uses this to refuse each allocation of each call.
+//! With a name it makes only the call of that name. The line is `NAME: OutOfMemory, ok` if the second call found no memory,
+//! what it wrote is a beginning of the text, and a third call answers as the first did. `.ci/refusals` uses this to refuse
+//! each allocation of each second call, before and behind which the program takes memory of a size of its own.
 //!
 //! The status is 1 if an answer was another, else 0.
 #![tactic(auto)]
 
 mod calls;
 mod check;
+mod crash;
 mod device;
 mod records;
 mod regions;
@@ -45,20 +45,19 @@ fn run(rt: &HostRuntime) -> io::Result<bool> {
     let words: Vec<String> = env::args(rt)?.collect(rt.alloc())?;
     let path = words.get(1).map_or("", |word| word.as_str());
     let how = words.get(2).map_or("", |word| word.as_str());
-    let times = words.get(3).map_or("", |word| word.as_str());
     let bytes = every_stream(rt.alloc(), Endian::Little)?;
     match World::read(rt, path, &bytes) {
-        Ok(world) => make_all(rt, &world, how, times.parse().unwrap_or(0)),
+        Ok(world) => make_all(rt, &world, how),
         Err(_) => Ok(false),
     }
 }
 
-fn make_all(rt: &HostRuntime, world: &World<'_>, how: &str, times: u32) -> io::Result<bool> {
+fn make_all(rt: &HostRuntime, world: &World<'_>, how: &str) -> io::Result<bool> {
     let devices = how == "devices";
     let mut holds = true;
     for (name, call) in CALLS {
         if devices || how.is_empty() || how == *name {
-            holds = make_one(rt, world, name, *call, devices, times)? && holds;
+            holds = make_one(rt, world, name, *call, devices)? && holds;
         }
     }
     if devices && !is_read(world.alloc, b"the bytes of a reader")? {
@@ -75,15 +74,10 @@ fn make_one(
     name: &str,
     call: Call,
     devices: bool,
-    times: u32,
 ) -> io::Result<bool> {
-    let answer = match answered(world, call, times)? {
+    let answer = match answered(world, call)? {
         Said::Ample if !devices || is_told(world, call)? => "ok",
         Said::Refused => "OutOfMemory, ok",
-        Said::NotMade(taken) => {
-            println!(rt; "{name}: {taken}")?;
-            return Ok(true);
-        }
         _ => "wrong",
     };
     println!(rt; "{name}: {answer}")?;

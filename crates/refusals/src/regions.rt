@@ -1,9 +1,9 @@
 use crate::device::Device;
 use crate::world::{World, put_line};
 use minidump::{
-    AddressIndex, Error, MinidumpLinuxMapInfo, MinidumpLinuxMaps, MinidumpMemory,
-    MinidumpMemoryInfo, MinidumpMemoryInfoList, MinidumpMemoryList, Range, Told,
-    UnifiedMemoryInfoList,
+    AddressIndex, Error, MinidumpLinuxMapInfo, MinidumpLinuxMaps, MinidumpMemory, MinidumpMemory64,
+    MinidumpMemory64List, MinidumpMemoryInfo, MinidumpMemoryInfoList, MinidumpMemoryList, Range,
+    Told, UnifiedMemoryInfoList,
 };
 use std::alloc::{AllocError, Global};
 
@@ -38,6 +38,18 @@ pub fn memory_regions<'a>(world: &World<'a>, out: &mut Told<Device>) -> Result<(
     MinidumpMemoryList::from_regions(world.alloc, regions)?.print(world.alloc, out, false)
 }
 
+/// Makes a 64-bit list of regions of memory.
+pub fn memory64_regions<'a>(world: &World<'a>, out: &mut Told<Device>) -> Result<(), Error> {
+    let list = world
+        .dump
+        .get_stream::<MinidumpMemory64List<'a>>(world.alloc)?;
+    let mut regions: Vec<MinidumpMemory64<'a>> = Vec::new(world.alloc);
+    for region in list.iter() {
+        regions.push(region.clone()?)?;
+    }
+    MinidumpMemory64List::from_regions(world.alloc, regions)?.print(world.alloc, out, false)
+}
+
 /// Makes a list of information on regions.
 pub fn info_regions<'a>(world: &World<'a>, out: &mut Told<Device>) -> Result<(), Error> {
     let list = world
@@ -68,10 +80,26 @@ pub fn map_regions<'a>(world: &World<'a>, out: &mut Told<Device>) -> Result<(), 
     MinidumpLinuxMaps::from_regions(world.alloc, regions)?.print(world.alloc, out)
 }
 
-/// Copies a list of either kind, and prints it and its regions.
-pub fn unified_infos(world: &World<'_>, out: &mut Told<Device>) -> Result<(), Error> {
+/// Copies the maps as a list of either kind, and prints it and its regions.
+pub fn unified_maps(world: &World<'_>, out: &mut Told<Device>) -> Result<(), Error> {
     let maps = world.dump.get_stream::<MinidumpLinuxMaps<'_>>(world.alloc)?;
-    match UnifiedMemoryInfoList::new(None, Some(maps)) {
+    put_copy(world, UnifiedMemoryInfoList::new(None, Some(maps)), out)
+}
+
+/// Copies the information as a list of either kind, and prints it and its regions.
+pub fn unified_infos(world: &World<'_>, out: &mut Told<Device>) -> Result<(), Error> {
+    let infos = world
+        .dump
+        .get_stream::<MinidumpMemoryInfoList<'_>>(world.alloc)?;
+    put_copy(world, UnifiedMemoryInfoList::new(Some(infos), None), out)
+}
+
+fn put_copy(
+    world: &World<'_>,
+    list: Option<UnifiedMemoryInfoList<'_>>,
+    out: &mut Told<Device>,
+) -> Result<(), Error> {
+    match list {
         Some(list) => {
             let list = list.try_clone(world.alloc)?;
             list.print(world.alloc, out)?;
@@ -93,11 +121,20 @@ pub fn map_line(world: &World<'_>, out: &mut Told<Device>) -> Result<(), Error> 
     }
 }
 
-/// Makes an index of entries of 24 bytes, of ranges that don't ascend.
+/// Makes an index of entries of 16 bytes, of ranges that don't ascend.
 pub fn index(world: &World<'_>, out: &mut Told<Device>) -> Result<(), Error> {
+    put_index(world, Range::new(4, 9), out)
+}
+
+/// Makes an index of entries of 24 bytes, since a range has more than 2^32 addresses.
+pub fn wide_index(world: &World<'_>, out: &mut Told<Device>) -> Result<(), Error> {
+    put_index(world, Range::new(4, 1 << 33), out)
+}
+
+fn put_index(world: &World<'_>, last: Range, out: &mut Told<Device>) -> Result<(), Error> {
     let ranges = [
         Some(Range::new(1, 2)),
-        Some(Range::new(4, 1 << 33)),
+        Some(last),
         None,
         Some(Range::new(2, 3)),
     ];

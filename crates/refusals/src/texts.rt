@@ -3,8 +3,8 @@ use crate::records::put_text;
 use crate::world::{World, put_line};
 use minidump::strings::{LinuxOsStr, LinuxOsString};
 use minidump::{
-    CodeNames, Error, MinidumpAssertion, MinidumpContext, MinidumpContextValidity,
-    MinidumpException, MinidumpThreadInfoList, MinidumpThreadList, Source, Steps, Told, date_text,
+    Error, MinidumpAssertion, MinidumpContext, MinidumpContextValidity, MinidumpThreadInfoList,
+    MinidumpThreadList, Source, Steps, Told, date_text,
 };
 use std::collections::HashSet;
 
@@ -81,19 +81,4 @@ pub fn thread_infos(world: &World<'_>, out: &mut Told<Device>) -> Result<(), Err
         info.print(world.alloc, out)?;
     }
     Ok(())
-}
-
-/// Prints each thread, and the reason of the crash.
-pub fn crash(world: &World<'_>, out: &mut Told<Device>) -> Result<(), Error> {
-    let list = world
-        .dump
-        .get_stream::<MinidumpThreadList<'_>>(world.alloc)?;
-    for thread in &list.threads {
-        let memory = Some(&world.memory);
-        thread.print(world.alloc, out, memory, Some(&world.system), None, false)?;
-    }
-    let exception = world.dump.get_stream::<MinidumpException<'_>>(world.alloc)?;
-    let names = CodeNames::empty();
-    let reason = exception.get_crash_reason(world.system.os, world.system.cpu, &names);
-    reason.write_to(world.alloc, &names, out)
 }
