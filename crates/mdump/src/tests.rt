@@ -86,6 +86,7 @@ fn names_refusals(rt: HostRuntime) -> Result<(), Fail> {
         assert!(rt; answers(&rt, row)?, "{}", row.3);
     }
     for (bytes, name) in &[
+        (&ONE_STREAM[..0], "MissingHeader\n"),
         (&ONE_STREAM[..31], "MissingHeader\n"),
         (&ONE_STREAM[1..], "HeaderMismatch\n"),
         (&one_stream_with_byte(4, 0x94)[..], "VersionMismatch\n"),
