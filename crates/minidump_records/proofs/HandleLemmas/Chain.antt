@@ -14,7 +14,7 @@ use Rattle.minidump_format.specs.Handle.{object_information}
 use Rattle.minidump_records.specs.declared.handles.information.MinidumpHandleObjectInformation.{MinidumpHandleObjectInformation}
 use Rattle.minidump_records.specs.Handles.{object_chain}
 use Rattle.minidump_records.specs.Handles.ObjectChain.{information_at, last_link, next_of, typed}
-use Rattle.minidump_records.proofs.HandleLemmas.OneObjectChain.{is_object_chain, object_chain_is_one, readable}
+use Rattle.minidump_records.proofs.HandleLemmas.OneObjectChain.{object_chain_is_one, readable}
 use Rattle.minidump_system.proofs.OneChain.{Leading, leading_end, leading_more, leading_none, leading_short}
 use Rattle.minidump_records.proofs.HandleLemmas.Offsets.{same_push}
 

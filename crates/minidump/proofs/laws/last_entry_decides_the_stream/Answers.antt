@@ -1,5 +1,5 @@
 -- The bytes are those of the last entry, and the stream is what they mean.
-use Rattle.std.proofs.Common.{◌≡◌, ◌≢◌, ◌∙◌, List, ◌∷◌, ◌++◌, refl, sym, subst}
+use Rattle.std.proofs.Common.{◌≡◌, ◌≢◌, List, ◌∷◌, ◌++◌, refl, subst}
 use Rattle.std.specs.Prelude.{All, ℕ}
 use Rattle.minidump_format.specs.declared.format.header.MINIDUMP_DIRECTORY.{MINIDUMP_DIRECTORY}
 use Rattle.minidump_format.specs.Header.{located}
