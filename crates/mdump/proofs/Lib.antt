@@ -1,5 +1,6 @@
 -- The lemmas of this crate.
 pub mod AddressLemmas
+pub mod ArgumentLemmas
 pub mod CommandLemmas
 pub mod JoinedLemmas
 pub mod ListLemmas

@@ -1,5 +1,5 @@
 -- What the program writes.
-use Rattle.std.specs.Prelude.{◌≡◌, ◌↔◌, ◌⊎◌, ℕ, ◌<◌, ◌≤◌, ◌++◌, List, [], codes, length, true, Option, Some, None, Result, Ok, Err}
+use Rattle.std.specs.Prelude.{◌≡◌, ◌↔◌, ◌⊎◌, ℕ, ◌<◌, ◌≤◌, ◌++◌, List, [], codes, length, Bool, true, Option, Some, None, Result, Ok, Err}
 use Rattle.std.specs.Option.{option_map}
 use Rattle.std.specs.Result.{result_ok}
 use Rattle.minidump.specs.declared.Told.{Told}
@@ -15,7 +15,7 @@ use Rattle.minidump.specs.Below.MemoryLists.MemoryInfo.{MemoryInfo}
 use Rattle.minidump.specs.Below.MemoryLists.UnifiedInfo.{InfoRegion, InfoRegions, OfInfo, OfMaps, info_region_range, info_regions}
 use Rattle.minidump.specs.Below.Modules.Module.{ModuleValue, value_range}
 use Rattle.minidump.specs.Dump.{Dump, dump_in, stream_of}
-use Rattle.minidump.specs.File.{IsFile, IsFileDump, IsPathRefusal}
+use Rattle.minidump.specs.File.{IsFileDump, IsPathRefusal}
 use Rattle.minidump.specs.Memory.{memories_of_dump}
 use Rattle.minidump.specs.Promise.{linux_maps_stream, memory_info_list_stream, module_list_stream}
 use Rattle.minidump.specs.Report.{report_text}
@@ -29,13 +29,15 @@ use Rattle.mdump.specs.Lines.{IsAt, Joined, info_line, memory_line, module_line}
 abbrev pub usage : List ℕ
 usage = codes "usage: mdump dir FILE | at FILE HEXADDRESS | report FILE\n"
 
--- the header and the directory of the minidump in a file that was opened; which file has a path is not known here
-abbrev pub IsDirectoryText : {F : Type 0} → (F → Option (List ℕ)) → List ℕ → Type 0
-IsDirectoryText remaining text = (dump : Dump) × IsFileDump remaining dump × (text ≡ dump_text dump)
+-- Below, `opens path answer` says what opening a path answers, and `left` which bytes a file has left, where they are known.
 
--- the report on the minidump in a file that was opened, without names of codes
-abbrev pub IsReportText : {F : Type 0} → (F → Option (List ℕ)) → List ℕ → Type 0
-IsReportText remaining text = (dump : Dump) × IsFileDump remaining dump × (text ≡ report_text [] dump)
+-- the header and the directory of the minidump in the file of a path
+abbrev pub IsDirectoryText : {F : Type 0} → (List ℕ → Option F → Type 0) → (F → Option (List ℕ)) → List ℕ → List ℕ → Type 0
+IsDirectoryText opens left path text = (dump : Dump) × IsFileDump opens left path dump × (text ≡ dump_text dump)
+
+-- the report on the minidump in the file of a path, without names of codes
+abbrev pub IsReportText : {F : Type 0} → (List ℕ → Option F → Type 0) → (F → Option (List ℕ)) → List ℕ → List ℕ → Type 0
+IsReportText opens left path text = (dump : Dump) × IsFileDump opens left path dump × (text ≡ report_text [] dump)
 
 -- the line of the region that contains an address in the memory of a dump
 abbrev pub IsMemoryLine : Dump → ℕ → List ℕ → Type 0
@@ -73,19 +75,19 @@ AreLastLines dump address = Joined (IsModuleLine dump address) (IsInfoLine dump 
 abbrev pub AreLinesOf : Dump → ℕ → List ℕ → Type 0
 AreLinesOf dump address = Joined (IsMemoryLine dump address) (AreLastLines dump address)
 
--- the same of the minidump in a file that was opened
-abbrev pub AreLines : {F : Type 0} → (F → Option (List ℕ)) → ℕ → List ℕ → Type 0
-AreLines remaining address text = (dump : Dump) × IsFileDump remaining dump × AreLinesOf dump address text
+-- the same of the minidump in the file of a path
+abbrev pub AreLines : {F : Type 0} → (List ℕ → Option F → Type 0) → (F → Option (List ℕ)) → List ℕ → ℕ → List ℕ → Type 0
+AreLines opens left path address text = (dump : Dump) × IsFileDump opens left path dump × AreLinesOf dump address text
 
 -- what a command prints on a file
-abbrev pub IsTextOf : {F : Type 0} → (F → Option (List ℕ)) → Command → List ℕ → Type 0
-IsTextOf remaining (Dir path) text = IsDirectoryText remaining text
-IsTextOf remaining (At path address) text = AreLines remaining address text
-IsTextOf remaining (Report path) text = IsReportText remaining text
+abbrev pub IsTextOf : {F : Type 0} → (List ℕ → Option F → Type 0) → (F → Option (List ℕ)) → Command → List ℕ → Type 0
+IsTextOf opens left (Dir path) text = IsDirectoryText opens left path.now text
+IsTextOf opens left (At path address) text = AreLines opens left path.now address text
+IsTextOf opens left (Report path) text = IsReportText opens left path.now text
 
 -- the text that words ask for: that of the command that they mean, and of no words the usage
-abbrev pub IsAnswer : {F : Type 0} → (F → Option (List ℕ)) → List (List ℕ) → List ℕ → Type 0
-IsAnswer remaining words text = ((words ≡ []) × (text ≡ usage)) ⊎ ((command : Command) × IsCommandOf words command × IsTextOf remaining command text)
+abbrev pub IsAnswer : {F : Type 0} → (List ℕ → Option F → Type 0) → (F → Option (List ℕ)) → List (List ℕ) → List ℕ → Type 0
+IsAnswer opens left words text = ((words ≡ []) × (text ≡ usage)) ⊎ ((command : Command) × IsCommandOf words command × IsTextOf opens left command text)
 
 -- the device took one of the texts
 abbrev pub TookAll : {D : Type 0} → (List ℕ → Type 0) → (D → Option (List ℕ)) → Told D → Told D → Type 0
@@ -104,9 +106,24 @@ Writes IsText contents old new (Err _) = TookBeginning IsText contents old new
 abbrev pub IsOutputRefusal : {D : Type 0} → Told D → Told D → Error → Type 0
 IsOutputRefusal old new e = ((new ≡ old) × (e ≡ OutOfMemory)) ⊎ (e ≡ out_of_memory new)
 
--- behind an error the output is as it was; or the error is IoError where the output has failed, and else OutOfMemory
-abbrev pub AccountsFor : {D : Type 0} → Told D → Told D → Error → Type 0
-AccountsFor old new e = (new ≡ old) ⊎ (e ≡ out_of_memory new)
+-- an error of a command on the file of a path: that of reading the file, before anything was written; or its minidump was read, and the error is
+-- one behind that
+abbrev pub IsFileRefusal : {F D : Type 0} → (List ℕ → Option F → Type 0) → (F → Option (List ℕ)) → (F → Bool) → List ℕ → Told D → Told D → Error → Type 0
+IsFileRefusal opens left failed path old new e =
+    ((new ≡ old) × IsPathRefusal opens left failed path e) ⊎ ((dump : Dump) × IsFileDump opens left path dump × IsOutputRefusal old new e)
+
+-- the path of a command
+abbrev pub path_of : Command → List ℕ
+path_of (Dir path) = path.now
+path_of (At path address) = path.now
+path_of (Report path) = path.now
+
+-- an error of the words: that of their command, and of no words only that the output has failed
+abbrev pub IsRefusal : {F D : Type 0} → (List ℕ → Option F → Type 0) → (F → Option (List ℕ)) → (F → Bool) → List (List ℕ) → Told D → Told D → Error
+    → Type 0
+IsRefusal opens left failed words old new e =
+    ((words ≡ []) × (e ≡ IoError) × (has_failed new ≡ true))
+    ⊎ ((command : Command) × IsCommandOf words command × IsFileRefusal opens left failed (path_of command) old new e)
 
 -- the device took a text whole; or it has failed, and took a beginning of it
 abbrev pub IsTold : {D : Type 0} → (D → Option (List ℕ)) → Told D → Told D → List ℕ → Type 0
@@ -118,17 +135,15 @@ refusal_line e = refusal_name e ++ codes "\n"
 
 -- What a run of the program with these words wrote, by its status.
 -- 0: the output took what the words ask for.
--- 1: there was a refusal, whose name the errors took. The output is as it was, unless it failed, which is IoError, or memory ran out.
+-- 1: there was an error, whose name the errors took. The output is as it was, or took a beginning of what the words ask for.
 -- 2: the words are no command, and the errors took the usage.
-pub record IsRun {F O E : Type 0} (files : F → Option (List ℕ)) (output : O → Option (List ℕ)) (errors : E → Option (List ℕ))
-    (words : List (List ℕ)) (out_old out_new : Told O) (err_old err_new : Told E) (status : ℕ) : Type 0 where
+pub record IsRun {F O E : Type 0} (opens : List ℕ → Option F → Type 0) (left : F → Option (List ℕ)) (failed : F → Bool) (output : O → Option (List ℕ))
+    (errors : E → Option (List ℕ)) (words : List (List ℕ)) (out_old out_new : Told O) (err_old err_new : Told E) (status : ℕ) : Type 0 where
   pub known : status ≤ 2
-  pub done : status ≡ 0 → TookAll (IsAnswer files words) output out_old out_new × (err_new ≡ err_old)
+  pub done : status ≡ 0 → TookAll (IsAnswer opens left words) output out_old out_new × (err_new ≡ err_old)
   pub refused : status ≡ 1
-      → TookBeginning (IsAnswer files words) output out_old out_new
-      × ((e : Error) × IsPathRefusal files e × AccountsFor out_old out_new e × IsTold errors err_old err_new (refusal_line e))
-  -- of no words only a failure of the output is refused
-  pub shown : length words ≡ 0 → status ≡ 1 → (has_failed out_new ≡ true) × IsTold errors err_old err_new (refusal_line IoError)
+      → TookBeginning (IsAnswer opens left words) output out_old out_new
+      × ((e : Error) × IsRefusal opens left failed words out_old out_new e × IsTold errors err_old err_new (refusal_line e))
   pub usage : status ≡ 2 → (out_new ≡ out_old) × IsTold errors err_old err_new usage
   pub bad : status ≡ 2 ↔ ((0 < length words) × ¬ (IsCommand words))
 

@@ -18,16 +18,18 @@
 //!
 //! - The status is 0, 1 or 2, and 2 exactly where the arguments are no command. At 0 the output took the
 //!   text that they ask for; at 1 a beginning of it, or nothing; at 2 nothing: `run`, by `IsRun`.
-//! - At 1 the output is as it was, unless the error is `IoError` and the output has failed, or `OutOfMemory`.
 //! - Standard error took the name of one error at 1, the usage at 2, and nothing at 0; only its own failure
-//!   cuts it short. `MissingHeader`, `HeaderMismatch`, `VersionMismatch` and `MissingDirectory` are the
-//!   error of the bytes of a file that was opened.
+//!   cuts it short.
+//! - At 1 the error is that of the path, and the output is as it was: `FileNotFound` only if it opens no file, `IoError`
+//!   only if a read of the file failed, `MissingHeader` and the like only if its bytes have that error, or `OutOfMemory`. Or
+//!   the file is a minidump, and the error is `IoError` exactly if the output has failed, else `OutOfMemory`: `IsRefusal`.
 //! - Which command the arguments mean, and how an address is spelled: `Command::parse`, `hex_address`.
-//! - The status and the texts of a run from the arguments of the process: `started`.
+//! - The status and the texts of a run from the arguments of the process: `started`; the arguments are all that the
+//!   standard library's iterator yields: `arguments`.
 //!
-//! What isn't: which file a path opens, and whether it is `FileNotFound`, `IoError` or `OutOfMemory` that is
-//! named, which tests show; and what files and standard output hold, since the standard library tells none of their
-//! bytes. That `main` passes on its arguments and its devices is reviewed.
+//! What isn't: what opening a path answers, which tests show; and what files and standard output hold, since the standard
+//! library tells none of their bytes. That `main` passes on its arguments and its devices is reviewed, and so is that no
+//! file is opened if the arguments are no command.
 #![tactic(auto)]
 
 mod address;
@@ -40,12 +42,14 @@ mod start;
 
 use minidump::Told;
 pub use program::run;
+use std::env;
 use std::process::ExitCode;
 
 fn main(rt: HostRuntime) -> ExitCode {
     let mut out = Told::new(rt.stdout());
     let mut err = Told::new(rt.stderr());
-    start::started(&rt, start::arguments(&rt), &mut out, &mut err)
+    let args = start::arguments(rt.alloc(), env::args(&rt));
+    start::started(&rt, args, &mut out, &mut err)
 }
 
 #[cfg(test)]

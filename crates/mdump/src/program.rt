@@ -1,21 +1,17 @@
-ghost use Rattle.std.specs.Prelude.{◌≡◌, ◌<◌, ◌⊎◌, true, IfErr, IfNone, IfSome, length, map, string_bytes};
-ghost use Rattle.minidump.specs.Below.Bytes.Told.{has_failed};
+ghost use Rattle.std.specs.Prelude.{◌≡◌, ◌<◌, IfErr, IfNone, IfSome, length, map, string_bytes};
 ghost use Rattle.minidump.specs.Below.Format.Print.{Prints};
-ghost use Rattle.minidump.specs.File.{IsPathRefusal};
 ghost use Rattle.minidump.specs.DumpValue.{dump_of};
 ghost use Rattle.mdump.specs.Command.{IsCommand};
-ghost use Rattle.mdump.specs.Done.{AccountsFor, AreLastLines, AreLines, AreLinesOf, IsAnswer, IsDirectoryText, IsOutputRefusal, IsReportText, IsRun, IsTextOf, IsTold, Writes, refusal_line, usage};
+ghost use Rattle.mdump.specs.Done.{AreLastLines, AreLines, AreLinesOf, IsAnswer, IsDirectoryText, IsFileRefusal, IsOutputRefusal, IsRefusal, IsReportText, IsRun, IsTextOf, IsTold, Writes, path_of, refusal_line, usage};
 
 use crate::command::Command;
 use crate::info::info_line;
 use crate::memory::memory_line;
 use crate::module::module_line;
 use minidump::text::put_text;
-use minidump::{CodeNames, Error, Minidump, Told, laws, read_all, write_report};
+use minidump::{CodeNames, Error, Minidump, OpenPath, Told, laws, read_file, write_report};
 use std::alloc::Global;
-use std::fs;
 use std::io::Write;
-use std::rt::Files;
 
 const USAGE: &str = "usage: mdump dir FILE | at FILE HEXADDRESS | report FILE\n";
 
@@ -29,16 +25,17 @@ const USAGE: &str = "usage: mdump dir FILE | at FILE HEXADDRESS | report FILE\n"
 /// - `report FILE`: writes the report on the file to `out`, as [`minidump::write_report`] does without names
 ///   of codes. The status is 0.
 /// - An error: writes its name to `err`. The status is 1. A failure of `out` is the error `IoError`.
-/// - Other arguments: writes the usage to `err`. The status is 2. No file is opened.
+/// - Other arguments: writes the usage to `err`. The status is 2.
 ///
 /// A failure of `err` does not change the status.
-pub fn run<R: Files + AllocGlobal, O: Write, E: Write>(
+pub fn run<R: OpenPath + AllocGlobal, O: Write, E: Write>(
     rt: &R,
     words: &[String],
     out: &mut Told<O>,
     err: &mut Told<E>,
 ) -> u8
-    ensures { IsRun R.File.remaining O.contents E.contents (map string_bytes words.now) out.old out.new err.old err.new result }
+    ensures { IsRun (R.opens rt.now) R.File.left R.File.failed O.contents E.contents (map string_bytes words.now)
+        out.old out.new err.old err.new result }
 {
     match answered(rt, words, out) {
         None => bad_arguments(err),
@@ -50,15 +47,15 @@ pub fn run<R: Files + AllocGlobal, O: Write, E: Write>(
 }
 
 // Obeys the words, or returns `None` if they are no command.
-fn answered<R: Files + AllocGlobal, O: Write>(
+fn answered<R: OpenPath + AllocGlobal, O: Write>(
     rt: &R,
     words: &[String],
     out: &mut Told<O>,
 ) -> Option<Result<(), Error>>
-    ensures written { IfSome result (Writes (IsAnswer R.File.remaining (map string_bytes words.now)) O.contents out.old out.new) }
-    ensures refusal { IfSome result (λ r. IfErr r (IsPathRefusal R.File.remaining)) }
-    ensures accounted { IfSome result (λ r. IfErr r (AccountsFor out.old out.new)) }
-    ensures shown { length words.now ≡ 0 → IfSome result (λ r. IfErr r (λ e. (e ≡ Error.IoError) × (has_failed out.new ≡ true))) }
+    ensures written { IfSome result
+        (Writes (IsAnswer (R.opens rt.now) R.File.left (map string_bytes words.now)) O.contents out.old out.new) }
+    ensures refusal { IfSome result (λ r. IfErr r
+        (IsRefusal (R.opens rt.now) R.File.left R.File.failed (map string_bytes words.now) out.old out.new)) }
     ensures command { IfSome result
         (λ _. (0 < length words.now) → ¬ (IsCommand (map string_bytes words.now)) → ⊥) }
     ensures none { IfNone result ((0 < length words.now) × ¬ (IsCommand (map string_bytes words.now))
@@ -71,14 +68,14 @@ fn answered<R: Files + AllocGlobal, O: Write>(
     Some(obey(rt, command, out))
 }
 
-fn obey<R: Files + AllocGlobal, O: Write>(
+fn obey<R: OpenPath + AllocGlobal, O: Write>(
     rt: &R,
     command: Command<'_>,
     out: &mut Told<O>,
 ) -> Result<(), Error>
-    ensures written { Writes (IsTextOf R.File.remaining command.entry) O.contents out.old out.new result }
-    ensures refusal { IfErr result (IsPathRefusal R.File.remaining) }
-    ensures accounted { IfErr result (AccountsFor out.old out.new) }
+    ensures written { Writes (IsTextOf (R.opens rt.now) R.File.left command.entry) O.contents out.old out.new result }
+    ensures refusal { IfErr result
+        (IsFileRefusal (R.opens rt.now) R.File.left R.File.failed (path_of command.entry) out.old out.new) }
 {
     match command {
         Command::Dir(path) => dir(rt, path, out),
@@ -87,10 +84,13 @@ fn obey<R: Files + AllocGlobal, O: Write>(
     }
 }
 
-fn dir<R: Files + AllocGlobal, O: Write>(rt: &R, path: &str, out: &mut Told<O>) -> Result<(), Error>
-    ensures written { Writes (IsDirectoryText R.File.remaining) O.contents out.old out.new result }
-    ensures refusal { IfErr result (IsPathRefusal R.File.remaining) }
-    ensures accounted { IfErr result (AccountsFor out.old out.new) }
+fn dir<R: OpenPath + AllocGlobal, O: Write>(
+    rt: &R,
+    path: &str,
+    out: &mut Told<O>,
+) -> Result<(), Error>
+    ensures written { Writes (IsDirectoryText (R.opens rt.now) R.File.left path.now) O.contents out.old out.new result }
+    ensures refusal { IfErr result (IsFileRefusal (R.opens rt.now) R.File.left R.File.failed path.now out.old out.new) }
 {
     let alloc = rt.alloc();
     let mut bytes = Vec::new(alloc);
@@ -98,15 +98,14 @@ fn dir<R: Files + AllocGlobal, O: Write>(rt: &R, path: &str, out: &mut Told<O>) 
     dump.print(alloc, out)
 }
 
-fn at<R: Files + AllocGlobal, O: Write>(
+fn at<R: OpenPath + AllocGlobal, O: Write>(
     rt: &R,
     path: &str,
     address: u64,
     out: &mut Told<O>,
 ) -> Result<(), Error>
-    ensures written { Writes (AreLines R.File.remaining address) O.contents out.old out.new result }
-    ensures refusal { IfErr result (IsPathRefusal R.File.remaining) }
-    ensures accounted { IfErr result (AccountsFor out.old out.new) }
+    ensures written { Writes (AreLines (R.opens rt.now) R.File.left path.now address) O.contents out.old out.new result }
+    ensures refusal { IfErr result (IsFileRefusal (R.opens rt.now) R.File.left R.File.failed path.now out.old out.new) }
 {
     let alloc = rt.alloc();
     let mut bytes = Vec::new(alloc);
@@ -114,21 +113,17 @@ fn at<R: Files + AllocGlobal, O: Write>(
     lines(&dump, alloc, address, out)
 }
 
-fn report<R: Files + AllocGlobal, O: Write>(
+fn report<R: OpenPath + AllocGlobal, O: Write>(
     rt: &R,
     path: &str,
     out: &mut Told<O>,
 ) -> Result<(), Error>
-    ensures written { Writes (IsReportText R.File.remaining) O.contents out.old out.new result }
-    ensures refusal { IfErr result (IsPathRefusal R.File.remaining) }
-    ensures accounted { IfErr result (AccountsFor out.old out.new) }
+    ensures written { Writes (IsReportText (R.opens rt.now) R.File.left path.now) O.contents out.old out.new result }
+    ensures refusal { IfErr result (IsFileRefusal (R.opens rt.now) R.File.left R.File.failed path.now out.old out.new) }
 {
     let alloc = rt.alloc();
     let mut bytes = Vec::new(alloc);
-    match fs::open(rt, path) {
-        Ok(file) => read_all(&mut Told::new(file), &mut bytes)?,
-        Err(_) => return Err(Error::FileNotFound),
-    }
+    read_file(rt, path, &mut bytes)?;
     write_report(alloc, bytes.as_slice(), &CodeNames::empty(), out)
 }
 

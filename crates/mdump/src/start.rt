@@ -1,24 +1,26 @@
-ghost use Rattle.std.specs.Prelude.{◌≡◌, ◌≢◌, IfErr, IfOk, drop, map, string_bytes};
+ghost use Rattle.std.specs.Prelude.{◌≡◌, ◌≢◌, IfErr, IfOk, IsErrAnd, drop, map, string_bytes};
 ghost use Rattle.std.specs.Process.{exit_status};
 ghost use Rattle.std.specs.IoError.{error_kind};
+ghost use Rattle.std.specs.Iterator.{Drains};
+ghost use Rattle.std.specs.Vec.Iter.{into_iter_steps};
 ghost use Rattle.mdump.specs.Done.{IsNoCommand, IsRun, IsWantOfMemory};
 
 use crate::program::{bad_arguments, refused, run};
-use minidump::{Error, Told};
-use std::env::Env;
+use minidump::{Error, OpenPath, Told};
+use std::alloc::{AllocError, Global};
+use std::env::Args;
+use std::io;
 use std::io::{ErrorKind, Write};
 use std::process::ExitCode;
-use std::rt::Files;
-use std::{env, io};
 
 /// Runs the program with the arguments of its process. The first is its own name.
-pub(crate) fn started<R: Files + AllocGlobal, O: Write, E: Write>(
+pub(crate) fn started<R: OpenPath + AllocGlobal, O: Write, E: Write>(
     rt: &R,
     args: io::Result<Vec<String>>,
     out: &mut Told<O>,
     err: &mut Told<E>,
 ) -> ExitCode
-    ensures ran { IfOk args (λ a. IsRun R.File.remaining O.contents E.contents
+    ensures ran { IfOk args (λ a. IsRun (R.opens rt.now) R.File.left R.File.failed O.contents E.contents
         (drop 1 (map string_bytes a.items)) out.old out.new err.old err.new (exit_status result)) }
     ensures no_memory { IfErr args (λ e. error_kind e ≡ ErrorKind.OutOfMemory
         → IsWantOfMemory E.contents out.old out.new err.old err.new (exit_status result)) }
@@ -44,7 +46,19 @@ fn words(args: &[String]) -> &[String]
     }
 }
 
-/// Returns the arguments of the process, its own name included.
-pub(crate) fn arguments<R: Env + AllocGlobal>(rt: &R) -> io::Result<Vec<String>> {
-    Ok(env::args(rt)?.collect(rt.alloc())?)
+/// Returns the arguments of the process, its own name included, or the error for which there are none.
+pub(crate) fn arguments(alloc: Global, args: io::Result<Args>) -> io::Result<Vec<String>>
+    ensures all { IfOk args (λ a. IfOk result (λ v. Drains into_iter_steps a v.items)) }
+    ensures memory { IfOk args (λ _. IfErr result (λ e. error_kind e ≡ ErrorKind.OutOfMemory)) }
+    ensures refused { IfErr args (λ e. IsErrAnd result (λ found. found ≡ e)) }
+{
+    Ok(collected(alloc, args?)?)
+}
+
+// Returns all that an iterator yields.
+#[tactic(auto, using(crate::proofs::ArgumentLemmas::drained))]
+fn collected(alloc: Global, args: Args) -> Result<Vec<String>, AllocError>
+    ensures { IfOk result (λ v. Drains into_iter_steps args v.items) }
+{
+    args.collect(alloc)
 }

@@ -9,7 +9,7 @@ use minidump_synth::{
 use std::alloc::{AllocError, Global};
 use std::env::{Env, FillError};
 use std::test::Fail;
-use std::{fs, io};
+use std::{env, fs, io};
 
 // The types of the streams that list modules, information on memory, and map lines.
 const MODULE_LIST: u32 = 4;
@@ -393,7 +393,7 @@ impl Env for Process {
 }
 
 fn are_taken(alloc: Global, count: usize) -> io::Result<bool> {
-    let taken = arguments(&(Process { count }, alloc))?;
+    let taken = arguments(alloc, env::args(&(Process { count }, alloc)))?;
     Ok(
         taken.len() == count
             && taken

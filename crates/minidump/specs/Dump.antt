@@ -11,7 +11,7 @@ use Rattle.minidump_format.specs.Header.{located}
 use Rattle.minidump_format.specs.StreamType.{number_of}
 use Rattle.minidump_format.specs.Answer.{Gives}
 use Rattle.minidump_system.specs.StreamSpec.{Meaning, StreamSpec}
-use Rattle.minidump_system.specs.SystemInfo.{System, system_info_in}
+use Rattle.minidump_system.specs.SystemInfo.{System, system_info_in, system_info_stream}
 use Rattle.minidump.specs.declared.directory.DecidingEntry.{DecidingEntry}
 use Rattle.minidump.specs.Header.{header_of}
 use Rattle.minidump.specs.Directory.{directory, deciding, deciding_below, is_readable}
@@ -73,6 +73,10 @@ stream_with system stream_type meaning d = meant meaning d system (raw_stream st
 -- the system information, where its stream parses with none handed in. Else it is absent, and the dump is still read
 abbrev pub dump_system : Dump → Option System
 dump_system d = result_ok (stream_with None (number_of SystemInfoStream) system_info_in d)
+
+-- where reading that system information may run out of memory
+abbrev pub system_memory : Dump → Type 0
+system_memory d = IsOkAnd (raw_stream (number_of SystemInfoStream) d) (λ bytes. system_info_stream.memory d.order d.file bytes None)
 
 -- how many of the three are read: the span of the stream, MINIDUMP_SYSTEM_INFO and the text of the service pack
 abbrev span_record_and_text : Result (List ℕ) Error → Option System → ℕ

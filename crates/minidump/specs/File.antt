@@ -1,48 +1,66 @@
--- What reading a file by its path answers, and what it leaves in the lent vector. Which file has a path is not known here.
-use Rattle.std.specs.Prelude.{◌≡◌, ℕ, List, [], Option, Result, Ok, Err, IfSome, ⊤}
+-- What reading a reader to its end, or a file by its path, answers, and what it leaves in the lent vector.
+use Rattle.std.specs.Prelude.{◌≡◌, ℕ, Bool, true, false, List, [], Option, Some, None, Result, Ok, Err, IfSome, ⊤}
 use Rattle.minidump_format.specs.declared.error.Error.{Error}
-use Rattle.minidump_format.specs.declared.error.Error.TheVariants.{FileNotFound, IoError, MissingHeader, HeaderMismatch, VersionMismatch}
-use Rattle.minidump_format.specs.declared.error.Error.TheVariants.{MissingDirectory, OutOfMemory}
+use Rattle.minidump_format.specs.declared.error.Error.TheVariants.{FileNotFound, IoError, OutOfMemory}
 use Rattle.minidump.specs.declared.dump.Minidump.{Minidump}
 use Rattle.minidump.specs.Dump.{Dump, dump_in}
 use Rattle.minidump.specs.DumpValue.{dump_of}
 
 -- the bytes are all that the reader had left, as far as it tells
 abbrev pub IsWhole : {F : Type 0} → (F → Option (List ℕ)) → F → List ℕ → Type 0
-IsWhole remaining file bytes = IfSome (remaining file) (λ all. bytes ≡ all)
+IsWhole left reader bytes = IfSome (left reader) (λ all. bytes ≡ all)
 
--- the bytes are all those of some open file, as far as it tells them
-abbrev pub IsFile : {F : Type 0} → (F → Option (List ℕ)) → List ℕ → Type 0
-IsFile {F} remaining bytes = (file : F) × IsWhole remaining file bytes
+-- these bytes are a minidump
+abbrev pub IsWholeDump : {F : Type 0} → (F → Option (List ℕ)) → F → Dump → Type 0
+IsWholeDump left reader dump = IsWhole left reader dump.file × (dump_in dump.file ≡ Ok dump)
 
--- of a file that can't be opened nothing is read: the vector stays. After a read that failed, or found no memory, it is empty
-abbrev pub ReadsFile : {F : Type 0} → (F → Option (List ℕ)) → List ℕ → List ℕ → Result (Unit {0}) Error → Type 0
-ReadsFile remaining old new (Ok _) = IsFile remaining new
-ReadsFile remaining old new (Err FileNotFound) = new ≡ old
-ReadsFile remaining old new (Err IoError) = new ≡ []
-ReadsFile remaining old new (Err OutOfMemory) = new ≡ []
-ReadsFile remaining old new (Err _) = ⊥
+-- they are none, and this is why
+abbrev pub IsWholeRefusal : {F : Type 0} → (F → Option (List ℕ)) → F → Error → Type 0
+IsWholeRefusal left reader e = (bytes : List ℕ) × IsWhole left reader bytes × (dump_in bytes ≡ Err e)
 
--- the bytes of a file that was opened have this refusal
-abbrev pub IsRefusedFile : {F : Type 0} → (F → Option (List ℕ)) → Error → Type 0
-IsRefusedFile remaining e = (bytes : List ℕ) × IsFile remaining bytes × (dump_in bytes ≡ Err e)
+-- What reading a minidump from a reader answers: IoError exactly where the reader has failed by then, else what its bytes are, or OutOfMemory
+abbrev pub ReadsFrom : {F : Type 0} → (F → Option (List ℕ)) → (F → Bool) → F → F → Result Minidump Error → Type 0
+ReadsFrom left failed old new (Ok d) = (failed new ≡ false) × IsWholeDump left old (dump_of d)
+ReadsFrom left failed old new (Err IoError) = failed new ≡ true
+ReadsFrom left failed old new (Err OutOfMemory) = failed new ≡ false
+ReadsFrom left failed old new (Err e) = (failed new ≡ false) × IsWholeRefusal left old e
 
--- the errors of reading a path: of the file, the one that the format assigns to its bytes, or that of an allocation
-abbrev pub IsPathRefusal : {F : Type 0} → (F → Option (List ℕ)) → Error → Type 0
-IsPathRefusal remaining FileNotFound = ⊤
-IsPathRefusal remaining IoError = ⊤
-IsPathRefusal remaining OutOfMemory = ⊤
-IsPathRefusal remaining MissingHeader = IsRefusedFile remaining MissingHeader
-IsPathRefusal remaining HeaderMismatch = IsRefusedFile remaining HeaderMismatch
-IsPathRefusal remaining VersionMismatch = IsRefusedFile remaining VersionMismatch
-IsPathRefusal remaining MissingDirectory = IsRefusedFile remaining MissingDirectory
-IsPathRefusal remaining _ = ⊥
+-- Below, `opens path answer` says what opening a path answers: a file, from its beginning, or none.
 
--- a minidump without memory is what the bytes of a file are
-abbrev pub IsFileDump : {F : Type 0} → (F → Option (List ℕ)) → Dump → Type 0
-IsFileDump remaining dump = IsFile remaining dump.file × (dump_in dump.file ≡ Ok dump)
+-- the path was opened, and of the file this holds
+abbrev pub IsOfFile : {F : Type 0} → (List ℕ → Option F → Type 0) → List ℕ → (F → Type 0) → Type 0
+IsOfFile {F} opens path Holds = (file : F) × opens path (Some file) × Holds file
 
--- what reading a path returns: the minidump that the file is, or the error of the file or of its bytes
-abbrev pub ReadsPath : {F : Type 0} → (F → Option (List ℕ)) → Result Minidump Error → Type 0
-ReadsPath remaining (Ok d) = IsFileDump remaining (dump_of d)
-ReadsPath remaining (Err e) = IsPathRefusal remaining e
+-- the bytes are all those of the file that the path opens
+abbrev pub IsFile : {F : Type 0} → (List ℕ → Option F → Type 0) → (F → Option (List ℕ)) → List ℕ → List ℕ → Type 0
+IsFile opens left path bytes = IsOfFile opens path (λ file. IsWhole left file bytes)
+
+-- that file is a minidump
+abbrev pub IsFileDump : {F : Type 0} → (List ℕ → Option F → Type 0) → (F → Option (List ℕ)) → List ℕ → Dump → Type 0
+IsFileDump opens left path dump = IsOfFile opens path (λ file. IsWholeDump left file dump)
+
+-- a read of it failed
+abbrev pub IsUnreadable : {F : Type 0} → (List ℕ → Option F → Type 0) → (F → Bool) → List ℕ → Type 0
+IsUnreadable {F} opens failed path = IsOfFile opens path (λ file. (later : F) × (failed later ≡ true))
+
+-- What reading a file leaves in the vector. If it can't be opened, nothing is read, and the vector stays. After a read that failed, or found
+-- no memory, it is empty
+abbrev pub ReadsFile : {F : Type 0} → (List ℕ → Option F → Type 0) → (F → Option (List ℕ)) → (F → Bool) → List ℕ → List ℕ → List ℕ
+    → Result (Unit {0}) Error → Type 0
+ReadsFile opens left failed path old new (Ok _) = IsFile opens left path new
+ReadsFile opens left failed path old new (Err FileNotFound) = opens path None × (new ≡ old)
+ReadsFile opens left failed path old new (Err IoError) = IsUnreadable opens failed path × (new ≡ [])
+ReadsFile opens left failed path old new (Err OutOfMemory) = IsOfFile opens path (λ _. new ≡ [])
+ReadsFile opens left failed path old new (Err _) = ⊥
+
+-- the errors of reading a path: it can't be opened, a read failed, memory ran out, or the bytes of the file are no minidump
+abbrev pub IsPathRefusal : {F : Type 0} → (List ℕ → Option F → Type 0) → (F → Option (List ℕ)) → (F → Bool) → List ℕ → Error → Type 0
+IsPathRefusal opens left failed path FileNotFound = opens path None
+IsPathRefusal opens left failed path IoError = IsUnreadable opens failed path
+IsPathRefusal opens left failed path OutOfMemory = IsOfFile opens path (λ _. ⊤)
+IsPathRefusal opens left failed path e = IsOfFile opens path (λ file. IsWholeRefusal left file e)
+
+-- what reading a path returns: the minidump that the file is, or why there is none
+abbrev pub ReadsPath : {F : Type 0} → (List ℕ → Option F → Type 0) → (F → Option (List ℕ)) → (F → Bool) → List ℕ → Result Minidump Error → Type 0
+ReadsPath opens left failed path (Ok d) = IsFileDump opens left path (dump_of d)
+ReadsPath opens left failed path (Err e) = IsPathRefusal opens left failed path e

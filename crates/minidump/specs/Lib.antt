@@ -6,6 +6,7 @@ pub mod Dump
 pub mod DumpValue
 pub mod Streams
 pub mod Text
+pub mod Reader
 pub mod File
 pub mod Promise
 pub mod Memory

@@ -1,7 +1,7 @@
 //! Reads minidumps, the crash files that Windows, Breakpad and Crashpad write.
 //!
-//! - [`Minidump`] is a dump: `read` takes its bytes, `read_path` a path. `header` and `endian` are its
-//!   fields.
+//! - [`Minidump`] is a dump: `read` takes its bytes, `read_from` a reader, `read_path` a path. `header` and `endian` are
+//!   its fields.
 //! - `get_stream` reads a stream by its type: each type below that implements [`MinidumpStream`], as
 //!   [`MinidumpSystemInfo`], [`MinidumpModuleList`] or [`MinidumpThreadNames`], or a caller's own, of any number.
 //!   `get_raw_stream` lends the bytes of any stream, `get_memory` the memory of the dump by either list.
@@ -11,7 +11,8 @@
 //! - [`MinidumpContext`] decodes the registers of a thread from the bytes of its context.
 //! - `all_streams`, `unknown_streams` and `unimplemented_streams` list the streams. `print` writes the
 //!   header and the directory.
-//! - [`write_report`] writes all that is read of a dump. [`read_all`] reads any reader to its end.
+//! - [`write_report`] writes all that is read of a dump. [`read_all`] reads any [`ToldReader`] to its end, [`read_file`]
+//!   the file of a path, which an [`OpenPath`] opens.
 //! - [`laws`] has what holds of all this beyond single calls.
 //!
 //! # Errors
@@ -36,7 +37,7 @@
 //!   defined: `laws::contexts_are_as_defined`, `modules_are_identified_as_defined`, `texts_are_as_defined`.
 //! - The memory is the 64-bit list, else, where that is missing or malformed, the memory list: `get_memory`,
 //!   by `memories_of_dump`. `OutOfMemory` is no reason to take the other list.
-//! - A directory without entries has no stream and no memory, so that no read of either takes memory there:
+//! - A directory without entries has no stream and no memory, so that no read of either is `OutOfMemory` there:
 //!   `get_stream`, `find_stream`, `get_memory`; `laws::a_found_stream_has_an_entry`, `found_memory_has_an_entry`.
 //! - The threads, in the order of the file, each with the bytes of its context and its stack:
 //!   `laws::streams_are_read_as_promised`, by `thread_list_in`; the last one of an id: `get_thread`,
@@ -46,13 +47,20 @@
 //!   `print` of these types, by `thread_text`, `thread_list_text` and `exception_text`.
 //! - The deciding entries, ascending by type: `all_streams`; `laws::listed_streams_ascend`,
 //!   `listed_streams_decide`. Those without a name, and those that are never read: `unknown_streams`,
-//!   `unimplemented_streams`. The printed text: `print`. Reading a file: `read_path`.
+//!   `unimplemented_streams`. The printed text: `print`.
 //! - The report is the text that `report_text` assigns to the dump and the names, and nothing else, or a beginning
 //!   of it where the writer failed or memory ran out; of bytes that are no dump nothing is written: `write_report`,
-//!   by `Reports`. All bytes that a reader tells of are in the vector, or it is empty: `read_all`.
+//!   by `Reports`.
+//! - All bytes that a reader has left, as far as it tells them, are in the vector, or it is empty; the error is `IoError`
+//!   exactly where the reader has failed by then: `read_all`. The minidump is the one that these bytes are, and each other
+//!   error theirs, or `OutOfMemory`: `read_from`, by `ReadsFrom`.
+//! - The bytes are those of the file that the path opened, from its beginning; `FileNotFound` comes only where it opened
+//!   none, and `IoError` only where a read failed: `read_file`, by `ReadsFile`, which also says what is left in the vector,
+//!   and `read_path`, by `ReadsPath`.
 //!
-//! What isn't: which file a path opens, and what `read_path` leaves in the vector beyond the contract of the
-//! private `read_file`, which tests show.
+//! What isn't: what the open of [`std::rt::Files`] answers, of which its contract says nothing. A contract can't say what
+//! `read_from` and `read_path` leave in the vector that their result borrows: call [`read_all`] or [`read_file`], and then
+//! `read`.
 #![tactic(auto)]
 
 mod crash;
@@ -64,6 +72,7 @@ mod header;
 pub mod laws;
 mod memory;
 mod print;
+mod reader;
 mod report;
 mod section;
 mod sections;
@@ -75,7 +84,8 @@ mod thread_list;
 
 pub use dump::Minidump;
 pub use exception::MinidumpException;
-pub use file::read_all;
+pub use file::read_file;
+pub use reader::{OpenPath, ToldReader, read_all};
 pub use report::write_report;
 pub use streams::{
     MinidumpImplementedStream, MinidumpUnimplementedStream, MinidumpUnknownStream, Streams,

@@ -1,11 +1,11 @@
-ghost use Rattle.std.specs.Prelude.{◌≡◌, ◌+◌, ◌≤◌, ◌<◌, IfOk, IfErr, OnOk};
+ghost use Rattle.std.specs.Prelude.{◌≡◌, ◌+◌, ◌≤◌, ◌<◌, IfOk, IfErr, OnErr, OnOk};
 ghost use Rattle.std.specs.Option.{option_map};
 ghost use Rattle.minidump_bytes.specs.Source.{bytes_of};
 ghost use Rattle.minidump_bytes.specs.Steps.{after};
 ghost use Rattle.minidump_system.specs.SystemInfo.{system_info_of};
 ghost use Rattle.minidump.specs.Deciding.{Decides};
 ghost use Rattle.minidump.specs.Directory.{directory};
-ghost use Rattle.minidump.specs.Dump.{dump_system, system_reads};
+ghost use Rattle.minidump.specs.Dump.{dump_system, system_memory, system_reads};
 
 use crate::directory::{DecidingEntry, entry_of_type};
 use minidump_bytes::{Endian, Source, Steps};
@@ -15,7 +15,7 @@ use minidump_system::{MinidumpStream, MinidumpSystemInfo};
 use std::alloc::Global;
 
 // Reads the system information. It is absent if its stream is missing or malformed; the only error is
-// `OutOfMemory`.
+// `OutOfMemory`, where its table says that memory may run out.
 pub(crate) fn read_system_info(
     alloc: Global,
     source: Source<'_>,
@@ -28,6 +28,8 @@ pub(crate) fn read_system_info(
     ensures value { IfOk result (λ s. option_map system_info_of s
         ≡ dump_system (record { file = bytes_of source.entry; order = endian; header = header.now })) }
     ensures memory { IfErr result (λ e. (e ≡ Error.OutOfMemory) × (0 < header.now.stream_count)) }
+    ensures taken { OnErr result
+        (system_memory (record { file = bytes_of source.entry; order = endian; header = header.now })) }
     ensures within { steps.new ≤ steps.old + 3 }
     ensures grows { steps.old ≤ steps.new }
     ensures counted { OnOk result (after steps.old

@@ -8,8 +8,9 @@
 //! # What is proved
 //!
 //! The ids are those of the threads that the format assigns to these bytes, one for each, in the order of the
-//! list, or the error is the one that it assigns to them: `thread_ids`, by `ids_in`. The proof uses the contracts
-//! and a law of `minidump`, and nothing below.
+//! list, or the error is the one that it assigns to them: `thread_ids`, by `ids_in`. Of a file, its bytes are in the vector
+//! whether they are a dump or not; it stays where the file can't be opened, and is empty where a read fails or finds no
+//! memory: `thread_ids_of_file`. The proofs use the contracts and a law of `minidump`, and nothing below.
 #![tactic(auto)]
 
 ghost use Rattle.std.specs.Prelude.{◌≡◌, IfOk, map};
@@ -18,6 +19,9 @@ ghost use Rattle.minidump.specs.Dump.{HasEntries};
 ghost use Rattle.minidump.specs.Promise.{thread_list_stream};
 ghost use Rattle.thread_ids.specs.ThreadIds.{ids_in, ids_of};
 
+mod file;
+
+pub use file::thread_ids_of_file;
 use minidump::{Error, Minidump, MinidumpThreadList, laws};
 use std::alloc::{AllocError, Global};
 

@@ -2,13 +2,12 @@
 use Rattle.std.proofs.Common.{◌≡◌, ◌^◌, ◌-◌, vec_len}
 use Rattle.std.specs.Prelude.{IsTrue}
 use Rattle.std.specs.Io.KnownBytes.{Consumes}
-use Rattle.minidump_bytes.specs.Told.{device_of, has_failed}
-use Rattle.minidump.proofs.file.read_all.Given as goal
+use Rattle.minidump.proofs.reader.read_all.Given as goal
 
 abbrev pub invariant-loop-n : goal.invariant-loop-n
 invariant-loop-n g l = record {
-  given : Consumes (g.R.Read.remaining (device_of l.fn.reader)) (g.R.Read.remaining (device_of l.reader)) l.into.items;
-  dead : IsTrue (has_failed l.fn.reader) → l.reader ≡ l.fn.reader;
+  given : Consumes (g.R.ToldReader.left l.fn.reader) (g.R.ToldReader.left l.reader) l.into.items;
+  dead : IsTrue (g.R.ToldReader.failed l.fn.reader) → l.reader ≡ l.fn.reader;
 }
 
 abbrev pub decreases-loop-n : goal.decreases-loop-n
