@@ -45,7 +45,7 @@ module _ {D F : Type 0} (contents : D → Option (List ℕ)) (old new : Told D) 
   dump_file : (dump : Dump) → IsFile opens left path bytes → dump_in bytes ≡ Ok dump → IsFileDump opens left path dump
   dump_file dump (file, is_open, whole) is =
       let same = sym (file_of bytes dump is) in
-      (file, is_open, subst (λ b. IsWhole left file b) same whole, subst (λ b. dump_in b ≡ Ok dump) same is)
+      (file, is_open, (subst (λ b. IsWhole left file b) same whole, subst (λ b. dump_in b ≡ Ok dump) same is))
 
   on : (result : Result (Unit {0}) Error) (assigned : Result Dump Error) → IsFile opens left path bytes → dump_in bytes ≡ assigned
       → ReportsOn contents old new [] result assigned → Writes (IsReportText opens left path) contents old new result
