@@ -147,7 +147,7 @@ pub mod strings {
 /// lookups.
 pub mod own_streams {
     pub use minidump_bytes::{Entries, Exact, Unread, array_at, copied, text_before_nul};
-    pub use minidump_index::{RegionList, RegionListBuilder};
+    pub use minidump_index::RegionList;
     pub use minidump_system::framing;
 }
 
