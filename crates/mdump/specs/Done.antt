@@ -102,12 +102,12 @@ abbrev pub Writes : {D : Type 0} → (List ℕ → Type 0) → (D → Option (Li
 Writes IsText contents old new (Ok _) = TookAll IsText contents old new
 Writes IsText contents old new (Err _) = TookBeginning IsText contents old new
 
--- an error behind the read of the file: memory ran out before anything was written, or it is that of a print
+-- an error after the file was read: memory ran out before anything was written, or it is that of a print
 abbrev pub IsOutputRefusal : {D : Type 0} → Told D → Told D → Error → Type 0
 IsOutputRefusal old new e = ((new ≡ old) × (e ≡ OutOfMemory)) ⊎ (e ≡ out_of_memory new)
 
 -- an error of a command on the file of a path: that of reading the file, before anything was written; or its minidump was read, and the error is
--- one behind that
+-- one after that
 abbrev pub IsFileRefusal : {F D : Type 0} → (List ℕ → Option F → Type 0) → (F → Option (List ℕ)) → (F → Bool) → List ℕ → Told D → Told D → Error → Type 0
 IsFileRefusal opens left failed path old new e =
     ((new ≡ old) × IsPathRefusal opens left failed path e) ⊎ ((dump : Dump) × IsFileDump opens left path dump × IsOutputRefusal old new e)

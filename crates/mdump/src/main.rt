@@ -22,7 +22,7 @@
 //!   cuts it short.
 //! - At 1 the error is that of the path, and the output is as it was: `FileNotFound` only if it opens no file, `IoError`
 //!   only if a read of the file failed, `MissingHeader` and the like only if its bytes have that error, or `OutOfMemory`. Or
-//!   the file is a minidump, and the error is `IoError` exactly if the output has failed, else `OutOfMemory`: `IsRefusal`.
+//!   the file is a minidump, and the error is `IoError` only if the output has failed, else `OutOfMemory`: `IsRefusal`.
 //! - Which command the arguments mean, and how an address is spelled: `Command::parse`, `hex_address`.
 //! - The status and the texts of a run from the arguments of the process: `started`; the arguments are all that the
 //!   standard library's iterator yields: `arguments`.

@@ -105,7 +105,7 @@ location_lines l = concat (
     ∷ codes "  thread_context.rva                         = " ∷ hex l.rva ∷ codes "\n"
     ∷ [])
 
--- the text in the place of a context that there is none of
+-- what is printed in the place of an absent context
 unfoldable pub no_exception_context : List ℕ
 no_exception_context = codes "  (no context)\n\n    "
 

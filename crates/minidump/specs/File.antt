@@ -39,7 +39,7 @@ IsFile opens left path bytes = IsOfFile opens path (λ file. IsWhole left file b
 abbrev pub IsFileDump : {F : Type 0} → (List ℕ → Option F → Type 0) → (F → Option (List ℕ)) → List ℕ → Dump → Type 0
 IsFileDump opens left path dump = IsOfFile opens path (λ file. IsWholeDump left file dump)
 
--- a read of it failed
+-- the path was opened, and some reader has failed: a body over any `OpenPath` knows of one only by a read
 abbrev pub IsUnreadable : {F : Type 0} → (List ℕ → Option F → Type 0) → (F → Bool) → List ℕ → Type 0
 IsUnreadable {F} opens failed path = IsOfFile opens path (λ file. (later : F) × (failed later ≡ true))
 

@@ -37,7 +37,7 @@ thread_head t = concat (
     ∷ codes "\n"
     ∷ [])
 
--- the text in the place of a context that there is none of
+-- what is printed in the place of an absent context
 unfoldable pub no_thread_context : List ℕ
 no_thread_context = codes "  (no context)\n\n"
 
@@ -68,7 +68,7 @@ words_text order width bytes = words_of order (word_bytes width) bytes
 unfoldable pub stack_heading : List ℕ
 stack_heading = codes "Stack\n"
 
--- the text in the place of a stack that there is none of
+-- what is printed in the place of an absent stack
 unfoldable pub no_stack : List ℕ
 no_stack = codes "No stack\n\n"
 

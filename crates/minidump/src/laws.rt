@@ -125,7 +125,8 @@ pub fn last_entry_decides_the_bytes()
 
 /// The last entry of a type decides what `get_stream` answers: `answer`, what the type makes of the bytes at the entry's
 /// location, or `StreamReadFailure` where that isn't in the file; `memory`, it may run out of memory only where the type does
-/// for these bytes. `none`: if no entry has the type, it is `StreamNotFound`.
+/// for these bytes. `none`: if no entry has the type, it is `StreamNotFound`, and takes
+/// no memory.
 pub fn last_entry_decides_the_stream<'a, S: MinidumpStream<'a>>()
     ensures answer { (d : Dump) (es later : List MINIDUMP_DIRECTORY) (e : MINIDUMP_DIRECTORY)
         → directory d.order d.file d.header ≡ es ++ (e ∷ later)
@@ -140,7 +141,7 @@ pub fn last_entry_decides_the_stream<'a, S: MinidumpStream<'a>>()
         → stream_memory S.spec d
         ↔ IsOkAnd (spanned (located d.file e.location)) (λ bytes. S.spec.memory d.order d.file bytes (dump_system d)) }
     ensures none { (d : Dump) → All (λ x. x.stream_type ≢ S.spec.stream_type) (directory d.order d.file d.header)
-        → stream_of S.spec d ≡ Err Error.StreamNotFound }
+        → (stream_of S.spec d ≡ Err Error.StreamNotFound) × ¬ (stream_memory S.spec d) }
 {}
 
 /// The listed streams ascend by type, so that each type is listed at most once.

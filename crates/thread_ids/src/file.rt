@@ -1,7 +1,7 @@
-ghost use Rattle.std.specs.Prelude.{◌≡◌, [], IfErr, IfOk, OnOk};
+ghost use Rattle.std.specs.Prelude.{Err, IfErr, IfOk, OnOk};
 ghost use Rattle.minidump.specs.Below.Format.Answer.{Gives};
 ghost use Rattle.minidump.specs.Dump.{HasEntries};
-ghost use Rattle.minidump.specs.File.{IsFile};
+ghost use Rattle.minidump.specs.File.{IsFile, ReadsFile};
 ghost use Rattle.thread_ids.specs.ThreadIds.{ids_in};
 
 use crate::thread_ids;
@@ -18,9 +18,8 @@ pub fn thread_ids_of_file<R: OpenPath>(
     path: &str,
     bytes: &mut Vec<u8>,
 ) -> Result<Result<Vec<u32>, Error>, Error>
-    ensures not_found { IfErr result (λ e. e ≡ Error.FileNotFound → bytes.new.items ≡ bytes.old.items) }
-    ensures failed { IfErr result (λ e. e ≡ Error.IoError → bytes.new.items ≡ []) }
-    ensures no_memory { IfErr result (λ e. e ≡ Error.OutOfMemory → bytes.new.items ≡ []) }
+    ensures refused { IfErr result (λ e. ReadsFile (R.opens rt.now) R.File.left R.File.failed path.now bytes.old.items
+        bytes.new.items (Err e)) }
     ensures read { OnOk result (IsFile (R.opens rt.now) R.File.left path.now bytes.new.items) }
     ensures ids { IfOk result (λ ids. Gives (λ v. v.items) (HasEntries bytes.new.items) ids (ids_in bytes.new.items)) }
 {

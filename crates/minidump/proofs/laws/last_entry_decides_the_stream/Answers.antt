@@ -24,4 +24,4 @@ returns-clause-memory g c d es later e is same others =
     memory_by_bytes g.S.MinidumpStream.spec d (spanned (located d.file e.location)) (bytes_are _ d es later e is same others)
 
 pub returns-clause-none : goal.returns-clause-none
-returns-clause-none g c d others = rw (deciding-none _ (directory d.order d.file d.header) others) refl
+returns-clause-none g c d others = rw (deciding-none _ (directory d.order d.file d.header) others) (refl, λ h. h)
