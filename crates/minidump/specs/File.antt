@@ -1,5 +1,6 @@
 -- What reading a reader to its end, or a file by its path, answers, and what it leaves in the lent vector.
 use Rattle.std.specs.Prelude.{◌≡◌, ℕ, Bool, true, false, List, [], Option, Some, None, Result, Ok, Err, IfSome, ⊤}
+use Rattle.std.specs.Io.KnownBytes.{Consumes}
 use Rattle.minidump_format.specs.declared.error.Error.{Error}
 use Rattle.minidump_format.specs.declared.error.Error.TheVariants.{FileNotFound, IoError, OutOfMemory}
 use Rattle.minidump.specs.declared.dump.Minidump.{Minidump}
@@ -39,9 +40,13 @@ IsFile opens left path bytes = IsOfFile opens path (λ file. IsWhole left file b
 abbrev pub IsFileDump : {F : Type 0} → (List ℕ → Option F → Type 0) → (F → Option (List ℕ)) → List ℕ → Dump → Type 0
 IsFileDump opens left path dump = IsOfFile opens path (λ file. IsWholeDump left file dump)
 
--- the path was opened, and some reader has failed: a body over any `OpenPath` knows of one only by a read
-abbrev pub IsUnreadable : {F : Type 0} → (List ℕ → Option F → Type 0) → (F → Bool) → List ℕ → Type 0
-IsUnreadable {F} opens failed path = IsOfFile opens path (λ file. (later : F) × (failed later ≡ true))
+-- what a reader has left now, it had left before, after the bytes that it gave
+abbrev pub IsLater : {F : Type 0} → (F → Option (List ℕ)) → F → F → Type 0
+IsLater left old new = (given : List ℕ) × Consumes (left old) (left new) given
+
+-- the path was opened, and the file has failed as it was read
+abbrev pub IsUnreadable : {F : Type 0} → (List ℕ → Option F → Type 0) → (F → Option (List ℕ)) → (F → Bool) → List ℕ → Type 0
+IsUnreadable {F} opens left failed path = IsOfFile opens path (λ file. (later : F) × IsLater left file later × (failed later ≡ true))
 
 -- What reading a file leaves in the vector. If it can't be opened, nothing is read, and the vector stays. After a read that failed, or found
 -- no memory, it is empty
@@ -49,14 +54,14 @@ abbrev pub ReadsFile : {F : Type 0} → (List ℕ → Option F → Type 0) → (
     → Result (Unit {0}) Error → Type 0
 ReadsFile opens left failed path old new (Ok _) = IsFile opens left path new
 ReadsFile opens left failed path old new (Err FileNotFound) = opens path None × (new ≡ old)
-ReadsFile opens left failed path old new (Err IoError) = IsUnreadable opens failed path × (new ≡ [])
+ReadsFile opens left failed path old new (Err IoError) = IsUnreadable opens left failed path × (new ≡ [])
 ReadsFile opens left failed path old new (Err OutOfMemory) = IsOfFile opens path (λ _. new ≡ [])
 ReadsFile opens left failed path old new (Err _) = ⊥
 
 -- the errors of reading a path: it can't be opened, a read failed, memory ran out, or the bytes of the file are no minidump
 abbrev pub IsPathRefusal : {F : Type 0} → (List ℕ → Option F → Type 0) → (F → Option (List ℕ)) → (F → Bool) → List ℕ → Error → Type 0
 IsPathRefusal opens left failed path FileNotFound = opens path None
-IsPathRefusal opens left failed path IoError = IsUnreadable opens failed path
+IsPathRefusal opens left failed path IoError = IsUnreadable opens left failed path
 IsPathRefusal opens left failed path OutOfMemory = IsOfFile opens path (λ _. ⊤)
 IsPathRefusal opens left failed path e = IsOfFile opens path (λ file. IsWholeRefusal left file e)
 

@@ -1,5 +1,5 @@
 ghost use Rattle.std.specs.Prelude.{◌≡◌, ◌≢◌, ◌↔◌, ℕ, Bool, List, Option, [], IfErr, IfSome, IsTrue, OnErr, OnOk, false, true};
-ghost use Rattle.minidump.specs.File.{IsWhole};
+ghost use Rattle.minidump.specs.File.{IsLater, IsWhole};
 ghost use Rattle.minidump.specs.Reader.{TakesLeft};
 
 use minidump_bytes::{Refused, Told};
@@ -67,6 +67,7 @@ impl<R: Files> OpenPath for R {
 /// reader that had failed stays as it was: `IoError`.
 pub fn read_all<R: ToldReader>(reader: &mut R, into: &mut Vec<u8>) -> Result<(), Error>
     ensures all { OnOk result (IsWhole R.left reader.old into.new.items) }
+    ensures later { IsLater R.left reader.old reader.new }
     ensures alive { OnOk result (R.failed reader.new ≡ false) }
     ensures failed { IfErr result (λ e. (e ≡ Error.IoError) ↔ (R.failed reader.new ≡ true)) }
     ensures refused { IfErr result (λ e. e ≢ Error.IoError → e ≡ Error.OutOfMemory) }
