@@ -1,5 +1,5 @@
 -- The stream is that of the minidump that was read, and memory runs out only at a directory with entries.
-use Rattle.std.proofs.Common.{◌≡◌, ◌<◌, List, ℕ}
+use Rattle.std.proofs.Common.{◌≡◌, ◌<◌, List, ℕ, refl}
 use Rattle.std.specs.Prelude.{IfErr, Result, Ok, Err}
 use Rattle.minidump.specs.declared.Error.{Error}
 use Rattle.minidump.specs.declared.Error.TheVariants.{OutOfMemory}
