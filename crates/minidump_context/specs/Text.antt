@@ -2,7 +2,8 @@
 use Rattle.std.specs.Prelude.{ℕ, List, [], ◌∷◌, ◌++◌, codes, slice_index, take}
 use Rattle.std.specs.Fmt.{decimal}
 use Rattle.std.specs.List.{concat, enumerate_from, flat_map}
-use Rattle.minidump_bytes.specs.Piece.{bytes_hex, hex, left, right}
+use Rattle.hex.specs.Hex.{encode_lower}
+use Rattle.minidump_bytes.specs.Piece.{hex, left, right}
 use Rattle.minidump_format.specs.declared.format.context.amd64.CONTEXT_AMD64.{CONTEXT_AMD64}
 use Rattle.minidump_format.specs.declared.format.context.arm.CONTEXT_ARM.{CONTEXT_ARM}
 use Rattle.minidump_format.specs.declared.format.context.arm64.CONTEXT_ARM64.{CONTEXT_ARM64}
@@ -37,7 +38,7 @@ numbered_lines front values = flat_map (λ r. register_line (front r.0) r.1) (en
 
 -- the line of a register that is many bytes, two digits each
 unfoldable pub bytes_line : List ℕ → List ℕ → List ℕ
-bytes_line front bytes = front ++ (bytes_hex bytes ++ codes "\n")
+bytes_line front bytes = front ++ (encode_lower bytes ++ codes "\n")
 
 -- CONTEXT_X86
 unfoldable pub x86_debug_lines : CONTEXT_X86 → List ℕ

@@ -1,6 +1,7 @@
 -- Lemmas on the records, for this crate and those above.
 pub mod AnswerLemmas
 pub mod Equality
+mod GuidLemmas
 pub mod FlagLemmas
 pub mod Printing
 pub mod Blocking

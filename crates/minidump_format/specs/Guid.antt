@@ -1,11 +1,11 @@
 -- A GUID, as Microsoft's guiddef.h has it, and its text.
-use Rattle.std.specs.Prelude.{ℕ, List, [], ◌∷◌, slice_index}
+use Rattle.std.specs.Prelude.{ℕ, List, ◌++◌}
+use Rattle.std.specs.Int.{to_be_bytes, w16, w32}
 use Rattle.minidump_bytes.specs.Layout.{Layout, byte_layout}
 use Rattle.minidump_bytes.specs.Number.{number_at}
 use Rattle.minidump_bytes.specs.Entries.{entries}
-use Rattle.minidump_bytes.specs.Piece.{wide_hex}
 use Rattle.minidump_format.specs.declared.format.guid.GUID.{GUID}
-use Rattle.std.specs.List.{flat_map, join_with_byte}
+use Rattle.uuid.specs.Text.{hyphenated_text, lower}
 
 -- Microsoft's GUID
 abbrev pub guid : Layout GUID
@@ -19,13 +19,14 @@ guid = record {
   };
 }
 
--- the digits of a byte of the last eight
-abbrev pub byte_hex : GUID → ℕ → List ℕ
-byte_hex g k = wide_hex 2 (slice_index g.data4 k)
+-- the 16 bytes of a GUID as RFC 9562 orders them: the highest byte of each number first
+unfoldable pub guid_bytes : GUID → List ℕ
+guid_bytes g = to_be_bytes w32 g.data1 ++ (to_be_bytes w16 g.data2 ++ (to_be_bytes w16 g.data3 ++ g.data4))
 
--- five groups of digits, 8, 4, 4, 4 and 12, with hyphens between
+-- the text of 16 bytes as RFC 9562 has it: 8, 4, 4, 4 and 12 digits in lower case, with hyphens between
+unfoldable pub uuid_text : List ℕ → List ℕ
+uuid_text bytes = hyphenated_text lower bytes
+
+-- the text of a GUID
 abbrev pub guid_text : GUID → List ℕ
-guid_text g = join_with_byte 45 (
-    wide_hex 8 g.data1 ∷ wide_hex 4 g.data2 ∷ wide_hex 4 g.data3 ∷
-    flat_map (byte_hex g) (0 ∷ 1 ∷ []) ∷
-    flat_map (byte_hex g) (2 ∷ 3 ∷ 4 ∷ 5 ∷ 6 ∷ 7 ∷ []) ∷ [])
+guid_text g = uuid_text (guid_bytes g)

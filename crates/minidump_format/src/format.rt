@@ -33,7 +33,7 @@ pub use crashpad::{
 };
 pub use exception::{MINIDUMP_EXCEPTION, MINIDUMP_EXCEPTION_STREAM};
 pub use flags::{ArmElfHwCaps, MiscInfoFlags};
-pub use guid::GUID;
+pub use guid::{GUID, uuid_of};
 pub use handle::{
     MINIDUMP_HANDLE_DESCRIPTOR, MINIDUMP_HANDLE_DESCRIPTOR_2, MINIDUMP_HANDLE_OBJECT_INFORMATION,
     MINIDUMP_HANDLE_OBJECT_INFORMATION_TYPE,

@@ -29,8 +29,8 @@
 //! - A set of flags contains a flag exactly where all of its bits are set, by its table: `Flags` of
 //!   `MiscInfoFlags`, `ArmElfHwCaps`, `MemoryProtection`, `MemoryState`, `MemoryType`, `BreakpadInfoValid`,
 //!   `ContextFlagsCpu`; `laws::flags_are_as_defined`. What their operators return, as `|`, has no contract.
-//! - The enabled features of the extended state, ascending: `XSTATE_CONFIG_FEATURE_MSC_INFO::iter`. The text
-//!   of a GUID: its `Display`.
+//! - The enabled features of the extended state, ascending: `XSTATE_CONFIG_FEATURE_MSC_INFO::iter`. The bytes
+//!   of a GUID, as RFC 9562 orders them, and its text: `uuid_of`, its `Display`.
 //! - `==` holds of the same value alone and a clone is the same value: `Exact` of each type;
 //!   `laws::large_records_are_exact` for records with long arrays or other records, and
 //!   `laws::contexts_are_copied` for contexts, which have no `==`.

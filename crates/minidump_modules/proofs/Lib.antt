@@ -2,7 +2,6 @@
 mod BreakpadLemmas
 mod FieldLemmas
 mod FoundLemmas
-mod GuidLemmas
 mod InsideLemmas
 mod KeptLemmas
 mod ListLemmas

@@ -5,7 +5,8 @@ use Rattle.std.proofs.lemmas.Bool.{ne_eqb}
 use Rattle.uuid.specs.Text.{hyphenated_text, lower}
 use Rattle.minidump_modules.specs.declared.debug_id.DebugId.{DebugId}
 use Rattle.minidump_modules.specs.declared.debug_id.Kind.TheVariants.{Guid, Stamp}
-use Rattle.minidump_modules.specs.DebugId.{appendix_text, debug_id_text, eight_upper, guid_text}
+use Rattle.minidump_modules.specs.DebugId.{appendix_text, debug_id_text, eight_upper}
+use Rattle.minidump_format.specs.Guid.{uuid_text}
 
 no_appendix : (n : ℕ) → n ≡ 0 → appendix_text n ≡ []
 no_appendix n e = rw e refl
@@ -14,12 +15,12 @@ appendix : (n : ℕ) → n ≢ 0 → appendix_text n ≡ codes "-" ++ digits 16 
 appendix n ne = rw (ne_eqb n 0 ne) refl
 
 pub shown_guid : (id : DebugId) (uuid : List ℕ) (n : ℕ) → id.kind ≡ Guid uuid n → n ≡ 0 → hyphenated_text lower uuid ≡ debug_id_text id
-unfolding guid_text
+unfolding uuid_text
 shown_guid id uuid n is zero = rw (is, no_appendix n zero, append-nil) refl
 
 pub shown_guid_with : (id : DebugId) (uuid : List ℕ) (n : ℕ) → id.kind ≡ Guid uuid n → n ≢ 0
     → hyphenated_text lower uuid ++ (codes "-" ++ digits 16 false n) ≡ debug_id_text id
-unfolding guid_text
+unfolding uuid_text
 shown_guid_with id uuid n is some = rw (is, appendix n some) refl
 
 pub shown_stamp : (id : DebugId) (stamp n : ℕ) → id.kind ≡ Stamp stamp n → n ≡ 0 → eight_upper stamp ≡ debug_id_text id

@@ -1,18 +1,13 @@
 -- Debug identifiers, as Breakpad has them: a GUID, or the time stamp of a Pdb20, with an appendix.
 use Rattle.std.specs.Prelude.{ℕ, ◌-◌, ◌++◌, ◌==◌, ◌&&◌, List, [], codes, length, take, drop, replicate, true, false, Option, None, nat_le, if◌then◌else◌}
 use Rattle.std.specs.Fmt.{digits}
-use Rattle.std.specs.Int.{to_be_bytes, w16, w32}
 use Rattle.std.specs.Option.{option_and_then, option_map}
 use Rattle.minidump_bytes.specs.Digits.{number_of_digits}
-use Rattle.uuid.specs.Text.{hyphenated_text, lower, parsed_simple}
-use Rattle.minidump_format.specs.declared.format.guid.GUID.{GUID}
+use Rattle.uuid.specs.Text.{parsed_simple}
+use Rattle.minidump_format.specs.Guid.{uuid_text}
 use Rattle.minidump_modules.specs.declared.debug_id.DebugId.{DebugId}
 use Rattle.minidump_modules.specs.declared.debug_id.Kind.{Kind}
 use Rattle.minidump_modules.specs.declared.debug_id.Kind.TheVariants.{Guid, Stamp}
-
--- the 16 bytes of a GUID as RFC 9562 orders them: the highest byte of each number first
-unfoldable pub guid_bytes : GUID → List ℕ
-guid_bytes g = to_be_bytes w32 g.data1 ++ (to_be_bytes w16 g.data2 ++ (to_be_bytes w16 g.data3 ++ g.data4))
 
 -- the identifier of a GUID and an appendix
 abbrev pub by_guid : List ℕ → ℕ → DebugId
@@ -41,13 +36,9 @@ appendix_text n = if n == 0 then [] else codes "-" ++ digits 16 false n
 abbrev pub eight_upper : ℕ → List ℕ
 eight_upper n = replicate (8 - length (digits 16 true n)) 48 ++ digits 16 true n
 
--- a GUID as it is written: 8, 4, 4, 4 and 12 digits
-unfoldable pub guid_text : List ℕ → List ℕ
-guid_text bytes = hyphenated_text lower bytes
-
 -- the text of a GUID or of a time stamp, with its appendix
 abbrev kind_text : Kind → List ℕ
-kind_text (Guid bytes appendix) = guid_text bytes ++ appendix_text appendix
+kind_text (Guid bytes appendix) = uuid_text bytes ++ appendix_text appendix
 kind_text (Stamp stamp age) = eight_upper stamp ++ appendix_text age
 
 -- the text of a debug identifier

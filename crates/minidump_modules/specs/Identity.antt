@@ -5,12 +5,12 @@ use Rattle.std.specs.List.{list_all}
 use Rattle.hex.specs.Hex.{encode_lower}
 use Rattle.uuid.specs.Parts.{is_nil_bytes}
 use Rattle.minidump_bytes.specs.declared.endian.Endian.{Endian}
-use Rattle.minidump_format.specs.Guid.{guid}
+use Rattle.minidump_format.specs.Guid.{guid, guid_bytes}
 use Rattle.minidump_system.specs.declared.os.Os.{Os}
 use Rattle.minidump_modules.specs.declared.debug_id.DebugId.{DebugId}
 use Rattle.minidump_modules.specs.CodeId.{stamp_form}
 use Rattle.minidump_modules.specs.CodeView.{View, pdb70, pdb20, elf, unknown, lossy_name}
-use Rattle.minidump_modules.specs.DebugId.{by_guid, by_stamp, guid_bytes}
+use Rattle.minidump_modules.specs.DebugId.{by_guid, by_stamp}
 use Rattle.minidump_modules.specs.Version.{is_apple, is_windows}
 
 -- all that a module is known by, and where it was in memory

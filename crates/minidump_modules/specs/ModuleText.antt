@@ -11,7 +11,8 @@ use Rattle.minidump_system.specs.Dates.{date_text_of}
 use Rattle.minidump_modules.specs.declared.debug_id.DebugId.{DebugId}
 use Rattle.minidump_modules.specs.CodeId.{stamp_form}
 use Rattle.minidump_modules.specs.CodeView.{View, pdb70, pdb20, elf, unknown, lossy_name}
-use Rattle.minidump_modules.specs.DebugId.{debug_id_text, guid_bytes, guid_text}
+use Rattle.minidump_format.specs.Guid.{guid_text}
+use Rattle.minidump_modules.specs.DebugId.{debug_id_text}
 use Rattle.minidump_modules.specs.Module.{ModuleValue, identity_of}
 use Rattle.minidump_modules.specs.UnloadedModule.{UnloadedValue}
 
@@ -116,7 +117,7 @@ digits_line label digits = concat (label ∷ digits ∷ codes "\n" ∷ [])
 
 -- the CodeView record
 abbrev pub view_text : Option View → List ℕ
-view_text (Some (pdb70 s g age name)) = pdb70_numbers s (guid_text (guid_bytes g)) age ++ pdb_name_text name
+view_text (Some (pdb70 s g age name)) = pdb70_numbers s (guid_text g) age ++ pdb_name_text name
 view_text (Some (pdb20 s offset stamp age name)) =
     pdb20_header s offset
     ++ (stamp_text (codes "  (cv_record).signature           = ") stamp (date_text_of stamp) ++ (age_text age ++ pdb_name_text name))

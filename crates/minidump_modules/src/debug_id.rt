@@ -1,11 +1,11 @@
 ghost use Rattle.std.proofs.Common.{rules};
-ghost use Rattle.std.specs.Prelude.{◌≡◌, ◌<◌, ◌++◌, All, OnOk, length};
+ghost use Rattle.std.specs.Prelude.{◌≡◌, ◌++◌, OnOk, length};
+ghost use Rattle.minidump_format.specs.Guid.{uuid_text};
 ghost use Rattle.minidump_modules.specs.ModuleText.{quoted};
-ghost use Rattle.minidump_modules.specs.DebugId.{debug_id_text, by_guid, by_stamp, from_breakpad, guid_bytes, guid_text, sixteen_bytes};
+ghost use Rattle.minidump_modules.specs.DebugId.{debug_id_text, by_guid, by_stamp, from_breakpad, sixteen_bytes};
 
 use crate::print::push_quoted;
 use minidump_bytes::{Exact, number_32};
-use minidump_format::format::GUID;
 use std::alloc::AllocError;
 use std::fmt;
 use uuid::Uuid;
@@ -105,29 +105,11 @@ pub(crate) fn push_id(out: &mut Vec<u8>, label: &'static str, id: DebugId) -> Re
 }
 
 // Writes a GUID to a buffer, in lower case with hyphens, and returns its text.
-#[tactic(auto, unfolding(crate::specs::DebugId::guid_text))]
+#[tactic(auto, unfolding(minidump_format::specs::Guid::uuid_text))]
 pub(crate) fn guid_of(uuid: Uuid, buffer: &mut [u8; 45]) -> &str
-    ensures { result.now ≡ guid_text uuid }
+    ensures { result.now ≡ uuid_text uuid }
 {
     uuid.hyphenated().encode_lower(buffer)
-}
-
-// Makes the UUID of a GUID.
-pub(crate) fn uuid_of(guid: &GUID) -> Uuid
-    ensures { result ≡ guid_bytes guid.now }
-{
-    let uuid = Uuid::from_fields(guid.data1, guid.data2, guid.data3, &guid.data4);
-    bytes_fit(uuid.as_bytes());
-    uuid
-}
-
-// Reads each byte, so that each is below 256 in the contract. It is compiled away.
-fn bytes_fit(bytes: &[u8; 16])
-    ensures { (length bytes.now ≡ 16) × All (λ b. b < 256) bytes.now }
-{
-    for i in 0..16 {
-        let _ = bytes[i];
-    }
 }
 
 // Reads the GUID of 32 digits.

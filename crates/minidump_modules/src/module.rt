@@ -6,20 +6,18 @@ ghost use Rattle.minidump_bytes.specs.Steps.{after};
 ghost use Rattle.minidump_bytes.specs.Text16.{HoldsText16, text16};
 ghost use Rattle.minidump_format.specs.Answer.{Gives};
 ghost use Rattle.minidump_format.specs.declared.error.Error.TheVariants.{CodeViewReadFailure};
-ghost use Rattle.minidump_format.specs.Guid.{guid};
-ghost use Rattle.minidump_modules.specs.DebugId.{guid_bytes};
+ghost use Rattle.minidump_format.specs.Guid.{guid, guid_bytes};
 ghost use Rattle.minidump_modules.specs.Identity.{is_blank, padded};
 ghost use Rattle.minidump_modules.specs.Module.{identity_of, new_module, module_of, module_range, module_reads, read_module, source_text};
 
 use crate::code_view::{code_view_at, lossy_name};
-use crate::debug_id::uuid_of;
 use crate::text::copied;
 use crate::version::version_of;
 use crate::{CodeId, CodeView, DebugId, Module};
 use minidump_bytes::{Endian, Record, Source, Steps};
 use minidump_format::Error;
 use minidump_format::format::{
-    GUID, MINIDUMP_LOCATION_DESCRIPTOR, MINIDUMP_MODULE, VS_FIXEDFILEINFO,
+    GUID, MINIDUMP_LOCATION_DESCRIPTOR, MINIDUMP_MODULE, VS_FIXEDFILEINFO, uuid_of,
 };
 use minidump_index::{Range, Region};
 use minidump_system::{MinidumpSystemInfo, Os};

@@ -17,7 +17,7 @@ ghost use Rattle.minidump_modules.specs.UnloadedModuleList.{unloaded_module_list
 ghost use Rattle.minidump_modules.specs.Version.{version_of};
 
 use crate::code_view::before_nul;
-use crate::debug_id::{guid_of, push_id, uuid_of};
+use crate::debug_id::{guid_of, push_id};
 use crate::module::CodeSource;
 use crate::version::version_of;
 use crate::{
@@ -26,7 +26,7 @@ use crate::{
 };
 use minidump_bytes::{Piece, Told, push_pieces};
 use minidump_format::format::{
-    CV_INFO_ELF, CV_INFO_PDB20, CV_INFO_PDB70, MINIDUMP_MODULE, VS_FIXEDFILEINFO,
+    CV_INFO_ELF, CV_INFO_PDB20, CV_INFO_PDB70, MINIDUMP_MODULE, VS_FIXEDFILEINFO, uuid_of,
 };
 use minidump_format::{Error, Pushed, print_item, print_numbered};
 use minidump_system::{Os, date_text};

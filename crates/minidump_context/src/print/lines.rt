@@ -1,11 +1,11 @@
-ghost use Rattle.std.specs.Prelude.{◌≡◌, ◌++◌, ◌∷◌, ◌/◌, ◌%◌, ℕ, [], OnOk, codes, false};
-ghost use Rattle.std.specs.Fmt.{decimal, digit_glyph};
+ghost use Rattle.std.specs.Prelude.{◌≡◌, ◌++◌, ◌∷◌, ℕ, [], OnOk, codes};
+ghost use Rattle.std.specs.Fmt.{decimal};
 ghost use Rattle.std.specs.List.{enumerate_from, flat_map};
-ghost use Rattle.minidump_bytes.specs.Piece.{bytes_hex, hex};
+ghost use Rattle.minidump_bytes.specs.Piece.{hex};
 ghost use Rattle.minidump_context.specs.Text.{bytes_line, front_text, left_front, register_line, right_front};
 
 use itoa::Buffer;
-use minidump_bytes::{Piece, last_digit, push_pieces};
+use minidump_bytes::{Piece, push_bytes, push_pieces};
 use std::alloc::AllocError;
 
 // The value of a register, 32 to 128 bits wide.
@@ -163,20 +163,4 @@ pub(crate) fn push_bytes_line(
     out.extend_from_slice(front.as_bytes())?;
     push_bytes(out, bytes)?;
     out.extend_from_slice(b"\n")
-}
-
-fn push_bytes(out: &mut Vec<u8>, bytes: &[u8]) -> Result<(), AllocError>
-    ensures { OnOk result (out.new.items ≡ out.old.items ++ bytes_hex bytes.now) }
-{
-    for byte in bytes {
-        push_byte(out, *byte)?;
-    }
-    Ok(())
-}
-
-fn push_byte(out: &mut Vec<u8>, byte: u8) -> Result<(), AllocError>
-    ensures { OnOk result (out.new.items ≡ out.old.items
-        ++ (digit_glyph false (byte / 16) ∷ digit_glyph false (byte % 16) ∷ [])) }
-{
-    out.extend_from_slice(&[last_digit(byte as u64 / 16), last_digit(byte as u64)])
 }

@@ -1,10 +1,11 @@
 ghost use Rattle.std.proofs.Common.{rules};
 ghost use Rattle.std.proofs.lemmas.Slice.Eq.{bytes_eq-Decides};
-ghost use Rattle.std.specs.Prelude.{Some};
-ghost use Rattle.minidump_format.specs.Guid.{guid_text};
+ghost use Rattle.std.specs.Prelude.{◌≡◌, ◌<◌, All, Some, length};
+ghost use Rattle.minidump_format.specs.Guid.{guid_bytes, guid_text};
 
 use minidump_bytes::{Endian, Exact, Record, array_at};
 use std::fmt;
+use uuid::Uuid;
 
 /// A globally unique identifier: Microsoft's `GUID`.
 #[derive(Clone, Copy, Debug, PartialEq, Eq)]
@@ -44,21 +45,30 @@ impl Exact for GUID {
     ghost exact = { record { equal = λ x y. ((λ h. Prim.grind (rules, bytes_eq-Decides x.data4 y.data4)), (λ h. rw h (Prim.search (rules, bytes_eq-Decides)))); copied = λ x y h. Prim.search rules } };
 }
 
+/// Makes the UUID of a GUID: the highest byte of each number comes first.
+pub fn uuid_of(guid: &GUID) -> Uuid
+    ensures { result ≡ guid_bytes guid.now }
+{
+    let uuid = Uuid::from_fields(guid.data1, guid.data2, guid.data3, &guid.data4);
+    bytes_fit(uuid.as_bytes());
+    uuid
+}
+
+// Reads each byte, so that each is below 256 in the contract. It is compiled away.
+fn bytes_fit(bytes: &[u8; 16])
+    ensures { (length bytes.now ≡ 16) × All (λ b. b < 256) bytes.now }
+{
+    for i in 0..16 {
+        let _ = bytes[i];
+    }
+}
+
 /// Formats the identifier in lower case with hyphens, as `00112233-4455-6677-8899-aabbccddeeff`.
 impl fmt::Display for GUID {
     ghost output = { λ g. Some (guid_text g) };
 
+    #[tactic(auto, unfolding(crate::specs::Guid::uuid_text))]
     fn fmt<W: fmt::Write>(&self, f: &mut fmt::Formatter<W>) -> fmt::Result {
-        let GUID {
-            data1,
-            data2,
-            data3,
-            data4,
-        } = *self;
-        write!(
-            f,
-            "{data1:08x}-{data2:04x}-{data3:04x}-{:02x}{:02x}-{:02x}{:02x}{:02x}{:02x}{:02x}{:02x}",
-            data4[0], data4[1], data4[2], data4[3], data4[4], data4[5], data4[6], data4[7]
-        )
+        fmt::Display::fmt(&uuid_of(self), f)
     }
 }

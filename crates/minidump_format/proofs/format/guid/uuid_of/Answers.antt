@@ -1,7 +1,7 @@
 -- The bytes of a UUID by the fields of the GUID.
-use Rattle.minidump_modules.specs.DebugId.{guid_bytes}
-use Rattle.minidump_modules.proofs.GuidLemmas.{guid_spells}
-use Rattle.minidump_modules.proofs.debug_id.uuid_of.Goals as goal
+use Rattle.minidump_format.specs.Guid.{guid_bytes}
+use Rattle.minidump_format.proofs.GuidLemmas.{guid_spells}
+use Rattle.minidump_format.proofs.format.guid.uuid_of.Goals as goal
 
 pub returns : goal.returns
 unfolding guid_bytes
