@@ -4,14 +4,14 @@ use Rattle.std.proofs.lemmas.Result.{err_from_is_err_and}
 use Rattle.hex.specs.Hex.{encode_lower}
 use Rattle.std.proofs.KnownBytes.{Appends-trans}
 use Rattle.minidump_bytes.proofs.ToldLemmas.{begins_on, digits_at, digits_on}
-use Rattle.minidump_bytes.proofs.byte_digits.write_bytes.Goals as goal
+use Rattle.minidump_bytes.proofs.hex_text.write_bytes.Goals as goal
 
 pub returns-in_err-put-clause-puts : goal.returns-in_err-put-clause-puts
 returns-in_err-put-clause-puts g c =
     let p = err_from_is_err_and c.from_residual.result c.from_residual.ensures.1 in
     let bytes = c.args.bytes.now in
     let i = c.loop-byte.byte-index in
-    let put = rw c.digits_of.ensures at c.in_err-put.ensures.puts in
+    let put = rw c.byte_digits.ensures at c.in_err-put.ensures.puts in
     rw p.1 (
       begins_on g.W.Write.contents c.args.f.now c.loop-byte.f c.put.new.self (encode_lower (take i bytes)) (encode_lower (get_or bytes i 0 ∷ []))
           (encode_lower (drop (i + 1) bytes)) (encode_lower bytes)
@@ -23,7 +23,7 @@ pub loop-byte-preserved : goal.loop-byte-preserved
 loop-byte-preserved g c =
     let bytes = c.args.bytes.now in
     let i = c.loop-byte.byte-index in
-    let put = rw c.digits_of.ensures at c.in_ok-put.ensures.puts in
+    let put = rw c.byte_digits.ensures at c.in_ok-put.ensures.puts in
     record {
       grown = rw (digits_on bytes i c.loop-byte-test.true) (Appends-trans _ _ _ (encode_lower (take i bytes)) _ c.loop-byte.invariant.grown put.grown);
       alive = put.alive;

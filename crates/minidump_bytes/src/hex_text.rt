@@ -17,13 +17,14 @@ pub fn write_bytes<W: Write>(f: &mut Told<W>, bytes: &[u8]) -> Result<(), Refuse
         return Err(Refused);
     }
     for byte in bytes {
-        f.put(&digits_of(*byte))?;
+        f.put(&byte_digits(*byte))?;
     }
     Ok(())
 }
 
-// Returns the two digits of a byte.
-fn digits_of(byte: u8) -> [u8; 2]
+/// Returns the two lower-case hexadecimal digits of a byte.
+#[inline]
+pub fn byte_digits(byte: u8) -> [u8; 2]
     ensures { result ≡ encode_lower (byte ∷ []) }
 {
     let mut digits = [0; 2];
