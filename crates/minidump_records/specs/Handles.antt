@@ -12,7 +12,7 @@ use Rattle.minidump_format.specs.declared.format.handle.MINIDUMP_HANDLE_DESCRIPT
 use Rattle.minidump_format.specs.declared.format.stream_type.MINIDUMP_STREAM_TYPE.TheVariants.{HandleDataStream}
 use Rattle.minidump_format.specs.declared.error.Error.{Error}
 use Rattle.minidump_format.specs.StreamType.{number_of}
-use Rattle.minidump_system.specs.Chain.{followed}
+use Rattle.minidump_system.specs.Chain.{chain_within}
 use Rattle.minidump_system.specs.StreamSpec.{StreamSpec, square}
 use Rattle.minidump_system.specs.declared.framing.HandleEntries.{HandleEntries}
 use Rattle.minidump_system.specs.declared.framing.HandleEntries.TheVariants.{Short, Long}
@@ -56,7 +56,7 @@ name_at_rva order file rva = if rva == 0 then None else text16 order rva file
 -- the offsets of the object chain from a link, each of which lies in the file: by the law `object_chain_is_the_longest` they are the one
 -- list that meets `IsChain` of `minidump_system`'s Chain.antt. An offset without a piece of information ends it, and is no error
 unfoldable pub chain_offsets : Endian → List ℕ → ℕ → List ℕ
-chain_offsets order file link = followed (information_at order file) next_of (length file) [] link
+chain_offsets order file link = chain_within (information_at order file) next_of link (length file)
 
 -- the pieces of information that stand at them
 unfoldable pub object_chain : Endian → List ℕ → ℕ → List MinidumpHandleObjectInformation

@@ -4,7 +4,8 @@ use Rattle.std.specs.Prelude.{◌||◌, not}
 use Rattle.std.specs.List.{filter_map, list_any}
 use Rattle.std.proofs.lemmas.List.Folds.{list_any-append}
 use Rattle.minidump_system.specs.Chain.{Follow}
-use Rattle.minidump_system.proofs.OneChain.{right_false, same_test}
+use Rattle.minidump_system.proofs.EachOnce.{same_test}
+use Rattle.minidump_system.proofs.OneChain.{right_false}
 
 cond_or : (a b : Bool) → cond a true b ≡ (b || a)
 cond_or true true = refl

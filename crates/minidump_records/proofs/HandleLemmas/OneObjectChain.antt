@@ -7,7 +7,7 @@ use Rattle.minidump_bytes.specs.declared.endian.Endian.{Endian}
 use Rattle.minidump_bytes.specs.Span.{record_at}
 use Rattle.minidump_format.specs.Handle.{object_information}
 use Rattle.minidump_system.specs.Chain.{IsChain}
-use Rattle.minidump_system.proofs.OneChain.{chain_is_one, followed_is_chain}
+use Rattle.minidump_system.proofs.OneChain.{chain_is_one, chain_within_is_chain}
 use Rattle.minidump_records.specs.declared.handles.information.MinidumpHandleObjectInformation.{MinidumpHandleObjectInformation}
 use Rattle.minidump_records.specs.Handles.{chain_offsets}
 use Rattle.minidump_records.specs.Handles.ObjectChain.{information_at, next_of, typed}
@@ -30,7 +30,7 @@ readable order file place i h = by_zero (place == 0) h
 -- the offsets of the chain of information on an object
 pub is_object_chain : (order : Endian) (file : List ℕ) (link : ℕ) → IsChain (information_at order file) next_of link (chain_offsets order file link)
 unfolding chain_offsets
-is_object_chain order file link = followed_is_chain (information_at order file) next_of (length file) (readable order file) link
+is_object_chain order file link = chain_within_is_chain (information_at order file) next_of (length file) (readable order file) link
 
 -- no other list is one
 pub object_chain_is_one : (order : Endian) (file : List ℕ) (link : ℕ) (other : List ℕ) → IsChain (information_at order file) next_of link other
