@@ -33,8 +33,8 @@ pair_of value p = (string_bytes p.key, value p.value)
 abbrev pub entries_of : {V W : Type 0} → (V → W) → List (String Global × V) → List (List ℕ × W)
 entries_of value es = map (λ e. (string_bytes e.0, value e.1)) es
 
--- the dictionary at a location: of entries with one key the last is kept (`dictionaries_have_the_last_values`). Each entry is read, so that a malformed one is an error also
--- where a later one has its key
+-- the dictionary at a location: of entries with one key the last is kept (`dictionaries_have_the_last_values`). Each entry is read, so that
+-- a malformed one is an error also where a later one has its key
 unfoldable pub dictionary : {R V : Type 0} → Layout R → (R → ℕ) → (Endian → List ℕ → R → Result V Error) → Endian → List ℕ → MINIDUMP_LOCATION_DESCRIPTOR
     → Result (List (List ℕ × V)) Error
 dictionary layout key value order file l = and_then (untested_list layout (keyed key value) order file l) (λ pairs. Ok (dictionary_of pairs))
