@@ -1,6 +1,7 @@
-ghost use Rattle.std.specs.Prelude.{◌≡◌};
+ghost use Rattle.std.specs.Prelude.{◌≡◌, refl};
 ghost use Rattle.minidump_bytes.specs.LinuxOsStr.{text_lines};
 ghost use Rattle.minidump_format.specs.declared.format.stream_type.MINIDUMP_STREAM_TYPE.TheVariants.{LinuxCpuInfo, LinuxEnviron, LinuxLsbRelease, LinuxProcStatus, MozLinuxLimits};
+ghost use Rattle.minidump_format.specs.StreamType.{number_of};
 
 use super::text::{LinuxFile, LinuxPairsFile, LinuxText};
 use minidump_bytes::{Lines, LinuxOsStr};
@@ -27,15 +28,15 @@ pub struct CpuInfo;
 impl LinuxFile for CpuInfo {
     ghost stream_type = { LinuxCpuInfo };
 
-    const STREAM_TYPE: u32 = 0x4767_0003;
+    ghost STREAM_TYPE = { number_of LinuxCpuInfo };
 
-    fn number_of_type() -> u32 {
-        Self::STREAM_TYPE
-    }
+    const STREAM_TYPE: u32 = 0x4767_0003;
 
     fn name_of_type() -> &'static str {
         MINIDUMP_STREAM_TYPE::LinuxCpuInfo.name()
     }
+
+    ghost numbered = { refl };
 }
 
 impl LinuxPairsFile for CpuInfo {
@@ -50,15 +51,15 @@ pub struct ProcStatus;
 impl LinuxFile for ProcStatus {
     ghost stream_type = { LinuxProcStatus };
 
-    const STREAM_TYPE: u32 = 0x4767_0004;
+    ghost STREAM_TYPE = { number_of LinuxProcStatus };
 
-    fn number_of_type() -> u32 {
-        Self::STREAM_TYPE
-    }
+    const STREAM_TYPE: u32 = 0x4767_0004;
 
     fn name_of_type() -> &'static str {
         MINIDUMP_STREAM_TYPE::LinuxProcStatus.name()
     }
+
+    ghost numbered = { refl };
 }
 
 impl LinuxPairsFile for ProcStatus {
@@ -73,15 +74,15 @@ pub struct LsbRelease;
 impl LinuxFile for LsbRelease {
     ghost stream_type = { LinuxLsbRelease };
 
-    const STREAM_TYPE: u32 = 0x4767_0005;
+    ghost STREAM_TYPE = { number_of LinuxLsbRelease };
 
-    fn number_of_type() -> u32 {
-        Self::STREAM_TYPE
-    }
+    const STREAM_TYPE: u32 = 0x4767_0005;
 
     fn name_of_type() -> &'static str {
         MINIDUMP_STREAM_TYPE::LinuxLsbRelease.name()
     }
+
+    ghost numbered = { refl };
 }
 
 impl LinuxPairsFile for LsbRelease {
@@ -96,15 +97,15 @@ pub struct Environ;
 impl LinuxFile for Environ {
     ghost stream_type = { LinuxEnviron };
 
-    const STREAM_TYPE: u32 = 0x4767_0007;
+    ghost STREAM_TYPE = { number_of LinuxEnviron };
 
-    fn number_of_type() -> u32 {
-        Self::STREAM_TYPE
-    }
+    const STREAM_TYPE: u32 = 0x4767_0007;
 
     fn name_of_type() -> &'static str {
         MINIDUMP_STREAM_TYPE::LinuxEnviron.name()
     }
+
+    ghost numbered = { refl };
 }
 
 impl LinuxPairsFile for Environ {
@@ -119,15 +120,15 @@ pub struct ProcLimits;
 impl LinuxFile for ProcLimits {
     ghost stream_type = { MozLinuxLimits };
 
-    const STREAM_TYPE: u32 = 0x4d7a_0003;
+    ghost STREAM_TYPE = { number_of MozLinuxLimits };
 
-    fn number_of_type() -> u32 {
-        Self::STREAM_TYPE
-    }
+    const STREAM_TYPE: u32 = 0x4d7a_0003;
 
     fn name_of_type() -> &'static str {
         MINIDUMP_STREAM_TYPE::MozLinuxLimits.name()
     }
+
+    ghost numbered = { refl };
 }
 
 impl<'a> LinuxText<'a, ProcLimits> {

@@ -15,16 +15,17 @@ pub trait LinuxFile {
     // the type of the stream
     ghost stream_type: { MINIDUMP_STREAM_TYPE };
 
+    ghost STREAM_TYPE: { ℕ };
+
     /// The number of the type in the directory.
     const STREAM_TYPE: u32;
-
-    /// Returns [`LinuxFile::STREAM_TYPE`], for contracts to name.
-    fn number_of_type() -> u32
-        ensures { result ≡ number_of stream_type };
 
     /// Returns the name of the type.
     fn name_of_type() -> &'static str
         ensures { result.now ≡ type_name stream_type };
+
+    // the constant is the number of the type
+    ghost numbered: { STREAM_TYPE ≡ number_of stream_type };
 }
 
 /// A file of Linux whose text is pairs of a key and a value.
@@ -89,7 +90,7 @@ impl<'a, F: LinuxFile> MinidumpStream<'a> for LinuxText<'a, F> {
     fn number_of_type() -> u32
         ensures { result ≡ number_of F.stream_type }
     {
-        F::number_of_type()
+        F::STREAM_TYPE
     }
 
     fn read(
