@@ -1,7 +1,7 @@
 -- The open handles of a process: Microsoft's MINIDUMP_HANDLE_DATA_STREAM.
 pub mod Descriptor
 pub mod ObjectChain
-use Rattle.std.specs.Prelude.{ℕ, ◌+◌, ◌==◌, List, [], ◌∷◌, ◌++◌, codes, Option, Some, None, Result, Ok, map, string_bytes, if◌then◌else◌, IsOkAnd, ◌<◌, length}
+use Rattle.std.specs.Prelude.{ℕ, ◌+◌, ◌==◌, List, [], ◌∷◌, ◌++◌, codes, Option, None, Result, Ok, map, string_bytes, if◌then◌else◌, IsOkAnd, ◌<◌, length}
 use Rattle.std.specs.List.{concat, flat_map, sum_by, filter_map}
 use Rattle.std.specs.Fmt.{decimal}
 use Rattle.std.specs.Option.{option_map, unwrap_or}
