@@ -95,8 +95,7 @@ impl<'a, R: Region> Ranked for InOrder<'a, R> {
 fn put_entries<S: Stored, E: Ranked>(tree: &mut Vec<S>, entries: &E)
     requires same { length tree.old.items ≡ length (E.entries entries.now) }
     requires fit { All S.fits (E.entries entries.now) }
-    ensures whole { length tree.new.items ≡ length tree.old.items }
-    ensures walk { walk (map S.value tree.new.items) ≡ E.entries entries.now }
+    ensures { walk (map S.value tree.new.items) ≡ E.entries entries.now }
 {
     let len = tree.len();
     let total = full(len);
@@ -114,8 +113,7 @@ fn put_entries<S: Stored, E: Ranked>(tree: &mut Vec<S>, entries: &E)
 fn tree_of_entries<E: Ranked>(alloc: Global, entries: &E, all_fit: bool) -> Result<Tree, AllocError>
     requires small { IsTrue all_fit → All FitsSmall (E.entries entries.now) }
     requires wide { length (E.entries entries.now) < 2 ^ 63 → All FitsWide (E.entries entries.now) }
-    ensures walk { IfOk result (λ tree. walk (entries_of tree) ≡ E.entries entries.now) }
-    ensures whole { IfOk result (λ tree. length (entries_of tree) ≡ length (E.entries entries.now)) }
+    ensures { IfOk result (λ tree. walk (entries_of tree) ≡ E.entries entries.now) }
 {
     if all_fit {
         let mut tree = vec![in alloc; Small::NONE; entries.count()]?;
