@@ -1,5 +1,5 @@
 -- Lists whose regions ascend: how far a list does, and that its entries as they stand are its index.
-use Rattle.std.proofs.Common.{◌≡◌, ℕ, zero, suc, ◌<◌, ◌≤◌, ◌+◌, ◌-◌, ◌^◌, ◌∙◌, List, [], ◌∷◌, length, get_or, map, arith, slice_get, subst, sym, ap, refl, inl, inr}
+use Rattle.std.proofs.Common.{◌≡◌, ℕ, zero, suc, ◌<◌, ◌≤◌, ◌+◌, ◌-◌, ◌^◌, List, [], ◌∷◌, length, get_or, map, arith, slice_get, subst, ap, refl, inl, inr}
 use Rattle.std.specs.Prelude.{Option, Some, None, All, MatchOption, IfSome}
 use Rattle.std.proofs.lemmas.List.{length-map}
 use Rattle.std.proofs.lemmas.List.Sorted.{IsPermutation-refl}
@@ -8,11 +8,11 @@ use Rattle.std.proofs.lemmas.Bool.{cases_lt}
 use Rattle.minidump_index.specs.declared.range.Range.{Range}
 use Rattle.minidump_index.specs.declared.index.Entry.{Entry}
 use Rattle.minidump_index.specs.Ascending.{AreAscending, AreAtMost, entries_from, entries_in}
-use Rattle.minidump_index.specs.Kept.{HoldsRanged, IsAscending, IsIndexOf}
+use Rattle.minidump_index.specs.Kept.{IsAscending, IsIndexOf}
 use Rattle.minidump_index.specs.Lookup.{EndsBefore}
 use Rattle.minidump_index.specs.Overlap.{HasRange}
 use Rattle.minidump_index.specs.Tree.{FitsSmall, FitsWide}
-use Rattle.minidump_index.proofs.RangedEntries.{entry, same_entry, one_range, in_list}
+use Rattle.minidump_index.proofs.RangedEntries.{entry, holds_ranged, same_entry, one_range, in_list}
 use Rattle.minidump_index.proofs.KeptEntries.{index_from}
 
 -- ---- the first places of a list
@@ -96,9 +96,6 @@ module _ (ranges : List (Option Range)) where
 here_none : (os : List (Option Range)) → ((p : ℕ) → p < length (None ∷ os) → (r : Range) × HasRange (None ∷ os) p r) → ⊥
 here_none os each = let r = each 0 (omega arith) in let there : Some None ≡ Some (Some r.0) = r.1 in cc
 
-same_some : (x r : Range) (n m : ℕ) → x ≡ r → n ≡ m → Some (entry x n) ≡ Some (entry r m)
-same_some x r n m p q = ap Some (same_entry x r n m p q)
-
 length-entries : (n : ℕ) (os : List (Option Range)) → ((p : ℕ) → p < length os → (r : Range) × HasRange os p r) → length (entries_from n os) ≡ length os
 unfolding entries_from
 length-entries n [] each = refl
@@ -109,7 +106,7 @@ entries-get : (n i m : ℕ) (os : List (Option Range)) (r : Range) → ((p : ℕ
     → slice_get (entries_from n os) i ≡ Some (entry r m)
 unfolding entries_from
 entries-get n i m [] r each e h = cc
-entries-get n zero m (Some x ∷ os) r each e h = (let there : Some (Some x) ≡ Some (Some r) = h in let is : x ≡ r = cc in same_some x r n m is (omega (arith, e)))
+entries-get n zero m (Some x ∷ os) r each e h = (let there : Some (Some x) ≡ Some (Some r) = h in let is : x ≡ r = cc in ap Some (same_entry x r n m is (omega (arith, e))))
 entries-get n (suc i) m (Some x ∷ os) r each e h = entries-get (suc n) i m os r (λ p l. each (suc p) (omega (arith, l))) (omega (arith, e)) h
 entries-get n i m (None ∷ os) r each e h = absurd (here_none os each)
 
@@ -124,14 +121,6 @@ module _ (ranges : List (Option Range)) (a : AreAscending ranges) where
   pub at_place : (i : ℕ) (r : Range) (d : Entry) → HasRange ranges i r → get_or (entries_in ranges) i d ≡ entry r i
   at_place i r d h = get_or_from_slice_get (entries_in ranges) i (entry r i) d (entry_is i r h)
 
-  holds : HoldsRanged ranges (entries_in ranges)
-  holds = λ e. (
-    (λ c. let s = a.each c.0 (omega (arith, entries_len, c.1)) in
-        let same : e ≡ entry s.0 c.0 = sym c.2 ∙ at_place c.0 s.0 e s.1 in
-        subst (λ (y : Entry). HasRange ranges y.place y.range) (sym same) s.1),
-    (λ h. (e.place, omega (arith, entries_len, in_list ranges e.place e.range h), at_place e.place e.range e h)),
-  )
-
   ascends : IsAscending (entries_in ranges)
   ascends i j d lt h =
       let r = a.each i (omega (arith, entries_len, lt, h)) in
@@ -141,7 +130,7 @@ module _ (ranges : List (Option Range)) (a : AreAscending ranges) where
   -- the entries as they stand are the index
   pub ascending_index : IsIndexOf ranges (entries_in ranges)
   ascending_index =
-      index_from ranges (entries_in ranges) (entries_in ranges) (entries_in ranges) holds (IsPermutation-refl (entries_in ranges))
+      index_from ranges (entries_in ranges) (entries_in ranges) (entries_in ranges) (holds_ranged ranges) (IsPermutation-refl (entries_in ranges))
       (record { among = λ e c. c; ascending = ascends; others = λ e c. inl c })
 
   -- ---- which entries fit

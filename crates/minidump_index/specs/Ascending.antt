@@ -10,16 +10,16 @@ pub record AreAscending (ranges : List (Option Range)) : Type 0 where
   pub each : (place : ℕ) → place < length ranges → (r : Range) × HasRange ranges place r
   pub apart : (p q : ℕ) → p < q → EndsBefore ranges p q
 
--- no range has more addresses after its first
+-- each range ends at most so many addresses after it starts
 abbrev pub AreAtMost : List (Option Range) → ℕ → Type 0
 AreAtMost ranges most = (place : ℕ) (r : Range) → HasRange ranges place r → r.end - r.start ≤ most
 
--- the ranges from index n on, each with its index in the list
+-- the entries of a list whose first place counts as n: each range, with the place where it stands
 unfoldable pub entries_from : ℕ → List (Option Range) → List Entry
 entries_from n [] = []
 entries_from n (Some r ∷ ranges) = record { range = r; place = n } ∷ entries_from (suc n) ranges
 entries_from n (None ∷ ranges) = entries_from (suc n) ranges
 
--- the ranges of a list, each with its index
+-- the entries of a list: each range, with its index
 abbrev pub entries_in : List (Option Range) → List Entry
 entries_in ranges = entries_from 0 ranges

@@ -1,9 +1,10 @@
 //! The descent of a lookup, and what makes it fast. Each form here pays from some number of kept regions on:
 //!
-//! - The search goes down a complete tree in level order, so that the upper levels share cache lines, and takes the same
-//!   steps whatever the address: one comparison a level, no branch on its result. That pays at every size.
-//! - Entries have 16 bytes where all ranges fit ([`Small`](crate::stored::Small)), so four stand in a cache line: a tenth
-//!   less at 1,000 regions, a quarter less from 100,000 on, where 24 bytes an entry ([`Wide`](crate::stored::Wide)) leave the caches.
+//! - The search goes down a complete tree in level order, so that the upper levels share cache lines. It makes one comparison
+//!   a level and no branch on its result, so it takes the same steps whatever the address, but for the last level, where
+//!   the tree may lack the place that the search comes to. That pays at every size.
+//! - Entries have 16 bytes where all ranges fit ([`Small`](crate::stored::Small)), so four stand in a cache line. Entries of
+//!   24 bytes ([`Wide`](crate::stored::Wide)) take a tenth longer at 1,000 regions, and a third longer from 100,000 on.
 //! - Entries three levels below are read in advance (`bits_below`), so that they come from memory while the levels between are
 //!   compared. It costs up to 4 ns below 10,000 regions, and saves a quarter at 100,000 and almost half at a million.
 ghost use Rattle.std.specs.Prelude.{◌≡◌, ◌+◌, ◌*◌, ◌^◌, ◌<◌, ◌≤◌, true, length, map};

@@ -46,12 +46,8 @@ fn is_in_level_order(alloc: Global, level: &[usize], ascend: bool) -> Result<boo
 fn trees_stand_in_level_order(rt: HostRuntime) {
     for level in LEVELS {
         assert!(rt;
-            is_in_level_order(rt.alloc(), level, true) == Ok(true),
-            "{}",
-            level.len()
-        );
-        assert!(rt;
-            is_in_level_order(rt.alloc(), level, false) == Ok(true),
+            is_in_level_order(rt.alloc(), level, true) == Ok(true)
+                && is_in_level_order(rt.alloc(), level, false) == Ok(true),
             "{}",
             level.len()
         );
