@@ -106,7 +106,8 @@ entries-get : (n i m : ℕ) (os : List (Option Range)) (r : Range) → ((p : ℕ
     → slice_get (entries_from n os) i ≡ Some (entry r m)
 unfolding entries_from
 entries-get n i m [] r each e h = cc
-entries-get n zero m (Some x ∷ os) r each e h = (let there : Some (Some x) ≡ Some (Some r) = h in let is : x ≡ r = cc in ap Some (same_entry x r n m is (omega (arith, e))))
+entries-get n zero m (Some x ∷ os) r each e h =
+    let there : Some (Some x) ≡ Some (Some r) = h in let is : x ≡ r = cc in ap Some (same_entry x r n m is (omega (arith, e)))
 entries-get n (suc i) m (Some x ∷ os) r each e h = entries-get (suc n) i m os r (λ p l. each (suc p) (omega (arith, l))) (omega (arith, e)) h
 entries-get n i m (None ∷ os) r each e h = absurd (here_none os each)
 

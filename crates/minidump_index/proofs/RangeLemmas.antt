@@ -20,7 +20,8 @@ same_range r s p q = same_ends r.start r.end s.start s.end r.ordered s.ordered p
 abbrev pub whole : ℕ → ℕ → Range
 whole base size = record { start = base; end = base + (size - 1); ordered = le-add_right base (size - 1) }
 
-pub tested : (base size : ℕ) (b : Bool) → (nat_lt 0 size && nat_le (base + size) (2 ^ 64)) ≡ b → range_of base size ≡ (if b then Some (whole base size) else None)
+pub tested : (base size : ℕ) (b : Bool) → (nat_lt 0 size && nat_le (base + size) (2 ^ 64)) ≡ b
+    → range_of base size ≡ (if b then Some (whole base size) else None)
 tested base size b e = ap (λ (x : Bool). if x then Some (whole base size) else None) e
 
 pub some_range : (base size : ℕ) (r : Range) → 0 < size → base + size ≤ 2 ^ 64 → r.start ≡ base → r.end ≡ base + size - 1 → Some r ≡ range_of base size
