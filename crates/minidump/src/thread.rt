@@ -69,8 +69,12 @@ impl<'a> MinidumpThread<'a> {
         self.endian
     }
 
-    /// Decodes the registers of the thread. Returns `None` if the bytes of its context are not in the
-    /// file or [`MinidumpContext::read`] refuses them. Takes no memory.
+    /// Decodes the registers of the thread. For the thread that crashed ask
+    /// [`MinidumpException::context`](crate::MinidumpException::context) first: these are its registers when the dump was
+    /// written, often within the handler of the exception.
+    ///
+    /// Returns `None` if the bytes of the context are not in the file or [`MinidumpContext::read`] refuses them. Takes no
+    /// memory.
     pub fn context(
         &self,
         system_info: &MinidumpSystemInfo,
@@ -85,7 +89,8 @@ impl<'a> MinidumpThread<'a> {
 
     /// Returns the memory of the stack: the thread's own, else the kept region of `memory_list` that
     /// contains the address where the stack begins, or `None` if no kept region does. A stack whose RVA
-    /// or size is 0, or whose bytes are not in the file, is not the thread's own.
+    /// or size is 0, or whose bytes are not in the file, is not the thread's own. The region may begin below the stack
+    /// pointer: what lies there is not in use.
     pub fn stack_memory<'mem>(
         &'mem self,
         memory_list: &'mem UnifiedMemoryList<'a>,
