@@ -20,15 +20,15 @@ const CIRCLES: &[(&str, Endian, u32)] = &[
     ("circle-of-two-big", Endian::Big, 2),
 ];
 
-/// Cuts each file, and dumps that have their directory first, to each length from 0 to their own. Writes a line for
-/// each: how many lengths there are, how many of them are dumps, and how many streams of the whole dump are read;
-/// and a line for each length where a read takes more steps than its limit.
-pub fn print_all(rt: &HostRuntime, files: &[String]) -> Result<()> {
-    println!(rt; "== cuts")?;
-    for path in files {
-        let bytes = fs::read(rt, path.as_str())?;
-        print_cuts(rt, path.as_str(), &bytes)?;
-    }
+/// Cuts a file to each length from 0 to its own. Writes a line: how many lengths there are, how many of them are dumps,
+/// and how many streams of the whole dump are read; and a line for each length where a read takes more steps than its
+/// limit.
+pub fn print_file(rt: &HostRuntime, path: &str) -> Result<()> {
+    print_cuts(rt, path, &fs::read(rt, path)?)
+}
+
+/// Does the same with dumps that have their directory first.
+pub fn print_made(rt: &HostRuntime) -> Result<()> {
     let bytes = every_stream(rt.alloc(), Endian::Little)?;
     print_cuts(rt, "every-stream", &bytes)?;
     let bytes = every_stream(rt.alloc(), Endian::Big)?;

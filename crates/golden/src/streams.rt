@@ -8,58 +8,61 @@ use minidump::{
     MinidumpSystemInfo, MinidumpThreadInfoList, MinidumpThreadList, MinidumpThreadNames,
     MinidumpUnloadedModuleList, StabilityReport,
 };
+use std::alloc::Global;
+use std::io::Write;
 
-/// Writes a line for each type of stream that a dump has and that is read: that it is well-formed, or its error.
-pub fn print_all(rt: &HostRuntime, dump: &Minidump<'_>) -> Result<()> {
-    print_answer::<MinidumpSystemInfo>(rt, dump, "SystemInfoStream")?;
-    print_answer::<MinidumpMiscInfo>(rt, dump, "MiscInfoStream")?;
-    print_lists(rt, dump)?;
-    print_records(rt, dump)?;
-    print_texts(rt, dump)
+/// Appends a line for each type of stream that a dump has and that is read: that it is well-formed, or its error.
+pub fn push_all(alloc: Global, dump: &Minidump<'_>, out: &mut Vec<u8>) -> Result<()> {
+    push_answer::<MinidumpSystemInfo>(alloc, dump, "SystemInfoStream", out)?;
+    push_answer::<MinidumpMiscInfo>(alloc, dump, "MiscInfoStream", out)?;
+    push_lists(alloc, dump, out)?;
+    push_records(alloc, dump, out)?;
+    push_texts(alloc, dump, out)
 }
 
-fn print_lists(rt: &HostRuntime, dump: &Minidump<'_>) -> Result<()> {
-    print_answer::<MinidumpThreadList<'_>>(rt, dump, "ThreadListStream")?;
-    print_answer::<MinidumpModuleList>(rt, dump, "ModuleListStream")?;
-    print_answer::<MinidumpMemoryList<'_>>(rt, dump, "MemoryListStream")?;
-    print_answer::<MinidumpMemory64List<'_>>(rt, dump, "Memory64ListStream")?;
-    print_answer::<MinidumpUnloadedModuleList>(rt, dump, "UnloadedModuleListStream")?;
-    print_answer::<MinidumpMemoryInfoList<'_>>(rt, dump, "MemoryInfoListStream")?;
-    print_answer::<MinidumpThreadInfoList>(rt, dump, "ThreadInfoListStream")?;
-    print_answer::<MinidumpThreadNames>(rt, dump, "ThreadNamesStream")?;
-    print_answer::<MinidumpHandleDataStream>(rt, dump, "HandleDataStream")
+fn push_lists(alloc: Global, dump: &Minidump<'_>, out: &mut Vec<u8>) -> Result<()> {
+    push_answer::<MinidumpThreadList<'_>>(alloc, dump, "ThreadListStream", out)?;
+    push_answer::<MinidumpModuleList>(alloc, dump, "ModuleListStream", out)?;
+    push_answer::<MinidumpMemoryList<'_>>(alloc, dump, "MemoryListStream", out)?;
+    push_answer::<MinidumpMemory64List<'_>>(alloc, dump, "Memory64ListStream", out)?;
+    push_answer::<MinidumpUnloadedModuleList>(alloc, dump, "UnloadedModuleListStream", out)?;
+    push_answer::<MinidumpMemoryInfoList<'_>>(alloc, dump, "MemoryInfoListStream", out)?;
+    push_answer::<MinidumpThreadInfoList>(alloc, dump, "ThreadInfoListStream", out)?;
+    push_answer::<MinidumpThreadNames>(alloc, dump, "ThreadNamesStream", out)?;
+    push_answer::<MinidumpHandleDataStream>(alloc, dump, "HandleDataStream", out)
 }
 
-fn print_records(rt: &HostRuntime, dump: &Minidump<'_>) -> Result<()> {
-    print_answer::<MinidumpException<'_>>(rt, dump, "ExceptionStream")?;
-    print_answer::<MinidumpBreakpadInfo>(rt, dump, "BreakpadInfoStream")?;
-    print_answer::<MinidumpAssertion>(rt, dump, "AssertionInfoStream")?;
-    print_answer::<MinidumpCrashpadInfo>(rt, dump, "CrashpadInfoStream")?;
-    print_answer::<MinidumpMacCrashInfo>(rt, dump, "MozMacosCrashInfoStream")?;
-    print_answer::<MinidumpMacBootargs>(rt, dump, "MozMacosBootargsStream")?;
-    print_answer::<StabilityReport>(rt, dump, "StabilityReportStream")
+fn push_records(alloc: Global, dump: &Minidump<'_>, out: &mut Vec<u8>) -> Result<()> {
+    push_answer::<MinidumpException<'_>>(alloc, dump, "ExceptionStream", out)?;
+    push_answer::<MinidumpBreakpadInfo>(alloc, dump, "BreakpadInfoStream", out)?;
+    push_answer::<MinidumpAssertion>(alloc, dump, "AssertionInfoStream", out)?;
+    push_answer::<MinidumpCrashpadInfo>(alloc, dump, "CrashpadInfoStream", out)?;
+    push_answer::<MinidumpMacCrashInfo>(alloc, dump, "MozMacosCrashInfoStream", out)?;
+    push_answer::<MinidumpMacBootargs>(alloc, dump, "MozMacosBootargsStream", out)?;
+    push_answer::<StabilityReport>(alloc, dump, "StabilityReportStream", out)
 }
 
-fn print_texts(rt: &HostRuntime, dump: &Minidump<'_>) -> Result<()> {
-    print_answer::<MinidumpLinuxMaps<'_>>(rt, dump, "LinuxMaps")?;
-    print_answer::<MinidumpLinuxCpuInfo<'_>>(rt, dump, "LinuxCpuInfo")?;
-    print_answer::<MinidumpLinuxProcStatus<'_>>(rt, dump, "LinuxProcStatus")?;
-    print_answer::<MinidumpLinuxLsbRelease<'_>>(rt, dump, "LinuxLsbRelease")?;
-    print_answer::<MinidumpLinuxEnviron<'_>>(rt, dump, "LinuxEnviron")?;
-    print_answer::<MinidumpLinuxProcLimits<'_>>(rt, dump, "MozLinuxLimits")?;
-    print_answer::<MinidumpSoftErrors<'_>>(rt, dump, "MozSoftErrors")
+fn push_texts(alloc: Global, dump: &Minidump<'_>, out: &mut Vec<u8>) -> Result<()> {
+    push_answer::<MinidumpLinuxMaps<'_>>(alloc, dump, "LinuxMaps", out)?;
+    push_answer::<MinidumpLinuxCpuInfo<'_>>(alloc, dump, "LinuxCpuInfo", out)?;
+    push_answer::<MinidumpLinuxProcStatus<'_>>(alloc, dump, "LinuxProcStatus", out)?;
+    push_answer::<MinidumpLinuxLsbRelease<'_>>(alloc, dump, "LinuxLsbRelease", out)?;
+    push_answer::<MinidumpLinuxEnviron<'_>>(alloc, dump, "LinuxEnviron", out)?;
+    push_answer::<MinidumpLinuxProcLimits<'_>>(alloc, dump, "MozLinuxLimits", out)?;
+    push_answer::<MinidumpSoftErrors<'_>>(alloc, dump, "MozSoftErrors", out)
 }
 
-// Writes a line for a type of stream, but nothing where the dump has no such stream.
-fn print_answer<'a, S: MinidumpStream<'a> + Drop>(
-    rt: &HostRuntime,
+// Appends a line for a type of stream, but nothing where the dump has no such stream.
+fn push_answer<'a, S: MinidumpStream<'a> + Drop>(
+    alloc: Global,
     dump: &Minidump<'a>,
     name: &str,
+    out: &mut Vec<u8>,
 ) -> Result<()> {
-    match dump.get_stream::<S>(rt.alloc()) {
-        Ok(_) => println!(rt; "{name}: ok")?,
+    match dump.get_stream::<S>(alloc) {
+        Ok(_) => writeln!(out, "{name}: ok")?,
         Err(Error::StreamNotFound) => {}
-        Err(error) => println!(rt; "{name}: {error:?}")?,
+        Err(error) => writeln!(out, "{name}: {error:?}")?,
     }
     Ok(())
 }

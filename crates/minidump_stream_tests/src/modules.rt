@@ -4,10 +4,10 @@ mod lists;
 use crate::given::Listed;
 use minidump_bytes::Endian;
 use minidump_format::Error;
-use minidump_format::format::{MINIDUMP_MODULE, MINIDUMP_UNLOADED_MODULE};
+use minidump_format::format::MINIDUMP_MODULE;
 use minidump_modules::MinidumpModule;
 use minidump_synth::SynthMinidump;
-use std::alloc::{AllocError, Global};
+use std::alloc::Global;
 
 // A module to be written: its entry but for the places, its name and its CodeView record.
 #[derive(Clone, Copy)]
@@ -43,29 +43,6 @@ impl Listed {
         }
         Ok(Listed {
             stream: dump.section().list(&list).finish()?,
-            file: dump.finish()?,
-            endian,
-        })
-    }
-
-    fn unloaded(
-        alloc: Global,
-        endian: Endian,
-        modules: &[Written<'_>],
-    ) -> Result<Listed, AllocError> {
-        let mut dump = SynthMinidump::new(alloc, endian);
-        let mut list = Vec::new(alloc);
-        for module in modules {
-            list.push(MINIDUMP_UNLOADED_MODULE {
-                base_of_image: module.base,
-                size_of_image: module.size,
-                checksum: 0,
-                time_date_stamp: STAMP,
-                module_name_rva: dump.add_text16(module.name),
-            })?;
-        }
-        Ok(Listed {
-            stream: dump.section().extended_list(12, &list).finish()?,
             file: dump.finish()?,
             endian,
         })

@@ -6,7 +6,7 @@ use minidump::{
     Told,
 };
 use minidump_synth::{
-    BOTH, FailsAt, ONE_STREAM, ONE_STREAM_TEXT, OneByte, Section, SynthMinidump, TakesNone, zeroed,
+    FailsAt, ONE_STREAM, ONE_STREAM_TEXT, OneByte, SynthMinidump, TakesNone, zeroed,
 };
 use std::alloc::{AllocError, Global};
 use std::io::Write;
@@ -27,57 +27,6 @@ fn is_too_short(alloc: Global, bytes: &[u8]) -> bool {
 #[test]
 fn refuses_short_files(rt: HostRuntime) {
     assert!(rt; is_too_short(rt.alloc(), &[]) && is_too_short(rt.alloc(), &ONE_STREAM[..31]));
-}
-
-// The signature, the version, the count of streams and the directory of a header of 32 bytes, and its error.
-#[rattlefmt::skip]
-const HEADERS: &[([u32; 4], Option<Error>)] = &[
-    ([0x504d_444d, 0xa793, 0, 0xffff_ffff], None),
-    // Half of the version is compared.
-    ([0x504d_444d, 0x1_a793, 0, 0xffff_ffff], None),
-    ([0x504d_444d, 0xa794, 0, 0xffff_ffff], Some(Error::VersionMismatch)),
-    ([0, 0xa794, 0, 0xffff_ffff], Some(Error::HeaderMismatch)),
-    // An entry that ends with the header, and one that ends a byte after it.
-    ([0x504d_444d, 0xa793, 1, 0x14], None),
-    ([0x504d_444d, 0xa793, 1, 0x15], Some(Error::MissingDirectory)),
-    // The first of more entries than any file has can't be read.
-    ([0x504d_444d, 0xa793, 0xffff_ffff, 0xffff_ffff], Some(Error::MissingDirectory)),
-];
-
-fn is_decided(
-    alloc: Global,
-    endian: Endian,
-    row: &([u32; 4], Option<Error>),
-) -> Result<bool, AllocError> {
-    let (numbers, error) = row;
-    let bytes = Section::new(alloc, endian)
-        .records(numbers)
-        .zeros(16)
-        .finish()?;
-    let mut steps = Steps::new();
-    let answer = Minidump::read_counted(alloc, &bytes, &mut steps);
-    Ok(match answer {
-        Ok(dump) => {
-            error.is_none()
-                && dump.endian == endian
-                && dump.header.version == numbers[1]
-                && dump.all_streams().count() == numbers[2] as usize
-        }
-        Err(found) => *error == Some(found) && steps.count() <= 40,
-    })
-}
-
-#[test]
-fn the_header_decides(rt: HostRuntime) {
-    for row in HEADERS {
-        for endian in BOTH {
-            assert!(rt;
-                is_decided(rt.alloc(), *endian, row) == Ok(true),
-                "of {}",
-                row.0[1]
-            );
-        }
-    }
 }
 
 // Five entries: two of type 0x11223344 (0 and 3), one of a type that is not read (1), one that is (2),

@@ -4,12 +4,10 @@ use crate::given::{counted_stream_of, stream_of};
 use minidump::format::{
     CONTEXT_ARM, MINIDUMP_EXCEPTION, MINIDUMP_EXCEPTION_STREAM, MINIDUMP_SYSTEM_INFO,
 };
-use minidump::system_info::{Cpu, Os};
 use minidump::{
-    CodeFamily, CodeNames, CrashReason, Endian, Error, MinidumpException, MinidumpStream,
-    MinidumpSystemInfo, Source, Steps, Told,
+    CodeFamily, CodeNames, CrashReason, Endian, Error, MinidumpException, MinidumpSystemInfo, Told,
 };
-use minidump_synth::{BOTH, Section, SynthMinidump, zeroed};
+use minidump_synth::{BOTH, SynthMinidump, zeroed};
 use std::alloc::{AllocError, Global};
 
 const EXCEPTION: u32 = 6;
@@ -29,44 +27,6 @@ fn exception(exception_code: u32, exception_flags: u32, count: u32) -> MINIDUMP_
             ..zeroed()
         },
         ..zeroed()
-    }
-}
-
-// A system, the code and the number of parameters of an exception, and the address of the crash.
-#[rattlefmt::skip]
-const CRASHES: &[(Os, Cpu, u32, u32, u64)] = &[
-    (Os::Windows, Cpu::X86, 0xc000_0005, 2, 0x8000_1234),
-    (Os::Windows, Cpu::X86, 0xc000_0005, 1, 0x8000_0000),
-    (Os::Windows, Cpu::X86, 0xc000_0006, 0xffff_ffff, 0x8000_1234),
-    (Os::Windows, Cpu::X86_64, 0xc000_0006, 3, 0xffff_ffff_8000_1234),
-    (Os::Windows, Cpu::X86_64, 0xc000_0005, 1, 0xffff_ffff_8000_0000),
-    (Os::Windows, Cpu::X86_64, 0xc000_0007, 2, 0xffff_ffff_8000_0000),
-    (Os::Linux, Cpu::Arm64, 0xc000_0005, 2, 0xffff_ffff_8000_0000),
-    (Os::Linux, Cpu::Arm, 11, 0, 0x8000_0000),
-    (Os::Windows, Cpu::Unknown(6), 0xc000_0005, 2, 0xffff_ffff_8000_1234),
-];
-
-fn is_address(alloc: Global, row: &(Os, Cpu, u32, u32, u64)) -> Result<bool, Error> {
-    let (os, cpu, code, count, address) = *row;
-    let stream = exception(code, 0, count);
-    let bytes = Section::new(alloc, Endian::Little)
-        .record(&stream)
-        .finish()?;
-    let read = MinidumpException::read(
-        alloc,
-        Source::new(&bytes),
-        Source::new(&[]),
-        Endian::Little,
-        None,
-        &mut Steps::new(),
-    )?;
-    Ok(read.get_crash_address(os, cpu) == address)
-}
-
-#[test]
-fn finds_the_address_of_a_crash(rt: HostRuntime) {
-    for row in CRASHES {
-        assert!(rt; is_address(rt.alloc(), row) == Ok(true));
     }
 }
 
@@ -144,24 +104,4 @@ fn tells_the_reason_of_a_crash(rt: HostRuntime) {
     for endian in BOTH {
         assert!(rt; is_told(rt.alloc(), *endian) == Some(true));
     }
-}
-
-// Whether an exception of so many bytes has a context that can be read. Its bytes are nowhere in the file.
-fn cut_exception(alloc: Global, length: usize) -> Result<bool, Error> {
-    let mut dump = SynthMinidump::new(alloc, Endian::Little);
-    let mut stream = dump.section();
-    stream.zeros(160).u32(1).u32(0xffff_ffff);
-    let whole = stream.finish()?;
-    dump.add_stream(EXCEPTION, &whole.get(..length).unwrap_or(&[]));
-    dump.add_stream(7, &[0u8; 56]);
-    let bytes = dump.finish()?;
-    let system: MinidumpSystemInfo = stream_of(alloc, &bytes)?;
-    let exception: MinidumpException = stream_of(alloc, &bytes)?;
-    Ok(exception.context(&system, None).is_some())
-}
-
-#[test]
-fn needs_the_whole_record_and_no_context(rt: HostRuntime) {
-    assert!(rt; cut_exception(rt.alloc(), 167) == Err(Error::StreamReadFailure));
-    assert!(rt; cut_exception(rt.alloc(), 168) == Ok(false));
 }

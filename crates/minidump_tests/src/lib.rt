@@ -3,8 +3,8 @@
 //!
 //! They show what no contract says: that a call succeeds where there is memory, that definitions mean the
 //! format, and what becomes of files. So each expected value is written from the format's own tables, not from a
-//! definition here. The samples of `golden` show what is printed of a dump's header, directory and streams, and
-//! how a stream is refused.
+//! definition here. The samples and the rows of `golden` show what is printed of a dump's header, directory and streams,
+//! how a stream is refused, what is at an address, and the summary of a crash.
 #![tactic(auto)]
 
 #[cfg(test)]
@@ -29,5 +29,3 @@ mod system;
 mod texts;
 #[cfg(test)]
 mod threads;
-#[cfg(test)]
-mod types;

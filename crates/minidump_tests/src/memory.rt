@@ -1,105 +1,19 @@
-//! The memory of a dump by either of its lists, and the region at an address.
+//! The memory of a dump, and the region at an address.
 
-use crate::given::{MEMORY_LIST, OUTSIDE};
 use minidump::{Endian, Error, Minidump, UnifiedMemory, UnifiedMemoryList};
-use minidump_synth::{BOTH, SynthMinidump};
+use minidump_synth::SynthMinidump;
 use region_at::region_at;
-use std::alloc::{AllocError, Global};
-
-const MEMORY64_LIST: u32 = 9;
-
-// What a dump has of a kind of list.
-#[derive(Clone, Copy)]
-enum List {
-    Missing,
-    Good,
-    Empty,
-    // It ends before its count does.
-    Short,
-    // It is a byte longer than its count says.
-    Long,
-    // Its bytes are not in the file.
-    Outside,
-}
-
-// Adds the 64 list, which has four bytes at 0x1000.
-fn add_list_64(dump: &mut SynthMinidump, list: List) {
-    match list {
-        List::Missing => {}
-        List::Good => dump.add_memory64_list(&[(0x1000, &[1, 2, 3, 4])]),
-        List::Empty => dump.add_stream(MEMORY64_LIST, &[0; 16]),
-        List::Short => dump.add_stream(MEMORY64_LIST, &[0; 15]),
-        List::Long => dump.add_stream(MEMORY64_LIST, &[0; 17]),
-        List::Outside => dump.add_entry(MEMORY64_LIST, OUTSIDE),
-    }
-}
-
-// Adds the plain list, which has two bytes at 0x1000 and one at 0x2000.
-fn add_plain_list(dump: &mut SynthMinidump, list: List) {
-    match list {
-        List::Missing => {}
-        List::Good => dump.add_memory_list(&[(0x1000, &[5, 6]), (0x2000, &[7])]),
-        List::Empty => dump.add_stream(MEMORY_LIST, &[0; 4]),
-        List::Short => dump.add_stream(MEMORY_LIST, &[0; 3]),
-        List::Long => dump.add_stream(MEMORY_LIST, &[0; 5]),
-        List::Outside => dump.add_entry(MEMORY_LIST, OUTSIDE),
-    }
-}
-
-fn dump_with(alloc: Global, list_64: List, plain: List) -> Result<Vec<u8>, AllocError> {
-    let mut dump = SynthMinidump::new(alloc, Endian::Little);
-    add_list_64(&mut dump, list_64);
-    add_plain_list(&mut dump, plain);
-    dump.finish()
-}
-
-// How many bytes the region at an address has.
-fn size_at(memory: &UnifiedMemoryList<'_>, address: u64) -> Option<u64> {
-    memory.memory_at_address(address).map(|m| m.size())
-}
-
-// How many bytes the regions at 0x1000 and 0x2000 have, where the dump has memory.
-type Sizes = Option<(Option<u64>, Option<u64>)>;
-
-fn sizes_in(alloc: Global, list_64: List, plain: List) -> Result<Sizes, Error> {
-    let bytes = dump_with(alloc, list_64, plain)?;
-    let memory = Minidump::read(alloc, &bytes)?.get_memory(alloc)?;
-    Ok(
-        memory
-            .as_ref()
-            .map(|m| (size_at(m, 0x1000), size_at(m, 0x2000))),
-    )
-}
-
-const LISTS: &[(List, List, Sizes)] = &[
-    (List::Good, List::Good, Some((Some(4), None))),
-    (List::Good, List::Missing, Some((Some(4), None))),
-    (List::Good, List::Short, Some((Some(4), None))),
-    (List::Empty, List::Good, Some((None, None))),
-    (List::Missing, List::Good, Some((Some(2), Some(1)))),
-    (List::Short, List::Good, Some((Some(2), Some(1)))),
-    (List::Long, List::Good, Some((Some(2), Some(1)))),
-    (List::Outside, List::Good, Some((Some(2), Some(1)))),
-    (List::Missing, List::Empty, Some((None, None))),
-    (List::Missing, List::Missing, None),
-    (List::Missing, List::Long, None),
-    (List::Short, List::Missing, None),
-    (List::Short, List::Short, None),
-    (List::Long, List::Outside, None),
-    (List::Outside, List::Outside, None),
-];
-
-#[test]
-fn takes_the_64_list_before_the_plain_list(rt: HostRuntime) {
-    for (list_64, plain, sizes) in LISTS {
-        assert!(rt; sizes_in(rt.alloc(), *list_64, *plain) == Ok(*sizes));
-    }
-}
+use std::alloc::Global;
 
 const REGIONS: &[(u64, &[u8])] = &[
     (0x309d_6801_0bd2_1b2c, b"memory_contents"),
     (0x1234, b"another_block"),
 ];
+
+// How many bytes the region at an address has.
+fn size_at(memory: &UnifiedMemoryList<'_>, address: u64) -> Option<u64> {
+    memory.memory_at_address(address).map(|m| m.size())
+}
 
 // Tells whether a region is this one, of a 64 list.
 fn is_region(found: UnifiedMemory<'_, '_>, region: &(u64, &[u8])) -> bool {

@@ -1,9 +1,9 @@
 //! The system information of a dump.
 
-use crate::given::{counted_stream_of, dump_of, stream_of};
+use crate::given::{counted_stream_of, stream_of};
 use minidump::format::MINIDUMP_SYSTEM_INFO;
 use minidump::system_info::{Cpu, Os};
-use minidump::{Endian, Error, MinidumpMiscInfo, MinidumpSystemInfo};
+use minidump::{Endian, Error, MinidumpSystemInfo};
 use minidump_synth::{BOTH, SynthMinidump, zeroed};
 use std::alloc::{AllocError, Global};
 
@@ -60,20 +60,7 @@ fn has_no_service_pack(alloc: Global) -> Result<bool, Error> {
     Ok(system.csd_version().is_none() && system.os_parts(alloc)?.1.is_none())
 }
 
-// A dump of a system information that is too short can be read: it has other streams, or none.
-fn keeps_the_dump(alloc: Global) -> Result<bool, AllocError> {
-    let bytes = dump_of(alloc, SYSTEM_INFO, &[0; 55])?;
-    let system: Result<MinidumpSystemInfo, Error> = stream_of(alloc, &bytes);
-    let misc: Result<MinidumpMiscInfo, Error> = stream_of(alloc, &bytes);
-    Ok(system.err() == Some(Error::StreamReadFailure) && misc.err() == Some(Error::StreamNotFound))
-}
-
 #[test]
 fn has_no_service_pack_at_the_beginning(rt: HostRuntime) {
     assert!(rt; has_no_service_pack(rt.alloc()) == Ok(true));
-}
-
-#[test]
-fn keeps_a_dump_whose_system_is_refused(rt: HostRuntime) {
-    assert!(rt; keeps_the_dump(rt.alloc()) == Ok(true));
 }

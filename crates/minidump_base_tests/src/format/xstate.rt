@@ -1,47 +1,4 @@
-use minidump_format::format::{XSTATE_CONFIG_FEATURE_MSC_INFO, XSTATE_FEATURE, XstateFeatureIndex};
-
-// A configuration whose feature number i is at offset i, of size 100 + i.
-fn config(enabled_features: u64) -> XSTATE_CONFIG_FEATURE_MSC_INFO {
-    let mut features = [XSTATE_FEATURE { offset: 0, size: 0 }; 64];
-    for i in 0..64 {
-        features[i] = feature(i);
-    }
-    XSTATE_CONFIG_FEATURE_MSC_INFO {
-        size_of_info: 528,
-        context_size: 960,
-        enabled_features,
-        features,
-    }
-}
-
-fn feature(index: usize) -> XSTATE_FEATURE {
-    XSTATE_FEATURE {
-        offset: (index % 64) as u32,
-        size: 100 + (index % 64) as u32,
-    }
-}
-
-// Whether the enabled features are those, in that order.
-fn are_enabled(bits: u64, indices: &[usize]) -> bool {
-    let config = config(bits);
-    let mut enabled = config.iter();
-    indices
-        .iter()
-        .all(|index| enabled.next() == Some((*index, feature(*index))))
-        && enabled.next() == None
-        && enabled.next() == None
-}
-
-fn all_are_enabled() -> bool {
-    let config = config(u64::MAX);
-    let mut enabled = config.iter();
-    (0..64).all(|index| enabled.next() == Some((index, feature(index)))) && enabled.next() == None
-}
-
-#[test]
-fn lists_enabled_features(rt: HostRuntime) {
-    assert!(rt; are_enabled(0x4000_0000_0000_0005, &[0, 2, 62]) && all_are_enabled());
-}
+use minidump_format::format::XstateFeatureIndex;
 
 // Each feature with its index and its name.
 #[rattlefmt::skip]

@@ -1,25 +1,6 @@
 use minidump_format::Error;
-use minidump_system::{Cpu, Os, PointerWidth, date_text};
+use minidump_system::{Cpu, Os, PointerWidth};
 use std::alloc::Global;
-
-// Seconds since 1970, and their date.
-#[rattlefmt::skip]
-const DATES: &[(u32, &str)] = &[
-    (0xb105_4d2a, "2064-02-11T00:17:46Z"),
-    (0, "1970-01-01T00:00:00Z"),
-    (0xffff_ffff, "2106-02-07T06:28:15Z"),
-];
-
-fn date_is(alloc: Global, row: &(u32, &str)) -> Result<bool, Error> {
-    Ok(date_text(alloc, row.0)?.as_str() == row.1)
-}
-
-#[test]
-fn shows_dates(rt: HostRuntime) {
-    for row in DATES {
-        assert!(rt; date_is(rt.alloc(), row) == Ok(true), "{}", row.0);
-    }
-}
 
 // The number of a platform, its system, its name and its long name.
 #[rattlefmt::skip]

@@ -2,7 +2,7 @@ use crate::given::read_in;
 use bitflags::Flags;
 use minidump_bytes::{Endian, Steps};
 use minidump_format::Error;
-use minidump_format::format::{MINIDUMP_MEMORY_INFO, MemoryProtection, MemoryState, MemoryType};
+use minidump_format::format::MINIDUMP_MEMORY_INFO;
 use minidump_index::{Range, Region};
 use minidump_memory::{
     MinidumpLinuxMaps, MinidumpMemoryInfo, MinidumpMemoryInfoList, UnifiedMemoryInfoList,
@@ -37,28 +37,9 @@ fn finds_the_lines(alloc: Global) -> Result<bool, Error> {
     Ok(steps.count() == 4 && list.memory_map_count() == 3 && INODES.iter().all(found))
 }
 
-// Maps, and how many lines they have.
-#[rattlefmt::skip]
-const MAPS: &[(&[u8], Result<usize, Error>)] = &[
-    (b"", Ok(0)),
-    (b"1-2 r 0 0:0 1 \n2-3  0 0:0 1 ", Ok(2)),
-    (b"\n", Err(Error::StreamReadFailure)),
-    (b"1-2 r 0 0:0 1 \n\n", Err(Error::StreamReadFailure)),
-    (b"1-2 r 0 0:0 1 \nSize: 4 kB\n", Err(Error::StreamReadFailure)),
-    (b"1-2 r 0 0:0 1 \n2-3 r 0 0:0 1", Err(Error::StreamReadFailure)),
-    (b"1-2 r 0 0:0 1 \xff\n", Err(Error::StreamReadFailure)),
-];
-
-fn count_of(alloc: Global, text: &[u8]) -> Result<usize, Error> {
-    Ok(maps(alloc, text, &mut Steps::new())?.memory_map_count())
-}
-
 #[test]
 fn maps_have_a_region_for_each_line(rt: HostRuntime) -> Result<(), Fail> {
     assert!(rt; finds_the_lines(rt.alloc())?);
-    for (text, want) in MAPS {
-        assert!(rt; count_of(rt.alloc(), text) == *want, "{text:?}");
-    }
     Ok(())
 }
 
@@ -125,35 +106,6 @@ fn a_protection_says_what_its_region_allows(rt: HostRuntime) -> Result<(), Fail>
     for row in ACCESS {
         assert!(rt; allows(rt.alloc(), row)?, "of {}", row.0);
     }
-    Ok(())
-}
-
-// A list of one entry, byte by byte. Each set has another value, and a bit without a name.
-#[rattlefmt::skip]
-const ONE: &[u8] = &[
-    0, 0, 0, 12, 0, 0, 0, 48, 0, 0, 0, 1,
-    0, 0, 0, 0, 0, 0, 0x10, 0, 0, 0, 0, 0, 0, 0, 0x20, 0,
-    0x10, 0, 0, 0x40, 1, 1, 1, 1, 0, 0, 0, 0, 0, 0, 0x30, 0,
-    0x20, 0, 0x20, 0, 0x40, 0, 1, 0x02, 0x80, 4, 0, 0, 2, 2, 2, 2,
-];
-
-fn has_its_sets(info: &MinidumpMemoryInfo<'_>) -> bool {
-    info.allocation_protection == MemoryProtection::PAGE_EXECUTE_READWRITE
-        && info.state == MemoryState::MEM_RESERVE
-        && info.protection == MemoryProtection::PAGE_READONLY | MemoryProtection::PAGE_GUARD
-        && info.ty == MemoryType::MEM_MAPPED
-        && info.raw.allocation_base == 0x2000
-        && info.memory_range() == Some(Range::new(0x1000, 0x3fff))
-}
-
-fn has_four_sets(alloc: Global) -> Result<bool, Error> {
-    let list = infos(alloc, ONE, Endian::Big, &mut Steps::new())?;
-    Ok(list.iter().next().is_some_and(has_its_sets))
-}
-
-#[test]
-fn information_has_four_sets_of_flags(rt: HostRuntime) -> Result<(), Fail> {
-    assert!(rt; has_four_sets(rt.alloc())?);
     Ok(())
 }
 

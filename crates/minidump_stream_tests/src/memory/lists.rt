@@ -1,11 +1,10 @@
-use super::regions::described;
 use super::{region, region_64};
-use crate::given::{Listed, read_in};
+use crate::given::Listed;
 use minidump_bytes::{Endian, Steps};
 use minidump_format::Error;
 use minidump_index::Range;
 use minidump_memory::{MinidumpMemory64List, MinidumpMemoryList, UnifiedMemoryList};
-use minidump_synth::{BOTH, OVERLAPPING, Section};
+use minidump_synth::{BOTH, OVERLAPPING};
 use std::alloc::{AllocError, Global};
 use std::test::Fail;
 
@@ -155,86 +154,6 @@ fn lists_are_made_by_hand(rt: HostRuntime) -> Result<(), Fail> {
     assert!(rt; plain_by_hand(rt.alloc())? && long_by_hand(rt.alloc())?);
     assert!(rt; new_ones_have_none(rt.alloc())?);
     Ok(())
-}
-
-// Descriptors by base, place and size. Three of them have no bytes in the file, and three do.
-#[rattlefmt::skip]
-const SIX: &[(u64, u32, u32)] = &[
-    (0x7000, 0, 2), (0x3000, 1, 2), (0x6000, 5, 0), (0x1000, 5, 3), (0x5000, 5, 4), (0x2000, 7, 1),
-];
-
-fn skips_three(alloc: Global) -> Result<bool, Error> {
-    let mut entries = Vec::new(alloc);
-    for (base, rva, data_size) in SIX {
-        entries.push(described(*base, *rva, *data_size))?;
-    }
-    let stream = Section::new(alloc, Endian::Little).list(&entries).finish()?;
-    let list: MinidumpMemoryList = read_in(
-        alloc,
-        &stream,
-        FILE,
-        Endian::Little,
-        &mut Steps::new(),
-    )?;
-    let list = UnifiedMemoryList::Memory(list);
-    Ok(has(
-        alloc,
-        &list,
-        &[0x3000, 0x1000, 0x2000],
-        &[0x1000, 0x2000, 0x3000],
-    )?)
-}
-
-#[test]
-fn regions_without_bytes_in_the_file_are_skipped(rt: HostRuntime) -> Result<(), Fail> {
-    assert!(rt; skips_three(rt.alloc())?);
-    Ok(())
-}
-
-// A place in the file of eight bytes, the sizes of the regions from there on, and how many regions there are, and have
-// addresses.
-#[rattlefmt::skip]
-const PLACED: &[(u64, &[u64], Result<(usize, usize), Error>)] = &[
-    (0, &[], Ok((0, 0))),
-    (9, &[], Ok((0, 0))),
-    (u64::MAX, &[], Ok((0, 0))),
-    (8, &[0], Ok((1, 0))),
-    (1, &[3, 4], Ok((2, 2))),
-    (9, &[0], Err(Error::StreamReadFailure)),
-    (u64::MAX, &[0], Err(Error::StreamReadFailure)),
-    (u64::MAX, &[2], Err(Error::StreamReadFailure)),
-    (1, &[3, 5], Err(Error::StreamReadFailure)),
-    (1, &[8, 0], Err(Error::StreamReadFailure)),
-    (1, &[3, u64::MAX], Err(Error::StreamReadFailure)),
-];
-
-fn counts_of(
-    alloc: Global,
-    endian: Endian,
-    rva: u64,
-    sizes: &[u64],
-) -> Result<(usize, usize), Error> {
-    let mut stream = Section::new(alloc, endian);
-    stream.u64(sizes.len() as u64).u64(rva);
-    for size in sizes {
-        stream.u64(0x1000).u64(*size);
-    }
-    let stream = stream.finish()?;
-    let list: MinidumpMemory64List = read_in(alloc, &stream, FILE, endian, &mut Steps::new())?;
-    let placed = list.iter().filter(|m| m.memory_range().is_some());
-    Ok((list.iter().count(), placed.count()))
-}
-
-#[test]
-fn the_bytes_of_a_64_list_are_in_the_file(rt: HostRuntime) {
-    for (rva, sizes, want) in PLACED {
-        for endian in BOTH {
-            assert!(rt;
-                counts_of(rt.alloc(), *endian, *rva, sizes) == *want,
-                "at {rva}"
-            );
-        }
-    }
 }
 
 // The bytes at an address of a list that is let go of.

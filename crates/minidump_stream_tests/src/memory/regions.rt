@@ -11,7 +11,7 @@ use std::test::Fail;
 const FILE: &[u8] = &[0, 1, 2, 3, 4, 5, 6, 7];
 
 // The descriptor of a region of so many bytes at a place of the file.
-pub(super) fn described(base: u64, rva: u32, data_size: u32) -> MINIDUMP_MEMORY_DESCRIPTOR {
+fn described(base: u64, rva: u32, data_size: u32) -> MINIDUMP_MEMORY_DESCRIPTOR {
     MINIDUMP_MEMORY_DESCRIPTOR {
         start_of_memory_range: base,
         memory: MINIDUMP_LOCATION_DESCRIPTOR { data_size, rva },

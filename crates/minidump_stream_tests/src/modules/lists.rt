@@ -2,9 +2,9 @@ use super::Written;
 use crate::given::Listed;
 use minidump_bytes::{Endian, Steps};
 use minidump_format::Error;
-use minidump_modules::{MinidumpModuleList, MinidumpUnloadedModuleList};
+use minidump_modules::MinidumpModuleList;
 use minidump_synth::BOTH;
-use std::alloc::{AllocError, Global};
+use std::alloc::Global;
 use std::test::Fail;
 
 #[rattlefmt::skip]
@@ -84,111 +84,5 @@ fn is_refused(alloc: Global) -> Result<bool, Error> {
 #[test]
 fn an_entry_without_addresses_is_skipped_unread(rt: HostRuntime) -> Result<(), Fail> {
     assert!(rt; skips_two(rt.alloc())? && is_refused(rt.alloc())?);
-    Ok(())
-}
-
-#[rattlefmt::skip]
-const TWO: &[Written<'static>] = &[
-    Written { base: 0x1800, size: 0x100, name: "inner", view: b"" },
-    Written { base: 0x1000, size: 0x2000, name: "outer", view: b"" },
-];
-
-// An address, and the bases of the modules at it.
-#[rattlefmt::skip]
-const UNLOADED: &[(u64, &[u64])] = &[
-    (0xfff, &[]), (0x1850, &[0x1000, 0x1800]), (0x2000, &[0x1000]), (0x3000, &[]),
-];
-
-// Whether the modules at an address have these bases.
-fn are_at(
-    alloc: Global,
-    list: &MinidumpUnloadedModuleList,
-    row: &(u64, &[u64]),
-) -> Result<bool, AllocError> {
-    let found: Vec<u64> = list
-        .modules_at_address(row.0)
-        .map(|m| m.raw.base_of_image)
-        .collect(alloc)?;
-    Ok(found.as_slice() == row.1)
-}
-
-fn unloaded(
-    alloc: Global,
-    endian: Endian,
-    modules: &[Written<'_>],
-) -> Result<MinidumpUnloadedModuleList, Error> {
-    let listed = Listed::unloaded(alloc, endian, modules)?;
-    listed.read(alloc, &mut Steps::new())
-}
-
-fn finds_every_one(alloc: Global, endian: Endian) -> Result<bool, Error> {
-    let list = unloaded(alloc, endian, TWO)?;
-    for row in UNLOADED {
-        if !are_at(alloc, &list, row)? {
-            return Ok(false);
-        }
-    }
-    let listed: Vec<u64> = list.iter().map(|m| m.raw.base_of_image).collect(alloc)?;
-    let ascending: Vec<u64> = list.by_addr().map(|m| m.raw.base_of_image).collect(alloc)?;
-    Ok(
-        listed.as_slice() == [0x1800, 0x1000].as_slice()
-            && ascending.as_slice() == [0x1000, 0x1800].as_slice(),
-    )
-}
-
-#[test]
-fn every_unloaded_module_at_an_address_is_found(rt: HostRuntime) -> Result<(), Fail> {
-    for endian in BOTH {
-        assert!(rt; finds_every_one(rt.alloc(), *endian)?);
-    }
-    Ok(())
-}
-
-// The error of a list of one module of this size, whose name is cut off.
-fn refusal(alloc: Global, size: u32) -> Result<Option<Error>, Error> {
-    let mut listed = Listed::unloaded(alloc, Endian::Little, &[Written { size, ..BAD }])?;
-    listed.file.truncate(32);
-    let list: Result<MinidumpUnloadedModuleList, Error> = listed.read(alloc, &mut Steps::new());
-    Ok(list.err())
-}
-
-#[test]
-fn an_unloaded_entry_without_addresses_refuses_the_list(rt: HostRuntime) -> Result<(), Fail> {
-    assert!(rt; refusal(rt.alloc(), 0)? == Some(Error::ModuleReadFailure));
-    assert!(rt; refusal(rt.alloc(), 0x1000)? == Some(Error::DataError));
-    Ok(())
-}
-
-const LAST: Written<'static> = Written {
-    base: 0xffff_ffff_ffff_f000,
-    size: 0x1000,
-    name: "last",
-    view: b"",
-};
-
-// Whether a module and an unloaded one that end at the last address are found there, and one byte more is
-// refused.
-fn finds_the_last_address(alloc: Global) -> Result<bool, Error> {
-    let listed = Listed::loaded(alloc, Endian::Little, &[LAST])?;
-    let list: MinidumpModuleList = listed.read(alloc, &mut Steps::new())?;
-    let left = unloaded(alloc, Endian::Little, &[LAST])?;
-    let beyond = unloaded(
-        alloc,
-        Endian::Little,
-        &[Written {
-            size: 0x1001,
-            ..LAST
-        }],
-    );
-    Ok(
-        is_found(&list, &(u64::MAX, Some("last")))
-            && are_at(alloc, &left, &(u64::MAX, &[LAST.base]))?
-            && matches!(beyond, Err(Error::ModuleReadFailure)),
-    )
-}
-
-#[test]
-fn a_module_may_end_at_the_last_address(rt: HostRuntime) -> Result<(), Fail> {
-    assert!(rt; finds_the_last_address(rt.alloc())?);
     Ok(())
 }

@@ -7,7 +7,7 @@ use minidump_format::format::{
     MINIDUMP_SIMPLE_STRING_DICTIONARY_ENTRY, RVA,
 };
 use minidump_records::{MinidumpAnnotation, MinidumpCrashpadInfo, MinidumpModuleCrashpadInfo};
-use minidump_synth::{BOTH, Encode, Section, SynthMinidump, zeroed};
+use minidump_synth::{BOTH, Encode, SynthMinidump, zeroed};
 use std::alloc::{AllocError, Global};
 use std::collections::BTreeMap;
 use std::test::Fail;
@@ -194,87 +194,5 @@ fn has_each_kind(alloc: Global) -> Result<bool, Error> {
 #[test]
 fn annotations_are_read_by_their_types(rt: HostRuntime) -> Result<(), Fail> {
     assert!(rt; has_each_kind(rt.alloc())?);
-    Ok(())
-}
-
-// A file of 87 bytes with the parts of malformed lists.
-fn malformed(alloc: Global) -> Result<Vec<u8>, AllocError> {
-    let list_annotations = location(4, 50);
-    Section::new(alloc, Endian::Little)
-        // at 0 a pair, and at 12 its key, which is its value too
-        .list(&[pair(12, 12)])
-        .text8("k")
-        .u8(0)
-        // at 18 a key without its NUL, at 30 a later value of a key without its NUL
-        .list(&[pair(82, 12)])
-        .list(&[pair(12, 12), pair(12, 82)])
-        // at 50 a count, at 54 a module whose texts are that many
-        .u32(0xffff_ffff)
-        .record(&MINIDUMP_MODULE_CRASHPAD_INFO {
-            list_annotations,
-            ..zeroed()
-        })
-        // at 82 a text without its NUL
-        .text8("x")
-        .finish()
-}
-
-// The version of a record, the sizes and places of its dictionary and of its list of modules, and its error.
-#[rattlefmt::skip]
-const RECORDS: &[(u32, (u32, u32), (u32, u32), Option<Error>)] = &[
-    (0, (1, 0), (0, 0), Some(Error::VersionMismatch)),
-    (1, (0, 87), (0, 87), None),
-    (1, (0, 88), (0, 0), Some(Error::StreamReadFailure)),
-    (1, (1, 0), (0, 0), Some(Error::StreamReadFailure)),
-    (1, (3, 0), (0, 0), Some(Error::StreamReadFailure)),
-    (1, (4, 0), (0, 0), Some(Error::StreamReadFailure)),
-    (1, (12, 0), (0, 0), None),
-    (1, (12, 18), (0, 0), Some(Error::StreamReadFailure)),
-    (1, (20, 30), (0, 0), Some(Error::StreamReadFailure)),
-    (1, (4, 50), (0, 0), Some(Error::StreamReadFailure)),
-    (1, (0, 0), (4, 0), Some(Error::StreamReadFailure)),
-    (1, (0, 0), (4, 50), Some(Error::StreamSizeMismatch { expected: 51_539_607_540, actual: 87 })),
-];
-
-fn refusal(
-    alloc: Global,
-    row: &(u32, (u32, u32), (u32, u32), Option<Error>),
-) -> Result<Option<Error>, AllocError> {
-    let (version, (size, rva), (list_size, list_rva), _) = *row;
-    let info = MINIDUMP_CRASHPAD_INFO {
-        version,
-        simple_annotations: location(size, rva),
-        module_list: location(list_size, list_rva),
-        ..zeroed()
-    };
-    let file = malformed(alloc)?;
-    let stream = Section::new(alloc, Endian::Little).record(&info).finish()?;
-    Ok(read(alloc, &stream, &file, Endian::Little, &mut Steps::new()).err())
-}
-
-// The places of modules, and their errors.
-#[rattlefmt::skip]
-const MODULES: &[(u32, Error)] = &[
-    (54, Error::StreamSizeMismatch { expected: 17_179_869_180, actual: 87 }),
-    (60, Error::StreamReadFailure),
-];
-
-fn module_refusal(alloc: Global, rva: u32) -> Result<Option<Error>, AllocError> {
-    let file = malformed(alloc)?;
-    let link = link(0, location(28, rva));
-    Ok(MinidumpModuleCrashpadInfo::read(alloc, link, &file, Endian::Little).err())
-}
-
-#[test]
-fn malformed_lists_have_their_errors(rt: HostRuntime) -> Result<(), Fail> {
-    for row in RECORDS {
-        assert!(rt; refusal(rt.alloc(), row)? == row.3, "{row:?}");
-    }
-    for (rva, want) in MODULES {
-        assert!(rt;
-            module_refusal(rt.alloc(), *rva)? == Some(*want),
-            "at {rva}"
-        );
-    }
     Ok(())
 }

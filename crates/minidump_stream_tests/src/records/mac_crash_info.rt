@@ -17,8 +17,8 @@ struct Record {
     texts: &'static [u8],
 }
 
-// The record with as many of the numbers as its version has, and its texts at `start`.
-fn section(dump: &SynthMinidump, start: u32, record: &Record) -> Section {
+// The record with as many of the numbers as its version has, and its texts at 40.
+fn section(dump: &SynthMinidump, record: &Record) -> Section {
     let mut section = dump.section();
     section.u64(1).u64(record.version);
     if record.version >= 4 {
@@ -27,119 +27,27 @@ fn section(dump: &SynthMinidump, start: u32, record: &Record) -> Section {
     if record.version >= 5 {
         section.u64(record.abort_cause);
     }
-    let pad = (start as usize).saturating_sub(section.len());
+    let pad = 40_usize.saturating_sub(section.len());
     section.zeros(pad).bytes(record.texts);
     section
 }
 
-// Reads a stream with this number of records and these, with texts that begin at `start`. Zeros follow the
-// last record.
+// Reads a stream with this record.
 fn read(
     alloc: Global,
     endian: Endian,
-    start: u32,
-    record_count: u32,
-    records: &[Record],
+    record: &Record,
     steps: &mut Steps,
 ) -> Result<MinidumpMacCrashInfo, Error> {
     let mut dump = SynthMinidump::new(alloc, endian);
     let mut info: MINIDUMP_MAC_CRASH_INFO = zeroed();
-    info.record_count = record_count;
-    info.record_start_size = start;
-    for (i, record) in records.iter().enumerate() {
-        if i < 20 {
-            let section = section(&dump, start, record);
-            info.records[i] = dump.add_located(&section);
-        }
-    }
+    info.record_count = 1;
+    info.record_start_size = 40;
+    let section = section(&dump, record);
+    info.records[0] = dump.add_located(&section);
     let stream = dump.section().record(&info).finish()?;
-    dump.add(&[0_u8; 8]);
     let file = dump.finish()?;
     read_in(alloc, &stream, &file, endian, steps)
-}
-
-// A record of version 1, 2 or 0: no texts.
-const ONE: Record = Record {
-    version: 1,
-    thread: 0,
-    dialog_mode: 0,
-    abort_cause: 0,
-    texts: b"",
-};
-
-const TWO: Record = Record { version: 2, ..ONE };
-
-const NONE: Record = Record { version: 0, ..ONE };
-
-// One text and four empty ones.
-const FOUR: Record = Record {
-    version: 4,
-    thread: 7,
-    dialog_mode: 0,
-    abort_cause: 9,
-    texts: b"a\0\0\0\0\0",
-};
-
-const FOUR_TEXTS: Record = Record {
-    texts: b"a\0\0\0\0",
-    ..FOUR
-};
-
-const NO_TEXT: Record = Record {
-    texts: b"\xff\0\0\0\0\0",
-    ..FOUR
-};
-
-const FIVE: Record = Record { version: 5, ..FOUR };
-
-const NINE: Record = Record { version: 9, ..FOUR };
-
-const CUT: Result<usize, Error> = Err(Error::StreamReadFailure);
-
-const MISMATCH: Result<usize, Error> = Err(Error::VersionMismatch);
-
-// Where the texts begin, the number of records and the records, and how many are read.
-#[rattlefmt::skip]
-const STREAMS: &[(u32, u32, &[Record], Result<usize, Error>)] = &[
-    (32, 1, &[FOUR], Ok(1)),
-    (32, 1, &[FOUR_TEXTS], CUT),
-    (32, 1, &[NO_TEXT], CUT),
-    (31, 1, &[FOUR], CUT),
-    (50, 1, &[FOUR], Ok(1)),
-    (40, 2, &[FOUR, FIVE], MISMATCH),
-    (40, 1, &[FOUR, FIVE], Ok(1)),
-    (32, 2, &[NONE, FOUR], MISMATCH),
-    (0, 1, &[NONE], Ok(0)),
-    (39, 1, &[FIVE], CUT),
-    (40, 2, &[NINE, NINE], Ok(2)),
-    (16, 1, &[TWO], Ok(1)),
-    (15, 1, &[TWO], CUT),
-    (16, 21, &[ONE; 20], Ok(20)),
-    (16, 0xffff_ffff, &[ONE; 20], Ok(20)),
-    (16, 20, &[ONE; 19], CUT),
-];
-
-fn count_of(
-    alloc: Global,
-    endian: Endian,
-    row: &(u32, u32, &[Record], Result<usize, Error>),
-) -> Result<usize, Error> {
-    let info = read(alloc, endian, row.0, row.1, row.2, &mut Steps::new())?;
-    Ok(info.raw.len())
-}
-
-#[test]
-fn records_of_one_version_have_texts_in_their_bytes(rt: HostRuntime) {
-    for row in STREAMS {
-        for endian in BOTH {
-            assert!(rt;
-                count_of(rt.alloc(), *endian, row) == row.3,
-                "{} at {}",
-                row.1,
-                row.0
-            );
-        }
-    }
 }
 
 // The version, the thread, the mode of the dialog and the cause of the abort.
@@ -175,6 +83,14 @@ const FULL_4: Record = Record { version: 4, ..FULL };
 
 const FULL_3: Record = Record { version: 3, ..FULL };
 
+// One text and four empty ones.
+const NINE: Record = Record {
+    version: 9,
+    dialog_mode: 0,
+    texts: b"a\0\0\0\0\0",
+    ..FULL
+};
+
 const FULL_TEXTS: &[Option<&str>] = &[
     Some("/bin/x"),
     Some("first"),
@@ -209,7 +125,7 @@ fn is_it(info: &MinidumpMacCrashInfo, row: &Row) -> bool {
 
 fn holds(alloc: Global, endian: Endian, row: &Row) -> Result<bool, Error> {
     let mut steps = Steps::new();
-    let info = read(alloc, endian, 40, 1, &[row.0], &mut steps)?;
+    let info = read(alloc, endian, &row.0, &mut steps)?;
     let copy = info.try_clone(alloc)?;
     Ok(steps.count() == row.1 && is_it(&info, row) && is_it(&copy, row))
 }
