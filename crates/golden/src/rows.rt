@@ -60,24 +60,27 @@ fn lines_of(alloc: Global, text: &[u8]) -> Result<Vec<&[u8]>, AllocError> {
 }
 
 // Tells whether the lines are there, one behind another, but that `..` is any number of lines.
-fn has(lines: &[&[u8]], wanted: &[&[u8]]) -> bool {
-    let mut left = lines;
+fn has<'t>(lines: &[&'t [u8]], wanted: &[&'t [u8]]) -> bool {
+    let mut place = 0;
     for part in wanted.split(|line| *line == b"..".as_slice()) {
-        match behind(left, part) {
-            Some(lines) => left = lines,
+        match behind(lines, place, part) {
+            Some(end) => place = end,
             None => return false,
         }
     }
     true
 }
 
-// Returns what stands behind the first place where these lines stand one behind another.
-fn behind<'l, 't>(lines: &'l [&'t [u8]], part: &[&[u8]]) -> Option<&'l [&'t [u8]]> {
-    for at in 0..=lines.len() {
-        let left = lines.get(at..)?;
-        if left.starts_with(part) {
-            return left.get(part.len()..);
-        }
+// Returns the place behind the first lines from a place on that are these.
+fn behind<'t>(lines: &[&'t [u8]], from: usize, part: &[&'t [u8]]) -> Option<usize> {
+    (from..=lines.len())
+        .find(|place| stand_at(lines, *place, part))
+        .map(|place| place.saturating_add(part.len()))
+}
+
+fn stand_at<'t>(lines: &[&'t [u8]], place: usize, part: &[&'t [u8]]) -> bool {
+    match lines.get(place..) {
+        Some(left) => left.starts_with(part),
+        None => false,
     }
-    None
 }

@@ -4,10 +4,18 @@ use minidump::Endian;
 use minidump_synth::Section;
 use std::alloc::Global;
 
+// What a text is: its bytes, its code units of UTF-16, or the same behind their length.
+#[derive(Clone, Copy)]
+enum Form {
+    Bytes,
+    Units,
+    Counted,
+}
+
 /// Makes the bytes that a row spells.
 pub fn bytes_of(alloc: Global, spelled: &str, endian: Endian) -> Result<Section> {
     let mut bytes = Section::new(alloc, endian);
-    let mut form = "";
+    let mut form = Form::Bytes;
     let mut is_text = false;
     // Each second part stands between quotes.
     for part in spelled.split('"') {
@@ -18,30 +26,34 @@ pub fn bytes_of(alloc: Global, spelled: &str, endian: Endian) -> Result<Section>
         }
         is_text = !is_text;
     }
-    if !is_text || !form.is_empty() {
-        bail!("half a text: {spelled}");
+    match form {
+        Form::Bytes if is_text => Ok(bytes),
+        _ => bail!("half a text: {spelled}"),
     }
-    Ok(bytes)
 }
 
-// Puts the bytes of words. Returns the letter that the last of them is, if the text behind has another form for it.
-fn put_words<'t>(words: &'t str, bytes: &mut Section) -> Result<&'t str> {
-    let mut form = "";
+// Puts the bytes of words. Returns what the text behind them is, by the last of them.
+fn put_words(words: &str, bytes: &mut Section) -> Result<Form> {
+    let mut form = Form::Bytes;
     for word in words.split_whitespace() {
-        match word {
-            "u" | "w" => form = word,
-            _ if form.is_empty() => put_word(word, bytes)?,
-            _ => bail!("no text behind {form}"),
-        }
+        form = match (form, word) {
+            (Form::Bytes, "w") => Form::Units,
+            (Form::Bytes, "u") => Form::Counted,
+            (Form::Bytes, _) => {
+                put_word(word, bytes)?;
+                Form::Bytes
+            }
+            _ => bail!("no text in front of {word}"),
+        };
     }
     Ok(form)
 }
 
-fn put_text(form: &str, text: &str, bytes: &mut Section) {
+fn put_text(form: Form, text: &str, bytes: &mut Section) {
     match form {
-        "u" => bytes.text16(text),
-        "w" => bytes.units16(text, text.encode_utf16().count()),
-        _ => bytes.bytes(text.as_bytes()),
+        Form::Bytes => bytes.bytes(text.as_bytes()),
+        Form::Units => bytes.units16(text, text.encode_utf16().count()),
+        Form::Counted => bytes.text16(text),
     };
 }
 
