@@ -1,0 +1,25 @@
+-- The evidence of a frame that isn't the context's: its return address stands in the stack, right below its stack pointer.
+use Rattle.std.specs.Prelude.{◌≡◌, ℕ, ◌-◌, nat_le, Option, Some, None, if◌then◌else◌}
+use Rattle.std.specs.Option.{option_and_then}
+use Rattle.minidump.specs.declared.system_info.PointerWidth.{PointerWidth}
+use Rattle.minidump.specs.Below.System.Cpu.{pointer_bytes}
+use Rattle.stack_walk.specs.declared.frame.FrameTrust.{FrameTrust}
+use Rattle.stack_walk.specs.declared.frame.FrameTrust.TheVariants.{Context, FramePointer, Scan}
+use Rattle.stack_walk.specs.declared.frame.StackFrame.{StackFrame}
+use Rattle.stack_walk.specs.Frames.{StackValue, pointer_at}
+
+-- the address of the word below a stack pointer
+abbrev word_below : FrameTrust → ℕ → ℕ → Option ℕ
+word_below Context stack_pointer size = None
+word_below FramePointer stack_pointer size = if nat_le size stack_pointer then Some (stack_pointer - size) else None
+word_below Scan stack_pointer size = if nat_le size stack_pointer then Some (stack_pointer - size) else None
+
+-- where the return address of a frame stands: none of a context
+abbrev pub evidence_place : PointerWidth → StackFrame → Option ℕ
+evidence_place width f = option_and_then (word_below f.trust f.stack_pointer) (pointer_bytes width)
+
+-- a frame has its evidence: its return address stands in the stack at that place
+pub record HasEvidence (s : StackValue) (f : StackFrame) : Type 0 where
+  pub place : ℕ
+  pub is_place : evidence_place s.width f ≡ Some place
+  pub stands : pointer_at s place ≡ Some f.instruction

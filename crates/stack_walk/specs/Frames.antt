@@ -1,0 +1,154 @@
+-- The frames of a thread: that of its context, its callers by the frame records that the stack holds, and the words of the stack that may
+-- be return addresses.
+use Rattle.std.specs.Prelude.{◌≡◌, ℕ, ◌+◌, ◌*◌, ◌/◌, ◌^◌, max, nat_lt, nat_le, ◌&&◌, List, [], ◌∷◌, ◌++◌, codes, length, take, Option, Some, None, if◌then◌else◌}
+use Rattle.std.specs.Int.{div_ceil}
+use Rattle.std.specs.List.{filter_map, range_with_len}
+use Rattle.std.specs.Option.{option_and_then, option_map, option_map_or}
+use Rattle.minidump.specs.declared.MinidumpContext.{MinidumpContext}
+use Rattle.minidump.specs.declared.MinidumpRawContext.{MinidumpRawContext}
+use Rattle.minidump.specs.declared.MinidumpRawContext.TheVariants.{X86, Amd64, Arm, Arm64, OldArm64}
+use Rattle.minidump.specs.declared.system_info.PointerWidth.{PointerWidth}
+use Rattle.minidump.specs.declared.system_info.PointerWidth.TheVariants.{Bits32, Bits64, Unknown}
+use Rattle.minidump.specs.Below.Bytes.Layout.{number_layout}
+use Rattle.minidump.specs.Below.Contexts.Context.{registers_of, valid_value_in, value_in}
+use Rattle.minidump.specs.Below.MemoryLists.Memory.{number_in}
+use Rattle.minidump.specs.Below.MemoryLists.Unified.{UnifiedRegion, unified_region}
+use Rattle.minidump.specs.Below.MemoryLists.UnifiedInfo.{InfoRegion, info_list, info_regions}
+use Rattle.minidump.specs.Below.Modules.Module.{ModuleValue}
+use Rattle.minidump.specs.Below.System.Cpu.{pointer_bytes}
+use Rattle.minidump.specs.Promise.{module_list_stream}
+use Rattle.stack_walk.specs.declared.frame.FrameTrust.{FrameTrust}
+use Rattle.stack_walk.specs.declared.frame.FrameTrust.TheVariants.{Context, FramePointer, Scan}
+use Rattle.stack_walk.specs.declared.frame.StackFrame.{StackFrame}
+use Rattle.stack_walk.specs.declared.stack.Stack.{Stack}
+use Rattle.stack_walk.specs.Lookups.{call_site, is_code, may_be_run}
+
+-- a stack: the region of memory that holds it, if the dump has one, the modules, what is known of the memory, and the width of an address
+pub record StackValue : Type 0 where
+  pub region : Option UnifiedRegion
+  pub modules : List ModuleValue
+  pub infos : List InfoRegion
+  pub width : PointerWidth
+
+-- the stack of a `Stack`, as its fields have it
+abbrev pub stack_of : Stack → StackValue
+stack_of s = record {
+  region = option_map unified_region s.memory;
+  modules = module_list_stream.value s.modules.now;
+  infos = info_regions (info_list s.infos.now);
+  width = s.width;
+}
+
+-- the word of a region at an address, as wide as an address
+abbrev pub pointer_in : PointerWidth → UnifiedRegion → ℕ → Option ℕ
+pointer_in Bits32 region address = number_in (number_layout 4) region address
+pointer_in Bits64 region address = number_in (number_layout 8) region address
+pointer_in Unknown region address = None
+
+-- the word that a stack holds at an address
+abbrev pub pointer_at : StackValue → ℕ → Option ℕ
+pointer_at s address = option_and_then (λ region. pointer_in s.width region address) s.region
+
+-- the bytes of a stack
+abbrev pub stack_bytes : StackValue → List ℕ
+stack_bytes s = option_map_or (λ region. region.bytes) s.region []
+
+-- ---- the frame of the context
+
+-- the name of the register that holds the frame pointer
+abbrev pub frame_register : MinidumpRawContext → List ℕ
+frame_register (X86 c) = codes "ebp"
+frame_register (Amd64 c) = codes "rbp"
+frame_register (Arm c) = codes "fp"
+frame_register (Arm64 c) = codes "fp"
+frame_register (OldArm64 c) = codes "fp"
+
+-- a frame is that of a context: its registers are the context's
+pub record IsContextFrame (c : MinidumpContext) (f : StackFrame) : Type 0 where
+  pub instruction : value_in (registers_of c.raw) (registers_of c.raw).instruction_pointer ≡ Some f.instruction
+  pub stack_pointer : value_in (registers_of c.raw) (registers_of c.raw).stack_pointer ≡ Some f.stack_pointer
+  pub frame_pointer : f.frame_pointer ≡ valid_value_in c.valid (registers_of c.raw) (frame_register c.raw)
+  pub trust : f.trust ≡ Context
+
+-- ---- callers, by frame pointers
+
+-- the frame with a saved frame pointer and a return address, behind whose record the stack goes on; none where no kept module has the call
+abbrev pub caller_by : StackValue → ℕ → ℕ → ℕ → Option StackFrame
+caller_by s behind saved address = option_and_then (λ call. if is_code s.modules call
+    then Some (record { instruction = address; stack_pointer = behind; frame_pointer = Some saved; trust = FramePointer })
+    else None) (call_site address)
+
+-- the frame to which the record at a place returns. A record is two words: the saved frame pointer and the return address
+unfoldable pub caller_at : StackValue → ℕ → ℕ → Option StackFrame
+caller_at s size place =
+    if nat_lt (place + 2 * size) (2 ^ 64)
+    then option_and_then (λ saved. option_and_then (caller_by s (place + 2 * size) saved) (pointer_at s (place + size))) (pointer_at s place)
+    else None
+
+-- the lowest address at which the record of a frame may stand: that of a context anywhere, that of a caller behind its own record, so that
+-- records neither overlap nor stand in a circle
+abbrev lowest_by : FrameTrust → ℕ → ℕ
+lowest_by Context stack_pointer = 0
+lowest_by FramePointer stack_pointer = stack_pointer
+lowest_by Scan stack_pointer = stack_pointer
+
+-- the same of a frame
+abbrev pub lowest_record : StackFrame → ℕ
+lowest_record f = lowest_by f.trust f.stack_pointer
+
+-- the caller of a frame: that of the record at its frame pointer
+abbrev pub caller_of : StackValue → StackFrame → Option StackFrame
+caller_of s f = option_and_then (λ size. option_and_then (λ place.
+    if nat_lt place (lowest_record f) then None else caller_at s size place) f.frame_pointer) (pointer_bytes s.width)
+
+-- the callers of a frame, the innermost first: each is the caller of the one before it, and the last frame has none
+abbrev pub AreCallers : StackValue → StackFrame → List StackFrame → StackFrame → Type 0
+AreCallers s f [] last = (caller_of s f ≡ None) × (last ≡ f)
+AreCallers s f (g ∷ gs) last = (caller_of s f ≡ Some g) × AreCallers s g gs last
+
+-- the frames from one on: that frame and its callers
+pub record IsWalk (s : StackValue) (first : StackFrame) (frames : List StackFrame) (last : StackFrame) : Type 0 where
+  pub callers : List StackFrame
+  pub whole : frames ≡ first ∷ callers
+  pub are_callers : AreCallers s first callers last
+
+-- ---- candidates, by the words of the stack
+
+-- the frame that a word may be the return address of; none where no kept module has the call, or where its memory can't be run
+abbrev pub candidate_by : StackValue → ℕ → ℕ → Option StackFrame
+candidate_by s behind word = option_and_then (λ call. if is_code s.modules call && may_be_run s.infos call
+    then Some (record { instruction = word; stack_pointer = behind; frame_pointer = None; trust = Scan })
+    else None) (call_site word)
+
+-- the candidate of the word at an address
+abbrev pub candidate_at : StackValue → ℕ → ℕ → Option StackFrame
+candidate_at s size address =
+    if nat_lt (address + size) (2 ^ 64) then option_and_then (candidate_by s (address + size)) (pointer_at s address) else None
+
+-- the candidate of an aligned word, by its number: how many words lie below it in the space of addresses
+unfoldable pub word_candidate : StackValue → ℕ → Option StackFrame
+word_candidate s number = option_and_then (λ size. candidate_at s size (number * size)) (pointer_bytes s.width)
+
+-- the first aligned word of a region from an address on, by its number, and as many words as the region may have from there
+abbrev words_in : PointerWidth → UnifiedRegion → ℕ → ℕ × ℕ
+words_in width region from = option_map_or (λ size. (div_ceil (max from region.base_address) size, length region.bytes / size)) (pointer_bytes width) (0, 0)
+
+-- the same of a stack
+abbrev pub words_from : StackValue → ℕ → ℕ × ℕ
+words_from s from = option_map_or (λ region. words_in s.width region from) s.region (0, 0)
+
+-- the candidates of the aligned words from an address on, in their order, at most so many
+abbrev pub scan : StackValue → ℕ → ℕ → List StackFrame
+scan s from limit =
+    let words = words_from s from in take limit (filter_map (λ index. word_candidate s (words.0 + index)) (range_with_len 0 words.1))
+
+-- ---- both
+
+-- the frames of a context: its own, its callers, and the candidates from the last one's stack pointer on, at most so many
+pub record AreFrames (s : StackValue) (c : MinidumpContext) (limit : ℕ) (frames : List StackFrame) : Type 0 where
+  pub first : StackFrame
+  pub is_first : IsContextFrame c first
+  pub walked : List StackFrame
+  pub last : StackFrame
+  pub is_walk : IsWalk s first walked last
+  pub whole : frames ≡ walked ++ scan s last.stack_pointer limit

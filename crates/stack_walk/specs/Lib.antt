@@ -1,0 +1,4 @@
+-- The definitions that the contracts cite.
+pub mod Lookups
+pub mod Frames
+pub mod Evidence

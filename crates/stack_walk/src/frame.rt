@@ -1,0 +1,76 @@
+ghost use Rattle.std.specs.Prelude.{◌≡◌};
+ghost use Rattle.std.specs.Option.{option_copied, option_map};
+ghost use Rattle.minidump.specs.Below.Modules.Module.{module_of};
+ghost use Rattle.minidump.specs.Promise.{module_list_stream};
+ghost use Rattle.stack_walk.specs.Evidence.{evidence_place};
+ghost use Rattle.stack_walk.specs.Lookups.{lookup_address, module_at, module_offset_at};
+
+use crate::lookups::{call_site, module_at, offset_at};
+use minidump::system_info::PointerWidth;
+use minidump::{MinidumpModule, MinidumpModuleList};
+
+/// What a frame is known by.
+#[derive(Clone, Copy, Debug, PartialEq, Eq)]
+pub enum FrameTrust {
+    /// The registers of the thread's context.
+    Context,
+    /// The frame pointer of the frame before.
+    FramePointer,
+    /// A word of the stack that may be a return address.
+    Scan,
+}
+
+/// A frame of a stack.
+#[derive(Clone, Copy, Debug, PartialEq, Eq)]
+pub struct StackFrame {
+    /// The instruction pointer of the context, or else the return address of the frame before.
+    pub instruction: u64,
+    /// The stack pointer: of a caller or a candidate, the address behind its return address.
+    pub stack_pointer: u64,
+    /// The frame pointer, as the context or the frame record has it, or `None` if it isn't known.
+    pub frame_pointer: Option<u64>,
+    /// What the frame is known by.
+    pub trust: FrameTrust,
+}
+
+impl StackFrame {
+    /// Returns the address by which the frame is looked up: the instruction pointer of the context, and else the return
+    /// address less one, which lies in the call. Returns `None` for a return address of 0.
+    pub fn lookup_address(&self) -> Option<u64>
+        ensures { result ≡ lookup_address self.now }
+    {
+        match self.trust {
+            FrameTrust::Context => Some(self.instruction),
+            FrameTrust::FramePointer | FrameTrust::Scan => call_site(self.instruction),
+        }
+    }
+
+    /// Returns the kept module of the frame, the one that contains its lookup address, or `None` if no kept module does.
+    pub fn module<'l>(&self, modules: &'l MinidumpModuleList) -> Option<&'l MinidumpModule>
+        ensures { option_map module_of (option_copied result) ≡ module_at (module_list_stream.value modules.now) (lookup_address self.now) }
+    {
+        module_at(modules, self.lookup_address()?)
+    }
+
+    /// Returns the offset of the frame's lookup address in its module, or `None` if it has no module.
+    pub fn module_offset(&self, modules: &MinidumpModuleList) -> Option<u64>
+        ensures { result ≡ module_offset_at (module_list_stream.value modules.now) (lookup_address self.now) }
+    {
+        let address = self.lookup_address()?;
+        offset_at(modules, address)
+    }
+
+    /// Returns the address in the stack at which the frame's return address stands, the word below its stack pointer.
+    /// Returns `None` for the frame of a context, and where the width of an address is unknown.
+    pub fn evidence(&self, width: PointerWidth) -> Option<u64>
+        ensures { result ≡ evidence_place width self.now }
+    {
+        let size = width.size_in_bytes()?;
+        match self.trust {
+            FrameTrust::Context => None,
+            FrameTrust::FramePointer | FrameTrust::Scan => {
+                self.stack_pointer.checked_sub(size as u64)
+            }
+        }
+    }
+}

@@ -1,0 +1,99 @@
+//! Walks the stack of a thread: its frames without symbols, each with its evidence.
+//!
+//! - The first frame is that of the thread's context: [`FrameTrust::Context`].
+//! - Its callers follow by frame pointers: [`FrameTrust::FramePointer`].
+//! - Behind the last of them, the words of the stack that may be return addresses are candidates: [`FrameTrust::Scan`].
+//!
+//! [`frames`] returns them, of the context and the [`Stack`] of a thread.
+//!
+//! # What is proved
+//!
+//! The frames are the ones of the definition `AreFrames`, and the only ones: [`frames`], [`laws::one_list_of_frames`].
+//! Want of memory is an error, never a shorter list. Each frame but the first has a return address that stands in the stack
+//! right below its stack pointer: [`laws::each_caller_has_its_evidence`]. The walk ends on every stack, since callers lie
+//! ever higher on it: [`laws::callers_are_few`]. The scan leaves out no aligned word from the stack pointer of the last caller
+//! on: [`laws::each_aligned_word_is_scanned`]. The proofs use the contracts of `minidump` and a lemma of its lookups.
+#![tactic(auto)]
+
+ghost use Rattle.std.specs.Prelude.{◌≡◌, IfOk, IsOkUnless};
+ghost use Rattle.stack_walk.specs.Frames.{AreFrames, IsContextFrame, IsWalk, frame_register, stack_of};
+
+mod frame;
+pub mod laws;
+mod lookups;
+mod stack;
+
+pub use frame::{FrameTrust, StackFrame};
+use minidump::{Error, MinidumpContext, MinidumpRawContext};
+pub use stack::Stack;
+use stack::{caller_of, scan};
+use std::alloc::{AllocError, Global};
+
+/// Returns the frames of a thread, whose context and stack these are: that of the context, its callers by frame
+/// pointers, and behind them at most `limit` candidates.
+///
+/// - A caller's frame record stands in the stack at the frame pointer, two words: the saved frame pointer, and the return
+///   address, which a kept module contains. It stands at or above the stack pointer of a frame that is a caller itself; a
+///   context's frame pointer may lie anywhere. The last caller is the one whose saved frame pointer leads to no record.
+/// - A candidate is an aligned word from the last caller's stack pointer on that a kept module contains, unless what is
+///   known of the memory says that it can't be run.
+///
+/// A module contains a return address if it contains the address before it, which lies in the call. The only error is
+/// `OutOfMemory`.
+pub fn frames(
+    alloc: Global,
+    stack: &Stack<'_, '_>,
+    context: &MinidumpContext,
+    limit: usize,
+) -> Result<Vec<StackFrame>, Error>
+    ensures frames { IfOk result (λ frames. AreFrames (stack_of stack.now) context.now limit frames.items) }
+    ensures memory { IsOkUnless result Error.OutOfMemory }
+{
+    let (mut frames, last) = walk(alloc, stack, context_frame(context))?;
+    let candidates = scan(alloc, stack, last.stack_pointer, limit)?;
+    frames.extend_from_slice(candidates.as_slice())?;
+    Ok(frames)
+}
+
+// Returns the frame of a context.
+fn context_frame(context: &MinidumpContext) -> StackFrame
+    ensures { IsContextFrame context.now result }
+{
+    StackFrame {
+        instruction: context.get_instruction_pointer(),
+        stack_pointer: context.get_stack_pointer(),
+        frame_pointer: context.get_register(frame_register(&context.raw)),
+        trust: FrameTrust::Context,
+    }
+}
+
+// Returns the name of the register that holds the frame pointer.
+fn frame_register(raw: &MinidumpRawContext) -> &'static str
+    ensures { result.now ≡ frame_register raw.now }
+{
+    match raw {
+        MinidumpRawContext::X86(_) => "ebp",
+        MinidumpRawContext::Amd64(_) => "rbp",
+        MinidumpRawContext::Arm(_)
+        | MinidumpRawContext::Arm64(_)
+        | MinidumpRawContext::OldArm64(_) => "fp",
+    }
+}
+
+// Returns a frame with its callers, and the last of them.
+fn walk(
+    alloc: Global,
+    stack: &Stack<'_, '_>,
+    first: StackFrame,
+) -> Result<(Vec<StackFrame>, StackFrame), AllocError>
+    ensures { IfOk result (λ walked. IsWalk (stack_of stack.now) first walked.0.items walked.1) }
+{
+    let mut frames = Vec::new(alloc);
+    frames.push(first)?;
+    let mut last = first;
+    while let Some(caller) = caller_of(stack, &last) {
+        frames.push(caller)?;
+        last = caller;
+    }
+    Ok((frames, last))
+}

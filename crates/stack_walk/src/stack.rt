@@ -1,0 +1,139 @@
+ghost use Rattle.std.specs.Prelude.{◌≡◌, ◌+◌, IfOk};
+ghost use Rattle.stack_walk.specs.Frames.{caller_at, caller_of, candidate_at, lowest_record, pointer_at, scan, stack_of, word_candidate, words_from};
+
+use crate::lookups::{call_site, is_code, may_be_run};
+use crate::{FrameTrust, StackFrame};
+use minidump::system_info::PointerWidth;
+use minidump::{MinidumpModuleList, UnifiedMemory, UnifiedMemoryInfoList};
+use std::alloc::{AllocError, Global};
+
+/// The stack of a thread, and what its words are judged by.
+#[derive(Clone, Copy)]
+pub struct Stack<'l, 'a> {
+    /// The region of memory that holds it, or `None` if the dump has none.
+    pub memory: Option<UnifiedMemory<'l, 'a>>,
+    /// The modules of the process.
+    pub modules: &'l MinidumpModuleList,
+    /// What is known of the regions of its memory.
+    pub infos: &'l UnifiedMemoryInfoList<'a>,
+    /// The width of an address.
+    pub width: PointerWidth,
+}
+
+// Returns the word that the stack holds at an address, as wide as an address.
+fn pointer_at(stack: &Stack<'_, '_>, address: u64) -> Option<u64>
+    ensures { result ≡ pointer_at (stack_of stack.now) address }
+{
+    let memory = stack.memory?;
+    match stack.width {
+        PointerWidth::Bits32 => {
+            let word: u32 = memory.get_memory_at_address(address)?;
+            Some(word as u64)
+        }
+        PointerWidth::Bits64 => memory.get_memory_at_address(address),
+        PointerWidth::Unknown => None,
+    }
+}
+
+// Returns the lowest address at which the frame record of a frame may stand.
+fn lowest_record(frame: &StackFrame) -> u64
+    ensures { result ≡ lowest_record frame.now }
+{
+    match frame.trust {
+        FrameTrust::Context => 0,
+        FrameTrust::FramePointer | FrameTrust::Scan => frame.stack_pointer,
+    }
+}
+
+// Returns the caller of a frame, by its frame pointer.
+pub(crate) fn caller_of(stack: &Stack<'_, '_>, frame: &StackFrame) -> Option<StackFrame>
+    ensures { result ≡ caller_of (stack_of stack.now) frame.now }
+{
+    let size = stack.width.size_in_bytes()?;
+    let place = frame.frame_pointer?;
+    if place < lowest_record(frame) {
+        return None;
+    }
+    caller_at(stack, size as u64, place)
+}
+
+// Returns the frame to which the record at a place returns.
+#[tactic(auto, unfolding(crate::specs::Frames::caller_at))]
+fn caller_at(stack: &Stack<'_, '_>, size: u64, place: u64) -> Option<StackFrame>
+    ensures { result ≡ caller_at (stack_of stack.now) size place }
+{
+    let stack_pointer = place.checked_add(size.checked_mul(2)?)?;
+    let saved = pointer_at(stack, place)?;
+    let instruction = pointer_at(stack, place + size)?;
+    if is_code(stack.modules, call_site(instruction)?) {
+        Some(StackFrame {
+            instruction,
+            stack_pointer,
+            frame_pointer: Some(saved),
+            trust: FrameTrust::FramePointer,
+        })
+    } else {
+        None
+    }
+}
+
+// Returns at most so many candidates of the aligned words from an address on.
+pub(crate) fn scan(
+    alloc: Global,
+    stack: &Stack<'_, '_>,
+    from: u64,
+    limit: usize,
+) -> Result<Vec<StackFrame>, AllocError>
+    ensures { IfOk result (λ frames. frames.items ≡ scan (stack_of stack.now) from limit) }
+{
+    let (first, count) = words_from(stack, from);
+    (0..count)
+        .filter_map(|index| word_candidate(stack, first, index))
+        .take(limit)
+        .collect(alloc)
+}
+
+// Returns the number of the first aligned word from an address on, by how many words come before it, and how many words there may be.
+fn words_from(stack: &Stack<'_, '_>, from: u64) -> (u64, usize)
+    ensures { result ≡ words_from (stack_of stack.now) from }
+{
+    let Some(memory) = stack.memory else {
+        return (0, 0);
+    };
+    let from = from.max(memory.base_address());
+    let len = memory.bytes().len();
+    match stack.width {
+        PointerWidth::Bits32 => (from.div_ceil(4), len / 4),
+        PointerWidth::Bits64 => (from.div_ceil(8), len / 8),
+        PointerWidth::Unknown => (0, 0),
+    }
+}
+
+// Returns the candidate of the aligned word that so many words come before.
+#[tactic(auto, unfolding(crate::specs::Frames::word_candidate))]
+fn word_candidate(stack: &Stack<'_, '_>, first: u64, index: usize) -> Option<StackFrame>
+    ensures { result ≡ word_candidate (stack_of stack.now) (first + index) }
+{
+    let size = stack.width.size_in_bytes()? as u64;
+    let number = first.checked_add(index as u64)?;
+    candidate_at(stack, size, number.checked_mul(size)?)
+}
+
+// Returns the candidate of the word at an address, if it may be a return address.
+fn candidate_at(stack: &Stack<'_, '_>, size: u64, address: u64) -> Option<StackFrame>
+    ensures { result ≡ candidate_at (stack_of stack.now) size address }
+{
+    let stack_pointer = address.checked_add(size)?;
+    let word = pointer_at(stack, address)?;
+    let call = call_site(word)?;
+    if is_code(stack.modules, call) && may_be_run(stack.infos, call) {
+        Some(StackFrame {
+            instruction: word,
+            stack_pointer,
+            frame_pointer: None,
+            trust: FrameTrust::Scan,
+        })
+    } else {
+        None
+    }
+}
