@@ -1,4 +1,4 @@
-//! Tests of `minidump`, of `crash_summary` and of the examples `region_at` and `own_stream`, on their public calls.
+//! Tests of `minidump`, of `crash_summary`, of `stack_walk` and of the examples `region_at` and `own_stream`, on their public calls.
 //! They stand apart from them, since a library with a test is proved twice.
 //!
 //! They show what no contract says: that a call succeeds where there is memory, that definitions mean the
@@ -13,6 +13,8 @@ mod directory;
 mod exception;
 #[cfg(test)]
 mod file;
+#[cfg(test)]
+mod frames;
 #[cfg(test)]
 mod given;
 #[cfg(test)]

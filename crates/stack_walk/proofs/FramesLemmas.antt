@@ -5,6 +5,7 @@ use Rattle.std.proofs.lemmas.List.{length-take}
 use Rattle.minidump.specs.declared.MinidumpContext.{MinidumpContext}
 use Rattle.stack_walk.specs.declared.frame.StackFrame.{StackFrame}
 use Rattle.stack_walk.specs.Frames.{AreFrames, IsContextFrame, IsWalk, StackValue, scan, stack_bytes}
+use Rattle.stack_walk.proofs.ContextLemmas.{a_frame}
 use Rattle.stack_walk.proofs.WalkLemmas.{a_walk, few_callers, same_walk}
 
 same_parts : (f g : StackFrame) → g.instruction ≡ f.instruction → g.stack_pointer ≡ f.stack_pointer → g.frame_pointer ≡ f.frame_pointer
@@ -38,12 +39,12 @@ same_frames s c limit frames other x y =
     ∙ ap (λ (l : StackFrame). x.walked ++ scan s l.stack_pointer limit) walk.1 ∙ sym x.whole
 
 -- and one
-pub some_frames : (s : StackValue) (c : MinidumpContext) (limit : ℕ) (first : StackFrame) → IsContextFrame c first
-    → (frames : List StackFrame) × AreFrames s c limit frames
-some_frames s c limit first is_first =
-    let walk = a_walk s first in (
+pub some_frames : (s : StackValue) (c : MinidumpContext) (limit : ℕ) → (frames : List StackFrame) × AreFrames s c limit frames
+some_frames s c limit =
+    let first = a_frame c in
+    let walk = a_walk s first.0 in (
       walk.0 ++ scan s walk.1.stack_pointer limit,
-      record { first = first; is_first = is_first; walked = walk.0; last = walk.1; is_walk = walk.2; whole = refl },
+      record { first = first.0; is_first = first.1; walked = walk.0; last = walk.1; is_walk = walk.2; whole = refl },
     )
 
 at_most : (n : ℕ) (l : List StackFrame) → length (take n l) ≤ n

@@ -2,3 +2,4 @@
 pub mod Lookups
 pub mod Frames
 pub mod Evidence
+pub mod Threads

@@ -1,16 +1,28 @@
 //! Laws of frames, over the definitions that the contract of [`crate::frames`] names.
-ghost use Rattle.std.specs.Prelude.{◌≡◌, ◌≤◌, ◌+◌, ◌*◌, ℕ, All, List, ◌∷◌, length};
+ghost use Rattle.std.specs.Prelude.{◌≡◌, ◌≤◌, ◌+◌, ◌*◌, ℕ, All, Contains, List, ◌∷◌, Some, length};
 ghost use Rattle.minidump.specs.declared.MinidumpContext.{MinidumpContext};
+ghost use Rattle.minidump.specs.Below.Bytes.Exact.{IsExact};
+ghost use Rattle.minidump.specs.Below.System.Cpu.{pointer_bytes};
+ghost use Rattle.minidump.specs.Thread.{Thread};
 ghost use Rattle.stack_walk.specs.Evidence.{HasEvidence};
-ghost use Rattle.stack_walk.specs.Frames.{AreFrames, IsContextFrame, StackValue, stack_bytes};
+ghost use Rattle.stack_walk.specs.Frames.{AreFrames, StackValue, scan, stack_bytes, word_candidate};
+ghost use Rattle.stack_walk.specs.Threads.{AreThreadFrames, ProcessValue};
 ghost use Rattle.stack_walk.specs.declared.frame.StackFrame.{StackFrame};
+
+use crate::{FrameTrust, StackFrame};
 
 /// A context has exactly one list of frames on a stack.
 pub fn one_list_of_frames()
     ensures one { (s : StackValue) (c : MinidumpContext) (limit : ℕ) (frames other : List StackFrame) → AreFrames s c limit frames
         → AreFrames s c limit other → other ≡ frames }
-    ensures exists { (s : StackValue) (c : MinidumpContext) (limit : ℕ) (first : StackFrame) → IsContextFrame c first
-        → (frames : List StackFrame) × AreFrames s c limit frames }
+    ensures exists { (s : StackValue) (c : MinidumpContext) (limit : ℕ) → (frames : List StackFrame) × AreFrames s c limit frames }
+{}
+
+/// A thread has exactly one list of frames in a process.
+pub fn one_list_of_thread_frames()
+    ensures one { (p : ProcessValue) (t : Thread) (limit : ℕ) (frames other : List StackFrame) → AreThreadFrames p t limit frames
+        → AreThreadFrames p t limit other → other ≡ frames }
+    ensures exists { (p : ProcessValue) (t : Thread) (limit : ℕ) → (frames : List StackFrame) × AreThreadFrames p t limit frames }
 {}
 
 /// Each frame but the first has its evidence.
@@ -24,4 +36,17 @@ pub fn each_caller_has_its_evidence()
 pub fn frames_are_few()
     ensures { (s : StackValue) (c : MinidumpContext) (limit : ℕ) (frames : List StackFrame) → AreFrames s c limit frames
         → 8 * length frames ≤ length (stack_bytes s) + 8 * (1 + limit) }
+{}
+
+/// The scan from an address on leaves out no aligned word at or above it that has a candidate, if as many are asked for as the
+/// stack has bytes.
+pub fn each_aligned_word_is_scanned()
+    ensures { (s : StackValue) (from limit number size : ℕ) (f : StackFrame) → pointer_bytes s.width ≡ Some size
+        → from ≤ number * size → word_candidate s number ≡ Some f → length (stack_bytes s) ≤ limit → Contains (scan s from limit) f }
+{}
+
+/// A frame equals the same frame alone, and a clone of it is the same frame. So it is with what a frame is known by.
+pub fn frames_compare_and_copy_exactly()
+    ensures frame { IsExact ⟦<StackFrame as PartialEq>⟧.eq ⟦<StackFrame as Clone>⟧.is_clone }
+    ensures trust { IsExact ⟦<FrameTrust as PartialEq>⟧.eq ⟦<FrameTrust as Clone>⟧.is_clone }
 {}

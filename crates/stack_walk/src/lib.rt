@@ -4,15 +4,23 @@
 //! - Its callers follow by frame pointers: [`FrameTrust::FramePointer`].
 //! - Behind the last of them, the words of the stack that may be return addresses are candidates: [`FrameTrust::Scan`].
 //!
-//! [`frames`] returns them, of the context and the [`Stack`] of a thread.
+//! [`frames`] returns them by a context and a [`Stack`], [`thread_frames`] those of a thread, by what a dump has of its
+//! [`Process`].
 //!
 //! # What is proved
 //!
-//! The frames are the ones of the definition `AreFrames`, and the only ones: [`frames`], [`laws::one_list_of_frames`].
-//! Want of memory is an error, never a shorter list. Each frame but the first has a return address that stands in the stack
-//! right below its stack pointer: [`laws::each_caller_has_its_evidence`]. The walk ends on every stack, since callers lie
-//! ever higher on it: [`laws::callers_are_few`]. The scan leaves out no aligned word from the stack pointer of the last caller
-//! on: [`laws::each_aligned_word_is_scanned`]. The proofs use the contracts of `minidump` and a lemma of its lookups.
+//! - The frames are those of the definition `AreFrames`: [`frames`]. Those of a thread are the ones of its context, which is the
+//!   exception's on the thread where that happened, and of its stack: [`thread_frames`], by `AreThreadFrames`.
+//! - There is exactly one such list: [`laws::one_list_of_frames`], [`laws::one_list_of_thread_frames`]. Want of memory is an
+//!   error, never a shorter list.
+//! - Each frame but the first has a return address that stands in the stack right below its stack pointer:
+//!   [`laws::each_caller_has_its_evidence`].
+//! - The walk ends on every stack, and its length is bounded by that of the stack: [`laws::frames_are_few`].
+//! - The scan leaves out no aligned word from the last caller's stack pointer on: [`laws::each_aligned_word_is_scanned`].
+//! - The module of a frame and the offset in it are looked up at the instruction pointer of a context, and else at the return
+//!   address less one: [`StackFrame::module`], [`StackFrame::module_offset`].
+//!
+//! The proofs use the contracts of `minidump`, and its lemma that a lookup returns what the definition `looked_up` has.
 #![tactic(auto)]
 
 ghost use Rattle.std.specs.Prelude.{◌≡◌, IfOk, IsOkUnless};
@@ -22,12 +30,14 @@ mod frame;
 pub mod laws;
 mod lookups;
 mod stack;
+mod thread;
 
 pub use frame::{FrameTrust, StackFrame};
 use minidump::{Error, MinidumpContext, MinidumpRawContext};
 pub use stack::Stack;
 use stack::{caller_of, scan};
 use std::alloc::{AllocError, Global};
+pub use thread::{Process, thread_frames};
 
 /// Returns the frames of a thread, whose context and stack these are: that of the context, its callers by frame
 /// pointers, and behind them at most `limit` candidates.
