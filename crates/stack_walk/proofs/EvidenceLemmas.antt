@@ -65,7 +65,9 @@ of_word s size address f is_size e =
 
 of_candidate : (s : StackValue) (number : ℕ) (f : StackFrame) → word_candidate s number ≡ Some f → HasEvidence s f
 unfolding word_candidate
-of_candidate s number f e = (let size = step (λ size. candidate_at s size (number * size)) (pointer_bytes s.width) f e in of_word s size.0 (number * size.0) f size.1 size.2)
+of_candidate s number f e =
+    let size = step (λ size. candidate_at s size (number * size)) (pointer_bytes s.width) f e in
+    of_word s size.0 (number * size.0) f size.1 size.2
 
 one_more : {Y : Type 0} (P : Y → Type 0) (o : Option Y) (ys : List Y) → ((y : Y) → o ≡ Some y → P y) → All P ys → All P (cons_option o ys)
 one_more P None ys gives rest = rest

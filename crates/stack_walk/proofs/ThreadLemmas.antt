@@ -12,12 +12,13 @@ use Rattle.minidump.specs.Thread.{IsStack, Thread}
 use Rattle.minidump.proofs.LookedUpLemmas.{answers_alone, is_looked_up}
 use Rattle.stack_walk.specs.declared.frame.StackFrame.{StackFrame}
 use Rattle.stack_walk.specs.Frames.{AreFrames}
-use Rattle.stack_walk.specs.Threads.{AreFramesBy, AreThreadFrames, HasFrames, IsFoundOr, IsThreadStack, ProcessValue, thread_context}
+use Rattle.stack_walk.specs.Threads.{AreFramesBy, AreThreadFrames, IsFoundOr, IsThreadStack, ProcessValue, thread_context}
 use Rattle.stack_walk.proofs.ContextLemmas.{a_stack_pointer}
 use Rattle.stack_walk.proofs.FramesLemmas.{same_frames, some_frames}
 
 -- the answer of a lookup of memory
-an_answer : (memory : UnifiedRegions) (address : ℕ) → IsLookedUp region_range (unified_regions memory) address (looked_up region_range (unified_regions memory) address)
+an_answer : (memory : UnifiedRegions) (address : ℕ)
+    → IsLookedUp region_range (unified_regions memory) address (looked_up region_range (unified_regions memory) address)
 an_answer memory address =
     (answers_alone region_range (unified_regions memory) address (looked_up region_range (unified_regions memory) address)).1 refl
 

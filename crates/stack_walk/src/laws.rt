@@ -38,8 +38,8 @@ pub fn frames_are_few()
         → 8 * length frames ≤ length (stack_bytes s) + 8 * (1 + limit) }
 {}
 
-/// The scan from an address on leaves out no aligned word at or above it that has a candidate, if as many are asked for as the
-/// stack has bytes.
+/// The scan from an address on leaves out no aligned word at or above it that has a candidate, if as many are asked for as
+/// the stack has bytes.
 pub fn each_aligned_word_is_scanned()
     ensures { (s : StackValue) (from limit number size : ℕ) (f : StackFrame) → pointer_bytes s.width ≡ Some size
         → from ≤ number * size → word_candidate s number ≡ Some f → length (stack_bytes s) ≤ limit → Contains (scan s from limit) f }

@@ -9,16 +9,16 @@
 //!
 //! # What is proved
 //!
-//! - The frames are those of the definition `AreFrames`: [`frames`]. Those of a thread are the ones of its context, which is the
-//!   exception's on the thread where that happened, and of its stack: [`thread_frames`], by `AreThreadFrames`.
+//! - The frames are those of the definition `AreFrames`: [`frames`]. Those of a thread are the ones of its context, which is
+//!   the exception's on the thread where that happened, and of its stack: [`thread_frames`], by `AreThreadFrames`.
 //! - There is exactly one such list: [`laws::one_list_of_frames`], [`laws::one_list_of_thread_frames`]. Want of memory is an
 //!   error, never a shorter list.
 //! - Each frame but the first has a return address that stands in the stack right below its stack pointer:
 //!   [`laws::each_caller_has_its_evidence`].
 //! - The walk ends on every stack, and its length is bounded by that of the stack: [`laws::frames_are_few`].
 //! - The scan leaves out no aligned word from the last caller's stack pointer on: [`laws::each_aligned_word_is_scanned`].
-//! - The module of a frame and the offset in it are looked up at the instruction pointer of a context, and else at the return
-//!   address less one: [`StackFrame::module`], [`StackFrame::module_offset`].
+//! - The module of a frame and the offset in it are looked up at the instruction pointer of a context, and else at the
+//!   return address less one: [`StackFrame::module`], [`StackFrame::module_offset`].
 //!
 //! The proofs use the contracts of `minidump`, and its lemma that a lookup returns what the definition `looked_up` has.
 #![tactic(auto)]
@@ -42,9 +42,10 @@ pub use thread::{Process, thread_frames};
 /// Returns the frames of a thread, whose context and stack these are: that of the context, its callers by frame
 /// pointers, and behind them at most `limit` candidates.
 ///
-/// - A caller's frame record stands in the stack at the frame pointer, two words: the saved frame pointer, and the return
-///   address, which a kept module contains. It stands at or above the stack pointer of a frame that is a caller itself; a
-///   context's frame pointer may lie anywhere. The last caller is the one whose saved frame pointer leads to no record.
+/// - The frame pointer is `ebp`, `rbp`, or ARM's `fp`. At it stands the frame record, two words of the stack: the saved frame
+///   pointer, and the return address, which a kept module contains. A context's record may stand anywhere in the stack,
+///   that of a caller only behind the record before it. The last caller is the one whose saved frame pointer leads to no
+///   record. Bits by which ARM64 authenticates a return address are not taken off.
 /// - A candidate is an aligned word from the last caller's stack pointer on that a kept module contains, unless what is
 ///   known of the memory says that it can't be run.
 ///

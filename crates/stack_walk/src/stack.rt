@@ -93,7 +93,7 @@ pub(crate) fn scan(
         .collect(alloc)
 }
 
-// Returns the number of the first aligned word from an address on, by how many words come before it, and how many words there may be.
+// Returns the number of the first aligned word from an address on, and how many words there may be from there.
 fn words_from(stack: &Stack<'_, '_>, from: u64) -> (u64, usize)
     ensures { result ≡ words_from (stack_of stack.now) from }
 {

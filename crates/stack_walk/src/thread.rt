@@ -1,8 +1,7 @@
 ghost use Rattle.std.specs.Prelude.{◌≡◌, IfOk, IfSome, IsOkUnless};
-ghost use Rattle.std.specs.Option.{option_copied, option_map};
+ghost use Rattle.std.specs.Option.{option_map};
 ghost use Rattle.minidump.specs.declared.MinidumpContextValidity.TheVariants.{All};
 ghost use Rattle.minidump.specs.Below.MemoryLists.Unified.{unified_list, unified_region};
-ghost use Rattle.minidump.specs.Promise.{exception_stream};
 ghost use Rattle.minidump.specs.Thread.{thread_of};
 ghost use Rattle.stack_walk.specs.Threads.{AreThreadFrames, HasFrames, IsThreadStack, exception_context, process_of, thread_context};
 
@@ -30,8 +29,8 @@ pub struct Process<'l, 'a> {
 
 /// Returns the frames of a thread, as [`frames`] does of its context and its stack; none if it has no context.
 ///
-/// The context is the exception's, if that happened on the thread and its context is accepted, and else the thread's own. The
-/// stack is [`MinidumpThread::stack_memory`], and without one the kept region of the memory that contains the context's
+/// The context is the exception's, if that happened on the thread and its context is accepted, and else the thread's own.
+/// The stack is [`MinidumpThread::stack_memory`], and without one the kept region of the memory that contains the context's
 /// stack pointer. The only error is `OutOfMemory`.
 pub fn thread_frames<'a>(
     alloc: Global,
