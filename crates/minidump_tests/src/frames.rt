@@ -117,10 +117,14 @@ fn is_frame(frame: &StackFrame, want: &(FrameTrust, u64, u64)) -> bool {
     frame.trust == want.0 && frame.instruction == want.1 && frame.stack_pointer == want.2
 }
 
+// Tells whether these are the frames behind that of the context.
 fn are_frames(frames: &[StackFrame], want: &[(FrameTrust, u64, u64)]) -> bool {
     frames.len() == want.len() + 1
-        && frames[0].trust == FrameTrust::Context
-        && (0..want.len()).all(|at| is_frame(&frames[at + 1], &want[at]))
+        && frames
+            .iter()
+            .skip(1)
+            .zip(want)
+            .all(|(frame, want)| is_frame(frame, want))
 }
 
 fn modules_of(alloc: Global) -> Result<MinidumpModuleList, Error> {

@@ -3,11 +3,6 @@ use Rattle.std.proofs.Common.{◌≡◌, ℕ, true, Option, Some, None, refl}
 use Rattle.std.specs.Prelude.{is_some}
 use Rattle.minidump.specs.declared.MinidumpContext.{MinidumpContext}
 use Rattle.minidump.specs.declared.MinidumpRawContext.{MinidumpRawContext}
-use Rattle.minidump.specs.declared.format.CONTEXT_AMD64.{CONTEXT_AMD64}
-use Rattle.minidump.specs.declared.format.CONTEXT_ARM.{CONTEXT_ARM}
-use Rattle.minidump.specs.declared.format.CONTEXT_ARM64.{CONTEXT_ARM64}
-use Rattle.minidump.specs.declared.format.CONTEXT_ARM64_OLD.{CONTEXT_ARM64_OLD}
-use Rattle.minidump.specs.declared.format.CONTEXT_X86.{CONTEXT_X86}
 use Rattle.minidump.specs.declared.MinidumpRawContext.TheVariants.{X86, Amd64, Arm, Arm64, OldArm64}
 use Rattle.minidump.specs.Below.Contexts.Amd64.{amd64_registers, amd64_values}
 use Rattle.minidump.specs.Below.Contexts.Arm.{arm_aliases, arm_numbers, arm_registers, arm_values}
@@ -25,32 +20,13 @@ IsKnown raw =
     (is_some (value_in (registers_of raw) (registers_of raw).instruction_pointer) ≡ true)
     × (is_some (value_in (registers_of raw) (registers_of raw).stack_pointer) ≡ true)
 
-x86 : (c : CONTEXT_X86) → IsKnown (X86 c)
-unfolding x86_registers x86_values canonical_name place_of
-x86 c = (refl, refl)
-
-amd64 : (c : CONTEXT_AMD64) → IsKnown (Amd64 c)
-unfolding amd64_registers amd64_values canonical_name place_of
-amd64 c = (refl, refl)
-
-arm : (c : CONTEXT_ARM) → IsKnown (Arm c)
-unfolding arm_registers arm_aliases arm_numbers arm_values canonical_name place_of
-arm c = (refl, refl)
-
-arm64 : (c : CONTEXT_ARM64) → IsKnown (Arm64 c)
-unfolding arm64_registers arm64_aliases arm64_values canonical_name place_of
-arm64 c = (refl, refl)
-
-old_arm64 : (c : CONTEXT_ARM64_OLD) → IsKnown (OldArm64 c)
-unfolding arm64_registers arm64_aliases arm64_old_values canonical_name place_of
-old_arm64 c = (refl, refl)
-
 known : (raw : MinidumpRawContext) → IsKnown raw
-known (X86 c) = x86 c
-known (Amd64 c) = amd64 c
-known (Arm c) = arm c
-known (Arm64 c) = arm64 c
-known (OldArm64 c) = old_arm64 c
+unfolding x86_registers x86_values amd64_registers amd64_values arm_registers arm_aliases arm_numbers arm_values arm64_registers arm64_aliases arm64_values arm64_old_values canonical_name place_of
+known (X86 c) = (refl, refl)
+known (Amd64 c) = (refl, refl)
+known (Arm c) = (refl, refl)
+known (Arm64 c) = (refl, refl)
+known (OldArm64 c) = (refl, refl)
 
 value : (o : Option ℕ) → is_some o ≡ true → (x : ℕ) × (o ≡ Some x)
 value None is = cc
