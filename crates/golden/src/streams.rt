@@ -52,17 +52,19 @@ fn push_texts(alloc: Global, dump: &Minidump<'_>, out: &mut Vec<u8>) -> Result<(
     push_answer::<MinidumpSoftErrors<'_>>(alloc, dump, "MozSoftErrors", out)
 }
 
-// Appends a line for a type of stream, but nothing where the dump has no such stream.
+// Appends a line for a type of stream, but nothing where the dump has no such stream, by the type and by its number.
 fn push_answer<'a, S: MinidumpStream<'a> + Drop>(
     alloc: Global,
     dump: &Minidump<'a>,
     name: &str,
     out: &mut Vec<u8>,
 ) -> Result<()> {
+    let is_missing = dump.get_raw_stream(S::STREAM_TYPE).err() == Some(Error::StreamNotFound);
     match dump.get_stream::<S>(alloc) {
-        Ok(_) => writeln!(out, "{name}: ok")?,
-        Err(Error::StreamNotFound) => {}
-        Err(error) => writeln!(out, "{name}: {error:?}")?,
+        Err(Error::StreamNotFound) if is_missing => {}
+        Ok(_) if !is_missing => writeln!(out, "{name}: ok")?,
+        Err(error) if !is_missing => writeln!(out, "{name}: {error:?}")?,
+        _ => writeln!(out, "{name}: another number")?,
     }
     Ok(())
 }

@@ -24,6 +24,21 @@ fn is_too_short(alloc: Global, bytes: &[u8]) -> bool {
     answer.err() == Some(Error::MissingHeader) && steps.count() <= 8
 }
 
+// The header alone: no streams, and a directory where nothing is.
+const NO_STREAMS: [u8; 32] = [
+    0x4d, 0x44, 0x4d, 0x50, 0x93, 0xa7, 0, 0, 0, 0, 0, 0, 0xff, 0xff, 0xff, 0xff, 0, 0, 0, 0, 0, 0,
+    0, 0, 0, 0, 0, 0, 0, 0, 0, 0,
+];
+
+fn lists_nothing(alloc: Global, bytes: &[u8]) -> Result<bool, Error> {
+    Ok(Minidump::read(alloc, bytes)?.all_streams().next().is_none())
+}
+
+#[test]
+fn a_directory_may_be_empty(rt: HostRuntime) {
+    assert!(rt; lists_nothing(rt.alloc(), &NO_STREAMS) == Ok(true));
+}
+
 #[test]
 fn refuses_short_files(rt: HostRuntime) {
     assert!(rt; is_too_short(rt.alloc(), &[]) && is_too_short(rt.alloc(), &ONE_STREAM[..31]));

@@ -1,6 +1,6 @@
-//! Files: what `read_path` answers, and what it leaves in the vector that it is lent.
+//! Files and readers: what `read_path` and `read_from` answer, and what they leave in the vector that they are lent.
 
-use minidump::{Endian, Error, Minidump};
+use minidump::{Endian, Error, Minidump, Told};
 use minidump_synth::{ONE_STREAM, SynthMinidump, one_stream_with_byte};
 use std::alloc::{AllocError, Global};
 use std::fs;
@@ -49,5 +49,21 @@ fn fills_the_vector_with_the_file(rt: HostRuntime) -> Result<(), Fail> {
     ] {
         assert!(rt; fills(&rt, *bytes, Some(*error))?);
     }
+    Ok(())
+}
+
+// Tells whether this is the error of reading a reader of these bytes into a vector of three bytes, which holds them then.
+fn takes_all(alloc: Global, file: &[u8], error: Option<Error>) -> Result<bool, Fail> {
+    let mut bytes = Vec::from_array(alloc, [1, 2, 3])?;
+    let mut told = Told::new(file);
+    let found = Minidump::read_from(alloc, &mut told, &mut bytes).err();
+    Ok(found == error && bytes.as_slice() == file)
+}
+
+#[test]
+fn fills_the_vector_with_what_a_reader_gives(rt: HostRuntime) -> Result<(), Fail> {
+    let bad = one_stream_with_byte(4, 0x94);
+    assert!(rt; takes_all(rt.alloc(), &ONE_STREAM, None)?);
+    assert!(rt; takes_all(rt.alloc(), &bad, Some(Error::VersionMismatch))?);
     Ok(())
 }

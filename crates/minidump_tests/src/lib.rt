@@ -20,6 +20,8 @@ mod given;
 #[cfg(test)]
 mod memory;
 #[cfg(test)]
+mod modules;
+#[cfg(test)]
 mod names;
 #[cfg(test)]
 mod own_type;

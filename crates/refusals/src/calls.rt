@@ -1,4 +1,4 @@
-use crate::crash::{crash, names, reason_text, summary};
+use crate::crash::{crash, frames, names, reason_text, summary};
 use crate::device::Device;
 use crate::records::{
     annotations, code_ids, crashpad_module, handles, identities, mac_records, module_list,
@@ -58,6 +58,7 @@ pub enum Call {
     ReasonText,
     Names,
     Summary,
+    Frames,
 }
 
 impl Call {
@@ -145,6 +146,7 @@ pub const CALLS: &[(&str, Call)] = &[
     ("reason-text", Call::ReasonText),
     ("names", Call::Names),
     ("summary", Call::Summary),
+    ("frames", Call::Frames),
 ];
 
 /// Makes a call.
@@ -187,5 +189,6 @@ pub fn make(world: &World<'_>, call: Call, out: &mut Told<Device>) -> Result<(),
         Call::ReasonText => reason_text(world, out),
         Call::Names => names(world, out),
         Call::Summary => summary(world, out),
+        Call::Frames => frames(world, out),
     }
 }

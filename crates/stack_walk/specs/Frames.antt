@@ -106,7 +106,7 @@ abbrev pub AreCallers : StackValue → StackFrame → List StackFrame → StackF
 AreCallers s f [] last = (caller_of s f ≡ None) × (last ≡ f)
 AreCallers s f (g ∷ gs) last = (caller_of s f ≡ Some g) × AreCallers s g gs last
 
--- the frames from one on: that frame and its callers
+-- the frames from one on: that frame and its callers, and the last of them
 pub record IsWalk (s : StackValue) (first : StackFrame) (frames : List StackFrame) (last : StackFrame) : Type 0 where
   pub callers : List StackFrame
   pub whole : frames ≡ first ∷ callers

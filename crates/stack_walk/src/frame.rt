@@ -61,7 +61,8 @@ impl StackFrame {
     }
 
     /// Returns the address in the stack at which the frame's return address stands, the word below its stack pointer.
-    /// Returns `None` for the frame of a context, and where the width of an address is unknown.
+    /// Returns `None` for the frame of a context, where the width of an address is unknown, and where the stack pointer is less
+    /// than that.
     pub fn evidence(&self, width: PointerWidth) -> Option<u64>
         ensures { result ≡ evidence_place width self.now }
     {
