@@ -8,7 +8,7 @@ use Rattle.stack_walk.specs.declared.frame.FrameTrust.TheVariants.{Context, Fram
 use Rattle.stack_walk.specs.declared.frame.StackFrame.{StackFrame}
 use Rattle.stack_walk.specs.Frames.{StackValue, pointer_at}
 
--- the address of the word below a stack pointer
+-- the address of the word below the stack pointer of a caller or a candidate: none of a context
 abbrev word_below : FrameTrust → ℕ → ℕ → Option ℕ
 word_below Context stack_pointer size = None
 word_below FramePointer stack_pointer size = if nat_le size stack_pointer then Some (stack_pointer - size) else None

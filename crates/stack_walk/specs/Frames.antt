@@ -72,13 +72,15 @@ pub record IsContextFrame (c : MinidumpContext) (f : StackFrame) : Type 0 where
 
 -- ---- callers, by frame pointers
 
--- the frame with a saved frame pointer and a return address, behind whose record the stack goes on; none where no kept module has the call
+-- the caller that a record gives, by the address behind the record, the saved frame pointer and the return address; none where no kept
+-- module has the call
 abbrev pub caller_by : StackValue → ℕ → ℕ → ℕ → Option StackFrame
 caller_by s behind saved address = option_and_then (λ call. if is_code s.modules call
     then Some (record { instruction = address; stack_pointer = behind; frame_pointer = Some saved; trust = FramePointer })
     else None) (call_site address)
 
--- the frame to which the record at a place returns. A record is two words: the saved frame pointer and the return address
+-- the frame to which the record at a place returns. A record is two words: the saved frame pointer and the return address. None where the
+-- address behind it has more than 64 bits
 unfoldable pub caller_at : StackValue → ℕ → ℕ → Option StackFrame
 caller_at s size place =
     if nat_lt (place + 2 * size) (2 ^ 64)
@@ -120,7 +122,7 @@ candidate_by s behind word = option_and_then (λ call. if is_code s.modules call
     then Some (record { instruction = word; stack_pointer = behind; frame_pointer = None; trust = Scan })
     else None) (call_site word)
 
--- the candidate of the word at an address
+-- the candidate of the word at an address. None where the address behind it has more than 64 bits
 abbrev pub candidate_at : StackValue → ℕ → ℕ → Option StackFrame
 candidate_at s size address =
     if nat_lt (address + size) (2 ^ 64) then option_and_then (candidate_by s (address + size)) (pointer_at s address) else None

@@ -47,7 +47,7 @@ abbrev pub thread_context : ProcessValue → Thread → Option MinidumpRawContex
 thread_context p t =
     option_or (exception_context p t.raw.thread_id) (accepted_context p.system.raw.processor_architecture t.order t.context)
 
--- the region of a stack: the one that is found, else the one that is listed
+-- the region of a stack: the one that is found; where none is, this is said of it
 abbrev pub IsFoundOr : Option UnifiedRegion → Type 0 → Option UnifiedRegion → Type 0
 IsFoundOr (Some found) listed region = region ≡ Some found
 IsFoundOr None listed region = listed
