@@ -32,7 +32,7 @@ fn print_row(rt: &HostRuntime, text: &str) -> Result<u64> {
     }
     let row = Row::read(rt.alloc(), text)?;
     let wanted = lines_of(rt.alloc(), row.wanted.as_bytes())?;
-    if wanted.is_empty() {
+    if wanted.iter().all(|line| *line == b"..".as_slice()) {
         bail!("{}: no line of the answer", row.name);
     }
     for endian in row.orders {

@@ -1,4 +1,4 @@
-//! The identifier of a module's debug file, beside the one that Breakpad's text of it spells.
+//! The identifier of a module's debug file, beside the one that Breakpad's text of it spells, and a module without a version.
 
 use minidump::format::MINIDUMP_MODULE;
 use minidump::{DebugId, Endian, Error, Minidump, MinidumpModuleList, Module};
@@ -33,12 +33,14 @@ fn dump_with(alloc: Global, view: &[u8]) -> Result<Vec<u8>, AllocError> {
     dump.finish()
 }
 
+// The version of the module isn't there: its record is of zeros. A report prints that as an empty one.
 fn is_that_of_a_text(alloc: Global, bytes: &[u8], text: &str) -> Result<bool, Error> {
     let modules = Minidump::read(alloc, bytes)?.get_stream::<MinidumpModuleList>(alloc)?;
-    let id = modules
-        .main_module()
-        .and_then(|module| module.debug_identifier());
-    Ok(id.is_some() && id == DebugId::from_breakpad(text))
+    let Some(module) = modules.main_module() else {
+        return Ok(false);
+    };
+    let id = module.debug_identifier();
+    Ok(id.is_some() && id == DebugId::from_breakpad(text) && module.version(alloc)?.is_none())
 }
 
 #[test]

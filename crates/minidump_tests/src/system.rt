@@ -64,3 +64,21 @@ fn has_no_service_pack(alloc: Global) -> Result<bool, Error> {
 fn has_no_service_pack_at_the_beginning(rt: HostRuntime) {
     assert!(rt; has_no_service_pack(rt.alloc()) == Ok(true));
 }
+
+// A report prints no description as an empty one.
+fn has_no_description(alloc: Global) -> Result<bool, Error> {
+    let mut dump = SynthMinidump::new(alloc, Endian::Little);
+    let arm64 = MINIDUMP_SYSTEM_INFO {
+        processor_architecture: 12,
+        ..windows(0)
+    };
+    dump.add_stream(SYSTEM_INFO, &arm64);
+    let bytes = dump.finish()?;
+    let system: MinidumpSystemInfo = stream_of(alloc, &bytes)?;
+    Ok(system.cpu == Cpu::Arm64 && system.cpu_info().is_none())
+}
+
+#[test]
+fn arm64_has_no_description(rt: HostRuntime) {
+    assert!(rt; has_no_description(rt.alloc()) == Ok(true));
+}

@@ -1,14 +1,21 @@
-//! The boot arguments of a Mac, and the environment of Linux.
+//! The boot arguments of a Mac, the environment and the limits of Linux, and the texts of an assertion.
 
 use crate::given::{counted_stream_of, dump_of, is_text, stream_of};
 use minidump::format::MINIDUMP_MAC_BOOTARGS;
-use minidump::{Endian, Error, LinuxPairs, MinidumpLinuxEnviron, MinidumpMacBootargs};
+use minidump::{
+    Endian, Error, LinuxPairs, MinidumpAssertion, MinidumpLinuxEnviron, MinidumpLinuxProcLimits,
+    MinidumpMacBootargs,
+};
 use minidump_synth::SynthMinidump;
 use std::alloc::{AllocError, Global};
+
+const ASSERTION_INFO: u32 = 0x4767_0002;
 
 const ENVIRON: u32 = 0x4767_0007;
 
 const BOOTARGS: u32 = 0x4d7a_0002;
+
+const LIMITS: u32 = 0x4d7a_0003;
 
 // A dump whose boot arguments are a stream of this length, and where their text is.
 fn bootargs_dump(
@@ -89,8 +96,46 @@ fn is_environment(alloc: Global, text: &[u8], pairs: &[u8]) -> Result<bool, Erro
     Ok(environ.raw_bytes() == text && are_pairs(alloc, environ.iter(), pairs)?)
 }
 
-// A row of `golden` holds no such byte.
+// A row of `golden` holds no such byte as the first, and doesn't tell blanks on the sides of a line from none.
 #[test]
 fn an_environment_need_not_be_utf_8(rt: HostRuntime) {
-    assert!(rt; is_environment(rt.alloc(), b"none\n\xff=\"\"", b"\xff|;") == Ok(true));
+    let alloc = rt.alloc();
+    assert!(rt; is_environment(alloc, b"none\n\xff=\"\"", b"\xff|;") == Ok(true));
+    assert!(rt; is_environment(alloc, b" A =\t\" x \" \n", b"A| x ;") == Ok(true));
+}
+
+const LINES: &[&[u8]] = &[b"Limit  Soft", b"", b"Max"];
+
+// Tells whether the lines of the limits are these, the empty one among them.
+fn has_lines(alloc: Global) -> Result<bool, Error> {
+    let bytes = dump_of(alloc, LIMITS, b"Limit  Soft\n\nMax")?;
+    let limits: MinidumpLinuxProcLimits = stream_of(alloc, &bytes)?;
+    let mut lines = limits.iter();
+    for want in LINES {
+        if lines.next().map(|line| line.as_bytes()) != Some(*want) {
+            return Ok(false);
+        }
+    }
+    Ok(lines.next().is_none())
+}
+
+#[test]
+fn an_empty_line_is_a_line(rt: HostRuntime) {
+    assert!(rt; has_lines(rt.alloc()) == Ok(true));
+}
+
+// An assertion whose function is no text, and whose file is empty.
+fn tells_no_text_from_an_empty_one(alloc: Global) -> Result<bool, Error> {
+    let mut dump = SynthMinidump::new(alloc, Endian::Little);
+    let mut info = dump.section();
+    info.zeros(256).u16(0xd800).zeros(254).zeros(264);
+    dump.add_stream(ASSERTION_INFO, &info);
+    let bytes = dump.finish()?;
+    let info: MinidumpAssertion = stream_of(alloc, &bytes)?;
+    Ok(info.function(alloc)?.is_none() && is_text(info.file(alloc)?, Some("")))
+}
+
+#[test]
+fn an_assertion_may_have_no_function(rt: HostRuntime) {
+    assert!(rt; tells_no_text_from_an_empty_one(rt.alloc()) == Ok(true));
 }

@@ -1,5 +1,6 @@
-use crate::crash::{crash, frames, names, reason_text, summary};
+use crate::crash::{crash, names, reason_text, summary};
 use crate::device::Device;
+use crate::frames::walk;
 use crate::records::{
     annotations, code_ids, crashpad_module, handles, identities, mac_records, module_list,
     new_modules, unloaded_list,
@@ -189,6 +190,6 @@ pub fn make(world: &World<'_>, call: Call, out: &mut Told<Device>) -> Result<(),
         Call::ReasonText => reason_text(world, out),
         Call::Names => names(world, out),
         Call::Summary => summary(world, out),
-        Call::Frames => frames(world, out),
+        Call::Frames => walk(world, out),
     }
 }

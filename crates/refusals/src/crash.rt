@@ -2,12 +2,8 @@ use crate::device::Device;
 use crate::records::put_text;
 use crate::world::{World, put_line};
 use crash_summary::{summarise, system_of};
-use minidump::{
-    CodeNames, CrashReason, Error, MinidumpException, MinidumpModuleList, MinidumpThreadList, Told,
-    UnifiedMemoryInfoList,
-};
+use minidump::{CodeNames, CrashReason, Error, MinidumpException, MinidumpThreadList, Told};
 use minidump_names::{NameTable, NamesError};
-use stack_walk::{Process, thread_frames};
 
 /// Prints each thread, and the reason of the crash.
 pub fn crash(world: &World<'_>, out: &mut Told<Device>) -> Result<(), Error> {
@@ -62,27 +58,4 @@ pub fn summary(world: &World<'_>, out: &mut Told<Device>) -> Result<(), Error> {
     put_line(out, summary.stack.is_some().then_some("a stack"))?;
     let system = system_of(world.alloc, &world.dump)?;
     put_line(out, system.is_some().then_some("a system"))
-}
-
-/// Walks the stack of each thread.
-pub fn frames(world: &World<'_>, out: &mut Told<Device>) -> Result<(), Error> {
-    let alloc = world.alloc;
-    let exception = world.dump.get_stream::<MinidumpException<'_>>(alloc)?;
-    let modules = world.dump.get_stream::<MinidumpModuleList>(alloc)?;
-    let infos = UnifiedMemoryInfoList::empty(alloc);
-    let process = Process {
-        system: &world.system,
-        exception: Some(&exception),
-        modules: &modules,
-        memory: &world.memory,
-        infos: &infos,
-    };
-    let list = world.dump.get_stream::<MinidumpThreadList<'_>>(alloc)?;
-    for thread in &list.threads {
-        for frame in &thread_frames(alloc, &process, thread, 8)? {
-            let text = format!(in alloc; "{:#x} {:#x}", frame.instruction, frame.stack_pointer)?;
-            put_line(out, Some(text.as_str()))?;
-        }
-    }
-    Ok(())
 }

@@ -18,6 +18,7 @@ mod calls;
 mod check;
 mod crash;
 mod device;
+mod frames;
 mod records;
 mod regions;
 mod streams;

@@ -16,7 +16,8 @@
 //! - Each frame but the first has a return address that stands in the stack right below its stack pointer:
 //!   [`laws::each_caller_has_its_evidence`].
 //! - The walk ends on every stack, and its length is bounded by that of the stack: [`laws::frames_are_few`].
-//! - The scan leaves out no aligned word from the last caller's stack pointer on: [`laws::each_aligned_word_is_scanned`].
+//! - The scan takes the first words, as many as are asked for, and leaves out no aligned word if that is enough:
+//!   [`laws::each_aligned_word_is_scanned`].
 //! - The module of a frame and the offset in it are looked up at the instruction pointer of a context, and else at the
 //!   return address less one: [`StackFrame::module`], [`StackFrame::module_offset`].
 //!

@@ -1,4 +1,4 @@
-ghost use Rattle.std.specs.Prelude.{◌≡◌, IfOk, IfSome, IsOkUnless};
+ghost use Rattle.std.specs.Prelude.{◌≡◌, IfOk, IfSome, IsOkUnless, IsSome, OnErr};
 ghost use Rattle.std.specs.Option.{option_map};
 ghost use Rattle.minidump.specs.declared.MinidumpContextValidity.TheVariants.{All};
 ghost use Rattle.minidump.specs.Below.MemoryLists.Unified.{unified_list, unified_region};
@@ -31,7 +31,7 @@ pub struct Process<'l, 'a> {
 ///
 /// The context is the exception's, if that happened on the thread and its context is accepted, and else the thread's own.
 /// The stack is [`MinidumpThread::stack_memory`], and without one the kept region of the memory that contains the context's
-/// stack pointer. The only error is `OutOfMemory`.
+/// stack pointer. The only error is `OutOfMemory`, which comes only if there is a context.
 pub fn thread_frames<'a>(
     alloc: Global,
     process: &Process<'_, 'a>,
@@ -40,6 +40,7 @@ pub fn thread_frames<'a>(
 ) -> Result<Vec<StackFrame>, Error>
     ensures frames { IfOk result (λ frames. AreThreadFrames (process_of process.now) (thread_of thread.now) limit frames.items) }
     ensures memory { IsOkUnless result Error.OutOfMemory }
+    ensures some { OnErr result (IsSome (thread_context (process_of process.now) (thread_of thread.now))) }
 {
     match thread_context(process, thread) {
         Some(context) => frames_of(alloc, process, thread, &context, limit),
