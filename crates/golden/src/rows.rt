@@ -32,7 +32,7 @@ fn print_row(rt: &HostRuntime, text: &str) -> Result<u64> {
     }
     let row = Row::read(rt.alloc(), text)?;
     let wanted = lines_of(rt.alloc(), row.wanted.as_bytes())?;
-    if wanted.iter().all(|line| *line == b"..".as_slice()) {
+    if wanted.iter().all(|line| is_any(line)) {
         bail!("{}: no line of the answer", row.name);
     }
     for endian in row.orders {
@@ -52,17 +52,23 @@ fn print_difference(rt: &HostRuntime, row: &Row<'_>, endian: Endian, found: &[u8
 }
 
 // Returns the lines of a text that aren't empty, without the blanks on both sides.
-fn lines_of(alloc: Global, text: &[u8]) -> Result<Vec<&[u8]>, AllocError> {
-    text.split(|byte| *byte == b'\n')
-        .map(|line| line.trim_ascii())
-        .filter(|line| !line.is_empty())
-        .collect(alloc)
+fn lines_of(alloc: Global, text: &[u8]) -> Result<Vec<Vec<u8>>, AllocError> {
+    let mut lines = Vec::new(alloc);
+    for line in text.split(|byte| *byte == b'\n') {
+        let line = line.trim_ascii();
+        if !line.is_empty() {
+            let mut copy = Vec::new(alloc);
+            copy.extend_from_slice(line)?;
+            lines.push(copy)?;
+        }
+    }
+    Ok(lines)
 }
 
-// Tells whether the lines are there, one behind another, but that `..` is any number of lines.
-fn has<'t>(lines: &[&'t [u8]], wanted: &[&'t [u8]]) -> bool {
+// Tests whether the lines are there, one behind another, but that `..` is any number of lines.
+fn has(lines: &[Vec<u8>], wanted: &[Vec<u8>]) -> bool {
     let mut place = 0;
-    for part in wanted.split(|line| *line == b"..".as_slice()) {
+    for part in wanted.split(|line| is_any(line)) {
         match behind(lines, place, part) {
             Some(end) => place = end,
             None => return false,
@@ -71,14 +77,19 @@ fn has<'t>(lines: &[&'t [u8]], wanted: &[&'t [u8]]) -> bool {
     true
 }
 
+// Tests whether a line stands for any number of lines.
+fn is_any(line: &Vec<u8>) -> bool {
+    line.as_slice() == b".."
+}
+
 // Returns the place behind the first lines from a place on that are these.
-fn behind<'t>(lines: &[&'t [u8]], from: usize, part: &[&'t [u8]]) -> Option<usize> {
+fn behind(lines: &[Vec<u8>], from: usize, part: &[Vec<u8>]) -> Option<usize> {
     (from..=lines.len())
         .find(|place| stand_at(lines, *place, part))
         .map(|place| place.saturating_add(part.len()))
 }
 
-fn stand_at<'t>(lines: &[&'t [u8]], place: usize, part: &[&'t [u8]]) -> bool {
+fn stand_at(lines: &[Vec<u8>], place: usize, part: &[Vec<u8>]) -> bool {
     match lines.get(place..) {
         Some(left) => left.starts_with(part),
         None => false,
