@@ -79,7 +79,7 @@ fn has(lines: &[Vec<u8>], wanted: &[Vec<u8>]) -> bool {
 
 // Tests whether a line stands for any number of lines.
 fn is_any(line: &Vec<u8>) -> bool {
-    line.as_slice() == b".."
+    line.as_slice() == b"..".as_slice()
 }
 
 // Returns the place behind the first lines from a place on that are these.
