@@ -3,40 +3,18 @@ use crate::world::{World, put_line};
 use minidump::format::CONTEXT_AMD64;
 use minidump::system_info::PointerWidth;
 use minidump::{
-    Endian, Error, MinidumpContext, MinidumpException, MinidumpMemory, MinidumpModule,
-    MinidumpModuleList, MinidumpRawContext, MinidumpThreadList, Told, UnifiedMemory,
-    UnifiedMemoryInfoList,
+    Endian, Error, MinidumpContext, MinidumpMemory, MinidumpModule, MinidumpModuleList,
+    MinidumpRawContext, Told, UnifiedMemory, UnifiedMemoryInfoList,
 };
 use minidump_synth::zeroed;
-use stack_walk::{Process, Stack, StackFrame, frames, thread_frames};
+use stack_walk::{Stack, StackFrame, frames};
+use std::alloc::{AllocError, Global};
 
-/// Walks the stack of each thread, and one with callers and candidates.
+/// Walks a stack with callers and candidates.
 pub fn walk(world: &World<'_>, out: &mut Told<Device>) -> Result<(), Error> {
-    let infos = UnifiedMemoryInfoList::empty(world.alloc);
-    walk_threads(world, &infos, out)?;
-    walk_words(world, &infos, out)
-}
-
-fn walk_threads(
-    world: &World<'_>,
-    infos: &UnifiedMemoryInfoList<'_>,
-    out: &mut Told<Device>,
-) -> Result<(), Error> {
-    let exception = world.dump.get_stream::<MinidumpException<'_>>(world.alloc)?;
-    let modules = world.dump.get_stream::<MinidumpModuleList>(world.alloc)?;
-    let process = Process {
-        system: &world.system,
-        exception: Some(&exception),
-        modules: &modules,
-        memory: &world.memory,
-        infos,
-    };
-    let list = world
-        .dump
-        .get_stream::<MinidumpThreadList<'_>>(world.alloc)?;
-    for thread in &list.threads {
-        let frames = thread_frames(world.alloc, &process, thread, 8)?;
-        put_frames(world, frames.as_slice(), out)?;
+    for frame in &walked(world.alloc)? {
+        let text = format!(in world.alloc; "{:#x} {:#x}", frame.instruction, frame.stack_pointer)?;
+        put_line(out, Some(text.as_str()))?;
     }
     Ok(())
 }
@@ -47,15 +25,29 @@ const WORDS: &[u64] = &[
     0x4007, 0x4008, 0x4009, 0x400a, 0x400b, 0x400c,
 ];
 
-fn walk_words(
-    world: &World<'_>,
-    infos: &UnifiedMemoryInfoList<'_>,
-    out: &mut Told<Device>,
-) -> Result<(), Error> {
-    let mut bytes = Vec::new(world.alloc);
+fn words(alloc: Global) -> Result<Vec<u8>, AllocError> {
+    let mut bytes = Vec::new(alloc);
     for word in WORDS {
         bytes.extend_from_slice(&word.to_le_bytes())?;
     }
+    Ok(bytes)
+}
+
+fn modules(alloc: Global) -> Result<MinidumpModuleList, Error> {
+    let mut modules = Vec::new(alloc);
+    modules.push(MinidumpModule::new(alloc, 0x4000, 0x100, "a")?)?;
+    MinidumpModuleList::from_modules(alloc, modules)
+}
+
+fn context() -> MinidumpContext {
+    MinidumpContext::from_raw(MinidumpRawContext::Amd64(CONTEXT_AMD64 {
+        rbp: 0x1000,
+        ..zeroed()
+    }))
+}
+
+fn walked(alloc: Global) -> Result<Vec<StackFrame>, Error> {
+    let bytes = words(alloc)?;
     let memory = MinidumpMemory {
         desc: zeroed(),
         base_address: 0x1000,
@@ -63,31 +55,13 @@ fn walk_words(
         bytes: bytes.as_slice(),
         endian: Endian::Little,
     };
-    let mut modules = Vec::new(world.alloc);
-    modules.push(MinidumpModule::new(world.alloc, 0x4000, 0x100, "a")?)?;
-    let modules = MinidumpModuleList::from_modules(world.alloc, modules)?;
+    let modules = modules(alloc)?;
+    let infos = UnifiedMemoryInfoList::empty(alloc);
     let stack = Stack {
         memory: Some(UnifiedMemory::Memory(&memory)),
         modules: &modules,
-        infos,
+        infos: &infos,
         width: PointerWidth::Bits64,
     };
-    let context = MinidumpContext::from_raw(MinidumpRawContext::Amd64(CONTEXT_AMD64 {
-        rbp: 0x1000,
-        ..zeroed()
-    }));
-    let frames = frames(world.alloc, &stack, &context, 8)?;
-    put_frames(world, frames.as_slice(), out)
-}
-
-fn put_frames(
-    world: &World<'_>,
-    frames: &[StackFrame],
-    out: &mut Told<Device>,
-) -> Result<(), Error> {
-    for frame in frames {
-        let text = format!(in world.alloc; "{:#x} {:#x}", frame.instruction, frame.stack_pointer)?;
-        put_line(out, Some(text.as_str()))?;
-    }
-    Ok(())
+    frames(alloc, &stack, &context(), 8)
 }
