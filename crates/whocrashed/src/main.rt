@@ -1,51 +1,47 @@
-//! `whocrashed FILE [NAMES [FILE..]]`, which prints who crashed, where and why: an example of a caller of `minidump`,
-//! `crash_summary` and `minidump_names`, whose output the README shows.
+//! `whocrashed [OPTIONS] DUMP..`, which prints who crashed, where, why and by whom called: an example of a caller of `minidump`,
+//! `stack_walk` and `minidump_names`, whose output the README shows. `whocrashed --help` prints its options.
 //!
 //! It prints the system and the processor; the thread, the address and the reason of the crash; each thread with its
-//! name, its instruction pointer and the module there, the crashing one first; and the number of modules. NAMES is a
-//! text of names of codes, as those in `names/`. Without it most reasons are numbers. Further files are printed behind
-//! empty lines.
+//! name and its frames, the crashing one first; and the number of modules. The frames are those of the crashing thread and
+//! the first one of each other, or all with `--all-threads`. A line on a frame has its number, its address, its module with the
+//! offset in it, and what the frame is known by. A caller's module and offset are those of its return address less one,
+//! which lies in the call.
 //!
-//! # What is proved
+//! A stream that is missing and one that can't be read are two different lines, as `no exception` and
+//! `exception: StreamReadFailure`. Control characters, ends of lines and marks of direction in names, paths and texts are
+//! printed as escapes, as `\u{1b}`.
 //!
-//! - Each stream that is used is the one of the dump, or none where it is missing or malformed: `streams_of`.
-//! - The instruction pointer of a thread is that of its context, and of the crashing one that of the exception's, where
-//!   it has one: `crash_summary::instruction_pointer`, `exception_on`. The module is the kept one that contains it:
-//!   `place_of`. The name is the one of the thread's id: `name_of`.
+//! # Errors
 //!
-//! What isn't: what is printed, which a stored run shows.
+//! Status 1: a stream that was wanted can't be read, which a line says; or a file can't be read or is no dump, which a line on
+//! standard error says with its path, while the other dumps are printed. Status 2: the arguments are refused. A closed pipe
+//! ends the program quietly, with status 0.
 #![tactic(auto)]
 
-mod lines;
+mod escape;
+mod frames;
+mod options;
+mod page;
 mod places;
+mod program;
+mod report;
+mod space;
 mod streams;
 
-use anyhow::{Result, bail};
-use minidump::CodeNames;
-use minidump_names::NameTable;
-use std::{env, fs};
+use std::alloc::AllocError;
+use std::env;
+use std::process::ExitCode;
 
-fn main(rt: HostRuntime) -> Result<()> {
-    let words: Vec<String> = env::args(&rt)?.collect(rt.alloc())?;
+fn main(rt: HostRuntime) -> ExitCode {
+    let Ok(args) = env::args(&rt) else {
+        return ExitCode::from(2);
+    };
+    let words: Result<Vec<String>, AllocError> = args.collect(rt.alloc());
+    let Ok(words) = words else {
+        return ExitCode::FAILURE;
+    };
     match words.as_slice() {
-        [_, file] => who_crashed(&rt, file.as_str(), &CodeNames::empty()),
-        [_, file, names, more @ ..] => {
-            let text = fs::read(&rt, names.as_str())?;
-            let table = NameTable::read(rt.alloc(), &text)?;
-            let lists = table.lists(rt.alloc())?;
-            who_crashed(&rt, file.as_str(), &lists.code_names())?;
-            for path in more {
-                println!(rt; "")?;
-                who_crashed(&rt, path.as_str(), &lists.code_names())?;
-            }
-            Ok(())
-        }
-        _ => bail!("usage: whocrashed FILE [NAMES [FILE..]]"),
+        [_name, words @ ..] => ExitCode::from(program::run(&rt, words)),
+        [] => ExitCode::from(2),
     }
-}
-
-// Prints who crashed in the process of a minidump.
-fn who_crashed(rt: &HostRuntime, path: &str, names: &CodeNames<'_>) -> Result<()> {
-    let bytes = fs::read(rt, path)?;
-    lines::print_all(rt, &bytes, names)
 }

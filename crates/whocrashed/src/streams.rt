@@ -1,40 +1,39 @@
-ghost use Rattle.std.specs.Prelude.{◌≡◌, IfOk, IsOkUnless};
-ghost use Rattle.std.specs.Option.{option_map};
-ghost use Rattle.crash_summary.specs.Summary.{found_stream};
-ghost use Rattle.minidump.specs.Dump.{dump_system};
+ghost use Rattle.std.specs.Prelude.{IfOk, IsOkUnless};
+ghost use Rattle.minidump.specs.Below.Format.Answer.{Gives};
+ghost use Rattle.minidump.specs.Dump.{stream_of};
 ghost use Rattle.minidump.specs.DumpValue.{dump_of};
 ghost use Rattle.minidump.specs.Promise.{exception_stream, module_list_stream, system_info_stream, thread_list_stream, thread_names_stream};
 
 use minidump::{
-    Error, Minidump, MinidumpException, MinidumpModuleList, MinidumpSystemInfo, MinidumpThreadList,
-    MinidumpThreadNames,
+    Error, Minidump, MinidumpException, MinidumpModuleList, MinidumpStream, MinidumpSystemInfo,
+    MinidumpThreadList, MinidumpThreadNames,
 };
 use std::alloc::Global;
 
-/// The streams that are used, each `None` if it is missing or malformed.
+/// The streams that are used, each as the format has it: the stream, or the error for which there is none.
 #[derive(Drop)]
 pub(crate) struct Streams<'a> {
-    pub(crate) system: Option<MinidumpSystemInfo>,
-    pub(crate) exception: Option<MinidumpException<'a>>,
-    pub(crate) threads: Option<MinidumpThreadList<'a>>,
-    pub(crate) names: Option<MinidumpThreadNames>,
-    pub(crate) modules: Option<MinidumpModuleList>,
+    pub(crate) system: Result<MinidumpSystemInfo, Error>,
+    pub(crate) exception: Result<MinidumpException<'a>, Error>,
+    pub(crate) threads: Result<MinidumpThreadList<'a>, Error>,
+    pub(crate) names: Result<MinidumpThreadNames, Error>,
+    pub(crate) modules: Result<MinidumpModuleList, Error>,
 }
 
-// Reads the streams of a dump.
+// Reads the streams of a dump. The only error is `OutOfMemory`.
 pub(crate) fn streams_of<'a>(alloc: Global, dump: &Minidump<'a>) -> Result<Streams<'a>, Error>
-    ensures system { IfOk result (λ s. option_map system_info_stream.value s.system ≡ found_stream system_info_stream (dump_of dump.now)) }
-    ensures exception { IfOk result (λ s. option_map exception_stream.value s.exception ≡ found_stream exception_stream (dump_of dump.now)) }
-    ensures threads { IfOk result (λ s. option_map thread_list_stream.value s.threads ≡ found_stream thread_list_stream (dump_of dump.now)) }
-    ensures names { IfOk result (λ s. option_map thread_names_stream.value s.names ≡ found_stream thread_names_stream (dump_of dump.now)) }
-    ensures modules { IfOk result (λ s. option_map module_list_stream.value s.modules ≡ found_stream module_list_stream (dump_of dump.now)) }
+    ensures system { IfOk result (λ s. Gives system_info_stream.value ⊥ s.system (stream_of system_info_stream (dump_of dump.now))) }
+    ensures exception { IfOk result (λ s. Gives exception_stream.value ⊥ s.exception (stream_of exception_stream (dump_of dump.now))) }
+    ensures threads { IfOk result (λ s. Gives thread_list_stream.value ⊥ s.threads (stream_of thread_list_stream (dump_of dump.now))) }
+    ensures names { IfOk result (λ s. Gives thread_names_stream.value ⊥ s.names (stream_of thread_names_stream (dump_of dump.now))) }
+    ensures modules { IfOk result (λ s. Gives module_list_stream.value ⊥ s.modules (stream_of module_list_stream (dump_of dump.now))) }
     ensures memory { IsOkUnless result Error.OutOfMemory }
 {
-    let system = dump.find_stream(alloc)?;
-    let exception = dump.find_stream(alloc)?;
-    let threads = dump.find_stream(alloc)?;
-    let names = dump.find_stream(alloc)?;
-    let modules = dump.find_stream(alloc)?;
+    let system = find(alloc, dump)?;
+    let exception = find(alloc, dump)?;
+    let threads = find(alloc, dump)?;
+    let names = find(alloc, dump)?;
+    let modules = find(alloc, dump)?;
     Ok(Streams {
         system,
         exception,
@@ -42,4 +41,19 @@ pub(crate) fn streams_of<'a>(alloc: Global, dump: &Minidump<'a>) -> Result<Strea
         names,
         modules,
     })
+}
+
+// Reads a stream, or returns the error for which the dump has none. Want of memory is no such error.
+pub(crate) fn find<'a, S: MinidumpStream<'a>>(
+    alloc: Global,
+    dump: &Minidump<'a>,
+) -> Result<Result<S, Error>, Error>
+    ensures found { IfOk result (λ found. Gives S.spec.value ⊥ found (stream_of S.spec (dump_of dump.now))) }
+    ensures memory { IsOkUnless result Error.OutOfMemory }
+{
+    match dump.get_stream(alloc) {
+        Ok(stream) => Ok(Ok(stream)),
+        Err(Error::OutOfMemory) => Err(Error::OutOfMemory),
+        Err(error) => Ok(Err(error)),
+    }
 }
