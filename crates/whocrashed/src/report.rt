@@ -163,11 +163,11 @@ fn add_stack<'a>(
     limits: &Limits,
 ) -> Result<(), Error> {
     let Some(process) = process_of(contents) else {
-        return Ok(page.line(&[Piece::Words("    no context")])?);
+        return Ok(page.line(&[Piece::Words("    no frames without system information")])?);
     };
     let frames = thread_frames(page.alloc, &process, thread, limits.scan)?;
     if frames.is_empty() {
-        page.line(&[Piece::Words("    no context")])?;
+        page.line(&[Piece::Words("    no context that can be read")])?;
     }
     add_frames(page, frames.as_slice(), process.modules, limits.frames)?;
     Ok(())
