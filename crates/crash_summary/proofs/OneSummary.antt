@@ -13,15 +13,31 @@ use Rattle.minidump.specs.Dump.{Dump, dump_system}
 use Rattle.minidump.specs.Exception.{Exception}
 use Rattle.minidump.specs.Thread.{IsLastThread, IsStack, Thread}
 use Rattle.crash_summary.specs.declared.StackHit.{StackHit}
-use Rattle.crash_summary.specs.Summary.{IsModuleAt, IsStackOf, IsSummary, IsSummaryOf, Loaded, Summary, address_in, crash_pointer}
+use Rattle.crash_summary.specs.Summary.{IsModuleAt, IsStackOf, IsSummary, IsSummaryOf, Loaded, Summary, address_in, crash_pointer, crash_stack_pointer}
 use Rattle.crash_summary.specs.Summary.{loaded_at, memory_in, modules_in, reason_in, stack_at, threads_in}
 
 same_parts : (one other : Summary) → one.thread ≡ other.thread → one.address ≡ other.address → one.reason ≡ other.reason
-    → one.loaded ≡ other.loaded → one.stack ≡ other.stack → one ≡ other
-same_parts one other thread address reason loaded stack =
+    → one.instruction_pointer ≡ other.instruction_pointer → one.stack_pointer ≡ other.stack_pointer → one.loaded ≡ other.loaded → one.stack ≡ other.stack → one ≡ other
+same_parts one other thread address reason instruction_pointer stack_pointer loaded stack =
     let same : ◌≡◌ {A = Summary}
-    (record { thread = one.thread; address = one.address; reason = one.reason; loaded = one.loaded; stack = one.stack })
-    (record { thread = other.thread; address = other.address; reason = other.reason; loaded = other.loaded; stack = other.stack }) =
+    (record {
+      thread = one.thread;
+      address = one.address;
+      reason = one.reason;
+      instruction_pointer = one.instruction_pointer;
+      stack_pointer = one.stack_pointer;
+      loaded = one.loaded;
+      stack = one.stack;
+    })
+    (record {
+      thread = other.thread;
+      address = other.address;
+      reason = other.reason;
+      instruction_pointer = other.instruction_pointer;
+      stack_pointer = other.stack_pointer;
+      loaded = other.loaded;
+      stack = other.stack;
+    }) =
     cc
     in same
 
@@ -69,9 +85,11 @@ module _ (module_laws : (modules : List ModuleValue) → HasRegionLaws value_ran
         let thread : one.thread ≡ other.thread = x.thread ∙ sym y.thread in
         let address : one.address ≡ other.address = x.address ∙ sym y.address in
         let reason : one.reason ≡ other.reason = x.reason ∙ sym y.reason in
+        let instruction : one.instruction_pointer ≡ other.instruction_pointer = x.instruction_pointer ∙ sym (rw (← crashed) at y.instruction_pointer) in
+        let pointer : one.stack_pointer ≡ other.stack_pointer = x.stack_pointer ∙ sym (rw (← crashed) at y.stack_pointer) in
         let loaded : one.loaded ≡ other.loaded = one_module _ _ one.loaded other.loaded (rw crashed at x.loaded) y.loaded in
         let stack : one.stack ≡ other.stack = one_stack _ _ one.stack other.stack (rw crashed at x.stack) y.stack in
-        same_parts one other thread address reason loaded stack
+        same_parts one other thread address reason instruction pointer loaded stack
 
     -- a file has one summary at most
     pub one_summary : (file : List ℕ) (names : Lists) (one other : Summary) → IsSummaryOf file names one → IsSummaryOf file names other → one ≡ other
@@ -91,6 +109,8 @@ module _ (module_laws : (modules : List ModuleValue) → HasRegionLaws value_ran
           thread = e.thread_id;
           address = address_in (dump_system d) e;
           reason = reason_in names (dump_system d) e;
+          instruction_pointer = crash_pointer (dump_system d) (Some e) thread.0;
+          stack_pointer = crash_stack_pointer (dump_system d) (Some e) thread.0;
           loaded = loaded.0;
           stack = stack.0;
         },
@@ -100,6 +120,8 @@ module _ (module_laws : (modules : List ModuleValue) → HasRegionLaws value_ran
           reason = refl;
           crashed = thread.0;
           last = thread.1;
+          instruction_pointer = refl;
+          stack_pointer = refl;
           loaded = loaded.1;
           stack = stack.1;
         },

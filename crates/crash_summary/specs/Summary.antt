@@ -4,6 +4,7 @@ use Rattle.std.specs.Option.{option_and_then, option_map, option_or}
 use Rattle.std.specs.Result.{result_ok}
 use Rattle.minidump.specs.declared.Error.{Error}
 use Rattle.minidump.specs.declared.MinidumpRawContext.{MinidumpRawContext}
+use Rattle.minidump.specs.Below.Contexts.Context.{registers_of, value_in}
 use Rattle.minidump.specs.Below.Index.Lookup.{IsLookedUp}
 use Rattle.minidump.specs.Below.MemoryLists.Unified.{Memory, UnifiedRegion, UnifiedRegions}
 use Rattle.minidump.specs.Below.Modules.Module.{ModuleValue, value_range}
@@ -34,11 +35,13 @@ pub record Loaded : Type 0 where
 abbrev pub loaded_of : ModuleHit → Loaded
 loaded_of hit = record { base = hit.base; size = hit.size; name = string_bytes hit.name }
 
--- the thread's id, the address, the text of the reason, the module, and the stack of the thread that crashed
+-- the thread's id, the address, the text of the reason, the pointers of the context, the module, and the stack of the thread that crashed
 pub record Summary : Type 0 where
   pub thread : ℕ
   pub address : Option ℕ
   pub reason : Option (List ℕ)
+  pub instruction_pointer : Option ℕ
+  pub stack_pointer : Option ℕ
   pub loaded : Option Loaded
   pub stack : Option StackHit
 
@@ -48,6 +51,8 @@ summary_of s = record {
   thread = s.thread;
   address = s.address;
   reason = option_map string_bytes s.reason;
+  instruction_pointer = s.instruction_pointer;
+  stack_pointer = s.stack_pointer;
   loaded = option_map loaded_of s.«module»;
   stack = s.stack;
 }
@@ -89,6 +94,14 @@ crash_context system exception thread = option_or
 abbrev pub crash_pointer : Option System → Option Exception → Option Thread → Option ℕ
 crash_pointer system exception thread = instruction_of (crash_context system exception thread)
 
+-- the stack pointer of a context
+abbrev pub stack_pointer_of : Option MinidumpRawContext → Option ℕ
+stack_pointer_of context = option_and_then (λ c. value_in (registers_of c) (registers_of c).stack_pointer) context
+
+-- that of the context of a crash
+abbrev pub crash_stack_pointer : Option System → Option Exception → Option Thread → Option ℕ
+crash_stack_pointer system exception thread = stack_pointer_of (crash_context system exception thread)
+
 -- the module that has an address
 abbrev pub loaded_at : ModuleValue → Loaded
 loaded_at m = record { base = m.raw.base_of_image; size = m.raw.size_of_image; name = m.name }
@@ -118,6 +131,8 @@ pub record IsSummary (names : Lists) (d : Dump) (e : Exception) (s : Summary) : 
   pub reason : s.reason ≡ reason_in names (dump_system d) e
   pub crashed : Option Thread
   pub last : IsLastThread e.thread_id (threads_in d) crashed
+  pub instruction_pointer : s.instruction_pointer ≡ crash_pointer (dump_system d) (Some e) crashed
+  pub stack_pointer : s.stack_pointer ≡ crash_stack_pointer (dump_system d) (Some e) crashed
   pub loaded : IsModuleAt (modules_in d) (crash_pointer (dump_system d) (Some e) crashed) s.loaded
   pub stack : IsStackOf (memory_in d) crashed s.stack
 

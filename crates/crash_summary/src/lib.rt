@@ -12,22 +12,24 @@
 //! [`laws::one_summary`]. The proofs use the contracts and the laws of `minidump`, and nothing below.
 #![tactic(auto)]
 
-ghost use Rattle.std.specs.Prelude.{◌≡◌, ◌<◌, IfErr, IfOk, IsOkUnless, string_bytes};
+ghost use Rattle.std.specs.Prelude.{◌≡◌, ◌<◌, IfErr, IfOk, IfSome, IsOkUnless, string_bytes};
 ghost use Rattle.std.specs.Option.{option_copied, option_map};
+ghost use Rattle.minidump.specs.declared.MinidumpContextValidity.TheVariants.{All};
 ghost use Rattle.minidump.specs.Below.Format.Answer.{Refuses};
 ghost use Rattle.minidump.specs.Below.MemoryLists.Unified.{unified_list};
 ghost use Rattle.minidump.specs.Below.Modules.Module.{module_of};
 ghost use Rattle.minidump.specs.Dump.{HasEntries, IsFoundStream, dump_system};
 ghost use Rattle.minidump.specs.DumpValue.{dump_of};
 ghost use Rattle.minidump.specs.Promise.{exception_stream, module_list_stream, system_info_stream, thread_list_stream};
-ghost use Rattle.minidump.specs.Thread.{IsLastThread, thread_of};
-ghost use Rattle.crash_summary.specs.Summary.{IsModuleAt, IsStackOf, IsSummary, IsSummaryOf, address_in, crash_in, crash_pointer, loaded_at, loaded_of, memory_in, modules_in, reason_in, summary_of, threads_in};
+ghost use Rattle.minidump.specs.Thread.{IsLastThread, instruction_of, thread_of};
+ghost use Rattle.crash_summary.specs.Summary.{IsModuleAt, IsStackOf, IsSummary, IsSummaryOf, address_in, crash_context, crash_in, crash_pointer, loaded_at, loaded_of, memory_in, modules_in, reason_in, stack_pointer_of, summary_of, threads_in};
 
 pub mod laws;
 
 use minidump::{
-    CodeNames, Error, Minidump, MinidumpException, MinidumpModule, MinidumpModuleList,
-    MinidumpSystemInfo, MinidumpThread, MinidumpThreadList, Module, UnifiedMemoryList,
+    CodeNames, Error, Minidump, MinidumpContext, MinidumpException, MinidumpModule,
+    MinidumpModuleList, MinidumpSystemInfo, MinidumpThread, MinidumpThreadList, Module,
+    UnifiedMemoryList,
 };
 use std::alloc::Global;
 
@@ -40,6 +42,10 @@ pub struct CrashSummary {
     pub address: Option<u64>,
     /// The reason of the crash in words, or `None` without system information.
     pub reason: Option<String>,
+    /// The instruction pointer of the context of the crash, as [`crash_context`] returns it, or `None` without one.
+    pub instruction_pointer: Option<u64>,
+    /// The stack pointer of that context.
+    pub stack_pointer: Option<u64>,
     /// The module that contains the instruction pointer, or `None` if there is no context or no kept module
     /// contains it.
     pub module: Option<ModuleHit>,
@@ -95,13 +101,16 @@ fn summary_in<'a>(
     let threads = threads_of(alloc, dump)?;
     let thread = crashed_thread(&threads, exception);
     let modules = modules_of(alloc, dump)?;
-    let pointer = instruction_pointer(system, Some(exception), thread);
+    let context = crash_context(system, Some(exception), thread);
+    let (instruction_pointer, stack_pointer) = pointers(&context);
     let memory = memory_of(alloc, dump)?;
     Ok(CrashSummary {
         thread: exception.thread_id,
         address: address_of(system, exception),
         reason: reason_of(alloc, system, exception, names)?,
-        module: module_at(alloc, &modules, pointer)?,
+        instruction_pointer,
+        stack_pointer,
+        module: module_at(alloc, &modules, instruction_pointer)?,
         stack: stack_of(thread, &memory),
     })
 }
@@ -162,10 +171,31 @@ fn crashed_thread<'l, 'a>(
     threads.get_thread(exception.thread_id)
 }
 
-/// Returns the instruction pointer of a thread: that of the exception's context, if there is an exception and its
-/// context is accepted, else that of the thread's own. Pass an exception for its own thread alone.
+/// Returns the context of a thread: the exception's, if there is an exception and its context is accepted, else the
+/// thread's own. Pass an exception for its own thread alone.
 ///
 /// Returns `None` without system information, or if neither context is there and accepted.
+pub fn crash_context(
+    system: Option<&MinidumpSystemInfo>,
+    exception: Option<&MinidumpException<'_>>,
+    thread: Option<&MinidumpThread<'_>>,
+) -> Option<MinidumpContext>
+    ensures raw { option_map (λ c. c.raw) result ≡ crash_context (option_map system_info_stream.value (option_copied system.entry))
+        (option_map exception_stream.value (option_copied exception.entry)) (option_map thread_of (option_copied thread.entry)) }
+    ensures valid { IfSome result (λ c. c.valid ≡ All) }
+{
+    let system = system?;
+    let own = match exception {
+        Some(exception) => exception.context(system, None),
+        None => None,
+    };
+    match own {
+        Some(context) => Some(context),
+        None => thread?.context(system, None),
+    }
+}
+
+/// Returns the instruction pointer of a thread: that of its [`crash_context`].
 pub fn instruction_pointer(
     system: Option<&MinidumpSystemInfo>,
     exception: Option<&MinidumpException<'_>>,
@@ -174,16 +204,21 @@ pub fn instruction_pointer(
     ensures { result ≡ crash_pointer (option_map system_info_stream.value (option_copied system.entry))
         (option_map exception_stream.value (option_copied exception.entry)) (option_map thread_of (option_copied thread.entry)) }
 {
-    let system = system?;
-    let own = match exception {
-        Some(exception) => exception.context(system, None),
-        None => None,
-    };
-    let context = match own {
-        Some(context) => context,
-        None => thread?.context(system, None)?,
-    };
-    Some(context.get_instruction_pointer())
+    Some(crash_context(system, exception, thread)?.get_instruction_pointer())
+}
+
+// Returns the instruction pointer and the stack pointer of a context.
+fn pointers(context: &Option<MinidumpContext>) -> (Option<u64>, Option<u64>)
+    ensures instruction { result.0 ≡ instruction_of (option_map (λ c. c.raw) context.now) }
+    ensures stack { result.1 ≡ stack_pointer_of (option_map (λ c. c.raw) context.now) }
+{
+    match context {
+        Some(context) => (
+            Some(context.get_instruction_pointer()),
+            Some(context.get_stack_pointer()),
+        ),
+        None => (None, None),
+    }
 }
 
 // Returns the address of a crash.

@@ -1,13 +1,5 @@
 use anyhow::Result;
-use minidump::{
-    Endian, Minidump, MinidumpAssertion, MinidumpBreakpadInfo, MinidumpCrashpadInfo,
-    MinidumpException, MinidumpHandleDataStream, MinidumpLinuxCpuInfo, MinidumpLinuxEnviron,
-    MinidumpLinuxLsbRelease, MinidumpLinuxMaps, MinidumpLinuxProcLimits, MinidumpLinuxProcStatus,
-    MinidumpMacBootargs, MinidumpMacCrashInfo, MinidumpMemory64List, MinidumpMemoryInfoList,
-    MinidumpMemoryList, MinidumpMiscInfo, MinidumpModuleList, MinidumpSoftErrors, MinidumpStream,
-    MinidumpSystemInfo, MinidumpThreadInfoList, MinidumpThreadList, MinidumpThreadNames,
-    MinidumpUnloadedModuleList, StabilityReport, Steps,
-};
+use minidump::{Endian, Minidump, MinidumpStream, Steps, each_stream};
 use minidump_synth::{every_stream, handle_circle};
 use std::alloc::Global;
 use std::fs;
@@ -85,37 +77,26 @@ fn read_cut(alloc: Global, bytes: &[u8]) -> Cut {
     }
 }
 
-// How many types of streams are read, if each read takes at most so many steps: the square of them for handles and
-// Crashpad's information, and 8 for the system's.
+// How many types of streams are read, if each read takes at most its limit of steps, where `most` is the limit that is
+// linear.
 fn read_streams(alloc: Global, dump: &Minidump<'_>, most: u128) -> Option<usize> {
-    let square = most.saturating_mul(most);
-    let read = [
-        is_read::<MinidumpSystemInfo>(alloc, dump, 8)?,
-        is_read::<MinidumpMiscInfo>(alloc, dump, most)?,
-        is_read::<MinidumpThreadList<'_>>(alloc, dump, most)?,
-        is_read::<MinidumpModuleList>(alloc, dump, most)?,
-        is_read::<MinidumpMemoryList<'_>>(alloc, dump, most)?,
-        is_read::<MinidumpMemory64List<'_>>(alloc, dump, most)?,
-        is_read::<MinidumpUnloadedModuleList>(alloc, dump, most)?,
-        is_read::<MinidumpMemoryInfoList<'_>>(alloc, dump, most)?,
-        is_read::<MinidumpThreadInfoList>(alloc, dump, most)?,
-        is_read::<MinidumpThreadNames>(alloc, dump, most)?,
-        is_read::<MinidumpHandleDataStream>(alloc, dump, square)?,
-        is_read::<MinidumpException<'_>>(alloc, dump, most)?,
-        is_read::<MinidumpBreakpadInfo>(alloc, dump, most)?,
-        is_read::<MinidumpAssertion>(alloc, dump, most)?,
-        is_read::<MinidumpCrashpadInfo>(alloc, dump, square)?,
-        is_read::<MinidumpMacCrashInfo>(alloc, dump, most)?,
-        is_read::<MinidumpMacBootargs>(alloc, dump, most)?,
-        is_read::<StabilityReport>(alloc, dump, most)?,
-        is_read::<MinidumpLinuxMaps<'_>>(alloc, dump, most)?,
-        is_read::<MinidumpLinuxCpuInfo<'_>>(alloc, dump, most)?,
-        is_read::<MinidumpLinuxProcStatus<'_>>(alloc, dump, most)?,
-        is_read::<MinidumpLinuxLsbRelease<'_>>(alloc, dump, most)?,
-        is_read::<MinidumpLinuxEnviron<'_>>(alloc, dump, most)?,
-        is_read::<MinidumpLinuxProcLimits<'_>>(alloc, dump, most)?,
-        is_read::<MinidumpSoftErrors<'_>>(alloc, dump, most)?,
-    ];
+    macro_rules! limit {
+        (constant) => {
+            8
+        };
+        (linear) => {
+            most
+        };
+        (square) => {
+            most.saturating_mul(most)
+        };
+    }
+    macro_rules! read_each {
+        ($($name:ident: $type:ty, $reads:ident;)*) => {
+            [$(is_read::<$type>(alloc, dump, limit!($reads))?,)*]
+        };
+    }
+    let read = each_stream!(read_each);
     Some(read.iter().filter(|ok| **ok).count())
 }
 

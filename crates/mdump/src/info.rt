@@ -1,11 +1,11 @@
-ghost use Rattle.std.specs.Prelude.{◌≡◌, ◌⊎◌, IfErr, IfOk, string_bytes};
+ghost use Rattle.std.specs.Prelude.{◌≡◌, ◌⊎◌, IfErr, IfOk};
 ghost use Rattle.std.specs.Option.{option_and_then, option_copied, option_map};
 ghost use Rattle.minidump.specs.Below.MemoryLists.UnifiedInfo.{info_list, info_region, info_region_range, info_regions};
 ghost use Rattle.minidump.specs.DumpValue.{dump_of};
 ghost use Rattle.mdump.specs.Done.{IsInfoLine, IsOutputRefusal, Writes, info_of_dump};
-ghost use Rattle.mdump.specs.Lines.{IsAt, info_line};
+ghost use Rattle.mdump.specs.Lines.{IsAt};
 
-use minidump::text::{Piece, made, put_formatted};
+use minidump::text::{Piece, Pushed, print_item, push_pieces};
 use minidump::{
     Error, Minidump, MinidumpLinuxMaps, MinidumpMemoryInfoList, Range, Told, UnifiedMemoryInfo,
     UnifiedMemoryInfoList,
@@ -25,7 +25,7 @@ pub(crate) fn info_line<O: Write>(
 {
     let infos = information(dump, alloc)?;
     let found = info_at(infos.as_ref(), address);
-    put_formatted(out, info_text(alloc, found))
+    print_item(&InfoLine(range_of(found)), alloc, out)
 }
 
 // Reads the memory information of a dump, or its maps where that is missing or malformed.
@@ -56,28 +56,29 @@ fn info_at<'s, 'a>(
     infos?.memory_info_at_address(address)
 }
 
-// Makes the line of a region, or the line that there is none.
-fn info_text(alloc: Global, found: Option<UnifiedMemoryInfo<'_, '_>>) -> Result<String, AllocError>
-    ensures { IfOk result (λ t. string_bytes t ≡ info_line (option_map info_region found.entry)) }
-{
-    match range_of(found) {
-        Some(range) => made(
-            alloc,
-            &[
-                Piece::Words("info "),
-                Piece::Hex(range.start),
-                Piece::Words(" "),
-                Piece::Hex(range.end),
-                Piece::Words("\n"),
-            ],
-        ),
-        None => made(alloc, &[Piece::Words("info none\n")]),
-    }
-}
-
 // Returns the range of a region.
 fn range_of(found: Option<UnifiedMemoryInfo<'_, '_>>) -> Option<Range>
     ensures { result ≡ option_and_then info_region_range (option_map info_region found.entry) }
 {
     found?.memory_range()
+}
+
+// The line of a region's range, or the line that there is none.
+#[derive(Clone, Copy)]
+struct InfoLine(Option<Range>);
+
+impl Pushed for InfoLine {
+    ghost use Rattle.mdump.specs.Lines.{range_line};
+
+    ghost text = { λ line. range_line line.0 };
+
+    #[rattlefmt::skip]
+    fn push(&self, out: &mut Vec<u8>) -> Result<(), AllocError> {
+        match self.0 {
+            Some(range) => push_pieces(out, &[
+                Piece::Words("info "), Piece::Hex(range.start), Piece::Words(" "), Piece::Hex(range.end), Piece::Words("\n"),
+            ]),
+            None => out.extend_from_slice(b"info none\n"),
+        }
+    }
 }

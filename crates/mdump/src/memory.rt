@@ -1,12 +1,12 @@
-ghost use Rattle.std.specs.Prelude.{◌≡◌, ◌⊎◌, IfErr, IfOk, string_bytes};
+ghost use Rattle.std.specs.Prelude.{◌≡◌, ◌⊎◌, IfErr};
 ghost use Rattle.std.specs.Option.{option_copied, option_map};
 ghost use Rattle.minidump.specs.Below.MemoryLists.Memory.{region_range};
 ghost use Rattle.minidump.specs.Below.MemoryLists.Unified.{unified_list, unified_region, unified_regions};
 ghost use Rattle.minidump.specs.DumpValue.{dump_of};
 ghost use Rattle.mdump.specs.Done.{IsMemoryLine, IsOutputRefusal, Writes};
-ghost use Rattle.mdump.specs.Lines.{IsAt, memory_line, region_line};
+ghost use Rattle.mdump.specs.Lines.{IsAt};
 
-use minidump::text::{Piece, made, put_formatted};
+use minidump::text::{Piece, Pushed, print_item, push_pieces};
 use minidump::{Error, Minidump, Told, UnifiedMemory, UnifiedMemoryList};
 use std::alloc::{AllocError, Global};
 use std::io::Write;
@@ -23,7 +23,7 @@ pub(crate) fn memory_line<O: Write>(
 {
     let memory = dump.get_memory(alloc)?;
     let found = memory_at(memory.as_ref(), address);
-    put_formatted(out, memory_text(alloc, found))
+    print_item(&MemoryLine(found), alloc, out)
 }
 
 // Finds the region of memory that contains the address.
@@ -37,28 +37,22 @@ fn memory_at<'s, 'a>(
     memory?.memory_at_address(address)
 }
 
-// Makes the line of a region of memory, or the line that there is none.
-fn memory_text(alloc: Global, found: Option<UnifiedMemory<'_, '_>>) -> Result<String, AllocError>
-    ensures { IfOk result (λ t. string_bytes t ≡ memory_line (option_map unified_region found.entry)) }
-{
-    match found {
-        Some(region) => region_line(alloc, region.base_address(), region.size()),
-        None => made(alloc, &[Piece::Words("memory none\n")]),
-    }
-}
+// The line of a region of memory, or the line that there is none.
+#[derive(Clone, Copy)]
+struct MemoryLine<'s, 'a>(Option<UnifiedMemory<'s, 'a>>);
 
-// Makes the line of a region of memory, by its base address and its size.
-pub(crate) fn region_line(alloc: Global, base: u64, size: u64) -> Result<String, AllocError>
-    ensures { IfOk result (λ t. string_bytes t ≡ region_line base size) }
-{
-    made(
-        alloc,
-        &[
-            Piece::Words("memory "),
-            Piece::Hex(base),
-            Piece::Words(" "),
-            Piece::Hex(size),
-            Piece::Words("\n"),
-        ],
-    )
+impl<'s, 'a> Pushed for MemoryLine<'s, 'a> {
+    ghost use Rattle.mdump.specs.Lines.{memory_line};
+
+    ghost text = { λ line. memory_line (option_map unified_region line.0) };
+
+    #[rattlefmt::skip]
+    fn push(&self, out: &mut Vec<u8>) -> Result<(), AllocError> {
+        match &self.0 {
+            Some(region) => push_pieces(out, &[
+                Piece::Words("memory "), Piece::Hex(region.base_address()), Piece::Words(" "), Piece::Hex(region.size()), Piece::Words("\n"),
+            ]),
+            None => out.extend_from_slice(b"memory none\n"),
+        }
+    }
 }

@@ -1,12 +1,12 @@
-ghost use Rattle.std.specs.Prelude.{◌≡◌, ◌⊎◌, IfErr, IfOk, string_bytes};
+ghost use Rattle.std.specs.Prelude.{◌≡◌, ◌⊎◌, IfErr};
 ghost use Rattle.std.specs.Option.{option_copied, option_map};
 ghost use Rattle.minidump.specs.Below.Modules.Module.{module_of, value_range};
 ghost use Rattle.minidump.specs.Below.Modules.ModuleList.{module_list_of};
 ghost use Rattle.minidump.specs.DumpValue.{dump_of};
 ghost use Rattle.mdump.specs.Done.{IsModuleLine, IsOutputRefusal, Writes};
-ghost use Rattle.mdump.specs.Lines.{IsAt, module_line};
+ghost use Rattle.mdump.specs.Lines.{IsAt};
 
-use minidump::text::{Piece, made, put_formatted};
+use minidump::text::{Piece, Pushed, print_item, push_pieces};
 use minidump::{Error, Minidump, MinidumpModule, MinidumpModuleList, Told};
 use std::alloc::{AllocError, Global};
 use std::io::Write;
@@ -23,7 +23,7 @@ pub(crate) fn module_line<O: Write>(
 {
     let modules = dump.find_stream::<MinidumpModuleList>(alloc)?;
     let found = module_at(modules.as_ref(), address);
-    put_formatted(out, module_text(alloc, found))
+    print_item(&ModuleLine(found), alloc, out)
 }
 
 // Finds the module that contains the address.
@@ -34,23 +34,22 @@ fn module_at(modules: Option<&MinidumpModuleList>, address: u64) -> Option<&Mini
     modules?.module_at_address(address)
 }
 
-// Makes the line of a module, or the line that there is none.
-fn module_text(alloc: Global, found: Option<&MinidumpModule>) -> Result<String, AllocError>
-    ensures { IfOk result (λ t. string_bytes t ≡ module_line (option_map module_of (option_copied found.entry))) }
-{
-    match found {
-        Some(module) => made(
-            alloc,
-            &[
-                Piece::Words("module "),
-                Piece::Hex(module.raw.base_of_image),
-                Piece::Words(" "),
-                Piece::Hex(module.raw.size_of_image as u64),
-                Piece::Words(" "),
-                Piece::Words(module.name.as_str()),
-                Piece::Words("\n"),
-            ],
-        ),
-        None => made(alloc, &[Piece::Words("module none\n")]),
+// The line of a module, or the line that there is none.
+#[derive(Clone, Copy)]
+struct ModuleLine<'a>(Option<&'a MinidumpModule>);
+
+impl<'a> Pushed for ModuleLine<'a> {
+    ghost use Rattle.mdump.specs.Lines.{module_line};
+
+    ghost text = { λ line. module_line (option_map module_of (option_copied line.0)) };
+
+    #[rattlefmt::skip]
+    fn push(&self, out: &mut Vec<u8>) -> Result<(), AllocError> {
+        match self.0 {
+            Some(module) => push_pieces(out, &[
+                Piece::Words("module "), Piece::Hex(module.raw.base_of_image), Piece::Words(" "), Piece::Hex(module.raw.size_of_image as u64), Piece::Words(" "), Piece::Words(module.name.as_str()), Piece::Words("\n"),
+            ]),
+            None => out.extend_from_slice(b"module none\n"),
+        }
     }
 }

@@ -7,7 +7,9 @@ pub mod LookedUpLemmas
 pub mod PlacedLemmas
 pub mod StackLemmas
 pub mod ThreadLemmas
+pub mod PrintLemmas
 pub mod ReportLemmas
+pub mod SharedLemmas
 pub mod CrashLemmas
 -- for the crates above
 pub use Rattle.minidump_format.proofs.Blocking

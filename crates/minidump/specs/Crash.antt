@@ -12,6 +12,7 @@ use Rattle.minidump_reason.specs.Reason.{crash_reason}
 use Rattle.minidump_reason.specs.ReasonText.{reason_text}
 use Rattle.minidump_system.specs.declared.cpu.Cpu.{Cpu}
 use Rattle.minidump_system.specs.System.{System}
+use Rattle.minidump.specs.declared.crash.CrashValues.{CrashValues}
 use Rattle.minidump.specs.Dump.{Dump, dump_system, stream_of}
 use Rattle.minidump.specs.Exception.{Exception, crash_address}
 use Rattle.minidump.specs.LookedUp.{looked_up}
@@ -48,9 +49,14 @@ last_error_line names None = []
 last_error_line names (Some reason) = reason_line (codes "last_error = ") names reason
 
 -- the address and the reason of a crash, and the last error of its thread, where it has one
-unfoldable pub values_text : Lists → ℕ → CrashReason → Option CrashReason → List ℕ
+abbrev pub values_text : Lists → ℕ → CrashReason → Option CrashReason → List ℕ
 values_text names address reason found =
     number_line (codes "crash_address = ") address ++ (reason_line (codes "crash_reason = ") names reason ++ last_error_line names found)
+
+-- the same of values that may be absent
+abbrev pub values_lines : Lists → Option CrashValues → List ℕ
+values_lines names None = []
+values_lines names (Some v) = values_text names v.address v.reason v.last_error
 
 -- the lines that take the system information
 abbrev pub system_lines : Lists → Dump → Exception → Option System → List ℕ

@@ -14,6 +14,7 @@ pub mod LookedUp
 pub mod Thread
 pub mod ThreadText
 pub mod Exception
+pub mod Shared
 pub mod Crash
 pub mod Report
 pub mod Below

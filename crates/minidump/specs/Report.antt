@@ -58,40 +58,40 @@ section spec text dump = reported (shown_type spec.stream_type) text (stream_of 
 
 -- what each type of stream adds: threads are not brief, and have the memory that `get_memory` returns; both lists of memory are brief
 abbrev pub section_text : Dump → Section → List ℕ
-section_text dump part.SystemInfo = section system_info_stream system_info_text dump
-section_text dump part.MiscInfo = section misc_info_stream misc_info_text dump
-section_text dump part.Exception = section exception_stream (exception_text (dump_system dump)) dump
-section_text dump part.ThreadList = section thread_list_stream (thread_list_text (memories_of_dump dump) (dump_system dump) false) dump
-section_text dump part.ThreadNames = section thread_names_stream thread_names_text dump
-section_text dump part.ThreadInfoList = section thread_info_list_stream thread_info_list_text dump
-section_text dump part.ModuleList = section module_list_stream module_list_text dump
-section_text dump part.UnloadedModuleList = section unloaded_module_list_stream unloaded_module_list_text dump
-section_text dump part.Memory64List = section memory64_list_stream (memory64_list_text true) dump
-section_text dump part.MemoryList = section memory_list_stream (memory_list_text true) dump
-section_text dump part.MemoryInfoList = section memory_info_list_stream memory_info_list_text dump
+section_text dump part.SystemInfoStream = section system_info_stream system_info_text dump
+section_text dump part.MiscInfoStream = section misc_info_stream misc_info_text dump
+section_text dump part.ExceptionStream = section exception_stream (exception_text (dump_system dump)) dump
+section_text dump part.ThreadListStream = section thread_list_stream (thread_list_text (memories_of_dump dump) (dump_system dump) false) dump
+section_text dump part.ThreadNamesStream = section thread_names_stream thread_names_text dump
+section_text dump part.ThreadInfoListStream = section thread_info_list_stream thread_info_list_text dump
+section_text dump part.ModuleListStream = section module_list_stream module_list_text dump
+section_text dump part.UnloadedModuleListStream = section unloaded_module_list_stream unloaded_module_list_text dump
+section_text dump part.Memory64ListStream = section memory64_list_stream (memory64_list_text true) dump
+section_text dump part.MemoryListStream = section memory_list_stream (memory_list_text true) dump
+section_text dump part.MemoryInfoListStream = section memory_info_list_stream memory_info_list_text dump
 section_text dump part.LinuxMaps = section linux_maps_stream linux_maps_text dump
-section_text dump part.HandleData = section handle_data_stream handle_data_text dump
-section_text dump part.BreakpadInfo = section breakpad_info_stream breakpad_info_text dump
-section_text dump part.Assertion = section assertion_stream assertion_text dump
-section_text dump part.CrashpadInfo = section crashpad_info_stream crashpad_info_text dump
-section_text dump part.MacCrashInfo = section mac_crash_info_stream mac_crash_info_text dump
-section_text dump part.MacBootargs = section mac_bootargs_stream mac_bootargs_text dump
+section_text dump part.HandleDataStream = section handle_data_stream handle_data_text dump
+section_text dump part.BreakpadInfoStream = section breakpad_info_stream breakpad_info_text dump
+section_text dump part.AssertionInfoStream = section assertion_stream assertion_text dump
+section_text dump part.CrashpadInfoStream = section crashpad_info_stream crashpad_info_text dump
+section_text dump part.MozMacosCrashInfoStream = section mac_crash_info_stream mac_crash_info_text dump
+section_text dump part.MozMacosBootargsStream = section mac_bootargs_stream mac_bootargs_text dump
 section_text dump part.LinuxCpuInfo = section linux_cpu_info_stream linux_cpu_info_text dump
 section_text dump part.LinuxProcStatus = section linux_proc_status_stream linux_proc_status_text dump
 section_text dump part.LinuxLsbRelease = section linux_lsb_release_stream linux_lsb_release_text dump
 section_text dump part.LinuxEnviron = section linux_environ_stream linux_environ_text dump
-section_text dump part.LinuxProcLimits = section linux_proc_limits_stream linux_proc_limits_text dump
-section_text dump part.SoftErrors = section soft_errors_stream soft_errors_text dump
-section_text dump part.StabilityReport = section stability_report_stream stability_report_text dump
+section_text dump part.MozLinuxLimits = section linux_proc_limits_stream linux_proc_limits_text dump
+section_text dump part.MozSoftErrors = section soft_errors_stream soft_errors_text dump
+section_text dump part.StabilityReportStream = section stability_report_stream stability_report_text dump
 
 -- the types of stream in the order of the report
 abbrev pub sections : List Section
 sections =
-    part.SystemInfo ∷ part.MiscInfo ∷ part.Exception ∷ part.ThreadList ∷ part.ThreadNames ∷
-    part.ThreadInfoList ∷ part.ModuleList ∷ part.UnloadedModuleList ∷ part.Memory64List ∷ part.MemoryList ∷
-    part.MemoryInfoList ∷ part.LinuxMaps ∷ part.HandleData ∷ part.BreakpadInfo ∷ part.Assertion ∷
-    part.CrashpadInfo ∷ part.MacCrashInfo ∷ part.MacBootargs ∷ part.LinuxCpuInfo ∷ part.LinuxProcStatus ∷
-    part.LinuxLsbRelease ∷ part.LinuxEnviron ∷ part.LinuxProcLimits ∷ part.SoftErrors ∷ part.StabilityReport ∷ []
+    part.SystemInfoStream ∷ part.MiscInfoStream ∷ part.ExceptionStream ∷ part.ThreadListStream ∷ part.ThreadNamesStream ∷
+    part.ThreadInfoListStream ∷ part.ModuleListStream ∷ part.UnloadedModuleListStream ∷ part.Memory64ListStream ∷ part.MemoryListStream ∷
+    part.MemoryInfoListStream ∷ part.LinuxMaps ∷ part.HandleDataStream ∷ part.BreakpadInfoStream ∷ part.AssertionInfoStream ∷
+    part.CrashpadInfoStream ∷ part.MozMacosCrashInfoStream ∷ part.MozMacosBootargsStream ∷ part.LinuxCpuInfo ∷ part.LinuxProcStatus ∷
+    part.LinuxLsbRelease ∷ part.LinuxEnviron ∷ part.MozLinuxLimits ∷ part.MozSoftErrors ∷ part.StabilityReportStream ∷ []
 
 -- what they add, in that order
 unfoldable pub sections_text : Dump → List ℕ

@@ -1,18 +1,17 @@
-ghost use Rattle.std.specs.Prelude.{◌≡◌, ◌++◌, IfOk, codes, string_bytes};
-ghost use Rattle.std.specs.Option.{option_copied, option_map};
+ghost use Rattle.std.specs.Prelude.{◌≡◌, ◌++◌, IfOk, OnOk, Some};
 ghost use Rattle.minidump_format.specs.Print.{Prints};
-ghost use Rattle.minidump_reason.specs.ReasonText.{reason_text};
-ghost use Rattle.minidump_system.specs.SystemInfo.{system_info_of};
-ghost use Rattle.minidump.specs.Crash.{crash_text, last_error_line, last_error_of, last_with, number_line, reason_line, system_lines, values_text};
+ghost use Rattle.minidump.specs.Crash.{crash_lines, crash_text, last_error_line, last_error_of, number_line, reason_line, system_lines, values_lines, values_text};
+ghost use Rattle.minidump.specs.Dump.{dump_system};
 ghost use Rattle.minidump.specs.DumpValue.{dump_of};
 ghost use Rattle.minidump.specs.Exception.{exception_of};
-ghost use Rattle.minidump.specs.Thread.{thread_list_of, thread_of};
+ghost use Rattle.minidump.specs.Shared.{AreShared};
 
-use crate::{Minidump, MinidumpException, MinidumpThread, MinidumpThreadList};
-use minidump_bytes::{Piece, Told, made};
-use minidump_format::{Error, no_memory, put_formatted, put_text};
+use crate::shared::{SharedStreams, found};
+use crate::{Minidump, MinidumpException};
+use minidump_bytes::{Piece, Told, push_pieces};
+use minidump_format::{Error, Pushed, no_memory, print_item, put_text};
 use minidump_reason::{CodeNames, CrashReason};
-use minidump_system::{Cpu, MinidumpSystemInfo};
+use minidump_system::Cpu;
 use std::alloc::{AllocError, Global};
 use std::io::Write;
 
@@ -20,176 +19,169 @@ use std::io::Write;
 #[tactic(auto, unfolding(crate::specs::Crash::crash_text))]
 pub(crate) fn print_crash<W: Write>(
     dump: &Minidump<'_>,
+    streams: &SharedStreams<'_>,
     names: &CodeNames<'_>,
     alloc: Global,
     f: &mut Told<W>,
 ) -> Result<(), Error>
+    requires { AreShared (dump_of dump.now) streams.now }
     ensures { Prints W.contents f.old f.new (crash_text names.now (dump_of dump.now)) result }
 {
-    match dump.find_stream::<MinidumpException>(alloc) {
+    match found(&streams.exception) {
+        Ok(Some(exception)) => print_exception(exception, dump, streams, names, alloc, f),
         Ok(None) => put_text(f, ""),
-        Ok(Some(exception)) => {
-            print_lines(&exception, dump.system_info.as_ref(), dump, names, alloc, f)
+        Err(_) => Err(no_memory(f)),
+    }
+}
+
+fn print_exception<W: Write>(
+    exception: &MinidumpException<'_>,
+    dump: &Minidump<'_>,
+    streams: &SharedStreams<'_>,
+    names: &CodeNames<'_>,
+    alloc: Global,
+    f: &mut Told<W>,
+) -> Result<(), Error>
+    requires { AreShared (dump_of dump.now) streams.now }
+    ensures { Prints W.contents f.old f.new
+        (crash_lines names.now (dump_of dump.now) (Some (exception_of exception.now))) result }
+{
+    let thread_id = exception.thread_id;
+    match crash_values(exception, dump, streams, names) {
+        Ok(values) => {
+            let crash = Crash {
+                thread_id,
+                values,
+                names,
+            };
+            print_item(&crash, alloc, f)
         }
         Err(_) => Err(no_memory(f)),
     }
 }
 
-#[tactic(auto, using(minidump_format::proofs::Printing::prints_then, minidump_format::proofs::Printing::prints_exit))]
-fn print_lines<W: Write>(
+// Returns what of a crash takes the system information, or `None` if there is none. The only error is `OutOfMemory`.
+fn crash_values(
     exception: &MinidumpException<'_>,
-    system: Option<&MinidumpSystemInfo>,
     dump: &Minidump<'_>,
+    streams: &SharedStreams<'_>,
     names: &CodeNames<'_>,
-    alloc: Global,
-    f: &mut Told<W>,
-) -> Result<(), Error>
-    ensures { Prints W.contents f.old f.new (number_line (codes "crash_thread = ") exception.now.thread_id
-        ++ system_lines names.now (dump_of dump.now) (exception_of exception.now) (option_map system_info_of (option_copied system.entry))) result }
+) -> Result<Option<CrashValues>, Error>
+    requires { AreShared (dump_of dump.now) streams.now }
+    ensures { IfOk result (λ values. values_lines names.now values
+        ≡ system_lines names.now (dump_of dump.now) (exception_of exception.now) (dump_system (dump_of dump.now))) }
 {
-    print_number("crash_thread = ", exception.thread_id as u64, alloc, f)?;
-    print_system(exception, system, dump, names, alloc, f)
-}
-
-fn print_number<W: Write>(
-    words: &'static str,
-    n: u64,
-    alloc: Global,
-    f: &mut Told<W>,
-) -> Result<(), Error>
-    ensures { Prints W.contents f.old f.new (number_line words.now n) result }
-{
-    put_formatted(f, number_line(alloc, words, n))
-}
-
-#[tactic(auto, unfolding(crate::specs::Crash::number_line))]
-fn number_line(alloc: Global, words: &'static str, n: u64) -> Result<String, AllocError>
-    ensures { IfOk result (λ t. string_bytes t ≡ number_line words.now n) }
-{
-    made(
-        alloc,
-        &[Piece::Words(words), Piece::Hex(n), Piece::Words("\n")],
-    )
-}
-
-// Prints the lines that take the system information, or nothing if there is none.
-fn print_system<W: Write>(
-    exception: &MinidumpException<'_>,
-    system: Option<&MinidumpSystemInfo>,
-    dump: &Minidump<'_>,
-    names: &CodeNames<'_>,
-    alloc: Global,
-    f: &mut Told<W>,
-) -> Result<(), Error>
-    ensures { Prints W.contents f.old f.new (system_lines names.now (dump_of dump.now) (exception_of exception.now)
-        (option_map system_info_of (option_copied system.entry))) result }
-{
-    let Some(system) = system else {
-        return put_text(f, "");
+    let Some(system) = &dump.system_info else {
+        return Ok(None);
     };
-    let address = exception.get_crash_address(system.os, system.cpu);
-    let reason = exception.get_crash_reason(system.os, system.cpu, names);
-    match last_error(dump, system.cpu, exception.thread_id, names, alloc) {
-        Ok(found) => print_values(address, reason, found, names, alloc, f),
-        Err(_) => Err(no_memory(f)),
-    }
-}
-
-#[tactic(auto, using(minidump_format::proofs::Printing::prints_then, minidump_format::proofs::Printing::prints_exit), unfolding(crate::specs::Crash::values_text))]
-fn print_values<W: Write>(
-    address: u64,
-    reason: CrashReason,
-    found: Option<CrashReason>,
-    names: &CodeNames<'_>,
-    alloc: Global,
-    f: &mut Told<W>,
-) -> Result<(), Error>
-    ensures { Prints W.contents f.old f.new (values_text names.now address reason found) result }
-{
-    print_number("crash_address = ", address, alloc, f)?;
-    print_reasons(reason, found, names, alloc, f)
-}
-
-#[tactic(auto, using(minidump_format::proofs::Printing::prints_then, minidump_format::proofs::Printing::prints_exit))]
-fn print_reasons<W: Write>(
-    reason: CrashReason,
-    found: Option<CrashReason>,
-    names: &CodeNames<'_>,
-    alloc: Global,
-    f: &mut Told<W>,
-) -> Result<(), Error>
-    ensures { Prints W.contents f.old f.new
-        (reason_line (codes "crash_reason = ") names.now reason ++ last_error_line names.now found) result }
-{
-    print_reason("crash_reason = ", reason, names, alloc, f)?;
-    print_last_error(found, names, alloc, f)
-}
-
-fn print_last_error<W: Write>(
-    found: Option<CrashReason>,
-    names: &CodeNames<'_>,
-    alloc: Global,
-    f: &mut Told<W>,
-) -> Result<(), Error>
-    ensures { Prints W.contents f.old f.new (last_error_line names.now found) result }
-{
-    match found {
-        None => put_text(f, ""),
-        Some(error) => print_reason("last_error = ", error, names, alloc, f),
-    }
-}
-
-#[tactic(auto, using(minidump_format::proofs::Printing::prints_then, minidump_format::proofs::Printing::prints_exit), unfolding(crate::specs::Crash::reason_line))]
-fn print_reason<W: Write>(
-    words: &'static str,
-    reason: CrashReason,
-    names: &CodeNames<'_>,
-    alloc: Global,
-    f: &mut Told<W>,
-) -> Result<(), Error>
-    ensures { Prints W.contents f.old f.new (reason_line words.now names.now reason) result }
-{
-    put_text(f, words)?;
-    print_reason_end(reason, names, alloc, f)
-}
-
-#[tactic(auto, using(minidump_format::proofs::Printing::prints_then, minidump_format::proofs::Printing::prints_exit))]
-fn print_reason_end<W: Write>(
-    reason: CrashReason,
-    names: &CodeNames<'_>,
-    alloc: Global,
-    f: &mut Told<W>,
-) -> Result<(), Error>
-    ensures { Prints W.contents f.old f.new (reason_text names.now reason ++ codes "\n") result }
-{
-    reason.write_to(alloc, names, f)?;
-    put_text(f, "\n")
+    let last_error = last_error(dump, streams, system.cpu, exception.thread_id, names)?;
+    Ok(Some(CrashValues {
+        address: exception.get_crash_address(system.os, system.cpu),
+        reason: exception.get_crash_reason(system.os, system.cpu, names),
+        last_error,
+    }))
 }
 
 // Returns the last error of the last thread with an id. The only error is `OutOfMemory`.
 fn last_error(
     dump: &Minidump<'_>,
+    streams: &SharedStreams<'_>,
     cpu: Cpu,
     id: u32,
     names: &CodeNames<'_>,
-    alloc: Global,
 ) -> Result<Option<CrashReason>, Error>
-    ensures { IfOk result (λ found. found ≡ last_error_of names.now (dump_of dump.now) cpu id) }
+    requires { AreShared (dump_of dump.now) streams.now }
+    ensures { IfOk result (λ error. error ≡ last_error_of names.now (dump_of dump.now) cpu id) }
 {
-    let Some(list) = dump.find_stream::<MinidumpThreadList>(alloc)? else {
+    let Some(list) = found(&streams.threads)? else {
         return Ok(None);
     };
-    let Some(thread) = last_thread(&list, id) else {
+    let Some(thread) = list.first_from_the_end(id) else {
         return Ok(None);
     };
-    let Some(memory) = dump.get_memory(alloc)? else {
+    let Some(memory) = streams.get_memory()? else {
         return Ok(None);
     };
-    Ok(thread.last_error(cpu, &memory, names))
+    Ok(thread.last_error(cpu, memory, names))
 }
 
-fn last_thread<'l, 'a>(list: &'l MinidumpThreadList<'a>, id: u32) -> Option<&'l MinidumpThread<'a>>
-    ensures { option_map thread_of (option_copied result) ≡ last_with id (thread_list_of list.now) }
+// The address and the reason of a crash, and the last error of its thread.
+#[derive(Clone, Copy)]
+pub(crate) struct CrashValues {
+    pub(crate) address: u64,
+    pub(crate) reason: CrashReason,
+    pub(crate) last_error: Option<CrashReason>,
+}
+
+// What is printed of a crash.
+#[derive(Drop)]
+struct Crash<'n> {
+    thread_id: u32,
+    values: Option<CrashValues>,
+    names: &'n CodeNames<'n>,
+}
+
+impl<'n> Pushed for Crash<'n> {
+    ghost use Rattle.std.specs.Prelude.{codes};
+    ghost use Rattle.minidump.specs.Crash.{number_line, values_lines};
+
+    ghost text = { λ c. number_line (codes "crash_thread = ") c.thread_id ++ values_lines c.names.now c.values };
+
+    fn push(&self, out: &mut Vec<u8>) -> Result<(), AllocError> {
+        push_number(out, "crash_thread = ", self.thread_id as u64)?;
+        match &self.values {
+            Some(values) => push_values(out, values, self.names),
+            None => Ok(()),
+        }
+    }
+}
+
+fn push_values(
+    out: &mut Vec<u8>,
+    values: &CrashValues,
+    names: &CodeNames<'_>,
+) -> Result<(), AllocError>
+    ensures { OnOk result (out.new.items ≡ out.old.items
+        ++ values_text names.now values.now.address values.now.reason values.now.last_error) }
 {
-    list.first_from_the_end(id)
+    push_number(out, "crash_address = ", values.address)?;
+    push_reason(out, "crash_reason = ", &values.reason, names)?;
+    push_last_error(out, &values.last_error, names)
+}
+
+fn push_last_error(
+    out: &mut Vec<u8>,
+    found: &Option<CrashReason>,
+    names: &CodeNames<'_>,
+) -> Result<(), AllocError>
+    ensures { OnOk result (out.new.items ≡ out.old.items ++ last_error_line names.now found.now) }
+{
+    match found {
+        Some(error) => push_reason(out, "last_error = ", error, names),
+        None => Ok(()),
+    }
+}
+
+#[rattlefmt::skip]
+#[tactic(auto, unfolding(crate::specs::Crash::number_line))]
+fn push_number(out: &mut Vec<u8>, words: &'static str, n: u64) -> Result<(), AllocError>
+    ensures { OnOk result (out.new.items ≡ out.old.items ++ number_line words.now n) }
+{
+    push_pieces(out, &[Piece::Words(words), Piece::Hex(n), Piece::Words("\n")])
+}
+
+#[tactic(auto, unfolding(crate::specs::Crash::reason_line))]
+fn push_reason(
+    out: &mut Vec<u8>,
+    words: &'static str,
+    reason: &CrashReason,
+    names: &CodeNames<'_>,
+) -> Result<(), AllocError>
+    ensures { OnOk result (out.new.items ≡ out.old.items ++ reason_line words.now names.now reason.now) }
+{
+    out.extend_from_slice(words.as_bytes())?;
+    match reason.text(*out.allocator(), names) {
+        Ok(text) => push_pieces(out, &[Piece::Words(text.as_str()), Piece::Words("\n")]),
+        Err(_) => Err(AllocError),
+    }
 }

@@ -3,11 +3,9 @@ ghost use Rattle.std.specs.List.{enumerate_from, flat_map};
 ghost use Rattle.std.specs.Option.{option_copied, option_map};
 ghost use Rattle.minidump_context.specs.declared.validity.MinidumpContextValidity.TheVariants.{All};
 ghost use Rattle.minidump_reason.specs.Reason.{crash_reason};
-ghost use Rattle.minidump_context.specs.Text.{context_text};
 ghost use Rattle.minidump_format.specs.Print.{Prints};
-ghost use Rattle.minidump_format.specs.Text.{line_end};
 ghost use Rattle.minidump_system.specs.SystemInfo.{system_info_of};
-ghost use Rattle.minidump.specs.Exception.{crash_address, exception_context_text, exception_head, exception_of, exception_stream, exception_text, exception_with, location_lines, no_exception_context, parameter_line, parameter_lines};
+ghost use Rattle.minidump.specs.Exception.{crash_address, exception_context_text, exception_head, exception_stream, exception_text, location_lines, parameter_line, parameter_lines};
 ghost use Rattle.minidump.specs.Thread.{accepted_context};
 
 use crate::thread::{accepted_context, known_context};
@@ -120,21 +118,12 @@ impl<'a> MinidumpException<'a> {
         ensures { Prints W.contents f.old f.new
             (exception_text (option_map system_info_of (option_copied system.entry)) (exception_stream.value self.now)) result }
     {
-        let context = known_context(self.context, self.endian, system, misc);
-        print_with(self, context, alloc, f)
+        let text = ExceptionText {
+            exception: self,
+            context: known_context(self.context, self.endian, system, misc),
+        };
+        print_item(&text, alloc, f)
     }
-}
-
-fn print_with<W: Write>(
-    exception: &MinidumpException<'_>,
-    context: Option<MinidumpContext>,
-    alloc: Global,
-    f: &mut Told<W>,
-) -> Result<(), Error>
-    ensures { Prints W.contents f.old f.new
-        (exception_with (exception_of exception.now) (option_map (λ c. c.raw) context)) result }
-{
-    print_item(&ExceptionText { exception, context }, alloc, f)
 }
 
 // An exception and its context.
@@ -159,28 +148,20 @@ impl<'a, 'mdmp> Pushed for ExceptionText<'a, 'mdmp> {
     }
 }
 
+#[rattlefmt::skip]
 #[tactic(auto, unfolding(crate::specs::Exception::exception_head))]
 fn push_head(out: &mut Vec<u8>, thread_id: u32, r: &MINIDUMP_EXCEPTION) -> Result<(), AllocError>
     ensures { OnOk result (out.new.items ≡ out.old.items ++ exception_head thread_id r.now) }
 {
-    push_pieces(
-        out,
-        &[
-            Piece::Words("MINIDUMP_EXCEPTION\n  thread_id                                  = "),
-            Piece::Hex(thread_id as u64),
-            Piece::Words("\n  exception_record.exception_code            = "),
-            Piece::Hex(r.exception_code as u64),
-            Piece::Words("\n  exception_record.exception_flags           = "),
-            Piece::Hex(r.exception_flags as u64),
-            Piece::Words("\n  exception_record.exception_record          = "),
-            Piece::Hex(r.exception_record),
-            Piece::Words("\n  exception_record.exception_address         = "),
-            Piece::Hex(r.exception_address),
-            Piece::Words("\n  exception_record.number_parameters         = "),
-            Piece::Decimal(r.number_parameters as u64),
-            Piece::Words("\n"),
-        ],
-    )
+    push_pieces(out, &[
+        Piece::Words("MINIDUMP_EXCEPTION\n"),
+        Piece::Words("  thread_id                                  = "), Piece::Hex(thread_id as u64), Piece::Words("\n"),
+        Piece::Words("  exception_record.exception_code            = "), Piece::Hex(r.exception_code as u64), Piece::Words("\n"),
+        Piece::Words("  exception_record.exception_flags           = "), Piece::Hex(r.exception_flags as u64), Piece::Words("\n"),
+        Piece::Words("  exception_record.exception_record          = "), Piece::Hex(r.exception_record), Piece::Words("\n"),
+        Piece::Words("  exception_record.exception_address         = "), Piece::Hex(r.exception_address), Piece::Words("\n"),
+        Piece::Words("  exception_record.number_parameters         = "), Piece::Decimal(r.number_parameters as u64), Piece::Words("\n"),
+    ])
 }
 
 #[tactic(auto, unfolding(crate::specs::Exception::parameter_lines))]
@@ -201,22 +182,17 @@ fn push_each_parameter(out: &mut Vec<u8>, parameters: &[u64]) -> Result<(), Allo
     Ok(())
 }
 
+#[rattlefmt::skip]
 #[tactic(auto, unfolding(crate::specs::Exception::parameter_line))]
 fn push_parameter(out: &mut Vec<u8>, index: usize, value: u64) -> Result<(), AllocError>
     ensures { OnOk result (out.new.items ≡ out.old.items ++ parameter_line index value) }
 {
-    push_pieces(
-        out,
-        &[
-            Piece::Words("  exception_record.exception_information["),
-            Piece::Right(index as u64, 2),
-            Piece::Words("] = "),
-            Piece::Hex(value),
-            Piece::Words("\n"),
-        ],
-    )
+    push_pieces(out, &[
+        Piece::Words("  exception_record.exception_information["), Piece::Right(index as u64, 2), Piece::Words("] = "), Piece::Hex(value), Piece::Words("\n"),
+    ])
 }
 
+#[rattlefmt::skip]
 #[tactic(auto, unfolding(crate::specs::Exception::location_lines))]
 fn push_location(
     out: &mut Vec<u8>,
@@ -224,40 +200,24 @@ fn push_location(
 ) -> Result<(), AllocError>
     ensures { OnOk result (out.new.items ≡ out.old.items ++ location_lines location.now) }
 {
-    push_pieces(
-        out,
-        &[
-            Piece::Words("  thread_context.data_size                   = "),
-            Piece::Decimal(location.data_size as u64),
-            Piece::Words("\n  thread_context.rva                         = "),
-            Piece::Hex(location.rva as u64),
-            Piece::Words("\n"),
-        ],
-    )
+    push_pieces(out, &[
+        Piece::Words("  thread_context.data_size                   = "), Piece::Decimal(location.data_size as u64), Piece::Words("\n"),
+        Piece::Words("  thread_context.rva                         = "), Piece::Hex(location.rva as u64), Piece::Words("\n"),
+    ])
 }
 
+#[tactic(auto, unfolding(crate::specs::Exception::no_exception_context))]
 fn push_context(out: &mut Vec<u8>, context: &Option<MinidumpContext>) -> Result<(), AllocError>
     ensures { OnOk result (out.new.items ≡ out.old.items
         ++ exception_context_text (option_map (λ c. c.raw) context.now)) }
 {
     match context {
-        Some(context) => push_context_behind_line(out, context),
-        None => push_no_context(out),
+        Some(context) => {
+            push_line_end(out)?;
+            context.push(out)
+        }
+        None => out.extend_from_slice(b"  (no context)\n\n    "),
     }
-}
-
-fn push_context_behind_line(out: &mut Vec<u8>, context: &MinidumpContext) -> Result<(), AllocError>
-    ensures { OnOk result (out.new.items ≡ out.old.items ++ (line_end ++ context_text context.now.raw)) }
-{
-    push_line_end(out)?;
-    context.push(out)
-}
-
-#[tactic(auto, unfolding(crate::specs::Exception::no_exception_context))]
-fn push_no_context(out: &mut Vec<u8>) -> Result<(), AllocError>
-    ensures { OnOk result (out.new.items ≡ out.old.items ++ no_exception_context) }
-{
-    out.extend_from_slice(b"  (no context)\n\n    ")
 }
 
 /// Microsoft's `MINIDUMP_EXCEPTION_STREAM`: one record. Its context is not decoded. The only error is

@@ -27,7 +27,7 @@ ghost use Rattle.minidump_memory.specs.Unified.{UnifiedRegion};
 ghost use Rattle.minidump_modules.specs.declared.module_list.MinidumpModuleList.{MinidumpModuleList};
 ghost use Rattle.minidump_modules.specs.declared.unloaded_module.MinidumpUnloadedModule.{MinidumpUnloadedModule};
 ghost use Rattle.minidump_modules.specs.CodeId.{text_of};
-ghost use Rattle.minidump_modules.specs.DebugId.{debug_id_text};
+ghost use Rattle.minidump_modules.specs.DebugId.{breakpad_text, debug_id_text};
 ghost use Rattle.minidump_modules.specs.Module.{ModuleValue, module_of};
 ghost use Rattle.minidump_modules.specs.ModuleList.{modules_of};
 ghost use Rattle.minidump_modules.specs.UnloadedModule.{UnloadedValue, unloaded_of};
@@ -75,10 +75,12 @@ use minidump_memory::{
     MinidumpLinuxMaps, MinidumpMemory64List, MinidumpMemoryInfoList, MinidumpMemoryList,
 };
 pub use minidump_modules::laws::{
-    code_ids_compare_by_their_digits, modules_are_identified_as_defined,
-    region_laws as module_laws, unloaded_laws,
+    breakpad_texts_are_read_back, code_ids_compare_by_their_digits,
+    modules_are_identified_as_defined, region_laws as module_laws, unloaded_laws,
 };
-use minidump_modules::{CodeId, DebugId, MinidumpModuleList, MinidumpUnloadedModuleList};
+use minidump_modules::{
+    BreakpadFormat, CodeId, DebugId, MinidumpModuleList, MinidumpUnloadedModuleList,
+};
 pub use minidump_reason::laws::{
     codes_have_their_listed_names, errors_compare_and_copy_exactly,
     reasons_compare_and_copy_exactly, wide_codes_are_unlisted,
@@ -227,6 +229,7 @@ pub fn texts_are_as_defined()
     ensures cpu { ⟦<Cpu as fmt::Display>⟧.output ≡ (λ cpu. Some (cpu_name cpu)) }
     ensures code_id { ⟦<CodeId as fmt::Display>⟧.output ≡ (λ id. Some (text_of id)) }
     ensures debug_id { ⟦<DebugId as fmt::Display>⟧.output ≡ (λ id. Some (debug_id_text id)) }
+    ensures breakpad { ⟦<BreakpadFormat as fmt::Display>⟧.output ≡ (λ id. Some (breakpad_text id)) }
     ensures information { ⟦<MinidumpHandleObjectInformation as fmt::Display>⟧.output
         ≡ (λ information. Some (information_text information)) }
 {}

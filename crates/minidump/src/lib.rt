@@ -66,6 +66,7 @@
 mod crash;
 mod directory;
 mod dump;
+mod each_stream;
 mod exception;
 mod file;
 mod header;
@@ -75,7 +76,7 @@ mod print;
 mod reader;
 mod report;
 mod section;
-mod sections;
+mod shared;
 mod stream;
 mod streams;
 mod system;
@@ -113,8 +114,9 @@ pub use minidump_memory::{
     UnifiedMemoryInfoList, UnifiedMemoryIter, UnifiedMemoryList,
 };
 pub use minidump_modules::{
-    CodeId, CodeView, DebugId, MinidumpModule, MinidumpModuleList, MinidumpUnloadedModule,
-    MinidumpUnloadedModuleList, Module, ModulesAtAddress, UnloadedModulesByAddress,
+    BreakpadFormat, CodeId, CodeView, DebugId, MinidumpModule, MinidumpModuleList,
+    MinidumpUnloadedModule, MinidumpUnloadedModuleList, Module, ModulesAtAddress,
+    UnloadedModulesByAddress,
 };
 pub use minidump_reason::{CodeFamily, CodeNames, CodeNamesError, CrashReason};
 pub use minidump_records::{
@@ -134,8 +136,8 @@ pub use minidump_system::{
 
 /// Text that is made out of pieces, and printed.
 pub mod text {
-    pub use minidump_bytes::{Piece, made};
-    pub use minidump_format::{put_formatted, put_text};
+    pub use minidump_bytes::{Piece, made, push_pieces};
+    pub use minidump_format::{Pushed, print_item, put_text};
 }
 
 /// Texts of Linux, which need not be UTF-8.

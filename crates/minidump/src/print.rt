@@ -1,4 +1,4 @@
-ghost use Rattle.std.specs.Prelude.{◌≡◌, ◌++◌, OnOk};
+ghost use Rattle.std.specs.Prelude.{◌≡◌, ◌++◌};
 ghost use Rattle.std.specs.List.{flat_map};
 ghost use Rattle.minidump_format.specs.Print.{Prints};
 ghost use Rattle.minidump_format.specs.Text.{line_end};
@@ -10,9 +10,7 @@ use crate::Minidump;
 use crate::directory::DecidingEntry;
 use minidump_bytes::{Piece, Told, push_pieces};
 use minidump_format::format::{MINIDUMP_HEADER, MINIDUMP_STREAM_TYPE};
-use minidump_format::{
-    Error, PushText, Pushed, print_item, print_line_end, print_list_by, put_text,
-};
+use minidump_format::{Error, Pushed, print_all, print_item, print_line_end, put_text};
 use std::alloc::{AllocError, Global};
 use std::io::Write;
 
@@ -32,40 +30,29 @@ impl<'a> Minidump<'a> {
         ensures { Prints W.contents f.old f.new
             (header_text self.now.header ++ flat_map entry_text (streams_of (dump_of self.now))) result }
     {
-        self.print_header(alloc, f)?;
-        print_list_by::<EntryText, _, _>(self.deciding_entries(), alloc, f)
+        print_item(&HeaderText(&self.header), alloc, f)?;
+        print_all(self.deciding_entries().iter(), alloc, f)
     }
 
-    fn print_header<W: Write>(&self, alloc: Global, f: &mut Told<W>) -> Result<(), Error>
-        ensures { Prints W.contents f.old f.new (header_text self.now.header) result }
-    {
-        print_item(&HeaderText(&self.header), alloc, f)
-    }
-
-    #[tactic(auto, using(minidump_format::proofs::Printing::prints_then, minidump_format::proofs::Printing::prints_exit))]
+    #[tactic(auto, unfolding(crate::specs::Text::streams_heading))]
     fn print_streams<W: Write>(&self, alloc: Global, f: &mut Told<W>) -> Result<(), Error>
         ensures { Prints W.contents f.old f.new
             (streams_heading ++ (flat_map stream_text (streams_of (dump_of self.now)) ++ line_end)) result }
     {
-        print_heading(f)?;
-        self.print_stream_lines(alloc, f)
-    }
-
-    #[tactic(auto, using(minidump_format::proofs::Printing::prints_then, minidump_format::proofs::Printing::prints_exit))]
-    fn print_stream_lines<W: Write>(&self, alloc: Global, f: &mut Told<W>) -> Result<(), Error>
-        ensures { Prints W.contents f.old f.new
-            (flat_map stream_text (streams_of (dump_of self.now)) ++ line_end) result }
-    {
-        print_list_by::<StreamText, _, _>(self.deciding_entries(), alloc, f)?;
+        put_text(f, "Streams:\n")?;
+        self.print_stream_lines(alloc, f)?;
         print_line_end(f)
     }
-}
 
-#[tactic(auto, unfolding(crate::specs::Text::streams_heading))]
-fn print_heading<W: Write>(f: &mut Told<W>) -> Result<(), Error>
-    ensures { Prints W.contents f.old f.new streams_heading result }
-{
-    put_text(f, "Streams:\n")
+    fn print_stream_lines<W: Write>(&self, alloc: Global, f: &mut Told<W>) -> Result<(), Error>
+        ensures { Prints W.contents f.old f.new (flat_map stream_text (streams_of (dump_of self.now))) result }
+    {
+        let lines = self
+            .deciding_entries()
+            .iter()
+            .map(|entry| StreamLine(entry));
+        print_all(lines, alloc, f)
+    }
 }
 
 #[derive(Clone, Copy)]
@@ -74,97 +61,55 @@ struct HeaderText<'a>(&'a MINIDUMP_HEADER);
 impl<'a> Pushed for HeaderText<'a> {
     ghost text = { λ header. header_text header.0.now };
 
+    #[rattlefmt::skip]
+    #[tactic(auto, unfolding(crate::specs::Text::header_text))]
     fn push(&self, out: &mut Vec<u8>) -> Result<(), AllocError> {
-        push_header(out, self.0)
+        let h = self.0;
+        push_pieces(out, &[
+            Piece::Words("MDRawHeader\n"),
+            Piece::Words("  signature            = "), Piece::Hex(h.signature as u64), Piece::Words("\n"),
+            Piece::Words("  version              = "), Piece::Hex(h.version as u64), Piece::Words("\n"),
+            Piece::Words("  stream_count         = "), Piece::Decimal(h.stream_count as u64), Piece::Words("\n"),
+            Piece::Words("  stream_directory_rva = "), Piece::Hex(h.stream_directory_rva as u64), Piece::Words("\n"),
+            Piece::Words("  checksum             = "), Piece::Hex(h.checksum as u64), Piece::Words("\n"),
+            Piece::Words("  time_date_stamp      = "), Piece::Hex(h.time_date_stamp as u64), Piece::Words("\n"),
+            Piece::Words("  flags                = "), Piece::Hex(h.flags), Piece::Words("\n\n"),
+        ])
     }
 }
 
-pub(crate) struct EntryText;
-
-impl PushText<DecidingEntry> for EntryText {
+impl Pushed for DecidingEntry {
     ghost text = { entry_text };
 
-    fn push(deciding: &DecidingEntry, out: &mut Vec<u8>) -> Result<(), AllocError> {
-        push_entry(out, deciding)
+    #[rattlefmt::skip]
+    #[tactic(auto, unfolding(crate::specs::Text::entry_text))]
+    fn push(&self, out: &mut Vec<u8>) -> Result<(), AllocError> {
+        let entry = &self.entry;
+        push_pieces(out, &[
+            Piece::Words("mDirectory["), Piece::Decimal(self.index as u64), Piece::Words("]\n"),
+            Piece::Words("MDRawDirectory\n"),
+            Piece::Words("  stream_type        = "), Piece::Hex(entry.stream_type as u64), Piece::Words(" ("), Piece::Words(type_name(entry.stream_type)), Piece::Words(")\n"),
+            Piece::Words("  location.data_size = "), Piece::Decimal(entry.location.data_size as u64), Piece::Words("\n"),
+            Piece::Words("  location.rva       = "), Piece::Hex(entry.location.rva as u64), Piece::Words("\n\n"),
+        ])
     }
 }
 
-pub(crate) struct StreamText;
+// The line of an entry in the list of streams.
+#[derive(Clone, Copy)]
+struct StreamLine<'a>(&'a DecidingEntry);
 
-impl PushText<DecidingEntry> for StreamText {
-    ghost text = { stream_text };
+impl<'a> Pushed for StreamLine<'a> {
+    ghost text = { λ line. stream_text line.0.now };
 
-    fn push(deciding: &DecidingEntry, out: &mut Vec<u8>) -> Result<(), AllocError> {
-        push_stream(out, deciding)
+    #[rattlefmt::skip]
+    #[tactic(auto, unfolding(crate::specs::Text::stream_text))]
+    fn push(&self, out: &mut Vec<u8>) -> Result<(), AllocError> {
+        let entry = &self.0.entry;
+        push_pieces(out, &[
+            Piece::Words("  stream type "), Piece::Hex(entry.stream_type as u64), Piece::Words(" ("), Piece::Words(type_name(entry.stream_type)), Piece::Words(") at index "), Piece::Decimal(self.0.index as u64), Piece::Words("\n"),
+        ])
     }
-}
-
-#[tactic(auto, unfolding(crate::specs::Text::header_text))]
-fn push_header(out: &mut Vec<u8>, h: &MINIDUMP_HEADER) -> Result<(), AllocError>
-    ensures { OnOk result (out.new.items ≡ out.old.items ++ header_text h.now) }
-{
-    push_pieces(
-        out,
-        &[
-            Piece::Words("MDRawHeader\n  signature            = "),
-            Piece::Hex(h.signature as u64),
-            Piece::Words("\n  version              = "),
-            Piece::Hex(h.version as u64),
-            Piece::Words("\n  stream_count         = "),
-            Piece::Decimal(h.stream_count as u64),
-            Piece::Words("\n  stream_directory_rva = "),
-            Piece::Hex(h.stream_directory_rva as u64),
-            Piece::Words("\n  checksum             = "),
-            Piece::Hex(h.checksum as u64),
-            Piece::Words("\n  time_date_stamp      = "),
-            Piece::Hex(h.time_date_stamp as u64),
-            Piece::Words("\n  flags                = "),
-            Piece::Hex(h.flags),
-            Piece::Words("\n\n"),
-        ],
-    )
-}
-
-#[tactic(auto, unfolding(crate::specs::Text::entry_text))]
-fn push_entry(out: &mut Vec<u8>, deciding: &DecidingEntry) -> Result<(), AllocError>
-    ensures { OnOk result (out.new.items ≡ out.old.items ++ entry_text deciding.now) }
-{
-    let entry = &deciding.entry;
-    push_pieces(
-        out,
-        &[
-            Piece::Words("mDirectory["),
-            Piece::Decimal(deciding.index as u64),
-            Piece::Words("]\nMDRawDirectory\n  stream_type        = "),
-            Piece::Hex(entry.stream_type as u64),
-            Piece::Words(" ("),
-            Piece::Words(type_name(entry.stream_type)),
-            Piece::Words(")\n  location.data_size = "),
-            Piece::Decimal(entry.location.data_size as u64),
-            Piece::Words("\n  location.rva       = "),
-            Piece::Hex(entry.location.rva as u64),
-            Piece::Words("\n\n"),
-        ],
-    )
-}
-
-#[tactic(auto, unfolding(crate::specs::Text::stream_text))]
-fn push_stream(out: &mut Vec<u8>, deciding: &DecidingEntry) -> Result<(), AllocError>
-    ensures { OnOk result (out.new.items ≡ out.old.items ++ stream_text deciding.now) }
-{
-    let entry = &deciding.entry;
-    push_pieces(
-        out,
-        &[
-            Piece::Words("  stream type "),
-            Piece::Hex(entry.stream_type as u64),
-            Piece::Words(" ("),
-            Piece::Words(type_name(entry.stream_type)),
-            Piece::Words(") at index "),
-            Piece::Decimal(deciding.index as u64),
-            Piece::Words("\n"),
-        ],
-    )
 }
 
 // Returns the name of a type of stream.

@@ -133,16 +133,13 @@ impl Pushed for Heading {
 
     ghost text = { λ heading. thread_list_heading heading.0 };
 
+    #[rattlefmt::skip]
     #[tactic(auto, unfolding(crate::specs::ThreadText::thread_list_heading))]
     fn push(&self, out: &mut Vec<u8>) -> Result<(), AllocError> {
-        push_pieces(
-            out,
-            &[
-                Piece::Words("MinidumpThreadList\n  thread_count = "),
-                Piece::Decimal(self.0 as u64),
-                Piece::Words("\n\n"),
-            ],
-        )
+        push_pieces(out, &[
+            Piece::Words("MinidumpThreadList\n"),
+            Piece::Words("  thread_count = "), Piece::Decimal(self.0 as u64), Piece::Words("\n\n"),
+        ])
     }
 }
 
@@ -209,16 +206,10 @@ impl Pushed for Place {
 
     ghost text = { λ place. place_line place.0 };
 
+    #[rattlefmt::skip]
     #[tactic(auto, unfolding(crate::specs::ThreadText::place_line))]
     fn push(&self, out: &mut Vec<u8>) -> Result<(), AllocError> {
-        push_pieces(
-            out,
-            &[
-                Piece::Words("thread["),
-                Piece::Decimal(self.0 as u64),
-                Piece::Words("]\n"),
-            ],
-        )
+        push_pieces(out, &[Piece::Words("thread["), Piece::Decimal(self.0 as u64), Piece::Words("]\n")])
     }
 }
 

@@ -1,4 +1,4 @@
-ghost use Rattle.std.specs.Prelude.{◌≡◌, ◌++◌, ◌∷◌, [], IsTrue, OnOk};
+ghost use Rattle.std.specs.Prelude.{◌≡◌, ◌++◌, ◌∷◌, [], IsTrue, OnErr, OnOk};
 ghost use Rattle.hex.specs.Hex.{encode_lower};
 ghost use Rattle.minidump_bytes.specs.Told.{Puts, has_failed};
 
@@ -34,9 +34,11 @@ pub fn byte_digits(byte: u8) -> [u8; 2]
     }
 }
 
-/// Appends each byte as two lower-case hexadecimal digits.
+/// Appends each byte as two lower-case hexadecimal digits. Returns `AllocError` if memory runs out, and then appends
+/// nothing.
 pub fn push_bytes(out: &mut Vec<u8>, bytes: &[u8]) -> Result<(), AllocError>
-    ensures { OnOk result (out.new.items ≡ out.old.items ++ encode_lower bytes.now) }
+    ensures ok { OnOk result (out.new.items ≡ out.old.items ++ encode_lower bytes.now) }
+    ensures kept { OnErr result (out.new.items ≡ out.old.items) }
 {
     let digits = hex::encode(*out.allocator(), bytes)?;
     out.extend_from_slice(digits.as_bytes())

@@ -8,10 +8,11 @@ import sys
 
 
 class Crash(ctypes.Structure):
-    _fields_ = [(name, ctypes.c_uint64) for name in ("address", "module_base", "module_size", "stack_base", "stack_size")]
+    _fields_ = [(name, ctypes.c_uint64) for name in ("address", "instruction_pointer", "stack_pointer")]
+    _fields_ += [(name, ctypes.c_uint64) for name in ("module_base", "module_size", "stack_base", "stack_size")]
     _fields_ += [(name, ctypes.c_size_t) for name in ("reason_len", "module_len")]
     _fields_ += [("thread", ctypes.c_uint32)]
-    _fields_ += [(name, ctypes.c_uint8) for name in ("has_address", "has_reason", "has_module", "has_stack")]
+    _fields_ += [(name, ctypes.c_uint8) for name in ("has_address", "has_reason", "has_module", "has_stack", "has_context")]
 
 
 BYTES = [ctypes.c_char_p, ctypes.c_size_t]

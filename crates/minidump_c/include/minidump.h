@@ -32,6 +32,9 @@
 #include <stddef.h>
 #include <stdint.h>
 
+/* The version of what this header declares. It changes with a struct or a call. */
+#define MINIDUMP_VERSION 2
+
 #ifdef __cplusplus
 extern "C" {
 #endif
@@ -70,7 +73,9 @@ uint32_t minidump_report(const uint8_t *bytes, size_t len, uint8_t *out, size_t 
 
 /* The summary of a crash. What is absent has 0 in has_.., and 0 for its numbers. */
 struct minidump_crash {
-    uint64_t address;     /* that the crash is about */
+    uint64_t address;             /* that the crash is about */
+    uint64_t instruction_pointer; /* of the exception's context, else of the thread's own */
+    uint64_t stack_pointer;
     uint64_t module_base; /* of the module with the instruction pointer */
     uint64_t module_size;
     uint64_t stack_base; /* of the memory of the thread's stack */
@@ -82,6 +87,7 @@ struct minidump_crash {
     uint8_t has_reason;
     uint8_t has_module;
     uint8_t has_stack;
+    uint8_t has_context; /* both pointers */
 };
 
 /* Writes the numbers of a crash to *crash, its reason in words to the front of reason and the name of its module to
@@ -129,7 +135,9 @@ uint32_t minidump_module_table(const uint8_t *bytes, size_t len, struct minidump
 uint32_t minidump_module_name(const uint8_t *bytes, size_t len, size_t index, uint8_t *out, size_t out_len,
                               size_t *size);
 
-/* A thread. Its stack is where the dump's list says, whether its bytes are in the dump or not. */
+/* A thread. Its stack is where the dump's list says, whether its bytes are in the dump or not. Its pointers are those of the
+ * context in the list, which the writer of the dump took: for the thread that crashed that is often within the handler, and
+ * minidump_crash has those of the crash. */
 struct minidump_thread {
     uint64_t instruction_pointer; /* 0 without a context */
     uint64_t stack_pointer;

@@ -25,6 +25,8 @@ name_of s = unwrap_or (option_map (λ m. m.name) s.loaded) []
 abbrev pub crash_of : Summary → Crash
 crash_of s = record {
   address = unwrap_or s.address 0;
+  instruction_pointer = unwrap_or s.instruction_pointer 0;
+  stack_pointer = unwrap_or s.stack_pointer 0;
   module_base = unwrap_or (option_map (λ m. m.base) s.loaded) 0;
   module_size = unwrap_or (option_map (λ m. m.size) s.loaded) 0;
   stack_base = unwrap_or (option_map (λ r. r.base) s.stack) 0;
@@ -36,6 +38,7 @@ crash_of s = record {
   has_reason = flag s.reason;
   has_module = flag s.loaded;
   has_stack = flag s.stack;
+  has_context = flag s.instruction_pointer;
 }
 
 -- the numbers of the summary of a file, without names of codes, and its texts in two buffers, as far as they fit

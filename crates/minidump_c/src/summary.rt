@@ -16,6 +16,10 @@ use std::alloc::Global;
 pub struct Crash {
     /// The address that the crash is about.
     pub address: u64,
+    /// The instruction pointer of the context of the crash: the exception's, else the thread's own.
+    pub instruction_pointer: u64,
+    /// The stack pointer of that context.
+    pub stack_pointer: u64,
     /// The first address of the module with the instruction pointer.
     pub module_base: u64,
     /// The number of bytes of memory that the module takes.
@@ -38,6 +42,8 @@ pub struct Crash {
     pub has_module: u8,
     /// 1 if there is a stack, else 0.
     pub has_stack: u8,
+    /// 1 if there is a context, else 0.
+    pub has_context: u8,
 }
 
 /// Summarises the crash of a minidump: its numbers to `crash`, the text of its reason and the name of its module to
@@ -71,6 +77,8 @@ fn crash_of(summary: &CrashSummary) -> Crash
     let (stack_base, stack_size) = stack_span(summary.stack);
     Crash {
         address: summary.address.unwrap_or(0),
+        instruction_pointer: summary.instruction_pointer.unwrap_or(0),
+        stack_pointer: summary.stack_pointer.unwrap_or(0),
         module_base,
         module_size,
         stack_base,
@@ -82,6 +90,7 @@ fn crash_of(summary: &CrashSummary) -> Crash
         has_reason: flag(&summary.reason),
         has_module: flag(&summary.module),
         has_stack: flag(&summary.stack),
+        has_context: flag(&summary.instruction_pointer),
     }
 }
 

@@ -65,13 +65,14 @@ static void table(const uint8_t *bytes, size_t len, size_t room) {
 }
 
 static void summary(const uint8_t *bytes, size_t len, size_t reason_room, size_t module_room) {
-    struct minidump_crash c = {1, 2, 3, 4, 5, 6, 7, 8, 9, 10, 11, 12};
+    struct minidump_crash c = {1, 2, 3, 4, 5, 6, 7, 8, 9, 10, 11, 12, 13, 14, 15};
     char reason[65] = {0}, module[65] = {0};
     memset(reason, '#', 64);
     memset(module, '+', 64);
     tell("summary", minidump_summary(bytes, len, &c, (uint8_t *)reason, reason_room, (uint8_t *)module, module_room));
-    printf("thread %u; address %u 0x%llx; reason %u %zu; module %u 0x%llx 0x%llx %zu; stack %u 0x%llx 0x%llx\n%s\n%s\n",
-           c.thread, c.has_address, (unsigned long long)c.address, c.has_reason, c.reason_len, c.has_module,
+    printf("thread %u; address %u 0x%llx; context %u 0x%llx 0x%llx; reason %u %zu; module %u 0x%llx 0x%llx %zu; stack %u 0x%llx 0x%llx\n%s\n%s\n",
+           c.thread, c.has_address, (unsigned long long)c.address, c.has_context,
+           (unsigned long long)c.instruction_pointer, (unsigned long long)c.stack_pointer, c.has_reason, c.reason_len, c.has_module,
            (unsigned long long)c.module_base, (unsigned long long)c.module_size, c.module_len, c.has_stack,
            (unsigned long long)c.stack_base, (unsigned long long)c.stack_size, reason, module);
 }

@@ -40,10 +40,10 @@ numbered_lines front values = flat_map (λ r. register_line (front r.0) r.1) (en
 unfoldable pub bytes_line : List ℕ → List ℕ → List ℕ
 bytes_line front bytes = front ++ (encode_lower bytes ++ codes "\n")
 
--- CONTEXT_X86
+-- the lines of ContextFlags, the debug registers and the words of FLOATING_SAVE_AREA
 unfoldable pub x86_debug_lines : CONTEXT_X86 → List ℕ
 x86_debug_lines c = concat (
-    register_line (codes "CONTEXT_X86\n  context_flags                = ") c.context_flags
+    register_line (codes "  context_flags                = ") c.context_flags
     ∷ register_line (codes "  dr0                          = ") c.dr0
     ∷ register_line (codes "  dr1                          = ") c.dr1
     ∷ register_line (codes "  dr2                          = ") c.dr2
@@ -58,10 +58,6 @@ x86_debug_lines c = concat (
     ∷ register_line (codes "  float_save.data_offset       = ") c.float_save.data_offset
     ∷ register_line (codes "  float_save.data_selector     = ") c.float_save.data_selector
     ∷ [])
-
--- the line of FLOATING_SAVE_AREA's RegisterArea, 80 bytes
-unfoldable pub x86_area_line : CONTEXT_X86 → List ℕ
-x86_area_line c = bytes_line (codes "  float_save.register_area[80] = 0x") c.float_save.register_area
 
 -- the lines of Cr0NpxState, the segment registers, the integer registers and the control registers
 unfoldable pub x86_lines : CONTEXT_X86 → List ℕ
@@ -85,18 +81,20 @@ x86_lines c = concat (
     ∷ register_line (codes "  ss                           = ") c.ss
     ∷ [])
 
--- the line of ExtendedRegisters, 512 bytes
-unfoldable pub x86_extended_line : CONTEXT_X86 → List ℕ
-x86_extended_line c = bytes_line (codes "  extended_registers[512]      = 0x") c.extended_registers
+-- the text of a context of x86, CONTEXT_X86: RegisterArea is 80 bytes, and ExtendedRegisters 512
+unfoldable pub x86_text : CONTEXT_X86 → List ℕ
+x86_text c =
+    codes "CONTEXT_X86\n"
+    ++ (x86_debug_lines c
+    ++ (bytes_line (codes "  float_save.register_area[80] = 0x") c.float_save.register_area
+    ++ (x86_lines c
+    ++ (bytes_line (codes "  extended_registers[512]      = 0x") c.extended_registers
+    ++ line_end))))
 
--- the text of a context of x86
-abbrev pub x86_text : CONTEXT_X86 → List ℕ
-x86_text c = x86_debug_lines c ++ (x86_area_line c ++ (x86_lines c ++ (x86_extended_line c ++ line_end)))
-
--- CONTEXT_AMD64
+-- the lines of all registers
 unfoldable pub amd64_lines : CONTEXT_AMD64 → List ℕ
 amd64_lines c = concat (
-    register_line (codes "CONTEXT_AMD64\n  p1_home       = ") c.p1_home
+    register_line (codes "  p1_home       = ") c.p1_home
     ∷ register_line (codes "  p2_home       = ") c.p2_home
     ∷ register_line (codes "  p3_home       = ") c.p3_home
     ∷ register_line (codes "  p4_home       = ") c.p4_home
@@ -136,13 +134,16 @@ amd64_lines c = concat (
     ∷ register_line (codes "  rip           = ") c.rip
     ∷ [])
 
--- the text of a context of x86-64
-abbrev pub amd64_text : CONTEXT_AMD64 → List ℕ
-amd64_text c = amd64_lines c ++ line_end
+-- the text of a context of x86-64, CONTEXT_AMD64
+unfoldable pub amd64_text : CONTEXT_AMD64 → List ℕ
+amd64_text c =
+    codes "CONTEXT_AMD64\n"
+    ++ (amd64_lines c
+    ++ line_end)
 
--- CONTEXT_ARM
+-- the line of ContextFlags
 unfoldable pub arm_flags_line : CONTEXT_ARM → List ℕ
-arm_flags_line c = register_line (codes "CONTEXT_ARM\n  context_flags       = ") c.context_flags
+arm_flags_line c = register_line (codes "  context_flags       = ") c.context_flags
 
 -- the lines of iregs, the registers r0 to r15
 unfoldable pub arm_iregs_lines : CONTEXT_ARM → List ℕ
@@ -151,37 +152,31 @@ arm_iregs_lines c = numbered_lines (right_front (codes "  iregs[") (codes "]    
 -- the lines of the status registers: cpsr, and fpscr of the float area
 unfoldable pub arm_status_lines : CONTEXT_ARM → List ℕ
 arm_status_lines c =
-    register_line (codes "  cpsr                = ") c.cpsr ++ register_line (codes "  float_save.fpscr     = ") c.float_save.fpscr
+    register_line (codes "  cpsr                = ") c.cpsr
+    ++ register_line (codes "  float_save.fpscr     = ") c.float_save.fpscr
 
--- the lines of the 32 float registers
+-- the lines of the 32 float registers and of the 8 further words of the float area
 unfoldable pub arm_float_lines : CONTEXT_ARM → List ℕ
-arm_float_lines c = numbered_lines (right_front (codes "  float_save.regs[") (codes "] = ")) c.float_save.regs
+arm_float_lines c =
+    numbered_lines (right_front (codes "  float_save.regs[") (codes "] = ")) c.float_save.regs
+    ++ numbered_lines (right_front (codes "  float_save.extra[") (codes "] = ")) c.float_save.extra
 
--- the lines of the 8 further words of the float area
-unfoldable pub arm_extra_lines : CONTEXT_ARM → List ℕ
-arm_extra_lines c = numbered_lines (right_front (codes "  float_save.extra[") (codes "] = ")) c.float_save.extra
-
--- the text of a context of ARM
-abbrev pub arm_text : CONTEXT_ARM → List ℕ
-arm_text c = arm_flags_line c ++ (arm_iregs_lines c ++ (arm_status_lines c ++ (arm_float_lines c ++ arm_extra_lines c)))
+-- the text of a context of ARM, CONTEXT_ARM
+unfoldable pub arm_text : CONTEXT_ARM → List ℕ
+arm_text c = codes "CONTEXT_ARM\n" ++ (arm_flags_line c ++ (arm_iregs_lines c ++ (arm_status_lines c ++ arm_float_lines c)))
 
 -- the lines of x0 to x28
 unfoldable pub x_lines : List ℕ → List ℕ
 x_lines iregs = numbered_lines (left_front (codes "  x") (codes "                  = ")) (take 29 iregs)
 
--- the lines of x29, x30, the stack pointer and the instruction pointer
-unfoldable pub pointer_lines : List ℕ → ℕ → ℕ → List ℕ
-pointer_lines iregs sp pc = concat (
+-- the lines of x29, x30, the stack pointer, the instruction pointer and the status registers
+unfoldable pub state_lines : List ℕ → ℕ → ℕ → ℕ → ℕ → ℕ → List ℕ
+state_lines iregs sp pc cpsr fpsr fpcr = concat (
     register_line (codes "  x29 (fp)             = ") (slice_index iregs 29)
     ∷ register_line (codes "  x30 (lr)             = ") (slice_index iregs 30)
     ∷ register_line (codes "  sp                   = ") sp
     ∷ register_line (codes "  pc                   = ") pc
-    ∷ [])
-
--- the lines of the status registers: cpsr, fpsr and fpcr
-unfoldable pub status_lines : ℕ → ℕ → ℕ → List ℕ
-status_lines cpsr fpsr fpcr = concat (
-    register_line (codes "  cpsr                 = ") cpsr
+    ∷ register_line (codes "  cpsr                 = ") cpsr
     ∷ register_line (codes "  fpsr                 = ") fpsr
     ∷ register_line (codes "  fpcr                 = ") fpcr
     ∷ [])
@@ -190,46 +185,32 @@ status_lines cpsr fpsr fpcr = concat (
 unfoldable pub d_lines : List ℕ → List ℕ
 d_lines float_regs = numbered_lines (left_front (codes "  d") (codes " = ")) float_regs
 
--- the lines that the two layouts of ARM64 have in common: x0 to x28, x29 to pc, the status registers, d0 to d31
-abbrev pub arm64_lines : List ℕ → ℕ → ℕ → ℕ → ℕ → ℕ → List ℕ → List ℕ
-arm64_lines iregs sp pc cpsr fpsr fpcr float_regs =
-    x_lines iregs ++ (pointer_lines iregs sp pc ++ (status_lines cpsr fpsr fpcr ++ d_lines float_regs))
+-- the lines that the two layouts of ARM64 have in common
+unfoldable pub arm64_lines : List ℕ → ℕ → ℕ → ℕ → ℕ → ℕ → List ℕ → List ℕ
+arm64_lines iregs sp pc cpsr fpsr fpcr float_regs = x_lines iregs ++ (state_lines iregs sp pc cpsr fpsr fpcr ++ d_lines float_regs)
 
--- CONTEXT_ARM64
-unfoldable pub arm64_flags_line : CONTEXT_ARM64 → List ℕ
-arm64_flags_line c = register_line (codes "CONTEXT_ARM64\n  context_flags        = ") c.context_flags
+-- the lines of the registers of hardware breakpoints and watchpoints: control and value
+unfoldable pub watch_lines : CONTEXT_ARM64 → List ℕ
+watch_lines c =
+    numbered_lines (right_front (codes "  bcr[") (codes "] = ")) c.bcr
+    ++ (numbered_lines (right_front (codes "  bvr[") (codes "] = ")) c.bvr
+    ++ (numbered_lines (right_front (codes "  wcr[") (codes "] = ")) c.wcr
+    ++ numbered_lines (right_front (codes "  wvr[") (codes "] = ")) c.wvr))
 
--- the lines of the control registers of hardware breakpoints
-unfoldable pub bcr_lines : CONTEXT_ARM64 → List ℕ
-bcr_lines c = numbered_lines (right_front (codes "  bcr[") (codes "] = ")) c.bcr
+-- the text of a context of ARM64, CONTEXT_ARM64
+unfoldable pub arm64_text : CONTEXT_ARM64 → List ℕ
+arm64_text c =
+    codes "CONTEXT_ARM64\n"
+    ++ (register_line (codes "  context_flags        = ") c.context_flags
+    ++ (arm64_lines c.iregs c.sp c.pc c.cpsr c.fpsr c.fpcr c.float_regs
+    ++ watch_lines c))
 
--- the lines of the value registers of hardware breakpoints
-unfoldable pub bvr_lines : CONTEXT_ARM64 → List ℕ
-bvr_lines c = numbered_lines (right_front (codes "  bvr[") (codes "] = ")) c.bvr
-
--- the lines of the control registers of hardware watchpoints
-unfoldable pub wcr_lines : CONTEXT_ARM64 → List ℕ
-wcr_lines c = numbered_lines (right_front (codes "  wcr[") (codes "] = ")) c.wcr
-
--- the lines of the value registers of hardware watchpoints
-unfoldable pub wvr_lines : CONTEXT_ARM64 → List ℕ
-wvr_lines c = numbered_lines (right_front (codes "  wvr[") (codes "] = ")) c.wvr
-
--- the lines of the registers of hardware breakpoints and watchpoints
-abbrev pub watch_lines : CONTEXT_ARM64 → List ℕ
-watch_lines c = bcr_lines c ++ (bvr_lines c ++ (wcr_lines c ++ wvr_lines c))
-
--- the text of a context of ARM64
-abbrev pub arm64_text : CONTEXT_ARM64 → List ℕ
-arm64_text c = arm64_flags_line c ++ (arm64_lines c.iregs c.sp c.pc c.cpsr c.fpsr c.fpcr c.float_regs ++ watch_lines c)
-
--- CONTEXT_ARM64_OLD
-unfoldable pub arm64_old_flags_line : CONTEXT_ARM64_OLD → List ℕ
-arm64_old_flags_line c = register_line (codes "CONTEXT_ARM64_OLD\n  context_flags        = ") c.context_flags
-
--- the text of a context of ARM64 in Breakpad's old layout
-abbrev pub arm64_old_text : CONTEXT_ARM64_OLD → List ℕ
-arm64_old_text c = arm64_old_flags_line c ++ arm64_lines c.iregs c.sp c.pc c.cpsr c.fpsr c.fpcr c.float_regs
+-- the text of a context of ARM64 in Breakpad's old layout, CONTEXT_ARM64_OLD
+unfoldable pub arm64_old_text : CONTEXT_ARM64_OLD → List ℕ
+arm64_old_text c =
+    codes "CONTEXT_ARM64_OLD\n"
+    ++ (register_line (codes "  context_flags        = ") c.context_flags
+    ++ arm64_lines c.iregs c.sp c.pc c.cpsr c.fpsr c.fpcr c.float_regs)
 
 -- the text of a context, by its processor
 abbrev pub context_text : MinidumpRawContext → List ℕ

@@ -6,4 +6,5 @@ pub mod FlagLemmas
 pub mod Printing
 pub mod Blocking
 pub mod NumberedLemmas
+pub mod SequenceLemmas
 pub mod XstateLemmas

@@ -3,18 +3,16 @@
 //! - [`format`] has the records, enumerations and sets of flags, by the names of Microsoft's, Breakpad's and
 //!   Crashpad's headers. Each record is a `minidump_bytes::Record`.
 //! - [`Error`] is the one error of all crates. [`stream_vendor`] names the vendor of a stream type.
-//! - [`put_text`] and [`put_formatted`] print a text, [`put_bytes`] prints bytes, [`print_line_end`] a line feed. A
-//!   value that appends its text to bytes is [`Pushed`]: [`print_item`] prints it, and [`print_list`] several in
-//!   blocks. In blocks too, [`print_counted`] prints items by their indexes ([`Counted`]), and [`print_list_by`] a list by a
-//!   [`PushText`]. [`print_numbered`] prints a heading with the number of items, and each item after a line of a
-//!   name and its index.
+//! - [`put_text`] prints a text, [`print_line_end`] a line feed. A value that appends its text to bytes is [`Pushed`]:
+//!   [`print_item`] prints it, and [`print_all`] prints what an iterator yields, in blocks. [`print_numbered`] prints a
+//!   [`Heading`] with the number of items of a slice, and each item after a line of a name and its index, as a
+//!   [`Numbered`] value; [`print_numbered_all`] does so for an iterator.
 //!
 //! # Errors
 //!
 //! Printing returns [`Error::IoError`] where the writer has failed by then, and else [`Error::OutOfMemory`].
-//! [`put_text`], [`print_line_end`] and [`put_bytes`] return the first alone; so do [`put_formatted`] of a text that
-//! could be made, and [`print_list`], [`print_list_by`] and [`print_counted`] where there is no item. After either, a
-//! beginning of the text was written.
+//! [`put_text`] and [`print_line_end`] return the first alone; so does [`print_all`] where there is no item. After
+//! either, a prefix of the text was written.
 //!
 //! # What is proved
 //!
@@ -36,28 +34,23 @@
 //!   `laws::contexts_are_copied` for contexts, which have no `==`.
 //! - The constants: `laws::header_numbers`, `file_info_numbers`, `annotation_numbers`. The name of an error:
 //!   `Error::name`.
-//! - A call that prints wrote all of its text, or a beginning, and returned the error above: the word
-//!   `Prints` at `put_text`, `put_formatted`, `put_bytes`, `print_item`, `print_list`, `print_list_by`,
-//!   `print_counted`, `print_numbered`.
+//! - A call that prints wrote all of its text, or a prefix, and returned the error above: the word
+//!   `Prints` at `put_text`, `print_line_end`, `print_item`, `print_all`, `print_numbered`, `print_numbered_all`.
 //!
 //! What isn't: the messages of the errors, which tests show. `CV_INFO_PDB70`, `CV_INFO_PDB20` and
 //! `CV_INFO_ELF` are no records: `minidump_modules` reads them.
 #![tactic(auto)]
 
-mod blocks;
 mod error;
 mod exact;
 pub mod format;
 pub mod laws;
-mod numbered;
+mod memory_text;
 mod print;
+mod sequence;
 mod vendor;
 
-pub use blocks::{
-    BLOCK, Counted, PushText, Pushed, print_counted, print_item, print_list, print_list_by,
-    put_bytes,
-};
 pub use error::Error;
-pub use numbered::{print_count, print_numbered, push_index};
-pub use print::{no_memory, print_line_end, push_line_end, put_formatted, put_text};
+pub use print::{Pushed, no_memory, print_item, print_line_end, push_line_end, put_text};
+pub use sequence::{Heading, Numbered, print_all, print_numbered, print_numbered_all};
 pub use vendor::stream_vendor;

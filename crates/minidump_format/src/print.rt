@@ -1,21 +1,43 @@
-ghost use Rattle.std.specs.Prelude.{◌≡◌, ◌++◌, ℕ, List, IfErr, IfOk, IsOk, OnErr, OnOk, string_bytes};
+ghost use Rattle.std.specs.Prelude.{◌≡◌, ◌++◌, ℕ, List, IfErr, OnErr, OnOk};
 ghost use Rattle.minidump_format.specs.Print.{Prints, out_of_memory};
 ghost use Rattle.minidump_format.specs.Text.{line_end};
 
 use crate::Error;
 use minidump_bytes::Told;
-use std::alloc::AllocError;
+use std::alloc::{AllocError, Global};
 use std::io::Write;
+
+/// A value that can append its text to bytes.
+pub trait Pushed {
+    // its text
+    ghost text: { Self → List ℕ };
+
+    /// Appends the text. Returns `AllocError` if memory runs out, and then what the bytes hold is unspecified.
+    fn push(&self, out: &mut Vec<u8>) -> Result<(), AllocError>
+        ensures { OnOk result (out.new.items ≡ out.old.items ++ text self.now) };
+}
+
+/// Prints the text of an item.
+pub fn print_item<T: Pushed, W: Write>(
+    item: &T,
+    alloc: Global,
+    f: &mut Told<W>,
+) -> Result<(), Error>
+    ensures { Prints W.contents f.old f.new (T.text item.now) result }
+{
+    let mut text = Vec::new(alloc);
+    match item.push(&mut text) {
+        Ok(()) => put_bytes(f, text.as_slice()),
+        Err(AllocError) => Err(no_memory(f)),
+    }
+}
 
 /// Prints a text. The only error is [`Error::IoError`].
 pub fn put_text<W: Write>(f: &mut Told<W>, text: &str) -> Result<(), Error>
     ensures prints { Prints W.contents f.old f.new text.now result }
     ensures refusal { IfErr result (λ e. e ≡ Error.IoError) }
 {
-    match f.put(text.as_bytes()) {
-        Ok(()) => Ok(()),
-        Err(_) => Err(Error::IoError),
-    }
+    put_bytes(f, text.as_bytes())
 }
 
 /// Prints a line feed. The only error is [`Error::IoError`].
@@ -36,20 +58,14 @@ pub fn push_line_end(out: &mut Vec<u8>) -> Result<(), AllocError>
     out.extend_from_slice(b"\n")
 }
 
-/// Prints a text that was made in memory. Returns [`Error::IoError`] if the writer fails or has failed, and
-/// [`Error::OutOfMemory`] only if the text could not be made.
-pub fn put_formatted<W: Write>(
-    f: &mut Told<W>,
-    text: Result<String, AllocError>,
-) -> Result<(), Error>
-    ensures prints { (bytes : List ℕ) → IfOk text (λ t. string_bytes t ≡ bytes)
-        → Prints W.contents f.old f.new bytes result }
-    ensures made { IfOk result (λ _. IsOk text) }
-    ensures refusal { IsOk text → IfErr result (λ e. e ≡ Error.IoError) }
+// Prints bytes.
+pub(crate) fn put_bytes<W: Write>(f: &mut Told<W>, bytes: &[u8]) -> Result<(), Error>
+    ensures prints { Prints W.contents f.old f.new bytes.now result }
+    ensures refusal { IfErr result (λ e. e ≡ Error.IoError) }
 {
-    match text {
-        Ok(t) => put_text(f, t.as_str()),
-        Err(AllocError) => Err(no_memory(f)),
+    match f.put(bytes) {
+        Ok(()) => Ok(()),
+        Err(_) => Err(Error::IoError),
     }
 }
 

@@ -4,9 +4,8 @@ mod FieldLemmas
 mod FoundLemmas
 mod InsideLemmas
 mod KeptLemmas
-mod ListLemmas
+pub mod ListLemmas
 mod ListedLemmas
-mod LossyLemmas
 mod OrderLemmas
 mod PaddedLemmas
 mod RestLemmas

@@ -3,7 +3,7 @@ use Rattle.std.specs.Prelude.{ℕ, ◌-◌, ◌++◌, ◌==◌, ◌&&◌, List, 
 use Rattle.std.specs.Fmt.{digits}
 use Rattle.std.specs.Option.{option_and_then, option_map}
 use Rattle.minidump_bytes.specs.Digits.{number_of_digits}
-use Rattle.uuid.specs.Text.{parsed_simple}
+use Rattle.uuid.specs.Text.{parsed_simple, simple_text, upper}
 use Rattle.minidump_format.specs.Guid.{uuid_text}
 use Rattle.minidump_modules.specs.declared.debug_id.DebugId.{DebugId}
 use Rattle.minidump_modules.specs.declared.debug_id.Kind.{Kind}
@@ -44,3 +44,16 @@ kind_text (Stamp stamp age) = eight_upper stamp ++ appendix_text age
 -- the text of a debug identifier
 abbrev pub debug_id_text : DebugId → List ℕ
 debug_id_text id = kind_text id.kind
+
+-- the 32 digits of a GUID in upper case
+unfoldable pub breakpad_digits : List ℕ → List ℕ
+breakpad_digits bytes = simple_text upper bytes
+
+-- the digits of a GUID or of a time stamp in upper case, then its appendix in lower case, also where it is 0
+abbrev breakpad_kind_text : Kind → List ℕ
+breakpad_kind_text (Guid bytes appendix) = breakpad_digits bytes ++ digits 16 false appendix
+breakpad_kind_text (Stamp stamp age) = digits 16 true stamp ++ digits 16 false age
+
+-- Breakpad's text of a debug identifier, by which symbol servers name their folders
+abbrev pub breakpad_text : DebugId → List ℕ
+breakpad_text id = breakpad_kind_text id.kind

@@ -21,32 +21,15 @@ abbrev pub or_empty : Option (List ℕ) → List ℕ
 or_empty (Some text) = text
 or_empty None = []
 
--- a label that ends with a quotation mark, and a text in quotation marks
-unfoldable pub quoted : List ℕ → List ℕ → List ℕ
-quoted label text = concat (label ∷ text ∷ codes "\"\n" ∷ [])
-
--- where an image was, and its checksum
-unfoldable pub image_text : List ℕ → ℕ → ℕ → ℕ → List ℕ
-image_text title base size checksum = concat (
-    title ∷ codes "\n"
-    ∷ codes "  base_of_image                   = " ∷ hex base ∷ codes "\n"
+-- the lines that the entries of both kinds begin with
+unfoldable pub entry_text : ℕ → ℕ → ℕ → ℕ → ℕ → List ℕ
+entry_text base size checksum stamp name_rva = concat (
+    codes "  base_of_image                   = " ∷ hex base ∷ codes "\n"
     ∷ codes "  size_of_image                   = " ∷ hex size ∷ codes "\n"
     ∷ codes "  checksum                        = " ∷ hex checksum ∷ codes "\n"
+    ∷ codes "  time_date_stamp                 = " ∷ hex stamp ∷ codes " " ∷ date_text_of stamp ∷ codes "\n"
+    ∷ codes "  module_name_rva                 = " ∷ hex name_rva ∷ codes "\n"
     ∷ [])
-
--- a time stamp as a number and as a date
-unfoldable pub stamp_text : List ℕ → ℕ → List ℕ → List ℕ
-stamp_text label stamp date = concat (label ∷ hex stamp ∷ codes " " ∷ date ∷ codes "\n" ∷ [])
-
--- the line of ModuleNameRva
-unfoldable pub name_rva_text : ℕ → List ℕ
-name_rva_text rva = concat (codes "  module_name_rva                 = " ∷ hex rva ∷ codes "\n" ∷ [])
-
--- the lines that the entries of both kinds begin with
-unfoldable pub entry_text : List ℕ → ℕ → ℕ → ℕ → ℕ → ℕ → List ℕ
-entry_text title base size checksum stamp name_rva =
-    image_text title base size checksum
-    ++ (stamp_text (codes "  time_date_stamp                 = ") stamp (date_text_of stamp) ++ name_rva_text name_rva)
 
 -- Microsoft's VS_FIXEDFILEINFO
 unfoldable pub version_info_text : VS_FIXEDFILEINFO → List ℕ
@@ -75,54 +58,53 @@ places_text raw = concat (
 -- the entry of a loaded module
 unfoldable pub raw_text : MINIDUMP_MODULE → List ℕ
 raw_text raw =
-    entry_text (codes "MINIDUMP_MODULE") raw.base_of_image raw.size_of_image raw.checksum raw.time_date_stamp raw.module_name_rva
-    ++ (version_info_text raw.version_info ++ places_text raw)
+    codes "MINIDUMP_MODULE\n"
+    ++ (entry_text raw.base_of_image raw.size_of_image raw.checksum raw.time_date_stamp raw.module_name_rva
+    ++ (version_info_text raw.version_info ++ places_text raw))
 
 -- the name of the file and the identifier of its code
 unfoldable pub code_text : List ℕ → List ℕ → List ℕ
-code_text file identifier =
-    quoted (codes "  (code_file)                     = \"") file
-    ++ quoted (codes "  (code_identifier)               = \"") identifier
+code_text file identifier = concat (
+    codes "  (code_file)                     = \"" ∷ file ∷ codes "\"\n"
+    ∷ codes "  (code_identifier)               = \"" ∷ identifier ∷ codes "\"\n"
+    ∷ [])
 
--- the numbers of a Pdb70 record, CV_INFO_PDB70
-unfoldable pub pdb70_numbers : ℕ → List ℕ → ℕ → List ℕ
-pdb70_numbers signature guid age = concat (
+-- a Pdb70 record, CV_INFO_PDB70
+unfoldable pub pdb70_text : ℕ → List ℕ → ℕ → List ℕ → List ℕ
+pdb70_text signature guid age name = concat (
     codes "  (cv_record).cv_signature        = " ∷ hex signature ∷ codes "\n"
     ∷ codes "  (cv_record).signature           = " ∷ guid ∷ codes "\n"
     ∷ codes "  (cv_record).age                 = " ∷ decimal age ∷ codes "\n"
+    ∷ codes "  (cv_record).pdb_file_name       = \"" ∷ name ∷ codes "\"\n"
     ∷ [])
 
--- the numbers of a Pdb20 record, CV_INFO_PDB20, around its time stamp
-unfoldable pub pdb20_header : ℕ → ℕ → List ℕ
-pdb20_header signature offset = concat (
+-- a Pdb20 record, CV_INFO_PDB20
+unfoldable pub pdb20_text : ℕ → ℕ → ℕ → List ℕ → ℕ → List ℕ → List ℕ
+pdb20_text signature offset stamp date age name = concat (
     codes "  (cv_record).cv_header.signature = " ∷ hex signature ∷ codes "\n"
     ∷ codes "  (cv_record).cv_header.offset    = " ∷ hex offset ∷ codes "\n"
+    ∷ codes "  (cv_record).signature           = " ∷ hex stamp ∷ codes " " ∷ date ∷ codes "\n"
+    ∷ codes "  (cv_record).age                 = " ∷ decimal age ∷ codes "\n"
+    ∷ codes "  (cv_record).pdb_file_name       = \"" ∷ name ∷ codes "\"\n"
     ∷ [])
 
--- the line of the age of a PDB
-unfoldable pub age_text : ℕ → List ℕ
-age_text age = concat (codes "  (cv_record).age                 = " ∷ decimal age ∷ codes "\n" ∷ [])
+-- an ELF record, CV_INFO_ELF
+unfoldable pub elf_text : ℕ → List ℕ → List ℕ
+elf_text signature id = concat (
+    codes "  (cv_record).cv_signature        = " ∷ hex signature ∷ codes "\n"
+    ∷ codes "  (cv_record).build_id            = " ∷ encode_lower id ∷ codes "\n"
+    ∷ [])
 
--- the name in a Pdb70 or a Pdb20 record
-abbrev pub pdb_name_text : List ℕ → List ℕ
-pdb_name_text name = quoted (codes "  (cv_record).pdb_file_name       = \"") (lossy_name name)
-
--- the signature of an ELF record, CV_INFO_ELF
-unfoldable pub elf_signature : ℕ → List ℕ
-elf_signature signature = concat (codes "  (cv_record).cv_signature        = " ∷ hex signature ∷ codes "\n" ∷ [])
-
--- the digits of bytes behind a label
-unfoldable pub digits_line : List ℕ → List ℕ → List ℕ
-digits_line label digits = concat (label ∷ digits ∷ codes "\n" ∷ [])
+-- a record with another signature
+unfoldable pub unknown_text : List ℕ → List ℕ
+unknown_text bytes = concat (codes "  (cv_record)                     = " ∷ encode_lower bytes ∷ codes "\n" ∷ [])
 
 -- the CodeView record
 abbrev pub view_text : Option View → List ℕ
-view_text (Some (pdb70 s g age name)) = pdb70_numbers s (guid_text g) age ++ pdb_name_text name
-view_text (Some (pdb20 s offset stamp age name)) =
-    pdb20_header s offset
-    ++ (stamp_text (codes "  (cv_record).signature           = ") stamp (date_text_of stamp) ++ (age_text age ++ pdb_name_text name))
-view_text (Some (elf s id)) = elf_signature s ++ digits_line (codes "  (cv_record).build_id            = ") (encode_lower id)
-view_text (Some (unknown bytes)) = digits_line (codes "  (cv_record)                     = ") (encode_lower bytes)
+view_text (Some (pdb70 s g age name)) = pdb70_text s (guid_text g) age (lossy_name name)
+view_text (Some (pdb20 s offset stamp age name)) = pdb20_text s offset stamp (date_text_of stamp) age (lossy_name name)
+view_text (Some (elf s id)) = elf_text s id
+view_text (Some (unknown bytes)) = unknown_text bytes
 view_text None = codes "  (cv_record)                     = (null)\n"
 
 -- a debug identifier, or the nil GUID where it is absent
@@ -130,15 +112,15 @@ abbrev pub or_nil : Option DebugId → List ℕ
 or_nil (Some id) = debug_id_text id
 or_nil None = codes "00000000-0000-0000-0000-000000000000"
 
--- the version, and the empty line behind a loaded module
-unfoldable pub version_line : List ℕ → List ℕ
-version_line version = concat (codes "  (version)                       = \"" ∷ version ∷ codes "\"\n\n" ∷ [])
-
--- the misc record, which isn't read, and what symbol tools ask for
-unfoldable pub debug_text : Option (List ℕ) → Option DebugId → Option (List ℕ) → List ℕ
-debug_text file identifier version =
-    quoted (codes "  (misc_record)                   = (null)\n  (debug_file)                    = \"") (or_empty file)
-    ++ (quoted (codes "  (debug_identifier)              = \"") (or_nil identifier) ++ version_line (or_empty version))
+-- the misc record, which isn't read, what symbol tools ask for, and an empty line
+unfoldable pub debug_text : List ℕ → List ℕ → List ℕ → List ℕ
+debug_text file identifier version = concat (
+    codes "  (misc_record)                   = (null)\n"
+    ∷ codes "  (debug_file)                    = \"" ∷ file ∷ codes "\"\n"
+    ∷ codes "  (debug_identifier)              = \"" ∷ identifier ∷ codes "\"\n"
+    ∷ codes "  (version)                       = \"" ∷ version ∷ codes "\"\n"
+    ∷ codes "\n"
+    ∷ [])
 
 -- a loaded module
 unfoldable pub module_text : ModuleValue → List ℕ
@@ -146,15 +128,16 @@ module_text m =
     raw_text m.raw
     ++ (code_text m.name (or_empty (identity_of m).code_identifier)
     ++ (view_text m.view
-    ++ debug_text (identity_of m).debug_file (identity_of m).debug_identifier (identity_of m).version))
+    ++ debug_text (or_empty (identity_of m).debug_file) (or_nil (identity_of m).debug_identifier) (or_empty (identity_of m).version)))
 
--- an unloaded module, with no empty line behind it
+-- an unloaded module, with no empty line after it
 unfoldable pub unloaded_text : UnloadedValue → List ℕ
 unloaded_text m =
-    entry_text (codes "MINIDUMP_UNLOADED_MODULE") m.raw.base_of_image m.raw.size_of_image m.raw.checksum m.raw.time_date_stamp m.raw.module_name_rva
-    ++ code_text m.name (stamp_form m.raw.time_date_stamp m.raw.size_of_image)
+    codes "MINIDUMP_UNLOADED_MODULE\n"
+    ++ (entry_text m.raw.base_of_image m.raw.size_of_image m.raw.checksum m.raw.time_date_stamp m.raw.module_name_rva
+    ++ code_text m.name (stamp_form m.raw.time_date_stamp m.raw.size_of_image))
 
--- the list of loaded modules, MINIDUMP_MODULE_LIST: how many they are, and each behind its index
+-- the list of loaded modules, MINIDUMP_MODULE_LIST: how many they are, and each after its index
 abbrev pub module_list_text : List ModuleValue → List ℕ
 module_list_text modules = numbered_list (codes "MinidumpModuleList\n  module_count = ") (codes "module") module_text modules
 

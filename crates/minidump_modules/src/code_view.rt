@@ -209,7 +209,7 @@ pub(crate) fn lossy_name(alloc: Global, bytes: &[u8]) -> Result<String, AllocErr
 }
 
 // Returns the bytes before the first NUL, or all of them if there is none.
-pub(crate) fn before_nul(bytes: &[u8]) -> &[u8]
+fn before_nul(bytes: &[u8]) -> &[u8]
     ensures { result.now ≡ before_first (λ b. b == 0) bytes.now }
 {
     match first_nul(bytes) {

@@ -1,13 +1,11 @@
 ghost use Rattle.std.proofs.Common.{rules};
-ghost use Rattle.std.specs.Prelude.{◌≡◌, ◌++◌, OnOk, length};
+ghost use Rattle.std.specs.Prelude.{◌≡◌, length};
 ghost use Rattle.minidump_format.specs.Guid.{uuid_text};
-ghost use Rattle.minidump_modules.specs.ModuleText.{quoted};
-ghost use Rattle.minidump_modules.specs.DebugId.{debug_id_text, by_guid, by_stamp, from_breakpad, sixteen_bytes};
+ghost use Rattle.minidump_modules.specs.DebugId.{breakpad_digits, by_guid, by_stamp, from_breakpad, sixteen_bytes};
 
-use crate::print::push_quoted;
 use minidump_bytes::{Exact, number_32};
-use std::alloc::AllocError;
 use std::fmt;
+use std::marker::Model;
 use uuid::Uuid;
 
 /// The identifier of a module's debug file: a GUID, or the time stamp of an old program database, each
@@ -62,6 +60,13 @@ impl DebugId {
     {
         DebugId::from_parts(uuid, 0)
     }
+
+    /// Returns this identifier as Breakpad writes it, by which symbol servers name their folders.
+    pub fn breakpad(&self) -> BreakpadFormat
+        ensures { result ≡ self.now }
+    {
+        BreakpadFormat { id: *self }
+    }
 }
 
 impl Exact for DebugId {
@@ -96,12 +101,40 @@ impl fmt::Display for DebugId {
     }
 }
 
-// Appends an identifier in quotation marks, the first of which ends the label.
-pub(crate) fn push_id(out: &mut Vec<u8>, label: &'static str, id: DebugId) -> Result<(), AllocError>
-    ensures { OnOk result (out.new.items ≡ out.old.items ++ quoted label.now (debug_id_text id)) }
-{
-    let text = format!(in *out.allocator(); "{id}")?;
-    push_quoted(out, label, text.as_str())
+/// A debug identifier as Breakpad writes it.
+#[derive(Clone, Copy, Debug)]
+pub struct BreakpadFormat {
+    id: DebugId,
+}
+
+impl Model for BreakpadFormat {
+    ghost use Rattle.minidump_modules.specs.declared.debug_id.DebugId.{DebugId};
+
+    ghost Value = { DebugId };
+
+    ghost view = { λ form. form.id };
+
+    ghost inverse = { λ id. record { id = id } };
+}
+
+/// Formats a GUID as its 32 digits and a time stamp as its digits, both in upper case; the appendix or the
+/// age follows in lower case, also where it is 0.
+impl fmt::Display for BreakpadFormat {
+    ghost use Rattle.std.specs.Prelude.{Some};
+    ghost use Rattle.minidump_modules.specs.DebugId.{breakpad_text};
+
+    ghost output = { λ id. Some (breakpad_text id) };
+
+    fn fmt<W: fmt::Write>(&self, f: &mut fmt::Formatter<W>) -> fmt::Result {
+        match self.id.kind {
+            Kind::Guid(uuid, appendix) => {
+                let mut buffer = Uuid::encode_buffer();
+                let digits = breakpad_digits(uuid, &mut buffer);
+                write!(f, "{digits}{appendix:x}")
+            }
+            Kind::Stamp(stamp, age) => write!(f, "{stamp:X}{age:x}"),
+        }
+    }
 }
 
 // Writes a GUID to a buffer, in lower case with hyphens, and returns its text.
@@ -110,6 +143,14 @@ pub(crate) fn guid_of(uuid: Uuid, buffer: &mut [u8; 45]) -> &str
     ensures { result.now ≡ uuid_text uuid }
 {
     uuid.hyphenated().encode_lower(buffer)
+}
+
+// Writes the 32 digits of a GUID to a buffer, in upper case, and returns their text.
+#[tactic(auto, unfolding(crate::specs::DebugId::breakpad_digits))]
+fn breakpad_digits(uuid: Uuid, buffer: &mut [u8; 45]) -> &str
+    ensures { result.now ≡ breakpad_digits uuid }
+{
+    uuid.simple().encode_upper(buffer)
 }
 
 // Reads the GUID of 32 digits.

@@ -1,7 +1,8 @@
 //! Laws of modules, over the definitions that contracts cite.
-ghost use Rattle.std.specs.Prelude.{◌≡◌, ◌↔◌, IsTrue, List};
+ghost use Rattle.std.specs.Prelude.{◌≡◌, ◌↔◌, ◌<◌, ◌^◌, ℕ, All, IsTrue, List, length, Some};
 ghost use Rattle.minidump_index.specs.Lookup.{HasRegionLaws};
 ghost use Rattle.minidump_modules.specs.CodeId.{text_of};
+ghost use Rattle.minidump_modules.specs.DebugId.{breakpad_text, by_guid, from_breakpad};
 ghost use Rattle.minidump_modules.specs.Module.{ModuleValue, module_identity, value_range};
 ghost use Rattle.minidump_modules.specs.UnloadedModule.{UnloadedValue, unloaded_identity};
 ghost use Rattle.minidump_modules.specs.UnloadedOrder.{HasUnloadedLaws};
@@ -31,4 +32,12 @@ pub fn code_ids_compare_by_their_digits()
 pub fn modules_are_identified_as_defined()
     ensures loaded { ⟦<MinidumpModule as Module>⟧.identity ≡ module_identity }
     ensures unloaded { ⟦<MinidumpUnloadedModule as Module>⟧.identity ≡ unloaded_identity }
+{}
+
+/// The text that `DebugId::breakpad` gives a GUID with an appendix is read by `DebugId::from_breakpad` as the same
+/// identifier.
+#[tactic(auto, using(crate::proofs::BreakpadLemmas::reads_back))]
+pub fn breakpad_texts_are_read_back()
+    ensures { (bytes : List ℕ) (appendix : ℕ) → length bytes ≡ 16 → All (λ b. b < 256) bytes → appendix < 2 ^ 32
+        → from_breakpad (breakpad_text (by_guid bytes appendix)) ≡ Some (by_guid bytes appendix) }
 {}

@@ -23,7 +23,8 @@
 //! - The identifiers, the debug file and the version are those of the CodeView record, the system, the build
 //!   id and the version record: the functions of `Module`, by `identity_of` and `unloaded_identity`:
 //!   `laws::modules_are_identified_as_defined`. Their texts: `CodeId::new`, `from_binary`, `Display`;
-//!   `DebugId::from_breakpad`, `Display`.
+//!   `DebugId::from_breakpad`, `Display`, and `breakpad` with the `Display` of [`BreakpadFormat`], by `breakpad_text`;
+//!   `from_breakpad` reads that of a GUID back: `laws::breakpad_texts_are_read_back`.
 //! - A lookup returns the kept module that contains the address: `module_at_address`, and
 //!   `module_at_address_counted`, which compares it with at most as many modules as the number of kept ones has
 //!   binary digits. The kept ones by address, from both ends: `by_addr`. How these fit together: `laws::region_laws`.
@@ -56,7 +57,7 @@ mod version;
 
 pub use code_id::CodeId;
 pub use code_view::CodeView;
-pub use debug_id::DebugId;
+pub use debug_id::{BreakpadFormat, DebugId};
 pub use identity::Module;
 pub use module::MinidumpModule;
 pub use module_list::MinidumpModuleList;

@@ -9,13 +9,15 @@ ghost use Rattle.minidump_modules.specs.Module.{has_range, module_of, value_rang
 ghost use Rattle.minidump_modules.specs.ModuleList.{module_list_of, modules_in, modules_of, modules_read};
 
 use crate::MinidumpModule;
-use minidump_bytes::{Endian, Entries, Source, Steps};
+use minidump_bytes::{Endian, Source, Steps};
 use minidump_format::Error;
 use minidump_format::format::MINIDUMP_MODULE;
 use minidump_index::{Range, RegionList, RegionsByAddress};
 use minidump_system::framing::plain_entries;
+use minidump_system::listed::{Listed, read_items};
 use minidump_system::{MinidumpStream, MinidumpSystemInfo, Os};
 use std::alloc::Global;
+use std::ops::Deref;
 use std::slice;
 
 /// The loaded modules of a process, with lookups by address.
@@ -23,6 +25,10 @@ use std::slice;
 /// Of overlapping modules one is kept: they are taken by first address, then by last address, then by
 /// index, and each is kept that shares no address with one kept before. A module without a size, or whose
 /// end, base address and size, is more than 2^64, has no addresses and is not kept.
+///
+/// Dereferences to the [`RegionList`] of its modules, which has `len`, `is_empty`, `iter` and `as_slice` for all
+/// modules in the order of the list, those that are not kept among them. An entry of the stream without addresses is
+/// no module of the list: it is skipped as the stream is read.
 #[derive(Drop)]
 pub struct MinidumpModuleList {
     modules: RegionList<MinidumpModule>,
@@ -82,28 +88,6 @@ impl MinidumpModuleList {
         self.modules.at_address(address, steps)
     }
 
-    /// Returns the number of modules, those that are not kept among them.
-    pub fn len(&self) -> usize
-        ensures { result ≡ length (modules_of self.now) }
-    {
-        self.modules.as_slice().len()
-    }
-
-    /// Tells whether the list has no module.
-    pub fn is_empty(&self) -> bool
-        ensures { IsTrue result ↔ (length (modules_of self.now) ≡ 0) }
-    {
-        self.modules.as_slice().is_empty()
-    }
-
-    /// Returns an iterator over all modules, in the order of the list, those that are not kept among them. An
-    /// entry of the stream without addresses is no module of the list: it is skipped as the stream is read.
-    pub fn iter(&self) -> slice::Iter<'_, MinidumpModule>
-        ensures { iter_rest result ≡ modules_of self.now }
-    {
-        self.modules.as_slice().iter()
-    }
-
     /// Returns an iterator over the kept modules, ascending by address, from both ends.
     pub fn by_addr(&self) -> RegionsByAddress<'_, MinidumpModule>
         ensures { IsByAddress value_range (module_list_of self.now) (map module_of result) }
@@ -119,6 +103,19 @@ impl MinidumpModuleList {
     {
         let modules = copied_modules(alloc, self.modules.as_slice())?;
         MinidumpModuleList::from_modules(alloc, modules)
+    }
+}
+
+impl Deref for MinidumpModuleList {
+    ghost use Rattle.std.specs.Prelude.{◌≡◌};
+    ghost use Rattle.minidump_modules.specs.ModuleList.{modules_of};
+
+    type Target = RegionList<MinidumpModule>;
+
+    ghost deref_gives = { λ list regions. modules_of list ≡ regions };
+
+    fn deref(&self) -> &RegionList<MinidumpModule> {
+        &self.modules
     }
 }
 
@@ -156,6 +153,7 @@ impl<'a> MinidumpStream<'a> for MinidumpModuleList {
         Self::STREAM_TYPE
     }
 
+    #[tactic(auto, using(crate::proofs::ListLemmas::kept_modules, crate::proofs::ListLemmas::some_kept))]
     fn read(
         alloc: Global,
         bytes: Source<'a>,
@@ -165,39 +163,50 @@ impl<'a> MinidumpStream<'a> for MinidumpModuleList {
         steps: &mut Steps,
     ) -> Result<Self, Error> {
         let raws = plain_entries::<MINIDUMP_MODULE>(bytes, endian, steps)?;
-        if raws.len() == 0 {
-            return Ok(MinidumpModuleList::new(alloc));
-        }
         let os = system_info.map(|system| system.os);
-        let modules = read_modules(alloc, raws, all, endian, os, steps)?;
+        let modules = read_items(&Modules { os }, alloc, raws, all, endian, steps)?;
         Ok(MinidumpModuleList {
             modules: RegionList::from_regions(alloc, modules)?,
         })
     }
 }
 
-// Reads the modules of entries, but for those without addresses.
-fn read_modules(
-    alloc: Global,
-    raws: Entries<'_, MINIDUMP_MODULE>,
-    all: Source<'_>,
-    endian: Endian,
+// An entry becomes a module; one without addresses is skipped.
+#[derive(Clone, Copy)]
+struct Modules {
     os: Option<Os>,
-    steps: &mut Steps,
-) -> Result<Vec<MinidumpModule>, Error>
-    ensures means { Gives (λ v. map module_of v.items) (0 < length raws.entry) result (modules_in endian os (bytes_of all.entry) raws.entry) }
-    ensures within { steps.new ≤ steps.old + 8 * length raws.entry }
-    ensures grows { steps.old ≤ steps.new }
-    ensures steps { IfOk result (λ v. steps.new ≡ after steps.old (length raws.entry + modules_read (map module_of v.items))) }
-{
-    let mut modules = Vec::with_capacity(alloc, raws.len())?;
-    for entry in raws {
-        let raw = entry.read(steps);
-        if has_range(&raw) {
-            modules.push(MinidumpModule::read_counted(alloc, &raw, all, endian, os, steps)?)?;
+}
+
+impl<'a> Listed<'a, MINIDUMP_MODULE> for Modules {
+    ghost use Rattle.minidump_system.specs.Reads.{read_if};
+    ghost use Rattle.minidump_modules.specs.Module.{ModuleValue, has_range, module_of, module_reads, read_module};
+
+    type Item = MinidumpModule;
+
+    ghost Value = { ModuleValue };
+
+    ghost value = { module_of };
+
+    ghost listed = { λ modules order file raw. read_if has_range (read_module order modules.os file) raw };
+
+    ghost most = { λ _. 7 };
+
+    ghost fewest_of = { module_reads };
+
+    fn read_entry(
+        &self,
+        alloc: Global,
+        entry: MINIDUMP_MODULE,
+        all: Source<'a>,
+        endian: Endian,
+        steps: &mut Steps,
+    ) -> Result<Option<MinidumpModule>, Error> {
+        if !has_range(&entry) {
+            return Ok(None);
         }
+        let module = MinidumpModule::read_counted(alloc, &entry, all, endian, self.os, steps)?;
+        Ok(Some(module))
     }
-    Ok(modules)
 }
 
 // Tells whether an entry has addresses.

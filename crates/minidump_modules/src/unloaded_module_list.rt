@@ -11,11 +11,12 @@ ghost use Rattle.minidump_modules.specs.UnloadedOrder.{AreAt, IsByStart};
 
 use crate::unloaded_order::{Placed, order_of};
 use crate::{MinidumpUnloadedModule, ModulesAtAddress, UnloadedModulesByAddress};
-use minidump_bytes::{Endian, Entries, Source, Steps};
+use minidump_bytes::{Endian, Source, Steps};
 use minidump_format::Error;
 use minidump_format::format::MINIDUMP_UNLOADED_MODULE;
 use minidump_index::Range;
 use minidump_system::framing::extended_entries;
+use minidump_system::listed::{Listed, read_items};
 use minidump_system::{MinidumpStream, MinidumpSystemInfo};
 use std::alloc::Global;
 use std::marker::Model;
@@ -148,6 +149,7 @@ impl<'a> MinidumpStream<'a> for MinidumpUnloadedModuleList {
         Self::STREAM_TYPE
     }
 
+    #[tactic(auto, using(crate::proofs::ListLemmas::kept_unloaded, crate::proofs::ListLemmas::some_kept, minidump_system::proofs::KeptLemmas::sum_of_ones))]
     fn read(
         alloc: Global,
         bytes: Source<'a>,
@@ -157,33 +159,43 @@ impl<'a> MinidumpStream<'a> for MinidumpUnloadedModuleList {
         steps: &mut Steps,
     ) -> Result<Self, Error> {
         let raws = extended_entries::<MINIDUMP_UNLOADED_MODULE>(bytes, endian, steps)?;
-        if raws.len() == 0 {
-            return Ok(MinidumpUnloadedModuleList::new(alloc));
-        }
-        let modules = read_modules(alloc, raws, all, endian, steps)?;
+        let modules = read_items(&UnloadedModules, alloc, raws, all, endian, steps)?;
         MinidumpUnloadedModuleList::from_modules(alloc, modules)
     }
 }
 
-// Reads the modules of entries.
-fn read_modules(
-    alloc: Global,
-    raws: Entries<'_, MINIDUMP_UNLOADED_MODULE>,
-    all: Source<'_>,
-    endian: Endian,
-    steps: &mut Steps,
-) -> Result<Vec<MinidumpUnloadedModule>, Error>
-    ensures means { Gives (λ v. map unloaded_of v.items) (0 < length raws.entry) result (all_ok (listed_unloaded endian (bytes_of all.entry)) raws.entry) }
-    ensures within { steps.new ≤ steps.old + 2 * length raws.entry }
-    ensures grows { steps.old ≤ steps.new }
-    ensures steps { IfOk result (λ _. steps.new ≡ after steps.old (2 * length raws.entry)) }
-{
-    let mut modules = Vec::with_capacity(alloc, raws.len())?;
-    for entry in raws {
-        let raw = entry.read(steps);
-        modules.push(listed_module(alloc, &raw, all, endian, steps)?)?;
+// An entry becomes a module.
+#[derive(Clone, Copy)]
+struct UnloadedModules;
+
+impl<'a> Listed<'a, MINIDUMP_UNLOADED_MODULE> for UnloadedModules {
+    ghost use Rattle.minidump_system.specs.Reads.{read_each};
+    ghost use Rattle.minidump_modules.specs.UnloadedModule.{UnloadedValue, listed_unloaded, unloaded_of};
+
+    type Item = MinidumpUnloadedModule;
+
+    ghost Value = { UnloadedValue };
+
+    ghost value = { unloaded_of };
+
+    ghost listed = { λ _ order file raw. read_each (listed_unloaded order file) raw };
+
+    ghost most = { λ _. 1 };
+
+    ghost fewest = { λ _. 1 };
+
+    ghost fewest_of = { λ _. 0 };
+
+    fn read_entry(
+        &self,
+        alloc: Global,
+        entry: MINIDUMP_UNLOADED_MODULE,
+        all: Source<'a>,
+        endian: Endian,
+        steps: &mut Steps,
+    ) -> Result<Option<MinidumpUnloadedModule>, Error> {
+        Ok(Some(listed_module(alloc, &entry, all, endian, steps)?))
     }
-    Ok(modules)
 }
 
 // Reads the module of an entry, which must have addresses.

@@ -1,7 +1,7 @@
 -- The words of a crash reason: Darwin's kern/exc_resource.h and kern/exc_guard.h for what codes and subcodes hold.
 use Rattle.std.specs.Prelude.{ℕ, ◌==◌, List, [], ◌∷◌, ◌++◌, codes, Option, Some, None, unwrap_or, if◌then◌else◌}
 use Rattle.std.specs.Fmt.{decimal}
-use Rattle.std.specs.List.{concat, flat_map}
+use Rattle.std.specs.List.{concat}
 use Rattle.minidump_bytes.specs.Piece.{wide_hex}
 use Rattle.minidump_reason.specs.declared.family.CodeFamily.{CodeFamily}
 use Rattle.minidump_reason.specs.declared.family.CodeFamily.TheVariants as family
@@ -39,39 +39,33 @@ mac_general_text names c f =
     if c == 0x43507378 then codes "Simulated Exception"
     else concat (name_text names family.Mac c ∷ codes " / " ∷ hex8 f ∷ [])
 
--- words, and a number in decimal behind them
-abbrev pub detail : List ℕ × ℕ → List ℕ
-detail d = d.0 ++ decimal d.1
-
--- such details, and the last words
-unfoldable pub details : List (List ℕ × ℕ) → List ℕ → List ℕ
-details numbers last = flat_map detail numbers ++ last
-
 -- a limit by the name of its flavor, in bits 58 to 60 of the code, and its details
-abbrev limit : Lists → ℕ → ℕ → CodeFamily → List (List ℕ × ℕ) → List ℕ → List ℕ
-limit names code subcode family numbers last = flavored (name_of names family (bits_of code 58 3)) (details numbers last) code subcode
+abbrev limit : Lists → ℕ → ℕ → CodeFamily → List ℕ → List ℕ
+limit names code subcode family details = flavored (name_of names family (bits_of code 58 3)) details code subcode
 
 -- the limits of each resource, by the bits of the code and of the subcode
 abbrev pub cpu_limit : Lists → ℕ → ℕ → List ℕ
-cpu_limit names code subcode = limit names code subcode family.MacResourceCpu (
-    (codes " interval: ", bits_of code 7 25) ∷ (codes "s CPU limit: ", bits_of code 0 3)
-    ∷ (codes "% CPU consumed: ", bits_of subcode 0 3) ∷ []) (codes "%")
+cpu_limit names code subcode = limit names code subcode family.MacResourceCpu (concat (
+    codes " interval: " ∷ decimal (bits_of code 7 25) ∷ codes "s CPU limit: " ∷ decimal (bits_of code 0 3)
+    ∷ codes "% CPU consumed: " ∷ decimal (bits_of subcode 0 3) ∷ codes "%" ∷ []))
 
 abbrev pub wakeups_limit : Lists → ℕ → ℕ → List ℕ
-wakeups_limit names code subcode = limit names code subcode family.MacResourceWakeups (
-    (codes " interval: ", bits_of code 20 20) ∷ (codes "s wakeups permitted: ", bits_of code 0 12)
-    ∷ (codes " wakeups observed: ", bits_of subcode 0 12) ∷ []) []
+wakeups_limit names code subcode = limit names code subcode family.MacResourceWakeups (concat (
+    codes " interval: " ∷ decimal (bits_of code 20 20) ∷ codes "s wakeups permitted: " ∷ decimal (bits_of code 0 12)
+    ∷ codes " wakeups observed: " ∷ decimal (bits_of subcode 0 12) ∷ []))
 
 abbrev pub memory_limit : Lists → ℕ → ℕ → List ℕ
-memory_limit names code subcode = limit names code subcode family.MacResourceMemory ((codes " high watermark limit: ", bits_of code 0 13) ∷ []) (codes "MiB")
+memory_limit names code subcode = limit names code subcode family.MacResourceMemory (concat (
+    codes " high watermark limit: " ∷ decimal (bits_of code 0 13) ∷ codes "MiB" ∷ []))
 
 abbrev pub io_limit : Lists → ℕ → ℕ → List ℕ
-io_limit names code subcode = limit names code subcode family.MacResourceIo (
-    (codes " interval: ", bits_of code 15 17) ∷ (codes "s I/O limit: ", bits_of code 0 15)
-    ∷ (codes "% I/O observed: ", bits_of subcode 0 15) ∷ []) (codes "%")
+io_limit names code subcode = limit names code subcode family.MacResourceIo (concat (
+    codes " interval: " ∷ decimal (bits_of code 15 17) ∷ codes "s I/O limit: " ∷ decimal (bits_of code 0 15)
+    ∷ codes "% I/O observed: " ∷ decimal (bits_of subcode 0 15) ∷ codes "%" ∷ []))
 
 abbrev pub threads_limit : Lists → ℕ → ℕ → List ℕ
-threads_limit names code subcode = limit names code subcode family.MacResourceThreads ((codes " high watermark limit: ", bits_of code 0 15) ∷ []) []
+threads_limit names code subcode = limit names code subcode family.MacResourceThreads (concat (
+    codes " high watermark limit: " ∷ decimal (bits_of code 0 15) ∷ []))
 
 -- a limit by the type of the resource: 1 CPU, 2 WAKEUPS, 3 MEMORY, 4 IO, 5 THREADS
 unfoldable pub resource_flavor : Lists → ℕ → ℕ → ℕ → List ℕ
@@ -89,27 +83,27 @@ resource_text names kind code subcode =
     listed names (codes "EXC_RESOURCE / ") family.MacResource kind ++ (codes " / " ++ resource_flavor names kind code subcode)
 
 -- a guard by the name of its flavor, in bits 32 to 60 of the code, and its details
-abbrev pub guard : Lists → ℕ → ℕ → CodeFamily → List (List ℕ × ℕ) → List ℕ
-guard names code subcode family numbers = codes " / " ++ flavored (name_of names family (bits_of code 32 29)) (details numbers []) code subcode
+abbrev pub guard : Lists → ℕ → ℕ → CodeFamily → List ℕ → List ℕ
+guard names code subcode family details = codes " / " ++ flavored (name_of names family (bits_of code 32 29)) details code subcode
 
 -- a guard that has a flavor, by its type: 1 MACH_PORT, 2 FD, 4 VN, 5 VIRT_MEMORY, 6 REJECTED_SC
 unfoldable pub guard_flavor : Lists → ℕ → ℕ → ℕ → List ℕ
 guard_flavor names kind code subcode =
-    if kind == 1 then guard names code subcode family.MacGuardMachPort (
-    (codes " port name: ", bits_of code 0 28) ∷ (if subcode == 0 then [] else (codes " subcode: ", subcode) ∷ [])) else (
-    if kind == 2 then guard names code subcode family.MacGuardFd (
-    (codes " file descriptor: ", bits_of code 0 28) ∷ (codes " guard identifier: ", subcode) ∷ []) else (
-    if kind == 4 then guard names code subcode family.MacGuardVn (
-    (codes " pid: ", bits_of code 0 28) ∷ (codes " guard identifier: ", subcode) ∷ []) else (
-    if kind == 5 then guard names code subcode family.MacGuardVirtMemory ((codes " offset: ", subcode) ∷ []) else (
-    if kind == 6 then guard names code subcode family.MacGuardRejectedSysCall ((codes " syscall: ", subcode) ∷ [])
+    if kind == 1 then guard names code subcode family.MacGuardMachPort (concat (
+    codes " port name: " ∷ decimal (bits_of code 0 28) ∷ (if subcode == 0 then [] else codes " subcode: " ++ decimal subcode) ∷ [])) else (
+    if kind == 2 then guard names code subcode family.MacGuardFd (concat (
+    codes " file descriptor: " ∷ decimal (bits_of code 0 28) ∷ codes " guard identifier: " ∷ decimal subcode ∷ [])) else (
+    if kind == 4 then guard names code subcode family.MacGuardVn (concat (
+    codes " pid: " ∷ decimal (bits_of code 0 28) ∷ codes " guard identifier: " ∷ decimal subcode ∷ [])) else (
+    if kind == 5 then guard names code subcode family.MacGuardVirtMemory (concat (codes " offset: " ∷ decimal subcode ∷ [])) else (
+    if kind == 6 then guard names code subcode family.MacGuardRejectedSysCall (concat (codes " syscall: " ∷ decimal subcode ∷ []))
     else codes " / " ++ flavored None [] code subcode))))
 
 -- a guard by its type: 0 NONE, which has no details, 3 USER, which has no flavor, or one with a flavor
 unfoldable pub guard_detail : Lists → ℕ → ℕ → ℕ → List ℕ
 guard_detail names kind code subcode =
     if kind == 0 then [] else (
-    if kind == 3 then details ((codes "/ namespace: ", bits_of code 0 32) ∷ (codes " guard identifier: ", subcode) ∷ []) []
+    if kind == 3 then concat (codes "/ namespace: " ∷ decimal (bits_of code 0 32) ∷ codes " guard identifier: " ∷ decimal subcode ∷ [])
     else guard_flavor names kind code subcode)
 
 -- EXC_GUARD

@@ -1,11 +1,14 @@
-ghost use Rattle.std.specs.Prelude.{◌≡◌, ◌++◌, OnOk, codes, map, string_bytes, []};
+ghost use Rattle.std.specs.Prelude.{◌≡◌, ◌++◌, OnOk, codes, string_bytes};
+ghost use Rattle.std.specs.List.{flat_map};
+ghost use Rattle.minidump_bytes.specs.Piece.{piece_text};
 ghost use Rattle.minidump_reason.specs.Names.{name_of};
-ghost use Rattle.minidump_reason.specs.ReasonText.{details, flavored, guard_detail, guard_flavor, guard_text};
+ghost use Rattle.minidump_reason.specs.ReasonText.{flavored, guard_detail, guard_flavor, guard_text};
 
 use crate::bits::bits_of;
-use crate::flavor::{Flavor, push_details};
+use crate::flavor::Flavor;
 use crate::text::push_listed;
 use crate::{CodeFamily, CodeNames};
+use minidump_bytes::{Piece, push_pieces};
 use std::alloc::AllocError;
 
 const GUARD_TYPE_NONE: u32 = 0;
@@ -43,6 +46,7 @@ pub(crate) fn push_guard(
 }
 
 // Appends the details of a guard, by its type.
+#[rattlefmt::skip]
 #[tactic(auto, unfolding(crate::specs::ReasonText::guard_detail))]
 fn push_guard_detail(
     out: &mut String,
@@ -57,17 +61,16 @@ fn push_guard_detail(
         GUARD_TYPE_NONE => Ok(()),
         GUARD_TYPE_USER => {
             let namespace = bits_of(code, 0, 32);
-            let numbers = [
-                ("/ namespace: ", namespace),
-                (" guard identifier: ", subcode),
-            ];
-            push_details(out, &numbers, "")
+            push_pieces(out, &[
+                Piece::Words("/ namespace: "), Piece::Decimal(namespace), Piece::Words(" guard identifier: "), Piece::Decimal(subcode),
+            ])
         }
         _ => push_guard_flavor(out, names, kind, code, subcode),
     }
 }
 
 // Appends the flavor of a guard and its details, by the type of the guard.
+#[rattlefmt::skip]
 #[tactic(auto, unfolding(crate::specs::ReasonText::guard_flavor))]
 fn push_guard_flavor(
     out: &mut String,
@@ -84,32 +87,25 @@ fn push_guard_flavor(
         subcode,
     };
     let low = bits_of(code, 0, 28);
-    let identifier = (" guard identifier: ", subcode);
     match kind {
-        GUARD_TYPE_MACH_PORT if subcode == 0 => {
-            let numbers = [(" port name: ", low)];
-            flavor.push_guard(out, names, CodeFamily::MacGuardMachPort, &numbers)
-        }
-        GUARD_TYPE_MACH_PORT => {
-            let numbers = [(" port name: ", low), (" subcode: ", subcode)];
-            flavor.push_guard(out, names, CodeFamily::MacGuardMachPort, &numbers)
-        }
-        GUARD_TYPE_FD => {
-            let numbers = [(" file descriptor: ", low), identifier];
-            flavor.push_guard(out, names, CodeFamily::MacGuardFd, &numbers)
-        }
-        GUARD_TYPE_VN => {
-            let numbers = [(" pid: ", low), identifier];
-            flavor.push_guard(out, names, CodeFamily::MacGuardVn, &numbers)
-        }
-        GUARD_TYPE_VIRT_MEMORY => {
-            let numbers = [(" offset: ", subcode)];
-            flavor.push_guard(out, names, CodeFamily::MacGuardVirtMemory, &numbers)
-        }
-        GUARD_TYPE_REJECTED_SC => {
-            let numbers = [(" syscall: ", subcode)];
-            flavor.push_guard(out, names, CodeFamily::MacGuardRejectedSysCall, &numbers)
-        }
+        GUARD_TYPE_MACH_PORT if subcode == 0 => flavor.push_guard(out, names, CodeFamily::MacGuardMachPort, &[
+            Piece::Words(" port name: "), Piece::Decimal(low),
+        ]),
+        GUARD_TYPE_MACH_PORT => flavor.push_guard(out, names, CodeFamily::MacGuardMachPort, &[
+            Piece::Words(" port name: "), Piece::Decimal(low), Piece::Words(" subcode: "), Piece::Decimal(subcode),
+        ]),
+        GUARD_TYPE_FD => flavor.push_guard(out, names, CodeFamily::MacGuardFd, &[
+            Piece::Words(" file descriptor: "), Piece::Decimal(low), Piece::Words(" guard identifier: "), Piece::Decimal(subcode),
+        ]),
+        GUARD_TYPE_VN => flavor.push_guard(out, names, CodeFamily::MacGuardVn, &[
+            Piece::Words(" pid: "), Piece::Decimal(low), Piece::Words(" guard identifier: "), Piece::Decimal(subcode),
+        ]),
+        GUARD_TYPE_VIRT_MEMORY => flavor.push_guard(out, names, CodeFamily::MacGuardVirtMemory, &[
+            Piece::Words(" offset: "), Piece::Decimal(subcode),
+        ]),
+        GUARD_TYPE_REJECTED_SC => flavor.push_guard(out, names, CodeFamily::MacGuardRejectedSysCall, &[
+            Piece::Words(" syscall: "), Piece::Decimal(subcode),
+        ]),
         _ => {
             out.push_str(" / ")?;
             flavor.push_unnamed(out)
@@ -124,12 +120,12 @@ impl Flavor {
         out: &mut String,
         names: &CodeNames<'_>,
         family: CodeFamily,
-        numbers: &[(&str, u64)],
+        details: &[Piece<'_>],
     ) -> Result<(), AllocError>
         ensures { OnOk result (string_bytes out.new ≡ string_bytes out.old
-            ++ (codes " / " ++ flavored (name_of names.now family self.number) (details (map (λ d. (d.0.now, d.1)) numbers.now) []) self.code self.subcode)) }
+            ++ (codes " / " ++ flavored (name_of names.now family self.number) (flat_map piece_text details.now) self.code self.subcode)) }
     {
         out.push_str(" / ")?;
-        self.push(out, names, family, numbers, "")
+        self.push(out, names, family, details)
     }
 }

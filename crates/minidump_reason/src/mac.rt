@@ -38,6 +38,7 @@ impl CrashReason {
 }
 
 // Returns the reason for an exception with a listed code.
+#[rattlefmt::skip]
 fn refined(raw: &MINIDUMP_EXCEPTION, cpu: Cpu, names: &CodeNames<'_>) -> CrashReason
     ensures { result ≡ mac_refined names.now cpu raw.now.exception_code raw.now.exception_flags
         (slice_index raw.now.exception_information 1) (slice_index raw.now.exception_information 2) }
@@ -51,10 +52,22 @@ fn refined(raw: &MINIDUMP_EXCEPTION, cpu: Cpu, names: &CodeNames<'_>) -> CrashRe
         EXC_BAD_ACCESS if names.has(CodeFamily::MacBadAccessKern, flags) => {
             CrashReason::MacBadAccessKern(flags)
         }
-        EXC_BAD_ACCESS => bad_access(general, flags, cpu, names),
-        EXC_BAD_INSTRUCTION => bad_instruction(general, flags, cpu, names),
-        EXC_ARITHMETIC => arithmetic(general, flags, cpu, names),
-        EXC_BREAKPOINT => breakpoint(general, flags, cpu, names),
+        EXC_BAD_ACCESS => by_processor(general, flags, cpu, names,
+            (CodeFamily::MacBadAccessArm, CrashReason::MacBadAccessArm(flags)),
+            (CodeFamily::MacBadAccessPpc, CrashReason::MacBadAccessPpc(flags)),
+            (CodeFamily::MacBadAccessX86, CrashReason::MacBadAccessX86(flags))),
+        EXC_BAD_INSTRUCTION => by_processor(general, flags, cpu, names,
+            (CodeFamily::MacBadInstructionArm, CrashReason::MacBadInstructionArm(flags)),
+            (CodeFamily::MacBadInstructionPpc, CrashReason::MacBadInstructionPpc(flags)),
+            (CodeFamily::MacBadInstructionX86, CrashReason::MacBadInstructionX86(flags))),
+        EXC_ARITHMETIC => by_processor(general, flags, cpu, names,
+            (CodeFamily::MacArithmeticArm, CrashReason::MacArithmeticArm(flags)),
+            (CodeFamily::MacArithmeticPpc, CrashReason::MacArithmeticPpc(flags)),
+            (CodeFamily::MacArithmeticX86, CrashReason::MacArithmeticX86(flags))),
+        EXC_BREAKPOINT => by_processor(general, flags, cpu, names,
+            (CodeFamily::MacBreakpointArm, CrashReason::MacBreakpointArm(flags)),
+            (CodeFamily::MacBreakpointPpc, CrashReason::MacBreakpointPpc(flags)),
+            (CodeFamily::MacBreakpointX86, CrashReason::MacBreakpointX86(flags))),
         EXC_SOFTWARE if names.has(CodeFamily::MacSoftware, flags) => {
             CrashReason::MacSoftware(flags)
         }
@@ -68,113 +81,22 @@ fn refined(raw: &MINIDUMP_EXCEPTION, cpu: Cpu, names: &CodeNames<'_>) -> CrashRe
     }
 }
 
-// Returns the reason for a bad access by the processor's own flags, or the general one.
-fn bad_access(general: CrashReason, flags: u32, cpu: Cpu, names: &CodeNames<'_>) -> CrashReason
-    ensures { result ≡ by_processor names.now cpu flags
-        (CodeFamily.MacBadAccessArm, CrashReason.MacBadAccessArm flags)
-        (CodeFamily.MacBadAccessPpc, CrashReason.MacBadAccessPpc flags)
-        (CodeFamily.MacBadAccessX86, CrashReason.MacBadAccessX86 flags) general }
+// Returns the reason of the processor's own family, if its list has the flags, or the general one.
+fn by_processor(
+    general: CrashReason,
+    flags: u32,
+    cpu: Cpu,
+    names: &CodeNames<'_>,
+    arm: (CodeFamily, CrashReason),
+    ppc: (CodeFamily, CrashReason),
+    x86: (CodeFamily, CrashReason),
+) -> CrashReason
+    ensures { result ≡ by_processor names.now cpu flags arm ppc x86 general }
 {
     let (family, reason) = match cpu {
-        Cpu::Arm64 => (
-            CodeFamily::MacBadAccessArm,
-            CrashReason::MacBadAccessArm(flags),
-        ),
-        Cpu::Ppc => (
-            CodeFamily::MacBadAccessPpc,
-            CrashReason::MacBadAccessPpc(flags),
-        ),
-        Cpu::X86 | Cpu::X86_64 => (
-            CodeFamily::MacBadAccessX86,
-            CrashReason::MacBadAccessX86(flags),
-        ),
-        _ => return general,
-    };
-    if names.has(family, flags) {
-        reason
-    } else {
-        general
-    }
-}
-
-// Returns the reason for a bad instruction by the processor's own flags, or the general one.
-fn bad_instruction(general: CrashReason, flags: u32, cpu: Cpu, names: &CodeNames<'_>) -> CrashReason
-    ensures { result ≡ by_processor names.now cpu flags
-        (CodeFamily.MacBadInstructionArm, CrashReason.MacBadInstructionArm flags)
-        (CodeFamily.MacBadInstructionPpc, CrashReason.MacBadInstructionPpc flags)
-        (CodeFamily.MacBadInstructionX86, CrashReason.MacBadInstructionX86 flags) general }
-{
-    let (family, reason) = match cpu {
-        Cpu::Arm64 => (
-            CodeFamily::MacBadInstructionArm,
-            CrashReason::MacBadInstructionArm(flags),
-        ),
-        Cpu::Ppc => (
-            CodeFamily::MacBadInstructionPpc,
-            CrashReason::MacBadInstructionPpc(flags),
-        ),
-        Cpu::X86 | Cpu::X86_64 => (
-            CodeFamily::MacBadInstructionX86,
-            CrashReason::MacBadInstructionX86(flags),
-        ),
-        _ => return general,
-    };
-    if names.has(family, flags) {
-        reason
-    } else {
-        general
-    }
-}
-
-// Returns the reason for an arithmetic exception by the processor's own flags, or the general one.
-fn arithmetic(general: CrashReason, flags: u32, cpu: Cpu, names: &CodeNames<'_>) -> CrashReason
-    ensures { result ≡ by_processor names.now cpu flags
-        (CodeFamily.MacArithmeticArm, CrashReason.MacArithmeticArm flags)
-        (CodeFamily.MacArithmeticPpc, CrashReason.MacArithmeticPpc flags)
-        (CodeFamily.MacArithmeticX86, CrashReason.MacArithmeticX86 flags) general }
-{
-    let (family, reason) = match cpu {
-        Cpu::Arm64 => (
-            CodeFamily::MacArithmeticArm,
-            CrashReason::MacArithmeticArm(flags),
-        ),
-        Cpu::Ppc => (
-            CodeFamily::MacArithmeticPpc,
-            CrashReason::MacArithmeticPpc(flags),
-        ),
-        Cpu::X86 | Cpu::X86_64 => (
-            CodeFamily::MacArithmeticX86,
-            CrashReason::MacArithmeticX86(flags),
-        ),
-        _ => return general,
-    };
-    if names.has(family, flags) {
-        reason
-    } else {
-        general
-    }
-}
-
-// Returns the reason for a breakpoint by the processor's own flags, or the general one.
-fn breakpoint(general: CrashReason, flags: u32, cpu: Cpu, names: &CodeNames<'_>) -> CrashReason
-    ensures { result ≡ by_processor names.now cpu flags
-        (CodeFamily.MacBreakpointArm, CrashReason.MacBreakpointArm flags)
-        (CodeFamily.MacBreakpointPpc, CrashReason.MacBreakpointPpc flags)
-        (CodeFamily.MacBreakpointX86, CrashReason.MacBreakpointX86 flags) general }
-{
-    let (family, reason) = match cpu {
-        Cpu::Arm64 => (
-            CodeFamily::MacBreakpointArm,
-            CrashReason::MacBreakpointArm(flags),
-        ),
-        Cpu::Ppc => (
-            CodeFamily::MacBreakpointPpc,
-            CrashReason::MacBreakpointPpc(flags),
-        ),
-        Cpu::X86 | Cpu::X86_64 => (
-            CodeFamily::MacBreakpointX86,
-            CrashReason::MacBreakpointX86(flags),
-        ),
+        Cpu::Arm64 => arm,
+        Cpu::Ppc => ppc,
+        Cpu::X86 | Cpu::X86_64 => x86,
         _ => return general,
     };
     if names.has(family, flags) {

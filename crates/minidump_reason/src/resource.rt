@@ -6,6 +6,7 @@ use crate::bits::bits_of;
 use crate::flavor::Flavor;
 use crate::text::push_listed;
 use crate::{CodeFamily, CodeNames};
+use minidump_bytes::Piece;
 use std::alloc::AllocError;
 
 const RESOURCE_TYPE_CPU: u32 = 1;
@@ -74,6 +75,7 @@ fn limit(code: u64, subcode: u64) -> Flavor
 }
 
 // Appends a limit of the time of processors.
+#[rattlefmt::skip]
 fn push_cpu_limit(
     out: &mut String,
     names: &CodeNames<'_>,
@@ -85,15 +87,14 @@ fn push_cpu_limit(
     let interval = bits_of(code, 7, 25);
     let permitted = bits_of(code, 0, 3);
     let consumed = bits_of(subcode, 0, 3);
-    let numbers = [
-        (" interval: ", interval),
-        ("s CPU limit: ", permitted),
-        ("% CPU consumed: ", consumed),
-    ];
-    limit(code, subcode).push(out, names, CodeFamily::MacResourceCpu, &numbers, "%")
+    limit(code, subcode).push(out, names, CodeFamily::MacResourceCpu, &[
+        Piece::Words(" interval: "), Piece::Decimal(interval), Piece::Words("s CPU limit: "), Piece::Decimal(permitted),
+        Piece::Words("% CPU consumed: "), Piece::Decimal(consumed), Piece::Words("%"),
+    ])
 }
 
 // Appends a limit of wakeups.
+#[rattlefmt::skip]
 fn push_wakeups_limit(
     out: &mut String,
     names: &CodeNames<'_>,
@@ -105,15 +106,14 @@ fn push_wakeups_limit(
     let interval = bits_of(code, 20, 20);
     let permitted = bits_of(code, 0, 12);
     let observed = bits_of(subcode, 0, 12);
-    let numbers = [
-        (" interval: ", interval),
-        ("s wakeups permitted: ", permitted),
-        (" wakeups observed: ", observed),
-    ];
-    limit(code, subcode).push(out, names, CodeFamily::MacResourceWakeups, &numbers, "")
+    limit(code, subcode).push(out, names, CodeFamily::MacResourceWakeups, &[
+        Piece::Words(" interval: "), Piece::Decimal(interval), Piece::Words("s wakeups permitted: "), Piece::Decimal(permitted),
+        Piece::Words(" wakeups observed: "), Piece::Decimal(observed),
+    ])
 }
 
 // Appends a limit of memory.
+#[rattlefmt::skip]
 fn push_memory_limit(
     out: &mut String,
     names: &CodeNames<'_>,
@@ -123,11 +123,13 @@ fn push_memory_limit(
     ensures { OnOk result (string_bytes out.new ≡ string_bytes out.old ++ memory_limit names.now code subcode) }
 {
     let permitted = bits_of(code, 0, 13);
-    let numbers = [(" high watermark limit: ", permitted)];
-    limit(code, subcode).push(out, names, CodeFamily::MacResourceMemory, &numbers, "MiB")
+    limit(code, subcode).push(out, names, CodeFamily::MacResourceMemory, &[
+        Piece::Words(" high watermark limit: "), Piece::Decimal(permitted), Piece::Words("MiB"),
+    ])
 }
 
 // Appends a limit of I/O.
+#[rattlefmt::skip]
 fn push_io_limit(
     out: &mut String,
     names: &CodeNames<'_>,
@@ -139,15 +141,14 @@ fn push_io_limit(
     let interval = bits_of(code, 15, 17);
     let permitted = bits_of(code, 0, 15);
     let observed = bits_of(subcode, 0, 15);
-    let numbers = [
-        (" interval: ", interval),
-        ("s I/O limit: ", permitted),
-        ("% I/O observed: ", observed),
-    ];
-    limit(code, subcode).push(out, names, CodeFamily::MacResourceIo, &numbers, "%")
+    limit(code, subcode).push(out, names, CodeFamily::MacResourceIo, &[
+        Piece::Words(" interval: "), Piece::Decimal(interval), Piece::Words("s I/O limit: "), Piece::Decimal(permitted),
+        Piece::Words("% I/O observed: "), Piece::Decimal(observed), Piece::Words("%"),
+    ])
 }
 
 // Appends a limit of threads.
+#[rattlefmt::skip]
 fn push_threads_limit(
     out: &mut String,
     names: &CodeNames<'_>,
@@ -157,6 +158,7 @@ fn push_threads_limit(
     ensures { OnOk result (string_bytes out.new ≡ string_bytes out.old ++ threads_limit names.now code subcode) }
 {
     let permitted = bits_of(code, 0, 15);
-    let numbers = [(" high watermark limit: ", permitted)];
-    limit(code, subcode).push(out, names, CodeFamily::MacResourceThreads, &numbers, "")
+    limit(code, subcode).push(out, names, CodeFamily::MacResourceThreads, &[
+        Piece::Words(" high watermark limit: "), Piece::Decimal(permitted),
+    ])
 }

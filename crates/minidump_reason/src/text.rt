@@ -8,7 +8,7 @@ use crate::guard::push_guard;
 use crate::resource::push_resource;
 use crate::{CodeFamily, CodeNames, CrashReason};
 use minidump_bytes::{Piece, Told, push_pieces};
-use minidump_format::{Error, put_formatted};
+use minidump_format::{Error, no_memory, put_text};
 use std::alloc::{AllocError, Global};
 use std::io::Write;
 
@@ -36,7 +36,10 @@ impl CrashReason {
         ensures prints { Prints W.contents f.old f.new (reason_text names.now self.now) result }
         ensures utf8 { IfOk result (λ _. IsUtf8 (reason_text names.now self.now)) }
     {
-        put_formatted(f, made_reason(alloc, names, self))
+        match made_reason(alloc, names, self) {
+            Ok(text) => put_text(f, text.as_str()),
+            Err(AllocError) => Err(no_memory(f)),
+        }
     }
 
     /// Returns the text that [`CrashReason::write_to`] writes. The only error is [`Error::OutOfMemory`].
@@ -232,6 +235,7 @@ pub(crate) fn push_listed(
 }
 
 // Appends an exception of macOS or iOS.
+#[rattlefmt::skip]
 #[tactic(auto, unfolding(crate::specs::ReasonText::mac_general_text))]
 fn push_mac_general(
     out: &mut String,
@@ -245,13 +249,11 @@ fn push_mac_general(
         return out.push_str("Simulated Exception");
     }
     let name = named(names, CodeFamily::Mac, code as u64);
-    push_pieces(
-        out,
-        &[name, Piece::Words(" / "), Piece::Wide(flags as u64, 8)],
-    )
+    push_pieces(out, &[name, Piece::Words(" / "), Piece::Wide(flags as u64, 8)])
 }
 
 // Appends a signal of Linux or Android.
+#[rattlefmt::skip]
 #[tactic(auto, unfolding(crate::specs::ReasonText::linux_general_text))]
 fn push_linux_general(
     out: &mut String,
@@ -265,10 +267,7 @@ fn push_linux_general(
     match names.name(CodeFamily::LinuxSicode, flags as u64) {
         Some(_) if flags == 0 => push_pieces(out, &[signal]),
         Some(name) => push_pieces(out, &[signal, Piece::Words(" / "), Piece::Words(name)]),
-        None => push_pieces(
-            out,
-            &[signal, Piece::Words(" / "), Piece::Wide(flags as u64, 8)],
-        ),
+        None => push_pieces(out, &[signal, Piece::Words(" / "), Piece::Wide(flags as u64, 8)]),
     }
 }
 

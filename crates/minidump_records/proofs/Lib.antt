@@ -3,5 +3,4 @@ pub mod ThreadLemmas
 pub mod HandleLemmas
 pub mod CrashpadLemmas
 pub mod MacLemmas
-pub mod PrintLemmas
 pub mod BoundLemmas

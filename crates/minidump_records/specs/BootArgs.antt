@@ -65,14 +65,6 @@ mac_bootargs_stream = record {
   memory = λ order file bytes system. IsSomeAnd (boot_args_record order bytes) (λ raw. TakesMemory16 order raw.bootargs file);
 }
 
--- the words before the text
-unfoldable pub boot_args_label : List ℕ
-boot_args_label = codes "mac_boot_args = "
-
--- the end of the line, and an empty line
-unfoldable pub boot_args_end : List ℕ
-boot_args_end = codes "\n\n"
-
--- the arguments as text: nothing where there are none
+-- the arguments as text, and an empty line: nothing where there are none
 abbrev pub mac_bootargs_text : BootArgs → List ℕ
-mac_bootargs_text b = boot_args_label ++ (text_or_nothing b.text ++ boot_args_end)
+mac_bootargs_text b = codes "mac_boot_args = " ++ (text_or_nothing b.text ++ codes "\n\n")

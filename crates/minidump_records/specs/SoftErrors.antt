@@ -29,10 +29,6 @@ soft_errors_stream = record {
   memory = λ order file bytes system. ⊥;
 }
 
--- the heading of the stream
-unfoldable pub soft_errors_heading : List ℕ
-soft_errors_heading = codes "MozSoftErrors\n"
-
--- the text in a report: the name of the type on a line, and the text with a line feed behind it
+-- the text in a report: the name of the type on a line, and the text with a line feed after it
 abbrev pub soft_errors_text : List ℕ → List ℕ
-soft_errors_text text = soft_errors_heading ++ (text ++ line_end)
+soft_errors_text text = codes "MozSoftErrors\n" ++ (text ++ line_end)

@@ -1,13 +1,13 @@
-ghost use Rattle.std.specs.Prelude.{◌≡◌, ◌==◌, ◌<◌, IfOk, IsOkUnless, OnErr, length, string_bytes};
+ghost use Rattle.std.specs.Prelude.{◌≡◌, ◌++◌, ◌==◌, ◌<◌, IfOk, IsOkUnless, OnErr, OnOk, length, string_bytes};
 ghost use Rattle.std.specs.List.{before_first};
 ghost use Rattle.std.specs.Option.{option_map};
 ghost use Rattle.minidump_format.specs.Print.{Prints};
 ghost use Rattle.minidump_records.specs.Assertion.{assertion_of, assertion_text, fields_text, shown_units};
 ghost use Rattle.minidump_bytes.specs.Text16.{text_before_nul};
 
-use minidump_bytes::{Endian, Piece, Source, Steps, Told, made, text_before_nul};
+use minidump_bytes::{Endian, Piece, Source, Steps, Told, push_pieces, text_before_nul};
 use minidump_format::format::MINIDUMP_ASSERTION_INFO;
-use minidump_format::{Error, put_formatted};
+use minidump_format::{Error, Pushed, print_item};
 use minidump_system::{MinidumpStream, MinidumpSystemInfo};
 use std::alloc::{AllocError, Global};
 use std::io::Write;
@@ -55,7 +55,25 @@ impl MinidumpAssertion {
     pub fn print<W: Write>(&self, alloc: Global, f: &mut Told<W>) -> Result<(), Error>
         ensures { Prints W.contents f.old f.new (assertion_text (assertion_of self.now)) result }
     {
-        put_formatted(f, format_text(alloc, &self.raw))
+        print_item(self, alloc, f)
+    }
+}
+
+impl Pushed for MinidumpAssertion {
+    ghost text = { λ a. assertion_text (assertion_of a) };
+
+    fn push(&self, out: &mut Vec<u8>) -> Result<(), AllocError> {
+        let alloc = *out.allocator();
+        let expression = shown_units(alloc, &self.raw.expression)?;
+        let function = shown_units(alloc, &self.raw.function)?;
+        let file = shown_units(alloc, &self.raw.file)?;
+        push_fields(
+            out,
+            &self.raw,
+            expression.as_str(),
+            function.as_str(),
+            file.as_str(),
+        )
     }
 }
 
@@ -90,21 +108,6 @@ impl<'a> MinidumpStream<'a> for MinidumpAssertion {
     }
 }
 
-fn format_text(alloc: Global, raw: &MINIDUMP_ASSERTION_INFO) -> Result<String, AllocError>
-    ensures { IfOk result (λ text. string_bytes text ≡ assertion_text raw.now) }
-{
-    let expression = shown_units(alloc, &raw.expression)?;
-    let function = shown_units(alloc, &raw.function)?;
-    let file = shown_units(alloc, &raw.file)?;
-    format_fields(
-        alloc,
-        raw,
-        expression.as_str(),
-        function.as_str(),
-        file.as_str(),
-    )
-}
-
 // Returns the text before the first NUL, or an empty one if that is no text.
 fn shown_units(alloc: Global, units: &[u16]) -> Result<String, AllocError>
     ensures { IfOk result (λ text. string_bytes text ≡ shown_units units.now) }
@@ -115,30 +118,23 @@ fn shown_units(alloc: Global, units: &[u16]) -> Result<String, AllocError>
     }
 }
 
+#[rattlefmt::skip]
 #[tactic(auto, unfolding(crate::specs::Assertion::fields_text))]
-fn format_fields<'t>(
-    alloc: Global,
+fn push_fields<'t>(
+    out: &mut Vec<u8>,
     raw: &MINIDUMP_ASSERTION_INFO,
     expression: &'t str,
     function: &'t str,
     file: &'t str,
-) -> Result<String, AllocError>
-    ensures { IfOk result (λ text. string_bytes text ≡ fields_text raw.now expression.now function.now file.now) }
+) -> Result<(), AllocError>
+    ensures { OnOk result (out.new.items ≡ out.old.items ++ fields_text raw.now expression.now function.now file.now) }
 {
-    made(
-        alloc,
-        &[
-            Piece::Words("MDAssertion\n  expression                                 = "),
-            Piece::Words(expression),
-            Piece::Words("\n  function                                   = "),
-            Piece::Words(function),
-            Piece::Words("\n  file                                       = "),
-            Piece::Words(file),
-            Piece::Words("\n  line                                       = "),
-            Piece::Decimal(raw.line as u64),
-            Piece::Words("\n  type                                       = "),
-            Piece::Decimal(raw._type as u64),
-            Piece::Words("\n\n"),
-        ],
-    )
+    push_pieces(out, &[
+        Piece::Words("MDAssertion\n"),
+        Piece::Words("  expression                                 = "), Piece::Words(expression), Piece::Words("\n"),
+        Piece::Words("  function                                   = "), Piece::Words(function), Piece::Words("\n"),
+        Piece::Words("  file                                       = "), Piece::Words(file), Piece::Words("\n"),
+        Piece::Words("  line                                       = "), Piece::Decimal(raw.line as u64), Piece::Words("\n"),
+        Piece::Words("  type                                       = "), Piece::Decimal(raw._type as u64), Piece::Words("\n\n"),
+    ])
 }

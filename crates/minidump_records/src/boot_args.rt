@@ -1,9 +1,9 @@
-ghost use Rattle.std.specs.Prelude.{◌≡◌, ◌+◌, ◌++◌, ◌≤◌, IfErr, IfOk, IsOkUnless, IfSome, IsSome, OnErr, length, nat_le, if◌then◌else◌};
+ghost use Rattle.std.specs.Prelude.{◌≡◌, ◌+◌, ◌≤◌, IfErr, IfOk, IsOkUnless, IfSome, IsSome, OnErr, length, nat_le, if◌then◌else◌};
 ghost use Rattle.std.proofs.Common.{rules};
 ghost use Rattle.minidump_bytes.specs.Source.{bytes_of};
 ghost use Rattle.minidump_bytes.specs.Steps.{after};
 ghost use Rattle.minidump_format.specs.Print.{Prints};
-ghost use Rattle.minidump_records.specs.BootArgs.{boot_args_end, boot_args_label, boot_args_record, mac_bootargs_of, mac_bootargs_text};
+ghost use Rattle.minidump_records.specs.BootArgs.{boot_args_record, mac_bootargs_of, mac_bootargs_text};
 ghost use Rattle.minidump_records.specs.Print.{text_or_nothing};
 
 use minidump_bytes::{Endian, Record, Source, Steps, Told, copied};
@@ -35,51 +35,26 @@ impl MinidumpMacBootargs {
         })
     }
 
-    /// Prints the arguments, or nothing behind their label if they are `None`. The only error is
+    /// Prints the arguments, or nothing after their label if they are `None`. The only error is
     /// [`Error::IoError`].
-    #[tactic(auto, using(minidump_format::proofs::Printing::prints_then, minidump_format::proofs::Printing::prints_exit))]
     pub fn print<W: Write>(&self, _alloc: Global, f: &mut Told<W>) -> Result<(), Error>
         ensures prints { Prints W.contents f.old f.new (mac_bootargs_text (mac_bootargs_of self.now)) result }
         ensures refusal { IfErr result (λ e. e ≡ Error.IoError) }
     {
-        print_label(f)?;
-        self.print_text(f)
+        put_text(f, "mac_boot_args = ")?;
+        put_text(f, self.arguments())?;
+        put_text(f, "\n\n")
     }
 
-    #[tactic(auto, using(minidump_format::proofs::Printing::prints_then, minidump_format::proofs::Printing::prints_exit))]
-    fn print_text<W: Write>(&self, f: &mut Told<W>) -> Result<(), Error>
-        ensures prints { Prints W.contents f.old f.new (text_or_nothing (mac_bootargs_of self.now).text ++ boot_args_end) result }
-        ensures refusal { IfErr result (λ e. e ≡ Error.IoError) }
-    {
-        self.print_arguments(f)?;
-        print_end(f)
-    }
-
-    fn print_arguments<W: Write>(&self, f: &mut Told<W>) -> Result<(), Error>
-        ensures prints { Prints W.contents f.old f.new (text_or_nothing (mac_bootargs_of self.now).text) result }
-        ensures refusal { IfErr result (λ e. e ≡ Error.IoError) }
+    // Returns the arguments, or an empty text if they are `None`.
+    fn arguments(&self) -> &str
+        ensures { result.now ≡ text_or_nothing (mac_bootargs_of self.now).text }
     {
         match &self.bootargs {
-            Some(text) => put_text(f, text.as_str()),
-            None => put_text(f, ""),
+            Some(text) => text.as_str(),
+            None => "",
         }
     }
-}
-
-#[tactic(auto, unfolding(crate::specs::BootArgs::boot_args_label))]
-fn print_label<W: Write>(f: &mut Told<W>) -> Result<(), Error>
-    ensures prints { Prints W.contents f.old f.new boot_args_label result }
-    ensures refusal { IfErr result (λ e. e ≡ Error.IoError) }
-{
-    put_text(f, "mac_boot_args = ")
-}
-
-#[tactic(auto, unfolding(crate::specs::BootArgs::boot_args_end))]
-fn print_end<W: Write>(f: &mut Told<W>) -> Result<(), Error>
-    ensures prints { Prints W.contents f.old f.new boot_args_end result }
-    ensures refusal { IfErr result (λ e. e ≡ Error.IoError) }
-{
-    put_text(f, "\n\n")
 }
 
 // The short form of the record.

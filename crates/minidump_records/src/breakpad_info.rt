@@ -2,7 +2,6 @@ ghost use Rattle.std.specs.Prelude.{◌≡◌, ◌++◌, OnOk};
 ghost use Rattle.minidump_format.specs.Print.{Prints};
 ghost use Rattle.minidump_records.specs.BreakpadInfo.{breakpad_in, breakpad_info_stream, breakpad_info_text, where_valid};
 
-use crate::optional::optional_hex;
 use minidump_bytes::{Endian, Piece, Source, Steps, Told, push_pieces};
 use minidump_format::format::MINIDUMP_BREAKPAD_INFO;
 use minidump_format::{Error, Pushed, print_item};
@@ -100,20 +99,15 @@ fn where_valid(validity: u32, flag: u32, id: u32) -> Option<u32>
     }
 }
 
+#[rattlefmt::skip]
 #[tactic(auto, unfolding(crate::specs::BreakpadInfo::breakpad_info_text))]
 fn push_info(out: &mut Vec<u8>, info: &MinidumpBreakpadInfo) -> Result<(), AllocError>
     ensures { OnOk result (out.new.items ≡ out.old.items ++ breakpad_info_text info.now) }
 {
-    push_pieces(
-        out,
-        &[
-            Piece::Words("MINIDUMP_BREAKPAD_INFO\n  validity             = "),
-            Piece::Hex(info.raw.validity as u64),
-            Piece::Words("\n  dump_thread_id       = "),
-            optional_hex(info.dump_thread_id),
-            Piece::Words("\n  requesting_thread_id = "),
-            optional_hex(info.requesting_thread_id),
-            Piece::Words("\n\n"),
-        ],
-    )
+    push_pieces(out, &[
+        Piece::Words("MINIDUMP_BREAKPAD_INFO\n"),
+        Piece::Words("  validity             = "), Piece::Hex(info.raw.validity as u64), Piece::Words("\n"),
+        Piece::Words("  dump_thread_id       = "), Piece::OptionalHex(info.dump_thread_id), Piece::Words("\n"),
+        Piece::Words("  requesting_thread_id = "), Piece::OptionalHex(info.requesting_thread_id), Piece::Words("\n\n"),
+    ])
 }

@@ -78,8 +78,6 @@ mod handles;
 pub mod laws;
 mod linux;
 mod mac_crash_info;
-mod optional;
-mod print;
 mod soft_errors;
 mod thread_info;
 mod thread_names;

@@ -79,7 +79,7 @@ impl<'a> MinidumpStream<'a> for MinidumpMacCrashInfo {
     }
 }
 
-// Reads the records at locations. The texts of each begin `start` bytes behind the beginning of the record.
+// Reads the records at locations. The texts of each begin `start` bytes after the start of the record.
 fn read_records(
     alloc: Global,
     locations: &[MINIDUMP_LOCATION_DESCRIPTOR],

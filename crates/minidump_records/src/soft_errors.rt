@@ -1,7 +1,6 @@
-ghost use Rattle.std.specs.Prelude.{◌≡◌, ◌++◌, [], IfErr};
+ghost use Rattle.std.specs.Prelude.{◌≡◌, [], IfErr};
 ghost use Rattle.minidump_format.specs.Print.{Prints};
-ghost use Rattle.minidump_format.specs.Text.{line_end};
-ghost use Rattle.minidump_records.specs.SoftErrors.{soft_errors_heading, soft_errors_stream, soft_errors_text};
+ghost use Rattle.minidump_records.specs.SoftErrors.{soft_errors_stream, soft_errors_text};
 
 use minidump_bytes::{Endian, LinuxOsStr, Source, Steps, Told};
 use minidump_format::{Error, print_line_end, put_text};
@@ -32,31 +31,14 @@ impl<'a> MinidumpSoftErrors<'a> {
 
     /// Prints the name of the type of stream and the text, each with a line feed. The Rust crate has no such
     /// call: this is the text that a report has for the stream. The only error is [`Error::IoError`].
-    #[tactic(auto, using(minidump_format::proofs::Printing::prints_then, minidump_format::proofs::Printing::prints_exit))]
     pub fn print<W: Write>(&self, _alloc: Global, f: &mut Told<W>) -> Result<(), Error>
         ensures prints { Prints W.contents f.old f.new (soft_errors_text (soft_errors_stream.value self.now)) result }
         ensures refusal { IfErr result (λ e. e ≡ Error.IoError) }
     {
-        print_heading(f)?;
-        self.print_text(f)
-    }
-
-    #[tactic(auto, using(minidump_format::proofs::Printing::prints_then, minidump_format::proofs::Printing::prints_exit))]
-    fn print_text<W: Write>(&self, f: &mut Told<W>) -> Result<(), Error>
-        ensures prints { Prints W.contents f.old f.new (soft_errors_stream.value self.now ++ line_end) result }
-        ensures refusal { IfErr result (λ e. e ≡ Error.IoError) }
-    {
+        put_text(f, "MozSoftErrors\n")?;
         put_text(f, self.text)?;
         print_line_end(f)
     }
-}
-
-#[tactic(auto, unfolding(crate::specs::SoftErrors::soft_errors_heading))]
-fn print_heading<W: Write>(f: &mut Told<W>) -> Result<(), Error>
-    ensures prints { Prints W.contents f.old f.new soft_errors_heading result }
-    ensures refusal { IfErr result (λ e. e ≡ Error.IoError) }
-{
-    put_text(f, "MozSoftErrors\n")
 }
 
 /// Reads Mozilla's soft errors: the stream is one text. Returns `DataError` if its bytes are not UTF-8. Counts no

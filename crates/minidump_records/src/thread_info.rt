@@ -1,13 +1,13 @@
-ghost use Rattle.std.specs.Prelude.{◌≡◌, ◌+◌, ◌++◌, ◌≤◌, ◌↔◌, [], IfOk, IsTrue, OnOk, length, map};
+ghost use Rattle.std.specs.Prelude.{◌≡◌, ◌++◌, ◌↔◌, [], IsTrue, OnOk, length};
 ghost use Rattle.std.specs.Option.{option_copied};
-ghost use Rattle.minidump_bytes.specs.Steps.{after};
 ghost use Rattle.minidump_format.specs.Print.{Prints};
 ghost use Rattle.minidump_records.specs.ThreadInfo.{thread_info_list_of, last_info, thread_info_text, thread_info_list_text};
 
-use minidump_bytes::{Endian, Entries, Piece, Source, Steps, Told, push_pieces};
+use minidump_bytes::{Endian, Piece, Source, Steps, Told, push_pieces};
 use minidump_format::format::MINIDUMP_THREAD_INFO;
 use minidump_format::{Error, Pushed, print_item, print_numbered};
 use minidump_system::framing::extended_entries;
+use minidump_system::listed::{Listed, read_items};
 use minidump_system::{MinidumpStream, MinidumpSystemInfo};
 use std::alloc::{AllocError, Global};
 use std::io::Write;
@@ -91,7 +91,7 @@ impl MinidumpThreadInfoList {
         infos.iter().rev().find(|info| info.raw.thread_id == id)
     }
 
-    /// Prints the number of entries, and each of them behind its index.
+    /// Prints the number of entries, and each of them after its index.
     pub fn print<W: Write>(&self, alloc: Global, f: &mut Told<W>) -> Result<(), Error>
         ensures { Prints W.contents f.old f.new (thread_info_list_text (thread_info_list_of self.now)) result }
     {
@@ -122,71 +122,69 @@ impl<'a> MinidumpStream<'a> for MinidumpThreadInfoList {
         Self::STREAM_TYPE
     }
 
+    #[tactic(auto, using(minidump_system::proofs::KeptLemmas::kept_all))]
     fn read(
         alloc: Global,
         bytes: Source<'a>,
-        _all: Source<'a>,
+        all: Source<'a>,
         endian: Endian,
         _system_info: Option<&MinidumpSystemInfo>,
         steps: &mut Steps,
     ) -> Result<Self, Error> {
         let raws = extended_entries::<MINIDUMP_THREAD_INFO>(bytes, endian, steps)?;
-        if raws.len() == 0 {
-            return Ok(MinidumpThreadInfoList::new(alloc));
-        }
         Ok(MinidumpThreadInfoList {
-            thread_infos: all_infos(alloc, raws, steps)?,
+            thread_infos: read_items(&Infos, alloc, raws, all, endian, steps)?,
         })
     }
 }
 
-// Returns the information of each entry.
-fn all_infos(
-    alloc: Global,
-    raws: Entries<'_, MINIDUMP_THREAD_INFO>,
-    steps: &mut Steps,
-) -> Result<Vec<MinidumpThreadInfo>, AllocError>
-    ensures infos { IfOk result (λ infos. map (λ i. i.raw) infos.items ≡ raws.entry) }
-    ensures within { steps.new ≤ steps.old + length raws.entry }
-    ensures grows { steps.old ≤ steps.new }
-    ensures steps { IfOk result (λ _. steps.new ≡ after steps.old (length raws.entry)) }
-{
-    let mut infos = Vec::with_capacity(alloc, raws.len())?;
-    for entry in raws {
-        let raw = entry.read(steps);
-        infos.push(MinidumpThreadInfo { raw })?;
+// The information of an entry is the entry.
+#[derive(Clone, Copy)]
+struct Infos;
+
+impl<'a> Listed<'a, MINIDUMP_THREAD_INFO> for Infos {
+    ghost use Rattle.std.specs.Prelude.{Ok, Some};
+    ghost use Rattle.minidump_format.specs.declared.format.thread.MINIDUMP_THREAD_INFO.{MINIDUMP_THREAD_INFO};
+
+    type Item = MinidumpThreadInfo;
+
+    ghost Value = { MINIDUMP_THREAD_INFO };
+
+    ghost value = { λ info. info.raw };
+
+    ghost listed = { λ _ order file raw. Ok (Some raw) };
+
+    ghost fewest_of = { λ _. 0 };
+
+    fn read_entry(
+        &self,
+        _alloc: Global,
+        entry: MINIDUMP_THREAD_INFO,
+        _all: Source<'a>,
+        _endian: Endian,
+        _steps: &mut Steps,
+    ) -> Result<Option<MinidumpThreadInfo>, Error> {
+        Ok(Some(MinidumpThreadInfo { raw: entry }))
     }
-    Ok(infos)
 }
 
+#[rattlefmt::skip]
 #[tactic(auto, unfolding(crate::specs::ThreadInfo::thread_info_text))]
 fn push_info(out: &mut Vec<u8>, raw: &MINIDUMP_THREAD_INFO) -> Result<(), AllocError>
     ensures { OnOk result (out.new.items ≡ out.old.items ++ thread_info_text raw.now) }
 {
-    push_pieces(
-        out,
-        &[
-            Piece::Words("MINIDUMP_THREAD_INFO\n  thread_id                   = "),
-            Piece::Hex(raw.thread_id as u64),
-            Piece::Words("\n  dump_flags                  = "),
-            Piece::Hex(raw.dump_flags as u64),
-            Piece::Words("\n  dump_error                  = "),
-            Piece::Hex(raw.dump_error as u64),
-            Piece::Words("\n  exit_status                 = "),
-            Piece::Hex(raw.exit_status as u64),
-            Piece::Words("\n  create_time                 = "),
-            Piece::Hex(raw.create_time),
-            Piece::Words("\n  exit_time                   = "),
-            Piece::Hex(raw.exit_time),
-            Piece::Words("\n  kernel_time                 = "),
-            Piece::Hex(raw.kernel_time),
-            Piece::Words("\n  user_time                   = "),
-            Piece::Hex(raw.user_time),
-            Piece::Words("\n  start_address               = "),
-            Piece::Hex(raw.start_address),
-            Piece::Words("\n  affinity                    = "),
-            Piece::Hex(raw.affinity),
-            Piece::Words("\n\n  "),
-        ],
-    )
+    push_pieces(out, &[
+        Piece::Words("MINIDUMP_THREAD_INFO\n"),
+        Piece::Words("  thread_id                   = "), Piece::Hex(raw.thread_id as u64), Piece::Words("\n"),
+        Piece::Words("  dump_flags                  = "), Piece::Hex(raw.dump_flags as u64), Piece::Words("\n"),
+        Piece::Words("  dump_error                  = "), Piece::Hex(raw.dump_error as u64), Piece::Words("\n"),
+        Piece::Words("  exit_status                 = "), Piece::Hex(raw.exit_status as u64), Piece::Words("\n"),
+        Piece::Words("  create_time                 = "), Piece::Hex(raw.create_time), Piece::Words("\n"),
+        Piece::Words("  exit_time                   = "), Piece::Hex(raw.exit_time), Piece::Words("\n"),
+        Piece::Words("  kernel_time                 = "), Piece::Hex(raw.kernel_time), Piece::Words("\n"),
+        Piece::Words("  user_time                   = "), Piece::Hex(raw.user_time), Piece::Words("\n"),
+        Piece::Words("  start_address               = "), Piece::Hex(raw.start_address), Piece::Words("\n"),
+        Piece::Words("  affinity                    = "), Piece::Hex(raw.affinity), Piece::Words("\n\n"),
+        Piece::Words("  "),
+    ])
 }

@@ -7,13 +7,11 @@ ghost use Rattle.minidump_bytes.specs.Source.{bytes_of};
 ghost use Rattle.minidump_bytes.specs.Steps.{after};
 ghost use Rattle.minidump_bytes.specs.Text16.{TakesMemory16, text16};
 ghost use Rattle.minidump_format.specs.Print.{Prints};
-ghost use Rattle.minidump_format.specs.Numbered.{count_text, numbered_text};
 ghost use Rattle.minidump_records.specs.ThreadNames.{NameTakesMemory, last_names, name_of_thread, named, thread_name_text, thread_names_of, thread_names_stream, thread_names_text};
 
-use crate::print::{PushItem, print_each};
 use minidump_bytes::{Endian, Entries, Piece, Source, Steps, Told, push_pieces};
 use minidump_format::format::MINIDUMP_THREAD_NAME;
-use minidump_format::{Error, print_count, push_index};
+use minidump_format::{Error, Pushed, print_numbered_all};
 use minidump_system::framing::plain_entries;
 use minidump_system::{MinidumpStream, MinidumpSystemInfo};
 use std::alloc::{AllocError, Global};
@@ -68,29 +66,14 @@ impl MinidumpThreadNames {
         })
     }
 
-    /// Prints the number of names, and each of them behind its index, ascending by the ids of the threads.
-    #[tactic(auto, using(minidump_format::proofs::Printing::prints_then, minidump_format::proofs::Printing::prints_exit))]
+    /// Prints the number of names, and each of them after its index, ascending by the ids of the threads.
     pub fn print<W: Write>(&self, alloc: Global, f: &mut Told<W>) -> Result<(), Error>
         ensures { Prints W.contents f.old f.new (thread_names_text (thread_names_of self.now)) result }
     {
-        self.print_heading(alloc, f)?;
-        self.print_names(alloc, f)
-    }
-
-    fn print_heading<W: Write>(&self, alloc: Global, f: &mut Told<W>) -> Result<(), Error>
-        ensures { Prints W.contents f.old f.new
-            (count_text (codes "MinidumpThreadNames\n  thread_count = ") (length (thread_names_of self.now))) result }
-    {
         let heading = "MinidumpThreadNames\n  thread_count = ";
-        print_count(heading, self.names.len(), alloc, f)
-    }
-
-    // Prints the names behind their indexes.
-    fn print_names<W: Write>(&self, alloc: Global, f: &mut Told<W>) -> Result<(), Error>
-        ensures { Prints W.contents f.old f.new
-            (numbered_text (codes "thread_name") thread_name_text (thread_names_of self.now)) result }
-    {
-        print_each(self.names.iter().enumerate(), &NameLine, alloc, f)
+        let names = self.names.iter().map(|(id, name)| NameText { id, name });
+        let count = self.names.len();
+        print_numbered_all(heading, "thread_name", count, names.enumerate(), alloc, f)
     }
 }
 
@@ -196,44 +179,32 @@ fn put_name(
     Ok(())
 }
 
-// The name of a thread, behind its index.
-#[derive(Clone, Copy)]
-struct NameLine;
+// The name of a thread.
+#[derive(Drop)]
+struct NameText<'a> {
+    id: &'a u32,
+    name: &'a String,
+}
 
-impl<'a> PushItem<(usize, (&'a u32, &'a String))> for NameLine {
-    ghost use Rattle.std.specs.Prelude.{ℕ, codes, string_bytes};
-    ghost use Rattle.minidump_format.specs.Numbered.{numbered_item};
-    ghost use Rattle.minidump_records.specs.ThreadNames.{ThreadName, thread_name_text};
+impl<'a> Pushed for NameText<'a> {
+    ghost use Rattle.std.specs.Prelude.{string_bytes};
+    ghost use Rattle.minidump_records.specs.ThreadNames.{thread_name_text};
 
-    ghost Value = { ℕ × ThreadName };
+    ghost text = { λ n. thread_name_text (n.id.now, string_bytes n.name.now) };
 
-    ghost value = { λ e. (e.0, (e.1.0.now, string_bytes e.1.1.now)) };
-
-    ghost text = { λ line e. numbered_item (codes "thread_name") thread_name_text e };
-
-    fn push(
-        &self,
-        entry: (usize, (&'a u32, &'a String)),
-        out: &mut Vec<u8>,
-    ) -> Result<(), AllocError> {
-        let (index, (id, name)) = entry;
-        push_index(out, "thread_name", index)?;
-        push_name(out, *id, name.as_str())
+    fn push(&self, out: &mut Vec<u8>) -> Result<(), AllocError> {
+        push_name(out, *self.id, self.name.as_str())
     }
 }
 
+#[rattlefmt::skip]
 #[tactic(auto, unfolding(crate::specs::ThreadNames::thread_name_text))]
 fn push_name(out: &mut Vec<u8>, id: u32, name: &str) -> Result<(), AllocError>
     ensures { OnOk result (out.new.items ≡ out.old.items ++ thread_name_text (id, name.now)) }
 {
-    push_pieces(
-        out,
-        &[
-            Piece::Words("MINIDUMP_THREAD_NAME\n  thread_id = "),
-            Piece::Hex(id as u64),
-            Piece::Words("\n  name      = \""),
-            Piece::Words(name),
-            Piece::Words("\"\n\n"),
-        ],
-    )
+    push_pieces(out, &[
+        Piece::Words("MINIDUMP_THREAD_NAME\n"),
+        Piece::Words("  thread_id = "), Piece::Hex(id as u64), Piece::Words("\n"),
+        Piece::Words("  name      = \""), Piece::Words(name), Piece::Words("\"\n\n"),
+    ])
 }

@@ -4,4 +4,3 @@ pub mod RowLemmas
 pub mod ReportLemmas
 pub mod FieldLemmas
 pub mod ExactLemmas
-pub mod TextLemmas

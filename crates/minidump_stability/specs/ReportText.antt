@@ -1,5 +1,5 @@
 -- The text of a stability report: a line for each number that is there.
-use Rattle.std.specs.Prelude.{ℕ, ℤ, List, [], ◌∷◌, ◌++◌, codes, drop}
+use Rattle.std.specs.Prelude.{ℕ, ℤ, List, [], ◌∷◌, ◌++◌, codes}
 use Rattle.std.specs.Fmt.{decimal, signed_decimal}
 use Rattle.std.specs.List.{concat, flat_map, enumerate_from}
 use Rattle.minidump_format.specs.Text.{if_there}
@@ -22,12 +22,8 @@ unfoldable pub state_line : ℕ → List ℕ → ℕ → List ℕ
 state_line i name n = concat (codes "  process_state[" ∷ decimal i ∷ codes "]." ∷ name ∷ codes " = " ∷ decimal n ∷ codes "\n" ∷ [])
 
 -- ProcessState.process_id, of the process with an index
-unfoldable pub process_id_front : ℕ → List ℕ
-process_id_front i = concat (codes "  process_state[" ∷ decimal i ∷ codes "].process_id = " ∷ [])
-
--- the line of process_id
-abbrev pub process_id_line : ℕ → ℤ → List ℕ
-process_id_line i id = process_id_front i ++ (signed_decimal id ++ codes "\n")
+unfoldable pub process_id_line : ℕ → ℤ → List ℕ
+process_id_line i id = concat (codes "  process_state[" ∷ decimal i ∷ codes "].process_id = " ∷ signed_decimal id ∷ codes "\n" ∷ [])
 
 -- ProcessState.MemoryState.WindowsMemory; its lines don't name it
 abbrev pub windows_memory_text : ℕ → WindowsMemory → List ℕ
@@ -77,22 +73,9 @@ system_memory_state_text m = if_there system_windows_memory_text m.windows_memor
 abbrev pub process_states_text : List ProcessState → List ℕ
 process_states_text states = flat_map (λ p. process_state_text p.0 p.1) (enumerate_from 0 states)
 
--- the text of the first of some states, and that of the one with an index
-abbrev pub first_state_text : ℕ → List ProcessState → List ℕ
-first_state_text i [] = []
-first_state_text i (s ∷ states) = process_state_text i s
-
--- the text of the process state at an index
-abbrev pub state_text_at : List ProcessState → ℕ → List ℕ
-state_text_at states i = first_state_text i (drop i states)
-
--- the heading of the report
-unfoldable pub report_heading : List ℕ
-report_heading = codes "StabilityReport\n"
-
 -- StabilityReport
 abbrev pub stability_report_text : Report → List ℕ
 stability_report_text r =
-    report_heading
+    codes "StabilityReport\n"
     ++ (process_states_text r.process_states
     ++ if_there system_memory_state_text r.system_memory_state)

@@ -1,53 +1,29 @@
-ghost use Rattle.std.specs.Prelude.{◌≡◌, ◌++◌, OnOk, length};
-ghost use Rattle.std.specs.Fmt.{signed_decimal};
+ghost use Rattle.std.specs.Prelude.{◌≡◌, ◌++◌, OnOk};
 ghost use Rattle.minidump_format.specs.Print.{Prints};
 ghost use Rattle.minidump_format.specs.Text.{if_there};
-ghost use Rattle.minidump_stability.specs.ReportText.{file_system_state_text, memory_state_text, number_line, posix_file_system_state_text, process_id_front, process_id_line, process_state_text, process_states_text, report_heading};
-ghost use Rattle.minidump_format.specs.Text.{if_there};
-ghost use Rattle.minidump_stability.specs.ReportText.{stability_report_text, state_line, state_text_at, system_memory_state_text, system_windows_memory_text, windows_file_system_state_text, windows_memory_text};
+ghost use Rattle.minidump_stability.specs.ReportText.{file_system_state_text, memory_state_text, number_line, posix_file_system_state_text, process_id_line, process_state_text, process_states_text};
+ghost use Rattle.minidump_stability.specs.ReportText.{stability_report_text, state_line, system_memory_state_text, system_windows_memory_text, windows_file_system_state_text, windows_memory_text};
 ghost use Rattle.minidump_stability.specs.StabilityReport.{stability_report_of};
 
 use crate::process_state::file_system_state::{PosixFileSystemState, WindowsFileSystemState};
 use crate::process_state::memory_state::WindowsMemory;
 use crate::process_state::{FileSystemState, MemoryState};
 use crate::{ProcessState, StabilityReport, SystemMemoryState, system_memory_state};
-use itoa::Buffer;
 use minidump_bytes::{Piece, Told, push_pieces};
-use minidump_format::{Counted, Error, Pushed, print_counted, print_item, put_text};
+use minidump_format::{Error, Pushed, print_all, print_item, put_text};
 use std::alloc::{AllocError, Global};
 use std::io::Write;
 
 impl StabilityReport {
     /// Prints a line for each number that the report has.
-    #[tactic(auto, using(minidump_format::proofs::Printing::prints_then, minidump_format::proofs::Printing::prints_exit))]
     pub fn print<W: Write>(&self, alloc: Global, f: &mut Told<W>) -> Result<(), Error>
         ensures { Prints W.contents f.old f.new (stability_report_text (stability_report_of self.now)) result }
     {
-        print_heading(f)?;
-        self.print_states(alloc, f)
-    }
-
-    #[tactic(auto, using(minidump_format::proofs::Printing::prints_then, minidump_format::proofs::Printing::prints_exit))]
-    fn print_states<W: Write>(&self, alloc: Global, f: &mut Told<W>) -> Result<(), Error>
-        ensures { Prints W.contents f.old f.new (process_states_text self.now.process_states.items
-            ++ if_there system_memory_state_text self.now.system_memory_state) result }
-    {
+        put_text(f, "StabilityReport\n")?;
         print_process_states(self.process_states.as_slice(), alloc, f)?;
-        print_item(
-            &SystemText {
-                memory: self.system_memory_state,
-            },
-            alloc,
-            f,
-        )
+        let memory = self.system_memory_state;
+        print_item(&SystemText { memory }, alloc, f)
     }
-}
-
-#[tactic(auto, unfolding(crate::specs::ReportText::report_heading))]
-fn print_heading<W: Write>(f: &mut Told<W>) -> Result<(), Error>
-    ensures { Prints W.contents f.old f.new report_heading result }
-{
-    put_text(f, "StabilityReport\n")
 }
 
 fn print_process_states<W: Write>(
@@ -57,29 +33,29 @@ fn print_process_states<W: Write>(
 ) -> Result<(), Error>
     ensures { Prints W.contents f.old f.new (process_states_text states.now) result }
 {
-    print_counted(&States { states }, alloc, f)
+    let numbered = states.iter().enumerate();
+    let texts = numbered.map(|(index, state)| StateText { index, state });
+    print_all(texts, alloc, f)
 }
 
-// The states of processes, each with its index.
+// The lines of the state of a process.
 #[derive(Clone, Copy)]
-struct States<'a> {
-    states: &'a [ProcessState],
+struct StateText<'a> {
+    index: usize,
+    state: &'a ProcessState,
 }
 
-impl<'a> Counted for States<'a> {
-    ghost count = { λ s. length s.states.now };
+impl<'a> Pushed for StateText<'a> {
+    ghost text = { λ s. process_state_text s.index s.state.now };
 
-    ghost text = { λ s i. state_text_at s.states.now i };
-
-    fn count(&self) -> usize {
-        self.states.len()
-    }
-
-    fn push(&self, index: usize, out: &mut Vec<u8>) -> Result<(), AllocError> {
-        push_state(out, index, &self.states[index])
+    fn push(&self, out: &mut Vec<u8>) -> Result<(), AllocError> {
+        push_process_id(out, self.index, self.state.process_id)?;
+        push_memory(out, self.index, &self.state.memory_state)?;
+        push_files(out, &self.state.file_system_state)
     }
 }
 
+// The lines of the memory of the system, if it is there.
 #[derive(Clone, Copy)]
 struct SystemText {
     memory: Option<SystemMemoryState>,
@@ -94,14 +70,6 @@ impl Pushed for SystemText {
             None => Ok(()),
         }
     }
-}
-
-fn push_state(out: &mut Vec<u8>, index: usize, state: &ProcessState) -> Result<(), AllocError>
-    ensures { OnOk result (out.new.items ≡ out.old.items ++ process_state_text index state.now) }
-{
-    push_process_id(out, index, state.process_id)?;
-    push_memory(out, index, &state.memory_state)?;
-    push_files(out, &state.file_system_state)
 }
 
 fn push_memory(
@@ -121,37 +89,14 @@ fn push_memory(
     }
 }
 
-fn push_windows_memory(
-    out: &mut Vec<u8>,
-    index: usize,
-    memory: &WindowsMemory,
-) -> Result<(), AllocError>
+#[rattlefmt::skip]
+fn push_windows_memory(out: &mut Vec<u8>, index: usize, memory: &WindowsMemory) -> Result<(), AllocError>
     ensures { OnOk result (out.new.items ≡ out.old.items ++ windows_memory_text index memory.now) }
 {
-    push_state_line(
-        out,
-        index,
-        "memory_state.process_private_usage",
-        memory.process_private_usage,
-    )?;
-    push_state_line(
-        out,
-        index,
-        "memory_state.process_peak_workingset_size",
-        memory.process_peak_workingset_size,
-    )?;
-    push_state_line(
-        out,
-        index,
-        "memory_state.process_peak_pagefile_usage",
-        memory.process_peak_pagefile_usage,
-    )?;
-    push_state_line(
-        out,
-        index,
-        "memory_state.process_allocation_attempt",
-        memory.process_allocation_attempt,
-    )
+    push_state_line(out, index, "memory_state.process_private_usage", memory.process_private_usage)?;
+    push_state_line(out, index, "memory_state.process_peak_workingset_size", memory.process_peak_workingset_size)?;
+    push_state_line(out, index, "memory_state.process_peak_pagefile_usage", memory.process_peak_pagefile_usage)?;
+    push_state_line(out, index, "memory_state.process_allocation_attempt", memory.process_allocation_attempt)
 }
 
 fn push_files(out: &mut Vec<u8>, files: &Option<FileSystemState>) -> Result<(), AllocError>
@@ -207,50 +152,34 @@ fn push_system_memory(out: &mut Vec<u8>, memory: &SystemMemoryState) -> Result<(
     }
 }
 
+#[rattlefmt::skip]
 fn push_system_windows_memory(
     out: &mut Vec<u8>,
     memory: &system_memory_state::WindowsMemory,
 ) -> Result<(), AllocError>
     ensures { OnOk result (out.new.items ≡ out.old.items ++ system_windows_memory_text memory.now) }
 {
-    push_line(
-        out,
-        "system_memory_state.windows_memory.system_commit_limit",
-        memory.system_commit_limit,
-    )?;
-    push_line(
-        out,
-        "system_memory_state.windows_memory.system_commit_remaining",
-        memory.system_commit_remaining,
-    )?;
-    push_line(
-        out,
-        "system_memory_state.windows_memory.system_handle_count",
-        memory.system_handle_count,
-    )
+    push_line(out, "system_memory_state.windows_memory.system_commit_limit", memory.system_commit_limit)?;
+    push_line(out, "system_memory_state.windows_memory.system_commit_remaining", memory.system_commit_remaining)?;
+    push_line(out, "system_memory_state.windows_memory.system_handle_count", memory.system_handle_count)
 }
 
 // Appends the line of a number if it is there.
+#[rattlefmt::skip]
 #[tactic(auto, unfolding(crate::specs::ReportText::number_line))]
 fn push_line(out: &mut Vec<u8>, name: &str, number: Option<u32>) -> Result<(), AllocError>
     ensures { OnOk result (out.new.items ≡ out.old.items ++ if_there (number_line name.now) number) }
 {
     match number {
-        Some(n) => push_pieces(
-            out,
-            &[
-                Piece::Words("  "),
-                Piece::Words(name),
-                Piece::Words(" = "),
-                Piece::Decimal(n as u64),
-                Piece::Words("\n"),
-            ],
-        ),
+        Some(n) => push_pieces(out, &[
+            Piece::Words("  "), Piece::Words(name), Piece::Words(" = "), Piece::Decimal(n as u64), Piece::Words("\n"),
+        ]),
         None => Ok(()),
     }
 }
 
 // Appends the line of a number of the process with an index if it is there.
+#[rattlefmt::skip]
 #[tactic(auto, unfolding(crate::specs::ReportText::state_line))]
 fn push_state_line(
     out: &mut Vec<u8>,
@@ -261,18 +190,9 @@ fn push_state_line(
     ensures { OnOk result (out.new.items ≡ out.old.items ++ if_there (state_line index name.now) number) }
 {
     match number {
-        Some(n) => push_pieces(
-            out,
-            &[
-                Piece::Words("  process_state["),
-                Piece::Decimal(index as u64),
-                Piece::Words("]."),
-                Piece::Words(name),
-                Piece::Words(" = "),
-                Piece::Decimal(n as u64),
-                Piece::Words("\n"),
-            ],
-        ),
+        Some(n) => push_pieces(out, &[
+            Piece::Words("  process_state["), Piece::Decimal(index as u64), Piece::Words("]."), Piece::Words(name), Piece::Words(" = "), Piece::Decimal(n as u64), Piece::Words("\n"),
+        ]),
         None => Ok(()),
     }
 }
@@ -287,32 +207,12 @@ fn push_process_id(out: &mut Vec<u8>, index: usize, id: Option<i64>) -> Result<(
     }
 }
 
+#[rattlefmt::skip]
+#[tactic(auto, unfolding(crate::specs::ReportText::process_id_line))]
 fn push_id_line(out: &mut Vec<u8>, index: usize, id: i64) -> Result<(), AllocError>
     ensures { OnOk result (out.new.items ≡ out.old.items ++ process_id_line index id) }
 {
-    push_id_front(out, index)?;
-    push_signed(out, id)?;
-    out.extend_from_slice(b"\n")
-}
-
-#[tactic(auto, unfolding(crate::specs::ReportText::process_id_front))]
-fn push_id_front(out: &mut Vec<u8>, index: usize) -> Result<(), AllocError>
-    ensures { OnOk result (out.new.items ≡ out.old.items ++ process_id_front index) }
-{
-    push_pieces(
-        out,
-        &[
-            Piece::Words("  process_state["),
-            Piece::Decimal(index as u64),
-            Piece::Words("].process_id = "),
-        ],
-    )
-}
-
-// Appends a signed number in decimal.
-fn push_signed(out: &mut Vec<u8>, n: i64) -> Result<(), AllocError>
-    ensures { OnOk result (out.new.items ≡ out.old.items ++ signed_decimal n) }
-{
-    let mut buffer = Buffer::new();
-    out.extend_from_slice(buffer.format(n).as_bytes())
+    push_pieces(out, &[
+        Piece::Words("  process_state["), Piece::Decimal(index as u64), Piece::Words("].process_id = "), Piece::Signed(id), Piece::Words("\n"),
+    ])
 }

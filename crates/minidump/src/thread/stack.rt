@@ -1,11 +1,10 @@
-ghost use Rattle.std.specs.Prelude.{◌≡◌, ◌≤◌, ◌*◌, ◌/◌, ◌++◌, OnOk, codes, length};
+ghost use Rattle.std.specs.Prelude.{◌≡◌, ◌≤◌, ◌++◌, OnOk, codes};
 ghost use Rattle.minidump_bytes.specs.FixedHex.{fixed_hex};
-ghost use Rattle.minidump_bytes.specs.Number.{number_at};
 ghost use Rattle.minidump_format.specs.Print.{Prints};
 ghost use Rattle.minidump.specs.ThreadText.{word_line, words_of, words_text};
 
 use minidump_bytes::{Endian, Piece, Told, last_digit, push_pieces};
-use minidump_format::{Counted, Error, print_counted};
+use minidump_format::{Error, Pushed, print_all};
 use minidump_system::PointerWidth;
 use std::alloc::{AllocError, Global};
 use std::io::Write;
@@ -22,50 +21,68 @@ pub(crate) fn print_words<W: Write>(
     ensures { Prints W.contents f.old f.new (words_text endian width bytes.now) result }
 {
     match width {
-        PointerWidth::Bits32 => print_counted(&Words32 { bytes, endian }, alloc, f),
-        PointerWidth::Bits64 | PointerWidth::Unknown => {
-            print_counted(&Words64 { bytes, endian }, alloc, f)
-        }
+        PointerWidth::Bits32 => print_words_32(bytes, endian, alloc, f),
+        PointerWidth::Bits64 | PointerWidth::Unknown => print_words_64(bytes, endian, alloc, f),
     }
 }
 
-#[derive(Clone, Copy)]
-struct Words32<'a> {
-    bytes: &'a [u8],
+fn print_words_32<W: Write>(
+    bytes: &[u8],
     endian: Endian,
+    alloc: Global,
+    f: &mut Told<W>,
+) -> Result<(), Error>
+    ensures { Prints W.contents f.old f.new (words_of endian 4 bytes.now) result }
+{
+    let words = (0..bytes.len() / 4).map(|index| Word32 {
+        offset: 4 * index,
+        word: endian.u32_at(bytes, 4 * index),
+    });
+    print_all(words, alloc, f)
 }
 
-impl<'a> Counted for Words32<'a> {
-    ghost count = { λ w. length w.bytes.now / 4 };
-
-    ghost text = { λ w i. word_line 4 (4 * i) (number_at w.endian 4 (4 * i) w.bytes.now) };
-
-    fn count(&self) -> usize {
-        self.bytes.len() / 4
-    }
-
-    fn push(&self, index: usize, out: &mut Vec<u8>) -> Result<(), AllocError> {
-        push_word_32(out, 4 * index, self.endian.u32_at(self.bytes, 4 * index))
-    }
-}
-
-#[derive(Clone, Copy)]
-struct Words64<'a> {
-    bytes: &'a [u8],
+fn print_words_64<W: Write>(
+    bytes: &[u8],
     endian: Endian,
+    alloc: Global,
+    f: &mut Told<W>,
+) -> Result<(), Error>
+    ensures { Prints W.contents f.old f.new (words_of endian 8 bytes.now) result }
+{
+    let words = (0..bytes.len() / 8).map(|index| Word64 {
+        offset: 8 * index,
+        word: endian.u64_at(bytes, 8 * index),
+    });
+    print_all(words, alloc, f)
 }
 
-impl<'a> Counted for Words64<'a> {
-    ghost count = { λ w. length w.bytes.now / 8 };
+// A word of four bytes, and its offset in the stack.
+#[derive(Clone, Copy)]
+struct Word32 {
+    offset: usize,
+    word: u32,
+}
 
-    ghost text = { λ w i. word_line 8 (8 * i) (number_at w.endian 8 (8 * i) w.bytes.now) };
+impl Pushed for Word32 {
+    ghost text = { λ w. word_line 4 w.offset w.word };
 
-    fn count(&self) -> usize {
-        self.bytes.len() / 8
+    fn push(&self, out: &mut Vec<u8>) -> Result<(), AllocError> {
+        push_word_32(out, self.offset, self.word)
     }
+}
 
-    fn push(&self, index: usize, out: &mut Vec<u8>) -> Result<(), AllocError> {
-        push_word_64(out, 8 * index, self.endian.u64_at(self.bytes, 8 * index))
+// A word of eight bytes, and its offset in the stack.
+#[derive(Clone, Copy)]
+struct Word64 {
+    offset: usize,
+    word: u64,
+}
+
+impl Pushed for Word64 {
+    ghost text = { λ w. word_line 8 w.offset w.word };
+
+    fn push(&self, out: &mut Vec<u8>) -> Result<(), AllocError> {
+        push_word_64(out, self.offset, self.word)
     }
 }
 
@@ -75,7 +92,7 @@ fn push_word_32(out: &mut Vec<u8>, offset: usize, word: u32) -> Result<(), Alloc
     if offset < 0x1_0000_0000 {
         return out.extend_from_slice(&near_word_32(offset as u64, word as u64));
     }
-    push_far_word_32(out, offset, word)
+    push_far_word(out, 4, offset, word as u64)
 }
 
 fn push_word_64(out: &mut Vec<u8>, offset: usize, word: u64) -> Result<(), AllocError>
@@ -84,40 +101,19 @@ fn push_word_64(out: &mut Vec<u8>, offset: usize, word: u64) -> Result<(), Alloc
     if offset < 0x1_0000_0000 {
         return out.extend_from_slice(&near_word_64(offset as u64, word));
     }
-    push_far_word_64(out, offset, word)
+    push_far_word(out, 8, offset, word)
 }
 
-// Appends a word whose offset may take more than eight digits.
+// Appends a word of some bytes, whose offset may take more than eight digits.
+#[rattlefmt::skip]
 #[tactic(auto, unfolding(crate::specs::ThreadText::word_line))]
-fn push_far_word_32(out: &mut Vec<u8>, offset: usize, word: u32) -> Result<(), AllocError>
-    ensures { OnOk result (out.new.items ≡ out.old.items ++ word_line 4 offset word) }
+fn push_far_word(out: &mut Vec<u8>, size: usize, offset: usize, word: u64) -> Result<(), AllocError>
+    requires { size ≤ 8 }
+    ensures { OnOk result (out.new.items ≡ out.old.items ++ word_line size offset word) }
 {
-    push_pieces(
-        out,
-        &[
-            Piece::Words("    "),
-            Piece::Wide(offset as u64, 8),
-            Piece::Words(": "),
-            Piece::Wide(word as u64, 8),
-            Piece::Words("\n"),
-        ],
-    )
-}
-
-#[tactic(auto, unfolding(crate::specs::ThreadText::word_line))]
-fn push_far_word_64(out: &mut Vec<u8>, offset: usize, word: u64) -> Result<(), AllocError>
-    ensures { OnOk result (out.new.items ≡ out.old.items ++ word_line 8 offset word) }
-{
-    push_pieces(
-        out,
-        &[
-            Piece::Words("    "),
-            Piece::Wide(offset as u64, 8),
-            Piece::Words(": "),
-            Piece::Wide(word, 16),
-            Piece::Words("\n"),
-        ],
-    )
+    push_pieces(out, &[
+        Piece::Words("    "), Piece::Wide(offset as u64, 8), Piece::Words(": "), Piece::Wide(word, 2 * size), Piece::Words("\n"),
+    ])
 }
 
 // Returns the line of a word whose offset takes at most eight digits.

@@ -1,7 +1,7 @@
 ghost use Rattle.std.specs.Prelude.{codes};
 
 use minidump_bytes::Told;
-use minidump_format::{Error, Pushed, print_list};
+use minidump_format::{Error, Pushed, print_all};
 use minidump_synth::FailsAt;
 use std::alloc::{AllocError, Global};
 
@@ -21,8 +21,8 @@ impl Pushed for Line {
 fn prints(alloc: Global, at: usize, text: &str, made: usize, first: Result<(), Error>) -> bool {
     let mut f = Told::new(FailsAt::new(Vec::new(alloc), at));
     let printed = [
-        print_list(&[Line, Line, Line], alloc, &mut f),
-        print_list(&[Line, Line, Line], alloc, &mut f),
+        print_all([Line, Line, Line].iter(), alloc, &mut f),
+        print_all([Line, Line, Line].iter(), alloc, &mut f),
     ];
     let FailsAt { inner, calls, .. } = f.into_device();
     printed == [first, Err(Error::IoError)] && inner.as_slice() == text.as_bytes() && calls == made

@@ -6,9 +6,11 @@ use minidump_format::format::CONTEXT_AMD64;
 use minidump_format::push_line_end;
 use std::alloc::AllocError;
 
+#[tactic(auto, unfolding(crate::specs::Text::amd64_text))]
 pub(crate) fn push_context(out: &mut Vec<u8>, c: &CONTEXT_AMD64) -> Result<(), AllocError>
     ensures { OnOk result (out.new.items ≡ out.old.items ++ amd64_text c.now) }
 {
+    out.extend_from_slice(b"CONTEXT_AMD64\n")?;
     push_lines(out, c)?;
     push_line_end(out)
 }
@@ -20,7 +22,7 @@ fn push_lines(out: &mut Vec<u8>, c: &CONTEXT_AMD64) -> Result<(), AllocError>
     push_registers(
         out,
         &[
-            ("CONTEXT_AMD64\n  p1_home       = ", c.p1_home),
+            ("  p1_home       = ", c.p1_home),
             ("  p2_home       = ", c.p2_home),
             ("  p3_home       = ", c.p3_home),
             ("  p4_home       = ", c.p4_home),

@@ -54,7 +54,7 @@ fn push_wide(out: &mut Vec<u8>, value: u128) -> Result<(), AllocError>
     push_pieces(out, &[Piece::Hex(high), Piece::WideDigits(low, 16)])
 }
 
-// What stands in front of the value of a register that has a number: words before and behind it, the number at the left or
+// What stands in front of the value of a register that has a number: words before and after it, the number at the left or
 // at the right of two columns.
 #[derive(Clone, Copy)]
 pub(crate) enum Front<'a> {
@@ -62,34 +62,24 @@ pub(crate) enum Front<'a> {
     Right(&'a str, &'a str),
 }
 
+#[rattlefmt::skip]
 fn push_front(out: &mut Vec<u8>, front: Front<'_>, number: usize) -> Result<(), AllocError>
     ensures { OnOk result (out.new.items ≡ out.old.items ++ front_text front.entry number) }
 {
     match front {
         Front::Left(before, behind) => push_left(out, before, number, behind),
-        Front::Right(before, behind) => push_pieces(
-            out,
-            &[
-                Piece::Words(before),
-                Piece::Right(number as u64, 2),
-                Piece::Words(behind),
-            ],
-        ),
+        Front::Right(before, behind) => push_pieces(out, &[
+            Piece::Words(before), Piece::Right(number as u64, 2), Piece::Words(behind),
+        ]),
     }
 }
 
+#[rattlefmt::skip]
 fn push_left(out: &mut Vec<u8>, before: &str, number: usize, behind: &str) -> Result<(), AllocError>
     ensures { OnOk result (out.new.items ≡ out.old.items ++ left_front before.now behind.now number) }
 {
     let mut buffer = Buffer::new();
-    push_pieces(
-        out,
-        &[
-            Piece::Words(before),
-            Piece::Left(buffer.format(number), 2),
-            Piece::Words(behind),
-        ],
-    )
+    push_pieces(out, &[Piece::Words(before), Piece::Left(buffer.format(number), 2), Piece::Words(behind)])
 }
 
 // Appends a value and the end of its line.

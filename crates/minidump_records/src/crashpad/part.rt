@@ -71,7 +71,7 @@ fn open_list<'a>(
     Ok((bytes, count))
 }
 
-// Reads the parts that the `count` entries behind the count name. The list grows entry by entry, so that a
+// Reads the parts that the `count` entries after the count name. The list grows entry by entry, so that a
 // forged count reserves no memory.
 fn read_parts<E: Record + Drop, P: Part<E> + Drop>(
     alloc: Global,

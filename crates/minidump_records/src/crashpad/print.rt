@@ -1,4 +1,4 @@
-ghost use Rattle.std.specs.Prelude.{◌≡◌, ◌++◌, ℕ, List, IfOk, OnOk, map, string_bytes};
+ghost use Rattle.std.specs.Prelude.{◌≡◌, ◌++◌, ℕ, List, OnOk, map, string_bytes};
 ghost use Rattle.std.specs.Iterator.{IsFinite};
 ghost use Rattle.std.specs.List.{enumerate_from, flat_map};
 ghost use Rattle.std.proofs.lemmas.Iterator.{YieldsList};
@@ -10,10 +10,9 @@ ghost use Rattle.minidump_records.specs.Crashpad.Dictionary.{entries_of};
 ghost use Rattle.minidump_records.specs.Crashpad.Text.{annotation_text, crashpad_info_text, listed_line, module_lines, module_text, object_line, objects_text, process_line, process_lines, process_text, simple_line};
 
 use super::{MinidumpAnnotation, MinidumpCrashpadInfo, MinidumpModuleCrashpadInfo};
-use crate::print::{PushItem, print_each};
-use minidump_bytes::{Piece, Told, made, push_pieces};
+use minidump_bytes::{Piece, Told, push_pieces};
 use minidump_format::format::MINIDUMP_CRASHPAD_INFO;
-use minidump_format::{Error, print_line_end, put_formatted};
+use minidump_format::{Error, Pushed, print_all, print_item, print_line_end};
 use std::alloc::{AllocError, Global};
 use std::collections::BTreeMap;
 use std::io::Write;
@@ -24,7 +23,7 @@ impl MinidumpCrashpadInfo {
     pub fn print<W: Write>(&self, alloc: Global, f: &mut Told<W>) -> Result<(), Error>
         ensures { Prints W.contents f.old f.new (crashpad_info_text (crashpad_info_of self.now)) result }
     {
-        print_process(&self.raw, alloc, f)?;
+        print_item(&ProcessText { raw: &self.raw }, alloc, f)?;
         self.print_lists(alloc, f)
     }
 
@@ -48,47 +47,6 @@ impl MinidumpCrashpadInfo {
     }
 }
 
-fn print_process<W: Write>(
-    raw: &MINIDUMP_CRASHPAD_INFO,
-    alloc: Global,
-    f: &mut Told<W>,
-) -> Result<(), Error>
-    ensures { Prints W.contents f.old f.new (process_text raw.now) result }
-{
-    put_formatted(f, format_process(alloc, raw))
-}
-
-fn format_process(alloc: Global, raw: &MINIDUMP_CRASHPAD_INFO) -> Result<String, AllocError>
-    ensures { IfOk result (λ t. string_bytes t ≡ process_text raw.now) }
-{
-    let report_id = format!(in alloc; "{}", raw.report_id)?;
-    let client_id = format!(in alloc; "{}", raw.client_id)?;
-    made_process(alloc, raw.version, report_id.as_str(), client_id.as_str())
-}
-
-#[tactic(auto, unfolding(crate::specs::Crashpad::Text::process_lines))]
-fn made_process<'x>(
-    alloc: Global,
-    version: u32,
-    report_id: &'x str,
-    client_id: &'x str,
-) -> Result<String, AllocError>
-    ensures { IfOk result (λ t. string_bytes t ≡ process_lines version report_id.now client_id.now) }
-{
-    made(
-        alloc,
-        &[
-            Piece::Words("MDRawCrashpadInfo\n  version = "),
-            Piece::Decimal(version as u64),
-            Piece::Words("\n  report_id = "),
-            Piece::Words(report_id),
-            Piece::Words("\n  client_id = "),
-            Piece::Words(client_id),
-            Piece::Words("\n"),
-        ],
-    )
-}
-
 fn print_process_lines<W: Write>(
     texts: &BTreeMap<String, String>,
     alloc: Global,
@@ -96,7 +54,8 @@ fn print_process_lines<W: Write>(
 ) -> Result<(), Error>
     ensures { Prints W.contents f.old f.new (flat_map process_line (entries_of string_bytes texts.now.entries)) result }
 {
-    print_each(texts.iter(), &ProcessLine, alloc, f)
+    let lines = texts.iter().map(|(key, text)| ProcessLine { key, text });
+    print_all(lines, alloc, f)
 }
 
 fn print_module_list<W: Write>(
@@ -137,7 +96,7 @@ fn print_module<W: Write>(
 ) -> Result<(), Error>
     ensures { Prints W.contents f.old f.new (module_text (index, module_of info.now)) result }
 {
-    print_module_lines(index, info, alloc, f)?;
+    print_item(&ModuleLines { index, info }, alloc, f)?;
     print_annotations(index, info, alloc, f)
 }
 
@@ -169,41 +128,6 @@ fn print_dictionaries<W: Write>(
     print_objects(index, &info.annotation_objects, alloc, f)
 }
 
-fn print_module_lines<W: Write>(
-    index: usize,
-    info: &MinidumpModuleCrashpadInfo,
-    alloc: Global,
-    f: &mut Told<W>,
-) -> Result<(), Error>
-    ensures { Prints W.contents f.old f.new (module_lines (index, module_of info.now)) result }
-{
-    put_formatted(f, format_module(alloc, index, info))
-}
-
-#[tactic(auto, unfolding(crate::specs::Crashpad::Text::module_lines))]
-fn format_module(
-    alloc: Global,
-    index: usize,
-    info: &MinidumpModuleCrashpadInfo,
-) -> Result<String, AllocError>
-    ensures { IfOk result (λ t. string_bytes t ≡ module_lines (index, module_of info.now)) }
-{
-    made(
-        alloc,
-        &[
-            Piece::Words("  module_list["),
-            Piece::Decimal(index as u64),
-            Piece::Words("].minidump_module_list_index = "),
-            Piece::Decimal(info.module_index as u64),
-            Piece::Words("\n  module_list["),
-            Piece::Decimal(index as u64),
-            Piece::Words("].version = "),
-            Piece::Decimal(info.raw.version as u64),
-            Piece::Words("\n"),
-        ],
-    )
-}
-
 fn print_listed<W: Write>(
     index: usize,
     texts: &[String],
@@ -212,7 +136,12 @@ fn print_listed<W: Write>(
 ) -> Result<(), Error>
     ensures { Prints W.contents f.old f.new (flat_map (listed_line index) (enumerate_from 0 (map string_bytes texts.now))) result }
 {
-    print_each(texts.iter().enumerate(), &ListedLine { index }, alloc, f)
+    let lines = texts.iter().enumerate().map(|(place, text)| ListedLine {
+        module: index,
+        index: place,
+        text,
+    });
+    print_all(lines, alloc, f)
 }
 
 fn print_simple<W: Write>(
@@ -223,7 +152,10 @@ fn print_simple<W: Write>(
 ) -> Result<(), Error>
     ensures { Prints W.contents f.old f.new (flat_map (simple_line index) (entries_of string_bytes texts.now.entries)) result }
 {
-    print_each(texts.iter(), &SimpleLine { index }, alloc, f)
+    let lines = texts
+        .iter()
+        .map(|(key, text)| SimpleLine { index, key, text });
+    print_all(lines, alloc, f)
 }
 
 fn print_objects<W: Write>(
@@ -234,123 +166,158 @@ fn print_objects<W: Write>(
 ) -> Result<(), Error>
     ensures { Prints W.contents f.old f.new (flat_map (object_line index) (entries_of annotation_of annotations.now.entries)) result }
 {
-    print_each(annotations.iter(), &ObjectLine { index }, alloc, f)
+    let lines = annotations.iter().map(|(name, annotation)| ObjectLine {
+        index,
+        name,
+        annotation,
+    });
+    print_all(lines, alloc, f)
 }
 
-// A line for each key of the process and its text.
+// The lines of the record of the process.
 #[derive(Clone, Copy)]
-struct ProcessLine;
+struct ProcessText<'a> {
+    raw: &'a MINIDUMP_CRASHPAD_INFO,
+}
 
-impl<'a> PushItem<(&'a String, &'a String)> for ProcessLine {
-    ghost use Rattle.std.specs.Prelude.{ℕ, List, string_bytes};
+impl<'a> Pushed for ProcessText<'a> {
+    ghost text = { λ p. process_text p.raw.now };
 
-    ghost Value = { List ℕ × List ℕ };
-
-    ghost value = { λ e. (string_bytes e.0.now, string_bytes e.1.now) };
-
-    ghost text = { λ line e. process_line e };
-
-    #[tactic(auto, unfolding(crate::specs::Crashpad::Text::process_line))]
-    fn push(&self, entry: (&'a String, &'a String), out: &mut Vec<u8>) -> Result<(), AllocError> {
-        push_pieces(
+    fn push(&self, out: &mut Vec<u8>) -> Result<(), AllocError> {
+        let report_id = format!(in *out.allocator(); "{}", self.raw.report_id)?;
+        let client_id = format!(in *out.allocator(); "{}", self.raw.client_id)?;
+        push_process(
             out,
-            &[
-                Piece::Words("  simple_annotations[\""),
-                Piece::Words(entry.0.as_str()),
-                Piece::Words("\"] = "),
-                Piece::Words(entry.1.as_str()),
-                Piece::Words("\n"),
-            ],
+            self.raw.version,
+            report_id.as_str(),
+            client_id.as_str(),
         )
     }
 }
 
-// A line for each text of the list of a module.
-#[derive(Clone, Copy)]
-struct ListedLine {
-    index: usize,
-}
-
-impl<'a> PushItem<(usize, &'a String)> for ListedLine {
-    ghost use Rattle.std.specs.Prelude.{ℕ, List, string_bytes};
-
-    ghost Value = { ℕ × List ℕ };
-
-    ghost value = { λ e. (e.0, string_bytes e.1.now) };
-
-    ghost text = { λ line e. listed_line line.index e };
-
-    fn push(&self, entry: (usize, &'a String), out: &mut Vec<u8>) -> Result<(), AllocError> {
-        push_listed(out, self.index, entry.0, entry.1.as_str())
-    }
-}
-
-// A line for each key of a module and its text.
-#[derive(Clone, Copy)]
-struct SimpleLine {
-    index: usize,
-}
-
-impl<'a> PushItem<(&'a String, &'a String)> for SimpleLine {
-    ghost use Rattle.std.specs.Prelude.{ℕ, List, string_bytes};
-
-    ghost Value = { List ℕ × List ℕ };
-
-    ghost value = { λ e. (string_bytes e.0.now, string_bytes e.1.now) };
-
-    ghost text = { λ line e. simple_line line.index e };
-
-    fn push(&self, entry: (&'a String, &'a String), out: &mut Vec<u8>) -> Result<(), AllocError> {
-        push_simple(out, self.index, entry.0.as_str(), entry.1.as_str())
-    }
-}
-
-// A line for each name of a module and its annotation.
-#[derive(Clone, Copy)]
-struct ObjectLine {
-    index: usize,
-}
-
-impl<'a> PushItem<(&'a String, &'a MinidumpAnnotation)> for ObjectLine {
-    ghost use Rattle.std.specs.Prelude.{ℕ, List, string_bytes};
-    ghost use Rattle.minidump_records.specs.Crashpad.Annotations.{Annotation, annotation_of};
-
-    ghost Value = { List ℕ × Annotation };
-
-    ghost value = { λ e. (string_bytes e.0.now, annotation_of e.1.now) };
-
-    ghost text = { λ line e. object_line line.index e };
-
-    fn push(
-        &self,
-        entry: (&'a String, &'a MinidumpAnnotation),
-        out: &mut Vec<u8>,
-    ) -> Result<(), AllocError> {
-        push_object(out, self.index, entry.0.as_str(), entry.1)
-    }
-}
-
-#[tactic(auto, unfolding(crate::specs::Crashpad::Text::object_line))]
-fn push_object<'x>(
+#[rattlefmt::skip]
+#[tactic(auto, unfolding(crate::specs::Crashpad::Text::process_lines))]
+fn push_process<'x>(
     out: &mut Vec<u8>,
-    index: usize,
-    name: &'x str,
-    annotation: &'x MinidumpAnnotation,
+    version: u32,
+    report_id: &'x str,
+    client_id: &'x str,
 ) -> Result<(), AllocError>
-    ensures { OnOk result (out.new.items ≡ out.old.items ++ object_line index (name.now, annotation_of annotation.now)) }
+    ensures { OnOk result (out.new.items ≡ out.old.items ++ process_lines version report_id.now client_id.now) }
 {
-    push_pieces(
-        out,
-        &[
-            Piece::Words("  module_list["),
-            Piece::Decimal(index as u64),
-            Piece::Words("].annotation_objects[\""),
-            Piece::Words(name),
-            Piece::Words("\"] = "),
-            Piece::Words(shown(annotation)),
-            Piece::Words("\n"),
-        ],
-    )
+    push_pieces(out, &[
+        Piece::Words("MDRawCrashpadInfo\n"),
+        Piece::Words("  version = "), Piece::Decimal(version as u64), Piece::Words("\n"),
+        Piece::Words("  report_id = "), Piece::Words(report_id), Piece::Words("\n"),
+        Piece::Words("  client_id = "), Piece::Words(client_id), Piece::Words("\n"),
+    ])
+}
+
+// The line of a key of the process and its text.
+#[derive(Clone, Copy)]
+struct ProcessLine<'a> {
+    key: &'a String,
+    text: &'a String,
+}
+
+impl<'a> Pushed for ProcessLine<'a> {
+    ghost use Rattle.std.specs.Prelude.{string_bytes};
+
+    ghost text = { λ l. process_line (string_bytes l.key.now, string_bytes l.text.now) };
+
+    #[rattlefmt::skip]
+    #[tactic(auto, unfolding(crate::specs::Crashpad::Text::process_line))]
+    fn push(&self, out: &mut Vec<u8>) -> Result<(), AllocError> {
+        push_pieces(out, &[
+            Piece::Words("  simple_annotations[\""), Piece::Words(self.key.as_str()), Piece::Words("\"] = "), Piece::Words(self.text.as_str()), Piece::Words("\n"),
+        ])
+    }
+}
+
+// The lines of the link to a module and of its record.
+#[derive(Clone, Copy)]
+struct ModuleLines<'a> {
+    index: usize,
+    info: &'a MinidumpModuleCrashpadInfo,
+}
+
+impl<'a> Pushed for ModuleLines<'a> {
+    ghost text = { λ m. module_lines (m.index, module_of m.info.now) };
+
+    #[rattlefmt::skip]
+    #[tactic(auto, unfolding(crate::specs::Crashpad::Text::module_lines))]
+    fn push(&self, out: &mut Vec<u8>) -> Result<(), AllocError> {
+        push_pieces(out, &[
+            Piece::Words("  module_list["), Piece::Decimal(self.index as u64), Piece::Words("].minidump_module_list_index = "), Piece::Decimal(self.info.module_index as u64), Piece::Words("\n"),
+            Piece::Words("  module_list["), Piece::Decimal(self.index as u64), Piece::Words("].version = "), Piece::Decimal(self.info.raw.version as u64), Piece::Words("\n"),
+        ])
+    }
+}
+
+// The line of a text of the list of a module.
+#[derive(Clone, Copy)]
+struct ListedLine<'a> {
+    module: usize,
+    index: usize,
+    text: &'a String,
+}
+
+impl<'a> Pushed for ListedLine<'a> {
+    ghost use Rattle.std.specs.Prelude.{string_bytes};
+
+    ghost text = { λ l. listed_line l.module (l.index, string_bytes l.text.now) };
+
+    #[rattlefmt::skip]
+    #[tactic(auto, unfolding(crate::specs::Crashpad::Text::listed_line))]
+    fn push(&self, out: &mut Vec<u8>) -> Result<(), AllocError> {
+        push_pieces(out, &[
+            Piece::Words("  module_list["), Piece::Decimal(self.module as u64), Piece::Words("].list_annotations["), Piece::Decimal(self.index as u64), Piece::Words("] = "), Piece::Words(self.text.as_str()), Piece::Words("\n"),
+        ])
+    }
+}
+
+// The line of a key of a module and its text.
+#[derive(Clone, Copy)]
+struct SimpleLine<'a> {
+    index: usize,
+    key: &'a String,
+    text: &'a String,
+}
+
+impl<'a> Pushed for SimpleLine<'a> {
+    ghost use Rattle.std.specs.Prelude.{string_bytes};
+
+    ghost text = { λ l. simple_line l.index (string_bytes l.key.now, string_bytes l.text.now) };
+
+    #[rattlefmt::skip]
+    #[tactic(auto, unfolding(crate::specs::Crashpad::Text::simple_line))]
+    fn push(&self, out: &mut Vec<u8>) -> Result<(), AllocError> {
+        push_pieces(out, &[
+            Piece::Words("  module_list["), Piece::Decimal(self.index as u64), Piece::Words("].simple_annotations[\""), Piece::Words(self.key.as_str()), Piece::Words("\"] = "), Piece::Words(self.text.as_str()), Piece::Words("\n"),
+        ])
+    }
+}
+
+// The line of a name of a module and its annotation.
+#[derive(Clone, Copy)]
+struct ObjectLine<'a> {
+    index: usize,
+    name: &'a String,
+    annotation: &'a MinidumpAnnotation,
+}
+
+impl<'a> Pushed for ObjectLine<'a> {
+    ghost use Rattle.std.specs.Prelude.{string_bytes};
+
+    ghost text = { λ l. object_line l.index (string_bytes l.name.now, annotation_of l.annotation.now) };
+
+    #[rattlefmt::skip]
+    #[tactic(auto, unfolding(crate::specs::Crashpad::Text::object_line))]
+    fn push(&self, out: &mut Vec<u8>) -> Result<(), AllocError> {
+        push_pieces(out, &[
+            Piece::Words("  module_list["), Piece::Decimal(self.index as u64), Piece::Words("].annotation_objects[\""), Piece::Words(self.name.as_str()), Piece::Words("\"] = "), Piece::Words(shown(self.annotation)), Piece::Words("\n"),
+        ])
+    }
 }
 
 // Returns a text as it is, and the kind of any other annotation.
@@ -363,45 +330,4 @@ fn shown(annotation: &MinidumpAnnotation) -> &str
         MinidumpAnnotation::UserDefined(_) => "<user defined>",
         MinidumpAnnotation::Unsupported(_) => "<unsupported>",
     }
-}
-
-#[tactic(auto, unfolding(crate::specs::Crashpad::Text::listed_line))]
-fn push_listed(out: &mut Vec<u8>, index: usize, place: usize, text: &str) -> Result<(), AllocError>
-    ensures { OnOk result (out.new.items ≡ out.old.items ++ listed_line index (place, text.now)) }
-{
-    push_pieces(
-        out,
-        &[
-            Piece::Words("  module_list["),
-            Piece::Decimal(index as u64),
-            Piece::Words("].list_annotations["),
-            Piece::Decimal(place as u64),
-            Piece::Words("] = "),
-            Piece::Words(text),
-            Piece::Words("\n"),
-        ],
-    )
-}
-
-#[tactic(auto, unfolding(crate::specs::Crashpad::Text::simple_line))]
-fn push_simple<'x>(
-    out: &mut Vec<u8>,
-    index: usize,
-    key: &'x str,
-    text: &'x str,
-) -> Result<(), AllocError>
-    ensures { OnOk result (out.new.items ≡ out.old.items ++ simple_line index (key.now, text.now)) }
-{
-    push_pieces(
-        out,
-        &[
-            Piece::Words("  module_list["),
-            Piece::Decimal(index as u64),
-            Piece::Words("].simple_annotations[\""),
-            Piece::Words(key),
-            Piece::Words("\"] = "),
-            Piece::Words(text),
-            Piece::Words("\n"),
-        ],
-    )
 }

@@ -9,7 +9,7 @@ use minidump_bytes::{Endian, Source, Steps};
 use minidump_format::Error;
 use std::alloc::Global;
 
-// Reads the text at an RVA. A NUL has to stand behind the text.
+// Reads the text at an RVA. A NUL has to stand after the text.
 pub(crate) fn read_text(
     alloc: Global,
     rva: u32,

@@ -1,9 +1,9 @@
-ghost use Rattle.std.specs.Prelude.{◌≡◌, ◌+◌, ◌*◌, ◌<◌, ◌≤◌, [], ◌↔◌, IfOk, IsOkUnless, IsTrue, OnErr, length, map};
+ghost use Rattle.std.specs.Prelude.{◌≡◌, ◌+◌, ◌*◌, ◌<◌, ◌≤◌, [], ◌↔◌, IfErr, IfOk, IsOkUnless, IsTrue, OnErr, length, map};
 ghost use Rattle.std.specs.List.{sum_by};
 ghost use Rattle.std.specs.Slice.Iter.{iter_rest};
 ghost use Rattle.minidump_bytes.specs.Source.{bytes_of};
 ghost use Rattle.minidump_bytes.specs.Steps.{after};
-ghost use Rattle.minidump_records.specs.Handles.{handle_in, handle_of, handle_reads, handle_data_of};
+ghost use Rattle.minidump_records.specs.Handles.{handle_data_of, handle_in, handle_of, handle_reads};
 
 use super::descriptor::read_handle;
 use super::{MinidumpHandleDescriptor, RawHandleDescriptor};
@@ -11,8 +11,9 @@ use minidump_bytes::{Endian, Entries, Record, Source, Steps};
 use minidump_format::Error;
 use minidump_format::format::{MINIDUMP_HANDLE_DESCRIPTOR, MINIDUMP_HANDLE_DESCRIPTOR_2};
 use minidump_system::framing::{HandleEntries, handle_entries};
+use minidump_system::listed::{Listed, read_items};
 use minidump_system::{MinidumpStream, MinidumpSystemInfo};
-use std::alloc::{AllocError, Global};
+use std::alloc::Global;
 use std::slice;
 
 /// The open handles of a process.
@@ -153,26 +154,51 @@ impl Descriptor for MINIDUMP_HANDLE_DESCRIPTOR_2 {
 }
 
 // Reads the handle of each descriptor.
-fn read_handles<R: Descriptor>(
+fn read_handles<'a, R: Descriptor + Drop>(
     alloc: Global,
     raws: Entries<'_, R>,
-    all: Source<'_>,
+    all: Source<'a>,
     endian: Endian,
     steps: &mut Steps,
-) -> Result<Vec<MinidumpHandleDescriptor>, AllocError>
+) -> Result<Vec<MinidumpHandleDescriptor>, Error>
     ensures items { IfOk result (λ v. map handle_of v.items ≡ map (λ r. handle_in endian (bytes_of all.entry) (R.raw r)) raws.entry) }
-    ensures within { steps.new ≤ steps.old + length raws.entry * (length (bytes_of all.entry) + 4) }
+    ensures within { steps.new ≤ steps.old + length raws.entry * (1 + (length (bytes_of all.entry) + 3)) }
     ensures grows { steps.old ≤ steps.new }
     ensures at_least { IfOk result (λ v. after steps.old (length v.items + sum_by handle_reads (map handle_of v.items)) ≤ steps.new) }
-    ensures some { OnErr result (0 < length raws.entry) }
+    ensures some { IfErr result (λ e. (e ≡ Error.OutOfMemory) × (0 < length raws.entry)) }
 {
-    if raws.len() == 0 {
-        return Ok(Vec::new(alloc));
+    read_items(&Handles, alloc, raws, all, endian, steps)
+}
+
+// What each descriptor of a list leads to.
+#[derive(Clone, Copy)]
+struct Handles;
+
+impl<'a, R: Descriptor> Listed<'a, R> for Handles {
+    ghost use Rattle.std.specs.Prelude.{◌+◌, Ok, Some};
+    ghost use Rattle.minidump_records.specs.Handles.{Handle, handle_in, handle_of, handle_reads};
+
+    type Item = MinidumpHandleDescriptor;
+
+    ghost Value = { Handle };
+
+    ghost value = { handle_of };
+
+    ghost listed = { λ _ order file raw. Ok (Some (handle_in order file (R.raw raw))) };
+
+    ghost most = { λ n. n + 3 };
+
+    ghost fewest_of = { handle_reads };
+
+    fn read_entry(
+        &self,
+        alloc: Global,
+        entry: R,
+        all: Source<'a>,
+        endian: Endian,
+        steps: &mut Steps,
+    ) -> Result<Option<MinidumpHandleDescriptor>, Error> {
+        let handle = read_handle(alloc, entry.raw(), all, endian, steps)?;
+        Ok(Some(handle))
     }
-    let mut handles = Vec::with_capacity(alloc, raws.len())?;
-    for entry in raws {
-        let raw = entry.read(steps);
-        handles.push(read_handle(alloc, raw.raw(), all, endian, steps)?)?;
-    }
-    Ok(handles)
 }

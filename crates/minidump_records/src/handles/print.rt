@@ -6,7 +6,6 @@ ghost use Rattle.minidump_records.specs.Handles.{fields_text, handle_data_of, ha
 ghost use Rattle.minidump_records.specs.Handles.ObjectChain.{information_text};
 
 use super::{MinidumpHandleDataStream, MinidumpHandleDescriptor, MinidumpHandleObjectInformation};
-use crate::optional::optional_hex;
 use minidump_bytes::{Piece, Told, push_pieces};
 use minidump_format::format::MINIDUMP_HANDLE_DESCRIPTOR;
 use minidump_format::{Error, Pushed, print_item, print_numbered};
@@ -14,7 +13,7 @@ use std::alloc::{AllocError, Global};
 use std::io::Write;
 
 impl MinidumpHandleDataStream {
-    /// Prints the number of handles, and each of them behind its index.
+    /// Prints the number of handles, and each of them after its index.
     pub fn print<W: Write>(&self, alloc: Global, f: &mut Told<W>) -> Result<(), Error>
         ensures { Prints W.contents f.old f.new (handle_data_text (handle_data_of self.now)) result }
     {
@@ -45,6 +44,7 @@ impl Pushed for MinidumpHandleDescriptor {
     }
 }
 
+#[rattlefmt::skip]
 #[tactic(auto, unfolding(crate::specs::Handles::fields_text))]
 fn push_fields(
     out: &mut Vec<u8>,
@@ -53,30 +53,20 @@ fn push_fields(
 ) -> Result<(), AllocError>
     ensures { OnOk result (out.new.items ≡ out.old.items ++ fields_text raw.now info_rva) }
 {
-    push_pieces(
-        out,
-        &[
-            Piece::Words("MINIDUMP_HANDLE_DESCRIPTOR\n  handle            = "),
-            Piece::Hex(raw.handle),
-            Piece::Words("\n  type_name_rva     = "),
-            Piece::Hex(raw.type_name_rva as u64),
-            Piece::Words("\n  object_name_rva   = "),
-            Piece::Hex(raw.object_name_rva as u64),
-            Piece::Words("\n  attributes        = "),
-            Piece::Hex(raw.attributes as u64),
-            Piece::Words("\n  granted_access    = "),
-            Piece::Hex(raw.granted_access as u64),
-            Piece::Words("\n  handle_count      = "),
-            Piece::Decimal(raw.handle_count as u64),
-            Piece::Words("\n  pointer_count     = "),
-            Piece::Decimal(raw.pointer_count as u64),
-            Piece::Words("\n  object_info_rva   = "),
-            optional_hex(info_rva),
-            Piece::Words("\n"),
-        ],
-    )
+    push_pieces(out, &[
+        Piece::Words("MINIDUMP_HANDLE_DESCRIPTOR\n"),
+        Piece::Words("  handle            = "), Piece::Hex(raw.handle), Piece::Words("\n"),
+        Piece::Words("  type_name_rva     = "), Piece::Hex(raw.type_name_rva as u64), Piece::Words("\n"),
+        Piece::Words("  object_name_rva   = "), Piece::Hex(raw.object_name_rva as u64), Piece::Words("\n"),
+        Piece::Words("  attributes        = "), Piece::Hex(raw.attributes as u64), Piece::Words("\n"),
+        Piece::Words("  granted_access    = "), Piece::Hex(raw.granted_access as u64), Piece::Words("\n"),
+        Piece::Words("  handle_count      = "), Piece::Decimal(raw.handle_count as u64), Piece::Words("\n"),
+        Piece::Words("  pointer_count     = "), Piece::Decimal(raw.pointer_count as u64), Piece::Words("\n"),
+        Piece::Words("  object_info_rva   = "), Piece::OptionalHex(info_rva), Piece::Words("\n"),
+    ])
 }
 
+#[rattlefmt::skip]
 #[tactic(auto, unfolding(crate::specs::Handles::names_text))]
 fn push_names<'t>(
     out: &mut Vec<u8>,
@@ -85,16 +75,10 @@ fn push_names<'t>(
 ) -> Result<(), AllocError>
     ensures { OnOk result (out.new.items ≡ out.old.items ++ names_text type_name.now object_name.now) }
 {
-    push_pieces(
-        out,
-        &[
-            Piece::Words("  (type_name)       = "),
-            Piece::Words(type_name),
-            Piece::Words("\n  (object_name)     = "),
-            Piece::Words(object_name),
-            Piece::Words("\n"),
-        ],
-    )
+    push_pieces(out, &[
+        Piece::Words("  (type_name)       = "), Piece::Words(type_name), Piece::Words("\n"),
+        Piece::Words("  (object_name)     = "), Piece::Words(object_name), Piece::Words("\n"),
+    ])
 }
 
 // Returns a name, or `(null)` if it is absent.

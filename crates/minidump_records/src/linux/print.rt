@@ -10,9 +10,8 @@ ghost use Rattle.minidump_records.specs.Linux.{linux_text_of};
 use super::files::ProcLimits;
 use super::pairs::LinuxPairs;
 use super::text::{LinuxFile, LinuxPairsFile, LinuxText};
-use crate::print::{PushItem, print_each};
 use minidump_bytes::{LinuxOsStr, Told};
-use minidump_format::{Error, print_line_end, put_text};
+use minidump_format::{Error, Pushed, print_all, print_line_end, put_text};
 use std::alloc::{AllocError, Global};
 use std::io::Write;
 
@@ -71,62 +70,55 @@ fn print_pairs<W: Write>(
     ensures prints { Prints W.contents f.old f.new (flat_map pair_line (pairs_of separator text.now)) result }
     ensures none { pairs_of separator text.now ≡ [] → IfErr result (λ e. e ≡ Error.IoError) }
 {
-    print_each(LinuxPairs::new(text, separator), &PairLine, alloc, f)
+    let pairs = LinuxPairs::new(text, separator);
+    print_all(pairs.map(|(key, value)| PairLine { key, value }), alloc, f)
 }
 
 fn print_limits<W: Write>(text: &[u8], alloc: Global, f: &mut Told<W>) -> Result<(), Error>
     ensures prints { Prints W.contents f.old f.new (flat_map limit_line (text_lines text.now)) result }
     ensures none { text_lines text.now ≡ [] → IfErr result (λ e. e ≡ Error.IoError) }
 {
-    print_each(LinuxOsStr::from_bytes(text).lines(), &LimitLine, alloc, f)
+    let lines = LinuxOsStr::from_bytes(text).lines();
+    print_all(lines.map(|line| LimitLine { line }), alloc, f)
 }
 
-// A line for each pair.
-#[derive(Clone, Copy)]
-struct PairLine;
+// The line of a pair.
+#[derive(Drop)]
+struct PairLine<'a> {
+    key: LinuxOsStr<'a>,
+    value: LinuxOsStr<'a>,
+}
 
-impl<'a> PushItem<(LinuxOsStr<'a>, LinuxOsStr<'a>)> for PairLine {
-    ghost use Rattle.std.specs.Prelude.{ℕ, List};
-    ghost use Rattle.minidump_bytes.specs.LinuxOsStr.{parts_of};
+impl<'a> Pushed for PairLine<'a> {
+    ghost use Rattle.minidump_bytes.specs.LinuxOsStr.{text_of};
 
-    ghost Value = { List ℕ × List ℕ };
-
-    ghost value = { parts_of };
-
-    ghost text = { λ line pair. pair_line pair };
+    ghost text = { λ p. pair_line (text_of p.key, text_of p.value) };
 
     #[tactic(auto, unfolding(crate::specs::Linux::Text::pair_line))]
-    fn push(
-        &self,
-        pair: (LinuxOsStr<'a>, LinuxOsStr<'a>),
-        out: &mut Vec<u8>,
-    ) -> Result<(), AllocError> {
+    fn push(&self, out: &mut Vec<u8>) -> Result<(), AllocError> {
         out.extend_from_slice(b"  ")?;
-        out.extend_from_slice(pair.0.as_bytes())?;
+        out.extend_from_slice(self.key.as_bytes())?;
         out.extend_from_slice(b" = ")?;
-        out.extend_from_slice(pair.1.as_bytes())?;
+        out.extend_from_slice(self.value.as_bytes())?;
         out.extend_from_slice(b"\n")
     }
 }
 
-// A line for each limit.
-#[derive(Clone, Copy)]
-struct LimitLine;
+// The line of a limit.
+#[derive(Drop)]
+struct LimitLine<'a> {
+    line: LinuxOsStr<'a>,
+}
 
-impl<'a> PushItem<LinuxOsStr<'a>> for LimitLine {
-    ghost use Rattle.std.specs.Prelude.{ℕ, List};
+impl<'a> Pushed for LimitLine<'a> {
     ghost use Rattle.minidump_bytes.specs.LinuxOsStr.{text_of};
 
-    ghost Value = { List ℕ };
-
-    ghost value = { text_of };
-
-    ghost text = { λ limit line. limit_line line };
+    ghost text = { λ l. limit_line (text_of l.line) };
 
     #[tactic(auto, unfolding(crate::specs::Linux::Text::limit_line))]
-    fn push(&self, line: LinuxOsStr<'a>, out: &mut Vec<u8>) -> Result<(), AllocError> {
+    fn push(&self, out: &mut Vec<u8>) -> Result<(), AllocError> {
         out.extend_from_slice(b"  ")?;
-        out.extend_from_slice(line.as_bytes())?;
+        out.extend_from_slice(self.line.as_bytes())?;
         out.extend_from_slice(b"\n")
     }
 }

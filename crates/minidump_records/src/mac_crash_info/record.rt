@@ -195,7 +195,7 @@ fn read_texts(
     })
 }
 
-// Reads the text at `place`, and moves `place` behind the text and its NUL.
+// Reads the text at `place`, and moves `place` past the text and its NUL.
 fn next_text(
     alloc: Global,
     bytes: Source<'_>,

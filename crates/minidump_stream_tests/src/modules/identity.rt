@@ -112,6 +112,38 @@ fn are_shown(alloc: Global) -> Result<bool, Error> {
     Ok(is_text(&old, Some("0000ABCD-1f")) && code.as_str() == "b1054d2")
 }
 
+// Breakpad's texts in another case, and as Breakpad writes them.
+#[rattlefmt::skip]
+const WRITTEN: &[(&str, &str)] = &[
+    ("dfb8e43af2423d73a453aeb6a777ef75A", "DFB8E43AF2423D73A453AEB6A777EF75a"),
+    ("abcd1234f00dbeef01020304050607080", "ABCD1234F00DBEEF01020304050607080"),
+];
+
+fn written(alloc: Global, id: DebugId) -> Result<String, AllocError> {
+    let form = id.breakpad();
+    format!(in alloc; "{form}")
+}
+
+fn is_written(alloc: Global, row: &(&str, &str)) -> Result<bool, AllocError> {
+    match DebugId::from_breakpad(row.0) {
+        None => Ok(false),
+        Some(id) => {
+            let text = written(alloc, id)?;
+            Ok(text.as_str() == row.1 && DebugId::from_breakpad(text.as_str()) == Some(id))
+        }
+    }
+}
+
+#[test]
+fn identifiers_are_written_for_breakpad(rt: HostRuntime) -> Result<(), Fail> {
+    for row in WRITTEN {
+        assert!(rt; is_written(rt.alloc(), row)?, "{}", row.1);
+    }
+    let old = written(rt.alloc(), DebugId::from_pdb20(0xabcd, 0x1f))?;
+    assert!(rt; old.as_str() == "ABCD1f");
+    Ok(())
+}
+
 #[test]
 fn identifiers_are_texts(rt: HostRuntime) -> Result<(), Fail> {
     for row in BREAKPAD {

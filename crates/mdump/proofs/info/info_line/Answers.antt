@@ -13,16 +13,16 @@ pub returns-clause-written : goal.returns-clause-written
 returns-clause-written g c =
     let found = option_map info_region c.info_at-found.result in
     let same : option_map info_list c.in_ok-infos.infos ≡ info_of_dump (dump_of c.args.dump.now) = c.in_ok-infos.ensures.list in
-    written g.O.Write.contents c.args.out.now c.put_formatted.new.f (IsInfoLine (dump_of c.args.dump.now) c.args.address) (info_line found)
-    c.put_formatted.result (
+    written g.O.Write.contents c.args.out.now c.print_item.new.f (IsInfoLine (dump_of c.args.dump.now) c.args.address) (info_line found)
+    c.print_item.result (
       found,
       subst (λ (m : Option InfoRegions). IsAt info_region_range (option_map info_regions m) c.args.address found)
           (ap (option_map info_list) c.as_ref.ensures.value ∙ same) c.info_at-found.ensures,
       refl,
     )
-    (c.put_formatted.ensures.prints (info_line found) c.info_text.ensures)
+    (rw c.range_of.ensures at c.print_item.ensures)
 
 pub returns-clause-refusal : goal.returns-clause-refusal
 returns-clause-refusal g c =
     let text = info_line (option_map info_region c.info_at-found.result) in
-    print_refusal g.O.Write.contents c.args.out.now c.put_formatted.new.f text c.put_formatted.result (c.put_formatted.ensures.prints text c.info_text.ensures)
+    print_refusal g.O.Write.contents c.args.out.now c.print_item.new.f text c.print_item.result (rw c.range_of.ensures at c.print_item.ensures)

@@ -15,17 +15,17 @@ pub returns-clause-written : goal.returns-clause-written
 returns-clause-written g c =
     let found = option_map unified_region c.memory_at-found.result in
     let same : option_map unified_list c.in_ok-memory.memory ≡ memories_of_dump (dump_of c.args.dump.now) = cc c.in_ok-memory.ensures.means in
-    written g.O.Write.contents c.args.out.now c.put_formatted.new.f (IsMemoryLine (dump_of c.args.dump.now) c.args.address) (memory_line found)
-    c.put_formatted.result (
+    written g.O.Write.contents c.args.out.now c.print_item.new.f (IsMemoryLine (dump_of c.args.dump.now) c.args.address) (memory_line found)
+    c.print_item.result (
       found,
       subst (λ (m : Option UnifiedRegions). IsAt region_range (option_map unified_regions m) c.args.address found)
           (ap (option_map unified_list) c.as_ref.ensures.value ∙ same) c.memory_at-found.ensures,
       refl,
     )
-    (c.put_formatted.ensures.prints (memory_line found) c.memory_text.ensures)
+    c.print_item.ensures
 
 pub returns-clause-refusal : goal.returns-clause-refusal
 returns-clause-refusal g c =
     let text = memory_line (option_map unified_region c.memory_at-found.result) in
-    print_refusal g.O.Write.contents c.args.out.now c.put_formatted.new.f text c.put_formatted.result
-    (c.put_formatted.ensures.prints text c.memory_text.ensures)
+    print_refusal g.O.Write.contents c.args.out.now c.print_item.new.f text c.print_item.result
+    c.print_item.ensures

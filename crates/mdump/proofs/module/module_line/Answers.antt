@@ -14,17 +14,17 @@ pub returns-clause-written : goal.returns-clause-written
 returns-clause-written g c =
     let found = option_map module_of (option_copied c.module_at-found.result) in
     let same : option_map module_list_of c.in_ok-modules.modules ≡ modules_of_dump (dump_of c.args.dump.now) = cc c.in_ok-modules.ensures.means in
-    written g.O.Write.contents c.args.out.now c.put_formatted.new.f (IsModuleLine (dump_of c.args.dump.now) c.args.address) (module_line found)
-    c.put_formatted.result (
+    written g.O.Write.contents c.args.out.now c.print_item.new.f (IsModuleLine (dump_of c.args.dump.now) c.args.address) (module_line found)
+    c.print_item.result (
       found,
       subst (λ (m : Option (List ModuleValue)). IsAt value_range m c.args.address found)
           (ap (option_map module_list_of) c.as_ref.ensures.value ∙ same) c.module_at-found.ensures,
       refl,
     )
-    (c.put_formatted.ensures.prints (module_line found) c.module_text.ensures)
+    c.print_item.ensures
 
 pub returns-clause-refusal : goal.returns-clause-refusal
 returns-clause-refusal g c =
     let text = module_line (option_map module_of (option_copied c.module_at-found.result)) in
-    print_refusal g.O.Write.contents c.args.out.now c.put_formatted.new.f text c.put_formatted.result
-    (c.put_formatted.ensures.prints text c.module_text.ensures)
+    print_refusal g.O.Write.contents c.args.out.now c.print_item.new.f text c.print_item.result
+    c.print_item.ensures

@@ -17,5 +17,5 @@ pub returns : goal.returns
 returns c =
     let all = modules_of c.args.modules.now in
     let found : option_map (λ b. b.now) c.nth.result ≡ slice_get all c.args.index =
-    nth_from_yields_List c.nth.result _ c.args.index c.nth.ensures.ran (YieldsList-from_slice all c.iter.ensures) in
+    nth_from_yields_List c.nth.result _ c.args.index c.nth.ensures.ran (YieldsList-from_slice all (rw c.deref.ensures c.iter.ensures)) in
     ap (option_map module_of) (copied_is_now c.nth.result ∙ found) ∙ sym (slice_get-map module_of all c.args.index)

@@ -1,6 +1,5 @@
 -- The first module that contains the address is the first that is left.
-use Rattle.std.proofs.Common.{◌≡◌, ◌∙◌, ◌+◌, ◌∷◌, ap, drop, get_or, length, take, ◌-◌, refl, sym}
-use Rattle.std.specs.Prelude.{filter}
+use Rattle.std.proofs.Common.{◌∙◌, ap, refl, sym}
 use Rattle.minidump_modules.specs.UnloadedOrder.{has, modules_of_order}
 use Rattle.minidump_modules.proofs.FoundLemmas.{fewer, first_module, first_passes, none_passes}
 use Rattle.std.proofs.lemmas.List.Quantifiers.{position-Some}

@@ -2,7 +2,7 @@
 use Rattle.std.proofs.Common.{[], refl}
 use Rattle.minidump_records.specs.Crashpad.{module_of}
 use Rattle.minidump_records.specs.Crashpad.Text.{module_text}
-use Rattle.minidump_records.proofs.PrintLemmas.{all_went, one_refused, one_went}
+use Rattle.minidump_format.proofs.SequenceLemmas.{all_went, one_refused, one_went}
 use Rattle.minidump_records.proofs.crashpad.print.print_each_module.Goals as goal
 
 pub loop-item-preserved : goal.loop-item-preserved

@@ -3,7 +3,7 @@ use Rattle.std.proofs.Common.{ℕ, List, []}
 use Rattle.std.proofs.lemmas.Iterator.{YieldsList}
 use Rattle.minidump_records.specs.Crashpad.{Module, module_of}
 use Rattle.minidump_records.specs.Crashpad.Text.{module_text}
-use Rattle.minidump_records.proofs.PrintLemmas.{Waits}
+use Rattle.minidump_format.proofs.SequenceLemmas.{Waits}
 use Rattle.minidump_records.proofs.crashpad.print.print_each_module.Given as goal
 
 abbrev pub invariant-loop-item : goal.invariant-loop-item

@@ -2,7 +2,7 @@
 use Rattle.std.proofs.Common.{map}
 use Rattle.std.specs.List.{enumerate_from}
 use Rattle.minidump_records.specs.Crashpad.{module_of}
-use Rattle.minidump_records.proofs.PrintLemmas.{yields_numbered}
+use Rattle.minidump_format.proofs.SequenceLemmas.{yields_numbered}
 use Rattle.minidump_records.proofs.crashpad.print.print_module_list.Goals as goal
 
 pub returns : goal.returns

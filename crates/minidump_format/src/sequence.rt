@@ -1,0 +1,164 @@
+ghost use Rattle.std.specs.Prelude.{◌≡◌, ℕ, List, [], IfErr, length};
+ghost use Rattle.std.specs.Iterator.{IsFinite};
+ghost use Rattle.std.specs.List.{enumerate_from, flat_map};
+ghost use Rattle.std.proofs.lemmas.Iterator.{YieldsList};
+ghost use Rattle.minidump_format.specs.Numbered.{numbered_item, numbered_list};
+ghost use Rattle.minidump_format.specs.Print.{Prints};
+
+use crate::print::put_bytes;
+use crate::{Error, Pushed, print_item};
+use minidump_bytes::{Piece, Told, push_pieces};
+use std::alloc::{AllocError, Global};
+use std::io::Write;
+
+// The number of bytes at which a block is written. What waits is shorter.
+const BLOCK: usize = 32768;
+
+/// Prints what an iterator yields, in blocks of some 32 KiB. Stops at the first error. If there is nothing, the
+/// only error is [`Error::IoError`].
+pub fn print_all<I: Iterator + Drop, W: Write>(
+    items: I,
+    alloc: Global,
+    f: &mut Told<W>,
+) -> Result<(), Error>
+where
+    I::Item: Pushed + Drop,
+    requires can { I.can_next items }
+    requires ends { IsFinite (I.remaining items) }
+    ensures prints { (texts : List (List ℕ)) → YieldsList I.next_gives I.Item.text items texts
+        → Prints W.contents f.old f.new (flat_map (λ t. t) texts) result }
+    ensures none { YieldsList I.next_gives I.Item.text items [] → IfErr result (λ e. e ≡ Error.IoError) }
+{
+    if f.failed() {
+        return Err(Error::IoError);
+    }
+    let mut block = Vec::new(alloc);
+    for item in items {
+        match item.push(&mut block) {
+            Ok(()) => {}
+            Err(AllocError) => return Err(Error::OutOfMemory),
+        }
+        if block.len() >= BLOCK {
+            put_bytes(f, block.as_slice())?;
+            block.clear();
+        }
+    }
+    put_bytes(f, block.as_slice())
+}
+
+/// Prints a heading with the number of items, and then the items in order, each after a line of the name and its
+/// index.
+pub fn print_numbered<'a, T: Pushed, W: Write>(
+    heading: &str,
+    name: &'a str,
+    items: &'a [T],
+    alloc: Global,
+    f: &mut Told<W>,
+) -> Result<(), Error>
+    ensures { Prints W.contents f.old f.new (numbered_list heading.now name.now T.text items.now) result }
+{
+    let numbered = items.iter().enumerate();
+    print_numbered_all(heading, name, items.len(), numbered, alloc, f)
+}
+
+/// Prints a heading with a count, and then the values that an iterator yields with their indexes, each after a line
+/// of the name and its index.
+pub fn print_numbered_all<T: Pushed + Drop, I: Iterator<Item = (usize, T)> + Drop, W: Write>(
+    heading: &str,
+    name: &str,
+    count: usize,
+    items: I,
+    alloc: Global,
+    f: &mut Told<W>,
+) -> Result<(), Error>
+    requires can { I.can_next items }
+    requires ends { IsFinite (I.remaining items) }
+    ensures { (texts : List (List ℕ)) → YieldsList {B = ℕ × List ℕ} I.next_gives (λ p. (p.0, T.text p.1)) items (enumerate_from 0 texts)
+        → count ≡ length texts → Prints W.contents f.old f.new (numbered_list heading.now name.now (λ t. t) texts) result }
+{
+    print_item(
+        &Heading {
+            words: heading,
+            count,
+        },
+        alloc,
+        f,
+    )?;
+    print_lines(name, items, alloc, f)
+}
+
+// Prints values that come with their indexes, each after a line of the name and its index.
+fn print_lines<T: Pushed + Drop, I: Iterator<Item = (usize, T)> + Drop, W: Write>(
+    name: &str,
+    items: I,
+    alloc: Global,
+    f: &mut Told<W>,
+) -> Result<(), Error>
+    requires can { I.can_next items }
+    requires ends { IsFinite (I.remaining items) }
+    ensures { (all : List (ℕ × List ℕ)) → YieldsList {B = ℕ × List ℕ} I.next_gives (λ p. (p.0, T.text p.1)) items all
+        → Prints W.contents f.old f.new (flat_map (numbered_item name.now (λ t. t)) all) result }
+{
+    let lines = items.map(|(index, value)| Numbered { name, index, value });
+    print_all(lines, alloc, f)
+}
+
+/// A heading that ends with a count, and an empty line.
+#[derive(Drop)]
+pub struct Heading<'a> {
+    pub words: &'a str,
+    pub count: usize,
+}
+
+impl<'a> Pushed for Heading<'a> {
+    ghost use Rattle.minidump_format.specs.Numbered.{count_text};
+
+    ghost text = { λ h. count_text h.words.now h.count };
+
+    #[rattlefmt::skip]
+    #[tactic(auto, unfolding(crate::specs::Numbered::count_text))]
+    fn push(&self, out: &mut Vec<u8>) -> Result<(), AllocError> {
+        push_pieces(out, &[Piece::Words(self.words), Piece::Decimal(self.count as u64), Piece::Words("\n\n")])
+    }
+}
+
+/// A value after a line of a name and its index.
+#[derive(Drop)]
+pub struct Numbered<'a, T> {
+    pub name: &'a str,
+    pub index: usize,
+    pub value: T,
+}
+
+impl<'a, T: Pushed> Pushed for Numbered<'a, T> {
+    ghost use Rattle.minidump_format.specs.Numbered.{index_line, numbered_item};
+
+    ghost text = { λ n. numbered_item n.name.now T.text (n.index, n.value) };
+
+    #[rattlefmt::skip]
+    #[tactic(auto, unfolding(crate::specs::Numbered::index_line))]
+    fn push(&self, out: &mut Vec<u8>) -> Result<(), AllocError> {
+        push_pieces(out, &[Piece::Words(self.name), Piece::Words("["), Piece::Decimal(self.index as u64), Piece::Words("]\n")])?;
+        self.value.push(out)
+    }
+}
+
+impl<'r, T: Pushed> Pushed for &'r T {
+    ghost text = { λ r. T.text r.now };
+
+    fn push(&self, out: &mut Vec<u8>) -> Result<(), AllocError> {
+        (**self).push(out)
+    }
+}
+
+/// Pieces of text, one after another.
+impl<'r, 'p> Pushed for &'r [Piece<'p>] {
+    ghost use Rattle.std.specs.List.{flat_map};
+    ghost use Rattle.minidump_bytes.specs.Piece.{piece_text};
+
+    ghost text = { λ pieces. flat_map piece_text pieces.now };
+
+    fn push(&self, out: &mut Vec<u8>) -> Result<(), AllocError> {
+        push_pieces(out, self)
+    }
+}
