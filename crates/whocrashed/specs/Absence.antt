@@ -13,6 +13,10 @@ is_missing e = false
 abbrev pub absent_text : List ℕ → Error → List ℕ
 absent_text name e = if is_missing e then codes "no " ++ name else name ++ codes ": " ++ refusal_name e
 
+-- the line of bytes that are not in the file
+abbrev pub outside_text : List ℕ → List ℕ
+outside_text name = name ++ codes " is outside the file"
+
 -- whether a page is damaged behind a stream with this error, if it has one, by whether it was before
 abbrev pub damaged_by : Option Error → Bool → Bool
 damaged_by None before = before

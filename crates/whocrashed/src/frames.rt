@@ -5,26 +5,33 @@ ghost use Rattle.minidump.specs.Promise.{module_list_stream};
 ghost use Rattle.whocrashed.specs.Escape.{line_of};
 ghost use Rattle.whocrashed.specs.Frames.{frame_text, trust_text};
 
+use crate::options::Limits;
 use crate::page::Page;
+use crate::symbols::NamedModules;
 use minidump::text::Piece;
 use minidump::{MinidumpModuleList, Module};
 use stack_walk::{FrameTrust, StackFrame};
 use std::alloc::AllocError;
 
-// Adds the lines of the first frames, as many as are asked for, and how many there are beyond them.
+// Adds the lines of the first frames, as many as are asked for, and how many there are beyond them. Takes down which modules
+// the lines name.
 pub(crate) fn add_frames(
     page: &mut Page,
+    named: &mut NamedModules,
     frames: &[StackFrame],
     modules: &MinidumpModuleList,
-    shown: usize,
+    limits: &Limits,
 ) -> Result<(), AllocError> {
     for (number, frame) in frames.iter().enumerate() {
-        if number < shown {
+        if number < limits.frames {
             add_frame(page, number, frame, modules)?;
+            if let Some(module) = frame.module(modules) {
+                named.add(module)?;
+            }
         }
     }
-    let hidden = frames.len().saturating_sub(shown);
-    if shown > 1 && hidden > 0 {
+    let hidden = frames.len().saturating_sub(limits.frames);
+    if limits.says_more && hidden > 0 {
         page.line(&[
             Piece::Words("    and "),
             Piece::Decimal(hidden as u64),

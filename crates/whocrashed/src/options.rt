@@ -6,14 +6,11 @@ pub(crate) struct Limits {
     pub(crate) frames: usize,
     pub(crate) scan: usize,
     pub(crate) all_threads: bool,
+    // whether a line says how many frames there are beyond these
+    pub(crate) says_more: bool,
 }
 
 impl Limits {
-    // Returns the limits of the thread that crashed.
-    pub(crate) fn of_crashed(limits: &Limits) -> Limits {
-        *limits
-    }
-
     // Returns the limits of the other threads: the first frame alone, unless all are asked for.
     pub(crate) fn of_others(limits: &Limits) -> Limits {
         if limits.all_threads {
@@ -23,6 +20,7 @@ impl Limits {
                 frames: 1,
                 scan: 0,
                 all_threads: false,
+                says_more: false,
             }
         }
     }
@@ -79,6 +77,7 @@ impl<'w> Options<'w> {
                 frames: 64,
                 scan: 16,
                 all_threads: false,
+                says_more: true,
             },
             names: None,
             dumps: Vec::new(alloc),

@@ -3,7 +3,7 @@ ghost use Rattle.std.specs.List.{flat_map, list_all};
 ghost use Rattle.std.specs.Option.{option_copied};
 ghost use Rattle.minidump.specs.Below.Bytes.Piece.{piece_text};
 ghost use Rattle.whocrashed.specs.Escape.{is_printed, line_of};
-ghost use Rattle.whocrashed.specs.Absence.{absent_text, damaged_by, is_missing};
+ghost use Rattle.whocrashed.specs.Absence.{absent_text, damaged_by, is_missing, outside_text};
 
 use crate::escape::push_escaped;
 use minidump::Error;
@@ -69,6 +69,15 @@ impl Page {
             Piece::Words(": "),
             Piece::Words(error.name()),
         ])
+    }
+
+    // Adds the line of bytes that are wanted and not in the file, which is damage.
+    pub(crate) fn outside(&mut self, name: &str) -> Result<(), AllocError>
+        ensures text { OnOk result (string_bytes self.new.text ≡ string_bytes self.old.text ++ line_of (outside_text name.now)) }
+        ensures damage { self.new.is_damaged ≡ true }
+    {
+        self.is_damaged = true;
+        self.line(&[Piece::Words(name), Piece::Words(" is outside the file")])
     }
 
     // Adds the line of a stream that can't be read, and none for one that is missing.

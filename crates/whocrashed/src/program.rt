@@ -15,6 +15,10 @@ const USAGE: &str = "usage: whocrashed [--names FILE] [--all-threads] [--frames 
   --help         this text
   --version      the version
 For example: whocrashed --names names/windows.names crash.dmp
+It prints of each dump: the system and the process; the thread, the address, the reason and the registers
+of the crash, and the frames of that thread; an assertion, Crashpad's annotations and macOS's messages; the
+first frame of each other thread; and the modules that these lines name, with what a symbol server is asked
+by. The status is 1 if a part of that is there, but can't be read.
 ";
 
 /// Runs the program with its arguments, without its own name, and returns the status: 0; 1 where a dump, a file or the

@@ -2,10 +2,11 @@ ghost use Rattle.std.specs.Prelude.{IfOk, IsOkUnless};
 ghost use Rattle.minidump.specs.Below.Format.Answer.{Gives};
 ghost use Rattle.minidump.specs.Dump.{stream_of};
 ghost use Rattle.minidump.specs.DumpValue.{dump_of};
-ghost use Rattle.minidump.specs.Promise.{exception_stream, module_list_stream, system_info_stream, thread_list_stream, thread_names_stream};
+ghost use Rattle.minidump.specs.Promise.{assertion_stream, crashpad_info_stream, exception_stream, mac_crash_info_stream, misc_info_stream, module_list_stream, system_info_stream, thread_list_stream, thread_names_stream};
 
 use minidump::{
-    Error, Minidump, MinidumpException, MinidumpModuleList, MinidumpStream, MinidumpSystemInfo,
+    Error, Minidump, MinidumpAssertion, MinidumpCrashpadInfo, MinidumpException,
+    MinidumpMacCrashInfo, MinidumpMiscInfo, MinidumpModuleList, MinidumpStream, MinidumpSystemInfo,
     MinidumpThreadList, MinidumpThreadNames,
 };
 use std::alloc::Global;
@@ -18,6 +19,10 @@ pub(crate) struct Streams<'a> {
     pub(crate) threads: Result<MinidumpThreadList<'a>, Error>,
     pub(crate) names: Result<MinidumpThreadNames, Error>,
     pub(crate) modules: Result<MinidumpModuleList, Error>,
+    pub(crate) misc: Result<MinidumpMiscInfo, Error>,
+    pub(crate) assertion: Result<MinidumpAssertion, Error>,
+    pub(crate) crashpad: Result<MinidumpCrashpadInfo, Error>,
+    pub(crate) mac: Result<MinidumpMacCrashInfo, Error>,
 }
 
 // Reads the streams of a dump. The only error is `OutOfMemory`.
@@ -27,6 +32,10 @@ pub(crate) fn streams_of<'a>(alloc: Global, dump: &Minidump<'a>) -> Result<Strea
     ensures threads { IfOk result (λ s. Gives thread_list_stream.value ⊥ s.threads (stream_of thread_list_stream (dump_of dump.now))) }
     ensures names { IfOk result (λ s. Gives thread_names_stream.value ⊥ s.names (stream_of thread_names_stream (dump_of dump.now))) }
     ensures modules { IfOk result (λ s. Gives module_list_stream.value ⊥ s.modules (stream_of module_list_stream (dump_of dump.now))) }
+    ensures misc { IfOk result (λ s. Gives misc_info_stream.value ⊥ s.misc (stream_of misc_info_stream (dump_of dump.now))) }
+    ensures assertion { IfOk result (λ s. Gives assertion_stream.value ⊥ s.assertion (stream_of assertion_stream (dump_of dump.now))) }
+    ensures crashpad { IfOk result (λ s. Gives crashpad_info_stream.value ⊥ s.crashpad (stream_of crashpad_info_stream (dump_of dump.now))) }
+    ensures mac { IfOk result (λ s. Gives mac_crash_info_stream.value ⊥ s.mac (stream_of mac_crash_info_stream (dump_of dump.now))) }
     ensures memory { IsOkUnless result Error.OutOfMemory }
 {
     let system = find(alloc, dump)?;
@@ -34,12 +43,20 @@ pub(crate) fn streams_of<'a>(alloc: Global, dump: &Minidump<'a>) -> Result<Strea
     let threads = find(alloc, dump)?;
     let names = find(alloc, dump)?;
     let modules = find(alloc, dump)?;
+    let misc = find(alloc, dump)?;
+    let assertion = find(alloc, dump)?;
+    let crashpad = find(alloc, dump)?;
+    let mac = find(alloc, dump)?;
     Ok(Streams {
         system,
         exception,
         threads,
         names,
         modules,
+        misc,
+        assertion,
+        crashpad,
+        mac,
     })
 }
 
