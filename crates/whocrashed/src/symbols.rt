@@ -2,37 +2,31 @@ use crate::page::Page;
 use minidump::text::{Piece, made};
 use minidump::{Error, MinidumpModule, MinidumpModuleList, Module};
 use std::alloc::{AllocError, Global};
+use std::collections::BTreeSet;
 
 /// The modules that printed lines name, each by its base address, which no other kept module has.
 #[derive(Drop)]
 pub(crate) struct NamedModules {
-    bases: Vec<u64>,
+    bases: BTreeSet<u64>,
 }
 
 impl NamedModules {
     pub(crate) fn new(alloc: Global) -> NamedModules {
         NamedModules {
-            bases: Vec::new(alloc),
+            bases: BTreeSet::new(alloc),
         }
     }
 
     // Adds a kept module, unless it is there.
     pub(crate) fn add(&mut self, module: &MinidumpModule) -> Result<(), AllocError> {
-        let base = module.base_address();
-        if !self.bases.as_slice().contains(&base) {
-            self.bases.push(base)?;
-        }
+        self.bases.insert(module.base_address())?;
         Ok(())
     }
 
     // Tells whether a module is there, and takes it out.
     fn take(&mut self, modules: &MinidumpModuleList, module: &MinidumpModule) -> bool {
         let base = module.base_address();
-        if !self.bases.as_slice().contains(&base) || !is_kept(modules, module) {
-            return false;
-        }
-        self.bases.retain(|named| *named != base);
-        true
+        self.bases.contains(&base) && is_kept(modules, module) && self.bases.remove(&base)
     }
 }
 
