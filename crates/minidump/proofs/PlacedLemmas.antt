@@ -1,4 +1,4 @@
--- Threads that are printed behind their places: the next one, and those behind it.
+-- Threads that are printed with their indexes: the next one, and those after it.
 use Rattle.std.specs.Prelude.{◌≡◌, ℕ, suc, ◌+◌, ◌<◌, List, ◌++◌, Option, Result, Err, IsErrAnd, length, get_or, drop, map}
 use Rattle.std.proofs.Common.{drop-cons, subst, ap, ◌∙◌, arith}
 use Rattle.std.specs.List.{enumerate_from, flat_map}

@@ -1,13 +1,17 @@
--- The last item of a list that passes a test.
-use Rattle.std.proofs.Common.{◌≡◌, ◌≢◌, ℕ, Bool, true, false, cond, List, [], ◌∷◌, ◌++◌, map, reverse, Option, Some, None, refl, ap, sym, ◌∙◌, arith}
+-- The last item of a list that passes a test, and the threads of entries.
+use Rattle.std.proofs.Common.{◌≡◌, ◌≢◌, ℕ, Bool, true, false, cond, List, [], ◌∷◌, ◌++◌, length, map, reverse, Ok, Option, Some, None, refl, ap, sym, ◌∙◌, arith}
 use Rattle.std.specs.Prelude.{find, ◌==◌, All, ◌↔◌}
 use Rattle.std.specs.Option.{option_map, option_or}
 use Rattle.std.proofs.lemmas.Bool.{eqb-true, ne_eqb, eq-eqb}
-use Rattle.std.proofs.lemmas.List.{reverse-append}
+use Rattle.std.proofs.lemmas.List.{length-map, reverse-append}
 use Rattle.std.proofs.lemmas.List.Elements.{All-cons, All-head, All-tail}
 use Rattle.std.proofs.lemmas.List.Folds.{find-append}
+use Rattle.minidump_bytes.specs.declared.endian.Endian.{Endian}
+use Rattle.minidump_format.specs.declared.format.thread.MINIDUMP_THREAD.{MINIDUMP_THREAD}
+use Rattle.minidump_system.specs.Reads.{all_kept}
+use Rattle.minidump_system.proofs.KeptLemmas.{kept_mapped}
 use Rattle.minidump.specs.declared.thread.MinidumpThread.{MinidumpThread}
-use Rattle.minidump.specs.Thread.{IsLastThread, Thread, thread_of}
+use Rattle.minidump.specs.Thread.{IsLastThread, Thread, thread_at, thread_of}
 
 module _ {X : Type 0} (p : X → Bool) where
   -- it is in the rest, or it is the first
@@ -99,3 +103,16 @@ found_as_value id (x ∷ xs) =
     go (Some t) b = refl
     go None true = refl
     go None false = refl
+
+-- each entry becomes its thread
+pub kept_threads : (order : Endian) (file : List ℕ) (raws : List MINIDUMP_THREAD)
+    → all_kept (λ raw. Ok (Some (thread_at order file raw))) raws ≡ Ok (map (thread_at order file) raws)
+kept_threads order file raws = kept_mapped (thread_at order file) raws
+
+-- so that there are as many threads as entries
+pub as_many_threads : (order : Endian) (file : List ℕ) (raws : List MINIDUMP_THREAD) (threads : List Thread)
+    → all_kept (λ raw. Ok (Some (thread_at order file raw))) raws ≡ Ok threads → length threads ≡ length raws
+as_many_threads order file raws threads is =
+    let both : Ok (map (thread_at order file) raws) ≡ Ok threads = sym (kept_threads order file raws) ∙ is in
+    let same : map (thread_at order file) raws ≡ threads = cc in
+    rw (← same) (length-map raws (thread_at order file))

@@ -1,13 +1,14 @@
 -- The printed texts of threads and of their list, with the context and the stack of each.
 use Rattle.std.specs.Prelude.{ℕ, ◌*◌, ◌/◌, Bool, List, [], ◌∷◌, ◌++◌, length, codes, Option, Some, None, if◌then◌else◌}
 use Rattle.std.specs.Fmt.{decimal}
-use Rattle.std.specs.List.{concat, enumerate_from, flat_map, range_with_len}
-use Rattle.std.specs.Option.{option_and_then}
+use Rattle.std.specs.List.{concat, flat_map, range_with_len}
+use Rattle.std.specs.Option.{option_and_then, option_map}
 use Rattle.minidump_bytes.specs.declared.endian.Endian.{Endian}
 use Rattle.minidump_bytes.specs.Number.{number_at}
 use Rattle.minidump_bytes.specs.Piece.{hex, wide_hex}
 use Rattle.minidump_format.specs.declared.format.memory.MINIDUMP_MEMORY_DESCRIPTOR.{MINIDUMP_MEMORY_DESCRIPTOR}
 use Rattle.minidump_format.specs.declared.format.thread.MINIDUMP_THREAD.{MINIDUMP_THREAD}
+use Rattle.minidump_format.specs.Numbered.{numbered_list}
 use Rattle.minidump_format.specs.Text.{line_end}
 use Rattle.minidump_system.specs.Cpu.{width_of}
 use Rattle.minidump_system.specs.declared.cpu.PointerWidth.{PointerWidth}
@@ -19,6 +20,7 @@ use Rattle.minidump_memory.specs.Memory.{MemoryRegion, region_range}
 use Rattle.minidump_memory.specs.Unified.{Memory, UnifiedRegion, UnifiedRegions, of_kind, unified_regions}
 use Rattle.minidump.specs.LookedUp.{looked_up}
 use Rattle.minidump.specs.Thread.{Thread, known_context}
+use Rattle.minidump.specs.declared.thread.print.ThreadHead.{ThreadHead}
 
 -- MINIDUMP_THREAD: the numbers of the entry
 unfoldable pub thread_head : MINIDUMP_THREAD → List ℕ
@@ -45,6 +47,10 @@ no_thread_context = codes "  (no context)\n\n"
 abbrev pub thread_context_text : Option MinidumpRawContext → List ℕ
 thread_context_text (Some c) = context_text c
 thread_context_text None = no_thread_context
+
+-- what a `ThreadHead` prints: the entry and the context
+abbrev pub thread_head_of : ThreadHead → List ℕ
+thread_head_of h = thread_head h.raw.now ++ thread_context_text (option_map (λ c. c.raw) h.context)
 
 -- the bytes of a word: those of a pointer, and 8 where its width is unknown
 abbrev pub word_bytes : PointerWidth → ℕ
@@ -108,23 +114,7 @@ thread_with t context brief width stack =
 abbrev pub thread_text : Option UnifiedRegions → Option System → Bool → Thread → List ℕ
 thread_text memory system brief t = thread_with t (known_context system t.order t.context) brief (pointer_width system) (stack_of memory t)
 
--- the line of a thread's place in the list
-unfoldable pub place_line : ℕ → List ℕ
-place_line place = concat (codes "thread[" ∷ decimal place ∷ codes "]\n" ∷ [])
-
--- the text of a thread at its place in the list
-unfoldable pub placed_thread_text : Option UnifiedRegions → Option System → Bool → ℕ → Thread → List ℕ
-placed_thread_text memory system brief place t = place_line place ++ thread_text memory system brief t
-
--- the heading of MINIDUMP_THREAD_LIST, with the number of its threads
-unfoldable pub thread_list_heading : ℕ → List ℕ
-thread_list_heading count = concat (codes "MinidumpThreadList\n  thread_count = " ∷ decimal count ∷ codes "\n\n" ∷ [])
-
--- the texts of threads, numbered from a place on
-abbrev pub threads_from : Option UnifiedRegions → Option System → Bool → ℕ → List Thread → List ℕ
-threads_from memory system brief place threads =
-    flat_map (λ r. placed_thread_text memory system brief r.0 r.1) (enumerate_from place threads)
-
 -- the printed text of the list of threads
 abbrev pub thread_list_text : Option UnifiedRegions → Option System → Bool → List Thread → List ℕ
-thread_list_text memory system brief threads = thread_list_heading (length threads) ++ threads_from memory system brief 0 threads
+thread_list_text memory system brief threads =
+    numbered_list (codes "MinidumpThreadList\n  thread_count = ") (codes "thread") (thread_text memory system brief) threads

@@ -24,11 +24,12 @@ ghost use Rattle.minidump_memory.specs.Memory.{MemoryRegion, memory_of, region_r
 ghost use Rattle.minidump_memory.specs.MemoryInfo.{MemoryInfo, info_of, infos_of};
 ghost use Rattle.minidump_memory.specs.MemoryList.{regions_of};
 ghost use Rattle.minidump_memory.specs.Unified.{UnifiedRegion};
+ghost use Rattle.minidump_memory.specs.UnifiedInfo.{InfoRegion, info_region_range};
 ghost use Rattle.minidump_modules.specs.declared.module_list.MinidumpModuleList.{MinidumpModuleList};
 ghost use Rattle.minidump_modules.specs.declared.unloaded_module.MinidumpUnloadedModule.{MinidumpUnloadedModule};
 ghost use Rattle.minidump_modules.specs.CodeId.{text_of};
 ghost use Rattle.minidump_modules.specs.DebugId.{breakpad_text, debug_id_text};
-ghost use Rattle.minidump_modules.specs.Module.{ModuleValue, module_of};
+ghost use Rattle.minidump_modules.specs.Module.{ModuleValue, module_of, value_range};
 ghost use Rattle.minidump_modules.specs.ModuleList.{modules_of};
 ghost use Rattle.minidump_modules.specs.UnloadedModule.{UnloadedValue, unloaded_of};
 ghost use Rattle.minidump_records.specs.declared.handles.data_stream.MinidumpHandleDataStream.{MinidumpHandleDataStream};
@@ -180,10 +181,14 @@ pub fn one_last_thread()
     ensures exists { (id : ℕ) (threads : List Thread) → (last : Option Thread) × IsLastThread id threads last }
 {}
 
-/// The region of memory that the report has of an address is the one that a lookup returns.
+/// The region of memory, the module and the information that `looked_up` has of an address are the ones that a lookup returns.
 pub fn a_report_has_what_a_lookup_returns()
-    ensures { (regions : List UnifiedRegion) (address : ℕ) (found : Option UnifiedRegion)
+    ensures regions { (regions : List UnifiedRegion) (address : ℕ) (found : Option UnifiedRegion)
         → IsLookedUp region_range regions address found ↔ (found ≡ looked_up region_range regions address) }
+    ensures modules { (modules : List ModuleValue) (address : ℕ) (found : Option ModuleValue)
+        → IsLookedUp value_range modules address found ↔ (found ≡ looked_up value_range modules address) }
+    ensures infos { (infos : List InfoRegion) (address : ℕ) (found : Option InfoRegion)
+        → IsLookedUp info_region_range infos address found ↔ (found ≡ looked_up info_region_range infos address) }
 {}
 
 /// The system information is read as the dump has it: its stream, where that parses.

@@ -1,5 +1,4 @@
 ghost use Rattle.std.specs.Prelude.{◌++◌};
-ghost use Rattle.std.specs.List.{flat_map};
 ghost use Rattle.minidump_format.specs.Print.{Prints};
 ghost use Rattle.minidump.specs.Crash.{crash_text};
 ghost use Rattle.minidump.specs.DumpValue.{dump_of};
@@ -93,8 +92,7 @@ fn print_report<W: Write>(
     print_streams(dump, &streams, names, alloc, f)
 }
 
-// Prints what follows the directory.
-#[tactic(auto, using(minidump_format::proofs::Printing::prints_then, minidump_format::proofs::Printing::prints_exit))]
+// Prints the sections in order, and then the crash. Stops at the first error of the writer or of an allocation.
 fn print_streams<W: Write>(
     dump: &Minidump<'_>,
     streams: &SharedStreams<'_>,
@@ -105,41 +103,13 @@ fn print_streams<W: Write>(
     requires { AreShared (dump_of dump.now) streams.now }
     ensures { Prints W.contents f.old f.new (sections_text (dump_of dump.now) ++ crash_text names.now (dump_of dump.now)) result }
 {
-    print_sections(dump, streams, alloc, f)?;
-    print_crash(dump, streams, names, alloc, f)
-}
-
-#[tactic(auto, unfolding(crate::specs::Report::sections_text))]
-fn print_sections<W: Write>(
-    dump: &Minidump<'_>,
-    streams: &SharedStreams<'_>,
-    alloc: Global,
-    f: &mut Told<W>,
-) -> Result<(), Error>
-    requires { AreShared (dump_of dump.now) streams.now }
-    ensures { Prints W.contents f.old f.new (sections_text (dump_of dump.now)) result }
-{
-    print_each(&SECTIONS, dump, streams, alloc, f)
-}
-
-// Prints sections in order. Stops at the first error of the writer or of an allocation.
-fn print_each<W: Write>(
-    sections: &[Section],
-    dump: &Minidump<'_>,
-    streams: &SharedStreams<'_>,
-    alloc: Global,
-    f: &mut Told<W>,
-) -> Result<(), Error>
-    requires { AreShared (dump_of dump.now) streams.now }
-    ensures { Prints W.contents f.old f.new (flat_map (section_text (dump_of dump.now)) sections.now) result }
-{
     if f.failed() {
         return Err(Error::IoError);
     }
-    for section in sections {
-        print_one(*section, dump, streams, alloc, f)?;
+    for section in SECTIONS {
+        print_section(section, dump, streams, alloc, f)?;
     }
-    Ok(())
+    print_crash(dump, streams, names, alloc, f)
 }
 
 // Prints a stream, or what it adds to the report if it can't be read.
@@ -152,7 +122,7 @@ macro_rules! print_stream {
     };
 }
 
-fn print_one<W: Write>(
+fn print_section<W: Write>(
     section: Section,
     dump: &Minidump<'_>,
     streams: &SharedStreams<'_>,
@@ -179,14 +149,14 @@ fn print_one<W: Write>(
             print_stream!($type, dump.get_stream::<$type>(alloc), dump, alloc, f)
         };
     }
-    macro_rules! print_section {
+    macro_rules! print_arms {
         ($($name:ident: $type:ty, $reads:ident;)*) => {
             match section {
                 $(Section::$name => print_arm!($name, $type),)*
             }
         };
     }
-    each_stream!(print_section)
+    each_stream!(print_arms)
 }
 
 fn print_threads<W: Write>(

@@ -23,7 +23,9 @@ pub fn one_list_of_thread_frames()
     ensures one { (p : ProcessValue) (t : Thread) (limit : ℕ) (frames other : List StackFrame) → AreThreadFrames p t limit frames
         → AreThreadFrames p t limit other → other ≡ frames }
     ensures exists { (p : ProcessValue) (t : Thread) (limit : ℕ) → (frames : List StackFrame) × AreThreadFrames p t limit frames }
-{}
+{
+    minidump::laws::a_report_has_what_a_lookup_returns();
+}
 
 /// Each frame but the first has its evidence.
 pub fn each_caller_has_its_evidence()

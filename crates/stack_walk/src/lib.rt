@@ -21,7 +21,7 @@
 //! - The module of a frame and the offset in it are looked up at the instruction pointer of a context, and else at the
 //!   return address less one: [`StackFrame::module`], [`StackFrame::module_offset`].
 //!
-//! The proofs use the contracts of `minidump`, and its lemma that a lookup returns what the definition `looked_up` has.
+//! The proofs use the contracts and the laws of `minidump`, and nothing below.
 #![tactic(auto)]
 
 ghost use Rattle.std.specs.Prelude.{◌≡◌, IfOk, IsOkUnless};

@@ -6,7 +6,9 @@ ghost use Rattle.minidump.specs.LookedUp.{looked_up};
 ghost use Rattle.minidump.specs.Promise.{module_list_stream};
 ghost use Rattle.stack_walk.specs.Lookups.{call_site, is_code, may_be_run, module_offset_at};
 
-use minidump::{MinidumpModule, MinidumpModuleList, UnifiedMemoryInfo, UnifiedMemoryInfoList};
+use minidump::{
+    MinidumpModule, MinidumpModuleList, UnifiedMemoryInfo, UnifiedMemoryInfoList, laws,
+};
 
 // Returns the address before a return address, which lies in the call.
 pub(crate) fn call_site(address: u64) -> Option<u64>
@@ -20,6 +22,7 @@ pub(crate) fn module_at(modules: &MinidumpModuleList, address: u64) -> Option<&M
     ensures found { option_map module_of (option_copied result) ≡ looked_up value_range (module_list_stream.value modules.now) address }
     ensures inside { IfSome result (λ m. m.now.raw.base_of_image ≤ address) }
 {
+    laws::a_report_has_what_a_lookup_returns();
     modules.module_at_address(address)
 }
 
@@ -45,6 +48,7 @@ fn info_at<'l, 'a>(
 ) -> Option<UnifiedMemoryInfo<'l, 'a>>
     ensures { option_map info_region result ≡ looked_up info_region_range (info_regions (info_list infos.now)) address }
 {
+    laws::a_report_has_what_a_lookup_returns();
     infos.memory_info_at_address(address)
 }
 

@@ -1,18 +1,19 @@
-ghost use Rattle.std.specs.Prelude.{◌≡◌, ◌++◌, OnOk};
+ghost use Rattle.std.specs.Prelude.{◌≡◌, ◌++◌, OnOk, codes};
 ghost use Rattle.std.specs.Option.{option_copied, option_map};
+ghost use Rattle.minidump_format.specs.Numbered.{numbered_item};
 ghost use Rattle.minidump_format.specs.Print.{Prints};
 ghost use Rattle.minidump_format.specs.Text.{line_end};
 ghost use Rattle.minidump_system.specs.SystemInfo.{system_info_of};
 ghost use Rattle.minidump_memory.specs.Unified.{unified_list, unified_region};
-ghost use Rattle.minidump.specs.Thread.{thread_of};
-ghost use Rattle.minidump.specs.ThreadText.{listed_stack, no_stack, no_thread_context, pointer_width, stack_heading, stack_of, stack_text, thread_context_text, thread_end, thread_head, thread_text, thread_with, words_text};
+ghost use Rattle.minidump.specs.Thread.{known_context, thread_of};
+ghost use Rattle.minidump.specs.ThreadText.{listed_stack, no_stack, no_thread_context, pointer_width, stack_heading, stack_of, stack_text, thread_context_text, thread_end, thread_head, thread_head_of, thread_text, words_text};
 
 use super::stack::print_words;
 use super::{MinidumpThread, known_context};
 use minidump_bytes::{Endian, Piece, Told, push_pieces};
 use minidump_context::MinidumpContext;
 use minidump_format::format::MINIDUMP_THREAD;
-use minidump_format::{Error, Pushed, print_item, print_line_end, put_text};
+use minidump_format::{Error, Numbered, Pushed, print_item, print_line_end, put_text};
 use minidump_memory::{UnifiedMemory, UnifiedMemoryList};
 use minidump_system::{MinidumpMiscInfo, MinidumpSystemInfo, PointerWidth};
 use std::alloc::{AllocError, Global};
@@ -34,10 +35,65 @@ impl<'a> MinidumpThread<'a> {
         ensures { Prints W.contents f.old f.new (thread_text (option_map unified_list (option_copied memory.entry))
             (option_map system_info_of (option_copied system.entry)) brief (thread_of self.now)) result }
     {
-        let context = known_context(self.context, self.endian, system, misc);
+        self.print_after(&self.head(system, misc), alloc, f, memory, system, brief)
+    }
+
+    // Prints as `print` does, after a line with the index in the list.
+    pub(crate) fn print_numbered<W: Write>(
+        &self,
+        index: usize,
+        alloc: Global,
+        f: &mut Told<W>,
+        memory: Option<&UnifiedMemoryList<'a>>,
+        system: Option<&MinidumpSystemInfo>,
+        misc: Option<&MinidumpMiscInfo>,
+        brief: bool,
+    ) -> Result<(), Error>
+        ensures { Prints W.contents f.old f.new (numbered_item (codes "thread") (thread_text (option_map unified_list (option_copied memory.entry))
+            (option_map system_info_of (option_copied system.entry)) brief) (index, thread_of self.now)) result }
+    {
+        let head = Numbered {
+            name: "thread",
+            index,
+            value: self.head(system, misc),
+        };
+        self.print_after(&head, alloc, f, memory, system, brief)
+    }
+
+    // Returns what is printed first: the entry, and the context as far as `system` decodes it.
+    pub(crate) fn head(
+        &self,
+        system: Option<&MinidumpSystemInfo>,
+        misc: Option<&MinidumpMiscInfo>,
+    ) -> ThreadHead<'_>
+        ensures { thread_head_of result ≡ thread_head (thread_of self.now).raw ++ thread_context_text
+            (known_context (option_map system_info_of (option_copied system.entry)) (thread_of self.now).order (thread_of self.now).context) }
+    {
+        ThreadHead {
+            raw: &self.raw,
+            context: known_context(self.context, self.endian, system, misc),
+        }
+    }
+
+    // Prints what comes first, and then an empty line where the text is brief, else the stack.
+    #[tactic(auto, using(minidump_format::proofs::Printing::prints_then, minidump_format::proofs::Printing::prints_exit))]
+    pub(crate) fn print_after<H: Pushed, W: Write>(
+        &self,
+        head: &H,
+        alloc: Global,
+        f: &mut Told<W>,
+        memory: Option<&UnifiedMemoryList<'a>>,
+        system: Option<&MinidumpSystemInfo>,
+        brief: bool,
+    ) -> Result<(), Error>
+        ensures { Prints W.contents f.old f.new (H.text head.now ++ thread_end brief (thread_of self.now).order
+            (pointer_width (option_map system_info_of (option_copied system.entry)))
+            (stack_of (option_map unified_list (option_copied memory.entry)) (thread_of self.now))) result }
+    {
+        print_item(head, alloc, f)?;
         let width = pointer_width(system);
         let stack = self.stack_in(memory);
-        self.print_with(context, brief, width, stack, alloc, f)
+        print_end(brief, self.endian, width, stack, alloc, f)
     }
 
     // Returns the memory of the stack.
@@ -52,23 +108,6 @@ impl<'a> MinidumpThread<'a> {
             Some(stack) => Some(UnifiedMemory::Memory(stack)),
             None => listed_stack(memory, self.raw.stack.start_of_memory_range),
         }
-    }
-
-    #[tactic(auto, using(minidump_format::proofs::Printing::prints_then, minidump_format::proofs::Printing::prints_exit))]
-    fn print_with<W: Write>(
-        &self,
-        context: Option<MinidumpContext>,
-        brief: bool,
-        width: PointerWidth,
-        stack: Option<UnifiedMemory<'_, '_>>,
-        alloc: Global,
-        f: &mut Told<W>,
-    ) -> Result<(), Error>
-        ensures { Prints W.contents f.old f.new (thread_with (thread_of self.now)
-            (option_map (λ c. c.raw) context) brief width (option_map unified_region stack.entry)) result }
-    {
-        print_head(&self.raw, context, alloc, f)?;
-        print_end(brief, self.endian, width, stack, alloc, f)
     }
 }
 
@@ -96,27 +135,15 @@ fn pointer_width(system: Option<&MinidumpSystemInfo>) -> PointerWidth
     }
 }
 
-fn print_head<W: Write>(
-    raw: &MINIDUMP_THREAD,
-    context: Option<MinidumpContext>,
-    alloc: Global,
-    f: &mut Told<W>,
-) -> Result<(), Error>
-    ensures { Prints W.contents f.old f.new
-        (thread_head raw.now ++ thread_context_text (option_map (λ c. c.raw) context)) result }
-{
-    print_item(&ThreadHead { raw, context }, alloc, f)
-}
-
 // The entry of a thread, and its context.
 #[derive(Drop)]
-struct ThreadHead<'a> {
+pub(crate) struct ThreadHead<'a> {
     raw: &'a MINIDUMP_THREAD,
     context: Option<MinidumpContext>,
 }
 
 impl<'a> Pushed for ThreadHead<'a> {
-    ghost text = { λ t. thread_head t.raw.now ++ thread_context_text (option_map (λ c. c.raw) t.context) };
+    ghost text = { thread_head_of };
 
     fn push(&self, out: &mut Vec<u8>) -> Result<(), AllocError> {
         push_entry(out, self.raw)?;

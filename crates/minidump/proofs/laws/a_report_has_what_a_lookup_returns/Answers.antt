@@ -1,7 +1,15 @@
 -- The lemma on the one answer of a lookup.
 use Rattle.minidump_memory.specs.Memory.{region_range}
+use Rattle.minidump_memory.specs.UnifiedInfo.{info_region_range}
+use Rattle.minidump_modules.specs.Module.{value_range}
 use Rattle.minidump.proofs.LookedUpLemmas.{answers_alone}
 use Rattle.minidump.proofs.laws.a_report_has_what_a_lookup_returns.Goals as goal
 
-pub returns : goal.returns
-returns c regions address found = answers_alone region_range regions address found
+pub returns-clause-regions : goal.returns-clause-regions
+returns-clause-regions c regions address found = answers_alone region_range regions address found
+
+pub returns-clause-modules : goal.returns-clause-modules
+returns-clause-modules c modules address found = answers_alone value_range modules address found
+
+pub returns-clause-infos : goal.returns-clause-infos
+returns-clause-infos c infos address found = answers_alone info_region_range infos address found
