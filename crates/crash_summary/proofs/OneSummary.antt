@@ -14,11 +14,12 @@ use Rattle.minidump.specs.Exception.{Exception}
 use Rattle.minidump.specs.Thread.{IsLastThread, IsStack, Thread}
 use Rattle.crash_summary.specs.declared.StackHit.{StackHit}
 use Rattle.crash_summary.specs.Summary.{IsModuleAt, IsStackOf, IsSummary, IsSummaryOf, Loaded, Summary, address_in, crash_pointer, crash_stack_pointer}
-use Rattle.crash_summary.specs.Summary.{loaded_at, memory_in, modules_in, reason_in, stack_at, threads_in}
+use Rattle.crash_summary.specs.Summary.{loaded_at, memory_in, modules_in, reason_in, stack_at, system_in, threads_in}
 
 same_parts : (one other : Summary) → one.thread ≡ other.thread → one.address ≡ other.address → one.reason ≡ other.reason
-    → one.instruction_pointer ≡ other.instruction_pointer → one.stack_pointer ≡ other.stack_pointer → one.loaded ≡ other.loaded → one.stack ≡ other.stack → one ≡ other
-same_parts one other thread address reason instruction_pointer stack_pointer loaded stack =
+    → one.instruction_pointer ≡ other.instruction_pointer → one.stack_pointer ≡ other.stack_pointer → one.loaded ≡ other.loaded → one.stack ≡ other.stack → one.system ≡ other.system
+    → one ≡ other
+same_parts one other thread address reason instruction_pointer stack_pointer loaded stack system =
     let same : ◌≡◌ {A = Summary}
     (record {
       thread = one.thread;
@@ -28,6 +29,7 @@ same_parts one other thread address reason instruction_pointer stack_pointer loa
       stack_pointer = one.stack_pointer;
       loaded = one.loaded;
       stack = one.stack;
+      system = one.system;
     })
     (record {
       thread = other.thread;
@@ -37,6 +39,7 @@ same_parts one other thread address reason instruction_pointer stack_pointer loa
       stack_pointer = other.stack_pointer;
       loaded = other.loaded;
       stack = other.stack;
+      system = other.system;
     }) =
     cc
     in same
@@ -89,7 +92,7 @@ module _ (module_laws : (modules : List ModuleValue) → HasRegionLaws value_ran
         let pointer : one.stack_pointer ≡ other.stack_pointer = x.stack_pointer ∙ sym (rw (← crashed) at y.stack_pointer) in
         let loaded : one.loaded ≡ other.loaded = one_module _ _ one.loaded other.loaded (rw crashed at x.loaded) y.loaded in
         let stack : one.stack ≡ other.stack = one_stack _ _ one.stack other.stack (rw crashed at x.stack) y.stack in
-        same_parts one other thread address reason instruction pointer loaded stack
+        same_parts one other thread address reason instruction pointer loaded stack (x.system ∙ sym y.system)
 
     -- a file has one summary at most
     pub one_summary : (file : List ℕ) (names : Lists) (one other : Summary) → IsSummaryOf file names one → IsSummaryOf file names other → one ≡ other
@@ -113,6 +116,7 @@ module _ (module_laws : (modules : List ModuleValue) → HasRegionLaws value_ran
           stack_pointer = crash_stack_pointer (dump_system d) (Some e) thread.0;
           loaded = loaded.0;
           stack = stack.0;
+          system = system_in (dump_system d);
         },
         record {
           thread = refl;
@@ -124,5 +128,6 @@ module _ (module_laws : (modules : List ModuleValue) → HasRegionLaws value_ran
           stack_pointer = refl;
           loaded = loaded.1;
           stack = stack.1;
+          system = refl;
         },
       )

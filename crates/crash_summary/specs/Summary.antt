@@ -20,6 +20,7 @@ use Rattle.minidump.specs.Memory.{memories_of_dump}
 use Rattle.minidump.specs.Promise.{exception_stream, module_list_stream, thread_list_stream}
 use Rattle.minidump.specs.Thread.{IsLastThread, IsStack, Thread, instruction_of, known_context}
 use Rattle.crash_summary.specs.declared.CrashSummary.{CrashSummary}
+use Rattle.crash_summary.specs.declared.CrashSystem.{CrashSystem}
 use Rattle.crash_summary.specs.declared.ModuleHit.{ModuleHit}
 use Rattle.crash_summary.specs.declared.StackHit.{StackHit}
 
@@ -35,7 +36,8 @@ pub record Loaded : Type 0 where
 abbrev pub loaded_of : ModuleHit → Loaded
 loaded_of hit = record { base = hit.base; size = hit.size; name = string_bytes hit.name }
 
--- the thread's id, the address, the text of the reason, the pointers of the context, the module, and the stack of the thread that crashed
+-- the thread's id, the address, the text of the reason, the pointers of the context, the module, the stack of the thread that crashed, and the
+-- system
 pub record Summary : Type 0 where
   pub thread : ℕ
   pub address : Option ℕ
@@ -44,6 +46,7 @@ pub record Summary : Type 0 where
   pub stack_pointer : Option ℕ
   pub loaded : Option Loaded
   pub stack : Option StackHit
+  pub system : Option CrashSystem
 
 -- the summary that a call returns
 abbrev pub summary_of : CrashSummary → Summary
@@ -55,6 +58,7 @@ summary_of s = record {
   stack_pointer = s.stack_pointer;
   loaded = option_map loaded_of s.«module»;
   stack = s.stack;
+  system = s.system;
 }
 
 -- ---- what it is made of
@@ -122,6 +126,10 @@ IsStackOf memory None found = found ≡ None
 IsStackOf memory (Some thread) found =
     (region : Option UnifiedRegion) × IsStack thread memory region × (found ≡ option_map stack_at region)
 
+-- the kinds of the operating system and of the processors, and how many of these there are, where there is system information
+abbrev pub system_in : Option System → Option CrashSystem
+system_in system = option_map (λ s. record { os = s.os; cpu = s.cpu; processors = s.raw.number_of_processors }) system
+
 -- ---- the summary
 
 -- the summary of an exception in a dump, with the names of codes of these lists. The thread is the last one of the exception's id
@@ -135,6 +143,7 @@ pub record IsSummary (names : Lists) (d : Dump) (e : Exception) (s : Summary) : 
   pub stack_pointer : s.stack_pointer ≡ crash_stack_pointer (dump_system d) (Some e) crashed
   pub loaded : IsModuleAt (modules_in d) (crash_pointer (dump_system d) (Some e) crashed) s.loaded
   pub stack : IsStackOf (memory_in d) crashed s.stack
+  pub system : s.system ≡ system_in (dump_system d)
 
 -- the dump that a file is, with its exception; or the error of the dump, or that of the exception's stream
 abbrev pub crash_in : List ℕ → Result (Dump × Exception) Error

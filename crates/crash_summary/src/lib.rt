@@ -1,4 +1,4 @@
-//! Summarises a crash: which thread, where, why, in which module and on which stack.
+//! Summarises a crash: which thread, where, why, in which module and on which stack, and on which system.
 //!
 //! # Errors
 //!
@@ -22,10 +22,11 @@ ghost use Rattle.minidump.specs.Dump.{HasEntries, IsFoundStream, dump_system};
 ghost use Rattle.minidump.specs.DumpValue.{dump_of};
 ghost use Rattle.minidump.specs.Promise.{exception_stream, module_list_stream, system_info_stream, thread_list_stream};
 ghost use Rattle.minidump.specs.Thread.{IsLastThread, instruction_of, thread_of};
-ghost use Rattle.crash_summary.specs.Summary.{IsModuleAt, IsStackOf, IsSummary, IsSummaryOf, address_in, crash_context, crash_in, crash_pointer, loaded_at, loaded_of, memory_in, modules_in, reason_in, stack_pointer_of, summary_of, threads_in};
+ghost use Rattle.crash_summary.specs.Summary.{IsModuleAt, IsStackOf, IsSummary, IsSummaryOf, address_in, crash_context, crash_in, crash_pointer, loaded_at, loaded_of, memory_in, modules_in, reason_in, stack_pointer_of, summary_of, system_in, threads_in};
 
 pub mod laws;
 
+use minidump::system_info::{Cpu, Os};
 use minidump::{
     CodeNames, Error, Minidump, MinidumpContext, MinidumpException, MinidumpModule,
     MinidumpModuleList, MinidumpSystemInfo, MinidumpThread, MinidumpThreadList, Module,
@@ -51,6 +52,8 @@ pub struct CrashSummary {
     pub module: Option<ModuleHit>,
     /// The stack of the thread, or `None` if there is no such thread or no memory of its stack.
     pub stack: Option<StackHit>,
+    /// The system on which the process ran, or `None` without system information.
+    pub system: Option<CrashSystem>,
 }
 
 /// A module, by its addresses and its name.
@@ -71,6 +74,17 @@ pub struct StackHit {
     pub base: u64,
     /// The number of bytes.
     pub size: u64,
+}
+
+/// The system on which a process ran.
+#[derive(Clone, Copy, Debug)]
+pub struct CrashSystem {
+    /// The operating system.
+    pub os: Os,
+    /// The architecture of the processors.
+    pub cpu: Cpu,
+    /// The number of processors.
+    pub processors: u8,
 }
 
 /// Summarises the crash of a minidump, whose bytes are `bytes`. The names of codes are those of `names`.
@@ -112,6 +126,7 @@ fn summary_in<'a>(
         stack_pointer,
         module: module_at(alloc, &modules, instruction_pointer)?,
         stack: stack_of(thread, &memory),
+        system: crash_system(system),
     })
 }
 
@@ -126,8 +141,9 @@ pub fn system_of(alloc: Global, dump: &Minidump<'_>) -> Result<Option<MinidumpSy
     dump.find_stream(alloc)
 }
 
-// Returns the threads of a dump, an empty list if it has none.
-fn threads_of<'a>(alloc: Global, dump: &Minidump<'a>) -> Result<MinidumpThreadList<'a>, Error>
+/// Returns the threads of a dump, an empty list if its list is missing or malformed. The only error is
+/// [`Error::OutOfMemory`].
+pub fn threads_of<'a>(alloc: Global, dump: &Minidump<'a>) -> Result<MinidumpThreadList<'a>, Error>
     ensures value { IfOk result (λ threads. thread_list_stream.value threads ≡ threads_in (dump_of dump.now)) }
     ensures memory { IsOkUnless result Error.OutOfMemory }
 {
@@ -139,8 +155,9 @@ fn threads_of<'a>(alloc: Global, dump: &Minidump<'a>) -> Result<MinidumpThreadLi
     }
 }
 
-// Returns the modules of a dump, an empty list if it has none.
-fn modules_of(alloc: Global, dump: &Minidump<'_>) -> Result<MinidumpModuleList, Error>
+/// Returns the modules of a dump, an empty list if its list is missing or malformed. The only error is
+/// [`Error::OutOfMemory`].
+pub fn modules_of(alloc: Global, dump: &Minidump<'_>) -> Result<MinidumpModuleList, Error>
     ensures value { IfOk result (λ modules. module_list_stream.value modules ≡ modules_in (dump_of dump.now)) }
     ensures memory { IsOkUnless result Error.OutOfMemory }
 {
@@ -150,8 +167,9 @@ fn modules_of(alloc: Global, dump: &Minidump<'_>) -> Result<MinidumpModuleList, 
     }
 }
 
-// Returns the memory of a dump, an empty list if it has none.
-fn memory_of<'a>(alloc: Global, dump: &Minidump<'a>) -> Result<UnifiedMemoryList<'a>, Error>
+/// Returns the memory of a dump, an empty list if its lists are missing or malformed. The only error is
+/// [`Error::OutOfMemory`].
+pub fn memory_of<'a>(alloc: Global, dump: &Minidump<'a>) -> Result<UnifiedMemoryList<'a>, Error>
     ensures value { IfOk result (λ memory. unified_list memory ≡ memory_in (dump_of dump.now)) }
     ensures memory { IsOkUnless result Error.OutOfMemory }
 {
@@ -221,16 +239,32 @@ fn pointers(context: &Option<MinidumpContext>) -> (Option<u64>, Option<u64>)
     }
 }
 
-// Returns the address of a crash.
-fn address_of(system: Option<&MinidumpSystemInfo>, exception: &MinidumpException<'_>) -> Option<u64>
+// Returns the system of a system information.
+fn crash_system(system: Option<&MinidumpSystemInfo>) -> Option<CrashSystem>
+    ensures { result ≡ system_in (option_map system_info_stream.value (option_copied system.entry)) }
+{
+    let system = system?;
+    Some(CrashSystem {
+        os: system.os,
+        cpu: system.cpu,
+        processors: system.raw.number_of_processors,
+    })
+}
+
+/// Returns the address of a crash, or `None` without system information.
+pub fn address_of(
+    system: Option<&MinidumpSystemInfo>,
+    exception: &MinidumpException<'_>,
+) -> Option<u64>
     ensures { result ≡ address_in (option_map system_info_stream.value (option_copied system.entry)) (exception_stream.value exception.now) }
 {
     let system = system?;
     Some(exception.get_crash_address(system.os, system.cpu))
 }
 
-// Returns the reason of a crash in words.
-fn reason_of(
+/// Returns the reason of a crash in words, or `None` without system information. The only error is
+/// [`Error::OutOfMemory`].
+pub fn reason_of(
     alloc: Global,
     system: Option<&MinidumpSystemInfo>,
     exception: &MinidumpException<'_>,

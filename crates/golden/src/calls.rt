@@ -1,9 +1,10 @@
+use crate::frames::frames;
 use crate::lookup::push_found;
 use crate::row::{Row, number, number_32};
 use crate::spelled::bytes_of;
 use crate::streams;
 use anyhow::{Result, bail};
-use crash_summary::summarise;
+use crash_summary::{CrashSummary, summarise};
 use minidump::{CodeNames, Endian, Minidump, Told, write_report};
 use minidump_synth::SynthMinidump;
 use std::alloc::Global;
@@ -17,6 +18,10 @@ pub fn answer(alloc: Global, row: &Row<'_>, endian: Endian) -> Result<Vec<u8>> {
         ("summary", _) => summary(alloc, &dump_of(alloc, row, types, endian)?),
         ("at", [addresses, types @ ..]) => {
             at(alloc, &dump_of(alloc, row, types, endian)?, addresses)
+        }
+        ("frames", [limit, types @ ..]) => {
+            let limit = number_32(limit)? as usize;
+            frames(alloc, &dump_of(alloc, row, types, endian)?, limit)
         }
         _ => bail!("{}: no call {}", row.name, row.call),
     }
@@ -64,7 +69,21 @@ fn summary(alloc: Global, bytes: &[u8]) -> Result<Vec<u8>> {
         Some(stack) => writeln!(out, "stack {:#x} {:#x}", stack.base, stack.size)?,
         None => writeln!(out, "stack none")?,
     }
+    push_machine(&mut out, &crash)?;
     Ok(out)
+}
+
+// Appends a line for the pointers of the context of a crash, and one for the system.
+fn push_machine(out: &mut Vec<u8>, crash: &CrashSummary) -> Result<()> {
+    match (crash.instruction_pointer, crash.stack_pointer) {
+        (Some(instruction), Some(stack)) => writeln!(out, "pointers {instruction:#x} {stack:#x}")?,
+        _ => writeln!(out, "pointers none")?,
+    }
+    match &crash.system {
+        Some(s) => writeln!(out, "system {} {} {}", s.os, s.cpu, s.processors)?,
+        None => writeln!(out, "system none")?,
+    }
+    Ok(())
 }
 
 // Returns the lines of what is at each of the addresses.

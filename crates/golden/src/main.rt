@@ -25,8 +25,9 @@
 //!     LINE
 //! ```
 //!
-//! - CALL is `report`, which answers as for a sample; `summary`, the summary of a crash, a line for each part; or `at`,
-//!   whose first WORD is addresses with commas between them: lines of what is at each.
+//! - CALL is `report`, which answers as for a sample; `summary`, the summary of a crash, a line for each part; `at`,
+//!   whose first WORD is addresses with commas between them: lines of what is at each; or `frames`, whose first WORD is the
+//!   most candidates of a scan: for each thread a line, and after it one for each frame.
 //! - `big` as a WORD makes bytes and numbers big-endian, and `both` asks for the same answer in both byte orders.
 //! - Each further WORD is the number of a type of stream. Its bytes are those between the next two bars; what stands
 //!   behind the last of them is put into the dump in front of the streams, from 32 on. Without such a WORD the bytes
@@ -42,6 +43,7 @@
 
 mod calls;
 mod cuts;
+mod frames;
 mod lookup;
 mod row;
 mod rows;

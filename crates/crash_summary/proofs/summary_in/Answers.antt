@@ -24,4 +24,5 @@ returns-clause-value c =
       stack_pointer = c.pointers-instruction_pointer.ensures.stack ∙ ap stack_pointer_of context;
       loaded = rw (c.in_ok-modules.ensures.value, instruction) at c.in_ok-module_at.ensures.value;
       stack = rw c.in_ok-memory.ensures.value at c.stack_of.ensures;
+      system = rw system at c.crash_system.ensures;
     }
