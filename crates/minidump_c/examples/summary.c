@@ -1,4 +1,4 @@
-/* Prints a summary of the crash that a minidump is of: summary FILE */
+/* Prints a summary of the crash that a minidump is of, and the frames of its thread: summary FILE */
 #include "minidump.h"
 
 #include <stdio.h>
@@ -17,6 +17,20 @@ static uint8_t *load(const char *path, size_t *len) {
 
 static int shown(size_t size, size_t room) { return (int)(size < room ? size : room); }
 
+static void print_frames(const uint8_t *bytes, size_t len, uint32_t thread) {
+    static const char *const known_by[] = {"", "context", "frame pointer", "scan"};
+    struct minidump_frame frames[64];
+    size_t count = 0;
+    if (minidump_frames(bytes, len, thread, 8, frames, 64, &count) != MINIDUMP_OK) return;
+    for (size_t i = 0; i < count && i < 64; i++) {
+        printf("#%-2zu     0x%llx", i, (unsigned long long)frames[i].instruction);
+        if (frames[i].has_module)
+            printf(" in 0x%llx + 0x%llx", (unsigned long long)frames[i].module_base, (unsigned long long)frames[i].module_offset);
+        printf(", %s\n", known_by[frames[i].trust]);
+    }
+    if (count > 64) printf("and %zu more\n", count - 64);
+}
+
 int main(int argc, char **argv) {
     size_t len = 0;
     uint8_t *bytes = argc == 2 ? load(argv[1], &len) : NULL;
@@ -26,8 +40,8 @@ int main(int argc, char **argv) {
     char reason[128], module[512];
     uint32_t status = minidump_summary(bytes, len, &crash, (uint8_t *)reason, sizeof reason, (uint8_t *)module,
                                        sizeof module);
-    free(bytes);
     if (status != MINIDUMP_OK) {
+        free(bytes);
         char name[32];
         size_t size = minidump_error_name(status, (uint8_t *)name, sizeof name);
         return fprintf(stderr, "%.*s\n", shown(size, sizeof name), name), 1;
@@ -40,5 +54,7 @@ int main(int argc, char **argv) {
                (unsigned long long)crash.module_size, shown(crash.module_len, sizeof module), module);
     if (crash.has_stack)
         printf("stack   0x%llx 0x%llx\n", (unsigned long long)crash.stack_base, (unsigned long long)crash.stack_size);
+    print_frames(bytes, len, crash.thread);
+    free(bytes);
     return 0;
 }

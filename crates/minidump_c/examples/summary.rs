@@ -1,4 +1,4 @@
-//! Prints a summary of the crash that a minidump is of: summary FILE
+//! Prints a summary of the crash that a minidump is of, and the frames of its thread: summary FILE
 use std::process::ExitCode;
 
 /// `struct minidump_crash` of `minidump.h`.
@@ -20,6 +20,24 @@ struct Crash {
     has_module: u8,
     has_stack: u8,
     has_context: u8,
+    has_system: u8,
+    os: u16,
+    cpu: u16,
+    processors: u16,
+}
+
+/// `struct minidump_frame`.
+#[repr(C)]
+#[derive(Clone, Copy, Default)]
+struct Frame {
+    instruction: u64,
+    stack_pointer: u64,
+    frame_pointer: u64,
+    module_base: u64,
+    module_offset: u64,
+    trust: u32,
+    has_frame_pointer: u16,
+    has_module: u16,
 }
 
 unsafe extern "C" {
@@ -32,12 +50,39 @@ unsafe extern "C" {
         name: *mut u8,
         name_len: usize,
     ) -> u32;
+    fn minidump_frames(
+        bytes: *const u8,
+        len: usize,
+        id: u32,
+        limit: usize,
+        frames: *mut Frame,
+        frames_len: usize,
+        count: &mut usize,
+    ) -> u32;
     fn minidump_error_name(status: u32, out: *mut u8, out_len: usize) -> usize;
 }
 
 /// Returns as much of a text of `len` bytes as its buffer took.
 fn shown(buffer: &[u8], len: usize) -> String {
     String::from_utf8_lossy(&buffer[..len.min(buffer.len())]).into_owned()
+}
+
+fn print_frames(bytes: &[u8], thread: u32) {
+    let (mut frames, mut count) = ([Frame::default(); 64], 0);
+    // SAFETY: each pointer is to a slice or a number of this function, the first ones with their lengths; none overlaps another.
+    unsafe {
+        minidump_frames(bytes.as_ptr(), bytes.len(), thread, 8, frames.as_mut_ptr(), frames.len(), &mut count);
+    }
+    for (number, frame) in frames.iter().take(count).enumerate() {
+        print!("#{number:<2}     {:#x}", frame.instruction);
+        if frame.has_module != 0 {
+            print!(" in {:#x} + {:#x}", frame.module_base, frame.module_offset);
+        }
+        println!(", {}", ["", "context", "frame pointer", "scan"][frame.trust as usize]);
+    }
+    if count > frames.len() {
+        println!("and {} more", count - frames.len());
+    }
 }
 
 fn main() -> ExitCode {
@@ -78,5 +123,6 @@ fn main() -> ExitCode {
     if crash.has_stack != 0 {
         println!("stack   {:#x} {:#x}", crash.stack_base, crash.stack_size);
     }
+    print_frames(&bytes, crash.thread);
     ExitCode::SUCCESS
 }

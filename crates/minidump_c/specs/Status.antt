@@ -1,11 +1,10 @@
 -- The status of a call: 0, or the number of an error.
-use Rattle.std.specs.Prelude.{◌≡◌, ◌⊎◌, ◌<◌, ℕ, List, [], Err, Ok, IsOk}
+use Rattle.std.specs.Prelude.{◌≡◌, ◌⊎◌, ℕ, List, Err, Ok, IsOk}
 use Rattle.minidump.specs.declared.Error.{Error}
 use Rattle.minidump.specs.declared.Error.TheVariants.{FileNotFound, IoError, MissingHeader, HeaderMismatch, VersionMismatch}
 use Rattle.minidump.specs.declared.Error.TheVariants.{MissingDirectory, StreamReadFailure, StreamSizeMismatch, StreamNotFound}
 use Rattle.minidump.specs.declared.Error.TheVariants.{ModuleReadFailure, MemoryReadFailure, DataError, CodeViewReadFailure}
 use Rattle.minidump.specs.declared.Error.TheVariants.{UknownElementType, OutOfMemory}
-use Rattle.minidump.specs.Below.Format.Error.{refusal_name}
 use Rattle.minidump.specs.Below.System.StreamSpec.{StreamSpec}
 use Rattle.minidump.specs.Dump.{Dump, IsRefused, IsRefusedWith, dump_in, stream_of}
 
@@ -38,7 +37,3 @@ IsTextRefused bytes e = IsRefusedWith (IsOk (dump_in bytes)) bytes e
 -- the bytes are no minidump, or memory ran out at a directory with entries, or it is the error of a stream of the dump
 abbrev pub IsStreamRefused : {S V : Type 0} → StreamSpec S V → List ℕ → Error → Type 0
 IsStreamRefused spec bytes e = IsRefused bytes e ⊎ ((dump : Dump) × (dump_in bytes ≡ Ok dump) × (stream_of spec dump ≡ Err e))
-
--- the name of the error of a status, and nothing where it is that of none
-abbrev pub IsNameOf : ℕ → List ℕ → Type 0
-IsNameOf status text = ((e : Error) × (status_of e ≡ status) × (text ≡ refusal_name e)) ⊎ (((status ≡ 0) ⊎ (15 < status)) × (text ≡ []))

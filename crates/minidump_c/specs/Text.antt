@@ -1,5 +1,6 @@
 -- Texts in a caller's buffer.
-use Rattle.std.specs.Prelude.{◌≡◌, ℕ, List, [], ◌++◌, length, take, drop, Ok}
+use Rattle.std.specs.Prelude.{◌≡◌, ℕ, List, ◌++◌, length, take, drop, Ok}
+use Rattle.minidump.specs.Below.Reasons.Names.{Lists}
 use Rattle.minidump.specs.Dump.{Dump, dump_in}
 use Rattle.minidump.specs.Report.{report_text}
 use Rattle.minidump.specs.Text.{dump_text}
@@ -16,6 +17,6 @@ IsFilled {A} Are old new count = (items : List A) × Are items × (new ≡ fille
 abbrev pub IsDirectoryOf : List ℕ → List ℕ → Type 0
 IsDirectoryOf bytes text = (dump : Dump) × (dump_in bytes ≡ Ok dump) × (text ≡ dump_text dump)
 
--- the report, without names of codes
-abbrev pub IsReportOf : List ℕ → List ℕ → Type 0
-IsReportOf bytes text = (dump : Dump) × (dump_in bytes ≡ Ok dump) × (text ≡ report_text [] dump)
+-- the report, with the names of codes of these lists
+abbrev pub IsReportOf : List ℕ → Lists → List ℕ → Type 0
+IsReportOf bytes names text = (dump : Dump) × (dump_in bytes ≡ Ok dump) × (text ≡ report_text names dump)

@@ -32,6 +32,7 @@ void __wrap_free(void *block) {
 }
 
 static uint8_t bytes[1 << 20];
+static const uint8_t names[] = "Linux 11 SIGSEGV\nWindows 0xc0000005 EXCEPTION_ACCESS_VIOLATION\nWindowsAccess 0 READ\n";
 static size_t len;
 
 /* All that a call may write. */
@@ -42,6 +43,8 @@ static struct written {
     struct minidump_crash crash;
     struct minidump_module modules[8];
     struct minidump_thread threads[8];
+    struct minidump_frame frames[8];
+    uint64_t line;
 } written, whole, before;
 
 static uint32_t call(int which) {
@@ -57,6 +60,12 @@ static uint32_t call(int which) {
     case 6: return minidump_module_name(bytes, len, 0, w->text, sizeof w->text, &w->size);
     case 7: return minidump_thread_table(bytes, len, w->threads, 8, &w->size);
     case 8: return minidump_thread_name(bytes, len, 0x11, w->text, sizeof w->text, &w->size);
+    case 9: return minidump_frames(bytes, len, 0x1234, 8, w->frames, 8, &w->size);
+    case 10: return minidump_os_version(bytes, len, w->text, sizeof w->text, &w->size);
+    case 11: return minidump_os_build(bytes, len, w->text, sizeof w->text, &w->size);
+    case 12: return minidump_report_named(bytes, len, names, sizeof names - 1, w->text, sizeof w->text, &w->size, &w->line);
+    case 13: return minidump_summary_named(bytes, len, names, sizeof names - 1, &w->crash, w->other, sizeof w->other, w->text,
+                                           sizeof w->text, &w->line);
     default: return minidump_read_memory(bytes, len, 0x12f000, w->text, sizeof w->text, &w->size);
     }
 }
@@ -68,7 +77,7 @@ int main(int argc, char **argv) {
     fclose(file);
     memset(&before, '#', sizeof before);
     int bad = 0;
-    for (int which = 0; which < 10; which++) {
+    for (int which = 0; which < 15; which++) {
         long held = live, told = 0;
         uint32_t wanted = call(which);
         memcpy(&whole, &written, sizeof whole);
