@@ -1,2 +1,1 @@
--- What several proofs share.
-pub mod EscapeLemmas
+mod NumberLemmas

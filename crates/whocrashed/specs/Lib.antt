@@ -1,5 +1,2 @@
--- What the contracts of this program cite.
-pub mod Escape
-pub mod Absence
-pub mod Frames
-pub mod Places
+-- The definitions that the contracts cite.
+pub mod Options

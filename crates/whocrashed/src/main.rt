@@ -1,58 +1,41 @@
 //! `whocrashed [OPTIONS] DUMP..`, which prints who crashed, where, why and by whom called: an example of a caller of `minidump`,
-//! `stack_walk` and `minidump_names`, whose output the README shows. `whocrashed --help` prints its options.
+//! of what stands on it, and of `clap`, whose output the README shows. `whocrashed --help` prints its options.
 //!
-//! Of each dump it prints, each in a line of its own:
+//! Of each dump, in the order of the arguments, it prints
 //!
-//! - the system and the processor, the id of the process, and for how long it ran;
-//! - of the crash the thread, the address with its module, if it lies in one, and the reason;
-//! - the registers at the exception, or else those of its thread when the dump was written, four a row;
-//! - the crashing thread with its name and its frames. If the list of threads lacks it, the frames are those of the exception's
-//!   own context;
-//! - what the process itself said: an assertion, Crashpad's annotations, and macOS's messages;
-//! - each other thread with its name and its first frame, or with all its frames after `--all-threads`;
-//! - the number of modules; then each module that the address or a printed frame names, in the order of the list: its base
-//!   address, its file, and what a symbol server is asked by, the name and the identifier of its debug file and of its code
-//!   file.
+//! - the lines of [`crash_lines::add_dump`], under the dump's path if there are several;
+//! - with `--json` the line of JSON of [`crash_json::crash_json`]. A file that can't be read, or is no dump, has a line too, whose
+//!   `status` says why, so that there are as many lines as dumps;
+//! - with `--html`, which takes one dump, the page of [`crash_html::page`].
 //!
-//! A line on a frame has its number, its address, its module with the offset in it, and what the frame is known by. A
-//! caller's module and offset are those of its return address less one, which lies in the call.
-//!
-//! A stream that is missing and one that can't be read are two different lines, as `no exception` and
-//! `exception: StreamReadFailure`. A context or a stack whose bytes are outside the file is a line too, and so is the number of
-//! entries of the directory with such bytes. Control characters, ends of lines and marks of direction in names, paths and
-//! texts are printed as escapes, as `\u{1b}`.
+//! Codes have the names of [`known_names::text`], or those of the file of `--names` in their place.
 //!
 //! # Errors
 //!
-//! Status 1: a stream that was wanted can't be read, or a context or a stack that was wanted is outside the file, which a line
-//! says; or a file can't be read or is no dump, which a line on standard error says with its path, while the other dumps are
-//! printed. Status 2: the arguments are refused. A closed pipe ends the program quietly, with status 0.
+//! Status 1: a file can't be read or is no dump, which a line on standard error says with its path, or the line of JSON, while
+//! the other dumps are printed; or in the lines of text a stream, a context or a stack that was wanted can't be read, which a line
+//! says. Status 2: the arguments are refused, among them one that isn't UTF-8. A closed pipe ends the program quietly, with
+//! status 0.
+//!
+//! # What is proved
+//!
+//! The dumps are the values of the argument `DUMP`, in their order: `dumps_of`. No status is above 2: `run`. What is printed of a
+//! dump is proved in the crates below.
 #![tactic(auto)]
 
-mod contents;
-mod directory;
-mod escape;
-mod frames;
-mod messages;
+mod complain;
 mod options;
-mod page;
-mod places;
-mod process;
 mod program;
-mod registers;
 mod report;
-mod space;
-mod stacks;
-mod streams;
-mod symbols;
 
 use std::alloc::AllocError;
 use std::env;
 use std::process::ExitCode;
 
 fn main(rt: HostRuntime) -> ExitCode {
-    let Ok(args) = env::args(&rt) else {
-        return ExitCode::from(2);
+    let args = match env::args(&rt) {
+        Ok(args) => args,
+        Err(error) => return ExitCode::from(program::refuse(&rt, &error)),
     };
     let words: Result<Vec<String>, AllocError> = args.collect(rt.alloc());
     let Ok(words) = words else {

@@ -1,134 +1,197 @@
+ghost use Rattle.std.specs.Prelude.{◌≡◌, [], Bool, IfOk, codes, map, option_map, unwrap_or};
+ghost use Rattle.clap.specs.Words.{found_of, matched_of, raw_values};
+ghost use Rattle.whocrashed.specs.Options.{IsFlag, IsNumber, form_by};
+
+use clap::error::ErrorKind;
+use clap::{Arg, ArgAction, ArgMatches, Command, Error, value_parser};
+use crash_lines::Limits;
 use std::alloc::{AllocError, Global};
 
-/// How many frames of a thread are printed, and how many candidates of its stack's words.
-#[derive(Clone, Copy)]
-pub(crate) struct Limits {
-    pub(crate) frames: usize,
-    pub(crate) scan: usize,
-    pub(crate) all_threads: bool,
-    // whether a line says how many frames there are beyond these
-    pub(crate) says_more: bool,
-}
+const ABOUT: &str =
+    "Prints who crashed, where, why and by whom called: for each minidump the system and the process; the thread, the
+address, the reason and the registers of the crash, and the frames of that thread; an assertion, Crashpad's
+annotations and macOS's messages; the first frame of each other thread; and the modules that these lines name,
+with what a symbol server is asked by.";
 
-impl Limits {
-    // Returns the limits of the other threads: the first frame alone, unless all are asked for.
-    pub(crate) fn of_others(limits: &Limits) -> Limits {
-        if limits.all_threads {
-            *limits
-        } else {
-            Limits {
-                frames: 1,
-                scan: 0,
-                all_threads: false,
-                says_more: false,
-            }
-        }
-    }
+const EXAMPLES: &str = "Examples:
+  whocrashed crash.dmp
+  whocrashed --all-threads --frames 100 crash.dmp
+  whocrashed --html crash.dmp > crash.html
+  find dumps -name '*.dmp' -print0 | xargs -0 -n 64 whocrashed --json > crashes.jsonl
+
+The exit status is 0; 1 if a file can't be read or is no minidump, or, with lines of text, if a stream that is wanted
+can't be read or the bytes of a context or a stack are outside the file; 2 if the arguments are refused.";
+
+// The defaults of --frames and --scan.
+const FRAMES: &str = "64";
+
+const SCAN: &str = "16";
+
+/// What is printed of a dump.
+#[derive(Clone, Copy, Debug, PartialEq, Eq)]
+pub(crate) enum Form {
+    /// Lines of text.
+    Lines,
+    /// A line of JSON.
+    Json,
+    /// A page in HTML.
+    Html,
 }
 
 /// What the arguments ask for.
 #[derive(Drop)]
 pub(crate) struct Options<'w> {
+    pub(crate) form: Form,
     pub(crate) limits: Limits,
     pub(crate) names: Option<&'w str>,
+    pub(crate) shows_progress: bool,
     pub(crate) dumps: Vec<&'w str>,
-    pub(crate) help: bool,
-    pub(crate) version: bool,
-}
-
-/// Why arguments are refused.
-#[derive(Clone, Copy, Debug)]
-pub(crate) enum Refusal<'w> {
-    /// No option has this name.
-    Unknown(&'w str),
-    /// The option needs a value behind it.
-    NoValue(&'w str),
-    /// The value of an option is no number.
-    NoNumber(&'w str),
-    /// No dump is named.
-    NoDump,
-    /// An allocation failed.
-    OutOfMemory,
-}
-
-impl From<AllocError> for Refusal<'_> {
-    fn from(_: AllocError) -> Self {
-        Refusal::OutOfMemory
-    }
-}
-
-// What the word behind an option is.
-#[derive(Clone, Copy)]
-enum Expected {
-    // An option or a dump.
-    Any,
-    // A dump, whatever it is called.
-    Dump,
-    Names,
-    Frames,
-    Scan,
 }
 
 impl<'w> Options<'w> {
     // Reads the arguments, without the program's own name.
-    pub(crate) fn read(alloc: Global, words: &'w [String]) -> Result<Options<'w>, Refusal<'w>> {
-        let mut options = Options {
-            limits: Limits {
-                frames: 64,
-                scan: 16,
-                all_threads: false,
-                says_more: true,
-            },
-            names: None,
-            dumps: Vec::new(alloc),
-            help: false,
-            version: false,
-        };
-        let mut expected = Expected::Any;
-        for word in words {
-            expected = options.take(expected, word.as_str())?;
+    pub(crate) fn read(alloc: Global, words: &'w [String]) -> Result<Options<'w>, Error> {
+        let mut command = command(alloc)?;
+        let matches = command.try_get_matches_from_mut(words)?;
+        let options = options_of(alloc, &matches)?;
+        if options.form == Form::Html && options.dumps.len() > 1 {
+            return Err(command.error(ErrorKind::TooManyValues, "--html takes one DUMP")?);
         }
-        match expected {
-            Expected::Any | Expected::Dump => Ok(options),
-            Expected::Names => Err(Refusal::NoValue("--names")),
-            Expected::Frames => Err(Refusal::NoValue("--frames")),
-            Expected::Scan => Err(Refusal::NoValue("--scan")),
-        }
-    }
-
-    // Takes the next word, and returns what the one behind it is.
-    fn take(&mut self, expected: Expected, word: &'w str) -> Result<Expected, Refusal<'w>> {
-        match expected {
-            Expected::Any => return self.take_any(word),
-            Expected::Dump => {
-                self.dumps.push(word).map_err(AllocError::from)?;
-                return Ok(Expected::Dump);
-            }
-            Expected::Names => self.names = Some(word),
-            Expected::Frames => self.limits.frames = number(word)?,
-            Expected::Scan => self.limits.scan = number(word)?,
-        }
-        Ok(Expected::Any)
-    }
-
-    // Takes an option or a dump.
-    fn take_any(&mut self, word: &'w str) -> Result<Expected, Refusal<'w>> {
-        match word {
-            "--names" => return Ok(Expected::Names),
-            "--frames" => return Ok(Expected::Frames),
-            "--scan" => return Ok(Expected::Scan),
-            "--" => return Ok(Expected::Dump),
-            "--all-threads" => self.limits.all_threads = true,
-            "--help" | "-h" => self.help = true,
-            "--version" | "-V" => self.version = true,
-            _ if word.starts_with('-') => return Err(Refusal::Unknown(word)),
-            _ => self.dumps.push(word).map_err(AllocError::from)?,
-        }
-        Ok(Expected::Any)
+        Ok(options)
     }
 }
 
-// Reads a number in decimal.
-fn number(word: &str) -> Result<usize, Refusal<'_>> {
-    word.parse::<usize>().ok().ok_or(Refusal::NoNumber(word))
+// Returns what the matches ask for.
+fn options_of<'w>(alloc: Global, matches: &ArgMatches<'w>) -> Result<Options<'w>, AllocError> {
+    Ok(Options {
+        form: form_of(matches),
+        limits: limits_of(matches),
+        names: matches.get_str("names"),
+        shows_progress: matches.get_flag("progress"),
+        dumps: dumps_of(alloc, matches)?,
+    })
+}
+
+fn form_of(matches: &ArgMatches<'_>) -> Form
+    ensures { (json html : Bool) × IsFlag (found_of matches.now) (codes "json") json
+        × IsFlag (found_of matches.now) (codes "html") html × (result ≡ form_by json html) }
+{
+    form_by(matches.get_flag("json"), matches.get_flag("html"))
+}
+
+// Returns the form that two flags ask for, which exclude one another.
+fn form_by(json: bool, html: bool) -> Form
+    ensures { result ≡ form_by json html }
+{
+    if json {
+        Form::Json
+    } else if html {
+        Form::Html
+    } else {
+        Form::Lines
+    }
+}
+
+fn limits_of(matches: &ArgMatches<'_>) -> Limits
+    ensures frames { IsNumber (found_of matches.now) (codes "frames") result.frames }
+    ensures scan { IsNumber (found_of matches.now) (codes "scan") result.scan }
+    ensures all_threads { IsFlag (found_of matches.now) (codes "all-threads") result.all_threads }
+{
+    Limits {
+        frames: number_of(matches, "frames"),
+        scan: number_of(matches, "scan"),
+        all_threads: matches.get_flag("all-threads"),
+        says_more: true,
+    }
+}
+
+// Returns the number of an option. clap has a default for each, and refuses a text that is no number.
+fn number_of(matches: &ArgMatches<'_>, id: &str) -> usize
+    ensures { IsNumber (found_of matches.now) id.now result }
+{
+    matches.get_one::<usize>(id).unwrap_or(0)
+}
+
+// Copies the paths of the dumps, in their order.
+fn dumps_of<'w>(alloc: Global, matches: &ArgMatches<'w>) -> Result<Vec<&'w str>, AllocError>
+    ensures { IfOk result (λ dumps. map (λ d. d.now) dumps.items
+        ≡ unwrap_or (option_map raw_values (matched_of (found_of matches.now) (codes "dumps"))) []) }
+{
+    match matches.get_strs("dumps") {
+        Some(paths) => Vec::from_slice(alloc, paths),
+        None => Ok(Vec::new(alloc)),
+    }
+}
+
+// Makes the command, which knows the options.
+fn command<'w>(alloc: Global) -> Result<Command<'w>, AllocError> {
+    let command = Command::new(alloc, "whocrashed")
+        .no_binary_name(true)
+        .version("0.27.0+rattle.1")
+        .about(ABOUT)
+        .after_help(EXAMPLES);
+    let json = flag(alloc, "json", "Print a line of JSON for each DUMP");
+    let html = flag(alloc, "html", "Print a page in HTML on the one DUMP").conflicts_with("json")?;
+    let progress = flag(
+        alloc,
+        "progress",
+        "Say on standard error how many dumps are done",
+    );
+    command
+        .arg(names(alloc))?
+        .arg(flag(
+            alloc,
+            "all-threads",
+            "Print all frames of each thread in the lines of text",
+        ))?
+        .arg(number(
+            alloc,
+            "frames",
+            FRAMES,
+            "Print at most N frames of a thread",
+        ))?
+        .arg(number(
+            alloc,
+            "scan",
+            SCAN,
+            "Print at most N candidates among the words of a stack",
+        ))?
+        .arg(json)?
+        .arg(html)?
+        .arg(progress)?
+        .arg(dumps(alloc))
+}
+
+fn names<'w>(alloc: Global) -> Arg<'w> {
+    Arg::new(alloc, "names")
+        .long("names")
+        .value_name("FILE")
+        .help("Take the names of codes from FILE, in place of those that are compiled in")
+}
+
+fn dumps<'w>(alloc: Global) -> Arg<'w> {
+    Arg::new(alloc, "dumps")
+        .value_name("DUMP")
+        .help("A minidump")
+        .action(ArgAction::Append)
+        .num_args(1..)
+        .required(true)
+}
+
+// Makes an option without a value.
+fn flag<'w>(alloc: Global, id: &'w str, help: &'w str) -> Arg<'w> {
+    Arg::new(alloc, id)
+        .long(id)
+        .action(ArgAction::SetTrue)
+        .help(help)
+}
+
+// Makes an option whose value is a number.
+fn number<'w>(alloc: Global, id: &'w str, default: &'w str, help: &'w str) -> Arg<'w> {
+    Arg::new(alloc, id)
+        .long(id)
+        .value_name("N")
+        .value_parser(value_parser!(usize))
+        .default_value(default)
+        .help(help)
 }

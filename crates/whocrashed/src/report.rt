@@ -1,158 +1,150 @@
-use crate::contents::Contents;
-use crate::directory::{add_exceptions, add_outside};
-use crate::messages::add_messages;
-use crate::options::Limits;
-use crate::page::Page;
-use crate::process::add_process;
-use crate::registers::add_crash_registers;
-use crate::space::space_of;
-use crate::stacks::{add_crashed_stacks, add_other_stacks};
-use crate::streams::{Streams, streams_of};
-use crate::symbols::{NamedModules, add_named};
+use crate::complain::{complain, complain_of};
+use crate::options::Form;
+use crash_json::{crash_json, refused_json};
+use crash_lines::{Limits, add_dump};
+use crash_page::Page;
 use minidump::text::Piece;
-use minidump::{
-    CodeNames, Error, Minidump, MinidumpException, MinidumpModuleList, MinidumpSystemInfo, Module,
-};
-use std::alloc::AllocError;
+use minidump::{CodeNames, Error};
+use std::alloc::{AllocError, Global};
+use std::{fs, io, str};
 
-/// Adds the lines of a minidump, whose bytes are `bytes`. After an error the page has the lines before it.
-pub(crate) fn add_dump(
-    page: &mut Page,
-    bytes: &[u8],
-    names: &CodeNames<'_>,
-    limits: &Limits,
-) -> Result<(), Error> {
-    let dump = Minidump::read(page.alloc, bytes)?;
-    let streams = streams_of(page.alloc, &dump)?;
-    add_system(page, &streams.system)?;
-    add_process(page, &dump, &streams.misc)?;
-    let mut named = NamedModules::new(page.alloc);
-    match &streams.exception {
-        Ok(exception) => add_crash(page, &mut named, exception, &streams, names)?,
-        Err(error) => page.absent("exception", *error)?,
-    }
-    add_exceptions(page, &dump, bytes)?;
-    let space = space_of(page, &dump)?;
-    let contents = Contents { streams, space };
-    add_contents(page, &mut named, &contents, limits)?;
-    Ok(add_outside(page, &dump, bytes)?)
+const NO_MEMORY: &str = "{\"path\":null,\"status\":\"OutOfMemory\"}\n";
+
+/// What prints reports on dumps, and how.
+#[derive(Clone, Copy)]
+pub(crate) struct Reporter<'l, 'n> {
+    pub(crate) rt: &'l HostRuntime,
+    pub(crate) names: &'l CodeNames<'n>,
+    pub(crate) limits: Limits,
+    pub(crate) form: Form,
+    // whether there is no other dump
+    pub(crate) is_one: bool,
 }
 
-// Adds the lines of the threads, of what the process itself said of the crash, and of the modules.
-fn add_contents(
-    page: &mut Page,
-    named: &mut NamedModules,
-    contents: &Contents<'_>,
-    limits: &Limits,
-) -> Result<(), Error> {
-    add_crashed_stacks(page, named, contents, limits)?;
-    add_messages(page, &contents.streams)?;
-    add_other_stacks(page, named, contents, limits)?;
-    add_modules(page, named, &contents.streams.modules)
-}
-
-// Adds the line of the system: its version, the processor, and how many there are.
-fn add_system(page: &mut Page, system: &Result<MinidumpSystemInfo, Error>) -> Result<(), Error> {
-    match system {
-        Ok(system) => {
-            let os = system.os.to_string(page.alloc)?;
-            let cpu = system.cpu.to_string(page.alloc)?;
-            let (version, build) = system.os_parts(page.alloc)?;
-            let build = match &build {
-                Some(build) => build.as_str(),
-                None => "",
-            };
-            page.line(&[
-                Piece::Words("system  "),
-                Piece::Words(os.as_str()),
-                Piece::Words(" "),
-                Piece::Words(version.as_str()),
-                Piece::Words(if build.is_empty() { "" } else { " " }),
-                Piece::Words(build),
-                Piece::Words(" on "),
-                Piece::Words(cpu.as_str()),
-                Piece::Words(", processors: "),
-                Piece::Decimal(system.raw.number_of_processors as u64),
-            ])?;
-            Ok(())
+impl Reporter<'_, '_> {
+    /// Reports on a dump, and tells whether all that was wanted could be read. Want of memory is said, and ends nothing.
+    pub(crate) fn report(&self, path: &str) -> io::Result<bool> {
+        match self.report_file(path) {
+            Err(error) if error.kind() == io::ErrorKind::OutOfMemory => {
+                self.complain_of_memory(path, &error)?;
+                Ok(false)
+            }
+            reported => reported,
         }
-        Err(error) => Ok(page.absent("system information", *error)?),
     }
-}
 
-// Adds the thread, the address, the reason and the registers of the crash.
-fn add_crash(
-    page: &mut Page,
-    named: &mut NamedModules,
-    exception: &MinidumpException<'_>,
-    streams: &Streams<'_>,
-    names: &CodeNames<'_>,
-) -> Result<(), Error> {
-    page.line(&[
-        Piece::Words("crashed thread "),
-        Piece::Hex(exception.thread_id as u64),
-    ])?;
-    let Ok(system) = &streams.system else {
-        return Ok(add_code(page, exception)?);
-    };
-    let address = exception.get_crash_address(system.os, system.cpu);
-    add_address(page, named, address, &streams.modules)?;
-    let reason = exception.get_crash_reason(system.os, system.cpu, names);
-    let reason = reason.text(page.alloc, names)?;
-    page.line(&[Piece::Words("reason  "), Piece::Words(reason.as_str())])?;
-    Ok(add_crash_registers(page, streams, exception, system)?)
-}
-
-// Adds what an exception says where the system is unknown, by which its address and its reason are told.
-fn add_code(page: &mut Page, exception: &MinidumpException<'_>) -> Result<(), AllocError> {
-    let record = &exception.raw.exception_record;
-    page.line(&[
-        Piece::Words("code    "),
-        Piece::Hex(record.exception_code as u64),
-        Piece::Words(" at "),
-        Piece::Hex(record.exception_address),
-    ])
-}
-
-// Adds the address of the crash, with the kept module that contains it and the offset in that, if there is one.
-fn add_address(
-    page: &mut Page,
-    named: &mut NamedModules,
-    address: u64,
-    modules: &Result<MinidumpModuleList, Error>,
-) -> Result<(), AllocError> {
-    let found = match modules {
-        Ok(modules) => modules.module_at_address(address),
-        Err(_) => None,
-    };
-    let Some(module) = found else {
-        return page.line(&[Piece::Words("address "), Piece::Hex(address)]);
-    };
-    named.add(module)?;
-    page.line(&[
-        Piece::Words("address "),
-        Piece::Hex(address),
-        Piece::Words(" in "),
-        Piece::Words(module.code_file()),
-        Piece::Words("+"),
-        Piece::Hex(module.offset_of(address).unwrap_or(0)),
-    ])
-}
-
-// Adds the number of modules, and those that the lines before name.
-fn add_modules(
-    page: &mut Page,
-    named: &mut NamedModules,
-    modules: &Result<MinidumpModuleList, Error>,
-) -> Result<(), Error> {
-    match modules {
-        Ok(modules) => {
-            page.line(&[
-                Piece::Words("modules "),
-                Piece::Decimal(modules.len() as u64),
-            ])?;
-            add_named(page, named, modules)
+    // Reports on the dump in a file.
+    fn report_file(&self, path: &str) -> io::Result<bool> {
+        match fs::read(self.rt, path) {
+            Ok(bytes) => self.report_bytes(path, &bytes),
+            Err(error) => self.report_unread(path, &error),
         }
-        Err(error) => Ok(page.absent("modules", *error)?),
     }
+
+    // Prints that memory ran out at a dump, or that alone if there is none for its path.
+    fn complain_of_memory(&self, path: &str, error: &io::Error) -> io::Result<()> {
+        match complain_of(self.rt, path, error) {
+            Err(error) if error.kind() == io::ErrorKind::OutOfMemory => {
+                eprint!(self.rt; "whocrashed: Out of memory\n")
+            }
+            complained => complained,
+        }
+    }
+
+    // Reports on a dump, whose bytes are `bytes`.
+    fn report_bytes(&self, path: &str, bytes: &[u8]) -> io::Result<bool> {
+        match self.form {
+            Form::Lines => self.print_lines(path, bytes),
+            Form::Json => self.print_json(path, bytes),
+            Form::Html => self.print_page(path, bytes),
+        }
+    }
+
+    // Reports that a file can't be read.
+    fn report_unread(&self, path: &str, error: &io::Error) -> io::Result<bool> {
+        if self.form == Form::Json {
+            self.print_line(unread_json(self.rt.alloc(), path, error))?;
+        } else {
+            complain_of(self.rt, path, error)?;
+        }
+        Ok(false)
+    }
+
+    // Prints the lines of a dump, under its path if it isn't the only one.
+    fn print_lines(&self, path: &str, bytes: &[u8]) -> io::Result<bool> {
+        let mut page = Page::new(self.rt.alloc());
+        if !self.is_one {
+            page.line(&[Piece::Words("dump    "), Piece::Words(path)])?;
+        }
+        let added = add_dump(&mut page, bytes, self.names, &self.limits);
+        print!(self.rt; "{}", page.text())?;
+        match added {
+            Ok(()) => Ok(!page.is_damaged()),
+            Err(error) => self.complain_of_dump(path, error),
+        }
+    }
+
+    // Prints the line of JSON of a dump, or that of a file that is none.
+    fn print_json(&self, path: &str, bytes: &[u8]) -> io::Result<bool> {
+        match self.json(path, bytes) {
+            Ok(line) => {
+                self.print_line(Ok(line))?;
+                Ok(true)
+            }
+            Err(error) => {
+                self.print_line(refused_json(self.rt.alloc(), path, error.name()))?;
+                Ok(false)
+            }
+        }
+    }
+
+    // Prints the page of a dump.
+    fn print_page(&self, path: &str, bytes: &[u8]) -> io::Result<bool> {
+        match self.json(path, bytes) {
+            Ok(json) => {
+                let json = str::from_utf8(&json).unwrap_or("null");
+                let page = crash_html::page(self.rt.alloc(), json)?;
+                print!(self.rt; "{page}")?;
+                Ok(true)
+            }
+            Err(error) => self.complain_of_dump(path, error),
+        }
+    }
+
+    fn json(&self, path: &str, bytes: &[u8]) -> Result<Vec<u8>, Error> {
+        let limits = crash_json::Limits {
+            frames: self.limits.frames,
+            scan: self.limits.scan,
+        };
+        crash_json(self.rt.alloc(), path, bytes, self.names, &limits)
+    }
+
+    // Prints a line of JSON with its end in one write, or a line that takes no memory where there was none for that.
+    fn print_line(&self, line: Result<Vec<u8>, Error>) -> io::Result<()> {
+        match line.and_then(ended) {
+            Ok(line) => self.rt.write_all(&line),
+            Err(_) => self.rt.write_all(NO_MEMORY.as_bytes()),
+        }
+    }
+
+    fn complain_of_dump(&self, path: &str, error: Error) -> io::Result<bool> {
+        let reason = format!(in self.rt.alloc(); "{error}")?;
+        complain(self.rt, path, reason.as_str())?;
+        Ok(false)
+    }
+}
+
+// Makes the line of JSON of a file that can't be read. The only error is `OutOfMemory`.
+fn unread_json(alloc: Global, path: &str, error: &io::Error) -> Result<Vec<u8>, Error> {
+    if error.kind() == io::ErrorKind::OutOfMemory {
+        return refused_json(alloc, path, Error::OutOfMemory.name());
+    }
+    let reason = format!(in alloc; "{error}")?;
+    refused_json(alloc, path, reason.as_str())
+}
+
+// Ends a line.
+fn ended(mut line: Vec<u8>) -> Result<Vec<u8>, Error> {
+    line.push(b'\n').map_err(AllocError::from)?;
+    Ok(line)
 }

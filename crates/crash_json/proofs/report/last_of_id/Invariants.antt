@@ -1,0 +1,10 @@
+-- The last thread of the id among those below the index.
+use Rattle.std.proofs.Common.{◌≡◌, map, take}
+use Rattle.std.specs.Option.{option_map}
+use Rattle.threads_json.specs.Walked.{walked_of}
+use Rattle.crash_json.specs.Parts.{indexed_of}
+use Rattle.crash_json.specs.Report.{last_of_id}
+use Rattle.crash_json.proofs.report.last_of_id.Given as goal
+
+abbrev pub invariant-loop-index : goal.invariant-loop-index
+invariant-loop-index l = option_map indexed_of l.last ≡ last_of_id l.id (map walked_of (take l.index l.threads))

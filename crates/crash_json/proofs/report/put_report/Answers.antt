@@ -1,0 +1,11 @@
+-- The members, one behind another.
+use Rattle.std.proofs.Common.{rules}
+use Rattle.json_tree.proofs.Tokens.{more}
+use Rattle.crash_json.proofs.report.put_report.Goals as goal
+
+pub returns : goal.returns
+returns c = record {
+  tokens = more _ _ _ _ _ c.in_ok-put_crash.ensures.tokens (more _ _ _ _ _ c.in_ok-put_modules.ensures.tokens (more _ _ _ _ _ c.in_ok-put_threads.ensures.tokens (more _ _ _ _ _ c.in_ok-put_records.ensures.tokens c.in_ok-put_dump.ensures.tokens)));
+  before = search rules;
+  memory = search rules;
+}

@@ -1,0 +1,519 @@
+ghost use Rattle.std.specs.Prelude.{◌≡◌, ◌∷◌, [], IfOk, Some, codes, length, map};
+ghost use Rattle.std.specs.Option.{option_and_then, option_copied, option_map};
+ghost use Rattle.json.specs.Json.{string};
+ghost use Rattle.minidump.specs.Below.MemoryLists.Unified.{unified_list, unified_region, unified_regions};
+ghost use Rattle.minidump.specs.Below.Modules.UnloadedModuleList.{unloaded_module_list_of};
+ghost use Rattle.minidump.specs.Below.System.MiscInfo.{process_id};
+ghost use Rattle.minidump.specs.Promise.{handle_data_stream, linux_lsb_release_stream, mac_bootargs_stream, mac_crash_info_stream, module_list_stream, soft_errors_stream};
+ghost use Rattle.json_tree.specs.Tree.{Adds, Puts, array_of, count, object_of, or_null};
+ghost use Rattle.crash_summary.specs.Summary.{crash_context};
+ghost use Rattle.streams_json.specs.Modules.{module_json, unloaded_json};
+ghost use Rattle.streams_json.specs.Records.{handle_json, lsb_json, mac_crash_json};
+ghost use Rattle.streams_json.specs.System.{system_json};
+ghost use Rattle.threads_json.specs.Threads.{scope_of, thread_json};
+ghost use Rattle.threads_json.specs.Walked.{walked_of};
+ghost use Rattle.crash_json.specs.Parts.{IsCrashOf, indexed_of, parts_of, stream_of};
+ghost use Rattle.crash_json.specs.Report.{crash_members, crashing_json_of, crashing_thread, dump_members, last_of_id, main_module, module_members, record_members, report_members, scope_in, this_or, thread_members};
+
+use crate::contents::{Contents, Extras};
+use crate::crash::CrashInfo;
+use crate::directory::{EachEntry, Entry};
+use crash_summary::crash_context;
+use json::Writer;
+use json_tree::{Scalar, ToJson, put_fields, put_list, put_member};
+use minidump::{
+    CodeNames, Error, MinidumpContext, MinidumpModuleList, MinidumpUnloadedModuleList,
+    UnifiedMemory, UnifiedMemoryList,
+};
+use std::alloc::{AllocError, Global};
+use streams_json::{
+    EachHandle, EachModule, EachRegion, EachUnloadedModule, LsbReleaseJson, MacCrashJson,
+    SystemJson, borrowed,
+};
+use threads_json::{EachThread, WalkedThread, put_crashing_thread};
+
+/// The report on a dump.
+#[derive(Clone, Copy)]
+pub(crate) struct Report<'l, 'a, 'n, 't> {
+    pub(crate) path: &'l str,
+    pub(crate) contents: &'l Contents<'a>,
+    pub(crate) threads: &'l [WalkedThread<'t, 'a>],
+    pub(crate) streams: &'l [Entry],
+    pub(crate) names: &'l CodeNames<'n>,
+    pub(crate) frames: usize,
+}
+
+impl ToJson for Report<'_, '_, '_, '_> {
+    ghost use Rattle.crash_json.specs.Parts.{parts_of};
+    ghost use Rattle.crash_json.specs.Report.{report_json};
+
+    ghost json = { λ r. report_json r.path.now r.names.now r.frames (parts_of r) };
+
+    #[tactic(auto, using(json_tree::proofs::Tokens::object_of_members))]
+    fn put(&self, out: &mut Writer, alloc: Global) -> Result<(), Error> {
+        out.begin_object()?;
+        put_report(out, alloc, self)?;
+        out.end_object()?;
+        Ok(())
+    }
+}
+
+// Adds the members of a report.
+fn put_report(out: &mut Writer, alloc: Global, report: &Report<'_, '_, '_, '_>) -> Result<(), Error>
+    ensures { Adds result out.old out.new (report_members report.now.path.now report.now.names.now report.now.frames (parts_of report.now)) }
+{
+    put_crash(out, alloc, report)?;
+    put_modules(out, alloc, report)?;
+    put_threads(out, alloc, report)?;
+    put_records(out, alloc, report)?;
+    put_dump(out, alloc, report)?;
+    Ok(())
+}
+
+// Adds the file, the system and the crash.
+fn put_crash(out: &mut Writer, alloc: Global, report: &Report<'_, '_, '_, '_>) -> Result<(), Error>
+    ensures { Adds result out.old out.new (crash_members report.now.path.now report.now.names.now (parts_of report.now)) }
+{
+    put_fields(
+        out,
+        alloc,
+        &[
+            ("path", Scalar::Text(Some(report.path))),
+            ("status", Scalar::Text(Some("OK"))),
+        ],
+    )?;
+    put_system(out, alloc, report)?;
+    put_member(out, alloc, "crash_info", &crash_of(report))?;
+    Ok(())
+}
+
+// Adds the system information.
+fn put_system(out: &mut Writer, alloc: Global, report: &Report<'_, '_, '_, '_>) -> Result<(), Error>
+    ensures { Adds result out.old out.new ((codes "system_info", or_null system_json (parts_of report.now).system) ∷ []) }
+{
+    match &report.contents.system {
+        Some(system) => put_member(out, alloc, "system_info", &SystemJson(system)),
+        None => put_fields(out, alloc, &[("system_info", Scalar::Null)]),
+    }
+}
+
+// Returns where and why the process crashed.
+fn crash_of<'l, 'a, 'n>(report: &Report<'l, 'a, 'n, '_>) -> CrashInfo<'l, 'a, 'n>
+    ensures { IsCrashOf report.now result }
+{
+    CrashInfo {
+        system: report.contents.system.as_ref(),
+        exception: report.contents.exception.as_ref(),
+        assertion: report.contents.extras.assertion.as_ref(),
+        thread: crashing_index(report),
+        names: report.names,
+    }
+}
+
+// Returns the index of the thread that crashed.
+fn crashing_index(report: &Report<'_, '_, '_, '_>) -> Option<u64>
+    ensures { result ≡ option_map (λ t. t.0) (crashing_thread (parts_of report.now).exception (parts_of report.now).threads) }
+{
+    let (index, _) = crashing_thread(report)?;
+    Some(index as u64)
+}
+
+// Returns the thread that crashed, with its index: the last one of the exception's id.
+fn crashing_thread<'l, 't, 'a>(
+    report: &Report<'l, 'a, '_, 't>,
+) -> Option<(usize, &'l WalkedThread<'t, 'a>)>
+    ensures { option_map indexed_of result ≡ crashing_thread (parts_of report.now).exception (parts_of report.now).threads }
+{
+    last_of_id(
+        report.threads,
+        report.contents.exception.as_ref()?.thread_id,
+    )
+}
+
+// Returns the last thread of an id, with its index.
+fn last_of_id<'l, 't, 'a>(
+    threads: &'l [WalkedThread<'t, 'a>],
+    id: u32,
+) -> Option<(usize, &'l WalkedThread<'t, 'a>)>
+    ensures { option_map indexed_of result ≡ last_of_id id (map walked_of threads.now) }
+{
+    let mut last = None;
+    for (index, walked) in threads.iter().enumerate() {
+        last = this_or(index, walked, id, last);
+    }
+    last
+}
+
+// Returns a thread with its index, if it has the id, and else the one before.
+fn this_or<'l, 't, 'a>(
+    index: usize,
+    walked: &'l WalkedThread<'t, 'a>,
+    id: u32,
+    before: Option<(usize, &'l WalkedThread<'t, 'a>)>,
+) -> Option<(usize, &'l WalkedThread<'t, 'a>)>
+    ensures { option_map indexed_of result ≡ this_or index (walked_of walked.now) id (option_map indexed_of before.entry) }
+{
+    if walked.thread.raw.thread_id == id {
+        Some((index, walked))
+    } else {
+        before
+    }
+}
+
+// Adds the modules.
+fn put_modules(
+    out: &mut Writer,
+    alloc: Global,
+    report: &Report<'_, '_, '_, '_>,
+) -> Result<(), Error>
+    ensures { Adds result out.old out.new (module_members (parts_of report.now)) }
+{
+    put_main_module(out, alloc, &report.contents.modules)?;
+    put_loaded(out, alloc, &report.contents.modules)?;
+    put_unloaded(out, alloc, &report.contents.extras.unloaded)?;
+    Ok(())
+}
+
+fn put_main_module(
+    out: &mut Writer,
+    alloc: Global,
+    modules: &MinidumpModuleList,
+) -> Result<(), Error>
+    ensures { Adds result out.old out.new ((codes "main_module", or_null count (main_module (module_list_stream.value modules.now))) ∷ []) }
+{
+    put_fields(
+        out,
+        alloc,
+        &[("main_module", Scalar::Number(main_module(modules)))],
+    )
+}
+
+// Returns the index of the main module, which is the first.
+fn main_module(modules: &MinidumpModuleList) -> Option<u64>
+    ensures { result ≡ main_module (module_list_stream.value modules.now) }
+{
+    match modules.main_module() {
+        Some(_) => Some(0),
+        None => None,
+    }
+}
+
+fn put_loaded(out: &mut Writer, alloc: Global, modules: &MinidumpModuleList) -> Result<(), Error>
+    ensures { Adds result out.old out.new ((codes "modules", array_of module_json (module_list_stream.value modules.now)) ∷ []) }
+{
+    put_list(
+        out,
+        alloc,
+        "modules",
+        modules.iter().as_slice(),
+        &EachModule,
+    )
+}
+
+fn put_unloaded(
+    out: &mut Writer,
+    alloc: Global,
+    modules: &MinidumpUnloadedModuleList,
+) -> Result<(), Error>
+    ensures { Adds result out.old out.new ((codes "unloaded_modules", array_of unloaded_json (unloaded_module_list_of modules.now)) ∷ []) }
+{
+    put_list(
+        out,
+        alloc,
+        "unloaded_modules",
+        modules.iter().as_slice(),
+        &EachUnloadedModule,
+    )
+}
+
+// Adds the process and its threads.
+fn put_threads(
+    out: &mut Writer,
+    alloc: Global,
+    report: &Report<'_, '_, '_, '_>,
+) -> Result<(), Error>
+    ensures { Adds result out.old out.new (thread_members report.now.names.now report.now.frames (parts_of report.now)) }
+{
+    put_counts(out, alloc, report)?;
+    put_each_thread(out, alloc, report)?;
+    put_crashing(out, alloc, report)?;
+    Ok(())
+}
+
+fn put_counts(out: &mut Writer, alloc: Global, report: &Report<'_, '_, '_, '_>) -> Result<(), Error>
+    ensures { Adds result out.old out.new ((codes "pid", or_null count (option_and_then process_id (parts_of report.now).misc))
+        ∷ (codes "thread_count", count (length (parts_of report.now).threads)) ∷ []) }
+{
+    put_fields(
+        out,
+        alloc,
+        &[
+            ("pid", Scalar::Number(process_id(report))),
+            (
+                "thread_count",
+                Scalar::Number(Some(report.threads.len() as u64)),
+            ),
+        ],
+    )
+}
+
+// Returns the id of the process.
+fn process_id(report: &Report<'_, '_, '_, '_>) -> Option<u64>
+    ensures { result ≡ option_and_then process_id (parts_of report.now).misc }
+{
+    let id = report.contents.extras.misc.as_ref()?.raw.process_id()?;
+    Some(*id as u64)
+}
+
+fn put_each_thread(
+    out: &mut Writer,
+    alloc: Global,
+    report: &Report<'_, '_, '_, '_>,
+) -> Result<(), Error>
+    ensures { Adds result out.old out.new ((
+      codes "threads",
+      array_of
+          (thread_json (scope_in report.now.names.now report.now.frames (parts_of report.now))) (parts_of report.now).threads,
+    ) ∷ []) }
+{
+    put_list(out, alloc, "threads", report.threads, &each_thread(report))
+}
+
+// Returns what threads are written by.
+fn each_thread<'l, 'n>(report: &Report<'l, '_, 'n, '_>) -> EachThread<'l, 'n>
+    ensures { scope_of result ≡ scope_in report.now.names.now report.now.frames (parts_of report.now) }
+{
+    EachThread {
+        modules: &report.contents.modules,
+        thread_names: report.contents.extras.thread_names.as_ref(),
+        names: report.names,
+        frames: report.frames,
+    }
+}
+
+// Adds the thread that crashed.
+fn put_crashing(
+    out: &mut Writer,
+    alloc: Global,
+    report: &Report<'_, '_, '_, '_>,
+) -> Result<(), Error>
+    ensures { Adds result out.old out.new ((
+      codes "crashing_thread",
+      or_null (crashing_json_of report.now.names.now report.now.frames (parts_of report.now))
+          (crashing_thread (parts_of report.now).exception (parts_of report.now).threads),
+    ) ∷ []) }
+{
+    match crashing_thread(report) {
+        Some((index, thread)) => put_crashed(out, alloc, report, index, thread),
+        None => put_fields(out, alloc, &[("crashing_thread", Scalar::Null)]),
+    }
+}
+
+// Adds a thread as the one that crashed.
+fn put_crashed(
+    out: &mut Writer,
+    alloc: Global,
+    report: &Report<'_, '_, '_, '_>,
+    index: usize,
+    thread: &WalkedThread<'_, '_>,
+) -> Result<(), Error>
+    ensures { Adds result out.old out.new ((
+      codes "crashing_thread",
+      crashing_json_of report.now.names.now report.now.frames (parts_of report.now) (index, walked_of thread.now),
+    ) ∷ []) }
+{
+    out.key("crashing_thread")?;
+    put_crashed_value(out, alloc, report, index, thread)?;
+    Ok(())
+}
+
+// Puts a thread as the one that crashed.
+fn put_crashed_value(
+    out: &mut Writer,
+    alloc: Global,
+    report: &Report<'_, '_, '_, '_>,
+    index: usize,
+    thread: &WalkedThread<'_, '_>,
+) -> Result<(), Error>
+    ensures { Puts result out.old out.new
+        (crashing_json_of report.now.names.now report.now.frames (parts_of report.now) (index, walked_of thread.now)) }
+{
+    let context = context_of(report, thread);
+    put_crashing_thread(
+        out,
+        alloc,
+        &each_thread(report),
+        index,
+        thread,
+        context.as_ref(),
+    )
+}
+
+// Returns the context of the crash on a thread.
+fn context_of(
+    report: &Report<'_, '_, '_, '_>,
+    thread: &WalkedThread<'_, '_>,
+) -> Option<MinidumpContext>
+    ensures { option_map (λ c. c.raw) result
+        ≡ crash_context (parts_of report.now).system (parts_of report.now).exception (Some (walked_of thread.now).thread) }
+{
+    crash_context(
+        report.contents.system.as_ref(),
+        report.contents.exception.as_ref(),
+        Some(thread.thread),
+    )
+}
+
+// Adds what single streams hold.
+fn put_records(
+    out: &mut Writer,
+    alloc: Global,
+    report: &Report<'_, '_, '_, '_>,
+) -> Result<(), Error>
+    ensures { Adds result out.old out.new (record_members (parts_of report.now)) }
+{
+    put_release(out, alloc, &report.contents.extras)?;
+    put_mac(out, alloc, &report.contents.extras)?;
+    put_handles(out, alloc, &report.contents.extras)?;
+    put_last(out, alloc, report)?;
+    Ok(())
+}
+
+fn put_release(out: &mut Writer, alloc: Global, extras: &Extras<'_>) -> Result<(), Error>
+    ensures { Adds result out.old out.new
+        ((codes "lsb_release", or_null lsb_json (option_map linux_lsb_release_stream.value extras.now.lsb_release)) ∷ []) }
+{
+    match &extras.lsb_release {
+        Some(release) => put_member(out, alloc, "lsb_release", &LsbReleaseJson(release)),
+        None => put_fields(out, alloc, &[("lsb_release", Scalar::Null)]),
+    }
+}
+
+fn put_mac(out: &mut Writer, alloc: Global, extras: &Extras<'_>) -> Result<(), Error>
+    ensures { Adds result out.old out.new ((codes "mac_crash_info", or_null mac_crash_json (option_map mac_crash_info_stream.value extras.now.mac_crash_info))
+        ∷ (codes "mac_boot_args", or_null string (option_and_then (λ b. b.text) (option_map mac_bootargs_stream.value extras.now.mac_boot_args))) ∷ []) }
+{
+    put_mac_crash(out, alloc, extras)?;
+    put_fields(
+        out,
+        alloc,
+        &[("mac_boot_args", Scalar::Text(boot_args(extras)))],
+    )?;
+    Ok(())
+}
+
+fn put_mac_crash(out: &mut Writer, alloc: Global, extras: &Extras<'_>) -> Result<(), Error>
+    ensures { Adds result out.old out.new
+        ((codes "mac_crash_info", or_null mac_crash_json (option_map mac_crash_info_stream.value extras.now.mac_crash_info)) ∷ []) }
+{
+    match &extras.mac_crash_info {
+        Some(info) => put_member(out, alloc, "mac_crash_info", &MacCrashJson(info)),
+        None => put_fields(out, alloc, &[("mac_crash_info", Scalar::Null)]),
+    }
+}
+
+// Returns the arguments of macOS's boot.
+fn boot_args<'l>(extras: &'l Extras<'_>) -> Option<&'l str>
+    ensures { option_copied result ≡ option_and_then (λ b. b.text) (option_map mac_bootargs_stream.value extras.now.mac_boot_args) }
+{
+    borrowed(&extras.mac_boot_args.as_ref()?.bootargs)
+}
+
+fn put_handles(out: &mut Writer, alloc: Global, extras: &Extras<'_>) -> Result<(), Error>
+    ensures { Adds result out.old out.new
+        ((codes "handles", or_null (array_of handle_json) (option_map handle_data_stream.value extras.now.handles)) ∷ []) }
+{
+    match &extras.handles {
+        Some(handles) => put_list(
+            out,
+            alloc,
+            "handles",
+            handles.handles.as_slice(),
+            &EachHandle,
+        ),
+        None => put_fields(out, alloc, &[("handles", Scalar::Null)]),
+    }
+}
+
+fn put_last(out: &mut Writer, alloc: Global, report: &Report<'_, '_, '_, '_>) -> Result<(), Error>
+    ensures { Adds result out.old out.new ((codes "soft_errors", or_null string (parts_of report.now).soft_errors)
+        ∷ (codes "linux_memory_map_count", or_null count (parts_of report.now).maps) ∷ []) }
+{
+    put_fields(
+        out,
+        alloc,
+        &[
+            (
+                "soft_errors",
+                Scalar::Text(soft_errors(&report.contents.extras)),
+            ),
+            (
+                "linux_memory_map_count",
+                Scalar::Number(report.contents.maps),
+            ),
+        ],
+    )
+}
+
+// Returns the text of the soft errors.
+fn soft_errors<'a>(extras: &Extras<'a>) -> Option<&'a str>
+    ensures { option_copied result ≡ option_map soft_errors_stream.value extras.now.soft_errors }
+{
+    Some(extras.soft_errors.as_ref()?.as_ref())
+}
+
+// Adds the streams and the memory of the dump.
+fn put_dump(out: &mut Writer, alloc: Global, report: &Report<'_, '_, '_, '_>) -> Result<(), Error>
+    ensures { Adds result out.old out.new
+        ((codes "minidump", object_of (dump_members (parts_of report.now).streams (parts_of report.now).memory)) ∷ []) }
+{
+    let regions = regions_of(alloc, &report.contents.memory)?;
+    let part = DumpPart {
+        streams: report.streams,
+        regions: regions.as_slice(),
+    };
+    put_member(out, alloc, "minidump", &part)
+}
+
+// Returns the regions of memory.
+fn regions_of<'l, 'a>(
+    alloc: Global,
+    memory: &'l UnifiedMemoryList<'a>,
+) -> Result<Vec<UnifiedMemory<'l, 'a>>, AllocError>
+    ensures { IfOk result (λ regions. map unified_region regions.items ≡ unified_regions (unified_list memory.now)) }
+{
+    memory.iter().collect(alloc)
+}
+
+/// The streams and the memory of a dump.
+#[derive(Clone, Copy)]
+struct DumpPart<'l, 'm, 'a> {
+    streams: &'l [Entry],
+    regions: &'l [UnifiedMemory<'m, 'a>],
+}
+
+impl ToJson for DumpPart<'_, '_, '_> {
+    ghost use Rattle.std.specs.Prelude.{map};
+    ghost use Rattle.minidump.specs.Below.MemoryLists.Unified.{unified_region};
+    ghost use Rattle.json_tree.specs.Tree.{object_of};
+    ghost use Rattle.crash_json.specs.Parts.{stream_of};
+    ghost use Rattle.crash_json.specs.Report.{dump_members};
+
+    ghost json = { λ p. object_of (dump_members (map stream_of p.streams.now) (map unified_region p.regions.now)) };
+
+    #[tactic(auto, using(json_tree::proofs::Tokens::object_of_members))]
+    fn put(&self, out: &mut Writer, alloc: Global) -> Result<(), Error> {
+        out.begin_object()?;
+        put_parts(out, alloc, self)?;
+        out.end_object()?;
+        Ok(())
+    }
+}
+
+fn put_parts(out: &mut Writer, alloc: Global, part: &DumpPart<'_, '_, '_>) -> Result<(), Error>
+    ensures { Adds result out.old out.new (dump_members (map stream_of part.now.streams.now) (map unified_region part.now.regions.now)) }
+{
+    put_list(out, alloc, "streams", part.streams, &EachEntry)?;
+    put_list(out, alloc, "memory", part.regions, &EachRegion)?;
+    Ok(())
+}

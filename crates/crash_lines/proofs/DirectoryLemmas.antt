@@ -1,0 +1,70 @@
+-- The directory of a file that is a dump lies in it.
+use Rattle.std.proofs.Common.{◌≡◌, ℕ, ◌+◌, ◌*◌, ◌<◌, ◌≤◌, ap, arith, Bool, true, false, cond, count_by, length, List, [], ◌∷◌, refl, sym, ◌∙◌}
+use Rattle.std.specs.Prelude.{Result, Ok, Err, nat_lt}
+use Rattle.std.proofs.lemmas.Bool.Decides.{nat_tests}
+use Rattle.std.proofs.lemmas.List.Sums.{sum_by-cons}
+use Rattle.minidump.specs.declared.Endian.{Endian}
+use Rattle.minidump.specs.declared.Error.{Error}
+use Rattle.minidump.specs.declared.Error.TheVariants.{MissingDirectory}
+use Rattle.minidump.specs.declared.format.MINIDUMP_DIRECTORY.{MINIDUMP_DIRECTORY}
+use Rattle.minidump.specs.declared.format.MINIDUMP_HEADER.{MINIDUMP_HEADER}
+use Rattle.minidump.specs.Below.Bytes.Entries.{entries}
+use Rattle.minidump.specs.Below.Format.Header.{directory_entry}
+use Rattle.minidump.specs.Directory.{is_readable}
+use Rattle.minidump.specs.Dump.{Dump, dump_in}
+use Rattle.minidump.specs.Header.{header_of}
+
+-- ---- tests of numbers
+pub lt_yes : (m n : ℕ) → m < n → nat_lt m n ≡ true
+lt_yes m n h = grind (arith, nat_tests)
+
+pub lt_no : (m n : ℕ) → n ≤ m → nat_lt m n ≡ false
+lt_no m n h = grind (arith, nat_tests)
+
+-- ---- a dump
+abbrev made : List ℕ → Result (Endian × MINIDUMP_HEADER) Error → Result Dump Error
+made file (Err e) = Err e
+made file (Ok h) = cond (is_readable file h.1) (Ok (record { file = file; order = h.0; header = h.1 })) (Err MissingDirectory)
+
+-- a dump is of the bytes of its file, which hold its directory
+pub in_file : (file : List ℕ) (d : Dump) → dump_in file ≡ Ok d → (d.file ≡ file) × (is_readable file d.header ≡ true)
+in_file file d is = by_header (header_of file) is
+  where
+    by_readable : (h : Endian × MINIDUMP_HEADER) (b : Bool) → is_readable file h.1 ≡ b
+        → cond b (Ok (record { file = file; order = h.0; header = h.1 })) (Err MissingDirectory) ≡ Ok d → (d.file ≡ file) × (is_readable file d.header ≡ true)
+    by_readable h true readable made_is =
+        let same : ◌≡◌ {A = Dump} (record { file = file; order = h.0; header = h.1 }) d = cc in
+        (sym (ap (λ (x : Dump). x.file) same), ap (λ (x : Dump). is_readable file x.header) (sym same) ∙ readable)
+    by_readable h false readable made_is = cc
+
+    by_header : (r : Result (Endian × MINIDUMP_HEADER) Error) → made file r ≡ Ok d → (d.file ≡ file) × (is_readable file d.header ≡ true)
+    by_header (Err e) made_is = cc
+    by_header (Ok h) made_is = by_readable h (is_readable file h.1) refl made_is
+
+-- where there are entries, they are in the file
+pub entries_fit : (file : List ℕ) (h : MINIDUMP_HEADER) → is_readable file h ≡ true → (h.stream_count ≡ 0 → ⊥)
+    → h.stream_directory_rva + 12 * h.stream_count ≤ length file
+entries_fit file h readable some = grind (arith, nat_tests)
+
+-- no entries, wherever they would begin
+pub no_entries : (order : Endian) (file : List ℕ) (a b n : ℕ) → n ≡ 0 → entries directory_entry order file a n ≡ entries directory_entry order file b n
+unfolding entries
+no_entries order file a b n none = rw none refl
+
+-- one more was counted
+pub count_next : (test : MINIDUMP_DIRECTORY → Bool) (count weight all : ℕ) (left rest : List MINIDUMP_DIRECTORY) (e : MINIDUMP_DIRECTORY) → left ≡ e ∷ rest
+    → weight ≡ cond (test e) 1 0 → count + count_by test left ≡ all → (count + weight) + count_by test rest ≡ all
+count_next test count weight all left rest e is weight_is before =
+    let one = sum_by-cons (λ x. cond (test x) 1 0) e rest in
+    let split : count_by test left ≡ weight + count_by test rest = ap (count_by test) is ∙ one ∙ ap (λ n. n + count_by test rest) (sym weight_is) in
+    omega (arith, split, before)
+
+-- and all are counted
+pub count_end : (test : MINIDUMP_DIRECTORY → Bool) (count all : ℕ) (left : List MINIDUMP_DIRECTORY) → left ≡ [] → count + count_by test left ≡ all → count ≡ all
+count_end test count all left none before =
+    let nothing : count_by test left ≡ 0 = ap (count_by test) none in omega (arith, nothing, before)
+
+-- one entry counts once at most
+pub weight_le : (b : Bool) (weight : ℕ) → weight ≡ cond b 1 0 → weight ≤ 1
+weight_le true weight is = omega (arith, is)
+weight_le false weight is = omega (arith, is)

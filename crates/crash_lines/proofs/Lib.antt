@@ -1,0 +1,12 @@
+-- What several proofs share.
+pub mod AnyLemmas
+pub mod DirectoryLemmas
+pub mod FileName
+pub mod Leads
+pub mod NamedLemmas
+pub mod PageLemmas
+pub mod RowLemmas
+pub mod StackLemmas
+pub mod StreamLemmas
+pub mod WalkLemmas
+pub mod WholeLemmas

@@ -1,0 +1,5 @@
+-- The line of an error.
+use Rattle.crash_lines.proofs.messages.add_crashpad.Goals as goal
+
+pub returns-in-Err : goal.returns-in-Err
+returns-in-Err c = rw c.in-Err.is c.unread.ensures

@@ -1,0 +1,16 @@
+-- One more, and the end.
+use Rattle.std.proofs.Common.{string_bytes}
+use Rattle.crash_lines.specs.Messages.{annotation_part}
+use Rattle.crash_lines.proofs.Leads.{leads_end, leads_next}
+use Rattle.crash_lines.proofs.messages.add_texts.Goals as goal
+
+pub loop-name-preserved : goal.loop-name-preserved
+loop-name-preserved c =
+    leads_next annotation_part (λ e. (string_bytes e.0, string_bytes e.1)) _ c.loop-name.name-iterator c.next.new.self
+    (c.in-Some.name.now, c.in-Some.text.now) c.in-Some.ensures.steps c.loop-name.invariant
+    (rw (← c.as_str.ensures.value, ← c.as_str-in-loop-name.ensures.value) c.in_ok-add_annotation.ensures)
+
+pub returns : goal.returns
+returns c =
+    leads_end annotation_part (λ e. (string_bytes e.0, string_bytes e.1)) _ c.loop-name.name-iterator c.in-None.ensures.steps.0
+    c.loop-name.invariant

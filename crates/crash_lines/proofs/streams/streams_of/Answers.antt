@@ -1,0 +1,19 @@
+-- Each stream is the dump's.
+use Rattle.minidump.specs.DumpValue.{dump_of}
+use Rattle.minidump.specs.Promise.{assertion_stream, crashpad_info_stream, exception_stream, mac_crash_info_stream, misc_info_stream}
+use Rattle.minidump.specs.Promise.{system_info_stream, thread_list_stream, thread_names_stream}
+use Rattle.crash_lines.proofs.StreamLemmas.{given, same_streams}
+use Rattle.crash_lines.proofs.streams.streams_of.Goals as goal
+
+pub returns-clause-streams : goal.returns-clause-streams
+returns-clause-streams c =
+    same_streams _ _ (given system_info_stream.value _ _ c.in_ok-system.ensures.found)
+    (given exception_stream.value _ _ c.in_ok-exception.ensures.found)
+    (given thread_list_stream.value _ _ c.in_ok-threads.ensures.found)
+    (given thread_names_stream.value _ _ c.in_ok-names.ensures.found)
+    (c.or_none-modules.ensures.modules (dump_of c.args.dump.now) c.in_ok-found.ensures.found)
+    (c.or_none-modules.ensures.error (dump_of c.args.dump.now) c.in_ok-found.ensures.found)
+    (given misc_info_stream.value _ _ c.in_ok-misc.ensures.found)
+    (given assertion_stream.value _ _ c.in_ok-assertion.ensures.found)
+    (given crashpad_info_stream.value _ _ c.in_ok-crashpad.ensures.found)
+    (given mac_crash_info_stream.value _ _ c.in_ok-mac.ensures.found)

@@ -1,0 +1,107 @@
+ghost use Rattle.std.specs.Prelude.{◌≡◌, [], ◌∷◌, Err, IfOk, IsOkUnless};
+ghost use Rattle.minidump.specs.Below.Contexts.Context.{map_ok};
+ghost use Rattle.minidump.specs.Below.MemoryLists.Unified.{unified_list};
+ghost use Rattle.minidump.specs.Below.MemoryLists.UnifiedInfo.{info_list};
+ghost use Rattle.minidump.specs.Dump.{stream_of};
+ghost use Rattle.minidump.specs.DumpValue.{dump_of};
+ghost use Rattle.minidump.specs.Promise.{linux_maps_stream, memory64_list_stream, memory_info_list_stream, memory_list_stream};
+ghost use Rattle.crash_page.specs.Page.{Adds};
+ghost use Rattle.crash_page.specs.Part.{parts};
+ghost use Rattle.crash_lines.specs.Contents.{first_infos, infos_in, infos_part, memory_in, memory_part, short_memory};
+
+use crate::streams::find;
+use crash_page::Page;
+use minidump::{
+    Error, Minidump, MinidumpLinuxMaps, MinidumpMemory64List, MinidumpMemoryInfoList,
+    MinidumpMemoryList, UnifiedMemoryInfoList, UnifiedMemoryList,
+};
+use std::alloc::Global;
+
+/// The memory of a process, and what is known of its regions: empty where the dump has none that can be read.
+#[derive(Drop)]
+pub(crate) struct Space<'a> {
+    pub(crate) memory: UnifiedMemoryList<'a>,
+    pub(crate) infos: UnifiedMemoryInfoList<'a>,
+}
+
+// Reads the memory of a dump, and adds a line for each of its streams that can't be read.
+pub(crate) fn space_of<'a>(page: &mut Page, dump: &Minidump<'a>) -> Result<Space<'a>, Error>
+    ensures lines { Adds page.old page.new (parts (memory_part (dump_of dump.now) ∷ infos_part (dump_of dump.now) ∷ [])) result }
+    ensures memory { IfOk result (λ s. unified_list s.memory ≡ memory_in (dump_of dump.now)) }
+    ensures infos { IfOk result (λ s. info_list s.infos ≡ infos_in (dump_of dump.now)) }
+    ensures refused { IsOkUnless result Error.OutOfMemory }
+{
+    let memory = memory_of(page, dump)?;
+    let infos = infos_of(page, dump)?;
+    Ok(Space { memory, infos })
+}
+
+// Reads the 64-bit memory, else the other list.
+fn memory_of<'a>(page: &mut Page, dump: &Minidump<'a>) -> Result<UnifiedMemoryList<'a>, Error>
+    ensures lines { Adds page.old page.new (memory_part (dump_of dump.now)) result }
+    ensures value { IfOk result (λ l. unified_list l ≡ memory_in (dump_of dump.now)) }
+    ensures refused { IsOkUnless result Error.OutOfMemory }
+{
+    match find::<MinidumpMemory64List<'a>>(page.alloc(), dump)? {
+        Ok(list) => Ok(UnifiedMemoryList::Memory64(list)),
+        Err(error) => short_memory_of(page, dump, error),
+    }
+}
+
+// Reads the memory where the 64-bit memory can't be read.
+fn short_memory_of<'a>(
+    page: &mut Page,
+    dump: &Minidump<'a>,
+    error: Error,
+) -> Result<UnifiedMemoryList<'a>, Error>
+    requires { stream_of memory64_list_stream (dump_of dump.now) ≡ Err error }
+    ensures lines { Adds page.old page.new (memory_part (dump_of dump.now)) result }
+    ensures value { IfOk result (λ l. unified_list l ≡ memory_in (dump_of dump.now)) }
+    ensures refused { IsOkUnless result Error.OutOfMemory }
+{
+    page.unread("64-bit memory", error)?;
+    let short = find::<MinidumpMemoryList<'a>>(page.alloc(), dump)?;
+    page.unread_stream("memory", &short)?;
+    Ok(or_empty(page.alloc(), short))
+}
+
+// Returns the list that could be read, or an empty one.
+fn or_empty<'a>(
+    alloc: Global,
+    short: Result<MinidumpMemoryList<'a>, Error>,
+) -> UnifiedMemoryList<'a>
+    ensures { unified_list result ≡ short_memory (map_ok memory_list_stream.value short.entry) }
+{
+    match short {
+        Ok(list) => UnifiedMemoryList::Memory(list),
+        Err(_) => UnifiedMemoryList::new(alloc),
+    }
+}
+
+// Reads what is known of the regions.
+fn infos_of<'a>(page: &mut Page, dump: &Minidump<'a>) -> Result<UnifiedMemoryInfoList<'a>, Error>
+    ensures lines { Adds page.old page.new (infos_part (dump_of dump.now)) result }
+    ensures value { IfOk result (λ l. info_list l ≡ infos_in (dump_of dump.now)) }
+    ensures refused { IsOkUnless result Error.OutOfMemory }
+{
+    let infos = find::<MinidumpMemoryInfoList<'a>>(page.alloc(), dump)?;
+    page.unread_stream("memory information", &infos)?;
+    let maps = find::<MinidumpLinuxMaps<'a>>(page.alloc(), dump)?;
+    page.unread_stream("maps", &maps)?;
+    Ok(first_infos(page.alloc(), infos, maps))
+}
+
+// Returns the first that could be read, or an empty list.
+fn first_infos<'a>(
+    alloc: Global,
+    infos: Result<MinidumpMemoryInfoList<'a>, Error>,
+    maps: Result<MinidumpLinuxMaps<'a>, Error>,
+) -> UnifiedMemoryInfoList<'a>
+    ensures { info_list result ≡ first_infos (map_ok memory_info_list_stream.value infos.entry) (map_ok linux_maps_stream.value maps.entry) }
+{
+    match (infos, maps) {
+        (Ok(infos), _) => UnifiedMemoryInfoList::Info(infos),
+        (Err(_), Ok(maps)) => UnifiedMemoryInfoList::Maps(maps),
+        (Err(_), Err(_)) => UnifiedMemoryInfoList::empty(alloc),
+    }
+}

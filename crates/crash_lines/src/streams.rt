@@ -1,0 +1,90 @@
+ghost use Rattle.std.specs.Prelude.{◌≡◌, [], IfOk, IsOkUnless, unwrap_or};
+ghost use Rattle.std.specs.Result.{result_err, result_ok};
+ghost use Rattle.minidump.specs.Below.Format.Answer.{Gives};
+ghost use Rattle.minidump.specs.Dump.{Dump, stream_of};
+ghost use Rattle.minidump.specs.DumpValue.{dump_of};
+ghost use Rattle.minidump.specs.Promise.{module_list_stream};
+ghost use Rattle.crash_lines.specs.Streams.{streams_in, values_of};
+
+use minidump::{
+    Error, Minidump, MinidumpAssertion, MinidumpCrashpadInfo, MinidumpException,
+    MinidumpMacCrashInfo, MinidumpMiscInfo, MinidumpModuleList, MinidumpStream, MinidumpSystemInfo,
+    MinidumpThreadList, MinidumpThreadNames,
+};
+use std::alloc::Global;
+
+/// The streams that are used, each as the format has it: the stream, or the error for which there is none.
+#[derive(Drop)]
+pub(crate) struct Streams<'a> {
+    pub(crate) system: Result<MinidumpSystemInfo, Error>,
+    pub(crate) exception: Result<MinidumpException<'a>, Error>,
+    pub(crate) threads: Result<MinidumpThreadList<'a>, Error>,
+    pub(crate) names: Result<MinidumpThreadNames, Error>,
+    // none where the stream can't be read
+    pub(crate) modules: MinidumpModuleList,
+    pub(crate) modules_error: Option<Error>,
+    pub(crate) misc: Result<MinidumpMiscInfo, Error>,
+    pub(crate) assertion: Result<MinidumpAssertion, Error>,
+    pub(crate) crashpad: Result<MinidumpCrashpadInfo, Error>,
+    pub(crate) mac: Result<MinidumpMacCrashInfo, Error>,
+}
+
+// Reads the streams of a dump. The only error is `OutOfMemory`.
+pub(crate) fn streams_of<'a>(alloc: Global, dump: &Minidump<'a>) -> Result<Streams<'a>, Error>
+    ensures streams { IfOk result (λ s. values_of s ≡ streams_in (dump_of dump.now)) }
+    ensures memory { IsOkUnless result Error.OutOfMemory }
+{
+    let system = find(alloc, dump)?;
+    let exception = find(alloc, dump)?;
+    let threads = find(alloc, dump)?;
+    let names = find(alloc, dump)?;
+    let found = find(alloc, dump)?;
+    let (modules, modules_error) = or_none(alloc, found);
+    let misc = find(alloc, dump)?;
+    let assertion = find(alloc, dump)?;
+    let crashpad = find(alloc, dump)?;
+    let mac = find(alloc, dump)?;
+    Ok(Streams {
+        system,
+        exception,
+        threads,
+        names,
+        modules,
+        modules_error,
+        misc,
+        assertion,
+        crashpad,
+        mac,
+    })
+}
+
+// Returns the modules and no error, or no modules and the error.
+fn or_none(
+    alloc: Global,
+    found: Result<MinidumpModuleList, Error>,
+) -> (MinidumpModuleList, Option<Error>)
+    ensures modules { (d : Dump) → Gives module_list_stream.value ⊥ found (stream_of module_list_stream d)
+        → module_list_stream.value result.0 ≡ unwrap_or (result_ok (stream_of module_list_stream d)) [] }
+    ensures error { (d : Dump) → Gives module_list_stream.value ⊥ found (stream_of module_list_stream d)
+        → result.1 ≡ result_err (stream_of module_list_stream d) }
+{
+    match found {
+        Ok(modules) => (modules, None),
+        Err(error) => (MinidumpModuleList::new(alloc), Some(error)),
+    }
+}
+
+// Reads a stream, or returns the error for which the dump has none. Want of memory is no such error.
+pub(crate) fn find<'a, S: MinidumpStream<'a>>(
+    alloc: Global,
+    dump: &Minidump<'a>,
+) -> Result<Result<S, Error>, Error>
+    ensures found { IfOk result (λ found. Gives S.spec.value ⊥ found (stream_of S.spec (dump_of dump.now))) }
+    ensures memory { IsOkUnless result Error.OutOfMemory }
+{
+    match dump.get_stream(alloc) {
+        Ok(stream) => Ok(Ok(stream)),
+        Err(Error::OutOfMemory) => Err(Error::OutOfMemory),
+        Err(error) => Ok(Err(error)),
+    }
+}

@@ -1,0 +1,19 @@
+ghost use Rattle.std.specs.Prelude.{◌≡◌, string_bytes, true};
+ghost use Rattle.std.specs.List.{list_all};
+ghost use Rattle.crash_page.specs.Escape.{is_printed};
+
+mod lines;
+
+use std::alloc::Global;
+
+/// The lines that are printed of a dump, whether something that was wanted of it can't be read, and the numbers that were
+/// marked on the way, as the base addresses of modules that are listed at the end.
+#[derive(Drop)]
+pub struct Page {
+    alloc: Global,
+    text: String,
+    is_damaged: bool,
+    marks: Vec<u64>,
+    // the text has no control character but the ends of its lines
+    ghost printed: { list_all is_printed (string_bytes text) ≡ true },
+}

@@ -1,0 +1,128 @@
+ghost use Rattle.std.specs.Prelude.{◌≡◌, ◌++◌, ◌∷◌, ℕ, [], IsOkUnless, OnOk};
+ghost use Rattle.json.specs.Json.{Json};
+ghost use Rattle.json_tree.specs.Tree.{Adds, Puts, array_of, item_tokens, numbered_array_of, numbered_tokens};
+
+use json::Writer;
+use minidump_format::Error;
+use std::alloc::Global;
+
+/// What gives the items of a list their JSON values.
+pub trait ItemJson<X> {
+    ghost json_of: { Self → X → Json };
+
+    /// Puts the value of an item. The only error is `OutOfMemory`.
+    fn put_item(&self, item: &X, out: &mut Writer, alloc: Global) -> Result<(), Error>
+        ensures { Puts result out.old out.new (json_of self.now item.now) };
+}
+
+/// What gives the items of a list their JSON values, by their numbers, from 0 on.
+pub trait NumberedJson<X> {
+    ghost json_at: { Self → ℕ → X → Json };
+
+    /// Puts the value of an item. The only error is `OutOfMemory`.
+    fn put_item_at(
+        &self,
+        number: usize,
+        item: &X,
+        out: &mut Writer,
+        alloc: Global,
+    ) -> Result<(), Error>
+        ensures { Puts result out.old out.new (json_at self.now number item.now) };
+}
+
+/// Adds a member whose value is an array, with the value of each item of a list. The only error is `OutOfMemory`.
+#[tactic(auto, unfolding(crate::specs::Tree::member_list_tokens))]
+pub fn put_list<X, F: ItemJson<X>>(
+    out: &mut Writer,
+    alloc: Global,
+    name: &str,
+    items: &[X],
+    by: &F,
+) -> Result<(), Error>
+    ensures { Adds result out.old out.new ((name.now, array_of (F.json_of by.now) items.now) ∷ []) }
+{
+    out.key(name)?;
+    put_array(out, alloc, items, by)?;
+    Ok(())
+}
+
+/// Adds a member whose value is an array, with the value of each item of a list by its number. The only error is
+/// `OutOfMemory`.
+#[tactic(auto, unfolding(crate::specs::Tree::member_list_tokens))]
+pub fn put_numbered_list<X, F: NumberedJson<X>>(
+    out: &mut Writer,
+    alloc: Global,
+    name: &str,
+    items: &[X],
+    by: &F,
+) -> Result<(), Error>
+    ensures { Adds result out.old out.new ((name.now, numbered_array_of (F.json_at by.now) items.now) ∷ []) }
+{
+    out.key(name)?;
+    put_numbered_array(out, alloc, items, by)?;
+    Ok(())
+}
+
+#[tactic(auto, using(crate::proofs::Tokens::array_of_items))]
+fn put_array<X, F: ItemJson<X>>(
+    out: &mut Writer,
+    alloc: Global,
+    items: &[X],
+    by: &F,
+) -> Result<(), Error>
+    ensures { Puts result out.old out.new (array_of (F.json_of by.now) items.now) }
+{
+    out.begin_array()?;
+    put_items(out, alloc, items, by)?;
+    out.end_array()?;
+    Ok(())
+}
+
+#[tactic(auto, using(crate::proofs::Tokens::array_of_numbered))]
+fn put_numbered_array<X, F: NumberedJson<X>>(
+    out: &mut Writer,
+    alloc: Global,
+    items: &[X],
+    by: &F,
+) -> Result<(), Error>
+    ensures { Puts result out.old out.new (numbered_array_of (F.json_at by.now) items.now) }
+{
+    out.begin_array()?;
+    put_numbered_items(out, alloc, items, by)?;
+    out.end_array()?;
+    Ok(())
+}
+
+// Puts the values of items, one behind another.
+fn put_items<X, F: ItemJson<X>>(
+    out: &mut Writer,
+    alloc: Global,
+    items: &[X],
+    by: &F,
+) -> Result<(), Error>
+    ensures tokens { OnOk result (out.new.tokens ≡ out.old.tokens ++ item_tokens (F.json_of by.now) items.now) }
+    ensures before { out.new.before ≡ out.old.before }
+    ensures memory { IsOkUnless result Error.OutOfMemory }
+{
+    for x in items {
+        by.put_item(x, out, alloc)?;
+    }
+    Ok(())
+}
+
+// Puts the values of items by their numbers, one behind another.
+fn put_numbered_items<X, F: NumberedJson<X>>(
+    out: &mut Writer,
+    alloc: Global,
+    items: &[X],
+    by: &F,
+) -> Result<(), Error>
+    ensures tokens { OnOk result (out.new.tokens ≡ out.old.tokens ++ numbered_tokens (F.json_at by.now) items.now) }
+    ensures before { out.new.before ≡ out.old.before }
+    ensures memory { IsOkUnless result Error.OutOfMemory }
+{
+    for (number, x) in items.iter().enumerate() {
+        by.put_item_at(number, x, out, alloc)?;
+    }
+    Ok(())
+}

@@ -1,0 +1,118 @@
+ghost use Rattle.std.specs.Prelude.{◌≡◌, ◌≤◌, [], ◌∷◌, IfOk, IsOkUnless, Some, map, string_bytes};
+ghost use Rattle.std.specs.Str.{IsUtf8};
+ghost use Rattle.json.specs.Json.{Json, document, max_depth};
+ghost use Rattle.json.specs.Print.{print};
+ghost use Rattle.json.specs.Tree.{depth, json_tokens};
+ghost use Rattle.json_tree.specs.Tree.{Adds, Puts, field_of, hex_text, object_of, scalar_json};
+
+use json::Writer;
+use minidump_bytes::{Piece, made};
+use minidump_format::Error;
+use std::alloc::{AllocError, Global};
+
+/// A value without parts.
+#[derive(Clone, Copy)]
+pub enum Scalar<'a> {
+    /// `null`.
+    Null,
+    /// A text, or `null`.
+    Text(Option<&'a str>),
+    /// A number in decimal, or `null`.
+    Number(Option<u64>),
+    /// A number in hexadecimal, as the text `"0x1f"`, or `null`.
+    Hex(Option<u64>),
+}
+
+/// A type that has a JSON value.
+pub trait ToJson {
+    ghost json: { Self → Json };
+
+    /// Puts the value. The only error is `OutOfMemory`.
+    fn put(&self, out: &mut Writer, alloc: Global) -> Result<(), Error>
+        ensures { Puts result out.old out.new (json self.now) };
+}
+
+/// Puts an object whose members have no parts. The only error is `OutOfMemory`.
+#[tactic(auto, using(crate::proofs::Tokens::object_of_members))]
+pub fn put_object(
+    out: &mut Writer,
+    alloc: Global,
+    fields: &[(&str, Scalar<'_>)],
+) -> Result<(), Error>
+    ensures { Puts result out.old out.new (object_of (map field_of fields.now)) }
+{
+    out.begin_object()?;
+    put_fields(out, alloc, fields)?;
+    out.end_object()?;
+    Ok(())
+}
+
+/// Adds members without parts to an object. The only error is `OutOfMemory`.
+#[tactic(auto, unfolding(crate::specs::Tree::member_list_tokens))]
+pub fn put_fields(
+    out: &mut Writer,
+    alloc: Global,
+    fields: &[(&str, Scalar<'_>)],
+) -> Result<(), Error>
+    ensures { Adds result out.old out.new (map field_of fields.now) }
+{
+    for (name, scalar) in fields {
+        out.key(name)?;
+        put_scalar(out, alloc, *scalar)?;
+    }
+    Ok(())
+}
+
+/// Adds a member to an object. The only error is `OutOfMemory`.
+#[tactic(auto, unfolding(crate::specs::Tree::member_list_tokens))]
+pub fn put_member<T: ToJson>(
+    out: &mut Writer,
+    alloc: Global,
+    name: &str,
+    value: &T,
+) -> Result<(), Error>
+    ensures { Adds result out.old out.new ((name.now, T.json value.now) ∷ []) }
+{
+    out.key(name)?;
+    value.put(out, alloc)?;
+    Ok(())
+}
+
+// Puts a value without parts.
+fn put_scalar(out: &mut Writer, alloc: Global, scalar: Scalar<'_>) -> Result<(), Error>
+    ensures { Puts result out.old out.new (scalar_json scalar.entry) }
+{
+    match scalar {
+        Scalar::Text(Some(text)) => out.string(text)?,
+        Scalar::Number(Some(number)) => out.u64(number)?,
+        Scalar::Hex(Some(number)) => {
+            let text = hex_text(alloc, number)?;
+            out.string(text.as_str())?
+        }
+        Scalar::Null | Scalar::Text(None) | Scalar::Number(None) | Scalar::Hex(None) => {
+            out.null()?
+        }
+    }
+    Ok(())
+}
+
+// Makes the text of a number in hexadecimal.
+#[tactic(auto, unfolding(crate::specs::Tree::hex_text))]
+fn hex_text(alloc: Global, number: u64) -> Result<String, AllocError>
+    ensures { IfOk result (λ text. string_bytes text ≡ hex_text number) }
+{
+    made(alloc, &[Piece::Hex(number)])
+}
+
+/// Makes the JSON text of a value, compact, without line feeds between its tokens. The only error is `OutOfMemory`.
+pub fn text_of<T: ToJson>(alloc: Global, value: &T) -> Result<Vec<u8>, Error>
+    ensures text { IfOk result (λ text. text.items ≡ print (json_tokens (T.json value.now))) }
+    ensures reads_back { IfOk result (λ text. depth (T.json value.now) ≤ max_depth
+        → document text.items ≡ Some (T.json value.now)) }
+    ensures utf8 { IfOk result (λ text. IsUtf8 text.items) }
+    ensures memory { IsOkUnless result Error.OutOfMemory }
+{
+    let mut out = Writer::new(Vec::new(alloc));
+    value.put(&mut out, alloc)?;
+    Ok(out.into_inner())
+}

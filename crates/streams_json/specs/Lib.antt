@@ -1,0 +1,6 @@
+-- The definitions that the contracts cite.
+pub mod Names
+pub mod System
+pub mod Modules
+pub mod Memory
+pub mod Records

@@ -1,0 +1,166 @@
+ghost use Rattle.std.specs.Prelude.{◌≡◌, IfOk, IsOkUnless, string_bytes};
+ghost use Rattle.std.specs.Option.{option_copied, option_map};
+ghost use Rattle.minidump.specs.Below.Modules.CodeId.{text_of};
+ghost use Rattle.minidump.specs.Below.Modules.DebugId.{breakpad_text};
+ghost use Rattle.json_tree.specs.Tree.{Puts};
+ghost use Rattle.streams_json.specs.Modules.{end_of, module_object, unloaded_object};
+ghost use Rattle.streams_json.specs.Names.{file_name};
+
+use crate::names::{borrowed, file_name};
+use json::Writer;
+use json_tree::{ItemJson, Scalar, put_object};
+use minidump::{CodeId, DebugId, Error, MinidumpModule, MinidumpUnloadedModule, Module};
+use std::alloc::Global;
+
+/// A module of a list.
+#[derive(Clone, Copy)]
+pub struct EachModule;
+
+impl ItemJson<MinidumpModule> for EachModule {
+    ghost use Rattle.minidump.specs.Below.Modules.Module.{module_of};
+    ghost use Rattle.streams_json.specs.Modules.{module_json};
+
+    ghost json_of = { λ _ m. module_json (module_of m) };
+
+    fn put_item(
+        &self,
+        item: &MinidumpModule,
+        out: &mut Writer,
+        alloc: Global,
+    ) -> Result<(), Error> {
+        let name = file_name(alloc, item.code_file())?;
+        let code_id = item.code_identifier(alloc)?;
+        let debug_file = name_of(alloc, &item.debug_file(alloc)?)?;
+        let debug_id = breakpad_text(alloc, item.debug_identifier())?;
+        let version = item.version(alloc)?;
+        put_module(
+            out,
+            alloc,
+            item.base_address(),
+            item.size(),
+            name.as_str(),
+            digits_of(&code_id),
+            borrowed(&debug_file),
+            borrowed(&debug_id),
+            borrowed(&version),
+        )
+    }
+}
+
+/// An unloaded module of a list.
+#[derive(Clone, Copy)]
+pub struct EachUnloadedModule;
+
+impl ItemJson<MinidumpUnloadedModule> for EachUnloadedModule {
+    ghost use Rattle.minidump.specs.Below.Modules.UnloadedModule.{unloaded_of};
+    ghost use Rattle.streams_json.specs.Modules.{unloaded_json};
+
+    ghost json_of = { λ _ m. unloaded_json (unloaded_of m) };
+
+    fn put_item(
+        &self,
+        item: &MinidumpUnloadedModule,
+        out: &mut Writer,
+        alloc: Global,
+    ) -> Result<(), Error> {
+        let name = file_name(alloc, item.code_file())?;
+        let code_id = item.code_identifier(alloc)?;
+        put_unloaded(
+            out,
+            alloc,
+            item.base_address(),
+            item.size(),
+            name.as_str(),
+            digits_of(&code_id),
+        )
+    }
+}
+
+// Makes the name of a file that may be absent.
+fn name_of(alloc: Global, path: &Option<String>) -> Result<Option<String>, Error>
+    ensures value { IfOk result (λ name. option_map string_bytes name ≡ option_map (λ p. file_name (string_bytes p)) path.now) }
+    ensures memory { IsOkUnless result Error.OutOfMemory }
+{
+    match path {
+        Some(path) => Ok(Some(file_name(alloc, path.as_str())?)),
+        None => Ok(None),
+    }
+}
+
+// Returns the address behind a module, or `None` if it has more than 64 bits.
+fn end_of(base: u64, size: u64) -> Option<u64>
+    ensures { result ≡ end_of base size }
+{
+    base.checked_add(size)
+}
+
+// Returns the digits of an identifier that may be absent.
+fn digits_of(id: &Option<CodeId>) -> Option<&str>
+    ensures { option_copied result ≡ option_map text_of id.now }
+{
+    id.as_ref().map(|id| id.as_str())
+}
+
+// Makes Breakpad's text of an identifier that may be absent.
+fn breakpad_text(alloc: Global, id: Option<DebugId>) -> Result<Option<String>, Error>
+    ensures value { IfOk result (λ text. option_map string_bytes text ≡ option_map breakpad_text id) }
+    ensures memory { IsOkUnless result Error.OutOfMemory }
+{
+    match id {
+        Some(id) => Ok(Some(format!(in alloc; "{}", id.breakpad())?)),
+        None => Ok(None),
+    }
+}
+
+#[tactic(auto, unfolding(crate::specs::Modules::module_object))]
+fn put_module<'t>(
+    out: &mut Writer,
+    alloc: Global,
+    base: u64,
+    size: u64,
+    name: &'t str,
+    code_id: Option<&'t str>,
+    debug_file: Option<&'t str>,
+    debug_id: Option<&'t str>,
+    version: Option<&'t str>,
+) -> Result<(), Error>
+    ensures { Puts result out.old out.new (module_object base size name.now (option_copied code_id.entry)
+        (option_copied debug_file.entry) (option_copied debug_id.entry) (option_copied version.entry)) }
+{
+    put_object(
+        out,
+        alloc,
+        &[
+            ("base_addr", Scalar::Hex(Some(base))),
+            ("end_addr", Scalar::Hex(end_of(base, size))),
+            ("filename", Scalar::Text(Some(name))),
+            ("code_id", Scalar::Text(code_id)),
+            ("debug_file", Scalar::Text(debug_file)),
+            ("debug_id", Scalar::Text(debug_id)),
+            ("version", Scalar::Text(version)),
+        ],
+    )
+}
+
+#[tactic(auto, unfolding(crate::specs::Modules::unloaded_object))]
+fn put_unloaded<'t>(
+    out: &mut Writer,
+    alloc: Global,
+    base: u64,
+    size: u64,
+    name: &'t str,
+    code_id: Option<&'t str>,
+) -> Result<(), Error>
+    ensures { Puts result out.old out.new (unloaded_object base size name.now (option_copied code_id.entry)) }
+{
+    put_object(
+        out,
+        alloc,
+        &[
+            ("base_addr", Scalar::Hex(Some(base))),
+            ("end_addr", Scalar::Hex(end_of(base, size))),
+            ("filename", Scalar::Text(Some(name))),
+            ("code_id", Scalar::Text(code_id)),
+        ],
+    )
+}

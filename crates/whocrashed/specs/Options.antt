@@ -1,0 +1,23 @@
+-- What an option says, by the text that clap found for it.
+use Rattle.std.specs.Prelude.{◌≡◌, ◌<◌, ◌^◌, ℕ, Bool, false, true, List, Some, None, codes, if◌then◌else◌}
+use Rattle.std.specs.Str.Parse.{IsNumeral, digits_value, without_leading_plus}
+use Rattle.clap.specs.Words.{one_text}
+use Rattle.clap.specs.declared.parser.matches.Found.{Found}
+use Rattle.whocrashed.specs.declared.options.Form.{Form}
+use Rattle.whocrashed.specs.declared.options.Form.TheVariants.{Html, Json, Lines}
+
+-- a flag is set if its text is "true", and isn't if it is "false" or there is none
+abbrev pub IsFlag : Found → List ℕ → Bool → Type 0
+IsFlag found id set = (one_text found id ≡ None → set ≡ false)
+    × (one_text found id ≡ Some (codes "true") → set ≡ true)
+    × (one_text found id ≡ Some (codes "false") → set ≡ false)
+
+-- a number is the one that its text writes in decimal, if the text does and the number has at most 64 bits
+abbrev pub IsNumber : Found → List ℕ → ℕ → Type 0
+IsNumber found id n = (text : List ℕ) → one_text found id ≡ Some text
+    → IsNumeral 10 (without_leading_plus text) → digits_value 10 (without_leading_plus text) < 2 ^ 64
+    → n ≡ digits_value 10 (without_leading_plus text)
+
+-- the form that the flags --json and --html ask for
+abbrev pub form_by : Bool → Bool → Form
+form_by json html = if json then Json else if html then Html else Lines
