@@ -1,12 +1,12 @@
-ghost use Rattle.std.specs.Prelude.{◌≡◌, ◌==◌, IfOk, length};
+ghost use Rattle.std.specs.Prelude.{◌≡◌, IfOk, length};
 
 use anyhow::Result;
 use minidump_bytes::Steps;
 use minidump_index::{AddressIndex, Range, Region, RegionList};
 use std::alloc::{AllocError, Global};
 
-/// Makes an index of `count` ranges, and looks up a million addresses in each round. Returns how many lookups found a
-/// range.
+/// Makes an index of `count` ranges, and looks up a million addresses in each round. Returns how
+/// many lookups found a range.
 pub(crate) fn hits_in_index(alloc: Global, count: u32, rounds: u32) -> Result<u64> {
     let index = AddressIndex::build(alloc, &ranges(alloc, count)?)?;
     Ok(hits(&index, &addresses(alloc, count)?, rounds))
@@ -40,7 +40,7 @@ impl Lookup for RegionList<Option<Range>> {
     }
 }
 
-// Makes `count` ranges of 4096 addresses, each 8192 behind the one before.
+// Makes `count` ranges of 4096 addresses, each 8192 after the one before.
 fn ranges(alloc: Global, count: u32) -> Result<Vec<Option<Range>>, AllocError>
     ensures { IfOk result (λ v. length v.items ≡ count) }
 {

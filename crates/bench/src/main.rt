@@ -1,12 +1,15 @@
-//! `bench VERB WHAT ROUNDS`, which does the same work so many times, to be timed from outside by `.ci/bench`.
+//! `bench VERB WHAT ROUNDS`, which does the same work so many times, to be timed from outside by
+//! `.ci/bench`.
 //!
-//! - `bench lookup COUNT ROUNDS` makes an index of COUNT ranges, and looks up a million addresses in each round.
-//!   Half of the addresses lie in a range. It writes how many lookups found a range. `bench list COUNT ROUNDS` does so with
-//!   a list of ranges that ascend, and reads each range that is found.
-//! - `bench read FILE ROUNDS` reads the header, the directory and the system information of a minidump. It writes how many
-//!   of the headers have 65536 streams.
-//! - `bench handles FILE ROUNDS` reads the stream of that name; so do `memory`, `memory64`, `memory-info`, `modules`,
-//!   `threads` and `unloaded`. It writes how many of the lists have an entry of number or address 65536.
+//! - `bench lookup COUNT ROUNDS` makes an index of COUNT ranges, and looks up a million addresses
+//!   in each round. Half of the addresses lie in a range. It writes how many lookups found a range.
+//!   `bench list COUNT ROUNDS` does so with a list of ranges that ascend, and reads each range that
+//!   is found.
+//! - `bench read FILE ROUNDS` reads the header, the directory and the system information of a
+//!   minidump. It writes how many of the headers have 65536 streams.
+//! - `bench handles FILE ROUNDS` reads the stream of that name; so do `memory`, `memory64`,
+//!   `memory-info`, `modules`, `threads` and `unloaded`. It writes how many of the lists have an
+//!   entry of number or address 65536.
 //!
 //! With no rounds it only makes or reads what the rounds work on.
 #![tactic(auto)]

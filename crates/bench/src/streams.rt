@@ -6,8 +6,9 @@ use minidump::{
 };
 use std::alloc::Global;
 
-/// Reads a minidump, whose bytes are `bytes`, or the stream that a verb names, so many times. Returns how often a list
-/// has an entry of number or address 65536; for `read`, how many headers have 65536 streams.
+/// Reads a minidump, whose bytes are `bytes`, or the stream that a verb names, so many times.
+/// Returns how often a list has an entry of number or address 65536; for `read`, how many headers
+/// have 65536 streams.
 pub(crate) fn read_often(alloc: Global, verb: &str, bytes: &[u8], rounds: u32) -> Result<u32> {
     let dump = Minidump::read(alloc, bytes)?;
     let found = match verb {
@@ -36,7 +37,7 @@ fn read_dump(alloc: Global, bytes: &[u8], rounds: u32) -> Result<u32, Error> {
 }
 
 // Reads a stream of a dump so many times.
-fn read_stream<'a, S: Listed<'a>>(
+fn read_stream<'a, S: ReadEntry<'a>>(
     alloc: Global,
     dump: &Minidump<'a>,
     rounds: u32,
@@ -50,48 +51,49 @@ fn read_stream<'a, S: Listed<'a>>(
     Ok(found)
 }
 
-// A list that tells whether it has an entry of a number or an address: so the whole list has to be there.
-trait Listed<'a>: MinidumpStream<'a> + Drop {
+// A list that tells whether it has an entry of a number or an address: so the whole list has to be
+// there.
+trait ReadEntry<'a>: MinidumpStream<'a> + Drop {
     fn has(&self, number: u32) -> bool;
 }
 
-impl<'a> Listed<'a> for MinidumpHandleDataStream {
+impl<'a> ReadEntry<'a> for MinidumpHandleDataStream {
     fn has(&self, number: u32) -> bool {
         self.iter().any(|handle| handle.raw.handle().copied() == Some(number as u64))
     }
 }
 
-impl<'a> Listed<'a> for MinidumpMemoryList<'a> {
+impl<'a> ReadEntry<'a> for MinidumpMemoryList<'a> {
     fn has(&self, number: u32) -> bool {
         self.memory_at_address(number as u64).is_some()
     }
 }
 
-impl<'a> Listed<'a> for MinidumpMemory64List<'a> {
+impl<'a> ReadEntry<'a> for MinidumpMemory64List<'a> {
     fn has(&self, number: u32) -> bool {
         self.memory_at_address(number as u64).is_some()
     }
 }
 
-impl<'a> Listed<'a> for MinidumpMemoryInfoList<'a> {
+impl<'a> ReadEntry<'a> for MinidumpMemoryInfoList<'a> {
     fn has(&self, number: u32) -> bool {
         self.memory_info_at_address(number as u64).is_some()
     }
 }
 
-impl<'a> Listed<'a> for MinidumpModuleList {
+impl<'a> ReadEntry<'a> for MinidumpModuleList {
     fn has(&self, number: u32) -> bool {
         self.module_at_address(number as u64).is_some()
     }
 }
 
-impl<'a> Listed<'a> for MinidumpThreadList<'a> {
+impl<'a> ReadEntry<'a> for MinidumpThreadList<'a> {
     fn has(&self, number: u32) -> bool {
         self.get_thread(number).is_some()
     }
 }
 
-impl<'a> Listed<'a> for MinidumpUnloadedModuleList {
+impl<'a> ReadEntry<'a> for MinidumpUnloadedModuleList {
     fn has(&self, number: u32) -> bool {
         self.iter()
             .any(|module| module.raw.base_of_image == number as u64)

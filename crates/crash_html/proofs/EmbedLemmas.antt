@@ -5,7 +5,7 @@ use Rattle.std.proofs.lemmas.List.Concat.{flat_map-cons}
 use Rattle.std.proofs.lemmas.List.Folds.{list_all-append}
 use Rattle.std.specs.List.{flat_map, list_all}
 use lib.Utf8.{encode}
-use Rattle.crash_html.specs.Page.{embedded, embedded_char, is_inert}
+use Rattle.crash_html.specs.Page.{embedded_json, embedded_char, is_inert}
 
 both : (a b : Bool) → a ≡ true → b ≡ true → (a && b) ≡ true
 both a b ea eb = rw (ea, eb) refl
@@ -32,5 +32,5 @@ chars_bytes (c ∷ cs) h =
     rw list_all-append (both _ _ (char_bytes c p.0) (chars_bytes cs p.1))
 
 -- each byte of an embedded text is inert
-pub embedded_inert : (json : List ℕ) → list_all is_inert (embedded json) ≡ true
+pub embedded_inert : (json : List ℕ) → list_all is_inert (embedded_json json) ≡ true
 embedded_inert json = chars_bytes (flat_map embedded_char (chars json)) (text_inert (chars json))

@@ -1,11 +1,11 @@
 ghost use Rattle.std.specs.Prelude.{◌≡◌, ◌++◌, OnOk, encode_utf8_all, string_bytes};
-ghost use Rattle.crash_html.specs.Page.{embedded, embedded_char};
+ghost use Rattle.crash_html.specs.Page.{embedded_json, embedded_char};
 
 use std::alloc::AllocError;
 
 /// Appends a text of JSON as data of a script element.
 pub(crate) fn push_embedded(out: &mut String, json: &str) -> Result<(), AllocError>
-    ensures { OnOk result (string_bytes out.new ≡ string_bytes out.old ++ embedded json.now) }
+    ensures { OnOk result (string_bytes out.new ≡ string_bytes out.old ++ embedded_json json.now) }
 {
     for c in json.chars() {
         push_char(out, c)?;
@@ -15,7 +15,8 @@ pub(crate) fn push_embedded(out: &mut String, json: &str) -> Result<(), AllocErr
 
 // Appends a character, or its escape.
 fn push_char(out: &mut String, c: char) -> Result<(), AllocError>
-    ensures { OnOk result (string_bytes out.new ≡ string_bytes out.old ++ encode_utf8_all (embedded_char c)) }
+    ensures { OnOk result (string_bytes out.new ≡ string_bytes out.old
+        ++ encode_utf8_all (embedded_char c)) }
 {
     match c {
         '<' => out.push_str("\\u003c"),

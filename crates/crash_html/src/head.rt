@@ -1,6 +1,7 @@
-//! The page up to the JSON. Its policy names the style and the script by their hashes, which `.ci/page` compares.
+//! The page up to the JSON. Its policy names the style and the script by their hashes, which
+//! `.ci/page` compares.
 
-/// What stands before the JSON.
+/// The text before the JSON.
 pub(crate) const HEAD: &str = r##"<!DOCTYPE html>
 <html lang="en">
 <head>

@@ -1,23 +1,26 @@
-//! A page in HTML on a crash, which shows what a line of JSON says of it, without a server or a network.
+//! A page in HTML on a crash, which shows what a line of JSON says of it, without a server or a
+//! network.
 //!
-//! [`page`] puts the JSON between the two parts of the page, as data that the page's own script reads. The characters by which
-//! a text could end that data, or begin an element or a reference of HTML, stand as escapes of JSON, as `\u003c`. In JSON they
-//! stand only within texts, so that the value stays the same. The script makes text of what the JSON says, and no elements,
-//! attributes or links.
+//! [`page`] puts the JSON between the two parts of the page, as data that the page's own script
+//! reads. The characters by which a text could end that data, or begin an element or a reference of
+//! HTML, are written as escapes of JSON, as `\u003c`. In JSON they occur only within texts, so the
+//! value stays the same. The script shows what the JSON says as text, and makes no elements,
+//! attributes or links of it.
 //!
 //! # Errors
 //!
-//! `AllocError`.
+//! [`page`] returns `AllocError` if an allocation fails.
 //!
 //! # What is proved
 //!
-//! The page is its head, the JSON's text with these escapes, and its tail, and between head and tail no byte is `<`, `>` or `&`:
-//! [`page`]. Not proved: that the value stays the same, and what the script and a browser make of it.
+//! The page is its head, the JSON's text with these escapes, and its tail, and between head and
+//! tail no byte is `<`, `>` or `&`: [`page`]. It is not proved that the value stays the same, nor
+//! what the script and a browser make of it.
 #![tactic(auto)]
 
 ghost use Rattle.std.specs.Prelude.{◌≡◌, ◌++◌, IfOk, string_bytes, true};
 ghost use Rattle.std.specs.List.{list_all};
-ghost use Rattle.crash_html.specs.Page.{embedded, is_inert, page_with};
+ghost use Rattle.crash_html.specs.Page.{embedded_json, is_inert, page_with};
 
 mod embed;
 mod head;
@@ -30,23 +33,24 @@ use head::HEAD;
 use std::alloc::{AllocError, Global};
 use tail::TAIL;
 
-/// Makes the page of a crash, of which this is the JSON.
+/// Returns the page of a crash, whose JSON is `json`.
 #[tactic(auto, using(crate::proofs::EmbedLemmas::embedded_inert), unfolding(crate::specs::Page::page_with))]
 pub fn page(alloc: Global, json: &str) -> Result<String, AllocError>
     ensures page { IfOk result (λ page. string_bytes page ≡ page_with json.now) }
-    ensures inert { list_all is_inert (embedded json.now) ≡ true }
+    ensures inert { list_all is_inert (embedded_json json.now) ≡ true }
 {
-    framed(alloc, HEAD, json, TAIL)
+    enclose(alloc, HEAD, json, TAIL)
 }
 
-// Makes a text of JSON, embedded, with a text before it and one behind it.
-fn framed<'t>(
+// Returns a text of JSON, embedded, between a head and a tail.
+fn enclose<'t>(
     alloc: Global,
     head: &'t str,
     json: &'t str,
     tail: &'t str,
 ) -> Result<String, AllocError>
-    ensures { IfOk result (λ page. string_bytes page ≡ head.now ++ embedded json.now ++ tail.now) }
+    ensures { IfOk result (λ page. string_bytes page ≡ head.now ++ embedded_json json.now
+        ++ tail.now) }
 {
     let mut page = String::new(alloc);
     page.push_str(head)?;

@@ -1,6 +1,6 @@
-//! The page behind the JSON: its script.
+//! The page after the JSON: its script.
 
-/// What stands behind the JSON.
+/// The text after the JSON.
 pub(crate) const TAIL: &str = r##"</script>
 <script>
 "use strict";

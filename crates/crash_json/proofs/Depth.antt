@@ -10,6 +10,8 @@ use Rattle.minidump.specs.Below.System.MiscInfo.{process_id}
 use Rattle.minidump.specs.Below.System.System.{System}
 use Rattle.minidump.specs.Exception.{Exception}
 use Rattle.json_tree.specs.Tree.{array_of, members_of, object_of}
+use Rattle.directory_json.specs.Directory.{Stream, stream_json}
+use Rattle.directory_json.proofs.Depth.{stream_depth}
 use Rattle.json_tree.proofs.Depth.{array_within, flat_count, flat_hex, flat_text, or_null_within}
 use Rattle.streams_json.specs.Memory.{region_json}
 use Rattle.streams_json.specs.Modules.{module_json, unloaded_json}
@@ -19,19 +21,11 @@ use Rattle.streams_json.proofs.Depth.{handle_depth, lsb_depth, mac_crash_depth, 
 use Rattle.threads_json.specs.Threads.{thread_json}
 use Rattle.threads_json.proofs.Depth.{crashing_depth, thread_depth}
 use Rattle.crash_json.specs.Crash.{crash_json, crash_object}
-use Rattle.crash_json.specs.Directory.{Stream, stream_json, stream_object}
-use Rattle.crash_json.specs.Report.{Parts, crash_members, crashing_json_of, crashing_thread, dump_members, main_module, module_members, record_members, refused_json, report_json, scope_in, thread_members}
+use Rattle.crash_json.specs.Report.{Parts, crash_members, crashing_json_of, crashing_thread, dump_members, main_module, module_members, record_members, error_json, report_json, scope_in, thread_members}
 
 crash_object_depth : (reason : Option (List ℕ)) (address thread : Option ℕ) (assertion : Option (List ℕ)) → depth (crash_object reason address thread assertion) ≤ 1
 unfolding crash_object
 crash_object_depth reason address thread assertion = omega (arith, flat_text reason, flat_hex address, flat_count thread, flat_text assertion)
-
-stream_object_depth : (stream_type : ℕ) (name : Option (List ℕ)) (size rva : ℕ) (error : Option (List ℕ)) → depth (stream_object stream_type name size rva error) ≤ 1
-unfolding stream_object
-stream_object_depth stream_type name size rva error = omega (arith, flat_text name, flat_text error)
-
-stream_depth : (s : Stream) → depth (stream_json s) ≤ 1
-stream_depth s = stream_object_depth _ _ _ _ _
 
 crash_depth : (names : Lists) (system : Option System) (exception : Option Exception) (assertion : Option MINIDUMP_ASSERTION_INFO) (thread : Option ℕ)
     → depth (crash_json names system exception assertion thread) ≤ 1
@@ -72,7 +66,7 @@ record_within p =
 dump_within : (streams : List Stream) (memory : List UnifiedRegion) → members_depth (members_of (dump_members streams memory)) ≤ 2
 dump_within streams memory = omega (arith, array_within stream_json 1 streams stream_depth, array_within region_json 1 memory region_depth)
 
--- members behind others
+-- members after others
 both_within : (a b : List (List ℕ × Json)) (bound : ℕ) → members_depth (members_of a) ≤ bound → members_depth (members_of b) ≤ bound
     → members_depth (members_of (a ++ b)) ≤ bound
 both_within [] b bound first second = second
@@ -94,6 +88,6 @@ report_depth path names frames p =
     (both_within (thread_members names frames p) records 5 (thread_within names frames p) (both_within (record_members p) dump 5 fourth low))) in
     omega (arith, all)
 
-pub refused_depth : (path status : List ℕ) → depth (refused_json path status) ≤ max_depth
-unfolding refused_json
-refused_depth path status = omega arith
+pub error_depth : (path status : List ℕ) → depth (error_json path status) ≤ max_depth
+unfolding error_json
+error_depth path status = omega arith

@@ -1,6 +1,5 @@
--- How deep a report nests, what it is made of, the last thread of an id, a member, and two statements on a result.
+-- How deep a report nests, what it is made of, a member, and two statements on a result.
 pub mod BothOk
 pub mod Depth
 pub mod SameParts
-pub mod LastThread
 pub mod Member

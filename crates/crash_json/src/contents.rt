@@ -1,15 +1,13 @@
 ghost use Rattle.std.specs.Prelude.{◌≡◌, [], IfOk, IsOkUnless, length, unwrap_or};
-ghost use Rattle.std.specs.Option.{option_copied, option_map};
-ghost use Rattle.minidump.specs.Below.MemoryLists.UnifiedInfo.{info_list, info_regions};
+ghost use Rattle.std.specs.Option.{option_map};
 ghost use Rattle.minidump.specs.Below.Modules.UnloadedModuleList.{unloaded_module_list_of};
 ghost use Rattle.minidump.specs.DumpValue.{dump_of};
-ghost use Rattle.minidump.specs.Promise.{linux_maps_stream, memory_info_list_stream, unloaded_module_list_stream};
+ghost use Rattle.minidump.specs.Promise.{linux_maps_stream, unloaded_module_list_stream};
 ghost use Rattle.crash_summary.specs.Summary.{found_stream};
 ghost use Rattle.stack_walk.specs.Threads.{process_of};
-ghost use Rattle.crash_json.specs.Parts.{AreContents, AreExtras, process_by};
-ghost use Rattle.crash_json.specs.Process.{infos_by};
+ghost use Rattle.crash_json.specs.Parts.{AreContents, AreExtras, AreRecords, process_by};
 
-use crash_summary::{memory_of, modules_of, system_of, threads_of};
+use crash_summary::{first_infos, memory_of, modules_of, system_of, threads_of};
 use minidump::{
     Error, Minidump, MinidumpAssertion, MinidumpException, MinidumpHandleDataStream,
     MinidumpLinuxLsbRelease, MinidumpLinuxMaps, MinidumpMacBootargs, MinidumpMacCrashInfo,
@@ -20,7 +18,8 @@ use minidump::{
 use stack_walk::Process;
 use std::alloc::Global;
 
-/// What a report has of the streams of a dump. A list that is missing or malformed is empty here, and any other stream `None`.
+/// What a report has of the streams of a dump. A list that is missing or malformed is empty here,
+/// and any other stream `None`.
 #[derive(Drop)]
 pub(crate) struct Contents<'a> {
     pub(crate) system: Option<MinidumpSystemInfo>,
@@ -40,6 +39,12 @@ pub(crate) struct Extras<'a> {
     pub(crate) misc: Option<MinidumpMiscInfo>,
     pub(crate) thread_names: Option<MinidumpThreadNames>,
     pub(crate) unloaded: MinidumpUnloadedModuleList,
+    pub(crate) records: Records<'a>,
+}
+
+/// The streams that a report shows unchanged.
+#[derive(Drop)]
+pub(crate) struct Records<'a> {
     pub(crate) lsb_release: Option<MinidumpLinuxLsbRelease<'a>>,
     pub(crate) mac_crash_info: Option<MinidumpMacCrashInfo>,
     pub(crate) mac_boot_args: Option<MinidumpMacBootargs>,
@@ -68,7 +73,7 @@ impl<'a> Contents<'a> {
             threads,
             memory,
             maps: count_of(&maps),
-            infos: infos_of(alloc, infos, maps),
+            infos: first_infos(alloc, infos, maps),
             extras,
         })
     }
@@ -84,20 +89,6 @@ fn count_of(maps: &Option<MinidumpLinuxMaps<'_>>) -> Option<u64>
     }
 }
 
-// Returns what is known of the regions of memory: by the information of Windows, or else by the maps of Linux.
-fn infos_of<'a>(
-    alloc: Global,
-    infos: Option<MinidumpMemoryInfoList<'a>>,
-    maps: Option<MinidumpLinuxMaps<'a>>,
-) -> UnifiedMemoryInfoList<'a>
-    ensures { info_regions (info_list result) ≡ infos_by (option_map memory_info_list_stream.value infos.entry) (option_map linux_maps_stream.value maps.entry) }
-{
-    match UnifiedMemoryInfoList::new(infos, maps) {
-        Some(list) => list,
-        None => UnifiedMemoryInfoList::empty(alloc),
-    }
-}
-
 // Reads the other streams.
 fn extras_of<'a>(alloc: Global, dump: &Minidump<'a>) -> Result<Extras<'a>, Error>
     ensures extras { IfOk result (λ e. AreExtras (dump_of dump.now) e) }
@@ -108,6 +99,16 @@ fn extras_of<'a>(alloc: Global, dump: &Minidump<'a>) -> Result<Extras<'a>, Error
         misc: dump.find_stream(alloc)?,
         thread_names: dump.find_stream(alloc)?,
         unloaded: unloaded_of(alloc, dump)?,
+        records: records_of(alloc, dump)?,
+    })
+}
+
+// Reads the streams that a report shows unchanged.
+fn records_of<'a>(alloc: Global, dump: &Minidump<'a>) -> Result<Records<'a>, Error>
+    ensures records { IfOk result (λ r. AreRecords (dump_of dump.now) r) }
+    ensures memory { IsOkUnless result Error.OutOfMemory }
+{
+    Ok(Records {
         lsb_release: dump.find_stream(alloc)?,
         mac_crash_info: dump.find_stream(alloc)?,
         mac_boot_args: dump.find_stream(alloc)?,
@@ -118,7 +119,8 @@ fn extras_of<'a>(alloc: Global, dump: &Minidump<'a>) -> Result<Extras<'a>, Error
 
 // Returns the unloaded modules of a dump, an empty list if it has none.
 fn unloaded_of(alloc: Global, dump: &Minidump<'_>) -> Result<MinidumpUnloadedModuleList, Error>
-    ensures value { IfOk result (λ modules. unloaded_module_list_of modules ≡ unwrap_or (found_stream unloaded_module_list_stream (dump_of dump.now)) []) }
+    ensures value { IfOk result (λ modules. unloaded_module_list_of modules
+        ≡ unwrap_or (found_stream unloaded_module_list_stream (dump_of dump.now)) []) }
     ensures memory { IsOkUnless result Error.OutOfMemory }
 {
     match dump.find_stream(alloc)? {

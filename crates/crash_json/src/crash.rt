@@ -11,7 +11,7 @@ use json::Writer;
 use json_tree::{Scalar, ToJson, put_object};
 use minidump::{CodeNames, Error, MinidumpAssertion, MinidumpException, MinidumpSystemInfo};
 use std::alloc::Global;
-use streams_json::borrowed;
+use streams_json::as_text;
 
 /// Where and why a process crashed.
 #[derive(Clone, Copy)]
@@ -25,11 +25,14 @@ pub(crate) struct CrashInfo<'l, 'a, 'n> {
 
 impl ToJson for CrashInfo<'_, '_, '_> {
     ghost use Rattle.std.specs.Option.{option_copied, option_map};
-    ghost use Rattle.minidump.specs.Promise.{assertion_stream, exception_stream, system_info_stream};
+    ghost use Rattle.minidump.specs.Promise.{assertion_stream, exception_stream};
+    ghost use Rattle.minidump.specs.Promise.{system_info_stream};
     ghost use Rattle.crash_json.specs.Crash.{crash_json};
 
-    ghost json = { λ c. crash_json c.names.now (option_map system_info_stream.value (option_copied c.system))
-        (option_map exception_stream.value (option_copied c.exception)) (option_map assertion_stream.value (option_copied c.assertion)) c.thread };
+    ghost json = { λ c. crash_json c.names.now
+        (option_map system_info_stream.value (option_copied c.system))
+        (option_map exception_stream.value (option_copied c.exception))
+        (option_map assertion_stream.value (option_copied c.assertion)) c.thread };
 
     fn put(&self, out: &mut Writer, alloc: Global) -> Result<(), Error> {
         let reason = crash_reason(alloc, self)?;
@@ -37,10 +40,10 @@ impl ToJson for CrashInfo<'_, '_, '_> {
         put_crash(
             out,
             alloc,
-            borrowed(&reason),
+            as_text(&reason),
             crash_address(self),
             self.thread,
-            borrowed(&assertion),
+            as_text(&assertion),
         )
     }
 }
@@ -48,7 +51,8 @@ impl ToJson for CrashInfo<'_, '_, '_> {
 // Makes the text of the reason of the crash.
 fn crash_reason(alloc: Global, crash: &CrashInfo<'_, '_, '_>) -> Result<Option<String>, Error>
     ensures value { IfOk result (λ text. option_map string_bytes text ≡ option_and_then
-        (reason_in crash.now.names.now (option_map system_info_stream.value (option_copied crash.now.system)))
+        (reason_in crash.now.names.now (option_map system_info_stream.value
+        (option_copied crash.now.system)))
         (option_map exception_stream.value (option_copied crash.now.exception))) }
     ensures memory { IsOkUnless result Error.OutOfMemory }
 {
@@ -60,7 +64,8 @@ fn crash_reason(alloc: Global, crash: &CrashInfo<'_, '_, '_>) -> Result<Option<S
 
 // Returns the address of the crash.
 fn crash_address(crash: &CrashInfo<'_, '_, '_>) -> Option<u64>
-    ensures { result ≡ option_and_then (address_in (option_map system_info_stream.value (option_copied crash.now.system)))
+    ensures { result ≡ option_and_then (address_in
+        (option_map system_info_stream.value (option_copied crash.now.system)))
         (option_map exception_stream.value (option_copied crash.now.exception)) }
 {
     address_of(crash.system, crash.exception?)
@@ -72,7 +77,8 @@ fn expression_of(
     assertion: Option<&MinidumpAssertion>,
 ) -> Result<Option<String>, Error>
     ensures value { IfOk result (λ text. option_map string_bytes text ≡ option_and_then
-        (λ a. text_before_nul a.expression) (option_map assertion_stream.value (option_copied assertion.entry))) }
+        (λ a. text_before_nul a.expression)
+        (option_map assertion_stream.value (option_copied assertion.entry))) }
     ensures memory { IsOkUnless result Error.OutOfMemory }
 {
     match assertion {
@@ -90,7 +96,8 @@ fn put_crash<'t>(
     thread: Option<u64>,
     assertion: Option<&'t str>,
 ) -> Result<(), Error>
-    ensures { Puts result out.old out.new (crash_object (option_copied reason.entry) address thread (option_copied assertion.entry)) }
+    ensures { Puts result out.old out.new
+        (crash_object (option_copied reason.entry) address thread (option_copied assertion.entry)) }
 {
     put_object(
         out,

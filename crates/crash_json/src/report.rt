@@ -1,24 +1,31 @@
 ghost use Rattle.std.specs.Prelude.{◌≡◌, ◌∷◌, [], IfOk, Some, codes, length, map};
 ghost use Rattle.std.specs.Option.{option_and_then, option_copied, option_map};
 ghost use Rattle.json.specs.Json.{string};
-ghost use Rattle.minidump.specs.Below.MemoryLists.Unified.{unified_list, unified_region, unified_regions};
+ghost use Rattle.minidump.specs.Below.MemoryLists.Unified.{unified_list, unified_region};
+ghost use Rattle.minidump.specs.Below.MemoryLists.Unified.{unified_regions};
 ghost use Rattle.minidump.specs.Below.Modules.UnloadedModuleList.{unloaded_module_list_of};
 ghost use Rattle.minidump.specs.Below.System.MiscInfo.{process_id};
-ghost use Rattle.minidump.specs.Promise.{handle_data_stream, linux_lsb_release_stream, mac_bootargs_stream, mac_crash_info_stream, module_list_stream, soft_errors_stream};
+ghost use Rattle.minidump.specs.Promise.{handle_data_stream, linux_lsb_release_stream};
+ghost use Rattle.minidump.specs.Promise.{mac_bootargs_stream, mac_crash_info_stream};
+ghost use Rattle.minidump.specs.Promise.{module_list_stream, soft_errors_stream};
 ghost use Rattle.json_tree.specs.Tree.{Adds, Puts, array_of, count, object_of, or_null};
 ghost use Rattle.crash_summary.specs.Summary.{crash_context};
 ghost use Rattle.streams_json.specs.Modules.{module_json, unloaded_json};
 ghost use Rattle.streams_json.specs.Records.{handle_json, lsb_json, mac_crash_json};
 ghost use Rattle.streams_json.specs.System.{system_json};
 ghost use Rattle.threads_json.specs.Threads.{scope_of, thread_json};
-ghost use Rattle.threads_json.specs.Walked.{walked_of};
-ghost use Rattle.crash_json.specs.Parts.{IsCrashOf, indexed_of, parts_of, stream_of};
-ghost use Rattle.crash_json.specs.Report.{crash_members, crashing_json_of, crashing_thread, dump_members, last_of_id, main_module, module_members, record_members, report_members, scope_in, this_or, thread_members};
+ghost use Rattle.threads_json.specs.ThreadWalk.{walk_of};
+ghost use Rattle.directory_json.specs.Entries.{stream_of};
+ghost use Rattle.threads_json.specs.Last.{indexed_of};
+ghost use Rattle.crash_json.specs.Parts.{IsCrashOf, parts_of};
+ghost use Rattle.crash_json.specs.Report.{crash_members, crashing_json_of, crashing_thread};
+ghost use Rattle.crash_json.specs.Report.{dump_members, main_module, module_members};
+ghost use Rattle.crash_json.specs.Report.{record_members, report_members, scope_in, thread_members};
 
-use crate::contents::{Contents, Extras};
+use crate::contents::{Contents, Records};
 use crate::crash::CrashInfo;
-use crate::directory::{EachEntry, Entry};
 use crash_summary::crash_context;
+use directory_json::{EachEntry, Entry};
 use json::Writer;
 use json_tree::{Scalar, ToJson, put_fields, put_list, put_member};
 use minidump::{
@@ -28,9 +35,9 @@ use minidump::{
 use std::alloc::{AllocError, Global};
 use streams_json::{
     EachHandle, EachModule, EachRegion, EachUnloadedModule, LsbReleaseJson, MacCrashJson,
-    SystemJson, borrowed,
+    SystemJson, as_text,
 };
-use threads_json::{EachThread, WalkedThread, put_crashing_thread};
+use threads_json::{EachThread, WalkedThread, last_of_id, put_crashing_thread};
 
 /// The report on a dump.
 #[derive(Clone, Copy)]
@@ -60,7 +67,9 @@ impl ToJson for Report<'_, '_, '_, '_> {
 
 // Adds the members of a report.
 fn put_report(out: &mut Writer, alloc: Global, report: &Report<'_, '_, '_, '_>) -> Result<(), Error>
-    ensures { Adds result out.old out.new (report_members report.now.path.now report.now.names.now report.now.frames (parts_of report.now)) }
+    ensures { Adds result out.old out.new
+        (report_members report.now.path.now report.now.names.now report.now.frames
+        (parts_of report.now)) }
 {
     put_crash(out, alloc, report)?;
     put_modules(out, alloc, report)?;
@@ -72,7 +81,8 @@ fn put_report(out: &mut Writer, alloc: Global, report: &Report<'_, '_, '_, '_>) 
 
 // Adds the file, the system and the crash.
 fn put_crash(out: &mut Writer, alloc: Global, report: &Report<'_, '_, '_, '_>) -> Result<(), Error>
-    ensures { Adds result out.old out.new (crash_members report.now.path.now report.now.names.now (parts_of report.now)) }
+    ensures { Adds result out.old out.new
+        (crash_members report.now.path.now report.now.names.now (parts_of report.now)) }
 {
     put_fields(
         out,
@@ -89,7 +99,8 @@ fn put_crash(out: &mut Writer, alloc: Global, report: &Report<'_, '_, '_, '_>) -
 
 // Adds the system information.
 fn put_system(out: &mut Writer, alloc: Global, report: &Report<'_, '_, '_, '_>) -> Result<(), Error>
-    ensures { Adds result out.old out.new ((codes "system_info", or_null system_json (parts_of report.now).system) ∷ []) }
+    ensures { Adds result out.old out.new
+        ((codes "system_info", or_null system_json (parts_of report.now).system) ∷ []) }
 {
     match &report.contents.system {
         Some(system) => put_member(out, alloc, "system_info", &SystemJson(system)),
@@ -112,7 +123,8 @@ fn crash_of<'l, 'a, 'n>(report: &Report<'l, 'a, 'n, '_>) -> CrashInfo<'l, 'a, 'n
 
 // Returns the index of the thread that crashed.
 fn crashing_index(report: &Report<'_, '_, '_, '_>) -> Option<u64>
-    ensures { result ≡ option_map (λ t. t.0) (crashing_thread (parts_of report.now).exception (parts_of report.now).threads) }
+    ensures { result ≡ option_map (λ t. t.0)
+        (crashing_thread (parts_of report.now).exception (parts_of report.now).threads) }
 {
     let (index, _) = crashing_thread(report)?;
     Some(index as u64)
@@ -122,42 +134,13 @@ fn crashing_index(report: &Report<'_, '_, '_, '_>) -> Option<u64>
 fn crashing_thread<'l, 't, 'a>(
     report: &Report<'l, 'a, '_, 't>,
 ) -> Option<(usize, &'l WalkedThread<'t, 'a>)>
-    ensures { option_map indexed_of result ≡ crashing_thread (parts_of report.now).exception (parts_of report.now).threads }
+    ensures { option_map indexed_of result ≡ crashing_thread (parts_of report.now).exception
+        (parts_of report.now).threads }
 {
     last_of_id(
         report.threads,
         report.contents.exception.as_ref()?.thread_id,
     )
-}
-
-// Returns the last thread of an id, with its index.
-fn last_of_id<'l, 't, 'a>(
-    threads: &'l [WalkedThread<'t, 'a>],
-    id: u32,
-) -> Option<(usize, &'l WalkedThread<'t, 'a>)>
-    ensures { option_map indexed_of result ≡ last_of_id id (map walked_of threads.now) }
-{
-    let mut last = None;
-    for (index, walked) in threads.iter().enumerate() {
-        last = this_or(index, walked, id, last);
-    }
-    last
-}
-
-// Returns a thread with its index, if it has the id, and else the one before.
-fn this_or<'l, 't, 'a>(
-    index: usize,
-    walked: &'l WalkedThread<'t, 'a>,
-    id: u32,
-    before: Option<(usize, &'l WalkedThread<'t, 'a>)>,
-) -> Option<(usize, &'l WalkedThread<'t, 'a>)>
-    ensures { option_map indexed_of result ≡ this_or index (walked_of walked.now) id (option_map indexed_of before.entry) }
-{
-    if walked.thread.raw.thread_id == id {
-        Some((index, walked))
-    } else {
-        before
-    }
 }
 
 // Adds the modules.
@@ -179,7 +162,9 @@ fn put_main_module(
     alloc: Global,
     modules: &MinidumpModuleList,
 ) -> Result<(), Error>
-    ensures { Adds result out.old out.new ((codes "main_module", or_null count (main_module (module_list_stream.value modules.now))) ∷ []) }
+    ensures { Adds result out.old out.new
+        ((codes "main_module", or_null count (main_module (module_list_stream.value modules.now)))
+        ∷ []) }
 {
     put_fields(
         out,
@@ -199,7 +184,8 @@ fn main_module(modules: &MinidumpModuleList) -> Option<u64>
 }
 
 fn put_loaded(out: &mut Writer, alloc: Global, modules: &MinidumpModuleList) -> Result<(), Error>
-    ensures { Adds result out.old out.new ((codes "modules", array_of module_json (module_list_stream.value modules.now)) ∷ []) }
+    ensures { Adds result out.old out.new
+        ((codes "modules", array_of module_json (module_list_stream.value modules.now)) ∷ []) }
 {
     put_list(
         out,
@@ -215,7 +201,9 @@ fn put_unloaded(
     alloc: Global,
     modules: &MinidumpUnloadedModuleList,
 ) -> Result<(), Error>
-    ensures { Adds result out.old out.new ((codes "unloaded_modules", array_of unloaded_json (unloaded_module_list_of modules.now)) ∷ []) }
+    ensures { Adds result out.old out.new
+        ((codes "unloaded_modules", array_of unloaded_json (unloaded_module_list_of modules.now))
+        ∷ []) }
 {
     put_list(
         out,
@@ -232,7 +220,8 @@ fn put_threads(
     alloc: Global,
     report: &Report<'_, '_, '_, '_>,
 ) -> Result<(), Error>
-    ensures { Adds result out.old out.new (thread_members report.now.names.now report.now.frames (parts_of report.now)) }
+    ensures { Adds result out.old out.new
+        (thread_members report.now.names.now report.now.frames (parts_of report.now)) }
 {
     put_counts(out, alloc, report)?;
     put_each_thread(out, alloc, report)?;
@@ -241,7 +230,8 @@ fn put_threads(
 }
 
 fn put_counts(out: &mut Writer, alloc: Global, report: &Report<'_, '_, '_, '_>) -> Result<(), Error>
-    ensures { Adds result out.old out.new ((codes "pid", or_null count (option_and_then process_id (parts_of report.now).misc))
+    ensures { Adds result out.old out.new
+        ((codes "pid", or_null count (option_and_then process_id (parts_of report.now).misc))
         ∷ (codes "thread_count", count (length (parts_of report.now).threads)) ∷ []) }
 {
     put_fields(
@@ -273,7 +263,8 @@ fn put_each_thread(
     ensures { Adds result out.old out.new ((
       codes "threads",
       array_of
-          (thread_json (scope_in report.now.names.now report.now.frames (parts_of report.now))) (parts_of report.now).threads,
+          (thread_json (scope_in report.now.names.now report.now.frames (parts_of report.now)))
+          (parts_of report.now).threads,
     ) ∷ []) }
 {
     put_list(out, alloc, "threads", report.threads, &each_thread(report))
@@ -281,7 +272,8 @@ fn put_each_thread(
 
 // Returns what threads are written by.
 fn each_thread<'l, 'n>(report: &Report<'l, '_, 'n, '_>) -> EachThread<'l, 'n>
-    ensures { scope_of result ≡ scope_in report.now.names.now report.now.frames (parts_of report.now) }
+    ensures { scope_of result ≡ scope_in report.now.names.now report.now.frames
+        (parts_of report.now) }
 {
     EachThread {
         modules: &report.contents.modules,
@@ -319,7 +311,7 @@ fn put_crashed(
 ) -> Result<(), Error>
     ensures { Adds result out.old out.new ((
       codes "crashing_thread",
-      crashing_json_of report.now.names.now report.now.frames (parts_of report.now) (index, walked_of thread.now),
+      crashing_json_of report.now.names.now report.now.frames (parts_of report.now) (index, walk_of thread.now),
     ) ∷ []) }
 {
     out.key("crashing_thread")?;
@@ -336,7 +328,8 @@ fn put_crashed_value(
     thread: &WalkedThread<'_, '_>,
 ) -> Result<(), Error>
     ensures { Puts result out.old out.new
-        (crashing_json_of report.now.names.now report.now.frames (parts_of report.now) (index, walked_of thread.now)) }
+        (crashing_json_of report.now.names.now report.now.frames (parts_of report.now)
+        (index, walk_of thread.now)) }
 {
     let context = context_of(report, thread);
     put_crashing_thread(
@@ -355,7 +348,8 @@ fn context_of(
     thread: &WalkedThread<'_, '_>,
 ) -> Option<MinidumpContext>
     ensures { option_map (λ c. c.raw) result
-        ≡ crash_context (parts_of report.now).system (parts_of report.now).exception (Some (walked_of thread.now).thread) }
+        ≡ crash_context (parts_of report.now).system (parts_of report.now).exception
+        (Some (walk_of thread.now).thread) }
 {
     crash_context(
         report.contents.system.as_ref(),
@@ -372,58 +366,81 @@ fn put_records(
 ) -> Result<(), Error>
     ensures { Adds result out.old out.new (record_members (parts_of report.now)) }
 {
-    put_release(out, alloc, &report.contents.extras)?;
-    put_mac(out, alloc, &report.contents.extras)?;
-    put_handles(out, alloc, &report.contents.extras)?;
+    put_release(out, alloc, &report.contents.extras.records)?;
+    put_mac(out, alloc, &report.contents.extras.records)?;
+    put_handles(out, alloc, &report.contents.extras.records)?;
     put_last(out, alloc, report)?;
     Ok(())
 }
 
-fn put_release(out: &mut Writer, alloc: Global, extras: &Extras<'_>) -> Result<(), Error>
+fn put_release(out: &mut Writer, alloc: Global, records: &Records<'_>) -> Result<(), Error>
     ensures { Adds result out.old out.new
-        ((codes "lsb_release", or_null lsb_json (option_map linux_lsb_release_stream.value extras.now.lsb_release)) ∷ []) }
+        ((
+          codes "lsb_release",
+          or_null lsb_json
+              (option_map linux_lsb_release_stream.value records.now.lsb_release),
+        ) ∷ []) }
 {
-    match &extras.lsb_release {
+    match &records.lsb_release {
         Some(release) => put_member(out, alloc, "lsb_release", &LsbReleaseJson(release)),
         None => put_fields(out, alloc, &[("lsb_release", Scalar::Null)]),
     }
 }
 
-fn put_mac(out: &mut Writer, alloc: Global, extras: &Extras<'_>) -> Result<(), Error>
-    ensures { Adds result out.old out.new ((codes "mac_crash_info", or_null mac_crash_json (option_map mac_crash_info_stream.value extras.now.mac_crash_info))
-        ∷ (codes "mac_boot_args", or_null string (option_and_then (λ b. b.text) (option_map mac_bootargs_stream.value extras.now.mac_boot_args))) ∷ []) }
+fn put_mac(out: &mut Writer, alloc: Global, records: &Records<'_>) -> Result<(), Error>
+    ensures { Adds result out.old out.new
+        ((
+          codes "mac_crash_info",
+          or_null mac_crash_json
+              (option_map mac_crash_info_stream.value records.now.mac_crash_info),
+        )
+        ∷ (
+          codes "mac_boot_args",
+          or_null string
+              (option_and_then (λ b. b.text) (option_map mac_bootargs_stream.value
+              records.now.mac_boot_args)),
+        ) ∷ []) }
 {
-    put_mac_crash(out, alloc, extras)?;
+    put_mac_crash(out, alloc, records)?;
     put_fields(
         out,
         alloc,
-        &[("mac_boot_args", Scalar::Text(boot_args(extras)))],
+        &[("mac_boot_args", Scalar::Text(boot_args(records)))],
     )?;
     Ok(())
 }
 
-fn put_mac_crash(out: &mut Writer, alloc: Global, extras: &Extras<'_>) -> Result<(), Error>
+fn put_mac_crash(out: &mut Writer, alloc: Global, records: &Records<'_>) -> Result<(), Error>
     ensures { Adds result out.old out.new
-        ((codes "mac_crash_info", or_null mac_crash_json (option_map mac_crash_info_stream.value extras.now.mac_crash_info)) ∷ []) }
+        ((
+          codes "mac_crash_info",
+          or_null mac_crash_json
+              (option_map mac_crash_info_stream.value records.now.mac_crash_info),
+        ) ∷ []) }
 {
-    match &extras.mac_crash_info {
+    match &records.mac_crash_info {
         Some(info) => put_member(out, alloc, "mac_crash_info", &MacCrashJson(info)),
         None => put_fields(out, alloc, &[("mac_crash_info", Scalar::Null)]),
     }
 }
 
 // Returns the arguments of macOS's boot.
-fn boot_args<'l>(extras: &'l Extras<'_>) -> Option<&'l str>
-    ensures { option_copied result ≡ option_and_then (λ b. b.text) (option_map mac_bootargs_stream.value extras.now.mac_boot_args) }
+fn boot_args<'l>(records: &'l Records<'_>) -> Option<&'l str>
+    ensures { option_copied result ≡ option_and_then (λ b. b.text)
+        (option_map mac_bootargs_stream.value records.now.mac_boot_args) }
 {
-    borrowed(&extras.mac_boot_args.as_ref()?.bootargs)
+    as_text(&records.mac_boot_args.as_ref()?.bootargs)
 }
 
-fn put_handles(out: &mut Writer, alloc: Global, extras: &Extras<'_>) -> Result<(), Error>
+fn put_handles(out: &mut Writer, alloc: Global, records: &Records<'_>) -> Result<(), Error>
     ensures { Adds result out.old out.new
-        ((codes "handles", or_null (array_of handle_json) (option_map handle_data_stream.value extras.now.handles)) ∷ []) }
+        ((
+          codes "handles",
+          or_null (array_of handle_json)
+              (option_map handle_data_stream.value records.now.handles),
+        ) ∷ []) }
 {
-    match &extras.handles {
+    match &records.handles {
         Some(handles) => put_list(
             out,
             alloc,
@@ -436,7 +453,8 @@ fn put_handles(out: &mut Writer, alloc: Global, extras: &Extras<'_>) -> Result<(
 }
 
 fn put_last(out: &mut Writer, alloc: Global, report: &Report<'_, '_, '_, '_>) -> Result<(), Error>
-    ensures { Adds result out.old out.new ((codes "soft_errors", or_null string (parts_of report.now).soft_errors)
+    ensures { Adds result out.old out.new
+        ((codes "soft_errors", or_null string (parts_of report.now).soft_errors)
         ∷ (codes "linux_memory_map_count", or_null count (parts_of report.now).maps) ∷ []) }
 {
     put_fields(
@@ -445,7 +463,7 @@ fn put_last(out: &mut Writer, alloc: Global, report: &Report<'_, '_, '_, '_>) ->
         &[
             (
                 "soft_errors",
-                Scalar::Text(soft_errors(&report.contents.extras)),
+                Scalar::Text(soft_errors(&report.contents.extras.records)),
             ),
             (
                 "linux_memory_map_count",
@@ -456,16 +474,20 @@ fn put_last(out: &mut Writer, alloc: Global, report: &Report<'_, '_, '_, '_>) ->
 }
 
 // Returns the text of the soft errors.
-fn soft_errors<'a>(extras: &Extras<'a>) -> Option<&'a str>
-    ensures { option_copied result ≡ option_map soft_errors_stream.value extras.now.soft_errors }
+fn soft_errors<'a>(records: &Records<'a>) -> Option<&'a str>
+    ensures { option_copied result ≡ option_map soft_errors_stream.value records.now.soft_errors }
 {
-    Some(extras.soft_errors.as_ref()?.as_ref())
+    Some(records.soft_errors.as_ref()?.as_ref())
 }
 
 // Adds the streams and the memory of the dump.
 fn put_dump(out: &mut Writer, alloc: Global, report: &Report<'_, '_, '_, '_>) -> Result<(), Error>
     ensures { Adds result out.old out.new
-        ((codes "minidump", object_of (dump_members (parts_of report.now).streams (parts_of report.now).memory)) ∷ []) }
+        ((
+          codes "minidump",
+          object_of (dump_members (parts_of report.now).streams
+              (parts_of report.now).memory),
+        ) ∷ []) }
 {
     let regions = regions_of(alloc, &report.contents.memory)?;
     let part = DumpPart {
@@ -480,7 +502,8 @@ fn regions_of<'l, 'a>(
     alloc: Global,
     memory: &'l UnifiedMemoryList<'a>,
 ) -> Result<Vec<UnifiedMemory<'l, 'a>>, AllocError>
-    ensures { IfOk result (λ regions. map unified_region regions.items ≡ unified_regions (unified_list memory.now)) }
+    ensures { IfOk result
+        (λ regions. map unified_region regions.items ≡ unified_regions (unified_list memory.now)) }
 {
     memory.iter().collect(alloc)
 }
@@ -496,10 +519,11 @@ impl ToJson for DumpPart<'_, '_, '_> {
     ghost use Rattle.std.specs.Prelude.{map};
     ghost use Rattle.minidump.specs.Below.MemoryLists.Unified.{unified_region};
     ghost use Rattle.json_tree.specs.Tree.{object_of};
-    ghost use Rattle.crash_json.specs.Parts.{stream_of};
+    ghost use Rattle.directory_json.specs.Entries.{stream_of};
     ghost use Rattle.crash_json.specs.Report.{dump_members};
 
-    ghost json = { λ p. object_of (dump_members (map stream_of p.streams.now) (map unified_region p.regions.now)) };
+    ghost json = { λ p. object_of (dump_members (map stream_of p.streams.now)
+        (map unified_region p.regions.now)) };
 
     #[tactic(auto, using(json_tree::proofs::Tokens::object_of_members))]
     fn put(&self, out: &mut Writer, alloc: Global) -> Result<(), Error> {
@@ -511,7 +535,9 @@ impl ToJson for DumpPart<'_, '_, '_> {
 }
 
 fn put_parts(out: &mut Writer, alloc: Global, part: &DumpPart<'_, '_, '_>) -> Result<(), Error>
-    ensures { Adds result out.old out.new (dump_members (map stream_of part.now.streams.now) (map unified_region part.now.regions.now)) }
+    ensures { Adds result out.old out.new
+        (dump_members (map stream_of part.now.streams.now)
+        (map unified_region part.now.regions.now)) }
 {
     put_list(out, alloc, "streams", part.streams, &EachEntry)?;
     put_list(out, alloc, "memory", part.regions, &EachRegion)?;

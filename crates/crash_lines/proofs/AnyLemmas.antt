@@ -1,4 +1,5 @@
--- A test of a list that is gone through by index: of the items that are left, and of those that were passed.
+-- A test of a list that is gone through by index: of the items that are left, and of those that
+-- were passed.
 use Rattle.std.proofs.Common.{◌≡◌, ℕ, ◌+◌, ◌<◌, ◌≤◌, add-one, ap, Bool, true, false, ◌||◌, drop, get_or, length, List, ◌∷◌, refl, sym, ◌∙◌}
 use Rattle.std.specs.List.{list_any}
 use Rattle.std.proofs.Math.Seq.{drop-cons}

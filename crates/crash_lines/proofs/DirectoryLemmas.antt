@@ -22,9 +22,9 @@ pub lt_no : (m n : ℕ) → n ≤ m → nat_lt m n ≡ false
 lt_no m n h = grind (arith, nat_tests)
 
 -- ---- a dump
-abbrev made : List ℕ → Result (Endian × MINIDUMP_HEADER) Error → Result Dump Error
-made file (Err e) = Err e
-made file (Ok h) = cond (is_readable file h.1) (Ok (record { file = file; order = h.0; header = h.1 })) (Err MissingDirectory)
+abbrev dump_of_header : List ℕ → Result (Endian × MINIDUMP_HEADER) Error → Result Dump Error
+dump_of_header file (Err e) = Err e
+dump_of_header file (Ok h) = cond (is_readable file h.1) (Ok (record { file = file; order = h.0; header = h.1 })) (Err MissingDirectory)
 
 -- a dump is of the bytes of its file, which hold its directory
 pub in_file : (file : List ℕ) (d : Dump) → dump_in file ≡ Ok d → (d.file ≡ file) × (is_readable file d.header ≡ true)
@@ -32,14 +32,14 @@ in_file file d is = by_header (header_of file) is
   where
     by_readable : (h : Endian × MINIDUMP_HEADER) (b : Bool) → is_readable file h.1 ≡ b
         → cond b (Ok (record { file = file; order = h.0; header = h.1 })) (Err MissingDirectory) ≡ Ok d → (d.file ≡ file) × (is_readable file d.header ≡ true)
-    by_readable h true readable made_is =
+    by_readable h true readable header_is =
         let same : ◌≡◌ {A = Dump} (record { file = file; order = h.0; header = h.1 }) d = cc in
         (sym (ap (λ (x : Dump). x.file) same), ap (λ (x : Dump). is_readable file x.header) (sym same) ∙ readable)
-    by_readable h false readable made_is = cc
+    by_readable h false readable header_is = cc
 
-    by_header : (r : Result (Endian × MINIDUMP_HEADER) Error) → made file r ≡ Ok d → (d.file ≡ file) × (is_readable file d.header ≡ true)
-    by_header (Err e) made_is = cc
-    by_header (Ok h) made_is = by_readable h (is_readable file h.1) refl made_is
+    by_header : (r : Result (Endian × MINIDUMP_HEADER) Error) → dump_of_header file r ≡ Ok d → (d.file ≡ file) × (is_readable file d.header ≡ true)
+    by_header (Err e) header_is = cc
+    by_header (Ok h) header_is = by_readable h (is_readable file h.1) refl header_is
 
 -- where there are entries, they are in the file
 pub entries_fit : (file : List ℕ) (h : MINIDUMP_HEADER) → is_readable file h ≡ true → (h.stream_count ≡ 0 → ⊥)

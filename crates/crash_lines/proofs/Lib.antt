@@ -1,9 +1,8 @@
 -- What several proofs share.
 pub mod AnyLemmas
 pub mod DirectoryLemmas
-pub mod FileName
 pub mod Leads
-pub mod NamedLemmas
+pub mod MarkedLemmas
 pub mod PageLemmas
 pub mod RowLemmas
 pub mod StackLemmas

@@ -26,14 +26,14 @@ rows_next value all xs rest is few some =
     ap rows split
     ∙ rows_more (map value xs) (map value rest) (length-map xs value ∙ few ∙ ap (min 4) (sym len)) (omega (arith, len, some))
 
--- one more text stands behind those so far
-pub flat_next : {X Y : Type 0} (text : Y → List ℕ) (value : X → Y) (xs : List X) (i : ℕ) (d : X) (old new shown all : List ℕ) → i < length xs
-    → new ≡ old ++ shown → shown ≡ text (value (get_or xs i d)) → old ++ flat_map text (map value (drop i xs)) ≡ all
+-- one more text comes after those so far
+pub flat_next : {X Y : Type 0} (text : Y → List ℕ) (value : X → Y) (xs : List X) (i : ℕ) (d : X) (old new text_now all : List ℕ) → i < length xs
+    → new ≡ old ++ text_now → text_now ≡ text (value (get_or xs i d)) → old ++ flat_map text (map value (drop i xs)) ≡ all
     → new ++ flat_map text (map value (drop (i + 1) xs)) ≡ all
-flat_next text value xs i d old new shown all is_one new_is shown_is before =
+flat_next text value xs i d old new text_now all is_one new_is text_is before =
     let one : drop i xs ≡ get_or xs i d ∷ drop (i + 1) xs = rw add-one (drop-cons xs i d is_one) in
     let rest = flat_map text (map value (drop (i + 1) xs)) in
-    ap (λ n. n ++ rest) (new_is ∙ ap (λ s. old ++ s) shown_is) ∙ append_assoc old (text (value (get_or xs i d))) rest
+    ap (λ n. n ++ rest) (new_is ∙ ap (λ s. old ++ s) text_is) ∙ append_assoc old (text (value (get_or xs i d))) rest
     ∙ ap (λ l. old ++ flat_map text (map value l)) (sym one) ∙ before
 
 -- none is left

@@ -5,14 +5,14 @@ use Rattle.minidump.specs.declared.Error.TheVariants.{FileNotFound, IoError, Mis
 use Rattle.minidump.specs.declared.Error.TheVariants.{StreamReadFailure, StreamSizeMismatch, StreamNotFound, ModuleReadFailure, MemoryReadFailure}
 use Rattle.minidump.specs.declared.Error.TheVariants.{DataError, CodeViewReadFailure, UknownElementType, OutOfMemory}
 use Rattle.minidump.specs.Below.Contexts.Context.{map_ok}
-use Rattle.minidump.specs.Below.Format.Answer.{Gives, Refuses}
+use Rattle.minidump.specs.Below.Format.Answer.{Gives, GivesError}
 use Rattle.crash_page.specs.declared.page.Page.{Page}
 use Rattle.crash_page.specs.Page.{Grows}
-use Rattle.crash_page.specs.Part.{absent_stream, unread_stream}
+use Rattle.crash_page.specs.Part.{absent_stream, stream_unless_missing}
 use Rattle.crash_lines.specs.Streams.{StreamValues}
 
 -- the error of a call that takes no memory is the assigned one
-pub assigned_as : {V : Type 0} (e : Error) (assigned : Result V Error) → Refuses ⊥ e assigned → assigned ≡ Err e
+pub assigned_as : {V : Type 0} (e : Error) (assigned : Result V Error) → GivesError ⊥ e assigned → assigned ≡ Err e
 assigned_as OutOfMemory assigned is = absurd is
 assigned_as FileNotFound assigned is = is
 assigned_as IoError assigned is = is
@@ -37,13 +37,13 @@ given view (Err e) assigned is = sym (assigned_as e assigned is)
 
 -- what a stream that was found adds is what the dump's adds
 pub unread_given : {S V : Type 0} {a b : Page} (name : List ℕ) (view : S → V) (found : Result S Error) (assigned : Result V Error)
-    → Gives view ⊥ found assigned → Grows a b (unread_stream name found) → Grows a b (unread_stream name assigned)
+    → Gives view ⊥ found assigned → Grows a b (stream_unless_missing name found) → Grows a b (stream_unless_missing name assigned)
 unread_given name view (Ok x) assigned is grown = rw is grown
 unread_given name view (Err e) assigned is grown = rw (assigned_as e assigned is) grown
 
 -- the same of the view of one
-pub unread_view : {S V : Type 0} {a b : Page} (name : List ℕ) (view : S → V) (found : Result S Error) → Grows a b (unread_stream name found)
-    → Grows a b (unread_stream name (map_ok view found))
+pub unread_view : {S V : Type 0} {a b : Page} (name : List ℕ) (view : S → V) (found : Result S Error) → Grows a b (stream_unless_missing name found)
+    → Grows a b (stream_unless_missing name (map_ok view found))
 unread_view name view (Ok x) grown = grown
 unread_view name view (Err e) grown = grown
 

@@ -5,7 +5,7 @@ use Rattle.minidump.specs.declared.Error.{Error}
 use Rattle.minidump.specs.declared.Error.TheVariants.{FileNotFound, IoError, MissingHeader, HeaderMismatch, VersionMismatch, MissingDirectory}
 use Rattle.minidump.specs.declared.Error.TheVariants.{StreamReadFailure, StreamSizeMismatch, StreamNotFound, ModuleReadFailure, MemoryReadFailure}
 use Rattle.minidump.specs.declared.Error.TheVariants.{DataError, CodeViewReadFailure, UknownElementType, OutOfMemory}
-use Rattle.minidump.specs.Below.Format.Answer.{Refuses}
+use Rattle.minidump.specs.Below.Format.Answer.{GivesError}
 use Rattle.minidump.specs.Below.Reasons.Names.{Lists}
 use Rattle.minidump.specs.Dump.{Dump, dump_in}
 use Rattle.crash_page.specs.declared.page.Page.{Page}
@@ -15,7 +15,7 @@ use Rattle.crash_lines.specs.declared.limits.Limits.{Limits}
 use Rattle.crash_lines.specs.Contents.{ContentsValue, contents_in, infos_in, memory_in, process_in}
 use Rattle.crash_lines.specs.Streams.{StreamValues, streams_in}
 use Rattle.crash_lines.specs.Walks.{AreWalksIn, Walks}
-use Rattle.crash_lines.specs.Whole.{AddsDump, IsRefused, before_modules, dump_part, head_part, last_part, space_part, threads_part}
+use Rattle.crash_lines.specs.Whole.{AddsDump, IsAddError, before_modules, dump_part, head_part, last_part, space_part, threads_part}
 use Rattle.crash_lines.proofs.WalkLemmas.{some_walks_in}
 
 -- what is read is the dump's
@@ -52,28 +52,28 @@ adds_whole {a = a} {b = b} {c = c} names limits d v contents before last =
     in
     record { walks = walks.0; are_walks = walks.1; lines = grows_then _ first (grows_last marked) }
 
--- a refusal is the assigned one, or memory ran out
-pub refused_as : {V : Type 0} (memory : Type 0) (e : Error) (assigned : Result V Error) → Refuses memory e assigned
+-- an error is the assigned one, or memory ran out
+pub error_as : {V : Type 0} (memory : Type 0) (e : Error) (assigned : Result V Error) → GivesError memory e assigned
     → (assigned ≡ Err e) ⊎ (e ≡ OutOfMemory)
-refused_as memory OutOfMemory assigned is = inr refl
-refused_as memory FileNotFound assigned is = inl is
-refused_as memory IoError assigned is = inl is
-refused_as memory MissingHeader assigned is = inl is
-refused_as memory HeaderMismatch assigned is = inl is
-refused_as memory VersionMismatch assigned is = inl is
-refused_as memory MissingDirectory assigned is = inl is
-refused_as memory StreamReadFailure assigned is = inl is
-refused_as memory (StreamSizeMismatch x y) assigned is = inl is
-refused_as memory StreamNotFound assigned is = inl is
-refused_as memory ModuleReadFailure assigned is = inl is
-refused_as memory MemoryReadFailure assigned is = inl is
-refused_as memory DataError assigned is = inl is
-refused_as memory CodeViewReadFailure assigned is = inl is
-refused_as memory UknownElementType assigned is = inl is
+error_as memory OutOfMemory assigned is = inr refl
+error_as memory FileNotFound assigned is = inl is
+error_as memory IoError assigned is = inl is
+error_as memory MissingHeader assigned is = inl is
+error_as memory HeaderMismatch assigned is = inl is
+error_as memory VersionMismatch assigned is = inl is
+error_as memory MissingDirectory assigned is = inl is
+error_as memory StreamReadFailure assigned is = inl is
+error_as memory (StreamSizeMismatch x y) assigned is = inl is
+error_as memory StreamNotFound assigned is = inl is
+error_as memory ModuleReadFailure assigned is = inl is
+error_as memory MemoryReadFailure assigned is = inl is
+error_as memory DataError assigned is = inl is
+error_as memory CodeViewReadFailure assigned is = inl is
+error_as memory UknownElementType assigned is = inl is
 
 -- the exit where the file is no dump, or memory ran out while it was read
-pub refused_exit : {T : Type 0} (file : List ℕ) (page : Page) (r : Result T Error) (e : Error) → IsErrAnd r (λ y. y ≡ e)
-    → (dump_in file ≡ Err e) ⊎ (e ≡ OutOfMemory) → IfErr r (IsRefused file page page)
-refused_exit file page (Ok x) e exit is = tt
-refused_exit file page (Err y) e exit (inl refusal) = inl (refusal ∙ ap Err (sym exit), refl)
-refused_exit file page (Err y) e exit (inr ran_out) = inr (exit ∙ ran_out)
+pub error_exit : {T : Type 0} (file : List ℕ) (page : Page) (r : Result T Error) (e : Error) → IsErrAnd r (λ y. y ≡ e)
+    → (dump_in file ≡ Err e) ⊎ (e ≡ OutOfMemory) → IfErr r (IsAddError file page page)
+error_exit file page (Ok x) e exit is = tt
+error_exit file page (Err y) e exit (inl assigned) = inl (assigned ∙ ap Err (sym exit), refl)
+error_exit file page (Err y) e exit (inr ran_out) = inr (exit ∙ ran_out)

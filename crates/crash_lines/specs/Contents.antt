@@ -9,13 +9,15 @@ use Rattle.minidump.specs.Below.MemoryLists.Memory.{MemoryRegion}
 use Rattle.minidump.specs.Below.MemoryLists.MapLine.{MapRegion}
 use Rattle.minidump.specs.Below.MemoryLists.MemoryInfo.{MemoryInfo}
 use Rattle.minidump.specs.Below.MemoryLists.Unified.{Memory, Memory64, UnifiedRegions, unified_list}
-use Rattle.minidump.specs.Below.MemoryLists.UnifiedInfo.{InfoRegions, OfInfo, OfMaps, info_list, info_regions}
+use Rattle.minidump.specs.Below.MemoryLists.UnifiedInfo.{InfoRegions, OfInfo, OfMaps, info_list}
+use Rattle.minidump.specs.Below.MemoryLists.UnifiedInfo.{info_regions}
 use Rattle.minidump.specs.Dump.{Dump, stream_of}
-use Rattle.minidump.specs.Promise.{linux_maps_stream, memory64_list_stream, memory_info_list_stream, memory_list_stream}
+use Rattle.minidump.specs.Promise.{linux_maps_stream, memory64_list_stream, memory_info_list_stream}
+use Rattle.minidump.specs.Promise.{memory_list_stream}
 use Rattle.stack_walk.specs.Threads.{ProcessValue}
 use Rattle.crash_lines.specs.declared.contents.Contents.{Contents}
 use Rattle.crash_lines.specs.Streams.{StreamValues, streams_in, values_of}
-use Rattle.crash_page.specs.Part.{Part, nothing, parts, unread, unread_stream}
+use Rattle.crash_page.specs.Part.{Part, nothing, parts, unless_missing, stream_unless_missing}
 
 -- the streams, the memory, and what is known of its regions
 pub record ContentsValue : Type 0 where
@@ -31,23 +33,25 @@ contents_of c = record {
   infos = info_list c.space.infos;
 }
 
--- the memory by the list of short regions: none where it can't be read
-abbrev pub short_memory : Result (List (MemoryRegion MINIDUMP_MEMORY_DESCRIPTOR)) Error → UnifiedRegions
-short_memory (Ok regions) = Memory regions
-short_memory (Err _) = Memory []
+-- the memory by the memory list: none where it can't be read
+abbrev pub plain_memory : Result (List (MemoryRegion MINIDUMP_MEMORY_DESCRIPTOR)) Error
+    → UnifiedRegions
+plain_memory (Ok regions) = Memory regions
+plain_memory (Err _) = Memory []
 
 -- the memory by both lists: the 64-bit one hides the other
 abbrev pub first_memory : Result (List (MemoryRegion MINIDUMP_MEMORY_DESCRIPTOR64)) Error
     → Result (List (MemoryRegion MINIDUMP_MEMORY_DESCRIPTOR)) Error → UnifiedRegions
-first_memory (Ok regions) short = Memory64 regions
-first_memory (Err _) short = short_memory short
+first_memory (Ok regions) plain = Memory64 regions
+first_memory (Err _) plain = plain_memory plain
 
 -- the memory of a dump: none where neither list can be read
 abbrev pub memory_in : Dump → UnifiedRegions
 memory_in d = first_memory (stream_of memory64_list_stream d) (stream_of memory_list_stream d)
 
 -- what is known of its regions, by either stream: nothing where neither can be read
-abbrev pub first_infos : Result (List MemoryInfo) Error → Result (List MapRegion) Error → InfoRegions
+abbrev pub first_infos : Result (List MemoryInfo) Error → Result (List MapRegion) Error
+    → InfoRegions
 first_infos (Ok infos) maps = OfInfo infos
 first_infos (Err _) (Ok maps) = OfMaps maps
 first_infos (Err _) (Err _) = OfInfo []
@@ -56,7 +60,7 @@ first_infos (Err _) (Err _) = OfInfo []
 abbrev pub infos_in : Dump → InfoRegions
 infos_in d = first_infos (stream_of memory_info_list_stream d) (stream_of linux_maps_stream d)
 
--- those of a dump
+-- the contents of a dump
 abbrev pub contents_in : Dump → ContentsValue
 contents_in d = record { streams = streams_in d; memory = memory_in d; infos = infos_in d }
 
@@ -73,7 +77,8 @@ process_in c = option_map (λ s. record {
 -- the lines of the lists of memory that can't be read; a 64-bit list that was read hides the other
 abbrev pub lists_part : {V W : Type 0} → Result V Error → Result W Error → Part
 lists_part (Ok _) plain = nothing
-lists_part (Err e) plain = parts (unread (codes "64-bit memory") e ∷ unread_stream (codes "memory") plain ∷ [])
+lists_part (Err e) plain = parts (unless_missing (codes "64-bit memory") e ∷ stream_unless_missing (codes "memory")
+    plain ∷ [])
 
 -- the same of a dump
 abbrev pub memory_part : Dump → Part
@@ -82,5 +87,5 @@ memory_part d = lists_part (stream_of memory64_list_stream d) (stream_of memory_
 -- the lines of the streams on its regions that can't be read
 abbrev pub infos_part : Dump → Part
 infos_part d = parts (
-    unread_stream (codes "memory information") (stream_of memory_info_list_stream d)
-    ∷ unread_stream (codes "maps") (stream_of linux_maps_stream d) ∷ [])
+    stream_unless_missing (codes "memory information") (stream_of memory_info_list_stream d)
+    ∷ stream_unless_missing (codes "maps") (stream_of linux_maps_stream d) ∷ [])

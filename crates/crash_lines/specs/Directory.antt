@@ -1,5 +1,6 @@
 -- The lines of the directory: several exceptions, and entries whose bytes are not in the file.
-use Rattle.std.specs.Prelude.{ℕ, ◌==◌, List, [], ◌∷◌, codes, count_by, is_none, nat_lt, if◌then◌else◌}
+use Rattle.std.specs.Prelude.{ℕ, ◌==◌, List, [], ◌∷◌, codes, count_by, is_none, nat_lt}
+use Rattle.std.specs.Prelude.{if◌then◌else◌}
 use Rattle.std.specs.Fmt.{decimal}
 use Rattle.std.specs.List.{concat}
 use Rattle.minidump.specs.declared.format.MINIDUMP_DIRECTORY.{MINIDUMP_DIRECTORY}
@@ -24,9 +25,11 @@ outside_of d = count_by (λ e. is_none (located d.file e.location)) (entries_in 
 -- several exceptions
 abbrev pub several_part : ℕ → Part
 several_part count =
-    if nat_lt 1 count then line (concat (codes "exceptions " ∷ decimal count ∷ codes ", of which the last counts" ∷ [])) else nothing
+    if nat_lt 1 count then line (concat (codes "exceptions " ∷ decimal count
+    ∷ codes ", of which the last counts" ∷ [])) else nothing
 
 -- entries whose bytes are not all in the file
 abbrev pub outside_part : ℕ → Part
 outside_part count =
-    if nat_lt 0 count then line (concat (codes "entries of the directory outside the file: " ∷ decimal count ∷ [])) else nothing
+    if nat_lt 0 count then line (concat (codes "entries of the directory outside the file: "
+    ∷ decimal count ∷ [])) else nothing

@@ -2,7 +2,7 @@
 pub mod Words
 pub mod Streams
 pub mod Contents
-pub mod Places
+pub mod Lookups
 pub mod System
 pub mod Process
 pub mod Registers

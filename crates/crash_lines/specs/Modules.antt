@@ -1,7 +1,9 @@
--- The lines of the modules: how many there are, and those that the lines before name, with what a symbol server is asked by.
-use Rattle.std.specs.Prelude.{ℕ, ◌++◌, ◌==◌, ◌||◌, Bool, false, List, [], ◌∷◌, Option, Some, None, codes, filter, length, map}
+-- The lines of the modules: how many there are, and those that the lines before name, with what a
+-- symbol server is asked by.
+use Rattle.std.specs.Prelude.{ℕ, ◌++◌, ◌==◌, Bool, false, List, [], ◌∷◌, Option, Some, None, codes}
+use Rattle.std.specs.Prelude.{filter, length, map}
 use Rattle.std.specs.Fmt.{decimal}
-use Rattle.std.specs.List.{after_last, concat, enumerate_from, list_any}
+use Rattle.std.specs.List.{concat, enumerate_from, list_any}
 use Rattle.std.specs.Option.{option_map_or}
 use Rattle.minidump.specs.declared.DebugId.{DebugId}
 use Rattle.minidump.specs.declared.Error.{Error}
@@ -9,13 +11,10 @@ use Rattle.minidump.specs.Below.Bytes.Piece.{hex}
 use Rattle.minidump.specs.Below.Format.Text.{if_there}
 use Rattle.minidump.specs.Below.Modules.DebugId.{breakpad_text}
 use Rattle.minidump.specs.Below.Modules.Identity.{Identity}
-use Rattle.minidump.specs.Below.Modules.Module.{ModuleValue, identity_of, value_range}
+use Rattle.minidump.specs.Below.Modules.Module.{ModuleValue, identity_of, range_of_module}
 use Rattle.minidump.specs.LookedUp.{kept_at}
+use Rattle.file_names.specs.FileName.{file_name}
 use Rattle.crash_page.specs.Part.{Part, absent, each, line, parts}
-
--- what comes after the last separator of a path, of Windows or of Unix
-abbrev pub file_name : List ℕ → List ℕ
-file_name path = after_last (λ b. b == 0x2f || b == 0x5c) path
 
 -- the words for the name of a file and an identifier
 abbrev pub key_text : List ℕ → List ℕ → List ℕ → List ℕ
@@ -35,40 +34,46 @@ code_text path id = if_there (key_text (codes ", code ") path) id
 abbrev pub version_text : Option (List ℕ) → List ℕ
 version_text version = if_there (λ v. codes ", version " ++ v) version
 
--- the line of a module: its base address, its file, its version, and what a symbol server is asked by
+-- the line of a module: its base address, its file, its version, and what a symbol server is asked
+-- by
 unfoldable pub module_row : ℕ → List ℕ → List ℕ → List ℕ → List ℕ → List ℕ
-module_row base path version debug code = concat (codes "    " ∷ hex base ∷ codes " " ∷ path ∷ version ∷ debug ∷ code ∷ [])
+module_row base path version debug code = concat (codes "    " ∷ hex base ∷ codes " " ∷ path
+    ∷ version ∷ debug ∷ code ∷ [])
 
 -- the same by what a module is known by
 abbrev pub identity_part : Identity → Part
-identity_part i = line (module_row i.base i.code_file (version_text i.version) (debug_text i.debug_file i.debug_identifier)
+identity_part i = line (module_row i.base i.code_file (version_text i.version)
+    (debug_text i.debug_file i.debug_identifier)
     (code_text i.code_file i.code_identifier))
 
 -- the same of a module of the list
 abbrev pub module_part : ModuleValue → Part
 module_part m = identity_part (identity_of m)
 
--- the kept module that contains an address stands at this place of the list
+-- the kept module that contains an address stands at this index of the list
 abbrev pub is_at : List ModuleValue → ℕ → ℕ → Bool
-is_at modules place address = option_map_or (λ p. p == place) (kept_at (map value_range modules) address) false
+is_at modules index address = option_map_or (λ p. p == index)
+    (kept_at (map range_of_module modules) address) false
 
 -- the kept modules that contain one of these addresses, in the order of the list
-abbrev pub named_modules : List ModuleValue → List ℕ → List ModuleValue
-named_modules modules addresses = map (λ m. m.1) (filter (λ m. list_any (is_at modules m.0) addresses) (enumerate_from 0 modules))
+abbrev pub marked_modules : List ModuleValue → List ℕ → List ModuleValue
+marked_modules modules addresses = map (λ m. m.1)
+    (filter (λ m. list_any (is_at modules m.0) addresses) (enumerate_from 0 modules))
 
 -- their lines
-abbrev pub named_part : List ModuleValue → List ℕ → Part
-named_part modules addresses = each module_part (named_modules modules addresses)
+abbrev pub marked_modules_part : List ModuleValue → List ℕ → Part
+marked_modules_part modules addresses = each module_part (marked_modules modules addresses)
 
 -- the line of the number of modules
 unfoldable pub count_row : ℕ → List ℕ
 count_row count = concat (codes "modules " ∷ decimal count ∷ [])
 
 -- the number of modules, and those that are marked
-abbrev pub read_part : List ModuleValue → List ℕ → Part
-read_part modules marks = parts (line (count_row (length modules)) ∷ named_part modules marks ∷ [])
+abbrev pub list_part : List ModuleValue → List ℕ → Part
+list_part modules marks = parts (line (count_row (length modules))
+    ∷ marked_modules_part modules marks ∷ [])
 
 -- the same, or why the list can't be read
 abbrev pub modules_part : List ModuleValue → Option Error → List ℕ → Part
-modules_part modules None marks = read_part modules marks
+modules_part modules None marks = list_part modules marks
 modules_part modules (Some e) marks = absent (codes "modules") e

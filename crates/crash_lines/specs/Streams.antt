@@ -12,12 +12,14 @@ use Rattle.minidump.specs.Below.Records.ThreadNames.{ThreadName}
 use Rattle.minidump.specs.Below.System.System.{System}
 use Rattle.minidump.specs.Dump.{Dump, stream_of}
 use Rattle.minidump.specs.Exception.{Exception}
-use Rattle.minidump.specs.Promise.{assertion_stream, crashpad_info_stream, exception_stream, mac_crash_info_stream, misc_info_stream, module_list_stream}
+use Rattle.minidump.specs.Promise.{assertion_stream, crashpad_info_stream, exception_stream}
+use Rattle.minidump.specs.Promise.{mac_crash_info_stream, misc_info_stream, module_list_stream}
 use Rattle.minidump.specs.Promise.{system_info_stream, thread_list_stream, thread_names_stream}
 use Rattle.minidump.specs.Thread.{Thread}
 use Rattle.crash_lines.specs.declared.streams.Streams.{Streams}
 
--- the streams: each its value, or the error for which there is none. There are no modules where their list can't be read
+-- the streams: each its value, or the error for which there is none. There are no modules where
+-- their list can't be read
 pub record StreamValues : Type 0 where
   pub system : Result System Error
   pub exception : Result Exception Error
@@ -55,7 +57,7 @@ values_of s = record {
   modules = module_list_stream.value s.modules;
   modules_error = s.modules_error;
   misc = map_ok misc_info_stream.value s.misc;
-  assertion = map_ok assertion_stream.value s.assertion;
-  crashpad = map_ok crashpad_info_stream.value s.crashpad;
-  mac = map_ok mac_crash_info_stream.value s.mac;
+  assertion = map_ok assertion_stream.value s.messages.assertion;
+  crashpad = map_ok crashpad_info_stream.value s.messages.crashpad;
+  mac = map_ok mac_crash_info_stream.value s.messages.mac;
 }

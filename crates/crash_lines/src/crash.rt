@@ -4,11 +4,13 @@ ghost use Rattle.minidump.specs.Below.Modules.Module.{module_of};
 ghost use Rattle.minidump.specs.Promise.{exception_stream, module_list_stream, system_info_stream};
 ghost use Rattle.crash_page.specs.Page.{Adds};
 ghost use Rattle.crash_page.specs.Part.{line};
-ghost use Rattle.crash_lines.specs.Crash.{address_part, address_row, code_part, described_part, exception_part, found_part, reason_part, reason_row, thread_id_part, told_part};
-ghost use Rattle.crash_lines.specs.Places.{place_text};
+ghost use Rattle.crash_lines.specs.Crash.{address_part, address_row, code_part, details_part};
+ghost use Rattle.crash_lines.specs.Crash.{exception_part, marked_address_part, reason_part};
+ghost use Rattle.crash_lines.specs.Crash.{reason_row, thread_id_part, system_details_part};
+ghost use Rattle.crash_lines.specs.Lookups.{module_words};
 ghost use Rattle.crash_lines.specs.Streams.{values_of};
 
-use crate::places::{module_at, place_text};
+use crate::lookups::{module_at, module_words};
 use crate::registers::add_crash_registers;
 use crate::streams::Streams;
 use crash_page::Page;
@@ -25,7 +27,9 @@ pub(crate) fn add_crash(
     streams: &Streams<'_>,
     names: &CodeNames<'_>,
 ) -> Result<(), Error>
-    ensures lines { Adds page.old page.new (exception_part names.now (values_of streams.now) (values_of streams.now).exception) result }
+    ensures lines { Adds page.old page.new
+        (exception_part names.now (values_of streams.now)
+        (values_of streams.now).exception) result }
     ensures memory { IsOkUnless result Error.OutOfMemory }
 {
     match &streams.exception {
@@ -42,11 +46,13 @@ fn add_exception(
     streams: &Streams<'_>,
     names: &CodeNames<'_>,
 ) -> Result<(), Error>
-    ensures lines { Adds page.old page.new (exception_part names.now (values_of streams.now) (Ok (exception_stream.value exception.now))) result }
+    ensures lines { Adds page.old page.new
+        (exception_part names.now (values_of streams.now)
+        (Ok (exception_stream.value exception.now))) result }
     ensures memory { IsOkUnless result Error.OutOfMemory }
 {
     add_thread_id(page, exception.thread_id)?;
-    add_described(page, exception, streams, names)
+    add_details(page, exception, streams, names)
 }
 
 // Adds the line of the thread.
@@ -57,22 +63,25 @@ fn add_thread_id(page: &mut Page, id: u32) -> Result<(), AllocError>
 }
 
 // Adds what the system tells of a crash, or what the exception says without it.
-fn add_described(
+fn add_details(
     page: &mut Page,
     exception: &MinidumpException<'_>,
     streams: &Streams<'_>,
     names: &CodeNames<'_>,
 ) -> Result<(), Error>
-    ensures lines { Adds page.old page.new (described_part names.now (values_of streams.now) (exception_stream.value exception.now) (values_of streams.now).system) result }
+    ensures lines { Adds page.old page.new
+        (details_part names.now (values_of streams.now) (exception_stream.value exception.now)
+        (values_of streams.now).system) result }
     ensures memory { IsOkUnless result Error.OutOfMemory }
 {
     match &streams.system {
-        Ok(system) => add_told(page, exception, streams, system, names),
+        Ok(system) => add_system_details(page, exception, streams, system, names),
         Err(_) => Ok(add_code(page, &exception.raw.exception_record)?),
     }
 }
 
-// Adds what an exception says where the system is unknown, by which its address and its reason are told.
+// Adds what an exception says where the system is unknown, by which its address and its reason are
+// told.
 fn add_code(page: &mut Page, record: &MINIDUMP_EXCEPTION) -> Result<(), AllocError>
     ensures { Adds page.old page.new (code_part record.now) result }
 {
@@ -85,14 +94,16 @@ fn add_code(page: &mut Page, record: &MINIDUMP_EXCEPTION) -> Result<(), AllocErr
 }
 
 // Adds what the system tells of a crash.
-fn add_told(
+fn add_system_details(
     page: &mut Page,
     exception: &MinidumpException<'_>,
     streams: &Streams<'_>,
     system: &MinidumpSystemInfo,
     names: &CodeNames<'_>,
 ) -> Result<(), Error>
-    ensures lines { Adds page.old page.new (told_part names.now (values_of streams.now) (exception_stream.value exception.now) (system_info_stream.value system.now)) result }
+    ensures lines { Adds page.old page.new
+        (system_details_part names.now (values_of streams.now)
+        (exception_stream.value exception.now) (system_info_stream.value system.now)) result }
     ensures memory { IsOkUnless result Error.OutOfMemory }
 {
     let address = exception.get_crash_address(system.os, system.cpu);
@@ -109,7 +120,9 @@ fn add_reason(
     system: &MinidumpSystemInfo,
     names: &CodeNames<'_>,
 ) -> Result<(), Error>
-    ensures lines { Adds page.old page.new (reason_part names.now (exception_stream.value exception.now) (system_info_stream.value system.now)) result }
+    ensures lines { Adds page.old page.new
+        (reason_part names.now (exception_stream.value exception.now)
+        (system_info_stream.value system.now)) result }
     ensures memory { IsOkUnless result Error.OutOfMemory }
 {
     let reason = exception.get_crash_reason(system.os, system.cpu, names);
@@ -132,46 +145,48 @@ fn add_address(
     address: u64,
     modules: &MinidumpModuleList,
 ) -> Result<(), AllocError>
-    ensures { Adds page.old page.new (address_part (module_list_stream.value modules.now) address) result }
+    ensures { Adds page.old page.new
+        (address_part (module_list_stream.value modules.now) address) result }
 {
-    add_found(page, address, module_at(modules, address))
+    add_marked_address(page, address, module_at(modules, address))
 }
 
 // Adds the address of the crash, which is marked, with the module there.
 #[tactic(auto, using(crash_page::proofs::Adding::adds_then, crash_page::proofs::Adding::adds_last))]
-fn add_found(
+fn add_marked_address(
     page: &mut Page,
     address: u64,
     found: Option<&MinidumpModule>,
 ) -> Result<(), AllocError>
-    ensures { Adds page.old page.new (found_part address (option_map module_of (option_copied found.entry))) result }
+    ensures { Adds page.old page.new
+        (marked_address_part address (option_map module_of (option_copied found.entry))) result }
 {
-    add_place(page, address, found)?;
+    add_address_line(page, address, found)?;
     page.mark(address)
 }
 
 // Adds the line of the address, with the words for its module.
-fn add_place(
+fn add_address_line(
     page: &mut Page,
     address: u64,
     found: Option<&MinidumpModule>,
 ) -> Result<(), AllocError>
     ensures { Adds page.old page.new (line (address_row address
-        (place_text address [] (option_map module_of (option_copied found.entry))))) result }
+        (module_words address [] (option_map module_of (option_copied found.entry))))) result }
 {
-    let place = place_text(page.alloc(), address, "", found)?;
-    add_row(page, address, place.as_str())?;
+    let words = module_words(page.alloc(), address, "", found)?;
+    add_row(page, address, words.as_str())?;
     Ok(())
 }
 
-// Adds the line of the address, with the words for its place.
+// Adds the line of the address, with these words for its module.
 #[tactic(auto, unfolding(crate::specs::Crash::address_row))]
-fn add_row(page: &mut Page, address: u64, place: &str) -> Result<(), AllocError>
-    ensures { Adds page.old page.new (line (address_row address place.now)) result }
+fn add_row(page: &mut Page, address: u64, words: &str) -> Result<(), AllocError>
+    ensures { Adds page.old page.new (line (address_row address words.now)) result }
 {
     page.line(&[
         Piece::Words("address "),
         Piece::Hex(address),
-        Piece::Words(place),
+        Piece::Words(words),
     ])
 }

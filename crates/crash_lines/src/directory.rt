@@ -4,7 +4,8 @@ ghost use Rattle.minidump.specs.Dump.{dump_in};
 ghost use Rattle.minidump.specs.DumpValue.{dump_of};
 ghost use Rattle.minidump.specs.Promise.{exception_stream};
 ghost use Rattle.crash_page.specs.Page.{Adds};
-ghost use Rattle.crash_lines.specs.Directory.{entries_in, exceptions_of, outside_of, outside_part, several_part};
+ghost use Rattle.crash_lines.specs.Directory.{entries_in, exceptions_of, outside_of, outside_part};
+ghost use Rattle.crash_lines.specs.Directory.{several_part};
 
 use crash_page::Page;
 use minidump::format::MINIDUMP_DIRECTORY;
@@ -33,8 +34,8 @@ pub(crate) fn add_exceptions(
     Ok(())
 }
 
-// Adds how many entries of the directory have bytes that are not all in the file, if there are any: of all its entries, also
-// those that don't decide.
+// Adds how many entries of the directory have bytes that are not all in the file, if there are any:
+// of all its entries, also those that don't decide.
 pub(crate) fn add_outside(
     page: &mut Page,
     dump: &Minidump<'_>,

@@ -1,11 +1,12 @@
-ghost use Rattle.std.specs.Prelude.{◌≡◌, [], ◌∷◌, IfErr, IfOk, IsOkUnless, Ok, OnOk};
+ghost use Rattle.std.specs.Prelude.{◌≡◌, IfErr, IfOk, IsOkUnless, Ok, OnOk};
 ghost use Rattle.minidump.specs.Dump.{dump_in};
 ghost use Rattle.minidump.specs.DumpValue.{dump_of};
 ghost use Rattle.crash_page.specs.Page.{Adds, marks_of};
 ghost use Rattle.crash_lines.specs.Contents.{contents_in, contents_of, process_in};
-ghost use Rattle.crash_lines.specs.Streams.{streams_in, values_of};
+ghost use Rattle.crash_lines.specs.Streams.{values_of};
 ghost use Rattle.crash_lines.specs.Walks.{AreWalksIn, Walks};
-ghost use Rattle.crash_lines.specs.Whole.{AddsDump, AddsFile, IsRefused, before_modules, head_part, last_part, threads_part};
+ghost use Rattle.crash_lines.specs.Whole.{AddsDump, AddsFile, IsAddError, before_modules};
+ghost use Rattle.crash_lines.specs.Whole.{head_part, last_part, threads_part};
 
 use crate::Limits;
 use crate::contents::Contents;
@@ -17,14 +18,14 @@ use crate::process::add_process;
 use crate::space::space_of;
 use crate::stacks::{add_crashed_stacks, add_other_stacks};
 use crate::streams::{Streams, streams_of};
-use crate::system::{add_dumped, add_system};
+use crate::system::{add_date, add_system};
 use crash_page::Page;
 use minidump::{CodeNames, Error, Minidump};
 
 /// Adds the lines of a minidump, whose bytes are `bytes`.
 ///
-/// Returns the error of [`Minidump::read`], and then adds nothing; else `OutOfMemory`, after which the page has the lines
-/// before it.
+/// Returns the error of [`Minidump::read`], and then adds nothing; else `OutOfMemory`, after which
+/// the page has the lines before it.
 pub fn add_dump(
     page: &mut Page,
     bytes: &[u8],
@@ -32,15 +33,15 @@ pub fn add_dump(
     limits: &Limits,
 ) -> Result<(), Error>
     ensures lines { OnOk result (AddsFile bytes.now names.now limits.now page.old page.new) }
-    ensures refused { IfErr result (IsRefused bytes.now page.old page.new) }
+    ensures error { IfErr result (IsAddError bytes.now page.old page.new) }
 {
     let dump = Minidump::read(page.alloc(), bytes)?;
-    add_read(page, &dump, bytes, names, limits)?;
+    add_lines(page, &dump, bytes, names, limits)?;
     Ok(())
 }
 
 // Adds the lines of a dump that was read.
-fn add_read(
+fn add_lines(
     page: &mut Page,
     dump: &Minidump<'_>,
     bytes: &[u8],
@@ -48,7 +49,8 @@ fn add_read(
     limits: &Limits,
 ) -> Result<(), Error>
     requires { dump_in bytes.now ≡ Ok (dump_of dump.now) }
-    ensures lines { OnOk result (AddsDump names.now limits.now (dump_of dump.now) page.old page.new) }
+    ensures lines { OnOk result (AddsDump names.now limits.now (dump_of dump.now) page.old
+        page.new) }
     ensures memory { IsOkUnless result Error.OutOfMemory }
 {
     let contents = add_contents(page, dump, bytes, names, limits)?;
@@ -67,7 +69,8 @@ fn add_contents<'a>(
     requires { dump_in bytes.now ≡ Ok (dump_of dump.now) }
     ensures contents { IfOk result (λ c. contents_of c ≡ contents_in (dump_of dump.now)) }
     ensures lines { (w : Walks) → AreWalksIn (process_in (contents_in (dump_of dump.now))) w
-        → Adds page.old page.new (before_modules names.now limits.now w (contents_in (dump_of dump.now)) (dump_of dump.now)) result }
+        → Adds page.old page.new (before_modules names.now limits.now w
+        (contents_in (dump_of dump.now)) (dump_of dump.now)) result }
     ensures memory { IsOkUnless result Error.OutOfMemory }
 {
     let streams = streams_of(page.alloc(), dump)?;
@@ -87,12 +90,13 @@ fn add_head(
     names: &CodeNames<'_>,
 ) -> Result<(), Error>
     requires { dump_in bytes.now ≡ Ok (dump_of dump.now) }
-    ensures lines { Adds page.old page.new (head_part names.now (values_of streams.now) (dump_of dump.now)) result }
+    ensures lines { Adds page.old page.new
+        (head_part names.now (values_of streams.now) (dump_of dump.now)) result }
     ensures memory { IsOkUnless result Error.OutOfMemory }
 {
     let stamp = dump.header.time_date_stamp;
     add_system(page, &streams.system)?;
-    add_dumped(page, stamp)?;
+    add_date(page, stamp)?;
     add_process(page, stamp, &streams.misc)?;
     add_crash(page, streams, names)?;
     add_exceptions(page, dump, bytes)?;
@@ -119,7 +123,8 @@ fn add_last(
     contents: &Contents<'_>,
 ) -> Result<(), Error>
     requires { dump_in bytes.now ≡ Ok (dump_of dump.now) }
-    ensures lines { Adds page.old page.new (last_part (contents_of contents.now) (dump_of dump.now) (marks_of page.old)) result }
+    ensures lines { Adds page.old page.new
+        (last_part (contents_of contents.now) (dump_of dump.now) (marks_of page.old)) result }
     ensures memory { IsOkUnless result Error.OutOfMemory }
 {
     add_modules(page, &contents.streams)?;

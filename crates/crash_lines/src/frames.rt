@@ -5,11 +5,12 @@ ghost use Rattle.minidump.specs.Promise.{module_list_stream};
 ghost use Rattle.stack_walk.specs.Lookups.{lookup_address};
 ghost use Rattle.crash_page.specs.Page.{Adds};
 ghost use Rattle.crash_page.specs.Part.{line};
-ghost use Rattle.crash_lines.specs.Frames.{frame_at, frame_part, frame_row, frames_part, hidden_part, placed_part, shown_part, trust_text};
-ghost use Rattle.crash_lines.specs.Places.{place_text};
+ghost use Rattle.crash_lines.specs.Frames.{frame_part, frame_row, frames_part, hidden_part};
+ghost use Rattle.crash_lines.specs.Frames.{marked_frame_part, each_frame_part, trust_text};
+ghost use Rattle.crash_lines.specs.Lookups.{module_words};
 
 use crate::Limits;
-use crate::places::{module_at, place_text};
+use crate::lookups::{module_at, module_words};
 use crash_page::Page;
 use minidump::text::Piece;
 use minidump::{MinidumpModule, MinidumpModuleList};
@@ -24,9 +25,10 @@ pub(crate) fn add_frames(
     modules: &MinidumpModuleList,
     limits: &Limits,
 ) -> Result<(), AllocError>
-    ensures { Adds page.old page.new (frames_part limits.now (module_list_stream.value modules.now) frames.now) result }
+    ensures { Adds page.old page.new
+        (frames_part limits.now (module_list_stream.value modules.now) frames.now) result }
 {
-    add_shown(page, first_of(frames, limits.frames), modules)?;
+    add_each_frame(page, first_of(frames, limits.frames), modules)?;
     add_hidden(page, frames.len().saturating_sub(limits.frames), limits)
 }
 
@@ -42,12 +44,13 @@ fn first_of(frames: &[StackFrame], count: usize) -> &[StackFrame]
 }
 
 // Adds the lines of frames, each with its number.
-fn add_shown(
+fn add_each_frame(
     page: &mut Page,
     frames: &[StackFrame],
     modules: &MinidumpModuleList,
 ) -> Result<(), AllocError>
-    ensures { Adds page.old page.new (shown_part (module_list_stream.value modules.now) frames.now) result }
+    ensures { Adds page.old page.new
+        (each_frame_part (module_list_stream.value modules.now) frames.now) result }
 {
     for (number, frame) in frames.iter().enumerate() {
         add_frame(page, number, frame, modules)?;
@@ -84,31 +87,40 @@ fn add_frame(
     frame: &StackFrame,
     modules: &MinidumpModuleList,
 ) -> Result<(), AllocError>
-    ensures { Adds page.old page.new (frame_part (module_list_stream.value modules.now) (number, frame.now)) result }
+    ensures { Adds page.old page.new
+        (frame_part (module_list_stream.value modules.now) (number, frame.now)) result }
 {
     match frame.lookup_address() {
-        Some(address) => add_placed(page, number, frame, address, module_at(modules, address)),
+        Some(address) => add_marked_frame(
+            page,
+            number,
+            frame,
+            address,
+            module_at(modules, address),
+        ),
         None => add_row(page, number, frame, " in no module"),
     }
 }
 
-// Adds the line of a frame by the address at which it is looked up, which is marked, and the module there.
+// Adds the line of a frame by the address at which it is looked up, which is marked, and the module
+// there.
 #[tactic(auto, using(crash_page::proofs::Adding::adds_then, crash_page::proofs::Adding::adds_last))]
-fn add_placed(
+fn add_marked_frame(
     page: &mut Page,
     number: usize,
     frame: &StackFrame,
     address: u64,
     found: Option<&MinidumpModule>,
 ) -> Result<(), AllocError>
-    ensures { Adds page.old page.new (placed_part number frame.now address (option_map module_of (option_copied found.entry))) result }
+    ensures { Adds page.old page.new (marked_frame_part number frame.now address
+        (option_map module_of (option_copied found.entry))) result }
 {
-    add_place(page, number, frame, address, found)?;
+    add_frame_line(page, number, frame, address, found)?;
     page.mark(address)
 }
 
-// Adds the line of a frame, with the words for the place of an address.
-fn add_place(
+// Adds the line of a frame, with the words for the module of an address.
+fn add_frame_line(
     page: &mut Page,
     number: usize,
     frame: &StackFrame,
@@ -116,34 +128,36 @@ fn add_place(
     found: Option<&MinidumpModule>,
 ) -> Result<(), AllocError>
     ensures { Adds page.old page.new (line (frame_row number frame.now
-        (place_text address (codes " in no module") (option_map module_of (option_copied found.entry))))) result }
+        (module_words address (codes " in no module")
+        (option_map module_of (option_copied found.entry))))) result }
 {
-    let place = place_text(page.alloc(), address, " in no module", found)?;
-    add_row(page, number, frame, place.as_str())?;
+    let words = module_words(page.alloc(), address, " in no module", found)?;
+    add_row(page, number, frame, words.as_str())?;
     Ok(())
 }
 
-// Adds the line of a frame: its number, its address, its place, and what it is known by.
+// Adds the line of a frame: its number, its address, the words for its module, and how it was
+// found.
 #[tactic(auto, unfolding(crate::specs::Frames::frame_row))]
 fn add_row(
     page: &mut Page,
     number: usize,
     frame: &StackFrame,
-    place: &str,
+    words: &str,
 ) -> Result<(), AllocError>
-    ensures { Adds page.old page.new (line (frame_row number frame.now place.now)) result }
+    ensures { Adds page.old page.new (line (frame_row number frame.now words.now)) result }
 {
     page.line(&[
         Piece::Words("    #"),
         Piece::Decimal(number as u64),
         Piece::Words(" "),
         Piece::Hex(frame.instruction),
-        Piece::Words(place),
+        Piece::Words(words),
         Piece::Words(trust_text(frame.trust)),
     ])
 }
 
-// Returns the words for what a frame is known by.
+// Returns the words for how a frame was found.
 fn trust_text(trust: FrameTrust) -> &'static str
     ensures { result.now ≡ trust_text trust }
 {

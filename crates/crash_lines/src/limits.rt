@@ -1,16 +1,17 @@
 ghost use Rattle.std.specs.Prelude.{◌≡◌};
 ghost use Rattle.crash_lines.specs.Stacks.{limits_of_others};
 
-/// How many frames of a thread are printed, and how many candidates of its stack's words.
+/// How many frames of a thread are printed, and how many candidates are looked for in its stack.
 #[derive(Clone, Copy)]
 pub struct Limits {
-    /// At most so many frames of a thread.
+    /// The most frames of a thread that are printed.
     pub frames: usize,
-    /// At most so many candidates among the words of a stack.
+    /// The most words of a stack that are taken for candidates.
     pub scan: usize,
-    /// All frames of each thread, and not those of the crashing thread alone.
+    /// Whether all frames of each thread are printed, and not only those of the crashing one.
     pub all_threads: bool,
-    /// Whether lines say how many frames there are beyond these, and that the dump lacks the memory of a thread's stack.
+    /// Whether lines say how many frames there are beyond these, and that the dump lacks the memory
+    /// of a thread's stack.
     pub says_more: bool,
 }
 

@@ -6,10 +6,13 @@ ghost use Rattle.minidump.specs.Below.Records.Annotations.{annotation_of};
 ghost use Rattle.minidump.specs.Below.Records.Dictionary.{entries_of};
 ghost use Rattle.minidump.specs.Below.Records.CrashpadText.{annotation_text};
 ghost use Rattle.minidump.specs.Below.Records.Record.{mac_record_of};
-ghost use Rattle.minidump.specs.Promise.{assertion_stream, crashpad_info_stream, mac_crash_info_stream};
+ghost use Rattle.minidump.specs.Promise.{assertion_stream, crashpad_info_stream};
+ghost use Rattle.minidump.specs.Promise.{mac_crash_info_stream};
 ghost use Rattle.crash_page.specs.Page.{Adds};
 ghost use Rattle.crash_page.specs.Part.{each, line};
-ghost use Rattle.crash_lines.specs.Messages.{annotation_part, assertion_part, assertion_row, crashpad_part, kind_words, mac_part, mac_text_part, messages_part, module_part, record_part, text_part};
+ghost use Rattle.crash_lines.specs.Messages.{annotation_part, assertion_part, assertion_row};
+ghost use Rattle.crash_lines.specs.Messages.{crashpad_part, kind_words, mac_part, mac_text_part};
+ghost use Rattle.crash_lines.specs.Messages.{messages_part, module_part, record_part, text_part};
 ghost use Rattle.crash_lines.specs.Streams.{values_of};
 
 use crate::streams::Streams;
@@ -23,25 +26,27 @@ use minidump::{
 use std::alloc::AllocError;
 use std::collections::BTreeMap;
 
-// Adds what the process itself said of the crash: an assertion, Crashpad's annotations and macOS's messages.
+// Adds what the process itself said of the crash: an assertion, Crashpad's annotations and macOS's
+// messages.
 pub(crate) fn add_messages(page: &mut Page, streams: &Streams<'_>) -> Result<(), Error>
     ensures lines { Adds page.old page.new (messages_part (values_of streams.now)) result }
     ensures memory { IsOkUnless result Error.OutOfMemory }
 {
-    add_assertion(page, &streams.assertion)?;
-    add_crashpad(page, &streams.crashpad)?;
-    add_mac(page, &streams.mac)?;
+    add_assertion(page, &streams.messages.assertion)?;
+    add_crashpad(page, &streams.messages.crashpad)?;
+    add_mac(page, &streams.messages.mac)?;
     Ok(())
 }
 
 // Adds the line of an assertion.
 fn add_assertion(page: &mut Page, found: &Result<MinidumpAssertion, Error>) -> Result<(), Error>
-    ensures lines { Adds page.old page.new (assertion_part (map_ok assertion_stream.value found.now)) result }
+    ensures lines { Adds page.old page.new
+        (assertion_part (map_ok assertion_stream.value found.now)) result }
     ensures memory { IsOkUnless result Error.OutOfMemory }
 {
     match found {
         Ok(assertion) => add_texts_of(page, assertion),
-        Err(error) => Ok(page.unread("assertion", *error)?),
+        Err(error) => Ok(page.unless_missing("assertion", *error)?),
     }
 }
 
@@ -50,27 +55,31 @@ fn add_crashpad(
     page: &mut Page,
     found: &Result<MinidumpCrashpadInfo, Error>,
 ) -> Result<(), AllocError>
-    ensures { Adds page.old page.new (crashpad_part (map_ok crashpad_info_stream.value found.now)) result }
+    ensures { Adds page.old page.new
+        (crashpad_part (map_ok crashpad_info_stream.value found.now)) result }
 {
     match found {
         Ok(info) => add_annotations(page, info),
-        Err(error) => page.unread("Crashpad's information", *error),
+        Err(error) => page.unless_missing("Crashpad's information", *error),
     }
 }
 
 // Adds the texts of macOS's crash information.
 fn add_mac(page: &mut Page, found: &Result<MinidumpMacCrashInfo, Error>) -> Result<(), AllocError>
-    ensures { Adds page.old page.new (mac_part (map_ok mac_crash_info_stream.value found.now)) result }
+    ensures { Adds page.old page.new
+        (mac_part (map_ok mac_crash_info_stream.value found.now)) result }
 {
     match found {
         Ok(info) => add_mac_records(page, info.raw.as_slice()),
-        Err(error) => page.unread("macOS's crash information", *error),
+        Err(error) => page.unless_missing("macOS's crash information", *error),
     }
 }
 
-// Adds the line of an assertion: its kind and its expression, and the function, the file and the line that it stands in.
+// Adds the line of an assertion: its kind and its expression, and the function, the file and the
+// line that it stands in.
 fn add_texts_of(page: &mut Page, assertion: &MinidumpAssertion) -> Result<(), Error>
-    ensures lines { Adds page.old page.new (assertion_part (Ok (assertion_stream.value assertion.now))) result }
+    ensures lines { Adds page.old page.new
+        (assertion_part (Ok (assertion_stream.value assertion.now))) result }
     ensures memory { IsOkUnless result Error.OutOfMemory }
 {
     let alloc = page.alloc();
@@ -97,7 +106,8 @@ fn add_assertion_line<'t>(
     file: &'t str,
     number: u32,
 ) -> Result<(), AllocError>
-    ensures { Adds page.old page.new (line (assertion_row kind expression.now function.now file.now number)) result }
+    ensures { Adds page.old page.new
+        (line (assertion_row kind expression.now function.now file.now number)) result }
 {
     page.line(&[
         Piece::Words("assertion "),
@@ -126,7 +136,8 @@ fn kind_words(kind: u32) -> &'static str
 // Adds the annotations of the process, and then those of each module.
 #[tactic(auto, using(crash_page::proofs::Adding::adds_then, crash_page::proofs::Adding::adds_last))]
 fn add_annotations(page: &mut Page, info: &MinidumpCrashpadInfo) -> Result<(), AllocError>
-    ensures { Adds page.old page.new (crashpad_part (Ok (crashpad_info_stream.value info.now))) result }
+    ensures { Adds page.old page.new
+        (crashpad_part (Ok (crashpad_info_stream.value info.now))) result }
 {
     add_texts(page, &info.simple_annotations)?;
     add_modules(page, info.module_list.as_slice())
@@ -149,23 +160,23 @@ fn add_module_annotations(
 ) -> Result<(), AllocError>
     ensures { Adds page.old page.new (module_part (module_of module.now)) result }
 {
-    add_unnamed(page, module.list_annotations.as_slice())?;
+    add_list_annotations(page, module.list_annotations.as_slice())?;
     add_texts(page, &module.simple_annotations)?;
     add_objects(page, &module.annotation_objects)?;
     Ok(())
 }
 
 // Adds the lines of texts without names.
-fn add_unnamed(page: &mut Page, texts: &[String]) -> Result<(), AllocError>
+fn add_list_annotations(page: &mut Page, texts: &[String]) -> Result<(), AllocError>
     ensures { Adds page.old page.new (each text_part (map string_bytes texts.now)) result }
 {
     for text in texts {
-        add_unnamed_text(page, text.as_str())?;
+        add_list_annotation(page, text.as_str())?;
     }
     Ok(())
 }
 
-fn add_unnamed_text(page: &mut Page, text: &str) -> Result<(), AllocError>
+fn add_list_annotation(page: &mut Page, text: &str) -> Result<(), AllocError>
     ensures { Adds page.old page.new (text_part text.now) result }
 {
     page.line(&[Piece::Words("annotation "), Piece::Words(text)])
@@ -173,7 +184,8 @@ fn add_unnamed_text(page: &mut Page, text: &str) -> Result<(), AllocError>
 
 // Adds the texts of a dictionary.
 fn add_texts(page: &mut Page, texts: &BTreeMap<String, String>) -> Result<(), AllocError>
-    ensures { Adds page.old page.new (each annotation_part (entries_of string_bytes texts.now.entries)) result }
+    ensures { Adds page.old page.new
+        (each annotation_part (entries_of string_bytes texts.now.entries)) result }
 {
     for (name, text) in texts {
         add_annotation(page, name.as_str(), text.as_str())?;
@@ -186,10 +198,11 @@ fn add_objects(
     page: &mut Page,
     objects: &BTreeMap<String, MinidumpAnnotation>,
 ) -> Result<(), AllocError>
-    ensures { Adds page.old page.new (each (λ e. annotation_part (e.0, annotation_text e.1)) (entries_of annotation_of objects.now.entries)) result }
+    ensures { Adds page.old page.new (each (λ e. annotation_part (e.0, annotation_text e.1))
+        (entries_of annotation_of objects.now.entries)) result }
 {
     for (name, annotation) in objects {
-        add_annotation(page, name.as_str(), shown(annotation))?;
+        add_annotation(page, name.as_str(), annotation_text(annotation))?;
     }
     Ok(())
 }
@@ -207,7 +220,7 @@ fn add_annotation<'x>(page: &mut Page, name: &'x str, value: &'x str) -> Result<
 }
 
 // Returns the text of an annotation, or the kind of any other.
-fn shown(annotation: &MinidumpAnnotation) -> &str
+fn annotation_text(annotation: &MinidumpAnnotation) -> &str
     ensures { result.now ≡ annotation_text (annotation_of annotation.now) }
 {
     match annotation {

@@ -17,18 +17,20 @@ pub(crate) fn add_process(
     stamp: u32,
     misc: &Result<MinidumpMiscInfo, Error>,
 ) -> Result<(), AllocError>
-    ensures { Adds page.old page.new (process_part stamp (map_ok misc_info_stream.value misc.now)) result }
+    ensures { Adds page.old page.new
+        (process_part stamp (map_ok misc_info_stream.value misc.now)) result }
 {
     match misc {
         Ok(misc) => add_misc(page, stamp, misc),
-        Err(error) => page.unread("misc information", *error),
+        Err(error) => page.unless_missing("misc information", *error),
     }
 }
 
 // Adds what the misc information has of it.
 #[tactic(auto, using(crash_page::proofs::Adding::adds_then, crash_page::proofs::Adding::adds_last))]
 fn add_misc(page: &mut Page, stamp: u32, misc: &MinidumpMiscInfo) -> Result<(), AllocError>
-    ensures { Adds page.old page.new (process_part stamp (Ok (misc_info_stream.value misc.now))) result }
+    ensures { Adds page.old page.new
+        (process_part stamp (Ok (misc_info_stream.value misc.now))) result }
 {
     add_id(page, misc.raw.process_id())?;
     add_uptime(page, uptime(stamp, misc))
@@ -64,8 +66,8 @@ fn add_uptime(page: &mut Page, seconds: Option<u64>) -> Result<(), AllocError>
     }
 }
 
-// Returns how many seconds after the process began the dump was written, or `None` if one of the times isn't there, is 0, or
-// they are not in order.
+// Returns how many seconds after the process began the dump was written, or `None` if one of the
+// times isn't there, is 0, or they are not in order.
 fn uptime(stamp: u32, misc: &MinidumpMiscInfo) -> Option<u64>
     ensures { result ≡ uptime stamp misc.now.raw }
 {

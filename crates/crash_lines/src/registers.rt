@@ -1,18 +1,19 @@
-ghost use Rattle.std.specs.Prelude.{◌≡◌, ◌++◌, ◌≤◌, ◌*◌, [], IfOk, Some, codes, map, string_bytes};
+ghost use Rattle.std.specs.Prelude.{◌≡◌, ◌≤◌, ◌*◌, IfOk, Some, map, string_bytes};
 ghost use Rattle.std.specs.List.{flat_map};
 ghost use Rattle.std.specs.Option.{option_copied, option_map};
-ghost use Rattle.minidump.specs.Below.Contexts.Context.{map_ok, registers_of, valid_registers_from};
+ghost use Rattle.minidump.specs.Below.Contexts.Context.{map_ok};
 ghost use Rattle.minidump.specs.Crash.{last_with};
 ghost use Rattle.minidump.specs.Thread.{thread_of};
 ghost use Rattle.minidump.specs.Promise.{exception_stream, system_info_stream, thread_list_stream};
-ghost use Rattle.minidump.specs.declared.MinidumpContextValidity.TheVariants.{All};
 ghost use Rattle.crash_page.specs.Page.{Adds};
 ghost use Rattle.crash_page.specs.Part.{each};
-ghost use Rattle.crash_lines.specs.Registers.{crash_registers_part, later_registers_part, own_context, register_words, registers_part, row_part, rows, why_unused_part};
+ghost use Rattle.crash_lines.specs.Registers.{crash_registers_part, later_registers_part};
+ghost use Rattle.crash_lines.specs.Registers.{own_context, register_words, registers_part};
+ghost use Rattle.crash_lines.specs.Registers.{row_part, rows, why_unused_part};
 
 use crate::streams::Streams;
 use crash_page::Page;
-use minidump::text::{Piece, made};
+use minidump::text::{Piece, format_pieces};
 use minidump::{
     MinidumpContext, MinidumpException, MinidumpSystemInfo, MinidumpThread, MinidumpThreadList,
 };
@@ -26,7 +27,8 @@ pub(crate) fn add_crash_registers(
     system: &MinidumpSystemInfo,
 ) -> Result<(), AllocError>
     ensures { Adds page.old page.new (crash_registers_part (system_info_stream.value system.now)
-        (exception_stream.value exception.now) (map_ok thread_list_stream.value streams.now.threads)) result }
+        (exception_stream.value exception.now)
+        (map_ok thread_list_stream.value streams.now.threads)) result }
 {
     match exception.context(system, None) {
         Some(context) => add_registers(page, "registers at the exception", &context),
@@ -79,14 +81,16 @@ fn own_context(
 
 // Returns the last thread of an id.
 fn last_with<'l, 'a>(threads: &'l MinidumpThreadList<'a>, id: u32) -> Option<&'l MinidumpThread<'a>>
-    ensures { option_map thread_of (option_copied result) ≡ last_with id (thread_list_stream.value threads.now) }
+    ensures { option_map thread_of (option_copied result)
+        ≡ last_with id (thread_list_stream.value threads.now) }
 {
     threads.get_thread(id)
 }
 
 // Adds the registers of a thread's own context, or that there are none.
 fn add_later_registers(page: &mut Page, context: &Option<MinidumpContext>) -> Result<(), AllocError>
-    ensures { Adds page.old page.new (later_registers_part (option_map (λ c. c.raw) context.now)) result }
+    ensures { Adds page.old page.new
+        (later_registers_part (option_map (λ c. c.raw) context.now)) result }
 {
     match context {
         Some(context) => add_registers(
@@ -118,7 +122,8 @@ fn add_rows(
     size: usize,
 ) -> Result<(), AllocError>
     requires { size ≤ 8 }
-    ensures { Adds page.old page.new (each (row_part size) (rows (map (λ r. (r.0.now, r.1)) registers.now))) result }
+    ensures { Adds page.old page.new
+        (each (row_part size) (rows (map (λ r. (r.0.now, r.1)) registers.now))) result }
 {
     for few in registers.chunks(4) {
         add_row(page, few, size)?;
@@ -138,12 +143,13 @@ fn add_row(page: &mut Page, few: &[(&'static str, u64)], size: usize) -> Result<
 // Makes the words for registers.
 fn row_words(alloc: Global, few: &[(&'static str, u64)], size: usize) -> Result<String, AllocError>
     requires { size ≤ 8 }
-    ensures { IfOk result (λ words. string_bytes words ≡ flat_map (register_words size) (map (λ r. (r.0.now, r.1)) few.now)) }
+    ensures { IfOk result (λ words. string_bytes words ≡ flat_map (register_words size)
+        (map (λ r. (r.0.now, r.1)) few.now)) }
 {
     let mut words = String::new(alloc);
     for one in few {
-        let shown = register_words(alloc, one.0, one.1, size)?;
-        words.push_str(shown.as_str())?;
+        let register = register_words(alloc, one.0, one.1, size)?;
+        words.push_str(register.as_str())?;
     }
     Ok(words)
 }
@@ -153,7 +159,7 @@ fn register_words(alloc: Global, name: &str, value: u64, size: usize) -> Result<
     requires { size ≤ 8 }
     ensures { IfOk result (λ words. string_bytes words ≡ register_words size (name.now, value)) }
 {
-    made(
+    format_pieces(
         alloc,
         &[
             Piece::Words("  "),

@@ -4,10 +4,12 @@ ghost use Rattle.minidump.specs.Below.MemoryLists.Unified.{unified_list};
 ghost use Rattle.minidump.specs.Below.MemoryLists.UnifiedInfo.{info_list};
 ghost use Rattle.minidump.specs.Dump.{stream_of};
 ghost use Rattle.minidump.specs.DumpValue.{dump_of};
-ghost use Rattle.minidump.specs.Promise.{linux_maps_stream, memory64_list_stream, memory_info_list_stream, memory_list_stream};
+ghost use Rattle.minidump.specs.Promise.{linux_maps_stream, memory64_list_stream};
+ghost use Rattle.minidump.specs.Promise.{memory_info_list_stream, memory_list_stream};
 ghost use Rattle.crash_page.specs.Page.{Adds};
 ghost use Rattle.crash_page.specs.Part.{parts};
-ghost use Rattle.crash_lines.specs.Contents.{first_infos, infos_in, infos_part, memory_in, memory_part, short_memory};
+ghost use Rattle.crash_lines.specs.Contents.{first_infos, infos_in, infos_part, memory_in};
+ghost use Rattle.crash_lines.specs.Contents.{memory_part, plain_memory};
 
 use crate::streams::find;
 use crash_page::Page;
@@ -17,7 +19,8 @@ use minidump::{
 };
 use std::alloc::Global;
 
-/// The memory of a process, and what is known of its regions: empty where the dump has none that can be read.
+/// The memory of a process, and what is known of its regions: empty where the dump has none that
+/// can be read.
 #[derive(Drop)]
 pub(crate) struct Space<'a> {
     pub(crate) memory: UnifiedMemoryList<'a>,
@@ -26,10 +29,11 @@ pub(crate) struct Space<'a> {
 
 // Reads the memory of a dump, and adds a line for each of its streams that can't be read.
 pub(crate) fn space_of<'a>(page: &mut Page, dump: &Minidump<'a>) -> Result<Space<'a>, Error>
-    ensures lines { Adds page.old page.new (parts (memory_part (dump_of dump.now) ∷ infos_part (dump_of dump.now) ∷ [])) result }
+    ensures lines { Adds page.old page.new
+        (parts (memory_part (dump_of dump.now) ∷ infos_part (dump_of dump.now) ∷ [])) result }
     ensures memory { IfOk result (λ s. unified_list s.memory ≡ memory_in (dump_of dump.now)) }
     ensures infos { IfOk result (λ s. info_list s.infos ≡ infos_in (dump_of dump.now)) }
-    ensures refused { IsOkUnless result Error.OutOfMemory }
+    ensures error { IsOkUnless result Error.OutOfMemory }
 {
     let memory = memory_of(page, dump)?;
     let infos = infos_of(page, dump)?;
@@ -40,16 +44,16 @@ pub(crate) fn space_of<'a>(page: &mut Page, dump: &Minidump<'a>) -> Result<Space
 fn memory_of<'a>(page: &mut Page, dump: &Minidump<'a>) -> Result<UnifiedMemoryList<'a>, Error>
     ensures lines { Adds page.old page.new (memory_part (dump_of dump.now)) result }
     ensures value { IfOk result (λ l. unified_list l ≡ memory_in (dump_of dump.now)) }
-    ensures refused { IsOkUnless result Error.OutOfMemory }
+    ensures error { IsOkUnless result Error.OutOfMemory }
 {
     match find::<MinidumpMemory64List<'a>>(page.alloc(), dump)? {
         Ok(list) => Ok(UnifiedMemoryList::Memory64(list)),
-        Err(error) => short_memory_of(page, dump, error),
+        Err(error) => plain_memory_of(page, dump, error),
     }
 }
 
 // Reads the memory where the 64-bit memory can't be read.
-fn short_memory_of<'a>(
+fn plain_memory_of<'a>(
     page: &mut Page,
     dump: &Minidump<'a>,
     error: Error,
@@ -57,22 +61,22 @@ fn short_memory_of<'a>(
     requires { stream_of memory64_list_stream (dump_of dump.now) ≡ Err error }
     ensures lines { Adds page.old page.new (memory_part (dump_of dump.now)) result }
     ensures value { IfOk result (λ l. unified_list l ≡ memory_in (dump_of dump.now)) }
-    ensures refused { IsOkUnless result Error.OutOfMemory }
+    ensures error { IsOkUnless result Error.OutOfMemory }
 {
-    page.unread("64-bit memory", error)?;
-    let short = find::<MinidumpMemoryList<'a>>(page.alloc(), dump)?;
-    page.unread_stream("memory", &short)?;
-    Ok(or_empty(page.alloc(), short))
+    page.unless_missing("64-bit memory", error)?;
+    let plain = find::<MinidumpMemoryList<'a>>(page.alloc(), dump)?;
+    page.stream_unless_missing("memory", &plain)?;
+    Ok(or_empty(page.alloc(), plain))
 }
 
 // Returns the list that could be read, or an empty one.
 fn or_empty<'a>(
     alloc: Global,
-    short: Result<MinidumpMemoryList<'a>, Error>,
+    plain: Result<MinidumpMemoryList<'a>, Error>,
 ) -> UnifiedMemoryList<'a>
-    ensures { unified_list result ≡ short_memory (map_ok memory_list_stream.value short.entry) }
+    ensures { unified_list result ≡ plain_memory (map_ok memory_list_stream.value plain.entry) }
 {
-    match short {
+    match plain {
         Ok(list) => UnifiedMemoryList::Memory(list),
         Err(_) => UnifiedMemoryList::new(alloc),
     }
@@ -82,12 +86,12 @@ fn or_empty<'a>(
 fn infos_of<'a>(page: &mut Page, dump: &Minidump<'a>) -> Result<UnifiedMemoryInfoList<'a>, Error>
     ensures lines { Adds page.old page.new (infos_part (dump_of dump.now)) result }
     ensures value { IfOk result (λ l. info_list l ≡ infos_in (dump_of dump.now)) }
-    ensures refused { IsOkUnless result Error.OutOfMemory }
+    ensures error { IsOkUnless result Error.OutOfMemory }
 {
     let infos = find::<MinidumpMemoryInfoList<'a>>(page.alloc(), dump)?;
-    page.unread_stream("memory information", &infos)?;
+    page.stream_unless_missing("memory information", &infos)?;
     let maps = find::<MinidumpLinuxMaps<'a>>(page.alloc(), dump)?;
-    page.unread_stream("maps", &maps)?;
+    page.stream_unless_missing("maps", &maps)?;
     Ok(first_infos(page.alloc(), infos, maps))
 }
 
@@ -97,7 +101,8 @@ fn first_infos<'a>(
     infos: Result<MinidumpMemoryInfoList<'a>, Error>,
     maps: Result<MinidumpLinuxMaps<'a>, Error>,
 ) -> UnifiedMemoryInfoList<'a>
-    ensures { info_list result ≡ first_infos (map_ok memory_info_list_stream.value infos.entry) (map_ok linux_maps_stream.value maps.entry) }
+    ensures { info_list result ≡ first_infos (map_ok memory_info_list_stream.value infos.entry)
+        (map_ok linux_maps_stream.value maps.entry) }
 {
     match (infos, maps) {
         (Ok(infos), _) => UnifiedMemoryInfoList::Info(infos),

@@ -1,22 +1,29 @@
 ghost use Rattle.std.specs.Prelude.{◌≡◌, [], IfOk, IsOkUnless, Ok, Some, map};
 ghost use Rattle.std.specs.Option.{option_copied, option_map};
-ghost use Rattle.minidump.specs.Below.MemoryLists.Memory.{region_range};
-ghost use Rattle.minidump.specs.Below.MemoryLists.Unified.{unified_list, unified_region, unified_regions};
+ghost use Rattle.minidump.specs.Below.MemoryLists.Memory.{range_of_region};
+ghost use Rattle.minidump.specs.Below.MemoryLists.Unified.{unified_list, unified_region};
+ghost use Rattle.minidump.specs.Below.MemoryLists.Unified.{unified_regions};
 ghost use Rattle.minidump.specs.LookedUp.{looked_up};
-ghost use Rattle.minidump.specs.Promise.{exception_stream, thread_list_stream};
+ghost use Rattle.minidump.specs.Promise.{exception_stream};
 ghost use Rattle.minidump.specs.Thread.{accepted_context, thread_of};
 ghost use Rattle.minidump.specs.ThreadText.{stack_of};
 ghost use Rattle.stack_walk.specs.Threads.{process_of};
 ghost use Rattle.crash_page.specs.Page.{Adds};
 ghost use Rattle.crash_page.specs.Part.{each};
 ghost use Rattle.crash_lines.specs.Contents.{contents_of, process_in};
-ghost use Rattle.crash_lines.specs.Stacks.{chosen_part, crashed_part, found_part, has_stack, has_stack_outside, is_chosen, is_crashed, is_listed, listed_part, missing_part, no_context_part, no_stack_part, no_system_part, others_part, own_frames_part, own_stack_part, own_thread_part, stack_part, thread_line, thread_part, unlisted_part, walked_part};
-ghost use Rattle.crash_lines.specs.Walks.{AreOwnFrames, AreWalks, AreWalksIn, HasOwnFrames, Walks};
+ghost use Rattle.crash_lines.specs.Stacks.{chosen_part, crashed_part, some_frames_part, has_stack};
+ghost use Rattle.crash_lines.specs.Stacks.{has_stack_outside, is_chosen, is_crashed, has_thread};
+ghost use Rattle.crash_lines.specs.Stacks.{thread_list_part, missing_part, no_context_part};
+ghost use Rattle.crash_lines.specs.Stacks.{no_stack_part, no_system_part, others_part};
+ghost use Rattle.crash_lines.specs.Stacks.{exception_frames_part, exception_stack_part, exception_thread_part};
+ghost use Rattle.crash_lines.specs.Stacks.{stack_part, thread_line, thread_part, extra_thread_part};
+ghost use Rattle.crash_lines.specs.Stacks.{thread_frames_part};
+ghost use Rattle.crash_lines.specs.Walks.{AreExceptionFrames, AreWalks, AreWalksIn, HasExceptionFrames, Walks};
 
 use crate::Limits;
 use crate::contents::{Contents, process_of};
 use crate::frames::add_frames;
-use crate::places::{exception_on, name_of};
+use crate::lookups::{exception_on, name_of};
 use crash_page::Page;
 use minidump::text::Piece;
 use minidump::{
@@ -25,7 +32,8 @@ use minidump::{
 use stack_walk::{Process, Stack, StackFrame, frames, thread_frames};
 use std::alloc::{AllocError, Global};
 
-// Adds the threads of the exception's id with their frames, or the exception's own frames if the list lacks such a thread.
+// Adds the threads of the exception's id with their frames, or the frames of the exception's context if the
+// list lacks such a thread.
 pub(crate) fn add_crashed_stacks(
     page: &mut Page,
     contents: &Contents<'_>,
@@ -35,10 +43,10 @@ pub(crate) fn add_crashed_stacks(
         → Adds page.old page.new (crashed_part limits.now w (contents_of contents.now)) result }
     ensures memory { IsOkUnless result Error.OutOfMemory }
 {
-    page.unread_stream("names of threads", &contents.streams.names)?;
+    page.stream_unless_missing("names of threads", &contents.streams.names)?;
     page.absent_stream("threads", &contents.streams.threads)?;
     add_threads(page, contents, true, limits)?;
-    add_unlisted(page, contents, limits)?;
+    add_extra_thread(page, contents, limits)?;
     Ok(())
 }
 
@@ -64,17 +72,18 @@ fn add_threads(
     limits: &Limits,
 ) -> Result<(), Error>
     ensures lines { (w : Walks) → AreWalksIn (process_in (contents_of contents.now)) w
-        → Adds page.old page.new (listed_part crashed limits.now w (contents_of contents.now) (contents_of contents.now).streams.threads) result }
+        → Adds page.old page.new (thread_list_part crashed limits.now w (contents_of contents.now)
+        (contents_of contents.now).streams.threads) result }
     ensures memory { IsOkUnless result Error.OutOfMemory }
 {
     match &contents.streams.threads {
-        Ok(threads) => add_chosen(page, contents, crashed, &threads.threads, limits),
+        Ok(threads) => add_chosen_threads(page, contents, crashed, &threads.threads, limits),
         Err(_) => Ok(()),
     }
 }
 
 // Adds those of the threads on which the exception happened, or the others.
-fn add_chosen<'a>(
+fn add_chosen_threads<'a>(
     page: &mut Page,
     contents: &Contents<'a>,
     crashed: bool,
@@ -82,7 +91,8 @@ fn add_chosen<'a>(
     limits: &Limits,
 ) -> Result<(), Error>
     ensures lines { (w : Walks) → AreWalksIn (process_in (contents_of contents.now)) w
-        → Adds page.old page.new (each (chosen_part crashed limits.now w (contents_of contents.now)) (map thread_of threads.now)) result }
+        → Adds page.old page.new (each (chosen_part crashed limits.now w (contents_of contents.now))
+        (map thread_of threads.now)) result }
     ensures memory { IsOkUnless result Error.OutOfMemory }
 {
     for thread in threads {
@@ -100,7 +110,8 @@ fn add_thread<'a>(
     limits: &Limits,
 ) -> Result<(), Error>
     ensures lines { (w : Walks) → AreWalksIn (process_in (contents_of contents.now)) w
-        → Adds page.old page.new (chosen_part crashed limits.now w (contents_of contents.now) (thread_of thread.now)) result }
+        → Adds page.old page.new (chosen_part crashed limits.now w (contents_of contents.now)
+        (thread_of thread.now)) result }
     ensures memory { IsOkUnless result Error.OutOfMemory }
 {
     if is_chosen(contents, crashed, thread) {
@@ -118,7 +129,8 @@ fn add_chosen_thread<'a>(
     limits: &Limits,
 ) -> Result<(), Error>
     ensures lines { (w : Walks) → AreWalksIn (process_in (contents_of contents.now)) w
-        → Adds page.old page.new (thread_part limits.now w (contents_of contents.now) (thread_of thread.now)) result }
+        → Adds page.old page.new
+        (thread_part limits.now w (contents_of contents.now) (thread_of thread.now)) result }
     ensures memory { IsOkUnless result Error.OutOfMemory }
 {
     add_thread_line(page, contents, thread.raw.thread_id, "")?;
@@ -128,7 +140,8 @@ fn add_chosen_thread<'a>(
 
 // Tells whether a thread is chosen: one on which the exception happened, or one of the others.
 fn is_chosen(contents: &Contents<'_>, crashed: bool, thread: &MinidumpThread<'_>) -> bool
-    ensures { result ≡ is_chosen crashed (is_crashed (contents_of contents.now) (thread_of thread.now)) }
+    ensures { result ≡ is_chosen crashed (is_crashed (contents_of contents.now)
+        (thread_of thread.now)) }
 {
     let is_crashed = is_crashed(contents, thread);
     if crashed { is_crashed } else { !is_crashed }
@@ -145,45 +158,49 @@ fn is_crashed(contents: &Contents<'_>, thread: &MinidumpThread<'_>) -> bool
     .is_some()
 }
 
-// Adds the thread of the exception if the list of threads lacks it, with the frames of the exception's own context.
-fn add_unlisted(page: &mut Page, contents: &Contents<'_>, limits: &Limits) -> Result<(), Error>
+// Adds the thread of the exception if the list of threads lacks it, with the frames of the
+// exception's context.
+fn add_extra_thread(page: &mut Page, contents: &Contents<'_>, limits: &Limits) -> Result<(), Error>
     ensures lines { (w : Walks) → AreWalksIn (process_in (contents_of contents.now)) w
-        → Adds page.old page.new (unlisted_part limits.now w (contents_of contents.now) (contents_of contents.now).streams.exception) result }
+        → Adds page.old page.new (extra_thread_part limits.now w (contents_of contents.now)
+        (contents_of contents.now).streams.exception) result }
     ensures memory { IsOkUnless result Error.OutOfMemory }
 {
     match &contents.streams.exception {
-        Ok(exception) => add_unlisted_of(page, contents, exception, limits),
+        Ok(exception) => add_unless_in_list(page, contents, exception, limits),
         Err(_) => Ok(()),
     }
 }
 
 // Adds the thread of an exception if the list of threads lacks it.
-fn add_unlisted_of(
+fn add_unless_in_list(
     page: &mut Page,
     contents: &Contents<'_>,
     exception: &MinidumpException<'_>,
     limits: &Limits,
 ) -> Result<(), Error>
     ensures lines { (w : Walks) → AreWalksIn (process_in (contents_of contents.now)) w
-        → Adds page.old page.new (unlisted_part limits.now w (contents_of contents.now) (Ok (exception_stream.value exception.now))) result }
+        → Adds page.old page.new (extra_thread_part limits.now w (contents_of contents.now)
+        (Ok (exception_stream.value exception.now))) result }
     ensures memory { IsOkUnless result Error.OutOfMemory }
 {
-    if is_listed(contents, exception.thread_id) {
+    if has_thread(contents, exception.thread_id) {
         Ok(())
     } else {
-        add_own_thread(page, contents, exception, limits)
+        add_exception_thread(page, contents, exception, limits)
     }
 }
 
-// Adds the thread of an exception, with the frames of the exception's own context.
-fn add_own_thread(
+// Adds the thread of an exception, with the frames of the exception's context.
+fn add_exception_thread(
     page: &mut Page,
     contents: &Contents<'_>,
     exception: &MinidumpException<'_>,
     limits: &Limits,
 ) -> Result<(), Error>
     ensures lines { (w : Walks) → AreWalksIn (process_in (contents_of contents.now)) w
-        → Adds page.old page.new (own_thread_part limits.now w (contents_of contents.now) (exception_stream.value exception.now)) result }
+        → Adds page.old page.new (exception_thread_part limits.now w (contents_of contents.now)
+        (exception_stream.value exception.now)) result }
     ensures memory { IsOkUnless result Error.OutOfMemory }
 {
     add_thread_line(
@@ -192,13 +209,13 @@ fn add_own_thread(
         exception.thread_id,
         ", not in the list of threads",
     )?;
-    add_own_stack(page, contents, exception, limits)?;
+    add_exception_stack(page, contents, exception, limits)?;
     Ok(())
 }
 
 // Tells whether a thread of the list has an id.
-fn is_listed(contents: &Contents<'_>, id: u32) -> bool
-    ensures { result ≡ is_listed id (contents_of contents.now).streams.threads }
+fn has_thread(contents: &Contents<'_>, id: u32) -> bool
+    ensures { result ≡ has_thread id (contents_of contents.now).streams.threads }
 {
     match &contents.streams.threads {
         Ok(threads) => threads.get_thread(id).is_some(),
@@ -240,7 +257,8 @@ fn add_stack<'a>(
     limits: &Limits,
 ) -> Result<(), Error>
     ensures lines { (w : Walks) → AreWalksIn (process_in (contents_of contents.now)) w
-        → Adds page.old page.new (stack_part limits.now w (thread_of thread.now) (process_in (contents_of contents.now))) result }
+        → Adds page.old page.new (stack_part limits.now w (thread_of thread.now)
+        (process_in (contents_of contents.now))) result }
     ensures memory { IsOkUnless result Error.OutOfMemory }
 {
     match process_of(contents) {
@@ -257,34 +275,36 @@ fn add_stack_in<'a>(
     limits: &Limits,
 ) -> Result<(), Error>
     ensures lines { (w : Walks) → AreWalks (process_of process.now) w
-        → Adds page.old page.new (walked_part limits.now (process_of process.now) (thread_of thread.now)
+        → Adds page.old page.new (thread_frames_part limits.now (process_of process.now)
+        (thread_of thread.now)
         (w.of_thread (thread_of thread.now) limits.now.scan)) result }
     ensures memory { IsOkUnless result Error.OutOfMemory }
 {
     let frames = thread_frames(page.alloc(), process, thread, limits.scan)?;
-    add_walked(page, process, thread, frames.as_slice(), limits)?;
+    add_thread_frames(page, process, thread, frames.as_slice(), limits)?;
     Ok(())
 }
 
 // Adds these frames of a thread in a process.
-fn add_walked<'a>(
+fn add_thread_frames<'a>(
     page: &mut Page,
     process: &Process<'_, 'a>,
     thread: &MinidumpThread<'a>,
     frames: &[StackFrame],
     limits: &Limits,
 ) -> Result<(), AllocError>
-    ensures { Adds page.old page.new (walked_part limits.now (process_of process.now) (thread_of thread.now) frames.now) result }
+    ensures { Adds page.old page.new (thread_frames_part limits.now (process_of process.now)
+        (thread_of thread.now) frames.now) result }
 {
     match frames.first() {
-        Some(first) => add_found(page, process, thread, first, frames, limits),
+        Some(first) => add_some_frames(page, process, thread, first, frames, limits),
         None => add_no_context(page, thread.context_bytes()),
     }
 }
 
 // Adds these frames of a thread, of which this is the first.
 #[tactic(auto, using(crash_page::proofs::Adding::adds_then, crash_page::proofs::Adding::adds_last))]
-fn add_found<'a>(
+fn add_some_frames<'a>(
     page: &mut Page,
     process: &Process<'_, 'a>,
     thread: &MinidumpThread<'a>,
@@ -292,7 +312,8 @@ fn add_found<'a>(
     frames: &[StackFrame],
     limits: &Limits,
 ) -> Result<(), AllocError>
-    ensures { Adds page.old page.new (found_part limits.now (process_of process.now) (thread_of thread.now) first.now frames.now) result }
+    ensures { Adds page.old page.new (some_frames_part limits.now (process_of process.now)
+        (thread_of thread.now) first.now frames.now) result }
 {
     add_frames(page, frames, process.modules, limits)?;
     add_missing(page, process, thread, first, limits)
@@ -306,7 +327,8 @@ fn add_missing<'a>(
     first: &StackFrame,
     limits: &Limits,
 ) -> Result<(), AllocError>
-    ensures { Adds page.old page.new (missing_part limits.now (process_of process.now) (thread_of thread.now) first.now) result }
+    ensures { Adds page.old page.new
+        (missing_part limits.now (process_of process.now) (thread_of thread.now) first.now) result }
 {
     if limits.says_more {
         add_no_stack(page, process, thread, first)
@@ -315,15 +337,16 @@ fn add_missing<'a>(
     }
 }
 
-// Adds that the dump lacks the memory of a thread's stack, if it does: its bytes are outside the file, which is damage, or
-// none were written.
+// Adds that the dump lacks the memory of a thread's stack, if it does: its bytes are outside the
+// file, which is damage, or none were written.
 fn add_no_stack<'a>(
     page: &mut Page,
     process: &Process<'_, 'a>,
     thread: &MinidumpThread<'a>,
     first: &StackFrame,
 ) -> Result<(), AllocError>
-    ensures { Adds page.old page.new (no_stack_part (process_of process.now) (thread_of thread.now) first.now) result }
+    ensures { Adds page.old page.new
+        (no_stack_part (process_of process.now) (thread_of thread.now) first.now) result }
 {
     if has_stack(process, thread, first) {
         Ok(())
@@ -340,8 +363,8 @@ fn has_stack<'a>(process: &Process<'_, 'a>, thread: &MinidumpThread<'a>, first: 
     ensures { result ≡ has_stack (process_of process.now) (thread_of thread.now) first.now }
 {
     let own = own_region(process.memory, thread);
-    let listed = region_at(process.memory, first.stack_pointer);
-    own.is_some() || listed.is_some()
+    let at_pointer = region_at(process.memory, first.stack_pointer);
+    own.is_some() || at_pointer.is_some()
 }
 
 // Returns the memory of a thread's stack.
@@ -349,7 +372,8 @@ fn own_region<'l, 'a>(
     memory: &'l UnifiedMemoryList<'a>,
     thread: &'l MinidumpThread<'a>,
 ) -> Option<UnifiedMemory<'l, 'a>>
-    ensures { option_map unified_region result ≡ stack_of (Some (unified_list memory.now)) (thread_of thread.now) }
+    ensures { option_map unified_region result ≡ stack_of (Some (unified_list memory.now))
+        (thread_of thread.now) }
 {
     thread.stack_memory(memory)
 }
@@ -359,7 +383,8 @@ fn region_at<'l, 'a>(
     memory: &'l UnifiedMemoryList<'a>,
     address: u64,
 ) -> Option<UnifiedMemory<'l, 'a>>
-    ensures { option_map unified_region result ≡ looked_up region_range (unified_regions (unified_list memory.now)) address }
+    ensures { option_map unified_region result ≡ looked_up range_of_region
+        (unified_regions (unified_list memory.now)) address }
 {
     memory.memory_at_address(address)
 }
@@ -390,49 +415,53 @@ fn add_no_context(page: &mut Page, bytes: Option<&[u8]>) -> Result<(), AllocErro
     }
 }
 
-// Adds the frames of the exception's own context.
-fn add_own_stack(
+// Adds the frames of the exception's context.
+fn add_exception_stack(
     page: &mut Page,
     contents: &Contents<'_>,
     exception: &MinidumpException<'_>,
     limits: &Limits,
 ) -> Result<(), Error>
     ensures lines { (w : Walks) → AreWalksIn (process_in (contents_of contents.now)) w
-        → Adds page.old page.new (own_stack_part limits.now w (exception_stream.value exception.now) (process_in (contents_of contents.now))) result }
+        → Adds page.old page.new
+        (exception_stack_part limits.now w (exception_stream.value exception.now)
+        (process_in (contents_of contents.now))) result }
     ensures memory { IsOkUnless result Error.OutOfMemory }
 {
     match process_of(contents) {
-        Some(process) => add_own_stack_in(page, &process, exception, limits),
+        Some(process) => add_exception_stack_in(page, &process, exception, limits),
         None => Ok(add_no_system(page)?),
     }
 }
 
-// Adds the frames of the exception's own context in a process.
-fn add_own_stack_in(
+// Adds the frames of the exception's context in a process.
+fn add_exception_stack_in(
     page: &mut Page,
     process: &Process<'_, '_>,
     exception: &MinidumpException<'_>,
     limits: &Limits,
 ) -> Result<(), Error>
     ensures lines { (w : Walks) → AreWalks (process_of process.now) w
-        → Adds page.old page.new (own_frames_part limits.now (process_of process.now) (exception_stream.value exception.now)
+        → Adds page.old page.new (exception_frames_part limits.now (process_of process.now)
+        (exception_stream.value exception.now)
         (w.of_exception (exception_stream.value exception.now) limits.now.scan)) result }
     ensures memory { IsOkUnless result Error.OutOfMemory }
 {
-    let frames = own_frames(page.alloc(), process, exception, limits.scan)?;
-    add_own_frames(page, process, exception, frames.as_slice(), limits)?;
+    let frames = exception_frames(page.alloc(), process, exception, limits.scan)?;
+    add_exception_frames(page, process, exception, frames.as_slice(), limits)?;
     Ok(())
 }
 
-// Adds these frames of the exception's own context in a process.
-fn add_own_frames(
+// Adds these frames of the exception's context in a process.
+fn add_exception_frames(
     page: &mut Page,
     process: &Process<'_, '_>,
     exception: &MinidumpException<'_>,
     frames: &[StackFrame],
     limits: &Limits,
 ) -> Result<(), AllocError>
-    ensures { Adds page.old page.new (own_frames_part limits.now (process_of process.now) (exception_stream.value exception.now) frames.now) result }
+    ensures { Adds page.old page.new (exception_frames_part limits.now (process_of process.now)
+        (exception_stream.value exception.now) frames.now) result }
 {
     match frames {
         [] => add_no_context(page, exception.context_bytes()),
@@ -440,16 +469,18 @@ fn add_own_frames(
     }
 }
 
-// Returns the frames of the exception's own context, on the memory at its stack pointer; none if it isn't accepted.
-fn own_frames(
+// Returns the frames of the exception's context, on the memory at its stack pointer; none if it
+// isn't accepted.
+fn exception_frames(
     alloc: Global,
     process: &Process<'_, '_>,
     exception: &MinidumpException<'_>,
     limit: usize,
 ) -> Result<Vec<StackFrame>, Error>
-    ensures frames { IfOk result (λ frames. AreOwnFrames (process_of process.now)
+    ensures frames { IfOk result (λ frames. AreExceptionFrames (process_of process.now)
         (accepted_context (process_of process.now).system.raw.processor_architecture
-        (exception_stream.value exception.now).order (exception_stream.value exception.now).context) limit frames.items) }
+        (exception_stream.value exception.now).order (exception_stream.value exception.now).context)
+        limit frames.items) }
     ensures memory { IsOkUnless result Error.OutOfMemory }
 {
     match exception.context(process.system, None) {
@@ -465,7 +496,8 @@ fn context_frames(
     context: &MinidumpContext,
     limit: usize,
 ) -> Result<Vec<StackFrame>, Error>
-    ensures frames { IfOk result (λ frames. HasOwnFrames (process_of process.now) context.now limit frames.items) }
+    ensures frames { IfOk result
+        (λ frames. HasExceptionFrames (process_of process.now) context.now limit frames.items) }
     ensures memory { IsOkUnless result Error.OutOfMemory }
 {
     let stack = Stack {

@@ -1,9 +1,11 @@
 ghost use Rattle.std.specs.Prelude.{◌≡◌, [], IfOk, IsOkUnless, unwrap_or};
 ghost use Rattle.std.specs.Result.{result_err, result_ok};
+ghost use Rattle.minidump.specs.Below.Contexts.Context.{map_ok};
 ghost use Rattle.minidump.specs.Below.Format.Answer.{Gives};
 ghost use Rattle.minidump.specs.Dump.{Dump, stream_of};
 ghost use Rattle.minidump.specs.DumpValue.{dump_of};
-ghost use Rattle.minidump.specs.Promise.{module_list_stream};
+ghost use Rattle.minidump.specs.Promise.{assertion_stream, crashpad_info_stream};
+ghost use Rattle.minidump.specs.Promise.{mac_crash_info_stream, module_list_stream};
 ghost use Rattle.crash_lines.specs.Streams.{streams_in, values_of};
 
 use minidump::{
@@ -13,7 +15,8 @@ use minidump::{
 };
 use std::alloc::Global;
 
-/// The streams that are used, each as the format has it: the stream, or the error for which there is none.
+/// The streams that are used, each as the format has it: the stream, or the error for which there
+/// is none.
 #[derive(Drop)]
 pub(crate) struct Streams<'a> {
     pub(crate) system: Result<MinidumpSystemInfo, Error>,
@@ -24,6 +27,12 @@ pub(crate) struct Streams<'a> {
     pub(crate) modules: MinidumpModuleList,
     pub(crate) modules_error: Option<Error>,
     pub(crate) misc: Result<MinidumpMiscInfo, Error>,
+    pub(crate) messages: Messages,
+}
+
+/// The streams of what the process itself said.
+#[derive(Drop)]
+pub(crate) struct Messages {
     pub(crate) assertion: Result<MinidumpAssertion, Error>,
     pub(crate) crashpad: Result<MinidumpCrashpadInfo, Error>,
     pub(crate) mac: Result<MinidumpMacCrashInfo, Error>,
@@ -41,9 +50,7 @@ pub(crate) fn streams_of<'a>(alloc: Global, dump: &Minidump<'a>) -> Result<Strea
     let found = find(alloc, dump)?;
     let (modules, modules_error) = or_none(alloc, found);
     let misc = find(alloc, dump)?;
-    let assertion = find(alloc, dump)?;
-    let crashpad = find(alloc, dump)?;
-    let mac = find(alloc, dump)?;
+    let messages = messages_of(alloc, dump)?;
     Ok(Streams {
         system,
         exception,
@@ -52,6 +59,24 @@ pub(crate) fn streams_of<'a>(alloc: Global, dump: &Minidump<'a>) -> Result<Strea
         modules,
         modules_error,
         misc,
+        messages,
+    })
+}
+
+// Reads the streams of what the process itself said.
+fn messages_of(alloc: Global, dump: &Minidump<'_>) -> Result<Messages, Error>
+    ensures assertion { IfOk result (λ m. map_ok assertion_stream.value m.assertion
+        ≡ stream_of assertion_stream (dump_of dump.now)) }
+    ensures crashpad { IfOk result (λ m. map_ok crashpad_info_stream.value m.crashpad
+        ≡ stream_of crashpad_info_stream (dump_of dump.now)) }
+    ensures mac { IfOk result (λ m. map_ok mac_crash_info_stream.value m.mac
+        ≡ stream_of mac_crash_info_stream (dump_of dump.now)) }
+    ensures memory { IsOkUnless result Error.OutOfMemory }
+{
+    let assertion = find(alloc, dump)?;
+    let crashpad = find(alloc, dump)?;
+    let mac = find(alloc, dump)?;
+    Ok(Messages {
         assertion,
         crashpad,
         mac,
@@ -63,9 +88,12 @@ fn or_none(
     alloc: Global,
     found: Result<MinidumpModuleList, Error>,
 ) -> (MinidumpModuleList, Option<Error>)
-    ensures modules { (d : Dump) → Gives module_list_stream.value ⊥ found (stream_of module_list_stream d)
-        → module_list_stream.value result.0 ≡ unwrap_or (result_ok (stream_of module_list_stream d)) [] }
-    ensures error { (d : Dump) → Gives module_list_stream.value ⊥ found (stream_of module_list_stream d)
+    ensures modules { (d : Dump) → Gives module_list_stream.value ⊥ found
+        (stream_of module_list_stream d)
+        → module_list_stream.value result.0
+        ≡ unwrap_or (result_ok (stream_of module_list_stream d)) [] }
+    ensures error { (d : Dump) → Gives module_list_stream.value ⊥ found
+        (stream_of module_list_stream d)
         → result.1 ≡ result_err (stream_of module_list_stream d) }
 {
     match found {
@@ -74,12 +102,13 @@ fn or_none(
     }
 }
 
-// Reads a stream, or returns the error for which the dump has none. Want of memory is no such error.
+// Reads a stream, or returns the error for which the dump has none. `OutOfMemory` is no such error.
 pub(crate) fn find<'a, S: MinidumpStream<'a>>(
     alloc: Global,
     dump: &Minidump<'a>,
 ) -> Result<Result<S, Error>, Error>
-    ensures found { IfOk result (λ found. Gives S.spec.value ⊥ found (stream_of S.spec (dump_of dump.now))) }
+    ensures found { IfOk result
+        (λ found. Gives S.spec.value ⊥ found (stream_of S.spec (dump_of dump.now))) }
     ensures memory { IsOkUnless result Error.OutOfMemory }
 {
     match dump.get_stream(alloc) {

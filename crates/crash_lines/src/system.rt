@@ -3,7 +3,8 @@ ghost use Rattle.minidump.specs.Below.Contexts.Context.{map_ok};
 ghost use Rattle.minidump.specs.Promise.{system_info_stream};
 ghost use Rattle.crash_page.specs.Page.{Adds};
 ghost use Rattle.crash_page.specs.Part.{line};
-ghost use Rattle.crash_lines.specs.System.{build_of, dumped_part, system_part, system_row, version_of};
+ghost use Rattle.crash_lines.specs.System.{build_of, date_part, system_part, system_row};
+ghost use Rattle.crash_lines.specs.System.{version_of};
 
 use crate::words::{text_or_empty, unless_empty};
 use crash_page::Page;
@@ -16,18 +17,20 @@ pub(crate) fn add_system(
     page: &mut Page,
     system: &Result<MinidumpSystemInfo, Error>,
 ) -> Result<(), Error>
-    ensures lines { Adds page.old page.new (system_part (map_ok system_info_stream.value system.now)) result }
+    ensures lines { Adds page.old page.new
+        (system_part (map_ok system_info_stream.value system.now)) result }
     ensures memory { IsOkUnless result Error.OutOfMemory }
 {
     match system {
-        Ok(system) => add_found(page, system),
+        Ok(system) => add_system_line(page, system),
         Err(error) => Ok(page.absent("system information", *error)?),
     }
 }
 
 // Adds the line of a system that is there.
-fn add_found(page: &mut Page, system: &MinidumpSystemInfo) -> Result<(), Error>
-    ensures lines { Adds page.old page.new (system_part (Ok (system_info_stream.value system.now))) result }
+fn add_system_line(page: &mut Page, system: &MinidumpSystemInfo) -> Result<(), Error>
+    ensures lines { Adds page.old page.new
+        (system_part (Ok (system_info_stream.value system.now))) result }
     ensures memory { IsOkUnless result Error.OutOfMemory }
 {
     let os = system.os.to_string(page.alloc())?;
@@ -48,8 +51,10 @@ fn add_found(page: &mut Page, system: &MinidumpSystemInfo) -> Result<(), Error>
 // Returns the version of a system and its build, which is empty where it has none.
 #[tactic(auto, unfolding(crate::specs::System::version_of, crate::specs::System::build_of))]
 fn version_of(alloc: Global, system: &MinidumpSystemInfo) -> Result<(String, String), Error>
-    ensures version { IfOk result (λ r. string_bytes r.0 ≡ version_of (system_info_stream.value system.now)) }
-    ensures build { IfOk result (λ r. string_bytes r.1 ≡ build_of (system_info_stream.value system.now)) }
+    ensures version { IfOk result
+        (λ r. string_bytes r.0 ≡ version_of (system_info_stream.value system.now)) }
+    ensures build { IfOk result
+        (λ r. string_bytes r.1 ≡ build_of (system_info_stream.value system.now)) }
     ensures memory { IsOkUnless result Error.OutOfMemory }
 {
     let (version, build) = system.os_parts(alloc)?;
@@ -66,7 +71,8 @@ fn add_row<'t>(
     cpu: &'t str,
     processors: u8,
 ) -> Result<(), AllocError>
-    ensures { Adds page.old page.new (line (system_row os.now version.now build.now cpu.now processors)) result }
+    ensures { Adds page.old page.new
+        (line (system_row os.now version.now build.now cpu.now processors)) result }
 {
     page.line(&[
         Piece::Words("system  "),
@@ -83,8 +89,8 @@ fn add_row<'t>(
 }
 
 // Adds the line of the date of the dump, by the time stamp of its header.
-pub(crate) fn add_dumped(page: &mut Page, stamp: u32) -> Result<(), Error>
-    ensures lines { Adds page.old page.new (dumped_part stamp) result }
+pub(crate) fn add_date(page: &mut Page, stamp: u32) -> Result<(), Error>
+    ensures lines { Adds page.old page.new (date_part stamp) result }
     ensures memory { IsOkUnless result Error.OutOfMemory }
 {
     if stamp == 0 {

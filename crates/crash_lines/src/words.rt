@@ -14,7 +14,7 @@ pub(crate) fn text_or_empty(alloc: Global, text: Option<String>) -> String
     }
 }
 
-// Returns words, or none if the text behind them is empty.
+// Returns words, or none if the text after them is empty.
 pub(crate) fn unless_empty<'t>(words: &'t str, text: &'t str) -> &'t str
     ensures { result.now ≡ unless_empty words.now text.now }
 {

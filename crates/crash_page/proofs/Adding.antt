@@ -1,4 +1,4 @@
--- How a page grows by parts, one behind another.
+-- How a page grows by parts, one after another.
 use Rattle.std.proofs.Common.{◌≡◌, ℕ, ◌+◌, ◌<◌, add-one, get_or, length, map, take, ◌++◌, Bool, true, false, List, [], ◌∷◌, append-nil, append_assoc, ap, Result, Ok, Err, refl, subst, sym, ◌∙◌, ◌||◌}
 use Rattle.std.proofs.lemmas.Grind.{flat_map-append}
 use Rattle.std.proofs.lemmas.List.{map-append}
@@ -54,13 +54,13 @@ pub grows_none : {a : Page} → Grows a a (parts [])
 unfolding parts
 grows_none = grows_nothing
 
--- one part behind another
-abbrev behind : Part → Part → Part
-behind p q = record { lines = p.lines ++ q.lines; damage = p.damage || q.damage; marks = p.marks ++ q.marks }
+-- one part after another
+abbrev two_parts : Part → Part → Part
+two_parts p q = record { lines = p.lines ++ q.lines; damage = p.damage || q.damage; marks = p.marks ++ q.marks }
 
 -- a part was added, and then another
-grows_behind : (a b c : Page) (p q : Part) → Grows a b p → Grows b c q → Grows a c (behind p q)
-grows_behind a b c p q first second = record {
+grows_two : (a b c : Page) (p q : Part) → Grows a b p → Grows b c q → Grows a c (two_parts p q)
+grows_two a b c p q first second = record {
   text = second.text ∙ ap (λ l. l ++ flat_map line_of q.lines) first.text
       ∙ append_assoc (text_of a) (flat_map line_of p.lines) (flat_map line_of q.lines)
       ∙ ap (λ l. text_of a ++ l) (sym (flat_map-append line_of p.lines q.lines));
@@ -72,7 +72,7 @@ grows_behind a b c p q first second = record {
 -- a part was added, and then others
 pub grows_then : {a b c : Page} {p : Part} (ps : List Part) → Grows a b p → Grows b c (parts ps) → Grows a c (parts (p ∷ ps))
 unfolding parts
-grows_then ps first rest = grows_behind _ _ _ _ (parts ps) first rest
+grows_then ps first rest = grows_two _ _ _ _ (parts ps) first rest
 
 -- a last part was added
 pub grows_last : {a b : Page} {p : Part} → Grows a b p → Grows a b (parts (p ∷ []))
@@ -95,7 +95,7 @@ same_part p q lines damage marks =
     cc
     in same
 
-parts_more : (ps : List Part) (p : Part) → parts (ps ++ p ∷ []) ≡ behind (parts ps) p
+parts_more : (ps : List Part) (p : Part) → parts (ps ++ p ∷ []) ≡ two_parts (parts ps) p
 unfolding parts nothing
 parts_more [] p = same_part _ _ (append-nil p.lines) (or_comm p.damage false) (append-nil p.marks)
 parts_more (q ∷ qs) p =
@@ -106,7 +106,7 @@ parts_more (q ∷ qs) p =
 
 -- parts were added, and then one more
 grows_more : {a b c : Page} (ps : List Part) {p : Part} → Grows a b (parts ps) → Grows b c p → Grows a c (parts (ps ++ p ∷ []))
-grows_more ps before last = subst (Grows _ _) (sym (parts_more ps _)) (grows_behind _ _ _ _ _ before last)
+grows_more ps before last = subst (Grows _ _) (sym (parts_more ps _)) (grows_two _ _ _ _ _ before last)
 
 -- the parts of the first items were added, and then that of the next one
 pub grows_next : {X : Type 0} {a b c : Page} (part : X → Part) (items : List X) (n : ℕ) (d : X) → n < length items

@@ -13,7 +13,7 @@ use Rattle.std.specs.Str.Parse.{AllDigits}
 use native.Mathlib.Nat.{lt_trans}
 use lib.Dec.{lit<}
 use lib.Utf8.{encode}
-use Rattle.crash_page.specs.Escape.{escape, escape_char, escaped, is_control, is_printed, line_of}
+use Rattle.crash_page.specs.Escape.{escape, escape_char, escaped_text, is_control, is_printed, line_of}
 
 -- a character stands as it is
 abbrev pub stands : ℕ → Bool
@@ -98,7 +98,7 @@ chars_printed (c ∷ cs) h =
     rw list_all-append (both _ _ (char_printed c p.0) (chars_printed cs p.1))
 
 -- each byte of an escaped text is printed
-pub escaped_printed : (text : List ℕ) → list_all is_printed (escaped text) ≡ true
+pub escaped_printed : (text : List ℕ) → list_all is_printed (escaped_text text) ≡ true
 escaped_printed text = chars_printed (flat_map escape_char (chars text)) (text_stands (chars text))
 
 -- ---- texts without control characters
@@ -110,12 +110,12 @@ same_chars (c ∷ cs) h =
     rw (flat_map-cons, p.0) (ap (λ rest. c ∷ rest) (same_chars cs p.1))
 
 -- a text without control characters is printed as it is
-pub escaped_plain : (text : List ℕ) → IsUtf8 text → list_any is_control (chars text) ≡ false → escaped text ≡ text
+pub escaped_plain : (text : List ℕ) → IsUtf8 text → list_any is_control (chars text) ≡ false → escaped_text text ≡ text
 escaped_plain text u h = ap encode_utf8_all (same_chars (chars text) h) ∙ encodes-chars text u
 
 -- ---- lines
 
--- a line behind lines that are printed
+-- a line after lines that are printed
 pub line_printed : (lines text : List ℕ) → list_all is_printed lines ≡ true → list_all is_printed (lines ++ line_of text) ≡ true
 line_printed lines text h =
-    rw (list_all-append is_printed lines, list_all-append is_printed (escaped text), h, escaped_printed text) refl
+    rw (list_all-append is_printed lines, list_all-append is_printed (escaped_text text), h, escaped_printed text) refl

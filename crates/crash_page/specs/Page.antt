@@ -23,7 +23,7 @@ pub record Grows (old new : Page) (part : Part) : Type 0 where
   pub damage : has_damage new ≡ part.damage || has_damage old
   pub marks : marks_of new ≡ marks_of old ++ part.marks
 
--- a call that is done has added a part. One that failed may have added a beginning of it
+-- a call that is done has added a part. One that failed may have added a prefix of it
 abbrev pub Adds : {T E : Type 0} → Page → Page → Part → Result T E → Type 0
 Adds old new part (Ok _) = Grows old new part
 Adds old new part (Err _) = ⊤

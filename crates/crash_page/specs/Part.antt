@@ -1,10 +1,13 @@
--- What is added to a page: lines of text, whether something that was wanted can't be read, and numbers that are marked.
-use Rattle.std.specs.Prelude.{ℕ, ◌++◌, Bool, List, [], ◌∷◌, Option, Some, None, Result, Ok, Err, codes, false, map, true, ◌||◌, if◌then◌else◌}
+-- What is added to a page: lines of text, whether something that was wanted can't be read, and
+-- numbers that are marked.
+use Rattle.std.specs.Prelude.{ℕ, ◌++◌, Bool, List, [], ◌∷◌, Option, Some, None, Result, Ok, Err}
+use Rattle.std.specs.Prelude.{codes, false, map, true, ◌||◌, if◌then◌else◌}
 use Rattle.minidump.specs.declared.Error.{Error}
 use Rattle.minidump.specs.declared.Error.TheVariants.{StreamNotFound}
-use Rattle.minidump.specs.Below.Format.Error.{refusal_name}
+use Rattle.minidump.specs.Below.Format.Error.{name_of_error}
 
--- a part of a page: the texts of its lines, whether something that was wanted can't be read, and the numbers that it marks
+-- a part of a page: the texts of its lines, whether something that was wanted can't be read, and
+-- the numbers that it marks
 pub record Part : Type 0 where
   pub lines : List (List ℕ)
   pub damage : Bool
@@ -18,7 +21,7 @@ nothing = record { lines = []; damage = false; marks = [] }
 unfoldable pub line : List ℕ → Part
 line text = record { lines = text ∷ []; damage = false; marks = [] }
 
--- one line, that something which was wanted can't be read
+-- one line, which says that something that was wanted can't be read
 unfoldable pub damage_line : List ℕ → Part
 damage_line text = record { lines = text ∷ []; damage = true; marks = [] }
 
@@ -26,7 +29,7 @@ damage_line text = record { lines = text ∷ []; damage = true; marks = [] }
 unfoldable pub mark : ℕ → Part
 mark n = record { lines = []; damage = false; marks = n ∷ [] }
 
--- parts, one behind another
+-- parts, one after another
 unfoldable pub parts : List Part → Part
 parts [] = nothing
 parts (p ∷ ps) = record {
@@ -53,11 +56,12 @@ is_missing e = false
 
 -- the line of a stream that is missing, or of one that can't be read, which is damage
 abbrev pub absent : List ℕ → Error → Part
-absent name e = if is_missing e then line (codes "no " ++ name) else damage_line (name ++ (codes ": " ++ refusal_name e))
+absent name e = if is_missing e then line (codes "no " ++ name)
+    else damage_line (name ++ (codes ": " ++ name_of_error e))
 
 -- the line of a stream that can't be read, and none where it is missing
-abbrev pub unread : List ℕ → Error → Part
-unread name e = if is_missing e then nothing else absent name e
+abbrev pub unless_missing : List ℕ → Error → Part
+unless_missing name e = if is_missing e then nothing else absent name e
 
 -- the line of a stream that is missing or can't be read
 abbrev pub absent_stream : {V : Type 0} → List ℕ → Result V Error → Part
@@ -65,9 +69,9 @@ absent_stream name (Ok _) = nothing
 absent_stream name (Err e) = absent name e
 
 -- the line of a stream that can't be read
-abbrev pub unread_stream : {V : Type 0} → List ℕ → Result V Error → Part
-unread_stream name (Ok _) = nothing
-unread_stream name (Err e) = unread name e
+abbrev pub stream_unless_missing : {V : Type 0} → List ℕ → Result V Error → Part
+stream_unless_missing name (Ok _) = nothing
+stream_unless_missing name (Err e) = unless_missing name e
 
 -- the line of bytes that are wanted and not in the file, which is damage
 abbrev pub outside : List ℕ → Part

@@ -6,8 +6,8 @@ mod lines;
 
 use std::alloc::Global;
 
-/// The lines that are printed of a dump, whether something that was wanted of it can't be read, and the numbers that were
-/// marked on the way, as the base addresses of modules that are listed at the end.
+/// The lines printed of a dump, whether something that was wanted of it can't be read, and the
+/// marked numbers: addresses whose modules are listed at the end.
 #[derive(Drop)]
 pub struct Page {
     alloc: Global,

@@ -5,9 +5,9 @@ use Rattle.std.specs.Option.{option_map}
 use Rattle.minidump.specs.declared.Error.{Error}
 use Rattle.minidump.specs.declared.format.MINIDUMP_MEMORY_DESCRIPTOR.{MINIDUMP_MEMORY_DESCRIPTOR}
 use Rattle.minidump.specs.Below.Index.Lookup.{HasRegionLaws}
-use Rattle.minidump.specs.Below.MemoryLists.Memory.{MemoryRegion, region_range}
+use Rattle.minidump.specs.Below.MemoryLists.Memory.{MemoryRegion, range_of_region}
 use Rattle.minidump.specs.Below.MemoryLists.Unified.{Memory, UnifiedRegion, UnifiedRegions, of_kind, unified_regions}
-use Rattle.minidump.specs.Below.Modules.Module.{ModuleValue, value_range}
+use Rattle.minidump.specs.Below.Modules.Module.{ModuleValue, range_of_module}
 use Rattle.minidump.specs.Below.Reasons.Names.{Lists}
 use Rattle.minidump.specs.Dump.{Dump, dump_system}
 use Rattle.minidump.specs.Exception.{Exception}
@@ -44,8 +44,8 @@ same_parts one other thread address reason instruction_pointer stack_pointer loa
     cc
     in same
 
-module _ (module_laws : (modules : List ModuleValue) → HasRegionLaws value_range modules)
-    (region_laws : (regions : List UnifiedRegion) → HasRegionLaws region_range regions) where
+module _ (module_laws : (modules : List ModuleValue) → HasRegionLaws range_of_module modules)
+    (region_laws : (regions : List UnifiedRegion) → HasRegionLaws range_of_region regions) where
   one_module : (modules : List ModuleValue) (address : Option ℕ) (one other : Option Loaded)
       → IsModuleAt modules address one → IsModuleAt modules address other → one ≡ other
   one_module modules None one other is_one is_other = is_one ∙ sym is_other

@@ -1,5 +1,7 @@
--- The summary of a crash: which thread, where, why, in which module and on which stack, by what the streams of a minidump are.
-use Rattle.std.specs.Prelude.{◌≡◌, ℕ, List, [], Option, Some, None, Result, Ok, string_bytes, unwrap_or}
+-- The summary of a crash: which thread, where, why, in which module and on which stack, by what the
+-- streams of a minidump are.
+use Rattle.std.specs.Prelude.{◌≡◌, ℕ, List, [], Option, Some, None, Result, Ok, string_bytes}
+use Rattle.std.specs.Prelude.{unwrap_or}
 use Rattle.std.specs.Option.{option_and_then, option_map, option_or}
 use Rattle.std.specs.Result.{result_ok}
 use Rattle.minidump.specs.declared.Error.{Error}
@@ -7,7 +9,7 @@ use Rattle.minidump.specs.declared.MinidumpRawContext.{MinidumpRawContext}
 use Rattle.minidump.specs.Below.Contexts.Context.{registers_of, value_in}
 use Rattle.minidump.specs.Below.Index.Lookup.{IsLookedUp}
 use Rattle.minidump.specs.Below.MemoryLists.Unified.{Memory, UnifiedRegion, UnifiedRegions}
-use Rattle.minidump.specs.Below.Modules.Module.{ModuleValue, value_range}
+use Rattle.minidump.specs.Below.Modules.Module.{ModuleValue, range_of_module}
 use Rattle.minidump.specs.Below.Reasons.Names.{Lists}
 use Rattle.minidump.specs.Below.Reasons.Reason.{crash_reason}
 use Rattle.minidump.specs.Below.Reasons.ReasonText.{reason_text}
@@ -36,8 +38,8 @@ pub record Loaded : Type 0 where
 abbrev pub loaded_of : ModuleHit → Loaded
 loaded_of hit = record { base = hit.base; size = hit.size; name = string_bytes hit.name }
 
--- the thread's id, the address, the text of the reason, the pointers of the context, the module, the stack of the thread that crashed, and the
--- system
+-- the thread's id, the address, the text of the reason, the pointers of the context, the module,
+-- the stack of the thread that crashed, and the system
 pub record Summary : Type 0 where
   pub thread : ℕ
   pub address : Option ℕ
@@ -67,7 +69,7 @@ summary_of s = record {
 abbrev pub found_stream : {S V : Type 0} → StreamSpec S V → Dump → Option V
 found_stream spec d = result_ok (stream_of spec d)
 
--- the threads, the modules and the memory of a dump: none where the stream is missing or malformed
+-- the threads of a dump: none where the stream is missing or malformed
 abbrev pub threads_in : Dump → List Thread
 threads_in d = unwrap_or (found_stream thread_list_stream d) []
 
@@ -79,17 +81,20 @@ modules_in d = unwrap_or (found_stream module_list_stream d) []
 abbrev pub memory_in : Dump → UnifiedRegions
 memory_in d = unwrap_or (memories_of_dump d) (Memory [])
 
--- the address of a crash, and the text of its reason, where there is system information
+-- the address of a crash, where there is system information
 abbrev pub address_in : Option System → Exception → Option ℕ
 address_in system e = option_map (λ s. crash_address s.os s.cpu e.raw.exception_record) system
 
 -- the text of the reason of a crash, where there is system information
 abbrev pub reason_in : Lists → Option System → Exception → Option (List ℕ)
-reason_in names system e = option_map (λ s. reason_text names (crash_reason names s.os s.cpu e.raw.exception_record)) system
+reason_in names system e =
+    option_map (λ s. reason_text names (crash_reason names s.os s.cpu e.raw.exception_record))
+    system
 
--- the context of a thread: the exception's, where there is one and it is accepted, else the thread's own. There is none without system
--- information
-abbrev pub crash_context : Option System → Option Exception → Option Thread → Option MinidumpRawContext
+-- the context of a thread: the exception's, where there is one and it is accepted, else the
+-- thread's own. There is none without system information
+abbrev pub crash_context : Option System → Option Exception → Option Thread
+    → Option MinidumpRawContext
 crash_context system exception thread = option_or
     (option_and_then (λ e. known_context system e.order e.context) exception)
     (option_and_then (λ t. known_context system t.order t.context) thread)
@@ -100,13 +105,15 @@ crash_pointer system exception thread = instruction_of (crash_context system exc
 
 -- the stack pointer of a context
 abbrev pub stack_pointer_of : Option MinidumpRawContext → Option ℕ
-stack_pointer_of context = option_and_then (λ c. value_in (registers_of c) (registers_of c).stack_pointer) context
+stack_pointer_of context =
+    option_and_then (λ c. value_in (registers_of c) (registers_of c).stack_pointer) context
 
 -- that of the context of a crash
 abbrev pub crash_stack_pointer : Option System → Option Exception → Option Thread → Option ℕ
-crash_stack_pointer system exception thread = stack_pointer_of (crash_context system exception thread)
+crash_stack_pointer system exception thread =
+    stack_pointer_of (crash_context system exception thread)
 
--- the module that has an address
+-- a module, by its addresses and its name
 abbrev pub loaded_at : ModuleValue → Loaded
 loaded_at m = record { base = m.raw.base_of_image; size = m.raw.size_of_image; name = m.name }
 
@@ -114,7 +121,8 @@ loaded_at m = record { base = m.raw.base_of_image; size = m.raw.size_of_image; n
 abbrev pub IsModuleAt : List ModuleValue → Option ℕ → Option Loaded → Type 0
 IsModuleAt modules None found = found ≡ None
 IsModuleAt modules (Some address) found =
-    (m : Option ModuleValue) × IsLookedUp value_range modules address m × (found ≡ option_map loaded_at m)
+    (m : Option ModuleValue) × IsLookedUp range_of_module modules address m
+    × (found ≡ option_map loaded_at m)
 
 -- the stack of a thread
 abbrev pub stack_at : UnifiedRegion → StackHit
@@ -124,15 +132,19 @@ stack_at region = record { base = region.base_address; size = region.size }
 abbrev pub IsStackOf : UnifiedRegions → Option Thread → Option StackHit → Type 0
 IsStackOf memory None found = found ≡ None
 IsStackOf memory (Some thread) found =
-    (region : Option UnifiedRegion) × IsStack thread memory region × (found ≡ option_map stack_at region)
+    (region : Option UnifiedRegion) × IsStack thread memory region
+    × (found ≡ option_map stack_at region)
 
--- the kinds of the operating system and of the processors, and how many of these there are, where there is system information
+-- the kinds of the operating system and of the processors, and how many of these there are, where
+-- there is system information
 abbrev pub system_in : Option System → Option CrashSystem
-system_in system = option_map (λ s. record { os = s.os; cpu = s.cpu; processors = s.raw.number_of_processors }) system
+system_in system =
+    option_map (λ s. record { os = s.os; cpu = s.cpu; processors = s.raw.number_of_processors }) system
 
 -- ---- the summary
 
--- the summary of an exception in a dump, with the names of codes of these lists. The thread is the last one of the exception's id
+-- the summary of an exception in a dump, with the names of codes of these lists. The thread is the
+-- last one of the exception's id
 pub record IsSummary (names : Lists) (d : Dump) (e : Exception) (s : Summary) : Type 0 where
   pub thread : s.thread ≡ e.thread_id
   pub address : s.address ≡ address_in (dump_system d) e
@@ -145,10 +157,13 @@ pub record IsSummary (names : Lists) (d : Dump) (e : Exception) (s : Summary) : 
   pub stack : IsStackOf (memory_in d) crashed s.stack
   pub system : s.system ≡ system_in (dump_system d)
 
--- the dump that a file is, with its exception; or the error of the dump, or that of the exception's stream
+-- the dump that a file is, with its exception; or the error of the dump, or that of the exception's
+-- stream
 abbrev pub crash_in : List ℕ → Result (Dump × Exception) Error
-crash_in file = and_then (dump_in file) (λ d. and_then (stream_of exception_stream d) (λ e. Ok (d, e)))
+crash_in file =
+    and_then (dump_in file) (λ d. and_then (stream_of exception_stream d) (λ e. Ok (d, e)))
 
 -- the summary of a file
 abbrev pub IsSummaryOf : List ℕ → Lists → Summary → Type 0
-IsSummaryOf file names s = (d : Dump) × (e : Exception) × (crash_in file ≡ Ok (d, e)) × IsSummary names d e s
+IsSummaryOf file names s =
+    (d : Dump) × (e : Exception) × (crash_in file ≡ Ok (d, e)) × IsSummary names d e s

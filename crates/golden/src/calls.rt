@@ -27,7 +27,8 @@ pub fn answer(alloc: Global, row: &Row<'_>, endian: Endian) -> Result<Vec<u8>> {
     }
 }
 
-/// Returns the report on a dump, and behind it a line for each type of stream; or the error of the file.
+/// Returns the report on a dump, and after it a line for each type of stream; or the error of the
+/// file.
 pub fn report(alloc: Global, bytes: &[u8]) -> Result<Vec<u8>> {
     let mut told = Told::new(Vec::new(alloc));
     let answer = write_report(alloc, bytes, &CodeNames::empty(), &mut told);

@@ -4,7 +4,8 @@ use minidump_synth::{every_stream, handle_circle};
 use std::alloc::Global;
 use std::fs;
 
-// A dump of handles that share a circle of 1,000 pieces: its name, its byte order, and how many handles it has.
+// A dump of handles that share a circle of 1,000 pieces: its name, its byte order, and how many
+// handles it has.
 const CIRCLES: &[(&str, Endian, u32)] = &[
     ("circle", Endian::Little, 1),
     ("circle-big", Endian::Big, 1),
@@ -12,9 +13,9 @@ const CIRCLES: &[(&str, Endian, u32)] = &[
     ("circle-of-two-big", Endian::Big, 2),
 ];
 
-/// Cuts a file to each length from 0 to its own. Writes a line: how many lengths there are, how many of them are dumps,
-/// and how many streams of the whole dump are read; and a line for each length where a read takes more steps than its
-/// limit.
+/// Cuts a file to each length from 0 to its own. Writes a line: how many lengths there are, how
+/// many of them are dumps, and how many streams of the whole dump are read; and a line for each
+/// length where a read takes more steps than its limit.
 pub fn print_file(rt: &HostRuntime, path: &str) -> Result<()> {
     print_cuts(rt, path, &fs::read(rt, path)?)
 }
@@ -51,8 +52,8 @@ fn print_cuts(rt: &HostRuntime, name: &str, bytes: &[u8]) -> Result<()> {
     Ok(())
 }
 
-// What a cut is: a dump of so many streams that are read, no dump, or one of either that takes more reads than its
-// limit.
+// What a cut is: a dump of so many streams that are read, no dump, or one of either that takes more
+// reads than its limit.
 #[derive(Clone, Copy)]
 enum Cut {
     Dump(usize),
@@ -77,8 +78,8 @@ fn read_cut(alloc: Global, bytes: &[u8]) -> Cut {
     }
 }
 
-// How many types of streams are read, if each read takes at most its limit of steps, where `most` is the limit that is
-// linear.
+// How many types of streams are read, if each read takes at most its limit of steps, where `most`
+// is the limit that is linear.
 fn read_streams(alloc: Global, dump: &Minidump<'_>, most: u128) -> Option<usize> {
     macro_rules! limit {
         (constant) => {

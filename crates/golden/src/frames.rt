@@ -1,28 +1,16 @@
 use anyhow::Result;
-use minidump::{
-    Minidump, MinidumpException, MinidumpLinuxMaps, MinidumpMemoryInfoList, MinidumpModuleList,
-    MinidumpSystemInfo, MinidumpThreadList, UnifiedMemoryInfoList, UnifiedMemoryList,
-};
+use crash_summary::DumpProcess;
+use minidump::{Error, Minidump, MinidumpThreadList};
 use stack_walk::{FrameTrust, Process, StackFrame, thread_frames};
 use std::alloc::Global;
 use std::io::Write;
 
-/// Returns a line for each thread of a dump, and after it one for each of its frames, with at most `limit` candidates.
+/// Returns a line for each thread of a dump, and after it one for each of its frames, with at most
+/// `limit` candidates.
 pub fn frames(alloc: Global, bytes: &[u8], limit: usize) -> Result<Vec<u8>> {
     let dump = Minidump::read(alloc, bytes)?;
-    let system = dump.get_stream::<MinidumpSystemInfo>(alloc)?;
-    let exception = dump.find_stream::<MinidumpException>(alloc)?;
-    let modules = modules_of(alloc, &dump)?;
-    let memory = memory_of(alloc, &dump)?;
-    let infos = infos_of(alloc, &dump)?;
-    let process = Process {
-        system: &system,
-        exception: exception.as_ref(),
-        modules: &modules,
-        memory: &memory,
-        infos: &infos,
-    };
-    push_threads(alloc, &dump, &process, limit)
+    let process = DumpProcess::read(alloc, &dump)?.ok_or(Error::StreamNotFound)?;
+    push_threads(alloc, &dump, &process.as_process(), limit)
 }
 
 // Returns the lines of the threads.
@@ -42,7 +30,8 @@ fn push_threads<'a>(
     Ok(out)
 }
 
-// Appends a line for each frame: its instruction pointer, its stack pointer, and what it is known by.
+// Appends a line for each frame: its instruction pointer, its stack pointer, and what it is known
+// by.
 fn push_frames(out: &mut Vec<u8>, frames: &[StackFrame]) -> Result<()> {
     for frame in frames {
         let trust = match frame.trust {
@@ -57,27 +46,4 @@ fn push_frames(out: &mut Vec<u8>, frames: &[StackFrame]) -> Result<()> {
         )?;
     }
     Ok(())
-}
-
-fn modules_of(alloc: Global, dump: &Minidump<'_>) -> Result<MinidumpModuleList> {
-    match dump.find_stream(alloc)? {
-        Some(modules) => Ok(modules),
-        None => Ok(MinidumpModuleList::new(alloc)),
-    }
-}
-
-fn memory_of<'a>(alloc: Global, dump: &Minidump<'a>) -> Result<UnifiedMemoryList<'a>> {
-    match dump.get_memory(alloc)? {
-        Some(memory) => Ok(memory),
-        None => Ok(UnifiedMemoryList::new(alloc)),
-    }
-}
-
-fn infos_of<'a>(alloc: Global, dump: &Minidump<'a>) -> Result<UnifiedMemoryInfoList<'a>> {
-    let infos = dump.find_stream::<MinidumpMemoryInfoList<'a>>(alloc)?;
-    let maps = dump.find_stream::<MinidumpLinuxMaps<'a>>(alloc)?;
-    match UnifiedMemoryInfoList::new(infos, maps) {
-        Some(infos) => Ok(infos),
-        None => Ok(UnifiedMemoryInfoList::empty(alloc)),
-    }
 }

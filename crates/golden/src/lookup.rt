@@ -6,8 +6,9 @@ use minidump::{
 use std::alloc::Global;
 use std::io::Write;
 
-/// Appends what each list of a dump has at an address, or a line that it has nothing there: memory, modules, unloaded
-/// modules, and the information on memory or the maps; or a line that the dump has no such list.
+/// Appends what each list of a dump has at an address, or a line that it has nothing there: memory,
+/// modules, unloaded modules, and the information on memory or the maps; or a line that the dump
+/// has no such list.
 pub fn push_found(
     alloc: Global,
     dump: &Minidump<'_>,

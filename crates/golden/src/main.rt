@@ -1,44 +1,50 @@
 //! `golden FILE..`, which writes what the library reads of sample dumps and of rows.
 //!
-//! For each sample, a file whose name doesn't end with `.rows`, it writes a line `== FILE`, and then the error of a file
-//! that is no dump, or:
+//! For each sample, a file whose name doesn't end with `.rows`, it writes a line `== FILE`, and
+//! then the error of a file that is no dump, or:
 //!
 //! - the report, as `write_report` does without names of codes;
-//! - for each type of stream that the dump has, a line with the name of the type and `ok`, or its error, with its
-//!   numbers.
+//! - for each type of stream that the dump has, a line with the name of the type and `ok`, or its
+//!   error, with its numbers.
 //!
-//! Behind the line `== cuts` it writes a line for each sample, and for some dumps that are made for it: how many lengths
-//! it can be cut to, how many of them are dumps, and how many of its streams are read. A length at which a read takes
-//! more steps than its limit has a line of its own. Without samples there is nothing of this.
+//! After the line `== cuts` it writes a line for each sample, and for some dumps that are made for
+//! it: how many lengths it can be cut to, how many of them are dumps, and how many of its streams
+//! are read. A length at which a read takes more steps than its limit has a line of its own.
+//! Without samples there is nothing of this.
 //!
-//! Behind the line `== rows` it writes a line `FILE: N rows` for each file of rows, and in front of it what differs: the
-//! name of a row, the lines that it wants, and those that are answered. A file that holds what is no row ends it with
-//! status 1.
+//! After the line `== rows` it writes a line `FILE: N rows` for each file of rows, and in front of
+//! it what differs: the name of a row, the lines that it wants, and those of the answer. A file
+//! with a malformed row ends the program with status 1.
 //!
 //! # Rows
 //!
-//! A row is a call, the bytes that it is given, and lines that its answer has. It begins with a line and goes on in the
-//! lines below that begin with a blank. A line that begins with `#` is a comment.
+//! A row is a call, the bytes that it is given, and lines that its answer has. It begins with a
+//! line and goes on in the lines below that begin with a space. A line that begins with `#` is a
+//! comment.
 //!
 //! ```text
 //! NAME: CALL WORD.. = BYTES | BYTES -> LINE
 //!     LINE
 //! ```
 //!
-//! - CALL is `report`, which answers as for a sample; `summary`, the summary of a crash, a line for each part; `at`,
-//!   whose first WORD is addresses with commas between them: lines of what is at each; or `frames`, whose first WORD is the
-//!   most candidates of a scan: for each thread a line, and after it one for each frame.
-//! - `big` as a WORD makes bytes and numbers big-endian, and `both` asks for the same answer in both byte orders.
-//! - Each further WORD is the number of a type of stream. Its bytes are those between the next two bars; what stands
-//!   behind the last of them is put into the dump in front of the streams, from 32 on. Without such a WORD the bytes
-//!   are the dump.
-//! - BYTES are words. `5f00` is two bytes, `5:4` the number 5 in four bytes, `00*9` nine zeros, `"abc"` the bytes of a
-//!   text, `w"abc"` its code units of UTF-16, and `u"abc"` the same behind their length. `->`, `|` and `"` can't stand in
-//!   a text.
-//! - Each LINE is a whole line of the answer, without the blanks on both sides, and they stand in it one behind another;
-//!   empty lines don't count. `..` is any number of lines, as are the lines in front of the first and behind the last.
+//! - CALL is `report`, which answers as for a sample; `summary`, the summary of a crash, a line for
+//!   each part; `at`, whose first WORD is addresses with commas between them: lines of what is at
+//!   each; or `frames`, whose first WORD is the most candidates of a scan: for each thread a line,
+//!   and after it one for each frame.
+//! - `big` as a WORD makes bytes and numbers big-endian, and `both` asks for the same answer in
+//!   both byte orders.
+//! - Each further WORD is the number of a type of stream. Its bytes are those between the next two
+//!   bars; what stands after the last of them is put into the dump in front of the streams, from 32
+//!   on. Without such a WORD the bytes are the dump.
+//! - BYTES are words. `5f00` is two bytes, `5:4` the number 5 in four bytes, `00*9` nine zeros,
+//!   `"abc"` the bytes of a text, `w"abc"` its code units of UTF-16, and `u"abc"` the same after
+//!   their length. `->`, `|` and `"` can't stand in a text.
+//! - Each LINE is a whole line of the answer, without the spaces on both sides, and they stand in
+//!   it one after another; empty lines don't count. `..` is any number of lines, as are the lines
+//!   in front of the first and after the last.
 //!
-//! The gate runs it on the files of `data/` that `args` lists, and compares what it writes with `stdout`.
+//! The gate runs it on the files of `data/` that `args` lists, and compares what it writes with
+//! `stdout`.
 #![tactic(auto)]
 
 mod calls;

@@ -2,7 +2,8 @@ use anyhow::{Result, bail};
 use minidump::Endian;
 use std::alloc::Global;
 
-/// A row: its name, its call, the other words, the byte orders, the bytes as they are spelled, and the lines of the answer.
+/// A row: its name, its call, the other words, the byte orders, the bytes as they are spelled, and
+/// the lines of the answer.
 #[derive(Drop)]
 pub struct Row<'t> {
     pub name: &'t str,
@@ -45,7 +46,7 @@ impl<'t> Row<'t> {
     }
 }
 
-/// Reads a number: decimal, or hexadecimal behind `0x`.
+/// Reads a number: decimal, or hexadecimal after `0x`.
 pub fn number(word: &str) -> Result<u64> {
     let read = match word.strip_prefix("0x") {
         Some(digits) => u64::from_str_radix(digits, 16),

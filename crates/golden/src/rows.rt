@@ -6,7 +6,7 @@ use std::alloc::{AllocError, Global};
 use std::fs;
 use std::io::Write;
 
-/// Writes the rows of a file whose answers aren't those that they want, and then how many rows there are.
+/// Writes each row of a file whose answer differs from its lines, and then how many rows there are.
 pub fn print_differences(rt: &HostRuntime, path: &str) -> Result<()> {
     let text = fs::read_to_string(rt, path)?;
     let mut rows = 0u64;
@@ -25,7 +25,8 @@ pub fn print_differences(rt: &HostRuntime, path: &str) -> Result<()> {
     Ok(())
 }
 
-// Writes a row in the byte orders in which the answer isn't what it wants. Returns how many rows the text is.
+// Writes a row in the byte orders in which the answer isn't what it wants. Returns how many rows
+// the text is.
 fn print_row(rt: &HostRuntime, text: &str) -> Result<u64> {
     if text.is_empty() {
         return Ok(0);
@@ -51,7 +52,7 @@ fn print_difference(rt: &HostRuntime, row: &Row<'_>, endian: Endian, found: &[u8
     Ok(())
 }
 
-// Returns the lines of a text that aren't empty, without the blanks on both sides.
+// Returns the lines of a text that aren't empty, without the spaces on both sides.
 fn lines_of(alloc: Global, text: &[u8]) -> Result<Vec<Vec<u8>>, AllocError> {
     let mut lines = Vec::new(alloc);
     for line in text.split(|byte| *byte == b'\n') {
@@ -65,12 +66,12 @@ fn lines_of(alloc: Global, text: &[u8]) -> Result<Vec<Vec<u8>>, AllocError> {
     Ok(lines)
 }
 
-// Tests whether the lines are there, one behind another, but that `..` is any number of lines.
+// Tests whether the lines are there, one after another, but that `..` is any number of lines.
 fn has(lines: &[Vec<u8>], wanted: &[Vec<u8>]) -> bool {
-    let mut place = 0;
+    let mut start = 0;
     for part in wanted.split(|line| is_any(line)) {
-        match behind(lines, place, part) {
-            Some(end) => place = end,
+        match end_of_first(lines, start, part) {
+            Some(end) => start = end,
             None => return false,
         }
     }
@@ -82,15 +83,16 @@ fn is_any(line: &Vec<u8>) -> bool {
     line.as_slice() == b"..".as_slice()
 }
 
-// Returns the place behind the first lines from a place on that are these.
-fn behind(lines: &[Vec<u8>], from: usize, part: &[Vec<u8>]) -> Option<usize> {
+// Finds the first index, from `from` on, at which the lines of `part` stand. Returns the index
+// after them.
+fn end_of_first(lines: &[Vec<u8>], from: usize, part: &[Vec<u8>]) -> Option<usize> {
     (from..=lines.len())
-        .find(|place| stand_at(lines, *place, part))
-        .map(|place| place.saturating_add(part.len()))
+        .find(|index| stand_at(lines, *index, part))
+        .map(|index| index.saturating_add(part.len()))
 }
 
-fn stand_at(lines: &[Vec<u8>], place: usize, part: &[Vec<u8>]) -> bool {
-    match lines.get(place..) {
+fn stand_at(lines: &[Vec<u8>], index: usize, part: &[Vec<u8>]) -> bool {
+    match lines.get(index..) {
         Some(left) => left.starts_with(part),
         None => false,
     }

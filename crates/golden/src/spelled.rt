@@ -4,7 +4,7 @@ use minidump::Endian;
 use minidump_synth::Section;
 use std::alloc::Global;
 
-// What a text is: its bytes, its code units of UTF-16, or the same behind their length.
+// What a text is: its bytes, its code units of UTF-16, or the same after their length.
 #[derive(Clone, Copy)]
 enum Form {
     Bytes,
@@ -32,7 +32,7 @@ pub fn bytes_of(alloc: Global, spelled: &str, endian: Endian) -> Result<Section>
     }
 }
 
-// Puts the bytes of words. Returns what the text behind them is, by the last of them.
+// Puts the bytes of words. Returns what the text after them is, by the last of them.
 fn put_words(words: &str, bytes: &mut Section) -> Result<Form> {
     let mut form = Form::Bytes;
     for word in words.split_whitespace() {

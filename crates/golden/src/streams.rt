@@ -3,7 +3,8 @@ use minidump::{Error, Minidump, MinidumpStream, each_stream};
 use std::alloc::Global;
 use std::io::Write;
 
-/// Appends a line for each type of stream that a dump has and that is read: that it is well-formed, or its error.
+/// Appends a line for each type of stream that a dump has and that is read, which says `ok`, or
+/// names its error.
 pub fn push_all(alloc: Global, dump: &Minidump<'_>, out: &mut Vec<u8>) -> Result<()> {
     macro_rules! push_each {
         ($($name:ident: $type:ty, $reads:ident;)*) => {
@@ -14,7 +15,8 @@ pub fn push_all(alloc: Global, dump: &Minidump<'_>, out: &mut Vec<u8>) -> Result
     Ok(())
 }
 
-// Appends a line for a type of stream, but nothing where the dump has no such stream, by the type and by its number.
+// Appends a line for a type of stream, but nothing where the dump has no such stream, by the type
+// and by its number.
 fn push_answer<'a, S: MinidumpStream<'a> + Drop>(
     alloc: Global,
     dump: &Minidump<'a>,

@@ -31,7 +31,7 @@ split [] b = refl
 split (m ∷ a) b = ap (λ ts. Token.key m.0 ∷ (json_tokens m.1 ++ ts)) (split a b)
     ∙ ap (λ ts. Token.key m.0 ∷ ts) (sym (append_assoc (json_tokens m.1) (member_list_tokens a) (member_list_tokens b)))
 
--- members behind members
+-- members after members
 pub more : (t u v : List Token) (a b : List (List ℕ × Json)) → u ≡ t ++ member_list_tokens a → v ≡ u ++ member_list_tokens b → v ≡ t ++ member_list_tokens (a ++ b)
 more t u v a b first second =
     second ∙ ap (λ ts. ts ++ member_list_tokens b) first ∙ append_assoc t (member_list_tokens a) (member_list_tokens b) ∙ ap (λ ts. t ++ ts) (sym (split a b))
@@ -55,7 +55,8 @@ pub array_of_numbered : {X : Type 0} (old : List Token) (f : ℕ → X → Json)
     → ((old ++ (begin_array ∷ [])) ++ numbered_tokens f xs) ++ (end_array ∷ []) ≡ old ++ json_tokens (numbered_array_of f xs)
 array_of_numbered old f xs = array_of_items old (λ p. f p.0 p.1) (enumerate_from 0 xs)
 
--- behind what was put, the tokens of an item and of those after it are those from the item's number on
+-- after what was put, the tokens of an item and of those after it are those from the item's number
+-- on
 pub next_numbered : {X : Type 0} (f : ℕ → X → Json) (xs : List X) (i : ℕ) (old new : List Token) (x : X) {all : List Token}
     → i < length xs → x ≡ get_or xs i x → new ≡ old ++ json_tokens (f i x)
     → old ++ item_tokens (λ p. f p.0 p.1) (enumerate_from i (drop i xs)) ≡ all

@@ -1,9 +1,11 @@
 -- JSON values of lists of members and of items, and their tokens.
-use Rattle.std.specs.Prelude.{◌≡◌, ℕ, List, [], ◌∷◌, ◌++◌, map, Option, Some, None, OnOk, IsOkUnless, Result, decimal}
+use Rattle.std.specs.Prelude.{◌≡◌, ℕ, List, [], ◌∷◌, ◌++◌, map, Option, Some, None, OnOk}
+use Rattle.std.specs.Prelude.{IsOkUnless, Result, decimal}
 use Rattle.std.specs.Borrow.{Bor}
 use Rattle.std.specs.List.{enumerate_from, flat_map}
 use Rattle.std.specs.Option.{option_copied}
-use Rattle.json.specs.Json.{Json, null, number, string, array, object, Items, no_items, item, Members, no_members, member}
+use Rattle.json.specs.Json.{Json, null, number, string, array, object, Items, no_items, item}
+use Rattle.json.specs.Json.{Members, no_members, member}
 use Rattle.json.specs.Token.{Token}
 use Rattle.json.specs.Tree.{json_tokens}
 use Rattle.json.specs.Written.{Written}
@@ -41,7 +43,7 @@ numbered_array_of json xs = array_of (λ p. json p.0 p.1) (enumerate_from 0 xs)
 abbrev pub count : ℕ → Json
 count n = number (decimal n)
 
--- the text of a number in hexadecimal, behind `0x`, without leading zeros
+-- the text of a number in hexadecimal, after `0x`, without leading zeros
 unfoldable pub hex_text : ℕ → List ℕ
 hex_text n = hex n
 
@@ -71,11 +73,11 @@ field_of f = (f.0.now, scalar_json f.1)
 abbrev pub member_tokens : List ℕ × Json → List Token
 member_tokens m = Token.key m.0 ∷ json_tokens m.1
 
--- those of members, one behind another, without brackets
+-- those of members, one after another, without brackets
 unfoldable pub member_list_tokens : List (List ℕ × Json) → List Token
 member_list_tokens ms = flat_map member_tokens ms
 
--- those of the values of items, one behind another, without brackets
+-- those of the values of items, one after another, without brackets
 abbrev pub item_tokens : {X : Type 0} → (X → Json) → List X → List Token
 item_tokens json xs = flat_map (λ x. json_tokens (json x)) xs
 
@@ -83,14 +85,15 @@ item_tokens json xs = flat_map (λ x. json_tokens (json x)) xs
 abbrev pub numbered_tokens : {X : Type 0} → (ℕ → X → Json) → List X → List Token
 numbered_tokens json xs = item_tokens (λ p. json p.0 p.1) (enumerate_from 0 xs)
 
--- the tokens of a value come behind those that were there; or memory ran out
+-- the tokens of a value come after those that were there; or memory ran out
 pub record Puts (r : Result (Unit {0}) Error) (old new : Written) (j : Json) : Type 0 where
   pub tokens : OnOk r (new.tokens ≡ old.tokens ++ json_tokens j)
   pub before : new.before ≡ old.before
   pub memory : IsOkUnless r OutOfMemory
 
--- the tokens of members come behind those that were there; or memory ran out
-pub record Adds (r : Result (Unit {0}) Error) (old new : Written) (ms : List (List ℕ × Json)) : Type 0 where
+-- the tokens of members come after those that were there; or memory ran out
+pub record Adds (r : Result (Unit {0}) Error) (old new : Written)
+    (ms : List (List ℕ × Json)) : Type 0 where
   pub tokens : OnOk r (new.tokens ≡ old.tokens ++ member_list_tokens ms)
   pub before : new.before ≡ old.before
   pub memory : IsOkUnless r OutOfMemory

@@ -1,12 +1,13 @@
 ghost use Rattle.std.specs.Prelude.{◌≡◌, ◌++◌, ◌∷◌, ℕ, [], IsOkUnless, OnOk};
 ghost use Rattle.json.specs.Json.{Json};
-ghost use Rattle.json_tree.specs.Tree.{Adds, Puts, array_of, item_tokens, numbered_array_of, numbered_tokens};
+ghost use Rattle.json_tree.specs.Tree.{Adds, Puts, array_of, item_tokens, numbered_array_of};
+ghost use Rattle.json_tree.specs.Tree.{numbered_tokens};
 
 use json::Writer;
 use minidump_format::Error;
 use std::alloc::Global;
 
-/// What gives the items of a list their JSON values.
+/// Gives the items of a list their JSON values.
 pub trait ItemJson<X> {
     ghost json_of: { Self → X → Json };
 
@@ -15,7 +16,7 @@ pub trait ItemJson<X> {
         ensures { Puts result out.old out.new (json_of self.now item.now) };
 }
 
-/// What gives the items of a list their JSON values, by their numbers, from 0 on.
+/// Gives the items of a list their JSON values, by their numbers, from 0 on.
 pub trait NumberedJson<X> {
     ghost json_at: { Self → ℕ → X → Json };
 
@@ -30,7 +31,8 @@ pub trait NumberedJson<X> {
         ensures { Puts result out.old out.new (json_at self.now number item.now) };
 }
 
-/// Adds a member whose value is an array, with the value of each item of a list. The only error is `OutOfMemory`.
+/// Adds a member whose value is an array, with the value of each item of a list. The only error is
+/// `OutOfMemory`.
 #[tactic(auto, unfolding(crate::specs::Tree::member_list_tokens))]
 pub fn put_list<X, F: ItemJson<X>>(
     out: &mut Writer,
@@ -46,8 +48,8 @@ pub fn put_list<X, F: ItemJson<X>>(
     Ok(())
 }
 
-/// Adds a member whose value is an array, with the value of each item of a list by its number. The only error is
-/// `OutOfMemory`.
+/// Adds a member whose value is an array, with a value for each item of a list, which may depend on
+/// the item's number. The only error is `OutOfMemory`.
 #[tactic(auto, unfolding(crate::specs::Tree::member_list_tokens))]
 pub fn put_numbered_list<X, F: NumberedJson<X>>(
     out: &mut Writer,
@@ -56,7 +58,8 @@ pub fn put_numbered_list<X, F: NumberedJson<X>>(
     items: &[X],
     by: &F,
 ) -> Result<(), Error>
-    ensures { Adds result out.old out.new ((name.now, numbered_array_of (F.json_at by.now) items.now) ∷ []) }
+    ensures { Adds result out.old out.new
+        ((name.now, numbered_array_of (F.json_at by.now) items.now) ∷ []) }
 {
     out.key(name)?;
     put_numbered_array(out, alloc, items, by)?;
@@ -93,14 +96,15 @@ fn put_numbered_array<X, F: NumberedJson<X>>(
     Ok(())
 }
 
-// Puts the values of items, one behind another.
+// Puts the values of items, one after another.
 fn put_items<X, F: ItemJson<X>>(
     out: &mut Writer,
     alloc: Global,
     items: &[X],
     by: &F,
 ) -> Result<(), Error>
-    ensures tokens { OnOk result (out.new.tokens ≡ out.old.tokens ++ item_tokens (F.json_of by.now) items.now) }
+    ensures tokens { OnOk result (out.new.tokens ≡ out.old.tokens ++ item_tokens (F.json_of by.now)
+        items.now) }
     ensures before { out.new.before ≡ out.old.before }
     ensures memory { IsOkUnless result Error.OutOfMemory }
 {
@@ -110,14 +114,15 @@ fn put_items<X, F: ItemJson<X>>(
     Ok(())
 }
 
-// Puts the values of items by their numbers, one behind another.
+// Puts the values of items by their numbers, one after another.
 fn put_numbered_items<X, F: NumberedJson<X>>(
     out: &mut Writer,
     alloc: Global,
     items: &[X],
     by: &F,
 ) -> Result<(), Error>
-    ensures tokens { OnOk result (out.new.tokens ≡ out.old.tokens ++ numbered_tokens (F.json_at by.now) items.now) }
+    ensures tokens { OnOk result (out.new.tokens ≡ out.old.tokens ++ numbered_tokens
+        (F.json_at by.now) items.now) }
     ensures before { out.new.before ≡ out.old.before }
     ensures memory { IsOkUnless result Error.OutOfMemory }
 {

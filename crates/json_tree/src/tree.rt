@@ -6,7 +6,7 @@ ghost use Rattle.json.specs.Tree.{depth, json_tokens};
 ghost use Rattle.json_tree.specs.Tree.{Adds, Puts, field_of, hex_text, object_of, scalar_json};
 
 use json::Writer;
-use minidump_bytes::{Piece, made};
+use minidump_bytes::{Piece, format_pieces};
 use minidump_format::Error;
 use std::alloc::{AllocError, Global};
 
@@ -101,10 +101,11 @@ fn put_scalar(out: &mut Writer, alloc: Global, scalar: Scalar<'_>) -> Result<(),
 fn hex_text(alloc: Global, number: u64) -> Result<String, AllocError>
     ensures { IfOk result (λ text. string_bytes text ≡ hex_text number) }
 {
-    made(alloc, &[Piece::Hex(number)])
+    format_pieces(alloc, &[Piece::Hex(number)])
 }
 
-/// Makes the JSON text of a value, compact, without line feeds between its tokens. The only error is `OutOfMemory`.
+/// Makes the JSON text of a value, compact, without line feeds between its tokens. The only error
+/// is `OutOfMemory`.
 pub fn text_of<T: ToJson>(alloc: Global, value: &T) -> Result<Vec<u8>, Error>
     ensures text { IfOk result (λ text. text.items ≡ print (json_tokens (T.json value.now))) }
     ensures reads_back { IfOk result (λ text. depth (T.json value.now) ≤ max_depth

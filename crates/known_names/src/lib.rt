@@ -1,16 +1,18 @@
-//! The names of codes that the files of `names/` list, for a program that has none of these files beside it.
+//! The names of codes that the files of `names/` list, for a program that has none of these files
+//! beside it.
 //!
-//! [`text`] returns them as one text, which `minidump_names` reads: lines `FAMILY NUMBER NAME`, those of Windows, of Linux and
-//! of macOS. Comments and empty lines are left out.
+//! [`text`] returns them as one text, which `minidump_names` reads: lines `FAMILY NUMBER NAME`,
+//! those of Windows, then those of Linux, then those of macOS, without comments and empty lines.
 //!
 //! # Errors
 //!
-//! [`text`] fails only where an allocation does.
+//! [`text`] returns `AllocError` if an allocation fails.
 //!
 //! # What is proved
 //!
-//! The text is the constants of the modules, in their order: [`text`], by `all_lines`. That these are the lines of the files
-//! isn't proved: `names/compile` makes the modules, and `names/compile --check` compares them.
+//! The text is the constants of the modules, in their order: [`text`], by `all_lines`. It is not
+//! proved that these are the lines of the files: `names/compile` makes the modules, and
+//! `names/compile --check` compares them.
 #![tactic(auto)]
 
 ghost use Rattle.std.specs.Prelude.{◌≡◌, IfOk, string_bytes};

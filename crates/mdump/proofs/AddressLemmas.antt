@@ -29,10 +29,10 @@ reads_hex ds (Err e) h plain short n =
 no_prefix : (word rest : List ℕ) {n : ℕ} → word ≡ codes "0x" ++ rest → WritesHex word n → ⊥
 no_prefix word rest e w = let digits : AllDigits 16 (codes "0x" ++ rest) = subst (AllDigits 16) e w.numeral.1 in omega (arith, digits.1.0)
 
--- the address behind the prefix
-pub behind_prefix : (word rest : List ℕ) (o : Option ℕ) → word ≡ codes "0x" ++ rest → ((n : ℕ) → (o ≡ Some n) ↔ WritesHex rest n)
+-- the address after the prefix
+pub after_prefix : (word rest : List ℕ) (o : Option ℕ) → word ≡ codes "0x" ++ rest → ((n : ℕ) → (o ≡ Some n) ↔ WritesHex rest n)
     → (n : ℕ) → (o ≡ Some n) ↔ SpellsAddress word n
-behind_prefix word rest o e reads n = (
+after_prefix word rest o e reads n = (
   (λ is. inr (rest, e, (reads n).0 is)),
   λ s. elim s [
     | inl w ↦ absurd (no_prefix word rest e w)

@@ -2,7 +2,7 @@
 pub mod AddressLemmas
 pub mod ArgumentLemmas
 pub mod CommandLemmas
-pub mod JoinedLemmas
+pub mod JoinLemmas
 pub mod ListLemmas
 pub mod PrintLemmas
 pub mod ReportLemmas

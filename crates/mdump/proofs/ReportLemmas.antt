@@ -1,6 +1,6 @@
 -- The report on a file that was opened.
 use Rattle.std.specs.Prelude.{◌≡◌, ℕ, List, [], Bool, true, false, Option, Result, Ok, Err, IfErr, if◌then◌else◌}
-use Rattle.std.proofs.Common.{inl, inr, refl, sym, ◌∙◌, ap, subst, rules}
+use Rattle.std.proofs.Common.{inl, refl, sym, ◌∙◌, ap, subst, rules}
 use Rattle.minidump.specs.declared.Endian.{Endian}
 use Rattle.minidump.specs.declared.Told.{Told}
 use Rattle.minidump.specs.declared.Error.{Error}
@@ -9,11 +9,11 @@ use Rattle.minidump.specs.declared.Error.TheVariants.{MissingDirectory}
 use Rattle.minidump.specs.declared.format.MINIDUMP_HEADER.{MINIDUMP_HEADER}
 use Rattle.minidump.specs.Directory.{is_readable}
 use Rattle.minidump.specs.Dump.{Dump, dump_in}
-use Rattle.minidump.specs.File.{IsFile, IsFileDump, IsPathRefusal, IsWhole}
+use Rattle.minidump.specs.File.{IsFile, IsFileDump, IsPathError, IsWhole}
 use Rattle.minidump.specs.Header.{header_of}
 use Rattle.minidump.specs.Report.{Reports, ReportsOn, report_text}
-use Rattle.mdump.specs.Done.{IsFileRefusal, IsReportText, Writes}
-use Rattle.mdump.proofs.PrintLemmas.{print_refusal, refused_on, written}
+use Rattle.mdump.specs.Done.{IsFileError, IsReportText, Writes}
+use Rattle.mdump.proofs.PrintLemmas.{print_error, error_on_file, writes_text}
 
 -- the file of a minidump is the bytes that it was read of
 abbrev file_or : List ℕ → Result Dump Error → List ℕ
@@ -32,7 +32,7 @@ read_of bytes (Err e) is = rw is refl
 file_of : (bytes : List ℕ) (dump : Dump) → dump_in bytes ≡ Ok dump → dump.file ≡ bytes
 file_of bytes dump is = ap (file_or bytes) (sym is) ∙ read_of bytes (header_of bytes) refl
 
--- no bytes are refused as a file that is missing, or that can't be read
+-- the error of bytes is not that of a file that is missing, or that can't be read
 not_missing : (bytes : List ℕ) → dump_in bytes ≡ Err error.FileNotFound → ⊥
 not_missing bytes is = search rules
 
@@ -50,31 +50,31 @@ module _ {D F : Type 0} (contents : D → Option (List ℕ)) (old new : Told D) 
   on : (result : Result (Unit {0}) Error) (assigned : Result Dump Error) → IsFile opens left path bytes → dump_in bytes ≡ assigned
       → ReportsOn contents old new [] result assigned → Writes (IsReportText opens left path) contents old new result
   on result (Ok dump) file is prints =
-      written contents old new (IsReportText opens left path) (report_text [] dump) result (dump, dump_file dump file is, refl) prints
-  on (Err e) (Err refusal) file is (same, why) = inl same
-  on (Ok u) (Err refusal) file is (same, other) = absurd (cc)
+      writes_text contents old new (IsReportText opens left path) (report_text [] dump) result (dump, dump_file dump file is, refl) prints
+  on (Err e) (Err x) file is (same, why) = inl same
+  on (Ok u) (Err x) file is (same, other) = absurd (cc)
 
   -- it was written
-  pub report_written : (result : Result (Unit {0}) Error) → IsFile opens left path bytes → Reports contents old new [] bytes result
+  pub report_writes : (result : Result (Unit {0}) Error) → IsFile opens left path bytes → Reports contents old new [] bytes result
       → Writes (IsReportText opens left path) contents old new result
-  report_written result file reports = on result (dump_in bytes) file refl reports
+  report_writes result file reports = on result (dump_in bytes) file refl reports
 
-  -- a refusal of the format is one of the path
-  of_path : (e : Error) → IsFile opens left path bytes → dump_in bytes ≡ Err e → IsPathRefusal opens left failed path e
+  -- an error of the format is one of the path
+  of_path : (e : Error) → IsFile opens left path bytes → dump_in bytes ≡ Err e → IsPathError opens left failed path e
   of_path error.FileNotFound file is = absurd (not_missing bytes is)
   of_path error.IoError file is = absurd (not_unreadable bytes is)
   of_path error.OutOfMemory file is = (file.0, file.1, tt)
   of_path e file is = search rules
 
-  refused : (result : Result (Unit {0}) Error) (assigned : Result Dump Error) → IsFile opens left path bytes → dump_in bytes ≡ assigned
-      → ReportsOn contents old new [] result assigned → IfErr result (IsFileRefusal opens left failed path old new)
-  refused result (Ok dump) file is prints =
-      refused_on contents old new opens left failed path dump result (dump_file dump file is)
-      (print_refusal contents old new (report_text [] dump) result prints)
-  refused (Err e) (Err refusal) file is (same, why) = inl (same, of_path e file (cc))
-  refused (Ok u) (Err refusal) file is (same, other) = tt
+  error_on : (result : Result (Unit {0}) Error) (assigned : Result Dump Error) → IsFile opens left path bytes → dump_in bytes ≡ assigned
+      → ReportsOn contents old new [] result assigned → IfErr result (IsFileError opens left failed path old new)
+  error_on result (Ok dump) file is prints =
+      error_on_file contents old new opens left failed path dump result (dump_file dump file is)
+      (print_error contents old new (report_text [] dump) result prints)
+  error_on (Err e) (Err x) file is (same, why) = inl (same, of_path e file (cc))
+  error_on (Ok u) (Err x) file is (same, other) = tt
 
-  -- or it was refused
-  pub report_refused : (result : Result (Unit {0}) Error) → IsFile opens left path bytes → Reports contents old new [] bytes result
-      → IfErr result (IsFileRefusal opens left failed path old new)
-  report_refused result file reports = refused result (dump_in bytes) file refl reports
+  -- or it ended in an error
+  pub report_error : (result : Result (Unit {0}) Error) → IsFile opens left path bytes → Reports contents old new [] bytes result
+      → IfErr result (IsFileError opens left failed path old new)
+  report_error result file reports = error_on result (dump_in bytes) file refl reports

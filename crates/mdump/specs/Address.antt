@@ -8,6 +8,6 @@ pub record WritesHex (digits : List ℕ) (n : ℕ) : Type 0 where
   pub short : length digits ≤ 16
   pub value : digits_value 16 digits ≡ n
 
--- such digits, alone or behind `0x`
+-- such digits, alone or after `0x`
 abbrev pub SpellsAddress : List ℕ → ℕ → Type 0
 SpellsAddress word n = WritesHex word n ⊎ ((digits : List ℕ) × (word ≡ codes "0x" ++ digits) × WritesHex digits n)

@@ -1,21 +1,23 @@
 -- What the program writes.
-use Rattle.std.specs.Prelude.{◌≡◌, ◌↔◌, ◌⊎◌, ℕ, ◌<◌, ◌≤◌, ◌++◌, List, [], codes, length, Bool, true, Option, Some, None, Result, Ok, Err}
+use Rattle.std.specs.Prelude.{◌≡◌, ◌↔◌, ◌⊎◌, ℕ, ◌<◌, ◌≤◌, ◌++◌, List, [], codes, length, Bool, true}
+use Rattle.std.specs.Prelude.{Option, Some, None, Result, Ok, Err}
 use Rattle.std.specs.Option.{option_map}
 use Rattle.std.specs.Result.{result_ok}
 use Rattle.minidump.specs.declared.Told.{Told}
-use Rattle.minidump.specs.Below.Bytes.Told.{PutsAll, PutsBeginning, has_failed}
+use Rattle.minidump.specs.Below.Bytes.Told.{PutsAll, PutsPrefix, has_failed}
 use Rattle.minidump.specs.declared.Error.{Error}
 use Rattle.minidump.specs.declared.Error.TheVariants.{IoError, OutOfMemory}
-use Rattle.minidump.specs.Below.Format.Error.{refusal_name}
+use Rattle.minidump.specs.Below.Format.Error.{name_of_error}
 use Rattle.minidump.specs.Below.Format.Print.{out_of_memory}
-use Rattle.minidump.specs.Below.MemoryLists.Memory.{region_range}
+use Rattle.minidump.specs.Below.MemoryLists.Memory.{range_of_region}
 use Rattle.minidump.specs.Below.MemoryLists.Unified.{UnifiedRegion, unified_regions}
 use Rattle.minidump.specs.Below.MemoryLists.MapLine.{MapRegion}
 use Rattle.minidump.specs.Below.MemoryLists.MemoryInfo.{MemoryInfo}
-use Rattle.minidump.specs.Below.MemoryLists.UnifiedInfo.{InfoRegion, InfoRegions, OfInfo, OfMaps, info_region_range, info_regions}
-use Rattle.minidump.specs.Below.Modules.Module.{ModuleValue, value_range}
-use Rattle.minidump.specs.Dump.{Dump, dump_in, stream_of}
-use Rattle.minidump.specs.File.{IsFileDump, IsPathRefusal}
+use Rattle.minidump.specs.Below.MemoryLists.UnifiedInfo.{InfoRegion, InfoRegions, OfInfo, OfMaps}
+use Rattle.minidump.specs.Below.MemoryLists.UnifiedInfo.{range_of_info_region, info_regions}
+use Rattle.minidump.specs.Below.Modules.Module.{ModuleValue, range_of_module}
+use Rattle.minidump.specs.Dump.{Dump, stream_of}
+use Rattle.minidump.specs.File.{IsFileDump, IsPathError}
 use Rattle.minidump.specs.Memory.{memories_of_dump}
 use Rattle.minidump.specs.Promise.{linux_maps_stream, memory_info_list_stream, module_list_stream}
 use Rattle.minidump.specs.Report.{report_text}
@@ -23,26 +25,32 @@ use Rattle.minidump.specs.Text.{dump_text}
 use Rattle.mdump.specs.declared.command.Command.{Command}
 use Rattle.mdump.specs.declared.command.Command.TheVariants.{Dir, At, Report}
 use Rattle.mdump.specs.Command.{IsCommand, IsCommandOf}
-use Rattle.mdump.specs.Lines.{IsAt, Joined, info_line, memory_line, module_line}
+use Rattle.mdump.specs.Lines.{IsLookedUpIn, IsJoinOf, info_line, memory_line, module_line}
 
 -- the help that is printed without arguments
 abbrev pub usage : List ℕ
 usage = codes "usage: mdump dir FILE | at FILE HEXADDRESS | report FILE\n"
 
--- Below, `opens path answer` says what opening a path answers, and `left` which bytes a file has left, where they are known.
+-- Below, `opens path answer` says what opening a path returns, and `left` which bytes a file has
+-- left, where they are known.
 
 -- the header and the directory of the minidump in the file of a path
-abbrev pub IsDirectoryText : {F : Type 0} → (List ℕ → Option F → Type 0) → (F → Option (List ℕ)) → List ℕ → List ℕ → Type 0
-IsDirectoryText opens left path text = (dump : Dump) × IsFileDump opens left path dump × (text ≡ dump_text dump)
+abbrev pub IsDirectoryText : {F : Type 0} → (List ℕ → Option F → Type 0) → (F → Option (List ℕ))
+    → List ℕ → List ℕ → Type 0
+IsDirectoryText opens left path text =
+    (dump : Dump) × IsFileDump opens left path dump × (text ≡ dump_text dump)
 
 -- the report on the minidump in the file of a path, without names of codes
-abbrev pub IsReportText : {F : Type 0} → (List ℕ → Option F → Type 0) → (F → Option (List ℕ)) → List ℕ → List ℕ → Type 0
-IsReportText opens left path text = (dump : Dump) × IsFileDump opens left path dump × (text ≡ report_text [] dump)
+abbrev pub IsReportText : {F : Type 0} → (List ℕ → Option F → Type 0) → (F → Option (List ℕ))
+    → List ℕ → List ℕ → Type 0
+IsReportText opens left path text =
+    (dump : Dump) × IsFileDump opens left path dump × (text ≡ report_text [] dump)
 
 -- the line of the region that contains an address in the memory of a dump
 abbrev pub IsMemoryLine : Dump → ℕ → List ℕ → Type 0
 IsMemoryLine dump address text =
-    (found : Option UnifiedRegion) × IsAt region_range (option_map unified_regions (memories_of_dump dump)) address found × (text ≡ memory_line found)
+    (found : Option UnifiedRegion) × IsLookedUpIn range_of_region
+    (option_map unified_regions (memories_of_dump dump)) address found × (text ≡ memory_line found)
 
 -- the modules of a dump, where its list of modules can be read; unloaded modules play no part
 abbrev pub modules_of_dump : Dump → Option (List ModuleValue)
@@ -50,67 +58,85 @@ modules_of_dump dump = result_ok (stream_of module_list_stream dump)
 
 -- the line of the module that contains an address
 abbrev pub IsModuleLine : Dump → ℕ → List ℕ → Type 0
-IsModuleLine dump address text = (found : Option ModuleValue) × IsAt value_range (modules_of_dump dump) address found × (text ≡ module_line found)
+IsModuleLine dump address text =
+    (found : Option ModuleValue) × IsLookedUpIn range_of_module (modules_of_dump dump) address found
+    × (text ≡ module_line found)
 
--- the memory information of a dump, where it can be read; else its map lines, where they can be. After a miss in the information the lines
--- are not asked
+-- the memory information of a dump, where it can be read; else its map lines, where they can be.
+-- After a miss in the information the map lines are not looked at
 abbrev pub information_of : Option (List MemoryInfo) → Option (List MapRegion) → Option InfoRegions
 information_of (Some info) maps = Some (OfInfo info)
 information_of None maps = option_map OfMaps maps
 
 -- what the dump has on regions: the memory information or the map of Linux
 abbrev pub info_of_dump : Dump → Option InfoRegions
-info_of_dump dump = information_of (result_ok (stream_of memory_info_list_stream dump)) (result_ok (stream_of linux_maps_stream dump))
+info_of_dump dump =
+    information_of (result_ok (stream_of memory_info_list_stream dump))
+    (result_ok (stream_of linux_maps_stream dump))
 
 -- the line of the region, by the information on memory, that contains an address
 abbrev pub IsInfoLine : Dump → ℕ → List ℕ → Type 0
 IsInfoLine dump address text =
-    (found : Option InfoRegion) × IsAt info_region_range (option_map info_regions (info_of_dump dump)) address found × (text ≡ info_line found)
+    (found : Option InfoRegion) × IsLookedUpIn range_of_info_region
+    (option_map info_regions (info_of_dump dump)) address found × (text ≡ info_line found)
 
--- the lines of what lies at an address, behind that of the memory
+-- the lines of what lies at an address, after that of the memory
 abbrev pub AreLastLines : Dump → ℕ → List ℕ → Type 0
-AreLastLines dump address = Joined (IsModuleLine dump address) (IsInfoLine dump address)
+AreLastLines dump address = IsJoinOf (IsModuleLine dump address) (IsInfoLine dump address)
 
 -- all of them
 abbrev pub AreLinesOf : Dump → ℕ → List ℕ → Type 0
-AreLinesOf dump address = Joined (IsMemoryLine dump address) (AreLastLines dump address)
+AreLinesOf dump address = IsJoinOf (IsMemoryLine dump address) (AreLastLines dump address)
 
 -- the same of the minidump in the file of a path
-abbrev pub AreLines : {F : Type 0} → (List ℕ → Option F → Type 0) → (F → Option (List ℕ)) → List ℕ → ℕ → List ℕ → Type 0
-AreLines opens left path address text = (dump : Dump) × IsFileDump opens left path dump × AreLinesOf dump address text
+abbrev pub AreLines : {F : Type 0} → (List ℕ → Option F → Type 0) → (F → Option (List ℕ)) → List ℕ
+    → ℕ → List ℕ → Type 0
+AreLines opens left path address text =
+    (dump : Dump) × IsFileDump opens left path dump × AreLinesOf dump address text
 
 -- what a command prints on a file
-abbrev pub IsTextOf : {F : Type 0} → (List ℕ → Option F → Type 0) → (F → Option (List ℕ)) → Command → List ℕ → Type 0
+abbrev pub IsTextOf : {F : Type 0} → (List ℕ → Option F → Type 0) → (F → Option (List ℕ)) → Command
+    → List ℕ → Type 0
 IsTextOf opens left (Dir path) text = IsDirectoryText opens left path.now text
 IsTextOf opens left (At path address) text = AreLines opens left path.now address text
 IsTextOf opens left (Report path) text = IsReportText opens left path.now text
 
 -- the text that words ask for: that of the command that they mean, and of no words the usage
-abbrev pub IsAnswer : {F : Type 0} → (List ℕ → Option F → Type 0) → (F → Option (List ℕ)) → List (List ℕ) → List ℕ → Type 0
-IsAnswer opens left words text = ((words ≡ []) × (text ≡ usage)) ⊎ ((command : Command) × IsCommandOf words command × IsTextOf opens left command text)
+abbrev pub IsAnswer : {F : Type 0} → (List ℕ → Option F → Type 0) → (F → Option (List ℕ))
+    → List (List ℕ) → List ℕ → Type 0
+IsAnswer opens left words text =
+    ((words ≡ []) × (text ≡ usage)) ⊎ ((command : Command) × IsCommandOf words command
+    × IsTextOf opens left command text)
 
--- the device took one of the texts
-abbrev pub TookAll : {D : Type 0} → (List ℕ → Type 0) → (D → Option (List ℕ)) → Told D → Told D → Type 0
+-- the device took all of one of the texts
+abbrev pub TookAll : {D : Type 0} → (List ℕ → Type 0) → (D → Option (List ℕ)) → Told D → Told D
+    → Type 0
 TookAll IsText contents old new = (text : List ℕ) × IsText text × PutsAll contents old new text
 
--- it took a beginning of one of them, or nothing
-abbrev pub TookBeginning : {D : Type 0} → (List ℕ → Type 0) → (D → Option (List ℕ)) → Told D → Told D → Type 0
-TookBeginning IsText contents old new = (new ≡ old) ⊎ ((text : List ℕ) × IsText text × PutsBeginning contents old new text)
+-- it took a prefix of one of them, or nothing
+abbrev pub TookPrefix : {D : Type 0} → (List ℕ → Type 0) → (D → Option (List ℕ)) → Told D → Told D
+    → Type 0
+TookPrefix IsText contents old new =
+    (new ≡ old) ⊎ ((text : List ℕ) × IsText text × PutsPrefix contents old new text)
 
--- by the answer of a call
-abbrev pub Writes : {D : Type 0} → (List ℕ → Type 0) → (D → Option (List ℕ)) → Told D → Told D → Result (Unit {0}) Error → Type 0
+-- what a call wrote: all of one of the texts on `Ok`, a prefix on `Err`
+abbrev pub Writes : {D : Type 0} → (List ℕ → Type 0) → (D → Option (List ℕ)) → Told D → Told D
+    → Result (Unit {0}) Error → Type 0
 Writes IsText contents old new (Ok _) = TookAll IsText contents old new
-Writes IsText contents old new (Err _) = TookBeginning IsText contents old new
+Writes IsText contents old new (Err _) = TookPrefix IsText contents old new
 
--- an error after the file was read: memory ran out before anything was written, or it is that of a print
-abbrev pub IsOutputRefusal : {D : Type 0} → Told D → Told D → Error → Type 0
-IsOutputRefusal old new e = ((new ≡ old) × (e ≡ OutOfMemory)) ⊎ (e ≡ out_of_memory new)
+-- an error after the file was read: memory ran out before anything was written, or it is that of a
+-- print
+abbrev pub IsOutputError : {D : Type 0} → Told D → Told D → Error → Type 0
+IsOutputError old new e = ((new ≡ old) × (e ≡ OutOfMemory)) ⊎ (e ≡ out_of_memory new)
 
--- an error of a command on the file of a path: that of reading the file, before anything was written; or its minidump was read, and the error is
--- one after that
-abbrev pub IsFileRefusal : {F D : Type 0} → (List ℕ → Option F → Type 0) → (F → Option (List ℕ)) → (F → Bool) → List ℕ → Told D → Told D → Error → Type 0
-IsFileRefusal opens left failed path old new e =
-    ((new ≡ old) × IsPathRefusal opens left failed path e) ⊎ ((dump : Dump) × IsFileDump opens left path dump × IsOutputRefusal old new e)
+-- an error of a command on the file of a path: that of reading the file, before anything was
+-- written; or its minidump was read, and the error is one after that
+abbrev pub IsFileError : {F D : Type 0} → (List ℕ → Option F → Type 0) → (F → Option (List ℕ))
+    → (F → Bool) → List ℕ → Told D → Told D → Error → Type 0
+IsFileError opens left failed path old new e =
+    ((new ≡ old) × IsPathError opens left failed path e)
+    ⊎ ((dump : Dump) × IsFileDump opens left path dump × IsOutputError old new e)
 
 -- the path of a command
 abbrev pub path_of : Command → List ℕ
@@ -119,39 +145,50 @@ path_of (At path address) = path.now
 path_of (Report path) = path.now
 
 -- an error of the words: that of their command, and of no words only that the output has failed
-abbrev pub IsRefusal : {F D : Type 0} → (List ℕ → Option F → Type 0) → (F → Option (List ℕ)) → (F → Bool) → List (List ℕ) → Told D → Told D → Error
+abbrev pub IsCommandError : {F D : Type 0} → (List ℕ → Option F → Type 0) → (F → Option (List ℕ))
+    → (F → Bool) → List (List ℕ) → Told D → Told D → Error
     → Type 0
-IsRefusal opens left failed words old new e =
+IsCommandError opens left failed words old new e =
     ((words ≡ []) × (e ≡ IoError) × (has_failed new ≡ true))
-    ⊎ ((command : Command) × IsCommandOf words command × IsFileRefusal opens left failed (path_of command) old new e)
+    ⊎ ((command : Command) × IsCommandOf words command
+    × IsFileError opens left failed (path_of command) old new e)
 
--- the device took a text whole; or it has failed, and took a beginning of it
+-- the device took all of a text; or it has failed, and took a prefix of it
 abbrev pub IsTold : {D : Type 0} → (D → Option (List ℕ)) → Told D → Told D → List ℕ → Type 0
-IsTold contents old new text = PutsAll contents old new text ⊎ (PutsBeginning contents old new text × (has_failed new ≡ true))
+IsTold contents old new text =
+    PutsAll contents old new text ⊎ (PutsPrefix contents old new text × (has_failed new ≡ true))
 
--- a refusal as a line
-abbrev pub refusal_line : Error → List ℕ
-refusal_line e = refusal_name e ++ codes "\n"
+-- the name of an error, as a line
+abbrev pub name_line : Error → List ℕ
+name_line e = name_of_error e ++ codes "\n"
 
--- What a run of the program with these words wrote, by its status.
--- 0: the output took what the words ask for.
--- 1: there was an error, whose name the errors took. The output is as it was, or took a beginning of what the words ask for.
--- 2: the words are no command, and the errors took the usage.
-pub record IsRun {F O E : Type 0} (opens : List ℕ → Option F → Type 0) (left : F → Option (List ℕ)) (failed : F → Bool) (output : O → Option (List ℕ))
-    (errors : E → Option (List ℕ)) (words : List (List ℕ)) (out_old out_new : Told O) (err_old err_new : Told E) (status : ℕ) : Type 0 where
+-- What a run of the program with these words wrote, by its status. 0: the output took what the
+-- words ask for. 1: there was an error, whose name standard error took. The output is as it was, or
+-- took a prefix of what the words ask for. 2: the words are no command, and standard error took the
+-- usage.
+pub record IsRun {F O E : Type 0} (opens : List ℕ → Option F → Type 0) (left : F → Option (List ℕ))
+    (failed : F → Bool) (output : O → Option (List ℕ))
+    (errors : E → Option (List ℕ)) (words : List (List ℕ)) (out_old out_new : Told O)
+    (err_old err_new : Told E) (status : ℕ) : Type 0 where
   pub known : status ≤ 2
-  pub done : status ≡ 0 → TookAll (IsAnswer opens left words) output out_old out_new × (err_new ≡ err_old)
-  pub refused : status ≡ 1
-      → TookBeginning (IsAnswer opens left words) output out_old out_new
-      × ((e : Error) × IsRefusal opens left failed words out_old out_new e × IsTold errors err_old err_new (refusal_line e))
+  pub done : status ≡ 0 → TookAll (IsAnswer opens left words) output out_old out_new
+      × (err_new ≡ err_old)
+  pub failure : status ≡ 1
+      → TookPrefix (IsAnswer opens left words) output out_old out_new
+      × ((e : Error) × IsCommandError opens left failed words out_old out_new e
+      × IsTold errors err_old err_new (name_line e))
   pub usage : status ≡ 2 → (out_new ≡ out_old) × IsTold errors err_old err_new usage
   pub bad : status ≡ 2 ↔ ((0 < length words) × ¬ (IsCommand words))
 
--- memory for the words ran out: the errors took that refusal, and the output nothing
-abbrev pub IsWantOfMemory : {O E : Type 0} → (E → Option (List ℕ)) → Told O → Told O → Told E → Told E → ℕ → Type 0
-IsWantOfMemory errors out_old out_new err_old err_new status =
-    (status ≡ 1) × (out_new ≡ out_old) × IsTold errors err_old err_new (refusal_line OutOfMemory)
+-- there was no memory for the words: standard error took the name `OutOfMemory`, and the output
+-- nothing
+abbrev pub IsOutOfMemory : {O E : Type 0} → (E → Option (List ℕ)) → Told O → Told O → Told E
+    → Told E → ℕ → Type 0
+IsOutOfMemory errors out_old out_new err_old err_new status =
+    (status ≡ 1) × (out_new ≡ out_old) × IsTold errors err_old err_new (name_line OutOfMemory)
 
--- the words are no command: the errors took the usage, and the output nothing
-abbrev pub IsNoCommand : {O E : Type 0} → (E → Option (List ℕ)) → Told O → Told O → Told E → Told E → ℕ → Type 0
-IsNoCommand errors out_old out_new err_old err_new status = (status ≡ 2) × (out_new ≡ out_old) × IsTold errors err_old err_new usage
+-- the words are no command: standard error took the usage, and the output nothing
+abbrev pub IsNoCommand : {O E : Type 0} → (E → Option (List ℕ)) → Told O → Told O → Told E → Told E
+    → ℕ → Type 0
+IsNoCommand errors out_old out_new err_old err_new status =
+    (status ≡ 2) × (out_new ≡ out_old) × IsTold errors err_old err_new usage

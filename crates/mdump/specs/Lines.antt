@@ -6,19 +6,21 @@ use Rattle.minidump.specs.Below.Bytes.Piece.{hex}
 use Rattle.minidump.specs.declared.Range.{Range}
 use Rattle.minidump.specs.Below.Index.Lookup.{IsLookedUp}
 use Rattle.minidump.specs.Below.MemoryLists.Unified.{UnifiedRegion}
-use Rattle.minidump.specs.Below.MemoryLists.UnifiedInfo.{InfoRegion, info_region_range}
+use Rattle.minidump.specs.Below.MemoryLists.UnifiedInfo.{InfoRegion, range_of_info_region}
 use Rattle.minidump.specs.Below.Modules.Module.{ModuleValue}
 
 -- a region of memory, by its first address and its size
 abbrev pub region_line : ℕ → ℕ → List ℕ
 region_line base size = concat (codes "memory " ∷ hex base ∷ codes " " ∷ hex size ∷ codes "\n" ∷ [])
 
--- the region of memory that was found, or that there is none. The size of a 64-bit list's region is in full
+-- the region of memory that was found, or that there is none. The size of a 64-bit list's region is
+-- in full
 abbrev pub memory_line : Option UnifiedRegion → List ℕ
 memory_line (Some region) = region_line region.base_address region.size
 memory_line None = codes "memory none\n"
 
--- the module that was found, by its first address, its size and its name, or that there is none. The name is as it is, line feeds included
+-- the module that was found, by its first address, its size and its name, or that there is none.
+-- The name is as it is, line feeds included
 abbrev pub module_line : Option ModuleValue → List ℕ
 module_line (Some m) = concat (codes "module " ∷ hex m.raw.base_of_image ∷ codes " " ∷ hex m.raw.size_of_image ∷ codes " " ∷ m.name ∷ codes "\n" ∷ [])
 module_line None = codes "module none\n"
@@ -28,15 +30,18 @@ abbrev pub range_line : Option Range → List ℕ
 range_line (Some range) = concat (codes "info " ∷ hex range.start ∷ codes " " ∷ hex range.end ∷ codes "\n" ∷ [])
 range_line None = codes "info none\n"
 
--- the region of the information on memory that was found
+-- the line of the region that was found in the memory information or the maps, or that there is
+-- none
 abbrev pub info_line : Option InfoRegion → List ℕ
-info_line found = range_line (option_and_then info_region_range found)
+info_line found = range_line (option_and_then range_of_info_region found)
 
--- what a lookup in the list of a dump answers, and none of a dump whose list is missing or malformed
-abbrev pub IsAt : {R : Type 0} → (R → Option Range) → Option (List R) → ℕ → Option R → Type 0
-IsAt range (Some regions) address found = IsLookedUp range regions address found
-IsAt range None address found = found ≡ None
+-- the result of a lookup in the list of a dump: none of a dump whose list is missing or malformed
+abbrev pub IsLookedUpIn : {R : Type 0} → (R → Option Range) → Option (List R) → ℕ → Option R
+    → Type 0
+IsLookedUpIn range (Some regions) address found = IsLookedUp range regions address found
+IsLookedUpIn range None address found = found ≡ None
 
 -- a line, and then other lines
-abbrev pub Joined : (List ℕ → Type 0) → (List ℕ → Type 0) → List ℕ → Type 0
-Joined IsFirst IsRest text = (first rest : List ℕ) × IsFirst first × IsRest rest × (text ≡ first ++ rest)
+abbrev pub IsJoinOf : (List ℕ → Type 0) → (List ℕ → Type 0) → List ℕ → Type 0
+IsJoinOf IsFirst IsRest text =
+    (first rest : List ℕ) × IsFirst first × IsRest rest × (text ≡ first ++ rest)

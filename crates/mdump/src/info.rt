@@ -1,9 +1,10 @@
-ghost use Rattle.std.specs.Prelude.{◌≡◌, ◌⊎◌, IfErr, IfOk};
+ghost use Rattle.std.specs.Prelude.{◌≡◌, IfErr, IfOk};
 ghost use Rattle.std.specs.Option.{option_and_then, option_copied, option_map};
-ghost use Rattle.minidump.specs.Below.MemoryLists.UnifiedInfo.{info_list, info_region, info_region_range, info_regions};
+ghost use Rattle.minidump.specs.Below.MemoryLists.UnifiedInfo.{info_list, info_region};
+ghost use Rattle.minidump.specs.Below.MemoryLists.UnifiedInfo.{range_of_info_region, info_regions};
 ghost use Rattle.minidump.specs.DumpValue.{dump_of};
-ghost use Rattle.mdump.specs.Done.{IsInfoLine, IsOutputRefusal, Writes, info_of_dump};
-ghost use Rattle.mdump.specs.Lines.{IsAt};
+ghost use Rattle.mdump.specs.Done.{IsInfoLine, IsOutputError, Writes, info_of_dump};
+ghost use Rattle.mdump.specs.Lines.{IsLookedUpIn};
 
 use minidump::text::{Piece, Pushed, print_item, push_pieces};
 use minidump::{
@@ -20,8 +21,9 @@ pub(crate) fn info_line<O: Write>(
     address: u64,
     out: &mut Told<O>,
 ) -> Result<(), Error>
-    ensures written { Writes (IsInfoLine (dump_of dump.now) address) O.contents out.old out.new result }
-    ensures refusal { IfErr result (IsOutputRefusal out.old out.new) }
+    ensures written { Writes (IsInfoLine (dump_of dump.now) address) O.contents
+        out.old out.new result }
+    ensures error { IfErr result (IsOutputError out.old out.new) }
 {
     let infos = information(dump, alloc)?;
     let found = info_at(infos.as_ref(), address);
@@ -33,7 +35,8 @@ fn information<'a>(
     dump: &Minidump<'a>,
     alloc: Global,
 ) -> Result<Option<UnifiedMemoryInfoList<'a>>, Error>
-    ensures list { IfOk result (λ list. option_map info_list list ≡ info_of_dump (dump_of dump.now)) }
+    ensures list { IfOk result (λ list. option_map info_list list
+        ≡ info_of_dump (dump_of dump.now)) }
     ensures memory { IfErr result (λ e. e ≡ Error.OutOfMemory) }
 {
     match dump.find_stream::<MinidumpMemoryInfoList>(alloc)? {
@@ -50,7 +53,8 @@ fn info_at<'s, 'a>(
     infos: Option<&'s UnifiedMemoryInfoList<'a>>,
     address: u64,
 ) -> Option<UnifiedMemoryInfo<'s, 'a>>
-    ensures { IsAt info_region_range (option_map info_regions (option_map info_list (option_copied infos.entry))) address
+    ensures { IsLookedUpIn range_of_info_region
+        (option_map info_regions (option_map info_list (option_copied infos.entry))) address
         (option_map info_region result) }
 {
     infos?.memory_info_at_address(address)
@@ -58,7 +62,7 @@ fn info_at<'s, 'a>(
 
 // Returns the range of a region.
 fn range_of(found: Option<UnifiedMemoryInfo<'_, '_>>) -> Option<Range>
-    ensures { result ≡ option_and_then info_region_range (option_map info_region found.entry) }
+    ensures { result ≡ option_and_then range_of_info_region (option_map info_region found.entry) }
 {
     found?.memory_range()
 }

@@ -1,10 +1,11 @@
-ghost use Rattle.std.specs.Prelude.{◌≡◌, ◌⊎◌, IfErr};
+ghost use Rattle.std.specs.Prelude.{IfErr};
 ghost use Rattle.std.specs.Option.{option_copied, option_map};
-ghost use Rattle.minidump.specs.Below.MemoryLists.Memory.{region_range};
-ghost use Rattle.minidump.specs.Below.MemoryLists.Unified.{unified_list, unified_region, unified_regions};
+ghost use Rattle.minidump.specs.Below.MemoryLists.Memory.{range_of_region};
+ghost use Rattle.minidump.specs.Below.MemoryLists.Unified.{unified_list, unified_region};
+ghost use Rattle.minidump.specs.Below.MemoryLists.Unified.{unified_regions};
 ghost use Rattle.minidump.specs.DumpValue.{dump_of};
-ghost use Rattle.mdump.specs.Done.{IsMemoryLine, IsOutputRefusal, Writes};
-ghost use Rattle.mdump.specs.Lines.{IsAt};
+ghost use Rattle.mdump.specs.Done.{IsMemoryLine, IsOutputError, Writes};
+ghost use Rattle.mdump.specs.Lines.{IsLookedUpIn};
 
 use minidump::text::{Piece, Pushed, print_item, push_pieces};
 use minidump::{Error, Minidump, Told, UnifiedMemory, UnifiedMemoryList};
@@ -18,8 +19,9 @@ pub(crate) fn memory_line<O: Write>(
     address: u64,
     out: &mut Told<O>,
 ) -> Result<(), Error>
-    ensures written { Writes (IsMemoryLine (dump_of dump.now) address) O.contents out.old out.new result }
-    ensures refusal { IfErr result (IsOutputRefusal out.old out.new) }
+    ensures written { Writes (IsMemoryLine (dump_of dump.now) address) O.contents
+        out.old out.new result }
+    ensures error { IfErr result (IsOutputError out.old out.new) }
 {
     let memory = dump.get_memory(alloc)?;
     let found = memory_at(memory.as_ref(), address);
@@ -31,7 +33,8 @@ fn memory_at<'s, 'a>(
     memory: Option<&'s UnifiedMemoryList<'a>>,
     address: u64,
 ) -> Option<UnifiedMemory<'s, 'a>>
-    ensures { IsAt region_range (option_map unified_regions (option_map unified_list (option_copied memory.entry))) address
+    ensures { IsLookedUpIn range_of_region (option_map unified_regions
+        (option_map unified_list (option_copied memory.entry))) address
         (option_map unified_region result) }
 {
     memory?.memory_at_address(address)

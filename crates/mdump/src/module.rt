@@ -1,10 +1,10 @@
-ghost use Rattle.std.specs.Prelude.{◌≡◌, ◌⊎◌, IfErr};
+ghost use Rattle.std.specs.Prelude.{IfErr};
 ghost use Rattle.std.specs.Option.{option_copied, option_map};
-ghost use Rattle.minidump.specs.Below.Modules.Module.{module_of, value_range};
+ghost use Rattle.minidump.specs.Below.Modules.Module.{module_of, range_of_module};
 ghost use Rattle.minidump.specs.Below.Modules.ModuleList.{module_list_of};
 ghost use Rattle.minidump.specs.DumpValue.{dump_of};
-ghost use Rattle.mdump.specs.Done.{IsModuleLine, IsOutputRefusal, Writes};
-ghost use Rattle.mdump.specs.Lines.{IsAt};
+ghost use Rattle.mdump.specs.Done.{IsModuleLine, IsOutputError, Writes};
+ghost use Rattle.mdump.specs.Lines.{IsLookedUpIn};
 
 use minidump::text::{Piece, Pushed, print_item, push_pieces};
 use minidump::{Error, Minidump, MinidumpModule, MinidumpModuleList, Told};
@@ -18,8 +18,9 @@ pub(crate) fn module_line<O: Write>(
     address: u64,
     out: &mut Told<O>,
 ) -> Result<(), Error>
-    ensures written { Writes (IsModuleLine (dump_of dump.now) address) O.contents out.old out.new result }
-    ensures refusal { IfErr result (IsOutputRefusal out.old out.new) }
+    ensures written { Writes (IsModuleLine (dump_of dump.now) address) O.contents
+        out.old out.new result }
+    ensures error { IfErr result (IsOutputError out.old out.new) }
 {
     let modules = dump.find_stream::<MinidumpModuleList>(alloc)?;
     let found = module_at(modules.as_ref(), address);
@@ -28,7 +29,8 @@ pub(crate) fn module_line<O: Write>(
 
 // Finds the module that contains the address.
 fn module_at(modules: Option<&MinidumpModuleList>, address: u64) -> Option<&MinidumpModule>
-    ensures { IsAt value_range (option_map module_list_of (option_copied modules.entry)) address
+    ensures { IsLookedUpIn range_of_module (option_map module_list_of
+        (option_copied modules.entry)) address
         (option_map module_of (option_copied result)) }
 {
     modules?.module_at_address(address)

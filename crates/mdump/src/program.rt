@@ -2,7 +2,9 @@ ghost use Rattle.std.specs.Prelude.{◌≡◌, ◌<◌, IfErr, IfNone, IfSome, l
 ghost use Rattle.minidump.specs.Below.Format.Print.{Prints};
 ghost use Rattle.minidump.specs.DumpValue.{dump_of};
 ghost use Rattle.mdump.specs.Command.{IsCommand};
-ghost use Rattle.mdump.specs.Done.{AreLastLines, AreLines, AreLinesOf, IsAnswer, IsDirectoryText, IsFileRefusal, IsOutputRefusal, IsRefusal, IsReportText, IsRun, IsTextOf, IsTold, Writes, path_of, refusal_line, usage};
+ghost use Rattle.mdump.specs.Done.{AreLastLines, AreLines, AreLinesOf, IsAnswer, IsDirectoryText};
+ghost use Rattle.mdump.specs.Done.{IsFileError, IsOutputError, IsCommandError, IsReportText, IsRun};
+ghost use Rattle.mdump.specs.Done.{IsTextOf, IsTold, Writes, path_of, name_line, usage};
 
 use crate::command::Command;
 use crate::info::info_line;
@@ -19,12 +21,13 @@ const USAGE: &str = "usage: mdump dir FILE | at FILE HEXADDRESS | report FILE\n"
 ///
 /// - No arguments: writes the usage to `out`. The status is 0.
 /// - `dir FILE`: writes the header and the directory of the file to `out`. The status is 0.
-/// - `at FILE HEXADDRESS`: writes the region of memory that contains the address to `out`, then the module,
-///   and then the region by the memory information or the maps, each as a line. The address is 1 to 16
-///   hexadecimal digits, alone or behind `0x`. The status is 0.
-/// - `report FILE`: writes the report on the file to `out`, as [`minidump::write_report`] does without names
-///   of codes. The status is 0.
-/// - An error: writes its name to `err`. The status is 1. A failure of `out` is the error `IoError`.
+/// - `at FILE HEXADDRESS`: writes the region of memory that contains the address to `out`, then the
+///   module, and then the region by the memory information or the maps, each as a line. The address
+///   is 1 to 16 hexadecimal digits, alone or after `0x`. The status is 0.
+/// - `report FILE`: writes the report on the file to `out`, as [`minidump::write_report`] does
+///   without names of codes. The status is 0.
+/// - An error: writes its name to `err`. The status is 1. A failure of `out` is the error
+///   `IoError`.
 /// - Other arguments: writes the usage to `err`. The status is 2.
 ///
 /// A failure of `err` does not change the status.
@@ -34,31 +37,35 @@ pub fn run<R: OpenPath + AllocGlobal, O: Write, E: Write>(
     out: &mut Told<O>,
     err: &mut Told<E>,
 ) -> u8
-    ensures { IsRun (R.opens rt.now) R.File.left R.File.failed O.contents E.contents (map string_bytes words.now)
+    ensures { IsRun (R.opens rt.now) R.File.left R.File.failed O.contents E.contents
+        (map string_bytes words.now)
         out.old out.new err.old err.new result }
 {
-    match answered(rt, words, out) {
+    match answer(rt, words, out) {
         None => bad_arguments(err),
         Some(answer) => match answer {
             Ok(()) => 0,
-            Err(error) => refused(error, err),
+            Err(error) => fail_with(error, err),
         },
     }
 }
 
-// Obeys the words, or returns `None` if they are no command.
-fn answered<R: OpenPath + AllocGlobal, O: Write>(
+// Obeys the words. Returns `None` if they are no command.
+fn answer<R: OpenPath + AllocGlobal, O: Write>(
     rt: &R,
     words: &[String],
     out: &mut Told<O>,
 ) -> Option<Result<(), Error>>
     ensures written { IfSome result
-        (Writes (IsAnswer (R.opens rt.now) R.File.left (map string_bytes words.now)) O.contents out.old out.new) }
-    ensures refusal { IfSome result (λ r. IfErr r
-        (IsRefusal (R.opens rt.now) R.File.left R.File.failed (map string_bytes words.now) out.old out.new)) }
+        (Writes (IsAnswer (R.opens rt.now) R.File.left
+        (map string_bytes words.now)) O.contents out.old out.new) }
+    ensures error { IfSome result (λ r. IfErr r
+        (IsCommandError (R.opens rt.now) R.File.left R.File.failed
+        (map string_bytes words.now) out.old out.new)) }
     ensures command { IfSome result
         (λ _. (0 < length words.now) → ¬ (IsCommand (map string_bytes words.now)) → ⊥) }
-    ensures none { IfNone result ((0 < length words.now) × ¬ (IsCommand (map string_bytes words.now))
+    ensures none { IfNone result ((0 < length words.now)
+        × ¬ (IsCommand (map string_bytes words.now))
         × (out.new ≡ out.old)) }
 {
     if words.is_empty() {
@@ -73,9 +80,11 @@ fn obey<R: OpenPath + AllocGlobal, O: Write>(
     command: Command<'_>,
     out: &mut Told<O>,
 ) -> Result<(), Error>
-    ensures written { Writes (IsTextOf (R.opens rt.now) R.File.left command.entry) O.contents out.old out.new result }
-    ensures refusal { IfErr result
-        (IsFileRefusal (R.opens rt.now) R.File.left R.File.failed (path_of command.entry) out.old out.new) }
+    ensures written { Writes (IsTextOf (R.opens rt.now) R.File.left command.entry) O.contents
+        out.old out.new result }
+    ensures error { IfErr result
+        (IsFileError (R.opens rt.now) R.File.left R.File.failed
+        (path_of command.entry) out.old out.new) }
 {
     match command {
         Command::Dir(path) => dir(rt, path, out),
@@ -89,8 +98,10 @@ fn dir<R: OpenPath + AllocGlobal, O: Write>(
     path: &str,
     out: &mut Told<O>,
 ) -> Result<(), Error>
-    ensures written { Writes (IsDirectoryText (R.opens rt.now) R.File.left path.now) O.contents out.old out.new result }
-    ensures refusal { IfErr result (IsFileRefusal (R.opens rt.now) R.File.left R.File.failed path.now out.old out.new) }
+    ensures written { Writes (IsDirectoryText
+        (R.opens rt.now) R.File.left path.now) O.contents out.old out.new result }
+    ensures error { IfErr result (IsFileError
+        (R.opens rt.now) R.File.left R.File.failed path.now out.old out.new) }
 {
     let alloc = rt.alloc();
     let mut bytes = Vec::new(alloc);
@@ -104,8 +115,10 @@ fn at<R: OpenPath + AllocGlobal, O: Write>(
     address: u64,
     out: &mut Told<O>,
 ) -> Result<(), Error>
-    ensures written { Writes (AreLines (R.opens rt.now) R.File.left path.now address) O.contents out.old out.new result }
-    ensures refusal { IfErr result (IsFileRefusal (R.opens rt.now) R.File.left R.File.failed path.now out.old out.new) }
+    ensures written { Writes (AreLines (R.opens rt.now) R.File.left path.now address) O.contents
+        out.old out.new result }
+    ensures error { IfErr result (IsFileError
+        (R.opens rt.now) R.File.left R.File.failed path.now out.old out.new) }
 {
     let alloc = rt.alloc();
     let mut bytes = Vec::new(alloc);
@@ -118,8 +131,10 @@ fn report<R: OpenPath + AllocGlobal, O: Write>(
     path: &str,
     out: &mut Told<O>,
 ) -> Result<(), Error>
-    ensures written { Writes (IsReportText (R.opens rt.now) R.File.left path.now) O.contents out.old out.new result }
-    ensures refusal { IfErr result (IsFileRefusal (R.opens rt.now) R.File.left R.File.failed path.now out.old out.new) }
+    ensures written { Writes (IsReportText (R.opens rt.now) R.File.left path.now) O.contents
+        out.old out.new result }
+    ensures error { IfErr result (IsFileError
+        (R.opens rt.now) R.File.left R.File.failed path.now out.old out.new) }
 {
     let alloc = rt.alloc();
     let mut bytes = Vec::new(alloc);
@@ -134,8 +149,9 @@ fn lines<O: Write>(
     address: u64,
     out: &mut Told<O>,
 ) -> Result<(), Error>
-    ensures written { Writes (AreLinesOf (dump_of dump.now) address) O.contents out.old out.new result }
-    ensures refusal { IfErr result (IsOutputRefusal out.old out.new) }
+    ensures written { Writes (AreLinesOf (dump_of dump.now) address) O.contents
+        out.old out.new result }
+    ensures error { IfErr result (IsOutputError out.old out.new) }
 {
     laws::module_laws();
     laws::region_laws::<()>();
@@ -143,15 +159,16 @@ fn lines<O: Write>(
     last_lines(dump, alloc, address, out)
 }
 
-// Writes the lines behind that of the memory.
+// Writes the lines after that of the memory.
 fn last_lines<O: Write>(
     dump: &Minidump<'_>,
     alloc: Global,
     address: u64,
     out: &mut Told<O>,
 ) -> Result<(), Error>
-    ensures written { Writes (AreLastLines (dump_of dump.now) address) O.contents out.old out.new result }
-    ensures refusal { IfErr result (IsOutputRefusal out.old out.new) }
+    ensures written { Writes (AreLastLines (dump_of dump.now) address) O.contents
+        out.old out.new result }
+    ensures error { IfErr result (IsOutputError out.old out.new) }
 {
     laws::region_laws::<()>();
     module_line(dump, alloc, address, out)?;
@@ -159,17 +176,17 @@ fn last_lines<O: Write>(
 }
 
 /// Writes the name of an error to `err`, and returns the status.
-pub(crate) fn refused<E: Write>(error: Error, err: &mut Told<E>) -> u8
+pub(crate) fn fail_with<E: Write>(error: Error, err: &mut Told<E>) -> u8
     ensures status { result ≡ 1 }
-    ensures named { IsTold E.contents err.old err.new (refusal_line error) }
+    ensures named { IsTold E.contents err.old err.new (name_line error) }
 {
     let _ = put_name(error, err);
     1
 }
 
 fn put_name<E: Write>(error: Error, err: &mut Told<E>) -> Result<(), Error>
-    ensures prints { Prints E.contents err.old err.new (refusal_line error) result }
-    ensures refusal { IfErr result (λ e. e ≡ Error.IoError) }
+    ensures prints { Prints E.contents err.old err.new (name_line error) result }
+    ensures error { IfErr result (λ e. e ≡ Error.IoError) }
 {
     match put_text(err, error.name()) {
         Ok(()) => put_text(err, "\n"),

@@ -23,7 +23,7 @@ const USAGE: &str = "usage: mdump dir FILE | at FILE HEXADDRESS | report FILE\n"
 // The words of a run; its status, what the output took, and what the errors took.
 type Row = (&'static [&'static str], u8, &'static str, &'static str);
 
-fn words_of(alloc: Global, words: &[&str]) -> Result<Vec<String>, AllocError> {
+fn strings_of(alloc: Global, words: &[&str]) -> Result<Vec<String>, AllocError> {
     let mut owned = Vec::new(alloc);
     for word in words {
         owned.push(String::from_str(alloc, *word)?)?;
@@ -33,7 +33,7 @@ fn words_of(alloc: Global, words: &[&str]) -> Result<Vec<String>, AllocError> {
 
 fn answers(rt: &HostRuntime, row: &Row) -> Result<bool, AllocError> {
     let (words, status, text, error) = *row;
-    let owned = words_of(rt.alloc(), words)?;
+    let owned = strings_of(rt.alloc(), words)?;
     let mut out = Told::new(Vec::new(rt.alloc()));
     let mut err = Told::new(Vec::new(rt.alloc()));
     let found = run(rt, owned.as_slice(), &mut out, &mut err);
@@ -44,7 +44,8 @@ fn answers(rt: &HostRuntime, row: &Row) -> Result<bool, AllocError> {
     )
 }
 
-// Writes a file of a test's own, tells whether each run of the rows answers so, and removes the file.
+// Writes a file of a test's own, tells whether each run of the rows answers so, and removes the
+// file.
 fn answers_of(rt: &HostRuntime, path: &str, bytes: &[u8], rows: &[Row]) -> Result<bool, Fail> {
     fs::write(rt, path, bytes)?;
     let mut holds = true;
@@ -72,16 +73,16 @@ const NO_FILES: &[Row] = &[
     (&["report", "."], 1, "", "IoError\n"),
 ];
 
-fn is_refused(rt: &HostRuntime, bytes: &[u8], name: &'static str) -> Result<bool, Fail> {
+fn is_error(rt: &HostRuntime, bytes: &[u8], name: &'static str) -> Result<bool, Fail> {
     let rows = [
-        (&["dir", "names_refusals.dmp"][..], 1, "", name),
-        (&["report", "names_refusals.dmp"][..], 1, "", name),
+        (&["dir", "names_errors.dmp"][..], 1, "", name),
+        (&["report", "names_errors.dmp"][..], 1, "", name),
     ];
-    answers_of(rt, "names_refusals.dmp", bytes, &rows)
+    answers_of(rt, "names_errors.dmp", bytes, &rows)
 }
 
 #[test]
-fn names_refusals(rt: HostRuntime) -> Result<(), Fail> {
+fn names_errors(rt: HostRuntime) -> Result<(), Fail> {
     for row in NO_FILES {
         assert!(rt; answers(&rt, row)?, "{}", row.3);
     }
@@ -93,7 +94,7 @@ fn names_refusals(rt: HostRuntime) -> Result<(), Fail> {
         (&one_stream_with_byte(12, 0x25)[..], "MissingDirectory\n"),
         (&ONE_STREAM[..40], "MissingDirectory\n"),
     ] {
-        assert!(rt; is_refused(&rt, *bytes, *name)?, "{name}");
+        assert!(rt; is_error(&rt, *bytes, *name)?, "{name}");
     }
     Ok(())
 }
@@ -243,8 +244,8 @@ const NO_MODULES: &[Row] = &[(
     "",
 )];
 
-// The second has the addresses of the first, the third and the fourth share some with it, and the last
-// begins where the first ends.
+// The second has the addresses of the first, the third and the fourth share some with it, and the
+// last begins where the first ends.
 const FIVE: &[(u64, u32, &str)] = &[
     (0x1_0000_0000, 0x4000, "module 1"),
     (0x1_0000_0000, 0x4000, "module 2"),
@@ -338,7 +339,7 @@ const TO_A_FULL_OUTPUT: &[&[&str]] = &[
 
 // Tells whether a full output is the error of these words.
 fn is_reported(rt: &HostRuntime, words: &[&str]) -> Result<bool, AllocError> {
-    let owned = words_of(rt.alloc(), words)?;
+    let owned = strings_of(rt.alloc(), words)?;
     let mut err = Told::new(Vec::new(rt.alloc()));
     let status = run(rt, owned.as_slice(), &mut Told::new(Full::new()), &mut err);
     Ok(status == 1 && err.into_device().as_slice() == b"IoError\n".as_slice())
@@ -346,7 +347,7 @@ fn is_reported(rt: &HostRuntime, words: &[&str]) -> Result<bool, AllocError> {
 
 // A failure of the errors changes no status.
 fn is_status_2(rt: &HostRuntime) -> Result<bool, AllocError> {
-    let owned = words_of(rt.alloc(), &["dir"])?;
+    let owned = strings_of(rt.alloc(), &["dir"])?;
     let mut out = Told::new(Vec::new(rt.alloc()));
     Ok(run(rt, owned.as_slice(), &mut out, &mut Told::new(Full::new())) == 2)
 }

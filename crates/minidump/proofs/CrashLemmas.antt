@@ -1,11 +1,10 @@
 -- Lemmas on the last error of a thread.
-use Rattle.std.specs.Prelude.{◌≡◌, ℕ, Bool, true, false, List, [], ◌∷◌, map, find, reverse, Option, Some, None, Ok, Err, Result}
-use Rattle.std.proofs.Common.{refl, sym, ◌∙◌, ap, cond}
+use Rattle.std.specs.Prelude.{◌≡◌, ℕ, Bool, true, false, List, [], ◌∷◌, map, find, reverse, Option, Some, None}
+use Rattle.std.proofs.Common.{refl, ◌∙◌, ap, cond}
 use Rattle.std.proofs.lemmas.List.{reverse-append}
 use Rattle.std.specs.Option.{option_and_then, option_map, option_or}
 use Rattle.std.proofs.lemmas.List.Folds.{find-append}
-use Rattle.minidump_format.specs.declared.error.Error.{Error}
-use Rattle.minidump_memory.specs.Memory.{region_range}
+use Rattle.minidump_memory.specs.Memory.{range_of_region}
 use Rattle.minidump_memory.specs.Unified.{UnifiedRegions, unified_regions}
 use Rattle.minidump_reason.specs.declared.reason.CrashReason.{CrashReason}
 use Rattle.minidump_reason.specs.Names.{Lists}
@@ -19,7 +18,7 @@ one_error : (names : Lists) (memory : UnifiedRegions) (address : Option ℕ) (fo
     → found ≡ error_in names memory address
 one_error names memory None found is = is
 one_error names memory (Some address) found (region, looks, is) =
-    is ∙ ap (λ r. error_at names address r) (is_looked_up region_range (unified_regions memory) address region looks)
+    is ∙ ap (λ r. error_at names address r) (is_looked_up range_of_region (unified_regions memory) address region looks)
 
 -- the last error of the last thread of an id
 pub thread_error : (names : Lists) (cpu : Cpu) (id : ℕ) (lists : Option (List Thread)) (memories : Option UnifiedRegions)
@@ -29,14 +28,6 @@ pub thread_error : (names : Lists) (cpu : Cpu) (id : ℕ) (lists : Option (List 
     (last_with id threads)) lists
 thread_error names cpu id lists memories list thread memory found listed last held is =
     rw (listed, last, held) (one_error names memory (last_error_address cpu thread.raw.teb) found is)
-
-abbrev value_or : {V : Type 0} → V → Result V Error → V
-value_or x (Ok y) = y
-value_or x (Err e) = x
-
--- an answer that is known twice
-pub ok_same : {V : Type 0} (x y : V) (the : Result V Error) → the ≡ Ok x → the ≡ Ok y → x ≡ y
-ok_same x y the one other = ap (value_or x) (sym one ∙ other)
 
 module _ {A B : Type 0} (f : A → B) (p : B → Bool) where
   either : (o : Option A) (found : Option B) (b : Bool) (x : A) → option_map f o ≡ found

@@ -20,7 +20,7 @@ use Rattle.minidump_format.specs.declared.format.header.MINIDUMP_DIRECTORY.{MINI
 use Rattle.minidump_bytes.proofs.ListLemmas.{enumerate_from-append}
 use Rattle.minidump_bytes.proofs.KeyLemmas.{lookup_number, values_by_key}
 use Rattle.minidump.specs.declared.directory.DecidingEntry.{DecidingEntry}
-use Rattle.minidump.specs.Directory.{indexed, deciding, deciding_below}
+use Rattle.minidump.specs.Directory.{with_indices, deciding_entry, deciding_entries_below}
 use Rattle.minidump.specs.Deciding.{AreLast, Decides, ends_a_type, is_of_type, type_of}
 
 -- ---- the entries by index
@@ -29,24 +29,24 @@ abbrev at_index : ℕ × MINIDUMP_DIRECTORY → DecidingEntry
 at_index p = record { index = p.0; entry = p.1 }
 
 -- one entry more, whose index is how many there were
-pub indexed-more : (es : List MINIDUMP_DIRECTORY) (e : MINIDUMP_DIRECTORY) → indexed (es ++ e ∷ []) ≡ indexed es ++ record { index = length es; entry = e } ∷ []
-indexed-more es e =
+pub with_indices-more : (es : List MINIDUMP_DIRECTORY) (e : MINIDUMP_DIRECTORY) → with_indices (es ++ e ∷ []) ≡ with_indices es ++ record { index = length es; entry = e } ∷ []
+with_indices-more es e =
     ap (map at_index) (enumerate_from-append 0 es (e ∷ []))
     ∙ map-append at_index (enumerate_from 0 es) (enumerate_from (0 + length es) (e ∷ []))
-    ∙ ap (λ k. indexed es ++ record { index = k; entry = e } ∷ []) (omega arith)
+    ∙ ap (λ k. with_indices es ++ record { index = k; entry = e } ∷ []) (omega arith)
 
-pub length-indexed : (es : List MINIDUMP_DIRECTORY) → length (indexed es) ≡ length es
-length-indexed es = length-map (enumerate_from 0 es) at_index ∙ length-enumerate_from 0 es
+pub length-with_indices : (es : List MINIDUMP_DIRECTORY) → length (with_indices es) ≡ length es
+length-with_indices es = length-map (enumerate_from 0 es) at_index ∙ length-enumerate_from 0 es
 
 -- it decides its own type, and no other
-pub deciding-more : (stream_type : ℕ) (es : List MINIDUMP_DIRECTORY) (e : MINIDUMP_DIRECTORY)
-    → deciding stream_type (es ++ e ∷ []) ≡ cond (e.stream_type == stream_type) (Some (record { index = length es; entry = e })) (deciding stream_type es)
-deciding-more stream_type es e = rw (indexed-more es e, reverse-append (indexed es) (record { index = length es; entry = e } ∷ [])) refl
+pub deciding_entry-more : (stream_type : ℕ) (es : List MINIDUMP_DIRECTORY) (e : MINIDUMP_DIRECTORY)
+    → deciding_entry stream_type (es ++ e ∷ []) ≡ cond (e.stream_type == stream_type) (Some (record { index = length es; entry = e })) (deciding_entry stream_type es)
+deciding_entry-more stream_type es e = rw (with_indices-more es e, reverse-append (with_indices es) (record { index = length es; entry = e } ∷ [])) refl
 
 -- only among some entries one decides
-pub deciding-among_some : (stream_type : ℕ) (es : List MINIDUMP_DIRECTORY) (d : DecidingEntry) → deciding stream_type es ≡ Some d → 0 < length es
-deciding-among_some stream_type [] d found = cc
-deciding-among_some stream_type (e ∷ es) d found = omega arith
+pub deciding_entry-among_some : (stream_type : ℕ) (es : List MINIDUMP_DIRECTORY) (d : DecidingEntry) → deciding_entry stream_type es ≡ Some d → 0 < length es
+deciding_entry-among_some stream_type [] d found = cc
+deciding_entry-among_some stream_type (e ∷ es) d found = omega arith
 
 -- ---- what is found of a type
 
@@ -160,7 +160,7 @@ last_of_type t (d ∷ ds) = elim (cases_eq (type_of d) t) [
   | inr other ↦ rw (ne_eqb (type_of d) t other) (other_is_passed t d ds other ∙ last_of_type t ds)
 ]
 
-pub decides : (es : List MINIDUMP_DIRECTORY) (all sorted ds : List DecidingEntry) → all ≡ indexed es → All (λ d. type_of d < 2 ^ 32) all
+pub decides : (es : List MINIDUMP_DIRECTORY) (all sorted ds : List DecidingEntry) → all ≡ with_indices es → All (λ d. type_of d < 2 ^ 32) all
     → ((t : ℕ) → of_type t sorted ≡ of_type t all) → AreLast sorted ds → Decides ds es
 decides es all sorted ds is small stable last = record {
   ascending = last.ascending;
@@ -169,30 +169,30 @@ decides es all sorted ds is small stable last = record {
   small = λ t large. ap (λ l. find (is_of_type t) (reverse l)) (sym is) ∙ none_reversed t all (λ k o within same. let low = small k o within in omega arith);
 }
 
-abbrev keyed : List DecidingEntry → List (ℕ × DecidingEntry)
-keyed ds = map (λ d. (type_of d, d)) ds
+abbrev with_keys : List DecidingEntry → List (ℕ × DecidingEntry)
+with_keys ds = map (λ d. (type_of d, d)) ds
 
-keys-keyed : (ds : List DecidingEntry) → keys_of (keyed ds) ≡ map type_of ds
-keys-keyed [] = refl
-keys-keyed (d ∷ ds) = ap (λ l. type_of d ∷ l) (keys-keyed ds)
+keys-with_keys : (ds : List DecidingEntry) → keys_of (with_keys ds) ≡ map type_of ds
+keys-with_keys [] = refl
+keys-with_keys (d ∷ ds) = ap (λ l. type_of d ∷ l) (keys-with_keys ds)
 
-values-keyed : (ds : List DecidingEntry) → values_of (keyed ds) ≡ ds
-values-keyed [] = refl
-values-keyed (d ∷ ds) = ap (λ l. d ∷ l) (values-keyed ds)
+values-with_keys : (ds : List DecidingEntry) → values_of (with_keys ds) ≡ ds
+values-with_keys [] = refl
+values-with_keys (d ∷ ds) = ap (λ l. d ∷ l) (values-with_keys ds)
 
-lookup-keyed : (t : ℕ) (ds : List DecidingEntry) → lookup (is_at (nat_cmp t)) (keyed ds) ≡ find (is_of_type t) ds
-lookup-keyed t ds = lookup_number t (keyed ds) ∙ by_type ds
+lookup-with_keys : (t : ℕ) (ds : List DecidingEntry) → lookup (is_at (nat_cmp t)) (with_keys ds) ≡ find (is_of_type t) ds
+lookup-with_keys t ds = lookup_number t (with_keys ds) ∙ by_type ds
   where
-    by_type : (ds : List DecidingEntry) → lookup (λ k. k == t) (keyed ds) ≡ find (is_of_type t) ds
+    by_type : (ds : List DecidingEntry) → lookup (λ k. k == t) (with_keys ds) ≡ find (is_of_type t) ds
     by_type [] = refl
     by_type (d ∷ ds) = ap (cond (type_of d == t) (Some d)) (by_type ds)
 
-pub deciding_below_is : (es : List MINIDUMP_DIRECTORY) (ds : List DecidingEntry) → Decides ds es → ds ≡ deciding_below (2 ^ 32) es
-unfolding deciding_below
-deciding_below_is es ds is =
-    sym (values-keyed ds)
-    ∙ values_by_key (λ t. deciding t es) (2 ^ 32) (keyed ds) (rw (keys-keyed ds) is.ascending)
-    (λ t. sym (is.at t) ∙ sym (lookup-keyed t ds)) (λ t large. lookup-keyed t ds ∙ is.at t ∙ is.small t large)
+pub deciding_entries_below_is : (es : List MINIDUMP_DIRECTORY) (ds : List DecidingEntry) → Decides ds es → ds ≡ deciding_entries_below (2 ^ 32) es
+unfolding deciding_entries_below
+deciding_entries_below_is es ds is =
+    sym (values-with_keys ds)
+    ∙ values_by_key (λ t. deciding_entry t es) (2 ^ 32) (with_keys ds) (rw (keys-with_keys ds) is.ascending)
+    (λ t. sym (is.at t) ∙ sym (lookup-with_keys t ds)) (λ t large. lookup-with_keys t ds ∙ is.at t ∙ is.small t large)
 
 -- ---- a binary search by type
 
@@ -229,12 +229,12 @@ module _ (ds : List DecidingEntry) (up : IsStrictlySortedBy nat_cmp (map type_of
       ] in
       grind (arith, nat_tests)
 
-  pub searched : (r : Result ℕ ℕ) → IsSearchInRange r (length ds) → IsBinarySearchResult (λ d. nat_cmp (type_of d) t) ds r
+  pub search_finds : (r : Result ℕ ℕ) → IsSearchInRange r (length ds) → IsBinarySearchResult (λ d. nat_cmp (type_of d) t) ds r
       → MatchResult r (λ k. (o : DecidingEntry) → find (is_of_type t) ds ≡ Some (get_or ds k o)) (λ k. find (is_of_type t) ds ≡ None)
-  searched (Ok k) within equal = λ o.
+  search_finds (Ok k) within equal = λ o.
       let here = ranked (type_of (get_or ds k o)) t _ (sym (equal o)) in
       find_some t ds k o (λ j lt same. let less = ascends ds up j k o lt within in omega (arith, less, here, same)) within here
-  searched (Err k) within parted = find_none t ds (λ j o h same. elim (cases_lt j k) [
+  search_finds (Err k) within parted = find_none t ds (λ j o h same. elim (cases_lt j k) [
     | inl before ↦ (let less = ranked _ t _ (sym ((parted comparisons_rise).0 j o (omega arith) before)) in omega (arith, less, same))
     | inr after ↦ (let more = ranked _ t _ (sym ((parted comparisons_rise).1 j o after h)) in omega (arith, more, same))
   ])
@@ -285,9 +285,9 @@ module _ (old now : List DecidingEntry) (i kept : ℕ) (within : i < length now)
       ap last_of_types (sym rest ∙ now_is) ∙ rw (sym (goes_on ∙ ap ends_a_type now_is)) refl in
       rw (← rest_more) (ap (λ l. take kept now ++ l) (sym here) ∙ before)
 
-pub all_kept : (old now : List DecidingEntry) (i kept : ℕ) → IsNonDecreasingBy type_of old → length old ≤ i
+pub kept_are_last : (old now : List DecidingEntry) (i kept : ℕ) → IsNonDecreasingBy type_of old → length old ≤ i
     → take kept now ++ last_of_types (drop i old) ≡ last_of_types old → AreLast old (take kept now)
-all_kept old now i kept up past all =
+kept_are_last old now i kept up past all =
     let kept_are : take kept now ≡ last_of_types old =
     sym (append-nil (take kept now)) ∙ ap (λ l. take kept now ++ last_of_types l) (sym (drop_all i old past)) ∙ all in
     subst (AreLast old) (sym kept_are) (are_last old up)

@@ -12,20 +12,20 @@ use Rattle.minidump_system.specs.Reads.{and_then}
 use Rattle.minidump_system.specs.StreamSpec.{StreamSpec}
 use Rattle.minidump_memory.specs.Memory.{MemoryRegion}
 use Rattle.minidump.specs.declared.directory.DecidingEntry.{DecidingEntry}
-use Rattle.minidump.specs.Directory.{deciding, directory}
+use Rattle.minidump.specs.Directory.{deciding_entry, directory}
 use Rattle.minidump.specs.Dump.{Dump, dump_system, raw_stream, stream_memory, stream_of}
 use Rattle.minidump.specs.Memory.{TakesMemory, memories_of_dump}
 use Rattle.minidump.specs.Promise.{memory64_list_stream, memory_list_stream}
-use Rattle.minidump.proofs.DirectoryLemmas.{deciding-among_some}
+use Rattle.minidump.proofs.DirectoryLemmas.{deciding_entry-among_some}
 
 -- where the bytes of a stream are found
 pub bytes_have_entry : (d : Dump) (stream_type : ℕ) → IsOk (raw_stream stream_type d) → 0 < d.header.stream_count
-bytes_have_entry d stream_type found = by_entry (deciding stream_type (directory d.order d.file d.header)) refl found
+bytes_have_entry d stream_type found = by_entry (deciding_entry stream_type (directory d.order d.file d.header)) refl found
   where
-    by_entry : (o : Option DecidingEntry) → deciding stream_type (directory d.order d.file d.header) ≡ o → IsOk (raw_stream stream_type d)
+    by_entry : (o : Option DecidingEntry) → deciding_entry stream_type (directory d.order d.file d.header) ≡ o → IsOk (raw_stream stream_type d)
         → 0 < d.header.stream_count
     by_entry (Some entry) is k =
-        let some : 0 < length (directory d.order d.file d.header) = deciding-among_some stream_type (directory d.order d.file d.header) entry is in
+        let some : 0 < length (directory d.order d.file d.header) = deciding_entry-among_some stream_type (directory d.order d.file d.header) entry is in
         rw (length-entries directory_entry d.order d.file d.header.stream_directory_rva d.header.stream_count) at some
     by_entry None is k = absurd (false≢true (rw is at k))
 
@@ -79,11 +79,11 @@ regions_have_entry d some = by_lists (stream_of memory64_list_stream d) (stream_
 
 -- ---- what a call returns
 
--- what holds behind an entry, whatever is returned
+-- what an entry gives, whatever is returned
 pub on_ok : {X P : Type 0} (r : Result X Error) → P → OnOk r P
 on_ok (Ok x) has = has
 on_ok (Err e) has = tt
 
-pub on_want : {X P : Type 0} (r : Result X Error) → P → IfErr r (λ e. e ≡ OutOfMemory → P)
-on_want (Ok x) has = tt
-on_want (Err e) has = λ out. has
+pub on_no_memory : {X P : Type 0} (r : Result X Error) → P → IfErr r (λ e. e ≡ OutOfMemory → P)
+on_no_memory (Ok x) has = tt
+on_no_memory (Err e) has = λ out. has

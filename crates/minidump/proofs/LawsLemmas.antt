@@ -8,29 +8,29 @@ use Rattle.std.proofs.lemmas.Bool.{cases_lt, eqb-true, ne_eqb, eq-eqb}
 use Rattle.std.proofs.lemmas.List.Elements.{All-cons, All-head, All-map, All-tail}
 use Rattle.minidump_format.specs.declared.format.header.MINIDUMP_DIRECTORY.{MINIDUMP_DIRECTORY}
 use Rattle.minidump.specs.declared.directory.DecidingEntry.{DecidingEntry}
-use Rattle.minidump.specs.Directory.{indexed, deciding, deciding_below}
-use Rattle.minidump.proofs.DirectoryLemmas.{deciding-more}
+use Rattle.minidump.specs.Directory.{with_indices, deciding_entry, deciding_entries_below}
+use Rattle.minidump.proofs.DirectoryLemmas.{deciding_entry-more}
 
 -- entries of other types change nothing
-deciding-others : (t : ℕ) (later es : List MINIDUMP_DIRECTORY) → All (λ x. x.stream_type ≢ t) later → deciding t (es ++ later) ≡ deciding t es
-deciding-others t [] es others = rw append-nil refl
-deciding-others t (x ∷ later) es others =
+deciding_entry-others : (t : ℕ) (later es : List MINIDUMP_DIRECTORY) → All (λ x. x.stream_type ≢ t) later → deciding_entry t (es ++ later) ≡ deciding_entry t es
+deciding_entry-others t [] es others = rw append-nil refl
+deciding_entry-others t (x ∷ later) es others =
     let other : (x.stream_type == t) ≡ false = ne_eqb x.stream_type t (All-head (λ y. y.stream_type ≢ t) x later others) in
-    ap (deciding t) (sym (append_assoc es (x ∷ []) later))
-    ∙ deciding-others t later (es ++ x ∷ []) (All-tail (λ y. y.stream_type ≢ t) x later others)
-    ∙ deciding-more t es x ∙ rw other refl
+    ap (deciding_entry t) (sym (append_assoc es (x ∷ []) later))
+    ∙ deciding_entry-others t later (es ++ x ∷ []) (All-tail (λ y. y.stream_type ≢ t) x later others)
+    ∙ deciding_entry-more t es x ∙ rw other refl
 
-pub deciding-last : (es later : List MINIDUMP_DIRECTORY) (e : MINIDUMP_DIRECTORY) → All (λ x. x.stream_type ≢ e.stream_type) later
-    → deciding e.stream_type (es ++ (e ∷ later)) ≡ Some (record { index = length es; entry = e })
-deciding-last es later e others =
+pub deciding_entry-last : (es later : List MINIDUMP_DIRECTORY) (e : MINIDUMP_DIRECTORY) → All (λ x. x.stream_type ≢ e.stream_type) later
+    → deciding_entry e.stream_type (es ++ (e ∷ later)) ≡ Some (record { index = length es; entry = e })
+deciding_entry-last es later e others =
     let own : (e.stream_type == e.stream_type) ≡ true = eq-eqb e.stream_type e.stream_type refl in
-    ap (deciding e.stream_type) (sym (append_assoc es (e ∷ []) later))
-    ∙ deciding-others e.stream_type later (es ++ e ∷ []) others
-    ∙ deciding-more e.stream_type es e ∙ rw own refl
+    ap (deciding_entry e.stream_type) (sym (append_assoc es (e ∷ []) later))
+    ∙ deciding_entry-others e.stream_type later (es ++ e ∷ []) others
+    ∙ deciding_entry-more e.stream_type es e ∙ rw own refl
 
 -- none decides where no entry has the type
-pub deciding-none : (t : ℕ) (es : List MINIDUMP_DIRECTORY) → All (λ x. x.stream_type ≢ t) es → deciding t es ≡ None
-deciding-none t es others = deciding-others t es [] others
+pub deciding_entry-none : (t : ℕ) (es : List MINIDUMP_DIRECTORY) → All (λ x. x.stream_type ≢ t) es → deciding_entry t es ≡ None
+deciding_entry-none t es others = deciding_entry-others t es [] others
 
 -- what a search finds passes
 pub find_passes : {X : Type 0} (p : X → Bool) (xs : List X) (x : X) → find p xs ≡ Some x → p x ≡ true
@@ -41,8 +41,8 @@ find_passes p (y ∷ ys) x found = go (p y) refl (λ rest. find_passes p ys x re
     go true is later = let same : y ≡ x = let h : Some y ≡ Some x = rw is at found in cc in subst (λ z. p z ≡ true) same is
     go false is later = later (rw is at found)
 
-pub deciding_has_type : (t : ℕ) (es : List MINIDUMP_DIRECTORY) (d : DecidingEntry) → deciding t es ≡ Some d → d.entry.stream_type ≡ t
-deciding_has_type t es d found = eqb-true d.entry.stream_type t (find_passes (λ x. x.entry.stream_type == t) (reverse (indexed es)) d found)
+pub deciding_has_type : (t : ℕ) (es : List MINIDUMP_DIRECTORY) (d : DecidingEntry) → deciding_entry t es ≡ Some d → d.entry.stream_type ≡ t
+deciding_has_type t es d found = eqb-true d.entry.stream_type t (find_passes (λ x. x.entry.stream_type == t) (reverse (with_indices es)) d found)
 
 -- a smaller number before increasing ones
 increasing-cons : (x : ℕ) (xs : List ℕ) → All (λ y. x < y) xs → IsStrictlyIncreasing xs → IsStrictlyIncreasing (x ∷ xs)
@@ -53,7 +53,7 @@ contains-cons : {X : Type 0} (x y : X) (xs : List X) → Contains xs x → Conta
 contains-cons x y xs (k, lt, at) = (suc k, omega arith, at)
 
 -- what a function gives of numbers in order, where it gives a value of each number that has that number as its key
-module _ {X : Type 0} (f : ℕ → Option X) (key : X → ℕ) (keyed : (t : ℕ) (x : X) → f t ≡ Some x → key x ≡ t) where
+module _ {X : Type 0} (f : ℕ → Option X) (key : X → ℕ) (with_keys : (t : ℕ) (x : X) → f t ≡ Some x → key x ≡ t) where
   -- each value is given at its key
   pub given_at_key : (n a : ℕ) → All (λ x. (f (key x) ≡ Some x) × (a ≤ key x)) (filter_map f (range_with_len a n))
   given_at_key zero a = λ k d lt. absurd (omega arith)
@@ -66,7 +66,7 @@ module _ {X : Type 0} (f : ℕ → Option X) (key : X → ℕ) (keyed : (t : ℕ
           → All (λ x. (f (key x) ≡ Some x) × (a ≤ key x)) (cons_option (f a) (filter_map f (range_with_len (a + 1) n)))
       go None is rest = rw is rest
       go (Some x) is rest =
-          let own : key x ≡ a = keyed a x is in
+          let own : key x ≡ a = with_keys a x is in
           let first : (f (key x) ≡ Some x) × (a ≤ key x) = (rw own is, omega arith) in
           rw is (All-cons (λ y. (f (key y) ≡ Some y) × (a ≤ key y)) x (filter_map f (range_with_len (a + 1) n)) first rest)
 
@@ -80,7 +80,7 @@ module _ {X : Type 0} (f : ℕ → Option X) (key : X → ℕ) (keyed : (t : ℕ
           → IsStrictlyIncreasing (map key (cons_option (f a) (filter_map f (range_with_len (a + 1) n))))
       go None is rest all = rw is rest
       go (Some x) is rest all =
-          let own : key x ≡ a = keyed a x is in
+          let own : key x ≡ a = with_keys a x is in
           rw is (increasing-cons (key x) _ (All-map (λ y. key x < y) key _ (λ k d lt. omega (arith, (all k d lt).1))) rest)
 
   -- each value at a key among the numbers is there
@@ -95,15 +95,15 @@ module _ {X : Type 0} (f : ℕ → Option X) (key : X → ℕ) (keyed : (t : ℕ
       longer None has = has
       longer (Some y) has = contains-cons x y _ has
 
-pub streams_ascend : (es : List MINIDUMP_DIRECTORY) (limit : ℕ) → IsStrictlyIncreasing (map (λ d. d.entry.stream_type) (deciding_below limit es))
-unfolding deciding_below
-streams_ascend es limit = keys_ascend (λ t. deciding t es) (λ d. d.entry.stream_type) (λ t d is. deciding_has_type t es d is) limit 0
+pub streams_ascend : (es : List MINIDUMP_DIRECTORY) (limit : ℕ) → IsStrictlyIncreasing (map (λ d. d.entry.stream_type) (deciding_entries_below limit es))
+unfolding deciding_entries_below
+streams_ascend es limit = keys_ascend (λ t. deciding_entry t es) (λ d. d.entry.stream_type) (λ t d is. deciding_has_type t es d is) limit 0
 
-pub streams_decide : (es : List MINIDUMP_DIRECTORY) (limit : ℕ) → All (λ d. deciding d.entry.stream_type es ≡ Some d) (deciding_below limit es)
-unfolding deciding_below
-streams_decide es limit k d lt = (given_at_key (λ t. deciding t es) (λ x. x.entry.stream_type) (λ t x is. deciding_has_type t es x is) limit 0 k d lt).0
+pub streams_decide : (es : List MINIDUMP_DIRECTORY) (limit : ℕ) → All (λ d. deciding_entry d.entry.stream_type es ≡ Some d) (deciding_entries_below limit es)
+unfolding deciding_entries_below
+streams_decide es limit k d lt = (given_at_key (λ t. deciding_entry t es) (λ x. x.entry.stream_type) (λ t x is. deciding_has_type t es x is) limit 0 k d lt).0
 
-pub streams_have : (es : List MINIDUMP_DIRECTORY) (limit t : ℕ) (d : DecidingEntry) → t < limit → deciding t es ≡ Some d → Contains (deciding_below limit es) d
-unfolding deciding_below
+pub streams_have : (es : List MINIDUMP_DIRECTORY) (limit t : ℕ) (d : DecidingEntry) → t < limit → deciding_entry t es ≡ Some d → Contains (deciding_entries_below limit es) d
+unfolding deciding_entries_below
 streams_have es limit t d lt is =
-    has_given (λ t. deciding t es) (λ x. x.entry.stream_type) (λ t x is. deciding_has_type t es x is) limit 0 t d (omega arith) (omega arith) is
+    has_given (λ t. deciding_entry t es) (λ x. x.entry.stream_type) (λ t x is. deciding_has_type t es x is) limit 0 t d (omega arith) (omega arith) is

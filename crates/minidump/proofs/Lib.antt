@@ -4,7 +4,7 @@ pub mod EntryLemmas
 pub mod LawsLemmas
 pub mod ListRules
 pub mod LookedUpLemmas
-pub mod PlacedLemmas
+pub mod NumberedLemmas
 pub mod StackLemmas
 pub mod ThreadLemmas
 pub mod PrintLemmas

@@ -1,5 +1,5 @@
--- The answer of a lookup is the one that `IsLookedUp` allows: the tests say what the rule says, and a place is kept exactly where the
--- test with as many rounds as there are places says so.
+-- The result of a lookup is the one that `IsLookedUp` allows: the tests say what the rule says, and an index is kept exactly where the
+-- test with as many rounds as there are indices says so.
 use Rattle.std.proofs.Common.{◌≡◌, ℕ, zero, suc, ◌<◌, ◌≤◌, ◌⊎◌, Bool, true, false, cond, List, [], ◌∷◌, length, get_or, map}
 use Rattle.std.proofs.Common.{arith, ap, refl, subst, sym, ◌∙◌, inl, inr}
 use Rattle.std.specs.Prelude.{◌↔◌, Option, Some, None, MatchOption, find, not, slice_get, nat_le, nat_lt, ◌==◌, ◌&&◌, ◌||◌}
@@ -49,9 +49,9 @@ opposite : (b : Bool) → (b ≡ true → ⊥) → not b ≡ true
 opposite true h = absurd (h refl)
 opposite false h = refl
 
-opposed : (b : Bool) → not b ≡ true → b ≡ true → ⊥
-opposed true h k = cc
-opposed false h k = cc
+not_both_true : (b : Bool) → not b ≡ true → b ≡ true → ⊥
+not_both_true true h k = cc
+not_both_true false h k = cc
 
 lt_test : (m n : ℕ) → nat_lt m n ≡ true → m < n
 lt_test m n h = grind (arith, nat_tests)
@@ -72,10 +72,10 @@ test_eq : (m n : ℕ) → m ≡ n → (m == n) ≡ true
 test_eq m n h = grind (arith, nat_tests)
 
 -- the range that a test found
-got : (test : Range → Bool) (o : Option (Option Range)) → has_range test o ≡ true → (r : Range) × (o ≡ Some (Some r)) × (test r ≡ true)
-got test (Some (Some r)) h = (r, refl, h)
-got test (Some None) h = cc
-got test None h = cc
+range_that_passes : (test : Range → Bool) (o : Option (Option Range)) → has_range test o ≡ true → (r : Range) × (o ≡ Some (Some r)) × (test r ≡ true)
+range_that_passes test (Some (Some r)) h = (r, refl, h)
+range_that_passes test (Some None) h = cc
+range_that_passes test None h = cc
 
 -- ---- the order of ranges, and addresses that two share
 before_of : (r : Range) (i : ℕ) (s : Range) (j : ℕ) → comes_before r i s j ≡ true → IsBefore r i s j
@@ -174,9 +174,9 @@ tally_all : (n : ℕ) → tally (λ k. true) n ≡ n
 tally_all zero = refl
 tally_all (suc n) = ap suc (tally_all n)
 
--- ---- searches among places
-any_place : (p : ℕ → Bool) (n k : ℕ) → k < n → p k ≡ true → list_any p (range_with_len 0 n) ≡ true
-any_place p n k lt h =
+-- ---- searches among indices
+any_index : (p : ℕ → Bool) (n k : ℕ) → k < n → p k ≡ true → list_any p (range_with_len 0 n) ≡ true
+any_index p n k lt h =
     let within : k < length (range_with_len 0 n) = omega (arith, lt, length-range_with_len 0 n) in
     let same : k ≡ get_or (range_with_len 0 n) k 0 = omega (arith, get_or-range_with_len 0 n k 0 lt) in
     list_any_at p (range_with_len 0 n) k 0 within (subst (λ (i : ℕ). p i ≡ true) same h)
@@ -189,104 +189,104 @@ find_fails p (y ∷ ys) none some = go (p y) refl (find_fails p ys)
     go true is later = (let h : Some y ≡ None = rw is at none in cc)
     go false is later = later (rw is at none) (rw is at some)
 
--- ---- the kept places
+-- ---- the kept indices
 module _ (ranges : List (Option Range)) where
-  -- whether the range of a place comes before that of another
+  -- whether the range of an index comes before that of another
   abbrev earlier : ℕ → ℕ → Bool
-  earlier place other =
-      has_range (λ r. has_range (λ s. comes_before s other r place) (slice_get ranges other)) (slice_get ranges place)
+  earlier index other =
+      has_range (λ r. has_range (λ s. comes_before s other r index) (slice_get ranges other)) (slice_get ranges index)
 
   -- how many come before it
   abbrev rank : ℕ → ℕ
-  rank place = tally (earlier place) (length ranges)
+  rank index = tally (earlier index) (length ranges)
 
-  within : (place : ℕ) (r : Range) → HasRange ranges place r → place < length ranges
-  within place r has = slice_get_within ranges place (Some r) has
+  within : (index : ℕ) (r : Range) → HasRange ranges index r → index < length ranges
+  within index r has = slice_get_within ranges index (Some r) has
 
-  one : (place : ℕ) (r s : Range) → HasRange ranges place r → HasRange ranges place s → r ≡ s
-  one place r s a b = (let h : Some (Some r) ≡ Some (Some s) = sym a ∙ b in cc)
+  one : (index : ℕ) (r s : Range) → HasRange ranges index r → HasRange ranges index s → r ≡ s
+  one index r s a b = (let h : Some (Some r) ≡ Some (Some s) = sym a ∙ b in cc)
 
-  of_earlier : (other place : ℕ) (s r : Range) → HasRange ranges other s → HasRange ranges place r → IsBefore s other r place → earlier place other ≡ true
-  of_earlier other place s r has_s has_r before = rw (has_r, has_s) (of_before s other r place before)
+  of_earlier : (other index : ℕ) (s r : Range) → HasRange ranges other s → HasRange ranges index r → IsBefore s other r index → earlier index other ≡ true
+  of_earlier other index s r has_s has_r before = rw (has_r, has_s) (of_before s other r index before)
 
-  earlier_of : (other place : ℕ) (r : Range) → HasRange ranges place r → earlier place other ≡ true
-      → (s : Range) × HasRange ranges other s × IsBefore s other r place
-  earlier_of other place r has h =
-      let outer = got (λ r. has_range (λ s. comes_before s other r place) (slice_get ranges other)) (slice_get ranges place) h in
-      let inner = got (λ s. comes_before s other outer.0 place) (slice_get ranges other) outer.2 in
-      (inner.0, inner.1, subst (λ (x : Range). IsBefore inner.0 other x place) (one place outer.0 r outer.1 has) (before_of inner.0 other outer.0 place inner.2))
+  earlier_of : (other index : ℕ) (r : Range) → HasRange ranges index r → earlier index other ≡ true
+      → (s : Range) × HasRange ranges other s × IsBefore s other r index
+  earlier_of other index r has h =
+      let outer = range_that_passes (λ r. has_range (λ s. comes_before s other r index) (slice_get ranges other)) (slice_get ranges index) h in
+      let inner = range_that_passes (λ s. comes_before s other outer.0 index) (slice_get ranges other) outer.2 in
+      (inner.0, inner.1, subst (λ (x : Range). IsBefore inner.0 other x index) (one index outer.0 r outer.1 has) (before_of inner.0 other outer.0 index inner.2))
 
-  not_earlier : (place : ℕ) (r : Range) → HasRange ranges place r → earlier place place ≡ false
-  not_earlier place r has = not_true (earlier place place) (λ h.
-      let e = earlier_of place place r has h in
-      not_itself r place (subst (λ (x : Range). IsBefore x place r place) (one place e.0 r e.1 has) e.2))
+  not_earlier : (index : ℕ) (r : Range) → HasRange ranges index r → earlier index index ≡ false
+  not_earlier index r has = not_true (earlier index index) (λ h.
+      let e = earlier_of index index r has h in
+      not_itself r index (subst (λ (x : Range). IsBefore x index r index) (one index e.0 r e.1 has) e.2))
 
-  rank_lt : (other place : ℕ) (s r : Range) → HasRange ranges other s → HasRange ranges place r → IsBefore s other r place → rank other < rank place
-  rank_lt other place s r has_s has_r before =
-      tally_lt (earlier other) (earlier place) (length ranges) other
+  rank_lt : (other index : ℕ) (s r : Range) → HasRange ranges other s → HasRange ranges index r → IsBefore s other r index → rank other < rank index
+  rank_lt other index s r has_s has_r before =
+      tally_lt (earlier other) (earlier index) (length ranges) other
       (λ k h.
       let e = earlier_of k other s has_s h in
-      of_earlier k place e.0 r e.1 has_r (onward e.0 s r k other place e.2 before))
-      (within other s has_s) (not_earlier other s has_s) (of_earlier other place s r has_s has_r before)
+      of_earlier k index e.0 r e.1 has_r (onward e.0 s r k other index e.2 before))
+      (within other s has_s) (not_earlier other s has_s) (of_earlier other index s r has_s has_r before)
 
-  rank_within : (place : ℕ) (r : Range) → HasRange ranges place r → rank place < length ranges
-  rank_within place r has =
-      let lt = tally_lt (earlier place) (λ k. true) (length ranges) place (λ k h. refl) (within place r has) (not_earlier place r has) refl in
+  rank_within : (index : ℕ) (r : Range) → HasRange ranges index r → rank index < length ranges
+  rank_within index r has =
+      let lt = tally_lt (earlier index) (λ k. true) (length ranges) index (λ k h. refl) (within index r has) (not_earlier index r has) refl in
       omega (arith, lt, tally_all (length ranges))
 
   module _ (kept : ℕ → Bool) (is : IsKeptSet ranges kept) where
-    -- a place is dropped by an earlier kept one
+    -- an index is dropped by an earlier kept one
     abbrev dropped_by : ℕ → ℕ → Range → ℕ → Bool
-    dropped_by n place range other = is_kept ranges n other && drops ranges other place range
+    dropped_by n index range other = is_kept ranges n other && drops ranges other index range
 
-    -- the earlier places are tested right
+    -- the earlier indices are tested right
     abbrev RightBefore : ℕ → ℕ → Range → Type 0
-    RightBefore n place range =
-        (other : ℕ) (s : Range) → HasRange ranges other s → IsBefore s other range place → is_kept ranges n other ≡ kept other
+    RightBefore n index range =
+        (other : ℕ) (s : Range) → HasRange ranges other s → IsBefore s other range index → is_kept ranges n other ≡ kept other
 
-    none_drops : (n place : ℕ) (r : Range) → HasRange ranges place r → RightBefore n place r
-        → (list_any (dropped_by n place r) (range_with_len 0 (length ranges)) ≡ true → ⊥) → kept place ≡ true
-    none_drops n place r has right none = (is place).1 (
+    none_drops : (n index : ℕ) (r : Range) → HasRange ranges index r → RightBefore n index r
+        → (list_any (dropped_by n index r) (range_with_len 0 (length ranges)) ≡ true → ⊥) → kept index ≡ true
+    none_drops n index r has right none = (is index).1 (
       r,
       has,
       λ other s other_kept has_s before share.
-          none (any_place (dropped_by n place r) (length ranges) other (within other s has_s) (both_true _ _ (right other s has_s before ∙ other_kept)
-          (rw has_s (both_true _ _ (of_before s other r place before) (of_shared s r share))))),
+          none (any_index (dropped_by n index r) (length ranges) other (within other s has_s) (both_true _ _ (right other s has_s before ∙ other_kept)
+          (rw has_s (both_true _ _ (of_before s other r index before) (of_shared s r share))))),
     )
 
-    one_drops : (n place : ℕ) (r : Range) → HasRange ranges place r → RightBefore n place r
-        → list_any (dropped_by n place r) (range_with_len 0 (length ranges)) ≡ true → kept place ≡ true → ⊥
-    one_drops n place r has right some t =
-        let (range, at, clear) = (is place).0 t in
-        let (k, other, lt, is_at, test) = Any-from_list_any (dropped_by n place r) (range_with_len 0 (length ranges)) some in
+    one_drops : (n index : ℕ) (r : Range) → HasRange ranges index r → RightBefore n index r
+        → list_any (dropped_by n index r) (range_with_len 0 (length ranges)) ≡ true → kept index ≡ true → ⊥
+    one_drops n index r has right some t =
+        let (range, at, clear) = (is index).0 t in
+        let (k, other, lt, is_at, test) = Any-from_list_any (dropped_by n index r) (range_with_len 0 (length ranges)) some in
         let both = each_true _ _ test in
-        let found = got (λ s. comes_before s other r place && share_address s r) (slice_get ranges other) both.1 in
+        let found = range_that_passes (λ s. comes_before s other r index && share_address s r) (slice_get ranges other) both.1 in
         let tests = each_true _ _ found.2 in
-        let before = before_of found.0 other r place tests.0 in
+        let before = before_of found.0 other r index tests.0 in
         let shared = shared_of found.0 r tests.1 in
-        let same : r ≡ range = one place r range has at in
+        let same : r ≡ range = one index r range has at in
         clear other found.0 (sym (right other found.0 found.1 before) ∙ both.0) found.1
-        (subst (λ (x : Range). IsBefore found.0 other x place) same before) (subst (λ (x : Range). ShareAddress found.0 x) same shared)
+        (subst (λ (x : Range). IsBefore found.0 other x index) same before) (subst (λ (x : Range). ShareAddress found.0 x) same shared)
 
-    by_range : (n place : ℕ) (o : Option (Option Range)) → slice_get ranges place ≡ o
-        → ((r : Range) → HasRange ranges place r → RightBefore n place r) → is_kept ranges (suc n) place ≡ kept place
-    by_range n place None at right =
-        rw at (sym (not_true (kept place) (λ t. let f = (is place).0 t in let h : None ≡ Some (Some f.0) = sym at ∙ f.1 in cc)))
-    by_range n place (Some None) at right =
-        rw at (sym (not_true (kept place) (λ t. let f = (is place).0 t in let h : Some None ≡ Some (Some f.0) = sym at ∙ f.1 in cc)))
-    by_range n place (Some (Some r)) at right =
-        rw at (both_ways _ (kept place)
-        (λ h. none_drops n place r at (right r at) (opposed _ h))
-        (λ t. opposite _ (λ some. one_drops n place r at (right r at) some t)))
+    by_range : (n index : ℕ) (o : Option (Option Range)) → slice_get ranges index ≡ o
+        → ((r : Range) → HasRange ranges index r → RightBefore n index r) → is_kept ranges (suc n) index ≡ kept index
+    by_range n index None at right =
+        rw at (sym (not_true (kept index) (λ t. let f = (is index).0 t in let h : None ≡ Some (Some f.0) = sym at ∙ f.1 in cc)))
+    by_range n index (Some None) at right =
+        rw at (sym (not_true (kept index) (λ t. let f = (is index).0 t in let h : Some None ≡ Some (Some f.0) = sym at ∙ f.1 in cc)))
+    by_range n index (Some (Some r)) at right =
+        rw at (both_ways _ (kept index)
+        (λ h. none_drops n index r at (right r at) (not_both_true _ h))
+        (λ t. opposite _ (λ some. one_drops n index r at (right r at) some t)))
 
-    tested : (n place : ℕ) → rank place < n → is_kept ranges n place ≡ kept place
-    tested zero place lt = absurd (omega (arith, lt))
-    tested (suc n) place lt =
-        by_range n place (slice_get ranges place) refl
-        (λ r at other s has before. tested n other (omega (arith, lt, rank_lt other place s r has at before)))
+    kept_by_test : (n index : ℕ) → rank index < n → is_kept ranges n index ≡ kept index
+    kept_by_test zero index lt = absurd (omega (arith, lt))
+    kept_by_test (suc n) index lt =
+        by_range n index (slice_get ranges index) refl
+        (λ r at other s has before. kept_by_test n other (omega (arith, lt, rank_lt other index s r has at before)))
 
-    right_at : (place : ℕ) (r : Range) → HasRange ranges place r → is_kept ranges (length ranges) place ≡ kept place
-    right_at place r has = tested (length ranges) place (rank_within place r has)
+    right_at : (index : ℕ) (r : Range) → HasRange ranges index r → is_kept ranges (length ranges) index ≡ kept index
+    right_at index r has = kept_by_test (length ranges) index (rank_within index r has)
 
 module _ {R : Type 0} (range : R → Option Range) (regions : List R) (address : ℕ) where
   abbrev ranges : List (Option Range)
@@ -296,42 +296,42 @@ module _ {R : Type 0} (range : R → Option Range) (regions : List R) (address :
   has_address r = nat_le r.start address && nat_le address r.end
 
   abbrev is_it : ℕ → Bool
-  is_it place = is_kept ranges (length ranges) place && has_range has_address (slice_get ranges place)
+  is_it index = is_kept ranges (length ranges) index && has_range has_address (slice_get ranges index)
 
   module _ (kept : ℕ → Bool) (is : IsKeptSet ranges kept) where
     abbrev Nowhere : Type 0
-    Nowhere = (place : ℕ) → ¬ KeptAt ranges kept address place
+    Nowhere = (index : ℕ) → ¬ KeptAt ranges kept address index
 
     abbrev There : R → Type 0
-    There region = (place : ℕ) × KeptAt ranges kept address place × (slice_get regions place ≡ Some region)
+    There region = (index : ℕ) × KeptAt ranges kept address index × (slice_get regions index ≡ Some region)
 
-    region_of : (place : ℕ) (r : Range) → HasRange ranges place r → KeptAt ranges kept address place → (o : Option R) → slice_get regions place ≡ o
+    region_of : (index : ℕ) (r : Range) → HasRange ranges index r → KeptAt ranges kept address index → (o : Option R) → slice_get regions index ≡ o
         → MatchOption o Nowhere There
-    region_of place r has k (Some region) at = (place, k, at)
-    region_of place r has k None at =
-        (let h : option_map range None ≡ Some (Some r) = ap (option_map range) (sym at) ∙ sym (slice_get-map range regions place) ∙ has in cc)
+    region_of index r has k (Some region) at = (index, k, at)
+    region_of index r has k None at =
+        (let h : option_map range None ≡ Some (Some r) = ap (option_map range) (sym at) ∙ sym (slice_get-map range regions index) ∙ has in cc)
 
-    by_place : (o : Option ℕ) → kept_at ranges address ≡ o → MatchOption (option_and_then (slice_get regions) o) Nowhere There
-    by_place None none = λ place k.
+    by_index : (o : Option ℕ) → kept_at ranges address ≡ o → MatchOption (option_and_then (slice_get regions) o) Nowhere There
+    by_index None none = λ index k.
         find_fails is_it (range_with_len 0 (length ranges)) none
-        (any_place is_it (length ranges) place (within ranges place k.range k.has)
-        (both_true _ _ (right_at ranges kept is place k.range k.has ∙ k.is_kept)
+        (any_index is_it (length ranges) index (within ranges index k.range k.has)
+        (both_true _ _ (right_at ranges kept is index k.range k.has ∙ k.is_kept)
         (rw k.has (both_true _ _ (test_le _ _ k.inside.0) (test_le _ _ k.inside.1)))))
-    by_place (Some place) found =
-        let both = each_true _ _ (find_passes is_it (range_with_len 0 (length ranges)) place found) in
-        let (r, has, tests) = got has_address (slice_get ranges place) both.1 in
+    by_index (Some index) found =
+        let both = each_true _ _ (find_passes is_it (range_with_len 0 (length ranges)) index found) in
+        let (r, has, tests) = range_that_passes has_address (slice_get ranges index) both.1 in
         let sides = each_true _ _ tests in
-        region_of place r has (record {
+        region_of index r has (record {
           range = r;
-          is_kept = sym (right_at ranges kept is place r has) ∙ both.0;
+          is_kept = sym (right_at ranges kept is index r has) ∙ both.0;
           has = has;
           inside = (le_test r.start address sides.0, le_test address r.end sides.1);
-        }) (slice_get regions place) refl
+        }) (slice_get regions index) refl
 
   -- it is an answer
   looked_up_is : IsLookedUp range regions address (looked_up range regions address)
   unfolding looked_up
-  looked_up_is kept is = by_place kept is (kept_at ranges address) refl
+  looked_up_is kept is = by_index kept is (kept_at ranges address) refl
 
   -- and each answer is it
   pub is_looked_up : (found : Option R) → IsLookedUp range regions address found → found ≡ looked_up range regions address

@@ -4,7 +4,7 @@ use Rattle.std.specs.List.{concat}
 use Rattle.std.specs.Option.{option_and_then}
 use Rattle.std.specs.Result.{result_ok}
 use Rattle.minidump_bytes.specs.Piece.{hex}
-use Rattle.minidump_memory.specs.Memory.{region_range}
+use Rattle.minidump_memory.specs.Memory.{range_of_region}
 use Rattle.minidump_memory.specs.Unified.{UnifiedRegions, unified_regions}
 use Rattle.minidump_reason.specs.declared.reason.CrashReason.{CrashReason}
 use Rattle.minidump_reason.specs.Names.{Lists}
@@ -23,7 +23,7 @@ use Rattle.minidump.specs.Thread.{Thread, error_at, last_error_address}
 -- the error at an address of a list of memory
 abbrev pub error_in : Lists → UnifiedRegions → Option ℕ → Option CrashReason
 error_in names memory None = None
-error_in names memory (Some address) = error_at names address (looked_up region_range (unified_regions memory) address)
+error_in names memory (Some address) = error_at names address (looked_up range_of_region (unified_regions memory) address)
 
 -- the last thread of an id
 abbrev pub last_with : ℕ → List Thread → Option Thread

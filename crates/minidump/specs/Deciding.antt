@@ -7,7 +7,7 @@ use Rattle.minidump_format.specs.declared.error.Error.TheVariants.{MissingDirect
 use Rattle.minidump_format.specs.declared.format.header.MINIDUMP_HEADER.{MINIDUMP_HEADER}
 use Rattle.minidump.specs.declared.directory.DecidingEntry.{DecidingEntry}
 use Rattle.minidump_format.specs.declared.format.header.MINIDUMP_DIRECTORY.{MINIDUMP_DIRECTORY}
-use Rattle.minidump.specs.Directory.{deciding, is_readable}
+use Rattle.minidump.specs.Directory.{deciding_entry, is_readable}
 
 -- the type of an entry
 abbrev pub type_of : DecidingEntry → ℕ
@@ -31,10 +31,11 @@ pub record AreLast (all last : List DecidingEntry) : Type 0 where
 -- the deciding entries of a directory, ascending by type; no type is 2^32 or more
 pub record Decides (ds : List DecidingEntry) (es : List MINIDUMP_DIRECTORY) : Type 0 where
   pub ascending : IsStrictlySortedBy nat_cmp (map type_of ds)
-  pub at : (t : ℕ) → find (is_of_type t) ds ≡ deciding t es
-  pub small : (t : ℕ) → 2 ^ 32 ≤ t → deciding t es ≡ None
+  pub at : (t : ℕ) → find (is_of_type t) ds ≡ deciding_entry t es
+  pub small : (t : ℕ) → 2 ^ 32 ≤ t → deciding_entry t es ≡ None
 
--- `Ok`: every entry is in the file, and the value is as said. Memory may run out only where every entry is in the file, and there is one
+-- `Ok`: every entry is in the file, and the value is as said. Memory may run out only where every
+-- entry is in the file, and there is one
 abbrev pub Reads : {X : Type 0} → (X → Type 0) → List ℕ → MINIDUMP_HEADER → Result X Error → Type 0
 Reads Is bytes h (Ok x) = (is_readable bytes h ≡ true) × Is x
 Reads Is bytes h (Err MissingDirectory) = is_readable bytes h ≡ false

@@ -14,7 +14,7 @@ use Rattle.minidump_system.specs.StreamSpec.{Meaning, StreamSpec}
 use Rattle.minidump_system.specs.SystemInfo.{System, system_info_in, system_info_stream}
 use Rattle.minidump.specs.declared.directory.DecidingEntry.{DecidingEntry}
 use Rattle.minidump.specs.Header.{header_of}
-use Rattle.minidump.specs.Directory.{directory, deciding, deciding_below, is_readable}
+use Rattle.minidump.specs.Directory.{directory, deciding_entry, deciding_entries_below, is_readable}
 
 -- a minidump: the bytes of the file, their byte order, and Microsoft's MINIDUMP_HEADER
 pub record Dump : Type 0 where
@@ -27,7 +27,8 @@ abbrev with_header : List ℕ → Result (Endian × MINIDUMP_HEADER) Error → R
 with_header file (Err e) = Err e
 with_header file (Ok h) = if is_readable file h.1 then Ok (record { file = file; order = h.0; header = h.1 }) else Err MissingDirectory
 
--- the minidump that a file is, or the first reason why it is none: that of its header, or an entry outside the file
+-- the minidump that a file is, or the first error: that of its header, or of an entry outside the
+-- file
 abbrev pub dump_in : List ℕ → Result Dump Error
 dump_in file = with_header file (header_of file)
 
@@ -35,42 +36,44 @@ dump_in file = with_header file (header_of file)
 abbrev pub HasEntries : List ℕ → Type 0
 HasEntries file = IsOkAnd (dump_in file) (λ d. 0 < d.header.stream_count)
 
--- an error over a file: the file is no minidump and this is why, or memory ran out where it may
-abbrev pub IsRefusedWith : Type 0 → List ℕ → Error → Type 0
-IsRefusedWith memory file e = (dump_in file ≡ Err e) ⊎ ((e ≡ OutOfMemory) × memory)
+-- an error of a call on a file: the one that the format assigns to a file that is no minidump, or
+-- `OutOfMemory` where memory may run out
+abbrev pub IsDumpErrorOr : Type 0 → List ℕ → Error → Type 0
+IsDumpErrorOr memory file e = (dump_in file ≡ Err e) ⊎ ((e ≡ OutOfMemory) × memory)
 
--- the same where memory may run out only at a directory with entries
-abbrev pub IsRefused : List ℕ → Error → Type 0
-IsRefused file e = IsRefusedWith (HasEntries file) file e
+-- the same, where memory may run out only if the directory has entries
+abbrev pub IsDumpError : List ℕ → Error → Type 0
+IsDumpError file e = IsDumpErrorOr (HasEntries file) file e
 
 -- the entries that decide a type of stream, ascending by type
 abbrev pub streams_of : Dump → List DecidingEntry
-streams_of d = deciding_below (2 ^ 32) (directory d.order d.file d.header)
+streams_of d = deciding_entries_below (2 ^ 32) (directory d.order d.file d.header)
 
 -- the bytes of a span, where it is in the file
-abbrev pub spanned : Option (List ℕ) → Result (List ℕ) Error
-spanned None = Err StreamReadFailure
-spanned (Some bytes) = Ok bytes
+abbrev pub bytes_of_span : Option (List ℕ) → Result (List ℕ) Error
+bytes_of_span None = Err StreamReadFailure
+bytes_of_span (Some bytes) = Ok bytes
 
 -- the bytes of the stream that an entry of the directory decides, or the error
-abbrev decided_bytes : List ℕ → Option DecidingEntry → Result (List ℕ) Error
-decided_bytes file None = Err StreamNotFound
-decided_bytes file (Some d) = spanned (located file d.entry.location)
+abbrev bytes_of_entry : List ℕ → Option DecidingEntry → Result (List ℕ) Error
+bytes_of_entry file None = Err StreamNotFound
+bytes_of_entry file (Some d) = bytes_of_span (located file d.entry.location)
 
 -- the bytes of the stream of a type: the span of its deciding entry
 abbrev pub raw_stream : ℕ → Dump → Result (List ℕ) Error
-raw_stream stream_type d = decided_bytes d.file (deciding stream_type (directory d.order d.file d.header))
+raw_stream stream_type d = bytes_of_entry d.file (deciding_entry stream_type (directory d.order d.file d.header))
 
 -- what the bytes of a stream mean, or their error
-abbrev meant : {V : Type 0} → Meaning V → Dump → Option System → Result (List ℕ) Error → Result V Error
-meant meaning d system (Ok bytes) = meaning d.order d.file bytes system
-meant meaning d system (Err e) = Err e
+abbrev meaning_of_bytes : {V : Type 0} → Meaning V → Dump → Option System → Result (List ℕ) Error → Result V Error
+meaning_of_bytes meaning d system (Ok bytes) = meaning d.order d.file bytes system
+meaning_of_bytes meaning d system (Err e) = Err e
 
 -- the stream of a type, with a system information handed in
 abbrev pub stream_with : {V : Type 0} → Option System → ℕ → Meaning V → Dump → Result V Error
-stream_with system stream_type meaning d = meant meaning d system (raw_stream stream_type d)
+stream_with system stream_type meaning d = meaning_of_bytes meaning d system (raw_stream stream_type d)
 
--- the system information, where its stream parses with none handed in. Else it is absent, and the dump is still read
+-- the system information, where its stream parses with none handed in. Else it is absent, and the
+-- dump is still read
 abbrev pub dump_system : Dump → Option System
 dump_system d = result_ok (stream_with None (number_of SystemInfoStream) system_info_in d)
 
@@ -78,18 +81,21 @@ dump_system d = result_ok (stream_with None (number_of SystemInfoStream) system_
 abbrev pub system_memory : Dump → Type 0
 system_memory d = IsOkAnd (raw_stream (number_of SystemInfoStream) d) (λ bytes. system_info_stream.memory d.order d.file bytes None)
 
--- how many of the three are read: the span of the stream, MINIDUMP_SYSTEM_INFO and the text of the service pack
+-- how many of the three are read: the span of the stream, MINIDUMP_SYSTEM_INFO and the text of the
+-- service pack
 abbrev span_record_and_text : Result (List ℕ) Error → Option System → ℕ
 span_record_and_text (Err StreamNotFound) system = 0
 span_record_and_text (Err _) system = 1
 span_record_and_text (Ok bytes) None = 2
 span_record_and_text (Ok bytes) (Some system) = 3
 
--- the reads that the system information takes at least: its span, its record and its text, as far as each is there to be read
+-- the reads that the system information takes at least: its span, its record and its text, as far
+-- as each is there to be read
 abbrev pub system_reads : Dump → ℕ
 system_reads d = span_record_and_text (raw_stream (number_of SystemInfoStream) d) (dump_system d)
 
--- the reads that a dump takes at least: one for the header, one for each entry, and those of its system information
+-- the reads that a dump takes at least: one for the header, one for each entry, and those of its
+-- system information
 abbrev pub least_reads : Dump → ℕ
 least_reads d = 1 + d.header.stream_count + system_reads d
 

@@ -1,4 +1,5 @@
--- The exception of a minidump: Microsoft's MINIDUMP_EXCEPTION_STREAM, with the address of the crash.
+-- The exception of a minidump: Microsoft's MINIDUMP_EXCEPTION_STREAM, with the address of the
+-- crash.
 use Rattle.std.specs.Prelude.{ℕ, ◌%◌, ◌^◌, ◌==◌, ◌||◌, ◌&&◌, nat_le, Bool, false, List, [], ◌∷◌, ◌++◌, slice_index, Option, Some, None, Result, Ok}
 use Rattle.std.specs.Prelude.{codes, if◌then◌else◌, min, take}
 use Rattle.std.specs.Fmt.{decimal}
@@ -31,7 +32,8 @@ use Rattle.minidump_context.specs.Text.{context_text}
 use Rattle.minidump.specs.declared.exception.MinidumpException.{MinidumpException}
 use Rattle.minidump.specs.Thread.{known_context}
 
--- an exception: its record, the id of its thread, the bytes of that thread's context, and their byte order
+-- an exception: its record, the id of its thread, the bytes of that thread's context, and their
+-- byte order
 pub record Exception : Type 0 where
   pub raw : MINIDUMP_EXCEPTION_STREAM
   pub thread_id : ℕ
@@ -51,8 +53,9 @@ abbrev pub exception_in : Endian → List ℕ → List ℕ → Result Exception 
 exception_in order file bytes =
     and_then (ok_or (record_at exception_layout order 0 bytes) StreamReadFailure) (λ raw. Ok (exception_at order file raw))
 
--- EXCEPTION_ACCESS_VIOLATION and EXCEPTION_IN_PAGE_ERROR of winnt.h, whose second parameter is the address that was accessed. Any number of
--- parameters from two on has a second one, also one above 15
+-- EXCEPTION_ACCESS_VIOLATION and EXCEPTION_IN_PAGE_ERROR of winnt.h, whose second parameter is the
+-- address that was accessed. Any number of parameters from two on has a second one, also one above
+-- 15
 abbrev has_address : Os → MINIDUMP_EXCEPTION → Bool
 has_address Windows r = (r.exception_code == 0xc0000005 || r.exception_code == 0xc0000006) && nat_le 2 r.number_parameters
 has_address _ r = false
@@ -105,11 +108,12 @@ location_lines l = concat (
     ∷ codes "  thread_context.rva                         = " ∷ hex l.rva ∷ codes "\n"
     ∷ [])
 
--- what is printed in the place of an absent context
+-- what is printed instead of an absent context
 unfoldable pub no_exception_context : List ℕ
 no_exception_context = codes "  (no context)\n\n    "
 
--- the text of the context of an exception, behind an empty line; without a context the text ends with four blanks and no line feed
+-- an empty line and the text of the context of an exception; without a context the text ends with
+-- four spaces and no line feed
 abbrev pub exception_context_text : Option MinidumpRawContext → List ℕ
 exception_context_text (Some c) = line_end ++ context_text c
 exception_context_text None = no_exception_context

@@ -1,8 +1,9 @@
--- The promise of this library, and the index of its tables. A file is a minidump, or has an error, by `dump_in` of Dump.antt; a stream is a
--- value, or has an error, by `stream_of` there and by the table of its type: a `StreamSpec`, at the end of the file that its line here names.
--- Reading a file of n bytes takes n + 8 reads at most, and `least_reads` at least where it succeeds; a stream takes one for its span and
--- n + 7 more at most, or (n + 8)² - 1 more where it is handles or Crashpad's information. A list of regions answers by `HasRegionLaws` of
--- minidump_index.
+-- The promise of this library, and the index of its tables. A file is a minidump, or has an error,
+-- by `dump_in` of Dump.antt; a stream is a value, or has an error, by `stream_of` there and by the
+-- table of its type: a `StreamSpec`, at the end of the file that its line here names. Reading a
+-- file of n bytes takes n + 8 reads at most, and `least_reads` at least where it succeeds; a stream
+-- takes one for its span and n + 7 more at most, or (n + 8)² - 1 more where it is handles or
+-- Crashpad's information. A list of regions answers by `HasRegionLaws` of minidump_index.
 pub use Rattle.minidump_system.specs.SystemInfo.{system_info_stream}
 pub use Rattle.minidump_system.specs.MiscInfo.{misc_info_stream}
 pub use Rattle.minidump_memory.specs.MemoryList.{memory_list_stream}

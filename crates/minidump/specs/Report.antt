@@ -4,14 +4,14 @@ use Rattle.std.specs.List.{concat, flat_map}
 use Rattle.minidump_bytes.specs.declared.told.Told.{Told}
 use Rattle.minidump_format.specs.declared.error.Error.{Error}
 use Rattle.minidump_format.specs.declared.error.Error.TheVariants.{StreamNotFound}
-use Rattle.minidump_format.specs.Error.{refusal_name}
+use Rattle.minidump_format.specs.Error.{name_of_error}
 use Rattle.minidump_format.specs.Print.{Prints}
 use Rattle.minidump_reason.specs.Names.{Lists}
 use Rattle.minidump_system.specs.StreamSpec.{StreamSpec}
 use Rattle.minidump.specs.Crash.{crash_text}
 use Rattle.minidump.specs.Dump.{Dump, dump_in, dump_system, stream_of}
 use Rattle.minidump.specs.Memory.{memories_of_dump}
-use Rattle.minidump.specs.Text.{dump_text, shown_type}
+use Rattle.minidump.specs.Text.{dump_text, stream_type_name}
 use Rattle.minidump.specs.declared.report.Section.{Section}
 use Rattle.minidump.specs.declared.report.Section.TheVariants as part
 use Rattle.minidump.specs.Promise.{assertion_stream, breakpad_info_stream, crashpad_info_stream, exception_stream, handle_data_stream, linux_cpu_info_stream}
@@ -38,25 +38,27 @@ use Rattle.minidump_stability.specs.ReportText.{stability_report_text}
 use Rattle.minidump_system.specs.MiscInfo.{misc_info_text}
 use Rattle.minidump_system.specs.SystemInfo.{system_info_text}
 
--- the line of a refused stream: the name of its type, and that of its error
-unfoldable pub refusal_text : List ℕ → Error → List ℕ
-refusal_text name e = concat (name ∷ codes ": " ∷ refusal_name e ∷ codes "\n" ∷ [])
+-- the line of a stream's error: the name of its type, and that of the error
+unfoldable pub error_line : List ℕ → Error → List ℕ
+error_line name e = concat (name ∷ codes ": " ∷ name_of_error e ∷ codes "\n" ∷ [])
 
--- what a stream without a value adds to the report: nothing where it is absent, else the line of its error
+-- what a stream without a value adds to the report: nothing where it is absent, else the line of
+-- its error
 abbrev pub unread_text : List ℕ → Error → List ℕ
 unread_text name StreamNotFound = []
-unread_text name e = refusal_text name e
+unread_text name e = error_line name e
 
 -- what a stream adds to the report, by the text of its value
-abbrev pub reported : {V : Type 0} → List ℕ → (V → List ℕ) → Result V Error → List ℕ
-reported name text (Ok value) = text value
-reported name text (Err e) = unread_text name e
+abbrev pub text_or_error : {V : Type 0} → List ℕ → (V → List ℕ) → Result V Error → List ℕ
+text_or_error name text (Ok value) = text value
+text_or_error name text (Err e) = unread_text name e
 
 -- what the stream of a table adds to the report on a dump
 abbrev pub section : {S V : Type 0} → StreamSpec S V → (V → List ℕ) → Dump → List ℕ
-section spec text dump = reported (shown_type spec.stream_type) text (stream_of spec dump)
+section spec text dump = text_or_error (stream_type_name spec.stream_type) text (stream_of spec dump)
 
--- what each type of stream adds: threads are not brief, and have the memory that `get_memory` returns; both lists of memory are brief
+-- what each type of stream adds: threads are not brief, and have the memory that `get_memory`
+-- returns; both lists of memory are brief
 abbrev pub section_text : Dump → Section → List ℕ
 section_text dump part.SystemInfoStream = section system_info_stream system_info_text dump
 section_text dump part.MiscInfoStream = section misc_info_stream misc_info_text dump
@@ -97,16 +99,18 @@ sections =
 unfoldable pub sections_text : Dump → List ℕ
 sections_text dump = flat_map (section_text dump) sections
 
--- the report on a dump: its header and directory, its streams, and where and why the process crashed
+-- the report on a dump: its header and directory, its streams, and where and why the process
+-- crashed
 abbrev pub report_text : Lists → Dump → List ℕ
 report_text names dump = dump_text dump ++ (sections_text dump ++ crash_text names dump)
 
--- the report on a dump is printed; or an error is returned, where the bytes are no dump, and the writer is left as it was
+-- the report on a dump is printed; or an error is returned, where the bytes are no dump, and the
+-- writer is left as it was
 abbrev pub ReportsOn : {D : Type 0} → (D → Option (List ℕ)) → Told D → Told D → Lists → Result (Unit {0}) Error → Result Dump Error → Type 0
 ReportsOn contents old new names result (Ok dump) = Prints contents old new (report_text names dump) result
-ReportsOn contents old new names result (Err refusal) = (new ≡ old) × (result ≡ Err refusal)
+ReportsOn contents old new names result (Err e) = (new ≡ old) × (result ≡ Err e)
 
--- What writing the report on these bytes does. They are a minidump: its report is printed. They are none: the error is theirs, and
--- nothing is written.
+-- What writing the report on these bytes does. They are a minidump: its report is printed. They are
+-- none: the error is theirs, and nothing is written.
 abbrev pub Reports : {D : Type 0} → (D → Option (List ℕ)) → Told D → Told D → Lists → List ℕ → Result (Unit {0}) Error → Type 0
 Reports contents old new names bytes result = ReportsOn contents old new names result (dump_in bytes)

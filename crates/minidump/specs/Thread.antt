@@ -1,4 +1,5 @@
--- The threads of a minidump: Microsoft's MINIDUMP_THREAD_LIST, with the context and the stack of each.
+-- The threads of a minidump: Microsoft's MINIDUMP_THREAD_LIST, with the context and the stack of
+-- each.
 use Rattle.std.specs.Prelude.{◌≡◌, ◌≢◌, ℕ, ◌+◌, All, List, ◌∷◌, ◌++◌, map, Option, Some, None, Result, Ok, if◌then◌else◌, nat_lt, ◌*◌, ◌^◌, IsOkAnd}
 use Rattle.std.specs.Prelude.{◌<◌, length}
 use Rattle.std.specs.List.{sum_by}
@@ -14,7 +15,7 @@ use Rattle.minidump_format.specs.Header.{located}
 use Rattle.minidump_format.specs.StreamType.{number_of}
 use Rattle.minidump_format.specs.Thread.{thread}
 use Rattle.minidump_index.specs.Lookup.{IsLookedUp}
-use Rattle.minidump_system.specs.StreamSpec.{StreamSpec, linear}
+use Rattle.minidump_system.specs.StreamSpec.{StreamSpec}
 use Rattle.minidump_system.specs.System.{System}
 use Rattle.minidump_system.specs.declared.cpu.Cpu.{Cpu}
 use Rattle.minidump_system.specs.Cpu.{pointer_bytes, width_of}
@@ -22,7 +23,7 @@ use Rattle.minidump_system.specs.Framing.{plain_list}
 use Rattle.minidump_system.specs.Reads.{and_then}
 use Rattle.minidump_context.specs.declared.raw_context.MinidumpRawContext.{MinidumpRawContext}
 use Rattle.minidump_context.specs.Context.{context_in, registers_of, value_in}
-use Rattle.minidump_memory.specs.Memory.{MemoryRegion, described, memory_of, number_in, region_range, spans_read}
+use Rattle.minidump_memory.specs.Memory.{MemoryRegion, descriptor_region, memory_of, number_in, range_of_region, spans_read}
 use Rattle.minidump_memory.specs.Unified.{Memory, UnifiedRegion, UnifiedRegions, of_kind, unified_regions}
 use Rattle.minidump_reason.specs.declared.reason.CrashReason.{CrashReason}
 use Rattle.minidump_reason.specs.Names.{Lists}
@@ -57,12 +58,13 @@ thread_of t = record { raw = t.raw; context = option_copied t.context; stack = o
 abbrev pub thread_list_of : MinidumpThreadList → List Thread
 thread_list_of l = map thread_of l.threads.items
 
--- the thread of an entry: a context or a stack whose bytes are not in the file is absent, and so is a stack without an RVA or a size
+-- the thread of an entry: a context or a stack whose bytes are not in the file is absent, and so is
+-- a stack without an RVA or a size
 abbrev pub thread_at : Endian → List ℕ → MINIDUMP_THREAD → Thread
 thread_at order file raw = record {
   raw = raw;
   context = located file raw.thread_context;
-  stack = result_ok (described order file raw.stack);
+  stack = result_ok (descriptor_region order file raw.stack);
   order = order;
 }
 
@@ -70,28 +72,31 @@ thread_at order file raw = record {
 abbrev pub thread_list_in : Endian → List ℕ → List ℕ → Result (List Thread) Error
 thread_list_in order file bytes = and_then (plain_list thread order bytes) (λ raws. Ok (map (thread_at order file) raws))
 
--- the last thread of an id: it has the id, and none behind it has. There is none only where no thread has the id
+-- the last thread of an id: it has the id, and none after it has. There is none only where no
+-- thread has the id
 abbrev pub IsLastThread : ℕ → List Thread → Option Thread → Type 0
 IsLastThread id threads None = All (λ t. t.raw.thread_id ≢ id) threads
 IsLastThread id threads (Some last) =
     (earlier later : List Thread) × (threads ≡ earlier ++ (last ∷ later)) × (last.raw.thread_id ≡ id) × All (λ t. t.raw.thread_id ≢ id) later
 
--- the reads that a thread takes: one for its context, and one for its stack if that has an RVA and a size
+-- the reads that a thread takes: one for its context, and one for its stack if that has an RVA and
+-- a size
 abbrev pub thread_reads : Thread → ℕ
 thread_reads t = 1 + spans_read t.raw.stack
 
--- the stack is the thread's own, where it has one, else the one of a list of memory
-abbrev IsOwnOrListed : Option (MemoryRegion MINIDUMP_MEMORY_DESCRIPTOR) → Type 0 → Option UnifiedRegion → Type 0
-IsOwnOrListed (Some own) listed found = found ≡ Some (of_kind Memory own)
-IsOwnOrListed None listed found = listed
+-- the stack is the thread's own, where it has one; else this is said of it
+abbrev IsOwnOr : Option (MemoryRegion MINIDUMP_MEMORY_DESCRIPTOR) → Type 0 → Option UnifiedRegion → Type 0
+IsOwnOr (Some own) otherwise found = found ≡ Some (of_kind Memory own)
+IsOwnOr None otherwise found = otherwise
 
--- a thread's stack: its own, else the region in a list of memory that the start of its stack lies in
+-- a thread's stack: its own, else the region in a list of memory that the start of its stack lies
+-- in
 abbrev pub IsStack : Thread → UnifiedRegions → Option UnifiedRegion → Type 0
 IsStack t memory found =
-    IsOwnOrListed t.stack (IsLookedUp region_range (unified_regions memory) t.raw.stack.start_of_memory_range found) found
+    IsOwnOr t.stack (IsLookedUp range_of_region (unified_regions memory) t.raw.stack.start_of_memory_range found) found
 
--- the address of LastErrorValue in Windows' thread environment block, 13 pointers behind its beginning, on every system: none without a
--- width of pointers, or beyond the addresses of 64 bits
+-- the address of LastErrorValue in Windows' thread environment block, 13 pointers after its start,
+-- on every system: none without a width of pointers, or beyond the addresses of 64 bits
 abbrev pub last_error_address : Cpu → ℕ → Option ℕ
 last_error_address cpu teb =
     option_and_then (λ width. if nat_lt (teb + 13 * width) (2 ^ 64) then Some (teb + 13 * width) else None) (pointer_bytes (width_of cpu))
@@ -101,11 +106,12 @@ abbrev pub error_at : Lists → ℕ → Option UnifiedRegion → Option CrashRea
 error_at names address region =
     option_map (windows_error names) (option_and_then (λ r. number_in (number_layout 4) r address) region)
 
--- the error at an address of a list of memory: that of the region that contains the address. A thread's own stack is no part of the list
+-- the error at an address of a list of memory: that of the region that contains the address. A
+-- thread's own stack is no part of the list
 abbrev pub IsErrorIn : Lists → UnifiedRegions → Option ℕ → Option CrashReason → Type 0
 IsErrorIn names memory None found = found ≡ None
 IsErrorIn names memory (Some address) found =
-    (region : Option UnifiedRegion) × IsLookedUp region_range (unified_regions memory) address region × (found ≡ error_at names address region)
+    (region : Option UnifiedRegion) × IsLookedUp range_of_region (unified_regions memory) address region × (found ≡ error_at names address region)
 
 -- the stream of type ThreadListStream
 abbrev pub thread_list_stream : StreamSpec MinidumpThreadList (List Thread)
@@ -113,7 +119,7 @@ thread_list_stream = record {
   stream_type = number_of ThreadListStream;
   value = thread_list_of;
   meaning = λ order file bytes system. thread_list_in order file bytes;
-  most = linear;
+  most = λ n. n + 7;
   fewest = λ order bytes threads. 1 + length threads + sum_by thread_reads threads;
   memory = λ order file bytes system. IsOkAnd (plain_list thread order bytes) (λ raws. 0 < length raws);
 }

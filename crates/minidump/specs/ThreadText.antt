@@ -16,7 +16,7 @@ use Rattle.minidump_system.specs.declared.cpu.PointerWidth.TheVariants.{Bits32, 
 use Rattle.minidump_system.specs.System.{System}
 use Rattle.minidump_context.specs.declared.raw_context.MinidumpRawContext.{MinidumpRawContext}
 use Rattle.minidump_context.specs.Text.{context_text}
-use Rattle.minidump_memory.specs.Memory.{MemoryRegion, region_range}
+use Rattle.minidump_memory.specs.Memory.{MemoryRegion, range_of_region}
 use Rattle.minidump_memory.specs.Unified.{Memory, UnifiedRegion, UnifiedRegions, of_kind, unified_regions}
 use Rattle.minidump.specs.LookedUp.{looked_up}
 use Rattle.minidump.specs.Thread.{Thread, known_context}
@@ -39,7 +39,7 @@ thread_head t = concat (
     ∷ codes "\n"
     ∷ [])
 
--- what is printed in the place of an absent context
+-- what is printed instead of an absent context
 unfoldable pub no_thread_context : List ℕ
 no_thread_context = codes "  (no context)\n\n"
 
@@ -58,29 +58,29 @@ word_bytes Bits32 = 4
 word_bytes Bits64 = 8
 word_bytes Unknown = 8
 
--- a word of a stack, of so many bytes, behind its offset
+-- the offset of a word of a stack, and the word, of so many bytes
 unfoldable pub word_line : ℕ → ℕ → ℕ → List ℕ
 word_line size offset word = concat (codes "    0x" ∷ wide_hex 8 offset ∷ codes ": 0x" ∷ wide_hex (2 * size) word ∷ codes "\n" ∷ [])
 
--- the whole words of a stack; the bytes behind the last one are left out
-abbrev pub words_of : Endian → ℕ → List ℕ → List ℕ
-words_of order size bytes = flat_map (λ i. word_line size (size * i) (number_at order size (size * i) bytes)) (range_with_len 0 (length bytes / size))
+-- the whole words of a stack; the bytes after the last one are left out
+abbrev pub word_lines : Endian → ℕ → List ℕ → List ℕ
+word_lines order size bytes = flat_map (λ i. word_line size (size * i) (number_at order size (size * i) bytes)) (range_with_len 0 (length bytes / size))
 
 -- the words of a stack, each as wide as a pointer
-unfoldable pub words_text : Endian → PointerWidth → List ℕ → List ℕ
-words_text order width bytes = words_of order (word_bytes width) bytes
+unfoldable pub stack_words_text : Endian → PointerWidth → List ℕ → List ℕ
+stack_words_text order width bytes = word_lines order (word_bytes width) bytes
 
 -- the heading of a stack
 unfoldable pub stack_heading : List ℕ
 stack_heading = codes "Stack\n"
 
--- what is printed in the place of an absent stack
+-- what is printed instead of an absent stack
 unfoldable pub no_stack : List ℕ
 no_stack = codes "No stack\n\n"
 
 -- the text of the stack of a thread
 abbrev pub stack_text : Endian → PointerWidth → Option UnifiedRegion → List ℕ
-stack_text order width (Some stack) = stack_heading ++ (words_text order width stack.bytes ++ line_end)
+stack_text order width (Some stack) = stack_heading ++ (stack_words_text order width stack.bytes ++ line_end)
 stack_text order width None = no_stack
 
 -- how wide a pointer is on the machine of a dump
@@ -90,18 +90,19 @@ pointer_width None = Unknown
 
 -- a thread's own stack, else the region that a list of memory has for it
 abbrev pub own_or : Option (MemoryRegion MINIDUMP_MEMORY_DESCRIPTOR) → Option UnifiedRegion → Option UnifiedRegion
-own_or (Some own) listed = Some (of_kind Memory own)
-own_or None listed = listed
+own_or (Some own) otherwise = Some (of_kind Memory own)
+own_or None otherwise = otherwise
 
 -- the region in a list of memory that contains an address
-abbrev pub listed_stack : Option UnifiedRegions → ℕ → Option UnifiedRegion
-listed_stack memory address = option_and_then (λ m. looked_up region_range (unified_regions m) address) memory
+abbrev pub stack_in_list : Option UnifiedRegions → ℕ → Option UnifiedRegion
+stack_in_list memory address = option_and_then (λ m. looked_up range_of_region (unified_regions m) address) memory
 
--- the stack of a thread: its own, else the region in a list of memory that the start of its stack lies in
+-- the stack of a thread: its own, else the region in a list of memory that the start of its stack
+-- lies in
 abbrev pub stack_of : Option UnifiedRegions → Thread → Option UnifiedRegion
-stack_of memory t = own_or t.stack (listed_stack memory t.raw.stack.start_of_memory_range)
+stack_of memory t = own_or t.stack (stack_in_list memory t.raw.stack.start_of_memory_range)
 
--- what stands behind the context: an empty line where the text is brief, else the stack
+-- what stands after the context: an empty line where the text is brief, else the stack
 abbrev pub thread_end : Bool → Endian → PointerWidth → Option UnifiedRegion → List ℕ
 thread_end brief order width stack = if brief then line_end else stack_text order width stack
 

@@ -6,7 +6,7 @@ ghost use Rattle.minidump.specs.DumpValue.{dump_of};
 ghost use Rattle.minidump.specs.Exception.{exception_of};
 ghost use Rattle.minidump.specs.Shared.{AreShared};
 
-use crate::shared::{SharedStreams, found};
+use crate::shared::{SharedStreams, as_found};
 use crate::{Minidump, MinidumpException};
 use minidump_bytes::{Piece, Told, push_pieces};
 use minidump_format::{Error, Pushed, no_memory, print_item, put_text};
@@ -27,7 +27,7 @@ pub(crate) fn print_crash<W: Write>(
     requires { AreShared (dump_of dump.now) streams.now }
     ensures { Prints W.contents f.old f.new (crash_text names.now (dump_of dump.now)) result }
 {
-    match found(&streams.exception) {
+    match as_found(&streams.exception) {
         Ok(Some(exception)) => print_exception(exception, dump, streams, names, alloc, f),
         Ok(None) => put_text(f, ""),
         Err(_) => Err(no_memory(f)),
@@ -60,7 +60,8 @@ fn print_exception<W: Write>(
     }
 }
 
-// Returns what of a crash takes the system information, or `None` if there is none. The only error is `OutOfMemory`.
+// Returns what of a crash takes the system information, or `None` if there is none. The only error
+// is `OutOfMemory`.
 fn crash_values(
     exception: &MinidumpException<'_>,
     dump: &Minidump<'_>,
@@ -69,7 +70,8 @@ fn crash_values(
 ) -> Result<Option<CrashValues>, Error>
     requires { AreShared (dump_of dump.now) streams.now }
     ensures { IfOk result (λ values. values_lines names.now values
-        ≡ system_lines names.now (dump_of dump.now) (exception_of exception.now) (dump_system (dump_of dump.now))) }
+        ≡ system_lines names.now (dump_of dump.now) (exception_of exception.now)
+        (dump_system (dump_of dump.now))) }
 {
     let Some(system) = &dump.system_info else {
         return Ok(None);
@@ -93,7 +95,7 @@ fn last_error(
     requires { AreShared (dump_of dump.now) streams.now }
     ensures { IfOk result (λ error. error ≡ last_error_of names.now (dump_of dump.now) cpu id) }
 {
-    let Some(list) = found(&streams.threads)? else {
+    let Some(list) = as_found(&streams.threads)? else {
         return Ok(None);
     };
     let Some(thread) = list.first_from_the_end(id) else {
@@ -177,7 +179,8 @@ fn push_reason(
     reason: &CrashReason,
     names: &CodeNames<'_>,
 ) -> Result<(), AllocError>
-    ensures { OnOk result (out.new.items ≡ out.old.items ++ reason_line words.now names.now reason.now) }
+    ensures { OnOk result (out.new.items ≡ out.old.items
+        ++ reason_line words.now names.now reason.now) }
 {
     out.extend_from_slice(words.as_bytes())?;
     match reason.text(*out.allocator(), names) {

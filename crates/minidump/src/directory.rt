@@ -1,11 +1,11 @@
-ghost use Rattle.std.specs.Prelude.{◌≡◌, ℕ, ◌+◌, ◌-◌, ◌*◌, ◌^◌, ◌<◌, ◌≤◌, All, find, length, drop, map, IfOk, OnOk};
+ghost use Rattle.std.specs.Prelude.{◌≡◌, ◌+◌, ◌-◌, ◌*◌, ◌^◌, ◌<◌, ◌≤◌, All, find, length, drop, map, IfOk, OnOk};
 ghost use Rattle.std.specs.List.Sorted.{IsNonDecreasingBy, IsStrictlySortedBy};
 ghost use Rattle.std.specs.Ordering.{nat_cmp};
 ghost use Rattle.std.specs.Option.{option_map};
 ghost use Rattle.minidump_bytes.specs.Steps.{after};
 ghost use Rattle.minidump_bytes.specs.Source.{bytes_of};
 ghost use Rattle.minidump.specs.Deciding.{AreLast, Decides, Reads, ends_a_type, is_of_type, type_of};
-ghost use Rattle.minidump.specs.Directory.{directory, indexed, is_readable};
+ghost use Rattle.minidump.specs.Directory.{directory, with_indices, is_readable};
 
 use minidump_bytes::{Endian, Source, Steps};
 use minidump_format::Error;
@@ -20,7 +20,8 @@ pub(crate) struct DecidingEntry {
     pub(crate) entry: MINIDUMP_DIRECTORY,
 }
 
-// Tells whether every entry is in the file. If there is none, the offset of the directory is not looked at.
+// Tells whether every entry is in the file. If there is none, the offset of the directory may be
+// any.
 fn is_readable(source: Source<'_>, header: &MINIDUMP_HEADER) -> bool
     ensures { result ≡ is_readable (bytes_of source.entry) header.now }
 {
@@ -28,8 +29,8 @@ fn is_readable(source: Source<'_>, header: &MINIDUMP_HEADER) -> bool
     count == 0 || header.stream_directory_rva as u64 + 12 * count <= source.len() as u64
 }
 
-// Reads the directory, and returns the deciding entries, ascending by type. Takes memory only if every
-// entry is in the file.
+// Reads the directory, and returns the deciding entries, ascending by type. Takes memory only if
+// every entry is in the file.
 pub(crate) fn read_directory(
     alloc: Global,
     source: Source<'_>,
@@ -37,7 +38,8 @@ pub(crate) fn read_directory(
     header: &MINIDUMP_HEADER,
     steps: &mut Steps,
 ) -> Result<Vec<DecidingEntry>, Error>
-    ensures means { Reads (λ v. Decides v.items (directory endian (bytes_of source.entry) header.now))
+    ensures means { Reads (λ v. Decides v.items
+        (directory endian (bytes_of source.entry) header.now))
         (bytes_of source.entry) header.now result }
     ensures within { 12 * (steps.new - steps.old) ≤ length (bytes_of source.entry) + 12 }
     ensures grows { steps.old ≤ steps.new }
@@ -57,7 +59,8 @@ fn read_entries(
     header: &MINIDUMP_HEADER,
     steps: &mut Steps,
 ) -> Result<Vec<DecidingEntry>, Error>
-    ensures means { Reads (λ v. v.items ≡ indexed (directory endian (bytes_of source.entry) header.now))
+    ensures means { Reads (λ v. v.items
+        ≡ with_indices (directory endian (bytes_of source.entry) header.now))
         (bytes_of source.entry) header.now result }
     ensures small { IfOk result (λ v. All (λ d. type_of d < 2 ^ 32) v.items) }
     ensures within { 12 * (steps.new - steps.old) ≤ length (bytes_of source.entry) + 12 }
@@ -69,9 +72,9 @@ fn read_entries(
     }
     let mut entries = Vec::with_capacity(alloc, header.stream_count as usize)?;
     for index in 0..header.stream_count {
-        let place = header.stream_directory_rva as u64 + 12 * index as u64;
+        let offset = header.stream_directory_rva as u64 + 12 * index as u64;
         let entry: MINIDUMP_DIRECTORY = source
-            .record(place, endian, steps)
+            .record(offset, endian, steps)
             .ok_or(Error::MissingDirectory)?;
         entries.push(DecidingEntry { index, entry })?;
     }
@@ -110,7 +113,7 @@ pub(crate) fn entry_of_type(entries: &[DecidingEntry], stream_type: u32) -> Opti
     ensures { option_map (λ d. d.now) result ≡ find (is_of_type stream_type) entries.now }
 {
     match entries.binary_search_by_key(&stream_type, |e| e.entry.stream_type) {
-        Ok(place) => Some(&entries[place]),
+        Ok(index) => Some(&entries[index]),
         Err(_) => None,
     }
 }

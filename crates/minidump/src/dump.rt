@@ -17,8 +17,8 @@ use minidump_format::format::MINIDUMP_HEADER;
 use minidump_system::MinidumpSystemInfo;
 use std::alloc::Global;
 
-/// A minidump: its header, its directory and its system information. Other streams are read when they are
-/// asked for.
+/// A minidump: its header, its directory and its system information. Other streams are read when
+/// they are asked for.
 #[derive(Drop)]
 pub struct Minidump<'a> {
     /// The header.
@@ -39,25 +39,26 @@ impl<'a> Minidump<'a> {
     ghost use Rattle.std.specs.List.{filter_map};
     ghost use Rattle.minidump_bytes.specs.Steps.{after};
     ghost use Rattle.minidump_format.specs.Answer.{Gives};
-    ghost use Rattle.minidump.specs.Dump.{HasEntries, dump_in, least_reads, raw_stream, streams_of};
+    ghost use Rattle.minidump.specs.Dump.{HasEntries, dump_in, least_reads, streams_of};
     ghost use Rattle.minidump.specs.DumpValue.{dump_of};
     ghost use Rattle.minidump.specs.Streams.{as_unknown, as_unimplemented, entries_of, streams_left, unknown_left, unimplemented_left};
 
     /// Reads the header, the directory and the system information of a minidump.
     ///
-    /// Returns the first of these errors that holds: `MissingHeader` if there are fewer than 32 bytes,
-    /// `HeaderMismatch` if they don't begin with the signature in either byte order, `VersionMismatch` if
-    /// the low 16 bits of the version are not those of a minidump, `MissingDirectory` if an entry is not
-    /// in the file. Returns `OutOfMemory` only if none of them holds and there is at least one entry. A
-    /// missing or malformed SystemInfo stream is no error.
+    /// Returns the first of these errors that holds: `MissingHeader` if there are fewer than 32
+    /// bytes, `HeaderMismatch` if they don't begin with the signature in either byte order,
+    /// `VersionMismatch` if the low 16 bits of the version are not those of a minidump,
+    /// `MissingDirectory` if an entry is not in the file. Returns `OutOfMemory` only if none of
+    /// them holds and there is at least one entry. A missing or malformed SystemInfo stream is no
+    /// error.
     pub fn read(alloc: Global, bytes: &'a [u8]) -> Result<Minidump<'a>, Error>
         ensures { Gives dump_of (HasEntries bytes.now) result (dump_in bytes.now) }
     {
         Minidump::read_counted(alloc, bytes, &mut Steps::new())
     }
 
-    /// Reads as [`Minidump::read`] does, and counts the reads: at least one, and at most `n + 8` for `n`
-    /// bytes.
+    /// Reads as [`Minidump::read`] does, and counts the reads: at least one, and at most `n + 8`
+    /// for `n` bytes.
     pub fn read_counted(
         alloc: Global,
         bytes: &'a [u8],
@@ -67,7 +68,8 @@ impl<'a> Minidump<'a> {
         ensures within { steps.new ≤ steps.old + length bytes.now + 8 }
         ensures grows { steps.old ≤ steps.new }
         ensures begun { after steps.old 1 ≤ steps.new }
-        ensures at_least { IfOk result (λ d. after steps.old (least_reads (dump_of d)) ≤ steps.new) }
+        ensures at_least { IfOk result
+            (λ d. after steps.old (least_reads (dump_of d)) ≤ steps.new) }
     {
         let source = Source::new(bytes);
         let (endian, header) = read_header(source, steps)?;
@@ -89,8 +91,8 @@ impl<'a> Minidump<'a> {
         })
     }
 
-    /// Returns an iterator over the deciding entries of the directory, ascending by type. Of several
-    /// entries of a type the last decides.
+    /// Returns an iterator over the deciding entries of the directory, ascending by type. Of
+    /// several entries of a type the last decides.
     pub fn all_streams(&self) -> Streams<'_>
         ensures { streams_left result ≡ entries_of (streams_of (dump_of self.now)) }
     {
@@ -108,15 +110,16 @@ impl<'a> Minidump<'a> {
 
     /// Returns an iterator over the streams of [`Minidump::all_streams`] whose type has no name.
     pub fn unknown_streams(&self) -> UnknownStreams<'_>
-        ensures { unknown_left result ≡ filter_map as_unknown (entries_of (streams_of (dump_of self.now))) }
+        ensures { unknown_left result
+            ≡ filter_map as_unknown (entries_of (streams_of (dump_of self.now))) }
     {
         UnknownStreams {
             streams: self.all_streams(),
         }
     }
 
-    /// Returns an iterator over the streams of [`Minidump::all_streams`] whose type has a name, but is
-    /// never read.
+    /// Returns an iterator over the streams of [`Minidump::all_streams`] whose type has a name, but
+    /// is never read.
     pub fn unimplemented_streams(&self) -> UnimplementedStreams<'_>
         ensures { unimplemented_left result
             ≡ filter_map as_unimplemented (entries_of (streams_of (dump_of self.now))) }

@@ -1,6 +1,7 @@
-/// Calls a macro with each type of stream that is read, in the order of the report: the name of the stream type, the
-/// type that reads it, and how many reads [`get_stream`](crate::Minidump::get_stream) makes of a file of n bytes at most:
-/// 8 (`constant`), n + 8 (`linear`) or (n + 8)² (`square`).
+/// Calls a macro with each type of stream that is read, in the order of the report: the name of the
+/// stream type, the type that reads it, and how many reads
+/// [`get_stream`](crate::Minidump::get_stream) makes of a file of n bytes at most: 8 (`constant`),
+/// n + 8 (`linear`) or (n + 8)² (`square`).
 #[macro_export]
 #[rattlefmt::skip]
 macro_rules! each_stream {

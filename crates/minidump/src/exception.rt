@@ -26,7 +26,8 @@ const EXCEPTION_ACCESS_VIOLATION: u32 = 0xc000_0005;
 
 const EXCEPTION_IN_PAGE_ERROR: u32 = 0xc000_0006;
 
-/// The exception that ended a process, with the bytes of its thread's context as they lie in the file.
+/// The exception that ended a process, with the bytes of its thread's context as they lie in the
+/// file.
 #[derive(Drop)]
 pub struct MinidumpException<'a> {
     /// The record in the stream.
@@ -52,28 +53,29 @@ impl<'a> MinidumpException<'a> {
         self.endian
     }
 
-    /// Decodes the registers of the thread at the exception. Ask this context before the thread's, as
-    /// [`MinidumpThread::context`](crate::MinidumpThread::context) gives it: those are the registers when the dump
-    /// was written, often within the handler of the exception.
+    /// Decodes the registers of the thread at the exception. Prefer this context to that of
+    /// [`MinidumpThread::context`](crate::MinidumpThread::context), which has the registers when
+    /// the dump was written, often within the handler of the exception.
     ///
-    /// Returns `None` if the bytes of the context are not in the file or [`MinidumpContext::read`] refuses
-    /// them. Takes no memory.
+    /// Returns `None` if the bytes of the context are not in the file, or [`MinidumpContext::read`]
+    /// returns an error for them. Takes no memory.
     pub fn context(
         &self,
         system_info: &MinidumpSystemInfo,
         misc: Option<&MinidumpMiscInfo>,
     ) -> Option<MinidumpContext>
         ensures raw { option_map (λ c. c.raw) result
-            ≡ accepted_context system_info.now.raw.processor_architecture (exception_stream.value self.now).order (exception_stream.value self.now).context }
+            ≡ accepted_context system_info.now.raw.processor_architecture
+            (exception_stream.value self.now).order (exception_stream.value self.now).context }
         ensures valid { IfSome result (λ c. c.valid ≡ All) }
     {
         accepted_context(self.context, self.endian, system_info, misc)
     }
 
-    /// Returns the address of the crash. It is the one that was accessed, the second parameter, if the
-    /// system is Windows and the exception an access violation or an in-page error with two parameters or
-    /// more; else the address at which the exception happened. On a 32-bit processor it is the low 32
-    /// bits, since some writers extend the sign.
+    /// Returns the address of the crash. It is the one that was accessed, the second parameter, if
+    /// the system is Windows and the exception an access violation or an in-page error with two
+    /// parameters or more; else the address at which the exception happened. On a 32-bit processor
+    /// it is the low 32 bits, since some writers extend the sign.
     pub fn get_crash_address(&self, os: Os, cpu: Cpu) -> u64
         ensures { result ≡ crash_address os cpu self.now.raw.exception_record }
     {
@@ -106,8 +108,9 @@ impl<'a> MinidumpException<'a> {
         self.thread_id
     }
 
-    /// Prints the record, and the context as far as `system` decodes it. Of the parameters it prints as many as
-    /// `number_parameters` says, but at most the 15 that there are.
+    /// Prints the record, and the context, if `system` has an architecture by which it can be
+    /// decoded. Of the parameters it prints as many as `number_parameters` says, but at most the 15
+    /// that there are.
     pub fn print<W: Write>(
         &self,
         alloc: Global,
@@ -116,7 +119,8 @@ impl<'a> MinidumpException<'a> {
         misc: Option<&MinidumpMiscInfo>,
     ) -> Result<(), Error>
         ensures { Prints W.contents f.old f.new
-            (exception_text (option_map system_info_of (option_copied system.entry)) (exception_stream.value self.now)) result }
+            (exception_text (option_map system_info_of (option_copied system.entry))
+            (exception_stream.value self.now)) result }
     {
         let text = ExceptionText {
             exception: self,
@@ -220,8 +224,8 @@ fn push_context(out: &mut Vec<u8>, context: &Option<MinidumpContext>) -> Result<
     }
 }
 
-/// Microsoft's `MINIDUMP_EXCEPTION_STREAM`: one record. Its context is not decoded. The only error is
-/// `StreamReadFailure`, if the stream has too few bytes.
+/// Microsoft's `MINIDUMP_EXCEPTION_STREAM`: one record. Its context is not decoded. The only error
+/// is `StreamReadFailure`, if the stream has too few bytes.
 impl<'a> MinidumpStream<'a> for MinidumpException<'a> {
     ghost use Rattle.minidump.specs.Exception.{Exception, exception_stream};
 

@@ -8,8 +8,8 @@ use std::alloc::Global;
 
 /// Reads a file into `into`, whose bytes it replaces, as [`read_all`] does.
 ///
-/// Returns `FileNotFound` if the file can't be opened, which leaves `into` as it was; `IoError` if a read fails, and
-/// `OutOfMemory` if an allocation fails, which leave it empty.
+/// Returns `FileNotFound` if the file can't be opened, which leaves `into` as it was; `IoError` if
+/// a read fails, and `OutOfMemory` if an allocation fails, which leave it empty.
 pub fn read_file<R: OpenPath>(rt: &R, path: &str, into: &mut Vec<u8>) -> Result<(), Error>
     ensures { ReadsFile (R.opens rt.now) R.File.left R.File.failed path.now into.old.items into.new.items result }
 {
@@ -22,10 +22,11 @@ pub fn read_file<R: OpenPath>(rt: &R, path: &str, into: &mut Vec<u8>) -> Result<
 impl<'a> Minidump<'a> {
     ghost use Rattle.minidump.specs.File.{ReadsFrom, ReadsPath};
 
-    /// Reads all that a reader has left into `into`, whose bytes it replaces, and then as [`Minidump::read`] does.
+    /// Replaces the bytes of `into` by all that the reader has left, and reads the minidump that
+    /// they are, as [`Minidump::read`] does.
     ///
-    /// Returns `IoError` exactly where the reader has failed by then. Call [`read_all`] and [`Minidump::read`] to use
-    /// `into` afterwards by contract.
+    /// Returns `IoError` exactly where the reader has failed by then. If a contract of yours has to
+    /// say what `into` holds afterwards, call [`read_all`] and then [`Minidump::read`].
     pub fn read_from<R: ToldReader>(
         alloc: Global,
         reader: &mut R,
@@ -40,10 +41,10 @@ impl<'a> Minidump<'a> {
 
     /// Reads a file into `into` by [`read_file`], and then as [`Minidump::read`] does.
     ///
-    /// Returns `FileNotFound` if the file can't be opened, which leaves `into` as it was, and `IoError`
-    /// if a read fails, which leaves `into` empty, as does `OutOfMemory` while the file is read. After
-    /// every other result `into` holds the bytes of the file. Call [`read_file`] and [`Minidump::read`] to use `into`
-    /// afterwards by contract.
+    /// Returns `FileNotFound` if the file can't be opened, which leaves `into` as it was, and
+    /// `IoError` if a read fails, which leaves `into` empty, as does `OutOfMemory` while the file
+    /// is read. After every other result `into` holds the bytes of the file. Call [`read_file`] and
+    /// [`Minidump::read`] to use `into` afterwards by contract.
     pub fn read_path<R: OpenPath>(
         rt: &R,
         alloc: Global,

@@ -1,6 +1,6 @@
-//! Laws of the directory, of the streams and of lists of regions, over the definitions that the contracts of
-//! this crate name. Each is a call that does nothing; its contract says what holds. Those of reading are in
-//! `reading`, those of the records of the format in `records`.
+//! Laws of the directory, of the streams and of lists of regions, over the definitions that the
+//! contracts of this crate name. Each is a call that does nothing; its contract says what holds.
+//! Those of reading are in `reading`, those of the records of the format in `records`.
 ghost use Rattle.std.specs.Prelude.{◌≡◌, ◌≢◌, ◌↔◌, ◌<◌, ◌^◌, ◌+◌, ℕ, ◌++◌, ◌∷◌, All, Contains, IsOk, IsOkAnd, IsSome, List, length, map, Option, Some};
 ghost use Rattle.std.specs.List.Sorted.{IsStrictlyIncreasing};
 ghost use Rattle.std.specs.Result.{result_ok};
@@ -20,16 +20,16 @@ ghost use Rattle.minidump_memory.specs.declared.memory_list.MinidumpMemoryListBa
 ghost use Rattle.minidump_memory.specs.declared.memory_info.MinidumpMemoryInfoList.{MinidumpMemoryInfoList};
 ghost use Rattle.minidump_memory.specs.LinuxMaps.{map_info_of, maps_of};
 ghost use Rattle.minidump_memory.specs.MapLine.{MapRegion};
-ghost use Rattle.minidump_memory.specs.Memory.{MemoryRegion, memory_of, region_range};
+ghost use Rattle.minidump_memory.specs.Memory.{MemoryRegion, memory_of, range_of_region};
 ghost use Rattle.minidump_memory.specs.MemoryInfo.{MemoryInfo, info_of, infos_of};
 ghost use Rattle.minidump_memory.specs.MemoryList.{regions_of};
 ghost use Rattle.minidump_memory.specs.Unified.{UnifiedRegion};
-ghost use Rattle.minidump_memory.specs.UnifiedInfo.{InfoRegion, info_region_range};
+ghost use Rattle.minidump_memory.specs.UnifiedInfo.{InfoRegion, range_of_info_region};
 ghost use Rattle.minidump_modules.specs.declared.module_list.MinidumpModuleList.{MinidumpModuleList};
 ghost use Rattle.minidump_modules.specs.declared.unloaded_module.MinidumpUnloadedModule.{MinidumpUnloadedModule};
 ghost use Rattle.minidump_modules.specs.CodeId.{text_of};
 ghost use Rattle.minidump_modules.specs.DebugId.{breakpad_text, debug_id_text};
-ghost use Rattle.minidump_modules.specs.Module.{ModuleValue, module_of, value_range};
+ghost use Rattle.minidump_modules.specs.Module.{ModuleValue, module_of, range_of_module};
 ghost use Rattle.minidump_modules.specs.ModuleList.{modules_of};
 ghost use Rattle.minidump_modules.specs.UnloadedModule.{UnloadedValue, unloaded_of};
 ghost use Rattle.minidump_records.specs.declared.handles.data_stream.MinidumpHandleDataStream.{MinidumpHandleDataStream};
@@ -39,8 +39,8 @@ ghost use Rattle.minidump_records.specs.Handles.{Handle, handle_of};
 ghost use Rattle.minidump_records.specs.Handles.ObjectChain.{information_text};
 ghost use Rattle.minidump_records.specs.MacCrashInfo.Record.{MacRecord, mac_record_of};
 ghost use Rattle.minidump.specs.declared.directory.DecidingEntry.{DecidingEntry};
-ghost use Rattle.minidump.specs.Directory.{deciding, deciding_below, directory};
-ghost use Rattle.minidump.specs.Dump.{Dump, raw_stream, spanned, stream_memory, stream_of, streams_of, dump_system};
+ghost use Rattle.minidump.specs.Directory.{deciding_entry, directory};
+ghost use Rattle.minidump.specs.Dump.{Dump, raw_stream, bytes_of_span, stream_memory, stream_of, streams_of, dump_system};
 ghost use Rattle.minidump.specs.LookedUp.{looked_up};
 ghost use Rattle.minidump.specs.Memory.{TakesMemory, memories_of_dump};
 ghost use Rattle.minidump.specs.Promise.{assertion_stream, breakpad_info_stream, crashpad_info_stream, exception_stream, handle_data_stream, linux_cpu_info_stream, linux_environ_stream, linux_lsb_release_stream, linux_maps_stream, linux_proc_limits_stream, linux_proc_status_stream, mac_bootargs_stream, mac_crash_info_stream, memory64_list_stream, memory_info_list_stream, memory_list_stream, misc_info_stream, module_list_stream, soft_errors_stream, stability_report_stream, system_info_stream, thread_info_list_stream, thread_list_stream, thread_names_stream, unloaded_module_list_stream};
@@ -56,7 +56,7 @@ pub use minidump_bytes::laws as reading;
 pub use minidump_context::laws::{
     a_change_is_seen_under_all_names, any_name_makes_a_register_valid,
     clones_are_the_same as context_clones_are_the_same, contexts_are_as_defined,
-    names_name_their_registers, nothing_else_is_changed, registers_stand_at_their_places,
+    names_name_their_registers, nothing_else_is_changed, registers_are_at_their_offsets,
     sets_are_equal_by_their_names,
 };
 use minidump_format::Error;
@@ -115,7 +115,8 @@ use std::fmt;
 pub fn last_entry_decides()
     ensures { (es later : List MINIDUMP_DIRECTORY) (e : MINIDUMP_DIRECTORY)
         → All (λ x. x.stream_type ≢ e.stream_type) later
-        → deciding e.stream_type (es ++ (e ∷ later)) ≡ Some (record { index = length es; entry = e }) }
+        → deciding_entry e.stream_type (es ++ (e ∷ later))
+        ≡ Some (record { index = length es; entry = e }) }
 {}
 
 /// The last entry of a type decides the bytes of the stream.
@@ -123,27 +124,30 @@ pub fn last_entry_decides_the_bytes()
     ensures { (d : Dump) (es later : List MINIDUMP_DIRECTORY) (e : MINIDUMP_DIRECTORY)
         → directory d.order d.file d.header ≡ es ++ (e ∷ later)
         → All (λ x. x.stream_type ≢ e.stream_type) later
-        → raw_stream e.stream_type d ≡ spanned (located d.file e.location) }
+        → raw_stream e.stream_type d ≡ bytes_of_span (located d.file e.location) }
 {}
 
-/// The last entry of a type decides what `get_stream` answers: `answer`, what the type makes of the bytes at the entry's
-/// location, or `StreamReadFailure` where that isn't in the file; `memory`, it may run out of memory only where the type does
-/// for these bytes. `none`: if no entry has the type, it is `StreamNotFound`, and takes
-/// no memory.
+/// The last entry of a type decides what `get_stream` returns: `answer`, what the type makes of the
+/// bytes at the entry's location, or `StreamReadFailure` where that isn't in the file; `memory`, it
+/// may run out of memory only where the type does for these bytes. `none`: if no entry has the
+/// type, it is `StreamNotFound`, and takes no memory.
 pub fn last_entry_decides_the_stream<'a, S: MinidumpStream<'a>>()
     ensures answer { (d : Dump) (es later : List MINIDUMP_DIRECTORY) (e : MINIDUMP_DIRECTORY)
         → directory d.order d.file d.header ≡ es ++ (e ∷ later)
         → e.stream_type ≡ S.spec.stream_type
         → All (λ x. x.stream_type ≢ e.stream_type) later
         → stream_of S.spec d
-        ≡ and_then (spanned (located d.file e.location)) (λ bytes. S.spec.meaning d.order d.file bytes (dump_system d)) }
+        ≡ and_then (bytes_of_span (located d.file e.location))
+        (λ bytes. S.spec.meaning d.order d.file bytes (dump_system d)) }
     ensures memory { (d : Dump) (es later : List MINIDUMP_DIRECTORY) (e : MINIDUMP_DIRECTORY)
         → directory d.order d.file d.header ≡ es ++ (e ∷ later)
         → e.stream_type ≡ S.spec.stream_type
         → All (λ x. x.stream_type ≢ e.stream_type) later
         → stream_memory S.spec d
-        ↔ IsOkAnd (spanned (located d.file e.location)) (λ bytes. S.spec.memory d.order d.file bytes (dump_system d)) }
-    ensures none { (d : Dump) → All (λ x. x.stream_type ≢ S.spec.stream_type) (directory d.order d.file d.header)
+        ↔ IsOkAnd (bytes_of_span (located d.file e.location))
+        (λ bytes. S.spec.memory d.order d.file bytes (dump_system d)) }
+    ensures none { (d : Dump) → All (λ x. x.stream_type ≢ S.spec.stream_type)
+        (directory d.order d.file d.header)
         → (stream_of S.spec d ≡ Err Error.StreamNotFound) × ¬ (stream_memory S.spec d) }
 {}
 
@@ -155,20 +159,24 @@ pub fn listed_streams_ascend()
 /// The listed streams are exactly the deciding entries.
 pub fn listed_streams_decide()
     ensures each { (d : Dump)
-        → All (λ s. deciding s.entry.stream_type (directory d.order d.file d.header) ≡ Some s) (streams_of d) }
+        → All (λ s. deciding_entry s.entry.stream_type (directory d.order d.file d.header) ≡ Some s)
+        (streams_of d) }
     ensures all { (d : Dump) (stream_type : ℕ) (s : DecidingEntry) → stream_type < 2 ^ 32
-        → deciding stream_type (directory d.order d.file d.header) ≡ Some s → Contains (streams_of d) s }
+        → deciding_entry stream_type (directory d.order d.file d.header) ≡ Some s
+        → Contains (streams_of d) s }
 {}
 
-/// A directory in which the bytes of a stream, or a stream of type `S`, are found has an entry. So it has where reading
-/// that stream may run out of memory.
+/// A directory in which the bytes of a stream, or a stream of type `S`, are found has an entry. The
+/// same holds if reading that stream may run out of memory.
 pub fn a_found_stream_has_an_entry<'a, S: MinidumpStream<'a>>()
-    ensures bytes { (d : Dump) (stream_type : ℕ) → IsOk (raw_stream stream_type d) → 0 < d.header.stream_count }
+    ensures bytes { (d : Dump) (stream_type : ℕ) → IsOk (raw_stream stream_type d)
+        → 0 < d.header.stream_count }
     ensures found { (d : Dump) → IsOk (stream_of S.spec d) → 0 < d.header.stream_count }
     ensures memory { (d : Dump) → stream_memory S.spec d → 0 < d.header.stream_count }
 {}
 
-/// A directory of a dump whose memory is found, or where reading it may run out of memory, has an entry.
+/// A directory of a dump whose memory is found, or where reading it may run out of memory, has an
+/// entry.
 pub fn found_memory_has_an_entry()
     ensures found { (d : Dump) → IsSome (memories_of_dump d) → 0 < d.header.stream_count }
     ensures memory { (d : Dump) → TakesMemory d → 0 < d.header.stream_count }
@@ -178,27 +186,32 @@ pub fn found_memory_has_an_entry()
 pub fn one_last_thread()
     ensures one { (id : ℕ) (threads : List Thread) (last other : Option Thread)
         → IsLastThread id threads last → IsLastThread id threads other → last ≡ other }
-    ensures exists { (id : ℕ) (threads : List Thread) → (last : Option Thread) × IsLastThread id threads last }
+    ensures exists { (id : ℕ) (threads : List Thread) → (last : Option Thread)
+        × IsLastThread id threads last }
 {}
 
-/// The region of memory, the module and the information that `looked_up` has of an address are the ones that a lookup returns.
+/// The region of memory, the module and the information that `looked_up` has of an address are the
+/// ones that a lookup returns.
 pub fn a_report_has_what_a_lookup_returns()
     ensures regions { (regions : List UnifiedRegion) (address : ℕ) (found : Option UnifiedRegion)
-        → IsLookedUp region_range regions address found ↔ (found ≡ looked_up region_range regions address) }
+        → IsLookedUp range_of_region regions address found
+        ↔ (found ≡ looked_up range_of_region regions address) }
     ensures modules { (modules : List ModuleValue) (address : ℕ) (found : Option ModuleValue)
-        → IsLookedUp value_range modules address found ↔ (found ≡ looked_up value_range modules address) }
+        → IsLookedUp range_of_module modules address found
+        ↔ (found ≡ looked_up range_of_module modules address) }
     ensures infos { (infos : List InfoRegion) (address : ℕ) (found : Option InfoRegion)
-        → IsLookedUp info_region_range infos address found ↔ (found ≡ looked_up info_region_range infos address) }
+        → IsLookedUp range_of_info_region infos address found
+        ↔ (found ≡ looked_up range_of_info_region infos address) }
 {}
 
-/// The system information is read as the dump has it: its stream, where that parses.
+/// The system information of a dump is the value of its stream, if that parses.
 pub fn system_information_is_the_dumps()
     ensures { (d : Dump) → result_ok (stream_of system_info_stream d) ≡ dump_system d }
 {}
 
-/// Each type of stream that is read has the table that is promised of it: its number, its value, its meaning, at
-/// most `n + 7` reads, or `(n + 8)² - 1` of handles and Crashpad's information, the fewest reads, and where it
-/// may take memory.
+/// Each type of stream that is read has the table that is promised of it: its number, its value,
+/// its meaning, at most `n + 7` reads, or `(n + 8)² - 1` of handles and Crashpad's information, the
+/// fewest reads, and where it may take memory.
 pub fn streams_are_read_as_promised()
     ensures system_info { IsSame ⟦<MinidumpSystemInfo as MinidumpStream<'static>>⟧.spec system_info_stream }
     ensures misc_info { IsSame ⟦<MinidumpMiscInfo as MinidumpStream<'static>>⟧.spec misc_info_stream }
@@ -241,17 +254,19 @@ pub fn texts_are_as_defined()
 
 /// Clones of a deciding entry, of an unknown stream and of an unimplemented one are equal values.
 pub fn clones_are_the_same()
-    ensures entry { (entry other : DecidingEntry) → ⟦<DecidingEntry as Clone>⟧.is_clone entry other → other ≡ entry }
+    ensures entry { (entry other : DecidingEntry) → ⟦<DecidingEntry as Clone>⟧.is_clone entry other
+        → other ≡ entry }
     ensures unknown { (stream other : MinidumpUnknownStream)
-        → ⟦<MinidumpUnknownStream as Clone>⟧.is_clone stream other → unknown_of other ≡ unknown_of stream }
+        → ⟦<MinidumpUnknownStream as Clone>⟧.is_clone stream other
+        → unknown_of other ≡ unknown_of stream }
     ensures unimplemented { (stream other : MinidumpUnimplementedStream)
         → ⟦<MinidumpUnimplementedStream as Clone>⟧.is_clone stream other
         → unimplemented_of other ≡ unimplemented_of stream }
 {}
 
-/// The value of a list's stream is the list of its entries' values. So a function `f` of each value, such as one of its
-/// fields, can be applied to the entries instead, and a clause over the value of a stream follows from one over the
-/// entries. `T` is the type of the function's results.
+/// The value of a list's stream is the list of its entries' values. So a function `f` of each
+/// value, such as one of its fields, can be applied to the entries instead, and a clause over the
+/// value of a stream follows from one over the entries. `T` is the type of the function's results.
 #[tactic(auto, using(crate::proofs::ListRules::entries))]
 pub fn values_are_those_of_the_entries<T>()
     ensures handles { (list : MinidumpHandleDataStream) (f : Handle → T)
@@ -260,9 +275,11 @@ pub fn values_are_those_of_the_entries<T>()
         → map f (mac_crash_info_stream.value list) ≡ map (λ r. f (mac_record_of r)) list.raw.items }
     ensures maps { (list : MinidumpLinuxMaps) (f : MapRegion → T)
         → map f (linux_maps_stream.value list) ≡ map (λ m. f (map_info_of m)) (maps_of list) }
-    ensures memory { (list : MinidumpMemoryListBase MINIDUMP_MEMORY_DESCRIPTOR) (f : MemoryRegion MINIDUMP_MEMORY_DESCRIPTOR → T)
+    ensures memory { (list : MinidumpMemoryListBase MINIDUMP_MEMORY_DESCRIPTOR)
+        (f : MemoryRegion MINIDUMP_MEMORY_DESCRIPTOR → T)
         → map f (memory_list_stream.value list) ≡ map (λ m. f (memory_of m)) (regions_of list) }
-    ensures memory64 { (list : MinidumpMemoryListBase MINIDUMP_MEMORY_DESCRIPTOR64) (f : MemoryRegion MINIDUMP_MEMORY_DESCRIPTOR64 → T)
+    ensures memory64 { (list : MinidumpMemoryListBase MINIDUMP_MEMORY_DESCRIPTOR64)
+        (f : MemoryRegion MINIDUMP_MEMORY_DESCRIPTOR64 → T)
         → map f (memory64_list_stream.value list) ≡ map (λ m. f (memory_of m)) (regions_of list) }
     ensures memory_info { (list : MinidumpMemoryInfoList) (f : MemoryInfo → T)
         → map f (memory_info_list_stream.value list) ≡ map (λ i. f (info_of i)) (infos_of list) }

@@ -11,15 +11,17 @@ use minidump_memory::{MinidumpMemory64List, MinidumpMemoryList, UnifiedMemoryLis
 use std::alloc::Global;
 
 impl<'a> Minidump<'a> {
-    /// Returns the memory of the dump: its [`MinidumpMemory64List`], or, if that is missing or malformed,
-    /// its [`MinidumpMemoryList`], or `None` if neither can be read. The only error is
-    /// [`Error::OutOfMemory`], after which the other list is not tried. A directory without entries takes no
-    /// memory.
+    /// Returns the memory of the dump: its [`MinidumpMemory64List`], or, if that is missing or
+    /// malformed, its [`MinidumpMemoryList`], or `None` if neither can be read. The only error is
+    /// [`Error::OutOfMemory`], after which the other list is not tried. A directory without entries
+    /// takes no memory.
     pub fn get_memory(&self, alloc: Global) -> Result<Option<UnifiedMemoryList<'a>>, Error>
         ensures means { Gives (option_map unified_list) (TakesMemory (dump_of self.now)) result
             (Ok (memories_of_dump (dump_of self.now))) }
-        ensures entry { IfOk result (λ found. OnSome found (0 < (dump_of self.now).header.stream_count)) }
-        ensures memory { IfErr result (λ e. (e ≡ Error.OutOfMemory) × (0 < (dump_of self.now).header.stream_count)) }
+        ensures entry { IfOk result
+            (λ found. OnSome found (0 < (dump_of self.now).header.stream_count)) }
+        ensures memory { IfErr result
+            (λ e. (e ≡ Error.OutOfMemory) × (0 < (dump_of self.now).header.stream_count)) }
     {
         if let Some(list) = self.find_stream::<MinidumpMemory64List<'a>>(alloc)? {
             return Ok(Some(UnifiedMemoryList::Memory64(list)));

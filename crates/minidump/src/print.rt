@@ -2,7 +2,7 @@ ghost use Rattle.std.specs.Prelude.{◌≡◌, ◌++◌};
 ghost use Rattle.std.specs.List.{flat_map};
 ghost use Rattle.minidump_format.specs.Print.{Prints};
 ghost use Rattle.minidump_format.specs.Text.{line_end};
-ghost use Rattle.minidump.specs.Text.{dump_text, entry_text, header_text, shown_type, stream_text, streams_heading};
+ghost use Rattle.minidump.specs.Text.{dump_text, entry_text, header_text, stream_type_name, stream_text, streams_heading};
 ghost use Rattle.minidump.specs.Dump.{streams_of};
 ghost use Rattle.minidump.specs.DumpValue.{dump_of};
 
@@ -15,8 +15,8 @@ use std::alloc::{AllocError, Global};
 use std::io::Write;
 
 impl<'a> Minidump<'a> {
-    /// Prints the header and the directory: the entries of [`Minidump::all_streams`], each with its index
-    /// in the directory, and a line for each of their streams.
+    /// Prints the header and the directory: the entries of [`Minidump::all_streams`], each with its
+    /// index in the directory, and a line for each of their streams.
     #[tactic(auto, using(minidump_format::proofs::Printing::prints_then, minidump_format::proofs::Printing::prints_exit))]
     pub fn print<W: Write>(&self, alloc: Global, f: &mut Told<W>) -> Result<(), Error>
         ensures { Prints W.contents f.old f.new (dump_text (dump_of self.now)) result }
@@ -28,7 +28,8 @@ impl<'a> Minidump<'a> {
     #[tactic(auto, using(minidump_format::proofs::Printing::prints_then, minidump_format::proofs::Printing::prints_exit))]
     fn print_entries<W: Write>(&self, alloc: Global, f: &mut Told<W>) -> Result<(), Error>
         ensures { Prints W.contents f.old f.new
-            (header_text self.now.header ++ flat_map entry_text (streams_of (dump_of self.now))) result }
+            (header_text self.now.header
+            ++ flat_map entry_text (streams_of (dump_of self.now))) result }
     {
         print_item(&HeaderText(&self.header), alloc, f)?;
         print_all(self.deciding_entries().iter(), alloc, f)
@@ -37,7 +38,8 @@ impl<'a> Minidump<'a> {
     #[tactic(auto, unfolding(crate::specs::Text::streams_heading))]
     fn print_streams<W: Write>(&self, alloc: Global, f: &mut Told<W>) -> Result<(), Error>
         ensures { Prints W.contents f.old f.new
-            (streams_heading ++ (flat_map stream_text (streams_of (dump_of self.now)) ++ line_end)) result }
+            (streams_heading
+            ++ (flat_map stream_text (streams_of (dump_of self.now)) ++ line_end)) result }
     {
         put_text(f, "Streams:\n")?;
         self.print_stream_lines(alloc, f)?;
@@ -45,7 +47,8 @@ impl<'a> Minidump<'a> {
     }
 
     fn print_stream_lines<W: Write>(&self, alloc: Global, f: &mut Told<W>) -> Result<(), Error>
-        ensures { Prints W.contents f.old f.new (flat_map stream_text (streams_of (dump_of self.now))) result }
+        ensures { Prints W.contents f.old f.new
+            (flat_map stream_text (streams_of (dump_of self.now))) result }
     {
         let lines = self
             .deciding_entries()
@@ -113,9 +116,9 @@ impl<'a> Pushed for StreamLine<'a> {
 }
 
 // Returns the name of a type of stream.
-#[tactic(auto, unfolding(crate::specs::Text::shown_type))]
+#[tactic(auto, unfolding(crate::specs::Text::stream_type_name))]
 pub(crate) fn type_name(stream_type: u32) -> &'static str
-    ensures { result.now ≡ shown_type stream_type }
+    ensures { result.now ≡ stream_type_name stream_type }
 {
     match MINIDUMP_STREAM_TYPE::from_u32(stream_type) {
         Some(named) => named.name(),

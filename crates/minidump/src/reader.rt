@@ -2,7 +2,7 @@ ghost use Rattle.std.specs.Prelude.{◌≡◌, ◌≢◌, ◌↔◌, ℕ, Bool, 
 ghost use Rattle.minidump.specs.File.{IsLater, IsWhole};
 ghost use Rattle.minidump.specs.Reader.{TakesLeft};
 
-use minidump_bytes::{Refused, Told};
+use minidump_bytes::{DeviceFailed, Told};
 use minidump_format::Error;
 use std::fs;
 use std::io::Read;
@@ -17,7 +17,7 @@ pub trait ToldReader {
     ghost failed: { Self → Bool };
 
     /// Reads some bytes to the front of the buffer, as [`Told::take`] does.
-    fn take(&mut self, buf: &mut [u8]) -> Result<usize, Refused>
+    fn take(&mut self, buf: &mut [u8]) -> Result<usize, DeviceFailed>
         ensures takes { TakesLeft left failed self.old self.new buf.new result }
         ensures dead { IsTrue (failed self.old) → self.new ≡ self.old };
 }
@@ -29,17 +29,17 @@ impl<R: Read> ToldReader for Told<R> {
 
     ghost failed = { has_failed };
 
-    fn take(&mut self, buf: &mut [u8]) -> Result<usize, Refused> {
+    fn take(&mut self, buf: &mut [u8]) -> Result<usize, DeviceFailed> {
         Told::take(self, buf)
     }
 }
 
-/// What opens files by their paths: all that has [`Files`].
+/// Opens files by their paths. Every type that implements [`Files`] does.
 pub trait OpenPath {
-    /// An opened file, from its beginning.
+    /// An opened file, at its start.
     type File: ToldReader + Drop;
 
-    // what opening a path answers
+    // what opening a path returns
     ghost opens: { Self → List ℕ → Option Self.File → Type 0 };
 
     /// Opens a file for reading. Returns `None` if that fails.
@@ -63,14 +63,14 @@ impl<R: Files> OpenPath for R {
 
 /// Empties `into`, and reads into it up to the end of the reader.
 ///
-/// Returns `IoError` if a read fails, and `OutOfMemory` if an allocation fails. Either leaves `into` empty. A
-/// reader that had failed stays as it was: `IoError`.
+/// Returns `IoError` if a read fails, and `OutOfMemory` if an allocation fails. Either leaves
+/// `into` empty. A reader that has failed before isn't called: the error is `IoError`.
 pub fn read_all<R: ToldReader>(reader: &mut R, into: &mut Vec<u8>) -> Result<(), Error>
     ensures all { OnOk result (IsWhole R.left reader.old into.new.items) }
     ensures later { IsLater R.left reader.old reader.new }
     ensures alive { OnOk result (R.failed reader.new ≡ false) }
     ensures failed { IfErr result (λ e. (e ≡ Error.IoError) ↔ (R.failed reader.new ≡ true)) }
-    ensures refused { IfErr result (λ e. e ≢ Error.IoError → e ≡ Error.OutOfMemory) }
+    ensures other { IfErr result (λ e. e ≢ Error.IoError → e ≡ Error.OutOfMemory) }
     ensures empty { OnErr result (into.new.items ≡ []) }
     ensures dead { IsTrue (R.failed reader.old) → reader.new ≡ reader.old }
 {

@@ -53,16 +53,17 @@ macro_rules! all_sections {
 
 const SECTIONS: [Section; 25] = each_stream!(all_sections);
 
-/// Writes the report on a minidump: its header and its directory, each stream that is read, and last where
-/// and why the process crashed, in the words of `names`.
+/// Writes the report on a minidump: its header and its directory, each stream that is read, and
+/// last where and why the process crashed, in the words of `names`.
 ///
-/// A stream adds what its type prints; an absent one adds nothing; a malformed one adds a line with the names of
-/// its type and of its error. Threads are printed with their stacks, by [`Minidump::get_memory`]; both lists of
-/// memory without their bytes. Each stream is read once; the exception, the threads and the lists of memory are kept
-/// until the end. The text is written piece by piece: at most a block and an item of it are in memory.
+/// A stream adds what its type prints; an absent one adds nothing; a malformed one adds a line with
+/// the names of its type and of its error. Threads are printed with their stacks, by
+/// [`Minidump::get_memory`]; both lists of memory without their bytes. Each stream is read once;
+/// the exception, the threads and the lists of memory are kept until the end. The text is written
+/// piece by piece, so that at most one block and one item of the text are in memory.
 ///
-/// Returns the errors of [`Minidump::read`] before anything is written; then `IoError` if the writer fails,
-/// and `OutOfMemory`, after which the writer took a prefix of the report.
+/// Returns the errors of [`Minidump::read`] before anything is written; then `IoError` if the
+/// writer fails, and `OutOfMemory`, after which the writer took a prefix of the report.
 pub fn write_report<W: Write>(
     alloc: Global,
     bytes: &[u8],
@@ -74,7 +75,7 @@ pub fn write_report<W: Write>(
     match Minidump::read(alloc, bytes) {
         Ok(dump) => print_report(&dump, names, alloc, f),
         Err(Error::OutOfMemory) => Err(no_memory(f)),
-        Err(refusal) => Err(refusal),
+        Err(error) => Err(error),
     }
 }
 
@@ -92,7 +93,8 @@ fn print_report<W: Write>(
     print_streams(dump, &streams, names, alloc, f)
 }
 
-// Prints the sections in order, and then the crash. Stops at the first error of the writer or of an allocation.
+// Prints the sections in order, and then the crash. Stops at the first error of the writer or of an
+// allocation.
 fn print_streams<W: Write>(
     dump: &Minidump<'_>,
     streams: &SharedStreams<'_>,
@@ -101,7 +103,8 @@ fn print_streams<W: Write>(
     f: &mut Told<W>,
 ) -> Result<(), Error>
     requires { AreShared (dump_of dump.now) streams.now }
-    ensures { Prints W.contents f.old f.new (sections_text (dump_of dump.now) ++ crash_text names.now (dump_of dump.now)) result }
+    ensures { Prints W.contents f.old f.new
+        (sections_text (dump_of dump.now) ++ crash_text names.now (dump_of dump.now)) result }
 {
     if f.failed() {
         return Err(Error::IoError);
@@ -166,7 +169,8 @@ fn print_threads<W: Write>(
     f: &mut Told<W>,
 ) -> Result<(), Error>
     requires { AreShared (dump_of dump.now) streams.now }
-    ensures { Prints W.contents f.old f.new (section_text (dump_of dump.now) Section.ThreadListStream) result }
+    ensures { Prints W.contents f.old f.new
+        (section_text (dump_of dump.now) Section.ThreadListStream) result }
 {
     match &streams.threads {
         Ok(threads) => match streams.get_memory() {

@@ -3,8 +3,8 @@ ghost use Rattle.minidump_format.specs.declared.error.Error.{Error};
 ghost use Rattle.minidump_format.specs.Print.{Prints};
 ghost use Rattle.minidump.specs.Dump.{IsStreamOf};
 ghost use Rattle.minidump.specs.DumpValue.{dump_of};
-ghost use Rattle.minidump.specs.Report.{refusal_text, section, unread_text};
-ghost use Rattle.minidump.specs.Text.{shown_type};
+ghost use Rattle.minidump.specs.Report.{error_line, section, unread_text};
+ghost use Rattle.minidump.specs.Text.{stream_type_name};
 
 use crate::Minidump;
 use crate::print::type_name;
@@ -14,8 +14,8 @@ use minidump_system::MinidumpStream;
 use std::alloc::Global;
 use std::io::Write;
 
-// Prints what a stream of the type `S` adds to the report if it can't be read: nothing if it is absent, else the name of
-// its error.
+// Prints what a stream of the type `S` adds to the report if it can't be read: nothing if it is
+// absent, else the name of its error.
 pub(crate) fn print_unread<'a, S: MinidumpStream<'a>, W: Write>(
     dump: &Minidump<'a>,
     error: Error,
@@ -23,19 +23,22 @@ pub(crate) fn print_unread<'a, S: MinidumpStream<'a>, W: Write>(
     f: &mut Told<W>,
 ) -> Result<(), Error>
     requires { IsStreamOf S.spec (dump_of dump.now) (Err error) }
-    ensures { (text : S.Value → List ℕ) → Prints W.contents f.old f.new (section S.spec text (dump_of dump.now)) result }
+    ensures { (text : S.Value → List ℕ)
+        → Prints W.contents f.old f.new (section S.spec text (dump_of dump.now)) result }
 {
     print_error(S::number_of_type(), error, alloc, f)
 }
 
-// Prints the line of a stream's error, or nothing if the stream is absent. Out of memory is no line.
+// Prints the line of a stream's error, or nothing for `StreamNotFound`. `OutOfMemory` has no line:
+// it ends the report.
 fn print_error<W: Write>(
     stream_type: u32,
     error: Error,
     alloc: Global,
     f: &mut Told<W>,
 ) -> Result<(), Error>
-    ensures { (text : List ℕ) → (error ≢ Error.OutOfMemory → text ≡ unread_text (shown_type stream_type) error)
+    ensures { (text : List ℕ)
+        → (error ≢ Error.OutOfMemory → text ≡ unread_text (stream_type_name stream_type) error)
         → Prints W.contents f.old f.new text result }
 {
     match error {
@@ -46,9 +49,9 @@ fn print_error<W: Write>(
 }
 
 #[rattlefmt::skip]
-#[tactic(auto, unfolding(crate::specs::Report::refusal_text))]
+#[tactic(auto, unfolding(crate::specs::Report::error_line))]
 fn print_line<W: Write>(name: &'static str, error: Error, alloc: Global, f: &mut Told<W>) -> Result<(), Error>
-    ensures { Prints W.contents f.old f.new (refusal_text name.now error) result }
+    ensures { Prints W.contents f.old f.new (error_line name.now error) result }
 {
     let line = [Piece::Words(name), Piece::Words(": "), Piece::Words(error.name()), Piece::Words("\n")];
     print_item(&line.as_slice(), alloc, f)

@@ -37,11 +37,12 @@ impl<'a> SharedStreams<'a> {
     // Returns the memory of the dump, as `Minidump::get_memory` does.
     pub(crate) fn get_memory(&self) -> Result<Option<&UnifiedMemoryList<'a>>, Error>
         ensures { (dump : Dump) → AreShared dump self.now
-            → IfOk result (λ found. option_map unified_list (option_copied found) ≡ memories_of_dump dump) }
+            → IfOk result (λ found. option_map unified_list (option_copied found)
+            ≡ memories_of_dump dump) }
     {
-        match found(&self.memory64)? {
+        match as_found(&self.memory64)? {
             Some(list) => Ok(Some(list)),
-            None => found(&self.memory),
+            None => as_found(&self.memory),
         }
     }
 }
@@ -64,9 +65,11 @@ fn read_memory<'a>(dump: &Minidump<'a>, alloc: Global) -> Result<UnifiedMemoryLi
     }
 }
 
-// Returns a stream that was read, or `None` if it is missing or malformed. The only error is `OutOfMemory`.
-pub(crate) fn found<T>(read: &Result<T, Error>) -> Result<Option<&T>, Error>
-    ensures { IfOk result (λ found. (option_copied found ≡ result_ok read.now) × (read.now ≢ Err Error.OutOfMemory)) }
+// Returns a stream that was read, or `None` if it is missing or malformed. The only error is
+// `OutOfMemory`.
+pub(crate) fn as_found<T>(read: &Result<T, Error>) -> Result<Option<&T>, Error>
+    ensures { IfOk result (λ found. (option_copied found ≡ result_ok read.now)
+        × (read.now ≢ Err Error.OutOfMemory)) }
 {
     match read {
         Ok(stream) => Ok(Some(stream)),

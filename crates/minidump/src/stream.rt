@@ -12,9 +12,9 @@ use minidump_system::MinidumpStream;
 use std::alloc::Global;
 
 impl<'a> Minidump<'a> {
-    /// Returns the bytes of the stream with the type `stream_type`, as they lie in the file. Returns
-    /// `StreamNotFound` if the directory has no entry of the type, `StreamReadFailure` if the last such
-    /// entry has a location that is not in the file. Takes no memory.
+    /// Returns the bytes of the stream with the type `stream_type`, as they lie in the file.
+    /// Returns `StreamNotFound` if the directory has no entry of the type, `StreamReadFailure` if
+    /// the last such entry has a location that is not in the file. Takes no memory.
     pub fn get_raw_stream(&self, stream_type: u32) -> Result<&'a [u8], Error>
         ensures { Gives (λ b. b.now) ⊥ result (raw_stream stream_type (dump_of self.now)) }
     {
@@ -33,21 +33,21 @@ impl<'a> Minidump<'a> {
         ensures inside { IfOk result (λ b. length b.now ≤ length (dump_of self.now).file) }
     {
         let entries = self.entries.as_slice();
-        let deciding = entry_of_type(entries, stream_type).ok_or(Error::StreamNotFound)?;
-        deciding
-            .entry
+        let last = entry_of_type(entries, stream_type).ok_or(Error::StreamNotFound)?;
+        last.entry
             .location
             .bytes_in(self.source, steps)
             .ok_or(Error::StreamReadFailure)
     }
 
     /// Reads the stream of the type `S`, and hands it the dump's system information. Returns
-    /// `StreamNotFound` and `StreamReadFailure` as [`Minidump::get_raw_stream`] does, else the errors of
-    /// the type. A directory without entries takes no memory.
+    /// `StreamNotFound` and `StreamReadFailure` as [`Minidump::get_raw_stream`] does, else the
+    /// errors of the type. A directory without entries takes no memory.
     pub fn get_stream<S: MinidumpStream<'a>>(&self, alloc: Global) -> Result<S, Error>
         ensures means { IsStreamOf S.spec (dump_of self.now) result }
         ensures entry { OnOk result (0 < (dump_of self.now).header.stream_count) }
-        ensures memory { IfErr result (λ e. e ≡ Error.OutOfMemory → 0 < (dump_of self.now).header.stream_count) }
+        ensures memory { IfErr result
+            (λ e. e ≡ Error.OutOfMemory → 0 < (dump_of self.now).header.stream_count) }
     {
         self.get_stream_counted(alloc, &mut Steps::new())
     }
@@ -61,15 +61,18 @@ impl<'a> Minidump<'a> {
     ) -> Result<S, Error>
         ensures means { IsStreamOf S.spec (dump_of self.now) result }
         ensures entry { OnOk result (0 < (dump_of self.now).header.stream_count) }
-        ensures memory { IfErr result (λ e. e ≡ Error.OutOfMemory → 0 < (dump_of self.now).header.stream_count) }
+        ensures memory { IfErr result
+            (λ e. e ≡ Error.OutOfMemory → 0 < (dump_of self.now).header.stream_count) }
         ensures within { steps.new ≤ steps.old + S.spec.most (length (dump_of self.now).file) + 1 }
         ensures grows { steps.old ≤ steps.new }
-        ensures counted { raw_stream S.spec.stream_type (dump_of self.now) ≢ Err Error.StreamNotFound
+        ensures counted { raw_stream S.spec.stream_type (dump_of self.now)
+            ≢ Err Error.StreamNotFound
             → after steps.old 1 ≤ steps.new }
         ensures absent { raw_stream S.spec.stream_type (dump_of self.now) ≡ Err Error.StreamNotFound
             → steps.new ≡ steps.old }
         ensures at_least { IfOk result (λ x. IfOk (raw_stream S.spec.stream_type (dump_of self.now))
-            (λ b. after steps.old (1 + S.spec.fewest (dump_of self.now).order b (S.spec.value x)) ≤ steps.new)) }
+            (λ b. after steps.old (1 + S.spec.fewest (dump_of self.now).order b (S.spec.value x))
+            ≤ steps.new)) }
     {
         let bytes = Source::new(self.raw_stream(S::number_of_type(), steps)?);
         S::read(
@@ -82,12 +85,14 @@ impl<'a> Minidump<'a> {
         )
     }
 
-    /// Reads the stream of the type `S`, or returns `None` if it is missing or malformed. The only error is
-    /// [`Error::OutOfMemory`]. A directory without entries takes no memory.
+    /// Reads the stream of the type `S`, or returns `None` if it is missing or malformed. The only
+    /// error is [`Error::OutOfMemory`]. A directory without entries takes no memory.
     pub fn find_stream<S: MinidumpStream<'a>>(&self, alloc: Global) -> Result<Option<S>, Error>
         ensures means { IsFoundStream S.spec (dump_of self.now) result }
-        ensures entry { IfOk result (λ found. OnSome found (0 < (dump_of self.now).header.stream_count)) }
-        ensures memory { IfErr result (λ e. (e ≡ Error.OutOfMemory) × (0 < (dump_of self.now).header.stream_count)) }
+        ensures entry { IfOk result
+            (λ found. OnSome found (0 < (dump_of self.now).header.stream_count)) }
+        ensures memory { IfErr result
+            (λ e. (e ≡ Error.OutOfMemory) × (0 < (dump_of self.now).header.stream_count)) }
     {
         self.find_stream_counted(alloc, &mut Steps::new())
     }
@@ -100,17 +105,21 @@ impl<'a> Minidump<'a> {
         steps: &mut Steps,
     ) -> Result<Option<S>, Error>
         ensures means { IsFoundStream S.spec (dump_of self.now) result }
-        ensures entry { IfOk result (λ found. OnSome found (0 < (dump_of self.now).header.stream_count)) }
-        ensures memory { IfErr result (λ e. (e ≡ Error.OutOfMemory) × (0 < (dump_of self.now).header.stream_count)) }
+        ensures entry { IfOk result
+            (λ found. OnSome found (0 < (dump_of self.now).header.stream_count)) }
+        ensures memory { IfErr result
+            (λ e. (e ≡ Error.OutOfMemory) × (0 < (dump_of self.now).header.stream_count)) }
         ensures within { steps.new ≤ steps.old + S.spec.most (length (dump_of self.now).file) + 1 }
         ensures grows { steps.old ≤ steps.new }
-        ensures counted { raw_stream S.spec.stream_type (dump_of self.now) ≢ Err Error.StreamNotFound
+        ensures counted { raw_stream S.spec.stream_type (dump_of self.now)
+            ≢ Err Error.StreamNotFound
             → after steps.old 1 ≤ steps.new }
         ensures absent { raw_stream S.spec.stream_type (dump_of self.now) ≡ Err Error.StreamNotFound
             → steps.new ≡ steps.old }
         ensures at_least { IfOk result (λ found. IfSome found
             (λ x. IfOk (raw_stream S.spec.stream_type (dump_of self.now))
-            (λ b. after steps.old (1 + S.spec.fewest (dump_of self.now).order b (S.spec.value x)) ≤ steps.new))) }
+            (λ b. after steps.old (1 + S.spec.fewest (dump_of self.now).order b (S.spec.value x))
+            ≤ steps.new))) }
     {
         match self.get_stream_counted(alloc, steps) {
             Ok(stream) => Ok(Some(stream)),

@@ -57,8 +57,8 @@ impl<'a> Iterator for Streams<'a> {
     ghost remaining = { item_count streams_left };
 
     fn next(&mut self) -> Option<&'a MINIDUMP_DIRECTORY> {
-        let deciding = self.entries.next()?;
-        Some(&deciding.entry)
+        let deciding_entry = self.entries.next()?;
+        Some(&deciding_entry.entry)
     }
 }
 

@@ -14,8 +14,8 @@ use minidump_format::format::MINIDUMP_HEADER;
 use minidump_system::{MinidumpStream, MinidumpSystemInfo};
 use std::alloc::Global;
 
-// Reads the system information. It is absent if its stream is missing or malformed; the only error is
-// `OutOfMemory`, where its table says that memory may run out.
+// Reads the system information. It is absent if its stream is missing or malformed; the only error
+// is `OutOfMemory`, where its table says that memory may run out.
 pub(crate) fn read_system_info(
     alloc: Global,
     source: Source<'_>,
@@ -35,10 +35,10 @@ pub(crate) fn read_system_info(
     ensures counted { OnOk result (after steps.old
         (system_reads (record { file = bytes_of source.entry; order = endian; header = header.now })) ≤ steps.new) }
 {
-    let Some(deciding) = entry_of_type(entries, MinidumpSystemInfo::STREAM_TYPE) else {
+    let Some(last) = entry_of_type(entries, MinidumpSystemInfo::STREAM_TYPE) else {
         return Ok(None);
     };
-    let Some(bytes) = deciding.entry.location.bytes_in(source, steps) else {
+    let Some(bytes) = last.entry.location.bytes_in(source, steps) else {
         return Ok(None);
     };
     match MinidumpSystemInfo::read_record(alloc, Source::new(bytes), source, endian, steps) {

@@ -54,8 +54,8 @@ impl<'a> MinidumpThread<'a> {
         self.context
     }
 
-    /// Returns the thread's own stack, or `None` if its RVA or its size is 0, or its bytes are not in the
-    /// file.
+    /// Returns the thread's own stack, or `None` if its RVA or its size is 0, or its bytes are not
+    /// in the file.
     pub fn own_stack(&self) -> Option<&MinidumpMemory<'a>>
         ensures { option_map memory_of (option_copied result) ≡ (thread_of self.now).stack }
     {
@@ -69,33 +69,36 @@ impl<'a> MinidumpThread<'a> {
         self.endian
     }
 
-    /// Decodes the registers of the thread. For the thread that crashed ask
-    /// [`MinidumpException::context`](crate::MinidumpException::context) first: these are its registers when the dump was
-    /// written, often within the handler of the exception.
+    /// Decodes the registers that the thread had when the dump was written. For the thread that
+    /// crashed call [`MinidumpException::context`](crate::MinidumpException::context) first, and
+    /// this if it returns `None`: when the dump was written that thread was often within the
+    /// handler of the exception.
     ///
-    /// Returns `None` if the bytes of the context are not in the file or [`MinidumpContext::read`] refuses them. Takes no
-    /// memory.
+    /// Returns `None` if the bytes of the context are not in the file, or [`MinidumpContext::read`]
+    /// returns an error for them. Takes no memory.
     pub fn context(
         &self,
         system_info: &MinidumpSystemInfo,
         misc: Option<&MinidumpMiscInfo>,
     ) -> Option<MinidumpContext>
         ensures raw { option_map (λ c. c.raw) result
-            ≡ accepted_context system_info.now.raw.processor_architecture (thread_of self.now).order (thread_of self.now).context }
+            ≡ accepted_context system_info.now.raw.processor_architecture (thread_of self.now).order
+            (thread_of self.now).context }
         ensures valid { IfSome result (λ c. c.valid ≡ All) }
     {
         accepted_context(self.context, self.endian, system_info, misc)
     }
 
-    /// Returns the memory of the stack: the thread's own, else the kept region of `memory_list` that
-    /// contains the address where the stack begins, or `None` if no kept region does. A stack whose RVA
-    /// or size is 0, or whose bytes are not in the file, is not the thread's own. The region may begin below the stack
-    /// pointer: what lies there is not in use.
+    /// Returns the memory of the stack: the thread's own, else the kept region of `memory_list`
+    /// that contains the address where the stack begins, or `None` if no kept region does. A stack
+    /// whose RVA or size is 0, or whose bytes are not in the file, is not the thread's own. The
+    /// region may begin below the stack pointer: what lies there is not in use.
     pub fn stack_memory<'mem>(
         &'mem self,
         memory_list: &'mem UnifiedMemoryList<'a>,
     ) -> Option<UnifiedMemory<'mem, 'a>>
-        ensures { IsStack (thread_of self.now) (unified_list memory_list.now) (option_map unified_region result) }
+        ensures { IsStack (thread_of self.now) (unified_list memory_list.now)
+            (option_map unified_region result) }
     {
         match &self.stack {
             Some(stack) => Some(UnifiedMemory::Memory(stack)),
@@ -103,25 +106,27 @@ impl<'a> MinidumpThread<'a> {
         }
     }
 
-    /// Returns the last error of the thread as Windows keeps it, whatever the system of the dump: the
-    /// number at `LastErrorValue` of its thread environment block, in the kept region of `memory` that
-    /// contains the address of that field. Returns `None` if the width of a pointer is unknown, the
-    /// address is 2^64 or more, no kept region contains it, or the region doesn't hold all four bytes.
-    /// The thread's own stack is not looked at. Takes no memory.
+    /// Returns the last error of the thread as Windows keeps it, whatever the system of the dump:
+    /// the number at `LastErrorValue` of its thread environment block, in the kept region of
+    /// `memory` that contains the address of that field. Returns `None` if the width of a pointer
+    /// is unknown, the address is 2^64 or more, no kept region contains it, or the region doesn't
+    /// hold all four bytes. Ignores the thread's own stack. Takes no memory.
     pub fn last_error(
         &self,
         cpu: Cpu,
         memory: &UnifiedMemoryList<'_>,
         names: &CodeNames<'_>,
     ) -> Option<CrashReason>
-        ensures { IsErrorIn names.now (unified_list memory.now) (last_error_address cpu self.now.raw.teb) result }
+        ensures { IsErrorIn names.now (unified_list memory.now)
+            (last_error_address cpu self.now.raw.teb) result }
     {
         let address = last_error_address(cpu, self.raw.teb)?;
         error_at(names, address, memory.memory_at_address(address))
     }
 }
 
-// Returns the address of `LastErrorValue` in a thread environment block, 13 pointers behind its beginning.
+// Returns the address of `LastErrorValue` in a thread environment block, 13 pointers after its
+// start.
 fn last_error_address(cpu: Cpu, teb: u64) -> Option<u64>
     ensures { result ≡ last_error_address cpu teb }
 {
@@ -141,7 +146,8 @@ fn error_at(
     Some(CrashReason::from_windows_error(code, names))
 }
 
-// Decodes the context that bytes are on the machine of a dump, or returns `None` if that is unknown, too.
+// Decodes the bytes of a context. Returns `None` if there are none, if they are no context, or
+// without system information.
 pub(crate) fn known_context(
     bytes: Option<&[u8]>,
     endian: Endian,
@@ -149,12 +155,13 @@ pub(crate) fn known_context(
     misc: Option<&MinidumpMiscInfo>,
 ) -> Option<MinidumpContext>
     ensures { option_map (λ c. c.raw) result
-        ≡ known_context (option_map system_info_of (option_copied system.entry)) endian (option_copied bytes.entry) }
+        ≡ known_context (option_map system_info_of (option_copied system.entry)) endian
+        (option_copied bytes.entry) }
 {
     accepted_context(bytes, endian, system?, misc)
 }
 
-// Decodes the context that bytes are, or returns `None` if there are none or they are no context.
+// Decodes the bytes of a context. Returns `None` if there are none, or they are no context.
 pub(crate) fn accepted_context(
     bytes: Option<&[u8]>,
     endian: Endian,
@@ -162,7 +169,8 @@ pub(crate) fn accepted_context(
     misc: Option<&MinidumpMiscInfo>,
 ) -> Option<MinidumpContext>
     ensures raw { option_map (λ c. c.raw) result
-        ≡ accepted_context system_info.now.raw.processor_architecture endian (option_copied bytes.entry) }
+        ≡ accepted_context system_info.now.raw.processor_architecture endian
+        (option_copied bytes.entry) }
     ensures valid { IfSome result (λ c. c.valid ≡ All) }
 {
     MinidumpContext::read(bytes?, endian, system_info, misc).ok()

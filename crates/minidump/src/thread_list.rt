@@ -13,7 +13,7 @@ use minidump_format::format::MINIDUMP_THREAD;
 use minidump_format::{Error, Heading, print_item};
 use minidump_memory::UnifiedMemoryList;
 use minidump_system::framing::plain_entries;
-use minidump_system::listed::{Listed, read_items};
+use minidump_system::read_items::{ReadEntry, read_items};
 use minidump_system::{MinidumpMiscInfo, MinidumpStream, MinidumpSystemInfo};
 use std::alloc::Global;
 use std::io::Write;
@@ -48,22 +48,25 @@ impl<'a> MinidumpThreadList<'a> {
         self.threads.iter()
     }
 
-    /// Returns the last thread with an id, or `None` if no thread has it. Searches from the end of the
-    /// list.
+    /// Returns the last thread with an id, or `None` if no thread has it. Searches from the end of
+    /// the list.
     pub fn get_thread(&self, id: u32) -> Option<&MinidumpThread<'a>>
-        ensures { IsLastThread id (thread_list_of self.now) (option_map thread_of (option_copied result)) }
+        ensures { IsLastThread id (thread_list_of self.now)
+            (option_map thread_of (option_copied result)) }
     {
         self.first_from_the_end(id)
     }
 
     // Returns the first thread with an id, from the end of the list on.
     pub(crate) fn first_from_the_end(&self, id: u32) -> Option<&MinidumpThread<'a>>
-        ensures { option_copied result ≡ find (λ t. t.raw.thread_id == id) (reverse self.now.threads.items) }
+        ensures { option_copied result
+            ≡ find (λ t. t.raw.thread_id == id) (reverse self.now.threads.items) }
     {
         self.threads.iter().rev().find(|t| t.raw.thread_id == id)
     }
 
-    /// Prints the number of threads, and each thread after a line with its index, as [`MinidumpThread::print`] does.
+    /// Prints the number of threads, and each thread after a line with its index, as
+    /// [`MinidumpThread::print`] does.
     pub fn print<W: Write>(
         &self,
         alloc: Global,
@@ -73,8 +76,10 @@ impl<'a> MinidumpThreadList<'a> {
         misc: Option<&MinidumpMiscInfo>,
         brief: bool,
     ) -> Result<(), Error>
-        ensures { Prints W.contents f.old f.new (thread_list_text (option_map unified_list (option_copied memory.entry))
-            (option_map system_info_of (option_copied system.entry)) brief (thread_list_stream.value self.now)) result }
+        ensures { Prints W.contents f.old f.new
+            (thread_list_text (option_map unified_list (option_copied memory.entry))
+            (option_map system_info_of (option_copied system.entry)) brief
+            (thread_list_stream.value self.now)) result }
     {
         let threads = self.threads.as_slice();
         let heading = Heading {
@@ -141,7 +146,7 @@ impl<'a> MinidumpStream<'a> for MinidumpThreadList<'a> {
 #[derive(Clone, Copy)]
 struct Threads;
 
-impl<'a> Listed<'a, MINIDUMP_THREAD> for Threads {
+impl<'a> ReadEntry<'a, MINIDUMP_THREAD> for Threads {
     ghost use Rattle.std.specs.Prelude.{Ok, Some};
     ghost use Rattle.minidump.specs.Thread.{Thread, thread_at, thread_of, thread_reads};
 
@@ -151,7 +156,7 @@ impl<'a> Listed<'a, MINIDUMP_THREAD> for Threads {
 
     ghost value = { thread_of };
 
-    ghost listed = { λ _ order file raw. Ok (Some (thread_at order file raw)) };
+    ghost entry_value = { λ _ order file raw. Ok (Some (thread_at order file raw)) };
 
     ghost most = { λ _. 2 };
 

@@ -18,8 +18,8 @@ fn index_of(alloc: Global, regions: &[(u64, u64)]) -> Result<AddressIndex, Error
     AddressIndex::build(alloc, &ranges)
 }
 
-// The second has the addresses of the first, the third and the fourth share some with it, the fifth has none,
-// and the last begins where the third ends.
+// The second has the addresses of the first, the third and the fourth share some with it, the fifth
+// has none, and the last begins where the third ends.
 #[rattlefmt::skip]
 const SIX: &[(u64, u64)] = &[
     (0x1000, 0x1000), (0x1000, 0x1000), (0x1001, 0x1000), (0x1001, 0x100), (0x10, 0), (0x2000, 0x1000),
@@ -31,7 +31,7 @@ const KEPT: &[(&[(u64, u64)], &[usize])] = &[
     (SIX, &[0, 5]),
     // A dropped region drops no other: the third shares addresses with the second alone.
     (&[(30, u64::MAX - 30), (19, 22), (10, 11)], &[2, 0]),
-    // By start, then by end, then by index, and not as they are listed.
+    // By start, then by end, then by index, and not in the order of the list.
     (&[(0x15, 8), (0x10, 8)], &[1]),
     (&[(0x10, 8), (0x10, 4), (0x10, 4)], &[1]),
     // One address before the next region, and one in it.
@@ -40,7 +40,7 @@ const KEPT: &[(&[(u64, u64)], &[usize])] = &[
     (&[(0x10, 0), (0x20, 4), (u64::MAX, 1)], &[1, 2]),
     (&[(1, 0), (u64::MAX, 2)], &[]),
     (&[(2, u64::MAX), (1, u64::MAX)], &[1]),
-    // More than 2^32 addresses, behind a region that has fewer.
+    // More than 2^32 addresses, after a region that has fewer.
     (&[(0x10, 8), (0x20, 1 << 33), (0x300000000, 1)], &[0, 1, 2]),
     (&[], &[]),
 ];
@@ -51,12 +51,15 @@ fn kept_are(alloc: Global, row: &(&[(u64, u64)], &[usize])) -> Result<bool, Erro
     let mut descending = index.by_addr();
     Ok(
         index.len() == row.1.len()
-            && row.1.iter().all(|place| ascending.next() == Some(*place))
+            && row
+                .1
+                .iter()
+                .all(|kept_index| ascending.next() == Some(*kept_index))
             && row
                 .1
                 .iter()
                 .rev()
-                .all(|place| descending.next_back() == Some(*place)),
+                .all(|kept_index| descending.next_back() == Some(*kept_index)),
     )
 }
 
@@ -65,7 +68,13 @@ fn list_keeps(alloc: Global, row: &(&[(u64, u64)], &[usize])) -> Result<bool, Er
     let ranges = ranges_of(alloc, row.0)?;
     let list = RegionList::from_regions(alloc, ranges_of(alloc, row.0)?)?;
     let mut kept = list.by_addr();
-    Ok(kept.len() == row.1.len() && row.1.iter().all(|place| kept.next() == ranges.get(*place)))
+    Ok(
+        kept.len() == row.1.len()
+            && row
+                .1
+                .iter()
+                .all(|kept_index| kept.next() == ranges.get(*kept_index)),
+    )
 }
 
 #[test]
@@ -100,8 +109,9 @@ const UP: &[(u64, u64)] = &[(0, 4), (10, 4), (20, 4), (30, 4), (40, 4), (50, 4),
 #[rattlefmt::skip]
 const DOWN: &[(u64, u64)] = &[(70, 4), (60, 4), (50, 4), (40, 4), (30, 4), (20, 4), (10, 4), (0, 4)];
 
-// With how many regions a lookup, of the base of each of the first regions of `UP`, compares: one a level of the complete
-// tree whose last level is filled from the left, and none of that level where it has no region below the others.
+// With how many regions a lookup, of the base of each of the first regions of `UP`, compares: one a
+// level of the complete tree whose last level is filled from the left, and none of that level where
+// it has no region below the others.
 #[rattlefmt::skip]
 const DEPTHS: &[&[(u64, u128)]] = &[
     &[],
@@ -150,14 +160,14 @@ fn finds_regions_down_a_complete_tree(rt: HostRuntime) {
 // The walk is taken from both ends in turn.
 fn walks_from_both_ends(alloc: Global) -> Result<bool, Error> {
     let index = index_of(alloc, &[(0, 4), (10, 4), (20, 4), (30, 4)])?;
-    let mut places = index.by_addr();
+    let mut indices = index.by_addr();
     Ok(
         [
-            places.next(),
-            places.next_back(),
-            places.next(),
-            places.next_back(),
-            places.next(),
+            indices.next(),
+            indices.next_back(),
+            indices.next(),
+            indices.next_back(),
+            indices.next(),
         ] == [Some(0), Some(3), Some(1), Some(2), None],
     )
 }
@@ -196,7 +206,7 @@ fn lists_regions(alloc: Global) -> Result<bool, Error> {
     )
 }
 
-// A lookup in a list, at both ends of a region and behind it.
+// A lookup in a list, at both ends of a region and after it.
 fn is_found_in(list: &RegionList<Option<Range>>, base: u64, compared: u128) -> bool {
     let mut steps = Steps::new();
     list.at_address(base, &mut steps);

@@ -51,7 +51,7 @@ if crash.has_stack:
 frames, count = (Frame * 64)(), ctypes.c_size_t()
 library.minidump_frames(dump, len(dump), crash.thread, 8, frames, len(frames), count)
 for number, frame in enumerate(frames[: count.value]):
-    place = f" in {frame.module_base:#x} + {frame.module_offset:#x}" if frame.has_module else ""
-    print(f"#{number:<2}     {frame.instruction:#x}{place},", ["", "context", "frame pointer", "scan"][frame.trust])
+    where = f" in {frame.module_base:#x} + {frame.module_offset:#x}" if frame.has_module else ""
+    print(f"#{number:<2}     {frame.instruction:#x}{where},", ["", "context", "frame pointer", "scan"][frame.trust])
 if count.value > len(frames):
     print(f"and {count.value - len(frames)} more")

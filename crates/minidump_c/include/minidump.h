@@ -1,21 +1,21 @@
 /* minidump: reads the crash files that Windows, Breakpad and Crashpad write.
  *
  * A call about a dump takes the bytes of the whole file, which may be damaged or forged, and keeps nothing: no call frees
- * or holds what it is passed. A buffer is a pointer and, behind it, the number of its items; a call writes no more of
+ * or holds what it is passed. A buffer is a pointer and, after it, the number of its items; a call writes no more of
  * them. What a call writes to need not be initialised. The pointer of a buffer or a text may be NULL where the number
- * behind it is 0; no other pointer may be. What a call writes may not overlap anything else that it is passed, and no
+ * after it is 0; no other pointer may be. What a call writes may not overlap anything else that it is passed, and no
  * other thread may touch it meanwhile; the bytes of a dump may be read by several threads at once. There is no state, so
  * calls may run at the same time.
  *
  * A call about a dump returns MINIDUMP_OK or an error, but never MINIDUMP_FILE_NOT_FOUND or MINIDUMP_IO_ERROR. After an
- * error every buffer, number and struct is as it was, but for the line of a refused text of names. A missing or malformed
+ * error every buffer, number and struct is as it was, but for the line of a malformed text of names. A missing or malformed
  * stream is an error of a call in four cases: the list of modules of minidump_module_table and minidump_module_name, the
  * list of threads of minidump_thread_table and minidump_frames, the exception of minidump_summary and
  * minidump_summary_named, and the system information of minidump_os_version and minidump_os_build. Any other one counts as
  * none; in a report a malformed one is a line.
  *
  * Names and reasons are UTF-8; a report also has bytes of the dump as they are. A text that is cut may end within a
- * character. No zero is written behind a text, and a name may hold zeros.
+ * character. No zero is written after a text, and a name may hold zeros.
  *
  * Codes have no names of their own, so most reasons are numbers, as "unknown 0xc0000005". minidump_report_named and
  * minidump_summary_named take names from a text, such as a file of the folder names, or several of them one after another:
@@ -26,7 +26,7 @@
  * Link libminidump_c.a, which `rt lib` makes, and the toolchain's liblibc_c.a. Memory is taken by malloc and realloc and
  * given back by free.
  * Numbers are those of the machine, which must be a 64-bit one; on x86-64 it needs SSE4.2 and POPCNT (x86-64-v2),
- * which is not tested. Call from no signal handler, and not behind a fork of a process with threads.
+ * which is not tested. Call from no signal handler, and not after a fork of a process with threads.
  *
  * What each call returns and writes is proved from the format's definitions. That this header says what the library
  * does is not; a test calls each function through it. That a call gives back its memory before it returns, and reads
@@ -71,7 +71,7 @@ enum minidump_status {
 size_t minidump_error_name(uint32_t status, uint8_t *out, size_t out_len);
 
 /* Writes the header and the directory as text to the front of out, as far as it fits, and the size of the whole text
- * to *size. What lies behind the text stays as it was. To ask for the size alone, pass an out_len of 0. */
+ * to *size. What lies after the text stays as it was. To ask for the size alone, pass an out_len of 0. */
 uint32_t minidump_dir(const uint8_t *bytes, size_t len, uint8_t *out, size_t out_len, size_t *size);
 
 /* The same for the report: the header, the directory, each stream that can be read, and where and why the process
@@ -82,7 +82,7 @@ uint32_t minidump_report(const uint8_t *bytes, size_t len, uint8_t *out, size_t 
 /* The same with the names of codes of a text, which is read first. A line is a code, FAMILY NUMBER NAME with one space
  * between the parts; a comment, which begins with #; or empty. A line ends at a line feed, and none has a carriage return.
  * A FAMILY is one of those in the files of the folder names, and its numbers ascend; a NUMBER is decimal, or hexadecimal
- * behind 0x. A text that breaks these rules has MINIDUMP_NOT_A_LINE or MINIDUMP_OUT_OF_ORDER, and the number of its first such line is written to
+ * after 0x. A text that breaks these rules has MINIDUMP_NOT_A_LINE or MINIDUMP_OUT_OF_ORDER, and the number of its first such line is written to
  * *line, from 1 on; otherwise *line stays as it was. A text of 0 bytes lists no names. */
 uint32_t minidump_report_named(const uint8_t *bytes, size_t len, const uint8_t *names, size_t names_len, uint8_t *out,
                                size_t out_len, size_t *size, uint64_t *line);
@@ -151,7 +151,7 @@ uint32_t minidump_summary_named(const uint8_t *bytes, size_t len, const uint8_t 
  * the whole text to *size. A dump without system information has MINIDUMP_STREAM_NOT_FOUND. */
 uint32_t minidump_os_version(const uint8_t *bytes, size_t len, uint8_t *out, size_t out_len, size_t *size);
 
-/* The same for its build: on Windows the service pack, on Linux what the kernel says of itself behind its version; a size
+/* The same for its build: on Windows the service pack, on Linux what the kernel says of itself after its version; a size
  * of 0 if there is none. */
 uint32_t minidump_os_build(const uint8_t *bytes, size_t len, uint8_t *out, size_t out_len, size_t *size);
 
@@ -170,7 +170,7 @@ uint32_t minidump_read_memory(const uint8_t *bytes, size_t len, uint64_t address
                               size_t *count);
 
 /* Writes the regions of memory that minidump_memory_at finds, ascending by address, to the front of regions, as far as they
- * fit, and their number to *count. Regions are taken by their beginnings, of two that begin at one address the shorter
+ * fit, and their number to *count. Regions are taken in the order of their first addresses, of two with the same one the shorter
  * first, and each is found that overlaps none found before; one without a size, or that would go on beyond the last
  * address, isn't. A program that asks often keeps this table and searches it by itself. */
 uint32_t minidump_memory_table(const uint8_t *bytes, size_t len, struct minidump_region *regions, size_t regions_len,
@@ -180,7 +180,7 @@ uint32_t minidump_memory_table(const uint8_t *bytes, size_t len, struct minidump
 struct minidump_module {
     uint64_t base;
     uint64_t size;
-    /* where the size of the name in bytes stands, in 4 bytes, with the name in UTF-16 behind it, both in the byte order
+    /* where the size of the name in bytes stands, in 4 bytes, with the name in UTF-16 after it, both in the byte order
      * of the dump: little if it begins with MDMP */
     uint64_t name_rva;
 };
@@ -227,7 +227,7 @@ enum minidump_trust {
 /* A frame of a stack. */
 struct minidump_frame {
     uint64_t instruction;       /* of the context, or else the return address of the frame before */
-    uint64_t stack_pointer;     /* where no context has it, the address behind the return address */
+    uint64_t stack_pointer;     /* where no context has it, the address after the return address */
     uint64_t frame_pointer;     /* 0 if it isn't known */
     uint64_t module_base;       /* of the module of the frame, 0 if there is none: a return address is looked up less one */
     uint64_t module_offset;     /* of the same address in it */
@@ -239,7 +239,7 @@ struct minidump_frame {
 /* Writes the frames of the thread with an id, the innermost first, to the front of frames, as far as they fit, and their
  * number to *count: 0 without system information, for an id that no thread of the list has, and for a thread without a
  * context. The last thread of an id counts. For the thread of the crash, which minidump_crash has, the context is the
- * exception's, if it can be read. The callers follow by frame pointers, and behind the last of them at most limit candidates. A
+ * exception's, if it can be read. The callers follow by frame pointers, and after the last of them at most limit candidates. A
  * dump without a list of threads has MINIDUMP_STREAM_NOT_FOUND. */
 uint32_t minidump_frames(const uint8_t *bytes, size_t len, uint32_t id, size_t limit, struct minidump_frame *frames,
                          size_t frames_len, size_t *count);

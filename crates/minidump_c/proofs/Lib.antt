@@ -1,3 +1,3 @@
--- Lemmas of the report and of refusals.
-pub mod RefusedLemmas
+-- Lemmas of the report and of errors.
+pub mod ErrorLemmas
 pub mod ReportLemmas

@@ -2,25 +2,28 @@
 use Rattle.std.specs.Prelude.{◌≡◌, ℕ, ◌-◌, List, [], drop, Option, Some, None, Ok}
 use Rattle.minidump.specs.Dump.{Dump, dump_in}
 use Rattle.minidump.specs.Below.Index.Lookup.{IsLookedUp}
-use Rattle.minidump.specs.Below.MemoryLists.Memory.{region_range}
+use Rattle.minidump.specs.Below.MemoryLists.Memory.{range_of_region}
 use Rattle.minidump.specs.Below.MemoryLists.Unified.{UnifiedRegion, UnifiedRegions, unified_regions}
 use Rattle.minidump.specs.Memory.{memories_of_dump}
 use Rattle.minidump_c.specs.declared.memory.Region.{Region}
 
 -- a region's base address and its size, which is never 0; and zeros for none
-abbrev pub shown : Option UnifiedRegion → Region
-shown (Some region) = record { base = region.base_address; size = region.size }
-shown None = record { base = 0; size = 0 }
+abbrev pub row_of : Option UnifiedRegion → Region
+row_of (Some region) = record { base = region.base_address; size = region.size }
+row_of None = record { base = 0; size = 0 }
 
--- what a lookup answers, and none of a dump without memory
-abbrev pub IsIn : Option UnifiedRegions → ℕ → Option UnifiedRegion → Type 0
-IsIn (Some memory) address found = IsLookedUp region_range (unified_regions memory) address found
-IsIn None address found = found ≡ None
+-- the result of a lookup: none of a dump without memory
+abbrev pub IsLookedUpIn : Option UnifiedRegions → ℕ → Option UnifiedRegion → Type 0
+IsLookedUpIn (Some memory) address found =
+    IsLookedUp range_of_region (unified_regions memory) address found
+IsLookedUpIn None address found = found ≡ None
 
 -- the kept region that has the address
 abbrev pub IsRegionAt : List ℕ → ℕ → Region → Type 0
 IsRegionAt bytes address region =
-    (dump : Dump) × (dump_in bytes ≡ Ok dump) × ((found : Option UnifiedRegion) × IsIn (memories_of_dump dump) address found × (region ≡ shown found))
+    (dump : Dump) × (dump_in bytes ≡ Ok dump)
+    × ((found : Option UnifiedRegion) × IsLookedUpIn (memories_of_dump dump) address found
+    × (region ≡ row_of found))
 
 -- the bytes of a region from an address on
 abbrev pub bytes_from : Option UnifiedRegion → ℕ → List ℕ
@@ -31,4 +34,5 @@ bytes_from None address = []
 abbrev pub IsReadAt : List ℕ → ℕ → List ℕ → Type 0
 IsReadAt bytes address read =
     (dump : Dump) × (dump_in bytes ≡ Ok dump)
-    × ((found : Option UnifiedRegion) × IsIn (memories_of_dump dump) address found × (read ≡ bytes_from found address))
+    × ((found : Option UnifiedRegion) × IsLookedUpIn (memories_of_dump dump) address found
+    × (read ≡ bytes_from found address))

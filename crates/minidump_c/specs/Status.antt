@@ -1,12 +1,15 @@
 -- The status of a call: 0, or the number of an error.
 use Rattle.std.specs.Prelude.{◌≡◌, ◌⊎◌, ℕ, List, Err, Ok, IsOk}
 use Rattle.minidump.specs.declared.Error.{Error}
-use Rattle.minidump.specs.declared.Error.TheVariants.{FileNotFound, IoError, MissingHeader, HeaderMismatch, VersionMismatch}
-use Rattle.minidump.specs.declared.Error.TheVariants.{MissingDirectory, StreamReadFailure, StreamSizeMismatch, StreamNotFound}
-use Rattle.minidump.specs.declared.Error.TheVariants.{ModuleReadFailure, MemoryReadFailure, DataError, CodeViewReadFailure}
+use Rattle.minidump.specs.declared.Error.TheVariants.{FileNotFound, IoError, MissingHeader}
+use Rattle.minidump.specs.declared.Error.TheVariants.{HeaderMismatch, VersionMismatch}
+use Rattle.minidump.specs.declared.Error.TheVariants.{MissingDirectory, StreamReadFailure}
+use Rattle.minidump.specs.declared.Error.TheVariants.{StreamSizeMismatch, StreamNotFound}
+use Rattle.minidump.specs.declared.Error.TheVariants.{ModuleReadFailure, MemoryReadFailure}
+use Rattle.minidump.specs.declared.Error.TheVariants.{DataError, CodeViewReadFailure}
 use Rattle.minidump.specs.declared.Error.TheVariants.{UknownElementType, OutOfMemory}
 use Rattle.minidump.specs.Below.System.StreamSpec.{StreamSpec}
-use Rattle.minidump.specs.Dump.{Dump, IsRefused, IsRefusedWith, dump_in, stream_of}
+use Rattle.minidump.specs.Dump.{Dump, IsDumpError, IsDumpErrorOr, dump_in, stream_of}
 
 -- the numbers of the errors
 abbrev pub status_of : Error → ℕ
@@ -26,14 +29,19 @@ status_of CodeViewReadFailure = 13
 status_of UknownElementType = 14
 status_of OutOfMemory = 15
 
--- 0, and the call did what `done` says; or the number of an error that `refuses` allows, and what the caller passed is as `kept` says
+-- 0, and the call did what `done` says; or the number of an error that `errors` allows, and what
+-- the caller passed is as `kept` says
 abbrev pub Ends : ℕ → Type 0 → (Error → Type 0) → Type 0 → Type 0
-Ends status done refuses kept = ((status ≡ 0) × done) ⊎ (((e : Error) × refuses e × (status ≡ status_of e)) × kept)
+Ends status done errors kept =
+    ((status ≡ 0) × done) ⊎ (((e : Error) × errors e × (status ≡ status_of e)) × kept)
 
 -- the bytes are no minidump, or memory ran out for the text, which every minidump has
-abbrev pub IsTextRefused : List ℕ → Error → Type 0
-IsTextRefused bytes e = IsRefusedWith (IsOk (dump_in bytes)) bytes e
+abbrev pub IsTextError : List ℕ → Error → Type 0
+IsTextError bytes e = IsDumpErrorOr (IsOk (dump_in bytes)) bytes e
 
--- the bytes are no minidump, or memory ran out at a directory with entries, or it is the error of a stream of the dump
-abbrev pub IsStreamRefused : {S V : Type 0} → StreamSpec S V → List ℕ → Error → Type 0
-IsStreamRefused spec bytes e = IsRefused bytes e ⊎ ((dump : Dump) × (dump_in bytes ≡ Ok dump) × (stream_of spec dump ≡ Err e))
+-- the bytes are no minidump, or memory ran out at a directory with entries, or it is the error of a
+-- stream of the dump
+abbrev pub IsStreamError : {S V : Type 0} → StreamSpec S V → List ℕ → Error → Type 0
+IsStreamError spec bytes e =
+    IsDumpError bytes e ⊎ ((dump : Dump) × (dump_in bytes ≡ Ok dump)
+    × (stream_of spec dump ≡ Err e))

@@ -6,19 +6,19 @@ use Rattle.minidump.specs.declared.system_info.Cpu.TheVariants as cpu
 use Rattle.minidump.specs.declared.system_info.Os.{Os}
 use Rattle.minidump.specs.declared.system_info.Os.TheVariants as os
 use Rattle.minidump.specs.Below.Reasons.Names.{Lists}
-use Rattle.minidump.specs.Below.Format.Answer.{Refuses}
+use Rattle.minidump.specs.Below.Format.Answer.{GivesError}
 use Rattle.minidump.specs.declared.Error.{Error}
 use Rattle.minidump.specs.Dump.{HasEntries}
 use Rattle.crash_summary.specs.Summary.{IsSummaryOf, Summary, crash_in}
 use Rattle.minidump_c.specs.declared.summary.Crash.{Crash}
-use Rattle.minidump_c.specs.Text.{filled}
+use Rattle.minidump_c.specs.Text.{buffer_with}
 
 -- 1 for what is there, 0 for what is absent
 abbrev pub flag : {A : Type 0} → Option A → ℕ
 flag (Some _) = 1
 flag None = 0
 
--- the text of the reason, and the name of the module: nothing for what is absent
+-- the text of the reason, empty where it is absent
 abbrev pub reason_of : Summary → List ℕ
 reason_of s = unwrap_or s.reason []
 
@@ -78,7 +78,8 @@ crash_of s = record {
 -- the numbers of a summary, and its texts in two buffers, as far as they fit
 abbrev pub IsTold : Summary → Crash → List ℕ → List ℕ → List ℕ → List ℕ → Type 0
 IsTold s crash reason new_reason name new_name =
-    (crash ≡ crash_of s) × (new_reason ≡ filled (reason_of s) reason) × (new_name ≡ filled (name_of s) name)
+    (crash ≡ crash_of s) × (new_reason ≡ buffer_with (reason_of s) reason)
+    × (new_name ≡ buffer_with (name_of s) name)
 
 -- the same of the summary of a file, with the names of codes of these lists
 abbrev pub IsSummarised : List ℕ → Crash → List ℕ → List ℕ → List ℕ → List ℕ → Lists → Type 0
@@ -86,5 +87,5 @@ IsSummarised bytes crash reason new_reason name new_name names =
     (s : Summary) × IsSummaryOf bytes names s × IsTold s crash reason new_reason name new_name
 
 -- the error of the dump or of the exception's stream, or memory ran out at a directory with entries
-abbrev pub IsSummaryRefusal : List ℕ → Error → Type 0
-IsSummaryRefusal bytes e = Refuses (HasEntries bytes) e (crash_in bytes)
+abbrev pub IsSummaryError : List ℕ → Error → Type 0
+IsSummaryError bytes e = GivesError (HasEntries bytes) e (crash_in bytes)

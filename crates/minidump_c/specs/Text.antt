@@ -6,12 +6,13 @@ use Rattle.minidump.specs.Report.{report_text}
 use Rattle.minidump.specs.Text.{dump_text}
 
 -- a buffer with some items at its front, as far as they fit
-abbrev pub filled : {A : Type 0} → List A → List A → List A
-filled items buffer = take (length buffer) items ++ drop (length items) buffer
+abbrev pub buffer_with : {A : Type 0} → List A → List A → List A
+buffer_with items buffer = take (length buffer) items ++ drop (length items) buffer
 
 -- the buffer has such items, as far as they fit, and the count is that of all of them
 abbrev pub IsFilled : {A : Type 0} → (List A → Type 0) → List A → List A → ℕ → Type 0
-IsFilled {A} Are old new count = (items : List A) × Are items × (new ≡ filled items old) × (count ≡ length items)
+IsFilled {A} Are old new count =
+    (items : List A) × Are items × (new ≡ buffer_with items old) × (count ≡ length items)
 
 -- the text of the header and the directory
 abbrev pub IsDirectoryOf : List ℕ → List ℕ → Type 0
@@ -19,4 +20,5 @@ IsDirectoryOf bytes text = (dump : Dump) × (dump_in bytes ≡ Ok dump) × (text
 
 -- the report, with the names of codes of these lists
 abbrev pub IsReportOf : List ℕ → Lists → List ℕ → Type 0
-IsReportOf bytes names text = (dump : Dump) × (dump_in bytes ≡ Ok dump) × (text ≡ report_text names dump)
+IsReportOf bytes names text =
+    (dump : Dump) × (dump_in bytes ≡ Ok dump) × (text ≡ report_text names dump)

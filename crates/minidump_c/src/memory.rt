@@ -1,8 +1,8 @@
 ghost use Rattle.std.specs.Prelude.{◌≡◌, IfErr, IfOk};
 ghost use Rattle.std.specs.Option.{option_copied, option_map};
 ghost use Rattle.minidump.specs.Below.MemoryLists.Unified.{unified_list, unified_region};
-ghost use Rattle.minidump.specs.Dump.{IsRefused};
-ghost use Rattle.minidump_c.specs.Memory.{IsIn, IsReadAt, IsRegionAt, bytes_from, shown};
+ghost use Rattle.minidump.specs.Dump.{IsDumpError};
+ghost use Rattle.minidump_c.specs.Memory.{IsLookedUpIn, IsReadAt, IsRegionAt, bytes_from, row_of};
 ghost use Rattle.minidump_c.specs.Status.{Ends};
 ghost use Rattle.minidump_c.specs.Text.{IsFilled};
 
@@ -29,7 +29,8 @@ pub extern "C" fn minidump_memory_at(
     address: u64,
     region: &mut Region,
 ) -> u32
-    ensures { Ends result (IsRegionAt bytes.now address region.new) (IsRefused bytes.now) (region.new ≡ region.old) }
+    ensures { Ends result (IsRegionAt bytes.now address region.new) (IsDumpError bytes.now)
+        (region.new ≡ region.old) }
 {
     match region_at(alloc, bytes, address) {
         Ok(found) => {
@@ -40,8 +41,8 @@ pub extern "C" fn minidump_memory_at(
     }
 }
 
-/// Copies the bytes of memory from the address on to the front of `out`, as far as they fit, and writes the number
-/// of those in its region to `count`.
+/// Copies the bytes of memory from the address on to the front of `out`, as far as they fit, and
+/// writes to `count` how many bytes the region has from the address on.
 #[unsafe(no_mangle)]
 pub extern "C" fn minidump_read_memory(
     alloc: Global,
@@ -51,7 +52,7 @@ pub extern "C" fn minidump_read_memory(
     count: &mut usize,
 ) -> u32
     ensures { Ends result (IsFilled (IsReadAt bytes.now address) out.old out.new count.new)
-        (IsRefused bytes.now) ((out.new ≡ out.old) × (count.new ≡ count.old)) }
+        (IsDumpError bytes.now) ((out.new ≡ out.old) × (count.new ≡ count.old)) }
 {
     match bytes_at(alloc, bytes, address) {
         Ok(read) => {
@@ -64,16 +65,16 @@ pub extern "C" fn minidump_read_memory(
 
 fn region_at(alloc: Global, bytes: &[u8], address: u64) -> Result<Region, Error>
     ensures found { IfOk result (λ region. IsRegionAt bytes.now address region) }
-    ensures refused { IfErr result (IsRefused bytes.now) }
+    ensures error { IfErr result (IsDumpError bytes.now) }
 {
     let dump = Minidump::read(alloc, bytes)?;
     let memory = dump.get_memory(alloc)?;
-    Ok(shown(memory_at(memory.as_ref(), address)))
+    Ok(row_of(memory_at(memory.as_ref(), address)))
 }
 
 fn bytes_at<'a>(alloc: Global, bytes: &'a [u8], address: u64) -> Result<&'a [u8], Error>
     ensures found { IfOk result (λ read. IsReadAt bytes.now address read.now) }
-    ensures refused { IfErr result (IsRefused bytes.now) }
+    ensures error { IfErr result (IsDumpError bytes.now) }
 {
     let dump = Minidump::read(alloc, bytes)?;
     let memory = dump.get_memory(alloc)?;
@@ -85,13 +86,14 @@ fn memory_at<'s, 'a>(
     memory: Option<&'s UnifiedMemoryList<'a>>,
     address: u64,
 ) -> Option<UnifiedMemory<'s, 'a>>
-    ensures { IsIn (option_map unified_list (option_copied memory.entry)) address (option_map unified_region result) }
+    ensures { IsLookedUpIn (option_map unified_list (option_copied memory.entry)) address
+        (option_map unified_region result) }
 {
     memory?.memory_at_address(address)
 }
 
-pub(crate) fn shown(found: Option<UnifiedMemory<'_, '_>>) -> Region
-    ensures { result ≡ shown (option_map unified_region found.entry) }
+pub(crate) fn row_of(found: Option<UnifiedMemory<'_, '_>>) -> Region
+    ensures { result ≡ row_of (option_map unified_region found.entry) }
 {
     match found {
         Some(region) => Region {

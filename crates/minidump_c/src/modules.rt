@@ -3,7 +3,7 @@ ghost use Rattle.std.specs.Option.{option_copied, option_map};
 ghost use Rattle.minidump.specs.Below.Modules.Module.{module_of};
 ghost use Rattle.minidump.specs.Promise.{module_list_stream};
 ghost use Rattle.minidump_c.specs.Modules.{AreModuleRows, IsModuleName, name_at, row_of};
-ghost use Rattle.minidump_c.specs.Status.{Ends, IsStreamRefused};
+ghost use Rattle.minidump_c.specs.Status.{Ends, IsStreamError};
 ghost use Rattle.minidump_c.specs.Text.{IsFilled};
 
 use crate::status::status_of;
@@ -23,8 +23,8 @@ pub struct ModuleRow {
     pub name_rva: u64,
 }
 
-/// Writes the modules, in the order of the list, to the front of `modules`, as far as they fit, and their number to
-/// `count`.
+/// Writes the modules, in the order of the list, to the front of `modules`, as far as they fit, and
+/// their number to `count`.
 #[unsafe(no_mangle)]
 pub extern "C" fn minidump_module_table(
     alloc: Global,
@@ -33,7 +33,8 @@ pub extern "C" fn minidump_module_table(
     count: &mut usize,
 ) -> u32
     ensures { Ends result (IsFilled (AreModuleRows bytes.now) modules.old modules.new count.new)
-        (IsStreamRefused module_list_stream bytes.now) ((modules.new ≡ modules.old) × (count.new ≡ count.old)) }
+        (IsStreamError module_list_stream bytes.now)
+        ((modules.new ≡ modules.old) × (count.new ≡ count.old)) }
 {
     match module_rows(alloc, bytes) {
         Ok(rows) => {
@@ -46,7 +47,7 @@ pub extern "C" fn minidump_module_table(
 
 fn module_rows(alloc: Global, bytes: &[u8]) -> Result<Vec<ModuleRow>, Error>
     ensures rows { IfOk result (λ rows. AreModuleRows bytes.now rows.items) }
-    ensures refused { IfErr result (IsStreamRefused module_list_stream bytes.now) }
+    ensures error { IfErr result (IsStreamError module_list_stream bytes.now) }
 {
     let dump = Minidump::read(alloc, bytes)?;
     let modules = dump.get_stream::<MinidumpModuleList>(alloc)?;
@@ -72,8 +73,8 @@ fn row_of(found: &MinidumpModule) -> ModuleRow
     }
 }
 
-/// Writes the name of the module with an index in the table to the front of `out`, as far as it fits, and the size of
-/// the whole name to `size`: 0 behind the end of the table.
+/// Writes to the front of `out` the name of the module at an index of the table, as far as it fits,
+/// and the size of the whole name to `size`: 0 past the end of the table.
 #[unsafe(no_mangle)]
 pub extern "C" fn minidump_module_name(
     alloc: Global,
@@ -83,7 +84,7 @@ pub extern "C" fn minidump_module_name(
     size: &mut usize,
 ) -> u32
     ensures { Ends result (IsFilled (IsModuleName bytes.now index) out.old out.new size.new)
-        (IsStreamRefused module_list_stream bytes.now) ((out.new ≡ out.old) × (size.new ≡ size.old)) }
+        (IsStreamError module_list_stream bytes.now) ((out.new ≡ out.old) × (size.new ≡ size.old)) }
 {
     match module_name(alloc, bytes, index, out) {
         Ok(found) => {
@@ -96,7 +97,7 @@ pub extern "C" fn minidump_module_name(
 
 fn module_name(alloc: Global, bytes: &[u8], index: usize, out: &mut [u8]) -> Result<usize, Error>
     ensures name { IfOk result (IsFilled (IsModuleName bytes.now index) out.old out.new) }
-    ensures refused { IfErr result (IsStreamRefused module_list_stream bytes.now) }
+    ensures error { IfErr result (IsStreamError module_list_stream bytes.now) }
     ensures kept { OnErr result (out.new ≡ out.old) }
 {
     let dump = Minidump::read(alloc, bytes)?;
@@ -115,7 +116,8 @@ fn name_at(modules: &MinidumpModuleList, index: usize) -> &[u8]
 }
 
 fn module_at(modules: &MinidumpModuleList, index: usize) -> Option<&MinidumpModule>
-    ensures { option_map module_of (option_copied result) ≡ slice_get (module_list_stream.value modules.now) index }
+    ensures { option_map module_of (option_copied result)
+        ≡ slice_get (module_list_stream.value modules.now) index }
 {
     modules.iter().nth(index)
 }

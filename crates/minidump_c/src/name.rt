@@ -6,8 +6,8 @@ ghost use Rattle.minidump_c.specs.Text.{IsFilled};
 use crate::text::fill;
 use minidump::Error;
 
-/// Writes the name of a status to the front of `out`, as far as it fits, and returns the size of the whole name. That
-/// of 0, and of a number above 17, is empty.
+/// Writes the name of a status to the front of `out`, as far as it fits, and returns the size of
+/// the whole name. That of 0, and of a number above 17, is empty.
 #[unsafe(no_mangle)]
 pub extern "C" fn minidump_error_name(status: u32, out: &mut [u8]) -> usize
     ensures { IsFilled (IsNameOf status) out.old out.new result }

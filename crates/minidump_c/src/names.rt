@@ -1,32 +1,33 @@
 ghost use Rattle.std.specs.Prelude.{◌≡◌};
-ghost use Rattle.minidump_c.specs.Names.{line_of, names_status, refusal_line, refusal_status};
+ghost use Rattle.minidump_c.specs.Names.{line_of, names_status, call_line, call_status};
 
 use crate::status::status_of;
 use minidump::Error;
 use minidump_names::NamesError;
 use std::alloc::AllocError;
 
-/// Why a call with a text of names is refused.
+/// The error of a call with a text of names.
 #[derive(Clone, Copy, Drop)]
-pub(crate) enum Refusal {
+pub(crate) enum CallError {
     /// The error of the text of names.
     OfNames(NamesError),
     /// The error of the call, with the names of the text.
     OfDump(Error),
 }
 
-impl Refusal {
-    // Tells the line of the text that is refused, if one is, and returns the number of the error.
-    pub(crate) fn told(self, line: &mut u64) -> u32
-        ensures status { result ≡ refusal_status self }
-        ensures line { line.new ≡ refusal_line self line.old }
+impl CallError {
+    // Writes the line of an error of the text to `line`, if it has one, and returns the number of
+    // the error.
+    pub(crate) fn tell(self, line: &mut u64) -> u32
+        ensures status { result ≡ call_status self }
+        ensures line { line.new ≡ call_line self line.old }
     {
         match self {
-            Refusal::OfNames(error) => {
+            CallError::OfNames(error) => {
                 *line = line_of(error, *line);
                 names_status(error)
             }
-            Refusal::OfDump(error) => status_of(error),
+            CallError::OfDump(error) => status_of(error),
         }
     }
 }
@@ -52,36 +53,36 @@ fn line_of(error: NamesError, none: u64) -> u64
     }
 }
 
-impl From<NamesError> for Refusal {
+impl From<NamesError> for CallError {
     ghost use Rattle.std.specs.Prelude.{◌≡◌};
-    ghost use Rattle.minidump_c.specs.declared.names.Refusal.TheVariants.{OfNames};
+    ghost use Rattle.minidump_c.specs.declared.names.CallError.TheVariants.{OfNames};
 
-    ghost from_gives = { λ error refusal. refusal ≡ OfNames error };
+    ghost from_gives = { λ error call. call ≡ OfNames error };
 
-    fn from(error: NamesError) -> Refusal {
-        Refusal::OfNames(error)
+    fn from(error: NamesError) -> CallError {
+        CallError::OfNames(error)
     }
 }
 
-impl From<AllocError> for Refusal {
+impl From<AllocError> for CallError {
     ghost use Rattle.std.specs.Prelude.{◌≡◌};
     ghost use Rattle.minidump_names.specs.declared.error.NamesError.TheVariants.{OutOfMemory};
-    ghost use Rattle.minidump_c.specs.declared.names.Refusal.TheVariants.{OfNames};
+    ghost use Rattle.minidump_c.specs.declared.names.CallError.TheVariants.{OfNames};
 
-    ghost from_gives = { λ _ refusal. refusal ≡ OfNames OutOfMemory };
+    ghost from_gives = { λ _ call. call ≡ OfNames OutOfMemory };
 
-    fn from(_: AllocError) -> Refusal {
-        Refusal::OfNames(NamesError::OutOfMemory)
+    fn from(_: AllocError) -> CallError {
+        CallError::OfNames(NamesError::OutOfMemory)
     }
 }
 
-impl From<Error> for Refusal {
+impl From<Error> for CallError {
     ghost use Rattle.std.specs.Prelude.{◌≡◌};
-    ghost use Rattle.minidump_c.specs.declared.names.Refusal.TheVariants.{OfDump};
+    ghost use Rattle.minidump_c.specs.declared.names.CallError.TheVariants.{OfDump};
 
-    ghost from_gives = { λ error refusal. refusal ≡ OfDump error };
+    ghost from_gives = { λ error call. call ≡ OfDump error };
 
-    fn from(error: Error) -> Refusal {
-        Refusal::OfDump(error)
+    fn from(error: Error) -> CallError {
+        CallError::OfDump(error)
     }
 }

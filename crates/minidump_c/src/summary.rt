@@ -1,11 +1,12 @@
 ghost use Rattle.std.specs.Prelude.{◌≡◌, [], IfErr, IfOk, unwrap_or};
 ghost use Rattle.std.specs.Option.{option_map, option_map_or};
 ghost use Rattle.crash_summary.specs.Summary.{IsSummaryOf, loaded_of, summary_of};
-ghost use Rattle.minidump_c.specs.Names.{EndsNamed, IsNamed, IsNamedRefusal};
+ghost use Rattle.minidump_c.specs.Names.{EndsNamed, IsNamed, IsNamedError};
 ghost use Rattle.minidump_c.specs.Status.{Ends};
-ghost use Rattle.minidump_c.specs.Summary.{IsSummarised, IsSummaryRefusal, IsTold, cpu_number, crash_of, flag, name_of, os_number, reason_of};
+ghost use Rattle.minidump_c.specs.Summary.{IsSummarised, IsSummaryError, IsTold, cpu_number};
+ghost use Rattle.minidump_c.specs.Summary.{crash_of, flag, name_of, os_number, reason_of};
 
-use crate::names::Refusal;
+use crate::names::CallError;
 use crate::status::status_of;
 use crate::text::fill;
 use crash_summary::{CrashSummary, CrashSystem, ModuleHit, StackHit, summarise};
@@ -18,7 +19,7 @@ use std::alloc::Global;
 #[repr(C)]
 #[derive(Clone, Copy)]
 pub struct Crash {
-    /// The address that the crash is about.
+    /// The address of the crash.
     pub address: u64,
     /// The instruction pointer of the context of the crash: the exception's, else the thread's own.
     pub instruction_pointer: u64,
@@ -58,8 +59,8 @@ pub struct Crash {
     pub processors: u16,
 }
 
-/// Summarises the crash of a minidump: its numbers to `crash`, the text of its reason and the name of its module to
-/// the fronts of `reason` and `name`, as far as they fit. Codes have no names.
+/// Summarises the crash of a minidump: its numbers to `crash`, the text of its reason and the name
+/// of its module to the fronts of `reason` and `name`, as far as they fit. Codes have no names.
 #[unsafe(no_mangle)]
 pub extern "C" fn minidump_summary(
     alloc: Global,
@@ -68,8 +69,10 @@ pub extern "C" fn minidump_summary(
     reason: &mut [u8],
     name: &mut [u8],
 ) -> u32
-    ensures { Ends result (IsSummarised bytes.now crash.new reason.old reason.new name.old name.new [])
-        (IsSummaryRefusal bytes.now) ((crash.new ≡ crash.old) × (reason.new ≡ reason.old) × (name.new ≡ name.old)) }
+    ensures { Ends result
+        (IsSummarised bytes.now crash.new reason.old reason.new name.old name.new [])
+        (IsSummaryError bytes.now) ((crash.new ≡ crash.old) × (reason.new ≡ reason.old)
+        × (name.new ≡ name.old)) }
 {
     match summarise(alloc, bytes, &CodeNames::empty()) {
         Ok(summary) => {
@@ -80,7 +83,8 @@ pub extern "C" fn minidump_summary(
     }
 }
 
-/// Summarises the crash of a minidump, as [`minidump_summary`] does, with the names of codes that the text `names` lists.
+/// Summarises the crash of a minidump, as [`minidump_summary`] does, with the names of codes that
+/// the text `names` lists.
 #[unsafe(no_mangle)]
 pub extern "C" fn minidump_summary_named(
     alloc: Global,
@@ -91,22 +95,25 @@ pub extern "C" fn minidump_summary_named(
     name: &mut [u8],
     line: &mut u64,
 ) -> u32
-    ensures { EndsNamed result names.now line.old line.new (IsSummarised bytes.now crash.new reason.old reason.new name.old name.new)
-        (IsSummaryRefusal bytes.now) ((crash.new ≡ crash.old) × (reason.new ≡ reason.old) × (name.new ≡ name.old)) }
+    ensures { EndsNamed result names.now line.old line.new
+        (IsSummarised bytes.now crash.new reason.old reason.new name.old name.new)
+        (IsSummaryError bytes.now) ((crash.new ≡ crash.old) × (reason.new ≡ reason.old)
+        × (name.new ≡ name.old)) }
 {
     match named_summary(alloc, bytes, names) {
         Ok(summary) => {
             tell(&summary, crash, reason, name);
             0
         }
-        Err(refusal) => refusal.told(line),
+        Err(error) => error.tell(line),
     }
 }
 
 // Summarises with the names of a text.
-fn named_summary(alloc: Global, bytes: &[u8], names: &[u8]) -> Result<CrashSummary, Refusal>
-    ensures summary { IfOk result (λ summary. IsNamed names.now (IsSummaryOf bytes.now) (summary_of summary)) }
-    ensures refused { IfErr result (IsNamedRefusal names.now (IsSummaryRefusal bytes.now)) }
+fn named_summary(alloc: Global, bytes: &[u8], names: &[u8]) -> Result<CrashSummary, CallError>
+    ensures summary { IfOk result (λ summary. IsNamed names.now (IsSummaryOf bytes.now)
+        (summary_of summary)) }
+    ensures error { IfErr result (IsNamedError names.now (IsSummaryError bytes.now)) }
 {
     let table = NameTable::read(alloc, names)?;
     let lists = table.lists(alloc)?;
@@ -161,8 +168,10 @@ pub(crate) fn flag<T>(part: &Option<T>) -> u8
 }
 
 fn module_span(found: &Option<ModuleHit>) -> (u64, u64)
-    ensures base { result.0 ≡ unwrap_or (option_map (λ m. m.base) (option_map loaded_of found.now)) 0 }
-    ensures size { result.1 ≡ unwrap_or (option_map (λ m. m.size) (option_map loaded_of found.now)) 0 }
+    ensures base { result.0 ≡ unwrap_or (option_map (λ m. m.base)
+        (option_map loaded_of found.now)) 0 }
+    ensures size { result.1 ≡ unwrap_or (option_map (λ m. m.size)
+        (option_map loaded_of found.now)) 0 }
 {
     match found {
         Some(hit) => (hit.base, hit.size),

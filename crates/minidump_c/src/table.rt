@@ -1,19 +1,19 @@
 ghost use Rattle.std.specs.Prelude.{◌≡◌, IfErr, IfOk, IsSome, OnErr};
 ghost use Rattle.std.specs.Option.{option_copied, option_map};
 ghost use Rattle.minidump.specs.Below.MemoryLists.Unified.{unified_list, unified_regions};
-ghost use Rattle.minidump.specs.Dump.{IsRefused};
+ghost use Rattle.minidump.specs.Dump.{IsDumpError};
 ghost use Rattle.minidump_c.specs.Status.{Ends};
 ghost use Rattle.minidump_c.specs.Table.{IsTableIn, IsTableOf, IsTableOfRegions};
 ghost use Rattle.minidump_c.specs.Text.{IsFilled};
 
-use crate::memory::{Region, shown};
+use crate::memory::{Region, row_of};
 use crate::status::status_of;
 use crate::text::fill;
 use minidump::{Error, Minidump, UnifiedMemoryList};
 use std::alloc::{AllocError, Global};
 
-/// Writes the kept regions of memory, ascending by address, to the front of `regions`, as far as they fit, and
-/// their number to `count`.
+/// Writes the kept regions of memory, ascending by address, to the front of `regions`, as far as
+/// they fit, and their number to `count`.
 #[unsafe(no_mangle)]
 pub extern "C" fn minidump_memory_table(
     alloc: Global,
@@ -22,7 +22,7 @@ pub extern "C" fn minidump_memory_table(
     count: &mut usize,
 ) -> u32
     ensures { Ends result (IsFilled (IsTableOf bytes.now) regions.old regions.new count.new)
-        (IsRefused bytes.now) ((regions.new ≡ regions.old) × (count.new ≡ count.old)) }
+        (IsDumpError bytes.now) ((regions.new ≡ regions.old) × (count.new ≡ count.old)) }
 {
     match table(alloc, bytes) {
         Ok(rows) => {
@@ -35,7 +35,7 @@ pub extern "C" fn minidump_memory_table(
 
 fn table(alloc: Global, bytes: &[u8]) -> Result<Vec<Region>, Error>
     ensures table { IfOk result (λ rows. IsTableOf bytes.now rows.items) }
-    ensures refused { IfErr result (IsRefused bytes.now) }
+    ensures error { IfErr result (IsDumpError bytes.now) }
 {
     let dump = Minidump::read(alloc, bytes)?;
     let memory = dump.get_memory(alloc)?;
@@ -46,21 +46,23 @@ fn table(alloc: Global, bytes: &[u8]) -> Result<Vec<Region>, Error>
 }
 
 fn rows(alloc: Global, memory: Option<&UnifiedMemoryList<'_>>) -> Result<Vec<Region>, AllocError>
-    ensures rows { IfOk result (λ rows. IsTableIn (option_map unified_list (option_copied memory.entry)) rows.items) }
+    ensures rows { IfOk result (λ rows. IsTableIn
+        (option_map unified_list (option_copied memory.entry)) rows.items) }
     ensures memory { OnErr result (IsSome memory.entry) }
 {
     match memory {
-        Some(memory) => listed(alloc, memory),
+        Some(memory) => region_rows(alloc, memory),
         None => Ok(Vec::new(alloc)),
     }
 }
 
-fn listed(alloc: Global, memory: &UnifiedMemoryList<'_>) -> Result<Vec<Region>, AllocError>
-    ensures { IfOk result (λ rows. IsTableOfRegions (unified_regions (unified_list memory.now)) rows.items) }
+fn region_rows(alloc: Global, memory: &UnifiedMemoryList<'_>) -> Result<Vec<Region>, AllocError>
+    ensures { IfOk result (λ rows. IsTableOfRegions
+        (unified_regions (unified_list memory.now)) rows.items) }
 {
     let mut rows = Vec::new(alloc);
     for region in memory.by_addr() {
-        rows.push(shown(Some(region)))?;
+        rows.push(row_of(Some(region)))?;
     }
     Ok(rows)
 }

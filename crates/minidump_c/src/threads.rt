@@ -1,14 +1,15 @@
 ghost use Rattle.std.specs.Prelude.{◌≡◌, ◌<◌, IfErr, IfOk, OnErr, [], map, unwrap_or};
 ghost use Rattle.std.specs.Option.{option_copied, option_map};
 ghost use Rattle.minidump.specs.Below.Records.ThreadNames.{name_of_thread, thread_names_stream};
-ghost use Rattle.minidump.specs.Dump.{IsRefused};
+ghost use Rattle.minidump.specs.Dump.{IsDumpError};
 ghost use Rattle.minidump.specs.DumpValue.{dump_of};
 ghost use Rattle.minidump.specs.Promise.{system_info_stream, thread_list_stream};
 ghost use Rattle.minidump.specs.Thread.{instruction_of, known_context, thread_of};
-ghost use Rattle.minidump_c.specs.Status.{Ends, IsStreamRefused};
+ghost use Rattle.crash_summary.specs.Summary.{stack_pointer_of};
+ghost use Rattle.minidump_c.specs.Status.{Ends, IsStreamError};
 ghost use Rattle.minidump_c.specs.Summary.{flag};
 ghost use Rattle.minidump_c.specs.Text.{IsFilled};
-ghost use Rattle.minidump_c.specs.Threads.{AreThreadRows, IsThreadName, names_in, row_of, stack_of};
+ghost use Rattle.minidump_c.specs.Threads.{AreThreadRows, IsThreadName, names_in, row_of};
 
 use crate::status::status_of;
 use crate::text::fill;
@@ -37,8 +38,8 @@ pub struct ThreadRow {
     pub has_context: u32,
 }
 
-/// Writes the threads, in the order of the list, to the front of `threads`, as far as they fit, and their number to
-/// `count`.
+/// Writes the threads, in the order of the list, to the front of `threads`, as far as they fit, and
+/// their number to `count`.
 #[unsafe(no_mangle)]
 pub extern "C" fn minidump_thread_table(
     alloc: Global,
@@ -47,7 +48,8 @@ pub extern "C" fn minidump_thread_table(
     count: &mut usize,
 ) -> u32
     ensures { Ends result (IsFilled (AreThreadRows bytes.now) threads.old threads.new count.new)
-        (IsStreamRefused thread_list_stream bytes.now) ((threads.new ≡ threads.old) × (count.new ≡ count.old)) }
+        (IsStreamError thread_list_stream bytes.now)
+        ((threads.new ≡ threads.old) × (count.new ≡ count.old)) }
 {
     match thread_rows(alloc, bytes) {
         Ok(rows) => {
@@ -60,7 +62,7 @@ pub extern "C" fn minidump_thread_table(
 
 fn thread_rows(alloc: Global, bytes: &[u8]) -> Result<Vec<ThreadRow>, Error>
     ensures rows { IfOk result (λ rows. AreThreadRows bytes.now rows.items) }
-    ensures refused { IfErr result (IsStreamRefused thread_list_stream bytes.now) }
+    ensures error { IfErr result (IsStreamError thread_list_stream bytes.now) }
 {
     let dump = Minidump::read(alloc, bytes)?;
     let threads = dump.get_stream::<MinidumpThreadList>(alloc)?;
@@ -77,7 +79,8 @@ fn rows(
     threads: &MinidumpThreadList<'_>,
 ) -> Result<Vec<ThreadRow>, AllocError>
     ensures { IfOk result (λ rows. rows.items
-        ≡ map (row_of (option_map system_info_stream.value (option_copied system.entry))) (thread_list_stream.value threads.now)) }
+        ≡ map (row_of (option_map system_info_stream.value (option_copied system.entry)))
+        (thread_list_stream.value threads.now)) }
 {
     threads
         .threads
@@ -87,7 +90,8 @@ fn rows(
 }
 
 fn row_of(system: Option<&MinidumpSystemInfo>, thread: &MinidumpThread<'_>) -> ThreadRow
-    ensures { result ≡ row_of (option_map system_info_stream.value (option_copied system.entry)) (thread_of thread.now) }
+    ensures { result ≡ row_of (option_map system_info_stream.value (option_copied system.entry))
+        (thread_of thread.now) }
 {
     let context = context_of(system, thread);
     let (instruction_pointer, stack_pointer, has_context) = pointers(context.as_ref());
@@ -105,7 +109,8 @@ fn context_of(
     system: Option<&MinidumpSystemInfo>,
     thread: &MinidumpThread<'_>,
 ) -> Option<MinidumpContext>
-    ensures { option_map (λ c. c.raw) result ≡ known_context (option_map system_info_stream.value (option_copied system.entry))
+    ensures { option_map (λ c. c.raw) result ≡ known_context
+        (option_map system_info_stream.value (option_copied system.entry))
         (thread_of thread.now).order (thread_of thread.now).context }
 {
     thread.context(system?, None)
@@ -113,8 +118,10 @@ fn context_of(
 
 // The instruction pointer, the stack pointer, and whether there is a context.
 fn pointers(context: Option<&MinidumpContext>) -> (u64, u64, u32)
-    ensures instruction { result.0 ≡ unwrap_or (instruction_of (option_map (λ c. c.raw) (option_copied context.entry))) 0 }
-    ensures stack { result.1 ≡ unwrap_or (stack_of (option_map (λ c. c.raw) (option_copied context.entry))) 0 }
+    ensures instruction { result.0 ≡ unwrap_or
+        (instruction_of (option_map (λ c. c.raw) (option_copied context.entry))) 0 }
+    ensures stack { result.1 ≡ unwrap_or (stack_pointer_of
+        (option_map (λ c. c.raw) (option_copied context.entry))) 0 }
     ensures there { result.2 ≡ flag (option_map (λ c. c.raw) (option_copied context.entry)) }
 {
     match context {
@@ -127,8 +134,8 @@ fn pointers(context: Option<&MinidumpContext>) -> (u64, u64, u32)
     }
 }
 
-/// Writes the name of the thread with an id to the front of `out`, as far as it fits, and the size of the whole name to
-/// `size`: 0 for a thread without a name.
+/// Writes the name of the thread with an id to the front of `out`, as far as it fits, and the size
+/// of the whole name to `size`: 0 for a thread without a name.
 #[unsafe(no_mangle)]
 pub extern "C" fn minidump_thread_name(
     alloc: Global,
@@ -138,7 +145,7 @@ pub extern "C" fn minidump_thread_name(
     size: &mut usize,
 ) -> u32
     ensures { Ends result (IsFilled (IsThreadName bytes.now id) out.old out.new size.new)
-        (IsRefused bytes.now) ((out.new ≡ out.old) × (size.new ≡ size.old)) }
+        (IsDumpError bytes.now) ((out.new ≡ out.old) × (size.new ≡ size.old)) }
 {
     match thread_name(alloc, bytes, id, out) {
         Ok(found) => {
@@ -151,7 +158,7 @@ pub extern "C" fn minidump_thread_name(
 
 fn thread_name(alloc: Global, bytes: &[u8], id: u32, out: &mut [u8]) -> Result<usize, Error>
     ensures name { IfOk result (IsFilled (IsThreadName bytes.now id) out.old out.new) }
-    ensures refused { IfErr result (IsRefused bytes.now) }
+    ensures error { IfErr result (IsDumpError bytes.now) }
     ensures kept { OnErr result (out.new ≡ out.old) }
 {
     let dump = Minidump::read(alloc, bytes)?;
@@ -161,8 +168,10 @@ fn thread_name(alloc: Global, bytes: &[u8], id: u32, out: &mut [u8]) -> Result<u
 
 // Returns the names of a dump's threads, none if it has none that can be read.
 fn names_of(alloc: Global, dump: &Minidump<'_>) -> Result<MinidumpThreadNames, Error>
-    ensures value { IfOk result (λ names. thread_names_stream.value names ≡ names_in (dump_of dump.now)) }
-    ensures memory { IfErr result (λ e. (e ≡ Error.OutOfMemory) × (0 < (dump_of dump.now).header.stream_count)) }
+    ensures value { IfOk result (λ names. thread_names_stream.value names
+        ≡ names_in (dump_of dump.now)) }
+    ensures memory { IfErr result (λ e. (e ≡ Error.OutOfMemory)
+        × (0 < (dump_of dump.now).header.stream_count)) }
 {
     match dump.find_stream(alloc)? {
         Some(names) => Ok(names),

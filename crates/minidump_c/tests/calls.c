@@ -26,7 +26,7 @@ static void tell(const char *call, uint32_t status) {
 
 typedef uint32_t text_call(const uint8_t *, size_t, uint8_t *, size_t, size_t *);
 
-/* The text twice: asked for its size, and whole; and as much of it as fits, with the bytes behind it as they were. */
+/* The text twice: asked for its size, and whole; and as much of it as fits, with the bytes after it as they were. */
 static void text(const char *name, text_call *call, const uint8_t *bytes, size_t len) {
     size_t size = 77, again = 77, cut = 77;
     uint8_t none = 'n', few[8];
@@ -115,7 +115,7 @@ static void frames(const uint8_t *bytes, size_t len, uint32_t id, size_t limit, 
                rows[i].trust);
 }
 
-/* NULL is taken where the number behind it is 0. */
+/* NULL is taken where the number after it is 0. */
 static void nulls(const uint8_t *bytes, size_t len) {
     size_t size[9] = {77, 77, 77, 77, 77, 77, 77, 77, 77};
     uint64_t line = 78;

@@ -1,10 +1,10 @@
--- The valid registers from a place of the table on.
+-- The valid registers from an index of the table on.
 use Rattle.std.proofs.Common.{◌≡◌, refl, ℕ, zero, suc, ◌+◌, ◌<◌, ◌≤◌, Bool, true, false, List, [], ◌∷◌, map, length, drop, get_or, Some, arith, add-one, Bor}
 use Rattle.std.specs.List.{filter, zip, slice_get}
 use Rattle.minidump_context.specs.declared.validity.MinidumpContextValidity.{MinidumpContextValidity}
 use Rattle.minidump_context.specs.Register.{valid_from, is_valid}
 
--- the name at a place of a list of borrowed names
+-- the name at an index of a list of borrowed names
 pub name_at : (raw : List (Bor (List ℕ))) (names : List (List ℕ)) (i : ℕ) (d : Bor (List ℕ)) → i < length raw
     → map (λ n. n.now) raw ≡ names → slice_get names i ≡ Some (get_or raw i d).now
 name_at raw names i d within same = rw (← same) (at raw i within) where
@@ -14,7 +14,7 @@ name_at raw names i d within same = rw (← same) (at raw i within) where
   at (n ∷ raw) (suc i) within = at raw i (omega arith)
 
 module _ {V : Type 0} (test : List ℕ × V → Bool) where
-  -- the row at a place passes the test
+  -- the row at an index passes the test
   more : (names : List (List ℕ)) (values : List V) (i : ℕ) (n : List ℕ) (v : V) → slice_get names i ≡ Some n → slice_get values i ≡ Some v → test (n, v) ≡ true
       → filter test (drop i (zip names values)) ≡ (n, v) ∷ filter test (drop (suc i) (zip names values))
   more [] values i n v name value kept = cc
@@ -33,7 +33,7 @@ module _ {V : Type 0} (test : List ℕ × V → Bool) where
       let same : m ≡ n = cc in rw (same, passed w) refl
   skip (m ∷ names) (w ∷ values) (suc i) n name passed = skip names values i n name passed
 
-  -- past the last place no row is left
+  -- past the last index no row is left
   past : (names : List (List ℕ)) (values : List V) (i : ℕ) → length names ≤ i → filter test (drop i (zip names values)) ≡ []
   past [] values zero within = refl
   past [] values (suc i) within = refl

@@ -26,7 +26,9 @@ amd64_registers =
 
 -- their values, in the order of the table
 unfoldable pub amd64_values : CONTEXT_AMD64 → List ℕ
-amd64_values c = c.rax ∷ c.rdx ∷ c.rcx ∷ c.rbx ∷ c.rsi ∷ c.rdi ∷ c.rbp ∷ c.rsp ∷ c.r8 ∷ c.r9 ∷ c.r10 ∷ c.r11 ∷ c.r12 ∷ c.r13 ∷ c.r14 ∷ c.r15 ∷ c.rip ∷ []
+amd64_values c =
+    c.rax ∷ c.rdx ∷ c.rcx ∷ c.rbx ∷ c.rsi ∷ c.rdi ∷ c.rbp ∷ c.rsp ∷
+    c.r8 ∷ c.r9 ∷ c.r10 ∷ c.r11 ∷ c.r12 ∷ c.r13 ∷ c.r14 ∷ c.r15 ∷ c.rip ∷ []
 
 -- the context with all of its registers at 0
 unfoldable pub amd64_rest : CONTEXT_AMD64 → CONTEXT_AMD64

@@ -25,7 +25,9 @@ arm_registers =
 
 -- each alias with the canonical name that it stands for
 unfoldable pub arm_aliases : List (List ℕ × List ℕ)
-arm_aliases = (codes "r11", codes "fp") ∷ (codes "r13", codes "sp") ∷ (codes "r14", codes "lr") ∷ (codes "r15", codes "pc") ∷ []
+arm_aliases =
+    (codes "r11", codes "fp") ∷ (codes "r13", codes "sp") ∷
+    (codes "r14", codes "lr") ∷ (codes "r15", codes "pc") ∷ []
 
 -- the number of each register of the table: its index in iregs
 unfoldable pub arm_numbers : List ℕ

@@ -1,5 +1,5 @@
--- The registers of an ARM64 processor, by name: Microsoft's ARM64_NT_CONTEXT, and Breakpad's MDRawContextARM64_Old, which
--- has them at the same offsets.
+-- The registers of an ARM64 processor, by name: Microsoft's ARM64_NT_CONTEXT, and Breakpad's
+-- MDRawContextARM64_Old, which has them at the same offsets.
 use Rattle.std.specs.Prelude.{ℕ, List, [], ◌∷◌, ◌++◌, codes, map, slice_index}
 use Rattle.std.specs.List.{range_with_len}
 use Rattle.minidump_format.specs.declared.format.context.arm64.CONTEXT_ARM64.{CONTEXT_ARM64}
@@ -59,6 +59,7 @@ arm64_rest c = record c { iregs = []; sp = 0; pc = 0 }
 unfoldable pub arm64_old_values : CONTEXT_ARM64_OLD → List ℕ
 arm64_old_values c = map (slice_index c.iregs) (range_with_len 0 31) ++ c.sp ∷ c.pc ∷ []
 
--- Breakpad's MDRawContextARM64_Old but its general registers: the flags, the status and the float registers
+-- Breakpad's MDRawContextARM64_Old but its general registers: the flags, the status and the float
+-- registers
 unfoldable pub arm64_old_rest : CONTEXT_ARM64_OLD → CONTEXT_ARM64_OLD
 arm64_old_rest c = record c { iregs = []; sp = 0; pc = 0 }

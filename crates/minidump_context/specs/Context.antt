@@ -24,7 +24,7 @@ use Rattle.minidump_context.specs.declared.context_registers.ContextRegisters.{C
 use Rattle.minidump_context.specs.declared.raw_context.MinidumpRawContext.{MinidumpRawContext}
 use Rattle.minidump_context.specs.declared.raw_context.MinidumpRawContext.TheVariants.{X86, Amd64, Arm, Arm64, OldArm64}
 use Rattle.minidump_context.specs.declared.validity.MinidumpContextValidity.{MinidumpContextValidity}
-use Rattle.minidump_context.specs.Register.{names_of, memoized, value_of, is_valid, all_or}
+use Rattle.minidump_context.specs.Register.{names_of, register_name, value_of, is_valid, all_or}
 use Rattle.minidump_context.specs.X86.{x86_registers, x86_values}
 use Rattle.minidump_context.specs.Amd64.{amd64_registers, amd64_values}
 use Rattle.minidump_context.specs.Arm.{arm_registers, arm_aliases, arm_values}
@@ -38,33 +38,46 @@ map_ok f (Err e) = Err e
 -- whether flags have the bit of a processor, and of no other one below 0x1000_0000
 abbrev pub is_of : ℕ → ℕ → Bool
 is_of processor flags = has_flag flags processor
-    && list_all (λ row. nat_le 0x1000_0000 row.1 || (processor == row.1) || not (has_flag flags row.1)) context_flags
+    && list_all
+    (λ row. nat_le 0x1000_0000 row.1 || (processor == row.1) || not (has_flag flags row.1))
+    context_flags
 
--- a context that was read, if its flags are those of its processor
+-- a context, if there is one and its flags are those of its processor
 abbrev pub of_processor : {C : Type 0} → ℕ → (C → ℕ) → Option C → Result C ContextError
 of_processor processor flags None = Err ReadFailure
 of_processor processor flags (Some c) = if is_of processor (flags c) then Ok c else Err ReadFailure
 
 -- the context of one processor at the start of the bytes; more bytes may follow
-unfoldable pub accepted : {C : Type 0} → Layout C → ℕ → (C → ℕ) → Endian → List ℕ → Result C ContextError
-accepted layout processor flags order bytes = of_processor processor flags (record_at layout order 0 bytes)
+unfoldable pub processor_context : {C : Type 0} → Layout C → ℕ → (C → ℕ) → Endian → List ℕ
+    → Result C ContextError
+processor_context layout processor flags order bytes =
+    of_processor processor flags (record_at layout order 0 bytes)
 
--- the context of an architecture at the start of the bytes; the flags of ARM64's first layout are the low 32 bits of its number
-abbrev pub context_of : Endian → List ℕ → Option ProcessorArchitecture → Result MinidumpRawContext ContextError
-context_of order bytes (Some PROCESSOR_ARCHITECTURE_INTEL) = map_ok X86 (accepted context_x86 0x1_0000 (λ c. c.context_flags) order bytes)
-context_of order bytes (Some PROCESSOR_ARCHITECTURE_IA32_ON_WIN64) = map_ok X86 (accepted context_x86 0x1_0000 (λ c. c.context_flags) order bytes)
-context_of order bytes (Some PROCESSOR_ARCHITECTURE_AMD64) = map_ok Amd64 (accepted context_amd64 0x10_0000 (λ c. c.context_flags) order bytes)
-context_of order bytes (Some PROCESSOR_ARCHITECTURE_ARM) = map_ok Arm (accepted context_arm 0x4000_0000 (λ c. c.context_flags) order bytes)
-context_of order bytes (Some PROCESSOR_ARCHITECTURE_ARM64) = map_ok Arm64 (accepted context_arm64 0x40_0000 (λ c. c.context_flags) order bytes)
+-- the context of an architecture at the start of the bytes; the flags of ARM64's first layout are
+-- the low 32 bits of its number
+abbrev pub context_of : Endian → List ℕ → Option ProcessorArchitecture
+    → Result MinidumpRawContext ContextError
+context_of order bytes (Some PROCESSOR_ARCHITECTURE_INTEL) =
+    map_ok X86 (processor_context context_x86 0x1_0000 (λ c. c.context_flags) order bytes)
+context_of order bytes (Some PROCESSOR_ARCHITECTURE_IA32_ON_WIN64) =
+    map_ok X86 (processor_context context_x86 0x1_0000 (λ c. c.context_flags) order bytes)
+context_of order bytes (Some PROCESSOR_ARCHITECTURE_AMD64) =
+    map_ok Amd64 (processor_context context_amd64 0x10_0000 (λ c. c.context_flags) order bytes)
+context_of order bytes (Some PROCESSOR_ARCHITECTURE_ARM) =
+    map_ok Arm (processor_context context_arm 0x4000_0000 (λ c. c.context_flags) order bytes)
+context_of order bytes (Some PROCESSOR_ARCHITECTURE_ARM64) =
+    map_ok Arm64 (processor_context context_arm64 0x40_0000 (λ c. c.context_flags) order bytes)
 context_of order bytes (Some PROCESSOR_ARCHITECTURE_ARM64_OLD) =
-    map_ok OldArm64 (accepted context_arm64_old 0x8000_0000 (λ c. c.context_flags % 2 ^ 32) order bytes)
+    map_ok OldArm64
+    (processor_context context_arm64_old 0x8000_0000 (λ c. c.context_flags % 2 ^ 32) order bytes)
 context_of order bytes architecture = Err UnknownCpuContext
 
 -- the same, by the number of the architecture. The misc information decides nothing
 abbrev pub context_in : Endian → List ℕ → ℕ → Result MinidumpRawContext ContextError
 context_in order bytes architecture = context_of order bytes (architecture_of architecture)
 
--- the registers of a context: canonical names, aliases, values in the order of the names, the names of the pointers, and the size of each in bytes
+-- the registers of a context: canonical names, aliases, values in the order of the names, the names
+-- of the pointers, and the size of each in bytes
 pub record Registers : Type 0 where
   pub names : List (List ℕ)
   pub aliases : List (List ℕ × List ℕ)
@@ -73,8 +86,10 @@ pub record Registers : Type 0 where
   pub instruction_pointer : List ℕ
   pub size : ℕ
 
--- the registers of a context, by the table, the aliases, the values, the names of the stack and the instruction pointer, and the size of each
-abbrev pub registers_by : List (List ℕ × ℕ) → List (List ℕ × List ℕ) → List ℕ → List ℕ → List ℕ → ℕ → Registers
+-- the registers of a context, by the table, the aliases, the values, the names of the stack and the
+-- instruction pointer, and the size of each
+abbrev pub registers_by : List (List ℕ × ℕ) → List (List ℕ × List ℕ) → List ℕ → List ℕ → List ℕ → ℕ
+    → Registers
 registers_by table aliases values stack_pointer instruction_pointer size = record {
   names = names_of table;
   aliases = aliases;
@@ -87,14 +102,18 @@ registers_by table aliases values stack_pointer instruction_pointer size = recor
 -- the registers of each processor's context
 abbrev pub registers_of : MinidumpRawContext → Registers
 registers_of (X86 c) = registers_by x86_registers [] (x86_values c) (codes "esp") (codes "eip") 4
-registers_of (Amd64 c) = registers_by amd64_registers [] (amd64_values c) (codes "rsp") (codes "rip") 8
-registers_of (Arm c) = registers_by arm_registers arm_aliases (arm_values c) (codes "sp") (codes "pc") 4
-registers_of (Arm64 c) = registers_by arm64_registers arm64_aliases (arm64_values c) (codes "sp") (codes "pc") 8
-registers_of (OldArm64 c) = registers_by arm64_registers arm64_aliases (arm64_old_values c) (codes "sp") (codes "pc") 8
+registers_of (Amd64 c) =
+    registers_by amd64_registers [] (amd64_values c) (codes "rsp") (codes "rip") 8
+registers_of (Arm c) =
+    registers_by arm_registers arm_aliases (arm_values c) (codes "sp") (codes "pc") 4
+registers_of (Arm64 c) =
+    registers_by arm64_registers arm64_aliases (arm64_values c) (codes "sp") (codes "pc") 8
+registers_of (OldArm64 c) =
+    registers_by arm64_registers arm64_aliases (arm64_old_values c) (codes "sp") (codes "pc") 8
 
 -- the canonical name of the register that has a name
-abbrev pub memoized_in : Registers → List ℕ → Option (List ℕ)
-memoized_in r name = memoized r.names r.aliases name
+abbrev pub register_name_in : Registers → List ℕ → Option (List ℕ)
+register_name_in r name = register_name r.names r.aliases name
 
 -- the value of that register
 abbrev pub value_in : Registers → List ℕ → Option ℕ
@@ -102,12 +121,17 @@ value_in r name = value_of r.names r.aliases r.values name
 
 -- its value, if it is valid
 abbrev pub valid_value_in : MinidumpContextValidity → Registers → List ℕ → Option ℕ
-valid_value_in valid r name = if is_valid valid r.names r.aliases name then value_in r name else None
+valid_value_in valid r name =
+    if is_valid valid r.names r.aliases name then value_in r name else None
 
--- the names and values of the valid registers, from a place of the list of names on
+-- the names and values of the valid registers, from an index of the list of names on
 unfoldable pub valid_registers_from : MinidumpContextValidity → Registers → ℕ → List (List ℕ × ℕ)
-valid_registers_from valid r place = filter_map (λ name. option_map (λ value. (name, value)) (valid_value_in valid r name)) (drop place r.names)
+valid_registers_from valid r index =
+    filter_map
+    (λ name. option_map (λ value. (name, value)) (valid_value_in valid r name))
+    (drop index r.names)
 
 -- what an iterator over registers has left
 abbrev pub context_registers_left : ContextRegisters → List (List ℕ × ℕ)
-context_registers_left s = valid_registers_from (all_or (option_copied s.valid)) (registers_of s.raw.now) s.place
+context_registers_left s =
+    valid_registers_from (all_or (option_copied s.valid)) (registers_of s.raw.now) s.index

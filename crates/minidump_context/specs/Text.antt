@@ -15,28 +15,29 @@ use Rattle.minidump_context.specs.declared.print.lines.Front.TheVariants.{Left, 
 use Rattle.minidump_context.specs.declared.raw_context.MinidumpRawContext.{MinidumpRawContext}
 use Rattle.minidump_context.specs.declared.raw_context.MinidumpRawContext.TheVariants.{X86, Amd64, Arm, Arm64, OldArm64}
 
--- the line of a register, by what stands in front of its value
+-- the line of a register: the text in front of its value, and the value
 unfoldable pub register_line : List ℕ → ℕ → List ℕ
 register_line front value = front ++ (hex value ++ codes "\n")
 
--- what stands in front of the value of a numbered register, the number at the left of its two columns
+-- the text in front of the value of a numbered register, the number at the left of its two columns
 abbrev pub left_front : List ℕ → List ℕ → ℕ → List ℕ
-left_front before behind number = before ++ (left 2 (decimal number) ++ behind)
+left_front before after number = before ++ (left 2 (decimal number) ++ after)
 
--- what stands in front of the value of a numbered register, the number at the right of its two columns
+-- the text in front of the value of a numbered register, the number at the right of its two columns
 abbrev pub right_front : List ℕ → List ℕ → ℕ → List ℕ
-right_front before behind number = before ++ (right 2 (decimal number) ++ behind)
+right_front before after number = before ++ (right 2 (decimal number) ++ after)
 
--- what stands in front of the value of a numbered register
+-- the text in front of the value of a numbered register
 abbrev pub front_text : Front → ℕ → List ℕ
-front_text (Left before behind) = left_front before.now behind.now
-front_text (Right before behind) = right_front before.now behind.now
+front_text (Left before after) = left_front before.now after.now
+front_text (Right before after) = right_front before.now after.now
 
--- the lines of numbered registers, by what stands in front of the value of each
+-- the lines of numbered registers, by the text in front of the value of each
 abbrev pub numbered_lines : (ℕ → List ℕ) → List ℕ → List ℕ
-numbered_lines front values = flat_map (λ r. register_line (front r.0) r.1) (enumerate_from 0 values)
+numbered_lines front values =
+    flat_map (λ r. register_line (front r.0) r.1) (enumerate_from 0 values)
 
--- the line of a register that is many bytes, two digits each
+-- the line of a register of many bytes, with two digits for each byte
 unfoldable pub bytes_line : List ℕ → List ℕ → List ℕ
 bytes_line front bytes = front ++ (encode_lower bytes ++ codes "\n")
 
@@ -147,7 +148,8 @@ arm_flags_line c = register_line (codes "  context_flags       = ") c.context_fl
 
 -- the lines of iregs, the registers r0 to r15
 unfoldable pub arm_iregs_lines : CONTEXT_ARM → List ℕ
-arm_iregs_lines c = numbered_lines (right_front (codes "  iregs[") (codes "]            = ")) c.iregs
+arm_iregs_lines c =
+    numbered_lines (right_front (codes "  iregs[") (codes "]            = ")) c.iregs
 
 -- the lines of the status registers: cpsr, and fpscr of the float area
 unfoldable pub arm_status_lines : CONTEXT_ARM → List ℕ
@@ -163,11 +165,17 @@ arm_float_lines c =
 
 -- the text of a context of ARM, CONTEXT_ARM
 unfoldable pub arm_text : CONTEXT_ARM → List ℕ
-arm_text c = codes "CONTEXT_ARM\n" ++ (arm_flags_line c ++ (arm_iregs_lines c ++ (arm_status_lines c ++ arm_float_lines c)))
+arm_text c =
+    codes "CONTEXT_ARM\n"
+    ++ (arm_flags_line c
+    ++ (arm_iregs_lines c
+    ++ (arm_status_lines c
+    ++ arm_float_lines c)))
 
 -- the lines of x0 to x28
 unfoldable pub x_lines : List ℕ → List ℕ
-x_lines iregs = numbered_lines (left_front (codes "  x") (codes "                  = ")) (take 29 iregs)
+x_lines iregs =
+    numbered_lines (left_front (codes "  x") (codes "                  = ")) (take 29 iregs)
 
 -- the lines of x29, x30, the stack pointer, the instruction pointer and the status registers
 unfoldable pub state_lines : List ℕ → ℕ → ℕ → ℕ → ℕ → ℕ → List ℕ
@@ -187,7 +195,8 @@ d_lines float_regs = numbered_lines (left_front (codes "  d") (codes " = ")) flo
 
 -- the lines that the two layouts of ARM64 have in common
 unfoldable pub arm64_lines : List ℕ → ℕ → ℕ → ℕ → ℕ → ℕ → List ℕ → List ℕ
-arm64_lines iregs sp pc cpsr fpsr fpcr float_regs = x_lines iregs ++ (state_lines iregs sp pc cpsr fpsr fpcr ++ d_lines float_regs)
+arm64_lines iregs sp pc cpsr fpsr fpcr float_regs =
+    x_lines iregs ++ (state_lines iregs sp pc cpsr fpsr fpcr ++ d_lines float_regs)
 
 -- the lines of the registers of hardware breakpoints and watchpoints: control and value
 unfoldable pub watch_lines : CONTEXT_ARM64 → List ℕ

@@ -23,4 +23,16 @@ x86_values c = c.eip ∷ c.esp ∷ c.ebp ∷ c.ebx ∷ c.esi ∷ c.edi ∷ c.eax
 
 -- the context with all of its registers at 0
 unfoldable pub x86_rest : CONTEXT_X86 → CONTEXT_X86
-x86_rest c = record c { eip = 0; esp = 0; ebp = 0; ebx = 0; esi = 0; edi = 0; eax = 0; ecx = 0; edx = 0; eflags = 0 }
+x86_rest c =
+    record c {
+      eip = 0;
+      esp = 0;
+      ebp = 0;
+      ebx = 0;
+      esi = 0;
+      edi = 0;
+      eax = 0;
+      ecx = 0;
+      edx = 0;
+      eflags = 0;
+    }

@@ -20,7 +20,7 @@ impl CpuRegisterNames for CONTEXT_AMD64 {
 impl CpuContext for CONTEXT_AMD64 {
     ghost use Rattle.std.specs.Prelude.{[], codes};
     ghost use Rattle.minidump_context.specs.Amd64.{amd64_values, amd64_rest};
-    ghost use Rattle.minidump_context.specs.TableLaws.{amd64_as_many, amd64_placed, amd64_named};
+    ghost use Rattle.minidump_context.specs.TableLaws.{amd64_as_many, amd64_at_offsets, amd64_names};
 
     type Register = u64;
 
@@ -43,8 +43,8 @@ impl CpuContext for CONTEXT_AMD64 {
     }
 
     #[tactic(auto, unfolding(crate::specs::Amd64::amd64_registers, crate::specs::Amd64::amd64_values))]
-    fn register_at(&self, place: usize) -> u64 {
-        match place {
+    fn register_at(&self, index: usize) -> u64 {
+        match index {
             0 => self.rax,
             1 => self.rdx,
             2 => self.rcx,
@@ -66,8 +66,8 @@ impl CpuContext for CONTEXT_AMD64 {
     }
 
     #[tactic(auto, unfolding(crate::specs::Amd64::amd64_registers, crate::specs::Amd64::amd64_values, crate::specs::Amd64::amd64_rest))]
-    fn set_register_at(&mut self, place: usize, value: u64) {
-        match place {
+    fn set_register_at(&mut self, index: usize, value: u64) {
+        match index {
             0 => self.rax = value,
             1 => self.rdx = value,
             2 => self.rcx = value,
@@ -106,7 +106,7 @@ impl CpuContext for CONTEXT_AMD64 {
 
     ghost as_many = { amd64_as_many };
 
-    ghost named = { amd64_named };
+    ghost register_names = { amd64_names };
 
-    ghost placed = { amd64_placed };
+    ghost at_offsets = { amd64_at_offsets };
 }

@@ -8,12 +8,12 @@ use minidump_format::format::CONTEXT_ARM;
 const NUMBERS: [usize; 16] = [0, 1, 2, 3, 4, 5, 6, 7, 8, 9, 10, 12, 11, 13, 14, 15];
 
 #[tactic(auto, unfolding(crate::specs::Arm::arm_numbers))]
-fn number_of(place: usize) -> usize
-    requires { place < 16 }
-    ensures listed { result ≡ slice_index arm_numbers place }
+fn number_of(index: usize) -> usize
+    requires { index < 16 }
+    ensures value { result ≡ slice_index arm_numbers index }
     ensures within { result < 16 }
 {
-    NUMBERS[place]
+    NUMBERS[index]
 }
 
 impl CpuRegisterNames for CONTEXT_ARM {
@@ -35,7 +35,7 @@ impl CpuRegisterNames for CONTEXT_ARM {
 impl CpuContext for CONTEXT_ARM {
     ghost use Rattle.std.specs.Prelude.{codes};
     ghost use Rattle.minidump_context.specs.Arm.{arm_aliases, arm_values, arm_rest};
-    ghost use Rattle.minidump_context.specs.TableLaws.{arm_as_many, arm_placed, arm_named};
+    ghost use Rattle.minidump_context.specs.TableLaws.{arm_as_many, arm_at_offsets, arm_names};
 
     type Register = u32;
 
@@ -59,13 +59,13 @@ impl CpuContext for CONTEXT_ARM {
     }
 
     #[tactic(auto, unfolding(crate::specs::Arm::arm_registers, crate::specs::Arm::arm_values))]
-    fn register_at(&self, place: usize) -> u32 {
-        self.iregs[number_of(place)]
+    fn register_at(&self, index: usize) -> u32 {
+        self.iregs[number_of(index)]
     }
 
     #[tactic(auto, unfolding(crate::specs::Arm::arm_registers, crate::specs::Arm::arm_values, crate::specs::Arm::arm_rest))]
-    fn set_register_at(&mut self, place: usize, value: u32) {
-        self.iregs[number_of(place)] = value;
+    fn set_register_at(&mut self, index: usize, value: u32) {
+        self.iregs[number_of(index)] = value;
     }
 
     fn processor() -> u32 {
@@ -86,7 +86,7 @@ impl CpuContext for CONTEXT_ARM {
 
     ghost as_many = { arm_as_many };
 
-    ghost named = { arm_named };
+    ghost register_names = { arm_names };
 
-    ghost placed = { arm_placed };
+    ghost at_offsets = { arm_at_offsets };
 }

@@ -27,7 +27,7 @@ impl CpuRegisterNames for CONTEXT_ARM64 {
 impl CpuContext for CONTEXT_ARM64 {
     ghost use Rattle.std.specs.Prelude.{codes};
     ghost use Rattle.minidump_context.specs.Arm64.{arm64_aliases, arm64_values, arm64_rest};
-    ghost use Rattle.minidump_context.specs.TableLaws.{arm64_as_many, arm64_placed, arm64_named};
+    ghost use Rattle.minidump_context.specs.TableLaws.{arm64_as_many, arm64_at_offsets, arm64_names};
 
     type Register = u64;
 
@@ -51,20 +51,20 @@ impl CpuContext for CONTEXT_ARM64 {
     }
 
     #[tactic(auto, unfolding(crate::specs::Arm64::arm64_registers, crate::specs::Arm64::arm64_values))]
-    fn register_at(&self, place: usize) -> u64 {
-        match place {
+    fn register_at(&self, index: usize) -> u64 {
+        match index {
             31 => self.sp,
             32 => self.pc,
-            _ => self.iregs[place],
+            _ => self.iregs[index],
         }
     }
 
     #[tactic(auto, unfolding(crate::specs::Arm64::arm64_registers, crate::specs::Arm64::arm64_values, crate::specs::Arm64::arm64_rest))]
-    fn set_register_at(&mut self, place: usize, value: u64) {
-        match place {
+    fn set_register_at(&mut self, index: usize, value: u64) {
+        match index {
             31 => self.sp = value,
             32 => self.pc = value,
-            _ => self.iregs[place] = value,
+            _ => self.iregs[index] = value,
         }
     }
 
@@ -86,9 +86,9 @@ impl CpuContext for CONTEXT_ARM64 {
 
     ghost as_many = { arm64_as_many };
 
-    ghost named = { arm64_named };
+    ghost register_names = { arm64_names };
 
-    ghost placed = { arm64_placed };
+    ghost at_offsets = { arm64_at_offsets };
 }
 
 impl CpuRegisterNames for CONTEXT_ARM64_OLD {
@@ -107,7 +107,7 @@ impl CpuRegisterNames for CONTEXT_ARM64_OLD {
 impl CpuContext for CONTEXT_ARM64_OLD {
     ghost use Rattle.std.specs.Prelude.{codes, ◌%◌, ◌^◌};
     ghost use Rattle.minidump_context.specs.Arm64.{arm64_aliases, arm64_old_values, arm64_old_rest};
-    ghost use Rattle.minidump_context.specs.TableLaws.{arm64_old_as_many, arm64_old_placed, arm64_named};
+    ghost use Rattle.minidump_context.specs.TableLaws.{arm64_old_as_many, arm64_old_at_offsets, arm64_names};
 
     type Register = u64;
 
@@ -131,20 +131,20 @@ impl CpuContext for CONTEXT_ARM64_OLD {
     }
 
     #[tactic(auto, unfolding(crate::specs::Arm64::arm64_registers, crate::specs::Arm64::arm64_old_values))]
-    fn register_at(&self, place: usize) -> u64 {
-        match place {
+    fn register_at(&self, index: usize) -> u64 {
+        match index {
             31 => self.sp,
             32 => self.pc,
-            _ => self.iregs[place],
+            _ => self.iregs[index],
         }
     }
 
     #[tactic(auto, unfolding(crate::specs::Arm64::arm64_registers, crate::specs::Arm64::arm64_old_values, crate::specs::Arm64::arm64_old_rest))]
-    fn set_register_at(&mut self, place: usize, value: u64) {
-        match place {
+    fn set_register_at(&mut self, index: usize, value: u64) {
+        match index {
             31 => self.sp = value,
             32 => self.pc = value,
-            _ => self.iregs[place] = value,
+            _ => self.iregs[index] = value,
         }
     }
 
@@ -166,7 +166,7 @@ impl CpuContext for CONTEXT_ARM64_OLD {
 
     ghost as_many = { arm64_old_as_many };
 
-    ghost named = { arm64_named };
+    ghost register_names = { arm64_names };
 
-    ghost placed = { arm64_old_placed };
+    ghost at_offsets = { arm64_old_at_offsets };
 }

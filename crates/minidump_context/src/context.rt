@@ -2,7 +2,7 @@ ghost use Rattle.std.proofs.Common.{rules};
 ghost use Rattle.std.specs.Prelude.{◌≡◌, IfOk, IfSome, IsOkUnless, IsSome, OnErr, Some, map, string_bytes};
 ghost use Rattle.std.specs.Option.{option_copied};
 ghost use Rattle.minidump_context.specs.Register.{names_of, register_text, set_names, value_of};
-ghost use Rattle.minidump_context.specs.Context.{accepted, context_in, context_of, context_registers_left, value_in, is_of, map_ok, memoized_in, registers_of, valid_value_in, valid_registers_from};
+ghost use Rattle.minidump_context.specs.Context.{processor_context, context_in, context_of, context_registers_left, value_in, is_of, map_ok, register_name_in, registers_of, valid_value_in, valid_registers_from};
 
 use crate::raw_context::with_context;
 use crate::{
@@ -37,7 +37,7 @@ pub struct MinidumpContext {
 }
 
 impl MinidumpContext {
-    /// Makes a context whose registers are all valid.
+    /// Creates a context whose registers are all valid.
     pub fn from_raw(raw: MinidumpRawContext) -> MinidumpContext
         ensures raw { result.raw ≡ raw }
         ensures valid { result.valid ≡ MinidumpContextValidity.All }
@@ -48,19 +48,20 @@ impl MinidumpContext {
         }
     }
 
-    /// Reads the context at the start of the bytes, in the layout of the system's architecture. All of its
-    /// registers are valid. The misc information is not used. Takes no memory.
+    /// Reads the context at the start of the bytes, in the layout of the system's architecture. All
+    /// of its registers are valid. The misc information is not used. Takes no memory.
     ///
-    /// Returns `UnknownCpuContext` if no layout is known for the architecture. Returns `ReadFailure` if there
-    /// are too few bytes, or if the low 32 bits of the flags lack the processor's bit or have another
-    /// processor's bit below 0x10000000.
+    /// Returns `UnknownCpuContext` if no layout is known for the architecture. Returns
+    /// `ReadFailure` if there are too few bytes, or if the low 32 bits of the flags lack the
+    /// processor's bit or have another processor's bit below 0x10000000.
     pub fn read(
         bytes: &[u8],
         endian: Endian,
         system_info: &MinidumpSystemInfo,
         _misc: Option<&MinidumpMiscInfo>,
     ) -> Result<MinidumpContext, ContextError>
-        ensures raw { map_ok (λ c. c.raw) result ≡ context_in endian bytes.now system_info.now.raw.processor_architecture }
+        ensures raw { map_ok (λ c. c.raw) result
+            ≡ context_in endian bytes.now system_info.now.raw.processor_architecture }
         ensures valid { IfOk result (λ c. c.valid ≡ MinidumpContextValidity.All) }
     {
         let architecture = ProcessorArchitecture::from_u16(system_info.raw.processor_architecture);
@@ -69,31 +70,33 @@ impl MinidumpContext {
 
     /// Returns the value of the instruction pointer.
     pub fn get_instruction_pointer(&self) -> u64
-        ensures { value_in (registers_of self.now.raw) (registers_of self.now.raw).instruction_pointer ≡ Some result }
+        ensures { value_in (registers_of self.now.raw)
+            (registers_of self.now.raw).instruction_pointer ≡ Some result }
     {
         with_context!(&self.raw, context => instruction_pointer_of(context).to_u64())
     }
 
     /// Returns the value of the stack pointer.
     pub fn get_stack_pointer(&self) -> u64
-        ensures { value_in (registers_of self.now.raw) (registers_of self.now.raw).stack_pointer ≡ Some result }
+        ensures { value_in (registers_of self.now.raw) (registers_of self.now.raw).stack_pointer
+            ≡ Some result }
     {
         with_context!(&self.raw, context => stack_pointer_of(context).to_u64())
     }
 
     /// Returns the canonical name of a register, or `None` if `reg` is not one.
     pub fn memoize_register(&self, reg: &str) -> Option<&'static str>
-        ensures { option_copied result ≡ memoized_in (registers_of self.now.raw) reg.now }
+        ensures { option_copied result ≡ register_name_in (registers_of self.now.raw) reg.now }
     {
         with_context!(&self.raw, context => context.memoize_register(reg))
     }
 
     /// Returns the value of a register. `memoize_register` must know its name.
     ///
-    /// A caller has to prove that the name belongs to the processor of this context, so a literal such as `"rip"` isn't
-    /// enough. Use [`MinidumpContext::get_register`] where that isn't known.
+    /// A caller has to prove that the name belongs to the processor of this context, so a literal
+    /// such as `"rip"` isn't enough. Use [`MinidumpContext::get_register`] where that isn't known.
     pub fn get_register_always(&self, reg: &str) -> u64
-        requires { IsSome (memoized_in (registers_of self.now.raw) reg.now) }
+        requires { IsSome (register_name_in (registers_of self.now.raw) reg.now) }
         ensures { value_in (registers_of self.now.raw) reg.now ≡ Some result }
     {
         with_context!(&self.raw, context => context.get_register_always(reg).to_u64())
@@ -106,10 +109,10 @@ impl MinidumpContext {
         self.raw.get_register(reg, &self.valid)
     }
 
-    /// Formats the value of a register as `0x` and two hexadecimal digits a byte. `memoize_register` must know
-    /// its name. The only error is `OutOfMemory`.
+    /// Formats the value of a register as `0x` and two hexadecimal digits for each byte.
+    /// `memoize_register` must know its name. The only error is `OutOfMemory`.
     pub fn format_register(&self, alloc: Global, reg: &str) -> Result<String, Error>
-        requires { IsSome (memoized_in (registers_of self.now.raw) reg.now) }
+        requires { IsSome (register_name_in (registers_of self.now.raw) reg.now) }
         ensures text { IfOk result (λ text. IfSome (value_in (registers_of self.now.raw) reg.now)
             (λ value. string_bytes text ≡ register_text (registers_of self.now.raw).size value)) }
         ensures memory { IsOkUnless result Error.OutOfMemory }
@@ -127,24 +130,26 @@ impl MinidumpContext {
     /// Returns an iterator over the names and values of all registers, in the order of
     /// `general_purpose_registers`.
     pub fn registers(&self) -> ContextRegisters<'_>
-        ensures { context_registers_left result ≡ valid_registers_from MinidumpContextValidity.All (registers_of self.now.raw) 0 }
+        ensures { context_registers_left result
+            ≡ valid_registers_from MinidumpContextValidity.All (registers_of self.now.raw) 0 }
     {
         ContextRegisters {
             raw: &self.raw,
             valid: None,
-            place: 0,
+            index: 0,
         }
     }
 
     /// Returns an iterator over the names and values of the valid registers, in the order of
     /// `general_purpose_registers`.
     pub fn valid_registers(&self) -> ContextRegisters<'_>
-        ensures { context_registers_left result ≡ valid_registers_from self.now.valid (registers_of self.now.raw) 0 }
+        ensures { context_registers_left result
+            ≡ valid_registers_from self.now.valid (registers_of self.now.raw) 0 }
     {
         ContextRegisters {
             raw: &self.raw,
             valid: Some(&self.valid),
-            place: 0,
+            index: 0,
         }
     }
 
@@ -155,7 +160,8 @@ impl MinidumpContext {
         with_context!(&self.raw, context => register_size_of(context))
     }
 
-    /// Copies the context. The only error is `OutOfMemory`, and only if not all registers are valid.
+    /// Copies the context. The only error is `OutOfMemory`, and only if not all registers are
+    /// valid.
     pub fn try_clone(&self, alloc: Global) -> Result<Self, Error>
         ensures raw { IfOk result (λ copy. copy.raw ≡ self.now.raw) }
         ensures valid { IfOk result (λ copy. set_names copy.valid ≡ set_names self.now.valid) }
@@ -171,14 +177,16 @@ impl MinidumpContext {
 
 // Returns the value of the instruction pointer of one processor.
 fn instruction_pointer_of<C: CpuContext>(context: &C) -> C::Register
-    ensures { value_of (names_of C.table) C.aliases (C.values context.now) C.instruction_pointer ≡ Some result }
+    ensures { value_of (names_of C.table) C.aliases (C.values context.now) C.instruction_pointer
+        ≡ Some result }
 {
     context.get_register_always(context.instruction_pointer_register_name())
 }
 
 // Returns the value of the stack pointer of one processor.
 fn stack_pointer_of<C: CpuContext>(context: &C) -> C::Register
-    ensures { value_of (names_of C.table) C.aliases (C.values context.now) C.stack_pointer ≡ Some result }
+    ensures { value_of (names_of C.table) C.aliases (C.values context.now) C.stack_pointer
+        ≡ Some result }
 {
     context.get_register_always(context.stack_pointer_register_name())
 }
@@ -202,27 +210,27 @@ fn read_raw(
         Some(
             ProcessorArchitecture::PROCESSOR_ARCHITECTURE_INTEL
             | ProcessorArchitecture::PROCESSOR_ARCHITECTURE_IA32_ON_WIN64,
-        ) => Ok(MinidumpRawContext::X86(accepted(bytes, endian)?)),
+        ) => Ok(MinidumpRawContext::X86(read_context(bytes, endian)?)),
         Some(ProcessorArchitecture::PROCESSOR_ARCHITECTURE_AMD64) => {
-            Ok(MinidumpRawContext::Amd64(accepted(bytes, endian)?))
+            Ok(MinidumpRawContext::Amd64(read_context(bytes, endian)?))
         }
         Some(ProcessorArchitecture::PROCESSOR_ARCHITECTURE_ARM) => {
-            Ok(MinidumpRawContext::Arm(accepted(bytes, endian)?))
+            Ok(MinidumpRawContext::Arm(read_context(bytes, endian)?))
         }
         Some(ProcessorArchitecture::PROCESSOR_ARCHITECTURE_ARM64) => {
-            Ok(MinidumpRawContext::Arm64(accepted(bytes, endian)?))
+            Ok(MinidumpRawContext::Arm64(read_context(bytes, endian)?))
         }
         Some(ProcessorArchitecture::PROCESSOR_ARCHITECTURE_ARM64_OLD) => {
-            Ok(MinidumpRawContext::OldArm64(accepted(bytes, endian)?))
+            Ok(MinidumpRawContext::OldArm64(read_context(bytes, endian)?))
         }
         _ => Err(ContextError::UnknownCpuContext),
     }
 }
 
 // Reads the context of one processor at the start of the bytes, and checks its flags.
-#[tactic(auto, unfolding(crate::specs::Context::accepted))]
-fn accepted<C: CpuContext + Drop>(bytes: &[u8], endian: Endian) -> Result<C, ContextError>
-    ensures { result ≡ accepted C.layout C.processor C.flags endian bytes.now }
+#[tactic(auto, unfolding(crate::specs::Context::processor_context))]
+fn read_context<C: CpuContext + Drop>(bytes: &[u8], endian: Endian) -> Result<C, ContextError>
+    ensures { result ≡ processor_context C.layout C.processor C.flags endian bytes.now }
 {
     let context: C = Source::new(bytes)
         .record(0, endian, &mut Steps::new())
@@ -234,8 +242,8 @@ fn accepted<C: CpuContext + Drop>(bytes: &[u8], endian: Endian) -> Result<C, Con
     }
 }
 
-// Returns whether flags have the bit of `processor`, and of no other one below 0x1000_0000: X86, MIPS, MIPS64,
-// AMD64, ARM64 and PPC64, in this order.
+// Returns whether flags have the bit of `processor`, and of no other processor below 0x1000_0000:
+// X86, MIPS, MIPS64, AMD64, ARM64 and PPC64, in this order.
 #[tactic(auto, unfolding(minidump_format::specs::ContextFlags::context_flags))]
 fn is_of(processor: u32, flags: u32) -> bool
     ensures { result ≡ is_of processor flags }

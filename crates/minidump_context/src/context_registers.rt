@@ -6,20 +6,22 @@ ghost use Rattle.minidump_context.specs.Context.{context_registers_left, registe
 
 use crate::{MinidumpContextValidity, MinidumpRawContext};
 
-/// An iterator over the names and values of a context's registers, in the order of the list of names.
+/// An iterator over the names and values of a context's registers, in the order of the list of
+/// names.
 #[derive(Clone, Drop)]
 pub struct ContextRegisters<'a> {
     pub(crate) raw: &'a MinidumpRawContext,
-    // Which registers are yielded; `None` for all.
+    // Which registers are valid; `None` if all are.
     pub(crate) valid: Option<&'a MinidumpContextValidity>,
-    // The place in the list of names at which the search for the next register starts.
-    pub(crate) place: usize,
+    // The index in the list of names at which the search for the next register starts.
+    pub(crate) index: usize,
 }
 
 impl<'a> ContextRegisters<'a> {
     // Returns the value of a register, or `None` if the iterator doesn't yield it.
-    fn yielded(&self, name: &str) -> Option<u64>
-        ensures { result ≡ valid_value_in (all_or (option_copied self.now.valid)) (registers_of self.now.raw.now) name.now }
+    fn valid_value(&self, name: &str) -> Option<u64>
+        ensures { result ≡ valid_value_in (all_or (option_copied self.now.valid))
+            (registers_of self.now.raw.now) name.now }
     {
         match self.valid {
             Some(valid) => self.raw.get_register(name, valid),
@@ -37,10 +39,10 @@ impl<'a> Iterator for ContextRegisters<'a> {
 
     fn next(&mut self) -> Option<(&'static str, u64)> {
         let names = self.raw.names();
-        while self.place < names.len() {
-            let name = names[self.place];
-            self.place += 1;
-            if let Some(value) = self.yielded(name) {
+        while self.index < names.len() {
+            let name = names[self.index];
+            self.index += 1;
+            if let Some(value) = self.valid_value(name) {
                 return Some((name, value));
             }
         }

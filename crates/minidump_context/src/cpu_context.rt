@@ -1,18 +1,17 @@
-ghost use Rattle.std.specs.Prelude.{◌≡◌, ◌↔◌, ◌<◌, ◌*◌, ℕ, List, Option, Some, None, IsSome, is_some, true, if◌then◌else◌, IfOk, IsOkUnless, IfSome, string_bytes, position, length, map, slice_set};
-ghost use Rattle.std.specs.List.{slice_get, range_with_len, list_all};
+ghost use Rattle.std.specs.Prelude.{◌≡◌, ◌↔◌, ◌<◌, ◌*◌, ℕ, List, Option, Some, None, IsSome, if◌then◌else◌, IfOk, IsOkUnless, IfSome, string_bytes, length, map, slice_set};
+ghost use Rattle.std.specs.List.{slice_get};
 ghost use Rattle.std.specs.Option.{option_copied};
-ghost use Rattle.std.specs.Str.{bytes_eq};
 ghost use Rattle.minidump_bytes.specs.declared.endian.Endian.{Endian};
 ghost use Rattle.minidump_bytes.specs.Number.{number_at};
-ghost use Rattle.minidump_context.specs.Register.{place_of, memoized, value_of, is_valid, names_of, valid_from, registers_left, register_text, IsChanged, IsNamed};
+ghost use Rattle.minidump_context.specs.Register.{register_index, register_name, value_of, is_valid, names_of, valid_from, registers_left, register_text, IsChanged, AreRegisterNames};
 
-use crate::names::place_of;
+use crate::names::register_index;
 use crate::{CpuRegisters, MinidumpContextValidity};
-use minidump_bytes::{FixedRead, Piece, Record, made};
+use minidump_bytes::{FixedRead, Piece, Record, format_pieces};
 use minidump_format::Error;
 use std::alloc::Global;
 
-/// The value of a register: a number.
+/// The type of a register's value: an unsigned integer.
 pub trait RegisterNumber: FixedRead {
     ghost number: { Self → ℕ };
 
@@ -20,7 +19,7 @@ pub trait RegisterNumber: FixedRead {
     fn to_u64(self) -> u64
         ensures { result ≡ number self };
 
-    /// Returns how many hexadecimal digits a value has at most.
+    /// Returns the number of hexadecimal digits that a value has at most.
     fn hex_digits() -> usize
         ensures { result ≡ 2 * Self.SIZE };
 }
@@ -64,7 +63,7 @@ pub trait CpuRegisterNames {
 
 /// The context of a processor: its registers by name.
 pub trait CpuContext: CpuRegisterNames + Record {
-    /// The value of a register: `u32` or `u64`.
+    /// The type of a register's value: `u32` or `u64`.
     type Register: RegisterNumber;
 
     // each alias with the canonical name that it stands for
@@ -90,15 +89,15 @@ pub trait CpuContext: CpuRegisterNames + Record {
     fn aliases() -> &'static [(&'static str, &'static str)]
         ensures { map (λ a. (a.0.now, a.1.now)) result.now ≡ aliases };
 
-    /// Returns the value of the register at a place of the list of names.
-    fn register_at(&self, place: usize) -> Self::Register
-        requires { place < length Self.table }
-        ensures { slice_get (values self.now) place ≡ Some result };
+    /// Returns the value of the register at an index of the list of names.
+    fn register_at(&self, index: usize) -> Self::Register
+        requires { index < length Self.table }
+        ensures { slice_get (values self.now) index ≡ Some result };
 
-    /// Sets the register at a place of the list of names, and changes nothing else.
-    fn set_register_at(&mut self, place: usize, value: Self::Register)
-        requires { place < length Self.table }
-        ensures set { values self.new ≡ slice_set (values self.old) place value }
+    /// Sets the register at an index of the list of names, and changes nothing else.
+    fn set_register_at(&mut self, index: usize, value: Self::Register)
+        requires { index < length Self.table }
+        ensures set { values self.new ≡ slice_set (values self.old) index value }
         ensures rest { rest self.new ≡ rest self.old };
 
     /// Returns the processor's bit in the flags of its contexts.
@@ -119,14 +118,15 @@ pub trait CpuContext: CpuRegisterNames + Record {
 
     /// Returns the canonical name of a register, or `None` if `reg` is not one.
     final fn memoize_register(&self, reg: &str) -> Option<&'static str>
-        ensures { option_copied result ≡ memoized (names_of Self.table) aliases reg.now }
+        ensures { option_copied result ≡ register_name (names_of Self.table) aliases reg.now }
     {
         let names = Self::names();
-        let place = place_of(names, Self::aliases(), reg)?;
-        Some(names[place])
+        let index = register_index(names, Self::aliases(), reg)?;
+        Some(names[index])
     }
 
-    /// Returns whether `reg` is a name of a valid register. A register is valid if the set has any of its names.
+    /// Returns whether `reg` is a name of a valid register. A register is valid if `valid` has any
+    /// of its names.
     final fn register_is_valid(&self, reg: &str, valid: &MinidumpContextValidity) -> bool
         ensures { result ≡ is_valid valid.now (names_of Self.table) aliases reg.now }
     {
@@ -138,11 +138,11 @@ pub trait CpuContext: CpuRegisterNames + Record {
 
     /// Returns the value of a register. `memoize_register` must know its name.
     final fn get_register_always(&self, reg: &str) -> Self::Register
-        requires { IsSome (memoized (names_of Self.table) aliases reg.now) }
+        requires { IsSome (register_name (names_of Self.table) aliases reg.now) }
         ensures { value_of (names_of Self.table) aliases (values self.now) reg.now ≡ Some result }
     {
-        let place = place_of(Self::names(), Self::aliases(), reg).unwrap();
-        self.register_at(place)
+        let index = register_index(Self::names(), Self::aliases(), reg).unwrap();
+        self.register_at(index)
     }
 
     /// Returns the value of a register, or `None` if it isn't valid.
@@ -161,42 +161,49 @@ pub trait CpuContext: CpuRegisterNames + Record {
         }
     }
 
-    /// Sets a register, under all of its names, and changes nothing else. Returns `None`, and changes nothing,
-    /// if `reg` is not a register.
+    /// Sets a register, under all of its names, and changes nothing else. Returns `None`, and
+    /// changes nothing, if `reg` is not a register.
     final fn set_register(&mut self, reg: &str, val: Self::Register) -> Option<()>
-        ensures named { IsSome result ↔ IsSome (place_of (names_of Self.table) aliases reg.now) }
-        ensures changed { IsChanged values rest self.old self.new val (place_of (names_of Self.table) aliases reg.now) }
+        ensures some { IsSome result
+            ↔ IsSome (register_index (names_of Self.table) aliases reg.now) }
+        ensures change { IsChanged values rest self.old self.new val
+            (register_index (names_of Self.table) aliases reg.now) }
     {
-        let place = place_of(Self::names(), Self::aliases(), reg)?;
-        self.set_register_at(place, val);
+        let index = register_index(Self::names(), Self::aliases(), reg)?;
+        self.set_register_at(index, val);
         Some(())
     }
 
-    /// Formats the value of a register as `0x` and two hexadecimal digits a byte. `memoize_register` must know
-    /// its name. The only error is `OutOfMemory`.
+    /// Formats the value of a register as `0x` and two hexadecimal digits for each byte.
+    /// `memoize_register` must know its name. The only error is `OutOfMemory`.
     final fn format_register(&self, alloc: Global, reg: &str) -> Result<String, Error>
-        requires { IsSome (memoized (names_of Self.table) aliases reg.now) }
-        ensures text { IfOk result (λ text. IfSome (value_of (names_of Self.table) aliases (values self.now) reg.now)
-            (λ value. string_bytes text ≡ register_text Self.Register.SIZE (Self.Register.number value))) }
+        requires { IsSome (register_name (names_of Self.table) aliases reg.now) }
+        ensures text { IfOk result (λ text. IfSome
+            (value_of (names_of Self.table) aliases (values self.now) reg.now)
+            (λ value. string_bytes text
+            ≡ register_text Self.Register.SIZE (Self.Register.number value))) }
         ensures memory { IsOkUnless result Error.OutOfMemory }
     {
         let value = self.get_register_always(reg).to_u64();
-        Ok(made(alloc, &[Piece::Wide(value, Self::Register::hex_digits())])?)
+        Ok(format_pieces(alloc, &[Piece::Wide(value, Self::Register::hex_digits())])?)
     }
 
-    /// Returns an iterator over the names and values of all registers, in the order of the list of names.
+    /// Returns an iterator over the names and values of all registers, in the order of the list of
+    /// names.
     final fn registers(&self) -> CpuRegisters<'_, Self>
         ensures { registers_left (names_of Self.table) aliases values result
-            ≡ valid_from MinidumpContextValidity.All (names_of Self.table) aliases (values self.now) 0 }
+            ≡ valid_from MinidumpContextValidity.All (names_of Self.table) aliases
+            (values self.now) 0 }
     {
         CpuRegisters {
             context: self,
             valid: None,
-            place: 0,
+            index: 0,
         }
     }
 
-    /// Returns an iterator over the names and values of the valid registers, in the order of the list of names.
+    /// Returns an iterator over the names and values of the valid registers, in the order of the
+    /// list of names.
     final fn valid_registers<'a>(
         &'a self,
         valid: &'a MinidumpContextValidity,
@@ -207,18 +214,19 @@ pub trait CpuContext: CpuRegisterNames + Record {
         CpuRegisters {
             context: self,
             valid: Some(valid),
-            place: 0,
+            index: 0,
         }
     }
 
     // each row of the table has a value
     ghost as_many: { (c : Self) → length (values c) ≡ length Self.table };
 
-    // each name stands for the register of its own row, each alias for that of its canonical name, and both
-    // pointers are registers
-    ghost named: { IsNamed Self.table aliases stack_pointer instruction_pointer };
+    // each canonical name stands for the register of its own row, each alias for that of its
+    // canonical name, and both pointers are registers
+    ghost register_names: { AreRegisterNames Self.table aliases stack_pointer instruction_pointer };
 
     // the value of each register that is read is the number at its offset in the record
-    ghost placed: { (order : Endian) (bytes : List ℕ) → map Self.Register.number (values (Self.layout.value order bytes))
+    ghost at_offsets: { (order : Endian) (bytes : List ℕ)
+        → map Self.Register.number (values (Self.layout.value order bytes))
         ≡ map (λ row. number_at order Self.Register.SIZE row.1 bytes) Self.table };
 }

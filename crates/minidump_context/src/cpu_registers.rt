@@ -5,14 +5,15 @@ ghost use Rattle.minidump_context.specs.Register.{names_of, registers_left, is_v
 
 use crate::{CpuContext, MinidumpContextValidity};
 
-/// An iterator over the names and values of a context's registers, in the order of the list of names.
+/// An iterator over the names and values of a context's registers, in the order of the list of
+/// names.
 #[derive(Clone, Drop)]
 pub struct CpuRegisters<'a, T> {
     pub(crate) context: &'a T,
     // Which registers are yielded; `None` for all.
     pub(crate) valid: Option<&'a MinidumpContextValidity>,
-    // The place in the list of names at which the search for the next register starts.
-    pub(crate) place: usize,
+    // The index in the list of names at which the search for the next register starts.
+    pub(crate) index: usize,
 }
 
 impl<'a, T: CpuContext> Iterator for CpuRegisters<'a, T> {
@@ -26,12 +27,12 @@ impl<'a, T: CpuContext> Iterator for CpuRegisters<'a, T> {
 
     fn next(&mut self) -> Option<(&'static str, T::Register)> {
         let names = T::names();
-        while self.place < names.len() {
-            let place = self.place;
-            self.place += 1;
-            let name = names[place];
+        while self.index < names.len() {
+            let index = self.index;
+            self.index += 1;
+            let name = names[index];
             if is_yielded(self.context, name, self.valid) {
-                return Some((name, self.context.register_at(place)));
+                return Some((name, self.context.register_at(index)));
             }
         }
         None
@@ -44,7 +45,8 @@ fn is_yielded<T: CpuContext>(
     name: &str,
     valid: Option<&MinidumpContextValidity>,
 ) -> bool
-    ensures { result ≡ is_valid (all_or (option_copied valid.entry)) (names_of T.table) T.aliases name.now }
+    ensures { result
+        ≡ is_valid (all_or (option_copied valid.entry)) (names_of T.table) T.aliases name.now }
 {
     match valid {
         Some(valid) => context.register_is_valid(name, valid),

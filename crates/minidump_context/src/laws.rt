@@ -1,5 +1,5 @@
 //! Laws of registers, for the context of every processor.
-ghost use Rattle.std.specs.Prelude.{◌≡◌, ◌≢◌, ◌↔◌, ◌%◌, ◌^◌, ℕ, [], codes, IsSome, IsTrue, List, Option, Some, None, is_some, true, length, map, position};
+ghost use Rattle.std.specs.Prelude.{◌≡◌, ◌≢◌, ◌↔◌, ◌%◌, ◌^◌, ℕ, [], codes, IsSome, IsTrue, List, Some, None, is_some, true, length, map, position};
 ghost use Rattle.std.specs.List.{range_with_len, list_all};
 ghost use Rattle.std.specs.Str.{bytes_eq};
 ghost use Rattle.minidump_bytes.specs.declared.endian.Endian.{Endian};
@@ -8,7 +8,7 @@ ghost use Rattle.minidump_context.specs.Amd64.{amd64_registers, amd64_rest, amd6
 ghost use Rattle.minidump_context.specs.Arm.{arm_aliases, arm_registers, arm_rest, arm_values};
 ghost use Rattle.minidump_context.specs.Arm64.{arm64_aliases, arm64_old_rest, arm64_old_values, arm64_registers, arm64_rest, arm64_values};
 ghost use Rattle.minidump_context.specs.X86.{x86_registers, x86_rest, x86_values};
-ghost use Rattle.minidump_context.specs.Register.{names_of, place_of, value_of, holds, is_valid, IsChanged, IsSameValidity};
+ghost use Rattle.minidump_context.specs.Register.{names_of, register_index, value_of, holds, is_valid, IsChanged, IsSameValidity};
 
 use crate::{
     ContextRegisters, CpuContext, CpuRegisterNames, CpuRegisters, MinidumpContextValidity,
@@ -20,49 +20,53 @@ use minidump_format::format::{
 
 /// A register that was changed has its new value under each of its names.
 pub fn a_change_is_seen_under_all_names<T: CpuContext>()
-    ensures { (before after : T) (value : T.Register) (place : ℕ) (name : List ℕ)
-        → IsChanged T.values T.rest before after value (Some place)
-        → place_of (names_of T.table) T.aliases name ≡ Some place
+    ensures { (before after : T) (value : T.Register) (index : ℕ) (name : List ℕ)
+        → IsChanged T.values T.rest before after value (Some index)
+        → register_index (names_of T.table) T.aliases name ≡ Some index
         → value_of (names_of T.table) T.aliases (T.values after) name ≡ Some value }
 {}
 
-/// Every other register keeps its value, and so does what the context holds beside registers. A name of no
-/// register changes nothing.
+/// Every other register keeps its value, and so does what the context holds beside registers.
+/// Setting a name of no register changes nothing.
 pub fn nothing_else_is_changed<T: CpuContext>()
-    ensures registers { (before after : T) (value : T.Register) (place : ℕ) (name : List ℕ)
-        → IsChanged T.values T.rest before after value (Some place)
-        → place_of (names_of T.table) T.aliases name ≢ Some place
+    ensures registers { (before after : T) (value : T.Register) (index : ℕ) (name : List ℕ)
+        → IsChanged T.values T.rest before after value (Some index)
+        → register_index (names_of T.table) T.aliases name ≢ Some index
         → value_of (names_of T.table) T.aliases (T.values after) name
         ≡ value_of (names_of T.table) T.aliases (T.values before) name }
-    ensures rest { (before after : T) (value : T.Register) (place : ℕ)
-        → IsChanged T.values T.rest before after value (Some place) → T.rest after ≡ T.rest before }
+    ensures rest { (before after : T) (value : T.Register) (index : ℕ)
+        → IsChanged T.values T.rest before after value (Some index) → T.rest after ≡ T.rest before }
     ensures unnamed { (before after : T) (value : T.Register)
         → IsChanged T.values T.rest before after value None → after ≡ before }
 {}
 
 /// The value of each register that is read is the number at its offset in the record.
-pub fn registers_stand_at_their_places<T: CpuContext>()
-    ensures { (order : Endian) (bytes : List ℕ) → map T.Register.number (T.values (T.layout.value order bytes))
+pub fn registers_are_at_their_offsets<T: CpuContext>()
+    ensures { (order : Endian) (bytes : List ℕ)
+        → map T.Register.number (T.values (T.layout.value order bytes))
         ≡ map (λ row. number_at order T.Register.SIZE row.1 bytes) T.table }
 {}
 
-/// Each canonical name stands for the register of its own row, and each alias for that of its canonical name. The names
-/// of the stack pointer and of the instruction pointer are names of registers.
+/// Each canonical name stands for the register of its own row, and each alias for that of its
+/// canonical name. The names of the stack pointer and of the instruction pointer are names of
+/// registers.
 pub fn names_name_their_registers<T: CpuContext>()
-    ensures listed { map (place_of (names_of T.table) T.aliases) (names_of T.table)
+    ensures canonical { map (register_index (names_of T.table) T.aliases) (names_of T.table)
         ≡ map Some (range_with_len 0 (length T.table)) }
-    ensures aliases { map (λ a. place_of (names_of T.table) T.aliases a.0) T.aliases
+    ensures aliases { map (λ a. register_index (names_of T.table) T.aliases a.0) T.aliases
         ≡ map (λ a. position (λ n. bytes_eq n a.1) (names_of T.table)) T.aliases }
-    ensures known { list_all (λ a. is_some (place_of (names_of T.table) T.aliases a.0)) T.aliases ≡ true }
-    ensures stack_pointer { IsSome (place_of (names_of T.table) T.aliases T.stack_pointer) }
-    ensures instruction_pointer { IsSome (place_of (names_of T.table) T.aliases T.instruction_pointer) }
+    ensures aliases_known { list_all
+        (λ a. is_some (register_index (names_of T.table) T.aliases a.0)) T.aliases ≡ true }
+    ensures stack_pointer { IsSome (register_index (names_of T.table) T.aliases T.stack_pointer) }
+    ensures instruction_pointer { IsSome
+        (register_index (names_of T.table) T.aliases T.instruction_pointer) }
 {}
 
 /// A register is valid under each of its names if the set has any of them.
 pub fn any_name_makes_a_register_valid<T: CpuContext>()
-    ensures { (valid : MinidumpContextValidity) (name member : List ℕ) (place : ℕ)
-        → place_of (names_of T.table) T.aliases name ≡ Some place
-        → place_of (names_of T.table) T.aliases member ≡ Some place
+    ensures { (valid : MinidumpContextValidity) (name member : List ℕ) (index : ℕ)
+        → register_index (names_of T.table) T.aliases name ≡ Some index
+        → register_index (names_of T.table) T.aliases member ≡ Some index
         → holds valid member ≡ true → is_valid valid (names_of T.table) T.aliases name ≡ true }
 {}
 
@@ -72,7 +76,8 @@ pub fn sets_are_equal_by_their_names()
         → IsTrue (⟦<MinidumpContextValidity as PartialEq>⟧.eq x y) ↔ IsSameValidity x y }
 {}
 
-/// A clone of a context is the same context, and a clone of an iterator of registers has the same ones left.
+/// A clone of a context is the same context, and a clone of an iterator over registers is the same
+/// iterator.
 pub fn clones_are_the_same<T: CpuContext + Clone + 'static>()
     ensures raw { (context other : MinidumpRawContext)
         → ⟦<MinidumpRawContext as Clone>⟧.is_clone context other → other ≡ context }
@@ -82,9 +87,9 @@ pub fn clones_are_the_same<T: CpuContext + Clone + 'static>()
         → ⟦<ContextRegisters<'static> as Clone>⟧.is_clone registers other → other ≡ registers }
 {}
 
-/// The table, the aliases, the values and the rest of each processor's context are those that the crate
-/// defines for that processor, and so are the processor's bit in the flags, the flags, and the names of the stack
-/// pointer and of the instruction pointer.
+/// The table, the aliases, the values and the rest of each processor's context are those that the
+/// crate defines for that processor, and so are the processor's bit in the flags, the flags, and
+/// the names of the stack pointer and of the instruction pointer.
 pub fn contexts_are_as_defined()
     ensures x86_table { ⟦<CONTEXT_X86 as CpuRegisterNames>⟧.table ≡ x86_registers }
     ensures x86_aliases { ⟦<CONTEXT_X86 as CpuContext>⟧.aliases ≡ [] }
@@ -123,7 +128,9 @@ pub fn contexts_are_as_defined()
     ensures arm64_old_values { ⟦<CONTEXT_ARM64_OLD as CpuContext>⟧.values ≡ arm64_old_values }
     ensures arm64_old_rest { ⟦<CONTEXT_ARM64_OLD as CpuContext>⟧.rest ≡ arm64_old_rest }
     ensures arm64_old_processor { ⟦<CONTEXT_ARM64_OLD as CpuContext>⟧.processor ≡ 0x8000_0000 }
-    ensures arm64_old_flags { ⟦<CONTEXT_ARM64_OLD as CpuContext>⟧.flags ≡ (λ c. c.context_flags % 2 ^ 32) }
+    ensures arm64_old_flags { ⟦<CONTEXT_ARM64_OLD as CpuContext>⟧.flags
+        ≡ (λ c. c.context_flags % 2 ^ 32) }
     ensures arm64_old_stack { ⟦<CONTEXT_ARM64_OLD as CpuContext>⟧.stack_pointer ≡ codes "sp" }
-    ensures arm64_old_instruction { ⟦<CONTEXT_ARM64_OLD as CpuContext>⟧.instruction_pointer ≡ codes "pc" }
+    ensures arm64_old_instruction { ⟦<CONTEXT_ARM64_OLD as CpuContext>⟧.instruction_pointer
+        ≡ codes "pc" }
 {}

@@ -15,7 +15,8 @@ use std::alloc::{AllocError, Global};
 use std::io::Write;
 
 impl MinidumpContext {
-    /// Prints every field of the record, valid or not; of x86-64 all but `unused1` to `unused3`, which stand behind `rip`.
+    /// Prints every field of the record, valid or not; of x86-64 all but `unused1` to `unused3`,
+    /// which follow `rip`.
     pub fn print<W: Write>(&self, alloc: Global, f: &mut Told<W>) -> Result<(), Error>
         ensures { Prints W.contents f.old f.new (context_text self.now.raw) result }
     {

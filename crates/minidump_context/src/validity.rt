@@ -47,14 +47,16 @@ impl MinidumpContextValidity {
         aliases: &[(&'static str, &'static str)],
         canonical: &str,
     ) -> bool
-        ensures { result ≡ holds_any self.now (map (λ a. (a.0.now, a.1.now)) aliases.now) canonical.now }
+        ensures { result
+            ≡ holds_any self.now (map (λ a. (a.0.now, a.1.now)) aliases.now) canonical.now }
     {
         self.holds(canonical) || self.holds_alias(aliases, canonical)
     }
 
     // Returns whether the set has an alias of a canonical name.
     fn holds_alias(&self, aliases: &[(&'static str, &'static str)], canonical: &str) -> bool
-        ensures { result ≡ list_any (λ a. bytes_eq a.1.now canonical.now && holds self.now a.0.now) aliases.now }
+        ensures { result
+            ≡ list_any (λ a. bytes_eq a.1.now canonical.now && holds self.now a.0.now) aliases.now }
     {
         aliases
             .iter()

@@ -19,7 +19,7 @@ impl CpuRegisterNames for CONTEXT_X86 {
 impl CpuContext for CONTEXT_X86 {
     ghost use Rattle.std.specs.Prelude.{[], codes};
     ghost use Rattle.minidump_context.specs.X86.{x86_values, x86_rest};
-    ghost use Rattle.minidump_context.specs.TableLaws.{x86_as_many, x86_placed, x86_named};
+    ghost use Rattle.minidump_context.specs.TableLaws.{x86_as_many, x86_at_offsets, x86_names};
 
     type Register = u32;
 
@@ -42,8 +42,8 @@ impl CpuContext for CONTEXT_X86 {
     }
 
     #[tactic(auto, unfolding(crate::specs::X86::x86_registers, crate::specs::X86::x86_values))]
-    fn register_at(&self, place: usize) -> u32 {
-        match place {
+    fn register_at(&self, index: usize) -> u32 {
+        match index {
             0 => self.eip,
             1 => self.esp,
             2 => self.ebp,
@@ -58,8 +58,8 @@ impl CpuContext for CONTEXT_X86 {
     }
 
     #[tactic(auto, unfolding(crate::specs::X86::x86_registers, crate::specs::X86::x86_values, crate::specs::X86::x86_rest))]
-    fn set_register_at(&mut self, place: usize, value: u32) {
-        match place {
+    fn set_register_at(&mut self, index: usize, value: u32) {
+        match index {
             0 => self.eip = value,
             1 => self.esp = value,
             2 => self.ebp = value,
@@ -91,7 +91,7 @@ impl CpuContext for CONTEXT_X86 {
 
     ghost as_many = { x86_as_many };
 
-    ghost named = { x86_named };
+    ghost register_names = { x86_names };
 
-    ghost placed = { x86_placed };
+    ghost at_offsets = { x86_at_offsets };
 }

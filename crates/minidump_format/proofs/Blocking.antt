@@ -1,19 +1,19 @@
--- Lemmas on texts that are printed in blocks: what waits in a block is printed before what comes behind it.
+-- Lemmas on texts that are printed in blocks: what waits in a block is printed before what comes after it.
 use Rattle.std.specs.Prelude.{◌≡◌, ℕ, List, ◌++◌, Option}
 use Rattle.std.proofs.Common.{subst, sym, append_assoc}
 use Rattle.minidump_bytes.proofs.ToldLemmas.{not_dead}
 use Rattle.minidump_bytes.specs.declared.told.Told.{Told}
-use Rattle.minidump_bytes.specs.Told.{PutsBeginning}
+use Rattle.minidump_bytes.specs.Told.{PutsPrefix}
 use Rattle.minidump_format.proofs.Printing.{PutsAllBut}
 
 module _ {D : Type 0} (contents : D → Option (List ℕ)) where
-  -- the next item's text waits behind the block
+  -- the next item's text waits after the block
   pub but_joined : (a b : Told D) (whole block text rest new : List ℕ) → new ≡ block ++ text → PutsAllBut contents a b whole (block ++ (text ++ rest))
       → PutsAllBut contents a b whole (new ++ rest)
   but_joined a b whole block text rest new e before = rw e (subst (PutsAllBut contents a b whole) (sym (append_assoc block text rest)) before)
 
   -- what waited was lost
-  pub but_lost : (a b : Told D) (whole rest : List ℕ) → PutsAllBut contents a b whole rest → PutsBeginning contents a b whole
+  pub but_lost : (a b : Told D) (whole rest : List ℕ) → PutsAllBut contents a b whole rest → PutsPrefix contents a b whole
   but_lost a b whole rest before = record {
     front = before.front;
     rest = rest;

@@ -27,7 +27,7 @@ use Rattle.minidump_format.specs.contracts.format.misc.MINIDUMP_MISC_INFO_3Parti
 use Rattle.minidump_format.specs.contracts.format.misc.MINIDUMP_MISC_INFO_4PartialEq.TheImpl.{ghosts as misc_4}
 use Rattle.minidump_format.specs.contracts.format.misc.MINIDUMP_MISC_INFO_5PartialEq.TheImpl.{ghosts as misc_5}
 
--- where a test and those behind it hold, so does what it decides
+-- where a test and those after it hold, so does what it decides
 then : {P Q : Type 0} (s t : Bool) → Decides s P → (P → t ≡ true → Q) → (s && t) ≡ true → Q
 then true t first next both = next (first.0 refl) both
 then false t first next both = absurd (true≢false (sym both))

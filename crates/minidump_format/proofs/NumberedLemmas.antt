@@ -1,4 +1,4 @@
--- Lemmas on the text of a list whose items stand after their indexes.
+-- Lemmas on the text of a list whose items stand after their indices.
 use Rattle.std.specs.Prelude.{◌≡◌, ℕ, ◌+◌, List, [], ◌∷◌, ◌++◌, length, map}
 use Rattle.std.specs.List.{enumerate_from, flat_map}
 use Rattle.std.proofs.Common.{ap, refl}

@@ -1,7 +1,9 @@
--- The kinds of CodeView record: Microsoft's `NB10` and `RSDS`, and Breakpad's MD_CVINFOELF_SIGNATURE of minidump_format.h.
+-- The kinds of CodeView record: Microsoft's `NB10` and `RSDS`, and Breakpad's
+-- MD_CVINFOELF_SIGNATURE of minidump_format.h.
 use Rattle.std.specs.Prelude.{ℕ, [], ◌∷◌, find, ◌==◌, Option}
 use Rattle.minidump_format.specs.declared.format.code_view.CvSignature.{CvSignature}
-use Rattle.minidump_format.specs.declared.format.code_view.CvSignature.TheVariants.{Pdb20, Pdb70, Elf}
+use Rattle.minidump_format.specs.declared.format.code_view.CvSignature.TheVariants.{Pdb20, Pdb70}
+use Rattle.minidump_format.specs.declared.format.code_view.CvSignature.TheVariants.{Elf}
 
 -- the number of each kind
 abbrev pub signature_number : CvSignature → ℕ

@@ -1,4 +1,5 @@
--- The context of an x86-64 processor, as a table of width and place (winnt.h, Breakpad's minidump_cpu_amd64.h).
+-- The context of an x86-64 processor, as a table of width and offset (winnt.h, Breakpad's
+-- minidump_cpu_amd64.h).
 use Rattle.minidump_bytes.specs.Entries.{entries}
 use Rattle.minidump_bytes.specs.Layout.{Layout, byte_layout, number_layout}
 use Rattle.minidump_bytes.specs.Number.{number_at}

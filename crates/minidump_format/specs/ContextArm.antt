@@ -1,5 +1,5 @@
--- The context of an ARM processor and its floating-point state, as tables of width and place (Breakpad's
--- minidump_cpu_arm.h).
+-- The context of an ARM processor and its floating-point state, as tables of width and offset
+-- (Breakpad's minidump_cpu_arm.h).
 use Rattle.std.specs.Prelude.{slice_range}
 use Rattle.minidump_bytes.specs.Entries.{entries}
 use Rattle.minidump_bytes.specs.Layout.{Layout, number_layout}

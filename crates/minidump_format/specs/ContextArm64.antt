@@ -1,4 +1,5 @@
--- The contexts of an ARM64 processor, as tables of width and place (winnt.h, Breakpad's minidump_cpu_arm64.h).
+-- The contexts of an ARM64 processor, as tables of width and offset (winnt.h, Breakpad's
+-- minidump_cpu_arm64.h).
 use Rattle.minidump_bytes.specs.Entries.{entries}
 use Rattle.minidump_bytes.specs.Layout.{Layout, number_layout}
 use Rattle.minidump_bytes.specs.Number.{number_at}

@@ -1,4 +1,5 @@
--- The processors that a context can be of, by the bits of its flags (winnt.h, Breakpad's minidump_cpu_*.h).
+-- The processors that a context can be of, by the bits of its flags (winnt.h, Breakpad's
+-- minidump_cpu_*.h).
 use Rattle.std.specs.Prelude.{ℕ, List, [], ◌∷◌, codes}
 
 -- Microsoft's CONTEXT_i386 and so on, Breakpad's MD_CONTEXT_ numbers

@@ -1,5 +1,5 @@
--- The context of an x86 processor and its floating-point state, as tables of width and place (winnt.h, Breakpad's
--- minidump_cpu_x86.h).
+-- The context of an x86 processor and its floating-point state, as tables of width and offset
+-- (winnt.h, Breakpad's minidump_cpu_x86.h).
 use Rattle.std.specs.Prelude.{slice_range}
 use Rattle.minidump_bytes.specs.Entries.{entries}
 use Rattle.minidump_bytes.specs.Layout.{Layout, byte_layout}

@@ -1,6 +1,6 @@
--- What Crashpad knows of a process and its modules: MinidumpCrashpadInfo, MinidumpModuleCrashpadInfoLink,
--- MinidumpModuleCrashpadInfo, MinidumpSimpleStringDictionaryEntry and MinidumpAnnotation of Crashpad's
--- minidump_extensions.h.
+-- What Crashpad knows of a process and its modules: MinidumpCrashpadInfo,
+-- MinidumpModuleCrashpadInfoLink, MinidumpModuleCrashpadInfo, MinidumpSimpleStringDictionaryEntry
+-- and MinidumpAnnotation of Crashpad's minidump_extensions.h.
 use Rattle.std.specs.Prelude.{slice_range}
 use Rattle.minidump_bytes.specs.Layout.{Layout}
 use Rattle.minidump_bytes.specs.Number.{number_at}

@@ -1,5 +1,5 @@
--- Sets of bits: Microsoft's flags of the misc information (minidumpapiset.h), and the features of ARM processors that
--- Linux reports (asm/hwcap.h).
+-- Sets of bits: Microsoft's flags of the misc information (minidumpapiset.h), and the features of
+-- ARM processors that Linux reports (asm/hwcap.h).
 use Rattle.std.specs.Prelude.{ℕ, List, [], ◌∷◌, codes, Bool, ◌==◌, bit_and}
 
 -- whether a number has every bit of a flag

@@ -21,9 +21,11 @@ guid = record {
 
 -- the 16 bytes of a GUID as RFC 9562 orders them: the highest byte of each number first
 unfoldable pub guid_bytes : GUID → List ℕ
-guid_bytes g = to_be_bytes w32 g.data1 ++ (to_be_bytes w16 g.data2 ++ (to_be_bytes w16 g.data3 ++ g.data4))
+guid_bytes g = to_be_bytes w32 g.data1 ++
+    (to_be_bytes w16 g.data2 ++ (to_be_bytes w16 g.data3 ++ g.data4))
 
--- the text of 16 bytes as RFC 9562 has it: 8, 4, 4, 4 and 12 digits in lower case, with hyphens between
+-- the text of 16 bytes as RFC 9562 has it: 8, 4, 4, 4 and 12 digits in lower case, with hyphens
+-- between
 unfoldable pub uuid_text : List ℕ → List ℕ
 uuid_text bytes = hyphenated_text lower bytes
 

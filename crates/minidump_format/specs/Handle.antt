@@ -1,5 +1,6 @@
 -- Open handles: Microsoft's MINIDUMP_HANDLE_DESCRIPTOR, MINIDUMP_HANDLE_DESCRIPTOR_2 and
--- MINIDUMP_HANDLE_OBJECT_INFORMATION of minidumpapiset.h, and the numbers of what is known of an object.
+-- MINIDUMP_HANDLE_OBJECT_INFORMATION of minidumpapiset.h, and the numbers of what is known of an
+-- object.
 use Rattle.std.specs.Prelude.{ℕ, [], ◌∷◌, find, ◌==◌, Option}
 use Rattle.minidump_bytes.specs.Layout.{Layout}
 use Rattle.minidump_bytes.specs.Number.{number_at}
@@ -74,6 +75,8 @@ information_type_number MiniSemaphoreInformation1 = 8
 
 -- the type that has a number, which is no other's
 abbrev pub information_type_of : ℕ → Option MINIDUMP_HANDLE_OBJECT_INFORMATION_TYPE
-information_type_of n = find (λ t. information_type_number t == n) (MiniHandleObjectInformationNone ∷ MiniThreadInformation1 ∷ MiniMutantInformation1
-    ∷ MiniMutantInformation2 ∷ MiniProcessInformation1 ∷ MiniProcessInformation2 ∷ MiniEventInformation1 ∷ MiniSectionInformation1
+information_type_of n = find (λ t. information_type_number t == n)
+    (MiniHandleObjectInformationNone ∷ MiniThreadInformation1 ∷ MiniMutantInformation1
+    ∷ MiniMutantInformation2 ∷ MiniProcessInformation1 ∷ MiniProcessInformation2
+    ∷ MiniEventInformation1 ∷ MiniSectionInformation1
     ∷ MiniSemaphoreInformation1 ∷ [])

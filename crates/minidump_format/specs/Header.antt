@@ -1,5 +1,5 @@
--- The records at the head of a minidump, each a table of its fields: width in bytes, then place. Microsoft's
--- minidumpapiset.h: MINIDUMP_HEADER, MINIDUMP_LOCATION_DESCRIPTOR, MINIDUMP_DIRECTORY.
+-- The records at the head of a minidump, each a table of its fields: width in bytes, then offset.
+-- Microsoft's minidumpapiset.h: MINIDUMP_HEADER, MINIDUMP_LOCATION_DESCRIPTOR, MINIDUMP_DIRECTORY.
 use Rattle.std.specs.Prelude.{ℕ, List, Option, ◌+◌, slice_range}
 use Rattle.minidump_bytes.specs.Layout.{Layout}
 use Rattle.minidump_bytes.specs.Number.{number_at}
@@ -35,7 +35,7 @@ location = record {
 
 -- the bytes of a file at a location, if the file has all of them
 abbrev pub located : List ℕ → MINIDUMP_LOCATION_DESCRIPTOR → Option (List ℕ)
-located file place = span place.rva (place.rva + place.data_size) file
+located file descriptor = span descriptor.rva (descriptor.rva + descriptor.data_size) file
 
 -- Microsoft's MINIDUMP_DIRECTORY
 abbrev pub directory_entry : Layout MINIDUMP_DIRECTORY

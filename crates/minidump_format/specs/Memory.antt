@@ -1,4 +1,5 @@
--- The descriptors of regions of memory: Microsoft's MINIDUMP_MEMORY_DESCRIPTOR and MINIDUMP_MEMORY_DESCRIPTOR64.
+-- The descriptors of regions of memory: Microsoft's MINIDUMP_MEMORY_DESCRIPTOR and
+-- MINIDUMP_MEMORY_DESCRIPTOR64.
 use Rattle.std.specs.Prelude.{slice_range}
 use Rattle.minidump_bytes.specs.Layout.{Layout}
 use Rattle.minidump_bytes.specs.Number.{number_at}

@@ -1,5 +1,5 @@
--- What is known of a region of memory: Microsoft's MINIDUMP_MEMORY_INFO of minidumpapiset.h, and its sets
--- of bits, the PAGE_ and MEM_ numbers of winnt.h.
+-- What is known of a region of memory: Microsoft's MINIDUMP_MEMORY_INFO of minidumpapiset.h, and
+-- its sets of bits, the PAGE_ and MEM_ numbers of winnt.h.
 use Rattle.std.specs.Prelude.{ℕ, List, [], ◌∷◌, codes}
 use Rattle.minidump_bytes.specs.Layout.{Layout}
 use Rattle.minidump_bytes.specs.Number.{number_at}

@@ -1,4 +1,4 @@
--- The records of the misc information stream, as tables of width and place: Microsoft's
+-- The records of the misc information stream, as tables of width and offset: Microsoft's
 -- MINIDUMP_MISC_INFO to MINIDUMP_MISC_INFO_5 and XSTATE_CONFIG_FEATURE_MSC_INFO (minidumpapiset.h),
 -- TIME_ZONE_INFORMATION (timezoneapi.h), SYSTEMTIME (minwinbase.h) and XSTATE_FEATURE (winnt.h).
 use Rattle.std.specs.Prelude.{slice_range}
@@ -96,7 +96,7 @@ misc_info_5 = record {
   };
 }
 
--- Microsoft's MINIDUMP_MISC_INFO_4: the beginning of MINIDUMP_MISC_INFO_5, with these fields
+-- Microsoft's MINIDUMP_MISC_INFO_4: a prefix of MINIDUMP_MISC_INFO_5, with these fields
 abbrev pub fields_of_4 : MINIDUMP_MISC_INFO_5 → MINIDUMP_MISC_INFO_4
 fields_of_4 raw = record {
   size_of_info = raw.size_of_info;
@@ -121,9 +121,12 @@ fields_of_4 raw = record {
 
 -- Microsoft's MINIDUMP_MISC_INFO_4
 abbrev pub misc_info_4 : Layout MINIDUMP_MISC_INFO_4
-misc_info_4 = record { size = 832; value = λ order bytes. fields_of_4 (misc_info_5.value order bytes) }
+misc_info_4 = record {
+  size = 832;
+  value = λ order bytes. fields_of_4 (misc_info_5.value order bytes);
+}
 
--- Microsoft's MINIDUMP_MISC_INFO_3: the beginning of MINIDUMP_MISC_INFO_4, with these fields
+-- Microsoft's MINIDUMP_MISC_INFO_3: a prefix of MINIDUMP_MISC_INFO_4, with these fields
 abbrev pub fields_of_3 : MINIDUMP_MISC_INFO_4 → MINIDUMP_MISC_INFO_3
 fields_of_3 raw = record {
   size_of_info = raw.size_of_info;
@@ -146,9 +149,12 @@ fields_of_3 raw = record {
 
 -- Microsoft's MINIDUMP_MISC_INFO_3
 abbrev pub misc_info_3 : Layout MINIDUMP_MISC_INFO_3
-misc_info_3 = record { size = 232; value = λ order bytes. fields_of_3 (misc_info_4.value order bytes) }
+misc_info_3 = record {
+  size = 232;
+  value = λ order bytes. fields_of_3 (misc_info_4.value order bytes);
+}
 
--- Microsoft's MINIDUMP_MISC_INFO_2: the beginning of MINIDUMP_MISC_INFO_3, with these fields
+-- Microsoft's MINIDUMP_MISC_INFO_2: a prefix of MINIDUMP_MISC_INFO_3, with these fields
 abbrev pub fields_of_2 : MINIDUMP_MISC_INFO_3 → MINIDUMP_MISC_INFO_2
 fields_of_2 raw = record {
   size_of_info = raw.size_of_info;
@@ -166,9 +172,12 @@ fields_of_2 raw = record {
 
 -- Microsoft's MINIDUMP_MISC_INFO_2
 abbrev pub misc_info_2 : Layout MINIDUMP_MISC_INFO_2
-misc_info_2 = record { size = 44; value = λ order bytes. fields_of_2 (misc_info_3.value order bytes) }
+misc_info_2 = record {
+  size = 44;
+  value = λ order bytes. fields_of_2 (misc_info_3.value order bytes);
+}
 
--- Microsoft's MINIDUMP_MISC_INFO: the beginning of MINIDUMP_MISC_INFO_2, with these fields
+-- Microsoft's MINIDUMP_MISC_INFO: a prefix of MINIDUMP_MISC_INFO_2, with these fields
 abbrev pub fields_of_1 : MINIDUMP_MISC_INFO_2 → MINIDUMP_MISC_INFO
 fields_of_1 raw = record {
   size_of_info = raw.size_of_info;

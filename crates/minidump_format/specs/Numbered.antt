@@ -1,4 +1,4 @@
--- The text of a list: its count, and each item behind its index.
+-- The text of a list: its count, and each item after its index.
 use Rattle.std.specs.Prelude.{ℕ, List, [], ◌∷◌, ◌++◌, codes, length}
 use Rattle.std.specs.List.{concat, enumerate_from, flat_map}
 use Rattle.std.specs.Fmt.{decimal}
@@ -11,7 +11,7 @@ count_text heading count = concat (heading ∷ decimal count ∷ codes "\n" ∷ 
 unfoldable pub index_line : List ℕ → ℕ → List ℕ
 index_line name i = concat (name ∷ codes "[" ∷ decimal i ∷ codes "]\n" ∷ [])
 
--- an item behind its line
+-- an item after its line
 abbrev pub numbered_item : {X : Type 0} → List ℕ → (X → List ℕ) → ℕ × X → List ℕ
 numbered_item name text e = index_line name e.0 ++ text e.1
 
@@ -19,6 +19,6 @@ numbered_item name text e = index_line name e.0 ++ text e.1
 abbrev pub numbered_text : {X : Type 0} → List ℕ → (X → List ℕ) → List X → List ℕ
 numbered_text name text xs = flat_map (numbered_item name text) (enumerate_from 0 xs)
 
--- the list behind its heading
+-- the list after its heading
 abbrev pub numbered_list : {X : Type 0} → List ℕ → List ℕ → (X → List ℕ) → List X → List ℕ
 numbered_list heading name text xs = count_text heading (length xs) ++ numbered_text name text xs

@@ -1,7 +1,7 @@
 -- What a call that prints does to its writer, by its result.
 use Rattle.std.specs.Prelude.{◌≡◌, ℕ, List, Option, Result, Ok, Err, if◌then◌else◌}
 use Rattle.minidump_bytes.specs.declared.told.Told.{Told}
-use Rattle.minidump_bytes.specs.Told.{PutsAll, PutsBeginning, has_failed}
+use Rattle.minidump_bytes.specs.Told.{PutsAll, PutsPrefix, has_failed}
 use Rattle.minidump_format.specs.declared.error.Error.{Error}
 use Rattle.minidump_format.specs.declared.error.Error.TheVariants.{IoError, OutOfMemory}
 
@@ -9,7 +9,9 @@ use Rattle.minidump_format.specs.declared.error.Error.TheVariants.{IoError, OutO
 abbrev pub out_of_memory : {D : Type 0} → Told D → Error
 out_of_memory t = if has_failed t then IoError else OutOfMemory
 
--- `Ok`: the writer took all of the text. `Err`: it took a beginning; the error is IoError where it has failed, and else OutOfMemory
-abbrev pub Prints : {D : Type 0} → (D → Option (List ℕ)) → Told D → Told D → List ℕ → Result (Unit {0}) Error → Type 0
+-- `Ok`: the writer took all of the text. `Err`: it took a prefix; the error is IoError where it has
+-- failed, and else OutOfMemory
+abbrev pub Prints : {D : Type 0} → (D → Option (List ℕ)) → Told D → Told D → List ℕ
+    → Result (Unit {0}) Error → Type 0
 Prints contents old new text (Ok _) = PutsAll contents old new text
-Prints contents old new text (Err e) = PutsBeginning contents old new text × (e ≡ out_of_memory new)
+Prints contents old new text (Err e) = PutsPrefix contents old new text × (e ≡ out_of_memory new)

@@ -1,30 +1,62 @@
--- The types of stream: MINIDUMP_STREAM_TYPE of Microsoft's minidumpapiset.h, MDStreamType of Breakpad's
--- minidump_format.h, and the extensions of Crashpad (minidump_extensions.h), Chromium
+-- The types of stream: MINIDUMP_STREAM_TYPE of Microsoft's minidumpapiset.h, MDStreamType of
+-- Breakpad's minidump_format.h, and the extensions of Crashpad (minidump_extensions.h), Chromium
 -- (StabilityReportStream) and Mozilla.
 use Rattle.std.specs.Prelude.{ℕ, Bool, true, false, List, [], ◌∷◌, codes, find, ◌==◌, Option}
 use Rattle.minidump_format.specs.declared.format.stream_type.MINIDUMP_STREAM_TYPE.{MINIDUMP_STREAM_TYPE}
-use Rattle.minidump_format.specs.declared.format.stream_type.MINIDUMP_STREAM_TYPE.TheVariants.{UnusedStream, ReservedStream0, ReservedStream1}
-use Rattle.minidump_format.specs.declared.format.stream_type.MINIDUMP_STREAM_TYPE.TheVariants.{ThreadListStream, ModuleListStream, MemoryListStream}
-use Rattle.minidump_format.specs.declared.format.stream_type.MINIDUMP_STREAM_TYPE.TheVariants.{ExceptionStream, SystemInfoStream, ThreadExListStream}
-use Rattle.minidump_format.specs.declared.format.stream_type.MINIDUMP_STREAM_TYPE.TheVariants.{Memory64ListStream, CommentStreamA, CommentStreamW}
-use Rattle.minidump_format.specs.declared.format.stream_type.MINIDUMP_STREAM_TYPE.TheVariants.{HandleDataStream, FunctionTable}
-use Rattle.minidump_format.specs.declared.format.stream_type.MINIDUMP_STREAM_TYPE.TheVariants.{UnloadedModuleListStream, MiscInfoStream}
-use Rattle.minidump_format.specs.declared.format.stream_type.MINIDUMP_STREAM_TYPE.TheVariants.{MemoryInfoListStream, ThreadInfoListStream}
-use Rattle.minidump_format.specs.declared.format.stream_type.MINIDUMP_STREAM_TYPE.TheVariants.{HandleOperationListStream, TokenStream}
-use Rattle.minidump_format.specs.declared.format.stream_type.MINIDUMP_STREAM_TYPE.TheVariants.{JavaScriptDataStream, SystemMemoryInfoStream}
-use Rattle.minidump_format.specs.declared.format.stream_type.MINIDUMP_STREAM_TYPE.TheVariants.{ProcessVmCountersStream, IptTraceStream}
-use Rattle.minidump_format.specs.declared.format.stream_type.MINIDUMP_STREAM_TYPE.TheVariants.{ThreadNamesStream, ceStreamNull, ceStreamSystemInfo}
-use Rattle.minidump_format.specs.declared.format.stream_type.MINIDUMP_STREAM_TYPE.TheVariants.{ceStreamException, ceStreamModuleList}
-use Rattle.minidump_format.specs.declared.format.stream_type.MINIDUMP_STREAM_TYPE.TheVariants.{ceStreamProcessList, ceStreamThreadList}
-use Rattle.minidump_format.specs.declared.format.stream_type.MINIDUMP_STREAM_TYPE.TheVariants.{ceStreamThreadContextList, ceStreamThreadCallStackList}
-use Rattle.minidump_format.specs.declared.format.stream_type.MINIDUMP_STREAM_TYPE.TheVariants.{ceStreamMemoryVirtualList, ceStreamMemoryPhysicalList}
-use Rattle.minidump_format.specs.declared.format.stream_type.MINIDUMP_STREAM_TYPE.TheVariants.{ceStreamBucketParameters, ceStreamProcessModuleMap}
-use Rattle.minidump_format.specs.declared.format.stream_type.MINIDUMP_STREAM_TYPE.TheVariants.{ceStreamDiagnosisList, LastReservedStream}
-use Rattle.minidump_format.specs.declared.format.stream_type.MINIDUMP_STREAM_TYPE.TheVariants.{BreakpadInfoStream, AssertionInfoStream, LinuxCpuInfo}
-use Rattle.minidump_format.specs.declared.format.stream_type.MINIDUMP_STREAM_TYPE.TheVariants.{LinuxProcStatus, LinuxLsbRelease, LinuxCmdLine}
-use Rattle.minidump_format.specs.declared.format.stream_type.MINIDUMP_STREAM_TYPE.TheVariants.{LinuxEnviron, LinuxAuxv, LinuxMaps, LinuxDsoDebug}
-use Rattle.minidump_format.specs.declared.format.stream_type.MINIDUMP_STREAM_TYPE.TheVariants.{CrashpadInfoStream, MozMacosCrashInfoStream}
-use Rattle.minidump_format.specs.declared.format.stream_type.MINIDUMP_STREAM_TYPE.TheVariants.{MozMacosBootargsStream, MozLinuxLimits, MozSoftErrors}
+use Rattle.minidump_format.specs.declared.format.stream_type.MINIDUMP_STREAM_TYPE.TheVariants.{UnusedStream}
+use Rattle.minidump_format.specs.declared.format.stream_type.MINIDUMP_STREAM_TYPE.TheVariants.{ReservedStream0}
+use Rattle.minidump_format.specs.declared.format.stream_type.MINIDUMP_STREAM_TYPE.TheVariants.{ReservedStream1}
+use Rattle.minidump_format.specs.declared.format.stream_type.MINIDUMP_STREAM_TYPE.TheVariants.{ThreadListStream}
+use Rattle.minidump_format.specs.declared.format.stream_type.MINIDUMP_STREAM_TYPE.TheVariants.{ModuleListStream}
+use Rattle.minidump_format.specs.declared.format.stream_type.MINIDUMP_STREAM_TYPE.TheVariants.{MemoryListStream}
+use Rattle.minidump_format.specs.declared.format.stream_type.MINIDUMP_STREAM_TYPE.TheVariants.{ExceptionStream}
+use Rattle.minidump_format.specs.declared.format.stream_type.MINIDUMP_STREAM_TYPE.TheVariants.{SystemInfoStream}
+use Rattle.minidump_format.specs.declared.format.stream_type.MINIDUMP_STREAM_TYPE.TheVariants.{ThreadExListStream}
+use Rattle.minidump_format.specs.declared.format.stream_type.MINIDUMP_STREAM_TYPE.TheVariants.{Memory64ListStream}
+use Rattle.minidump_format.specs.declared.format.stream_type.MINIDUMP_STREAM_TYPE.TheVariants.{CommentStreamA}
+use Rattle.minidump_format.specs.declared.format.stream_type.MINIDUMP_STREAM_TYPE.TheVariants.{CommentStreamW}
+use Rattle.minidump_format.specs.declared.format.stream_type.MINIDUMP_STREAM_TYPE.TheVariants.{HandleDataStream}
+use Rattle.minidump_format.specs.declared.format.stream_type.MINIDUMP_STREAM_TYPE.TheVariants.{FunctionTable}
+use Rattle.minidump_format.specs.declared.format.stream_type.MINIDUMP_STREAM_TYPE.TheVariants.{UnloadedModuleListStream}
+use Rattle.minidump_format.specs.declared.format.stream_type.MINIDUMP_STREAM_TYPE.TheVariants.{MiscInfoStream}
+use Rattle.minidump_format.specs.declared.format.stream_type.MINIDUMP_STREAM_TYPE.TheVariants.{MemoryInfoListStream}
+use Rattle.minidump_format.specs.declared.format.stream_type.MINIDUMP_STREAM_TYPE.TheVariants.{ThreadInfoListStream}
+use Rattle.minidump_format.specs.declared.format.stream_type.MINIDUMP_STREAM_TYPE.TheVariants.{HandleOperationListStream}
+use Rattle.minidump_format.specs.declared.format.stream_type.MINIDUMP_STREAM_TYPE.TheVariants.{TokenStream}
+use Rattle.minidump_format.specs.declared.format.stream_type.MINIDUMP_STREAM_TYPE.TheVariants.{JavaScriptDataStream}
+use Rattle.minidump_format.specs.declared.format.stream_type.MINIDUMP_STREAM_TYPE.TheVariants.{SystemMemoryInfoStream}
+use Rattle.minidump_format.specs.declared.format.stream_type.MINIDUMP_STREAM_TYPE.TheVariants.{ProcessVmCountersStream}
+use Rattle.minidump_format.specs.declared.format.stream_type.MINIDUMP_STREAM_TYPE.TheVariants.{IptTraceStream}
+use Rattle.minidump_format.specs.declared.format.stream_type.MINIDUMP_STREAM_TYPE.TheVariants.{ThreadNamesStream}
+use Rattle.minidump_format.specs.declared.format.stream_type.MINIDUMP_STREAM_TYPE.TheVariants.{ceStreamNull}
+use Rattle.minidump_format.specs.declared.format.stream_type.MINIDUMP_STREAM_TYPE.TheVariants.{ceStreamSystemInfo}
+use Rattle.minidump_format.specs.declared.format.stream_type.MINIDUMP_STREAM_TYPE.TheVariants.{ceStreamException}
+use Rattle.minidump_format.specs.declared.format.stream_type.MINIDUMP_STREAM_TYPE.TheVariants.{ceStreamModuleList}
+use Rattle.minidump_format.specs.declared.format.stream_type.MINIDUMP_STREAM_TYPE.TheVariants.{ceStreamProcessList}
+use Rattle.minidump_format.specs.declared.format.stream_type.MINIDUMP_STREAM_TYPE.TheVariants.{ceStreamThreadList}
+use Rattle.minidump_format.specs.declared.format.stream_type.MINIDUMP_STREAM_TYPE.TheVariants.{ceStreamThreadContextList}
+use Rattle.minidump_format.specs.declared.format.stream_type.MINIDUMP_STREAM_TYPE.TheVariants.{ceStreamThreadCallStackList}
+use Rattle.minidump_format.specs.declared.format.stream_type.MINIDUMP_STREAM_TYPE.TheVariants.{ceStreamMemoryVirtualList}
+use Rattle.minidump_format.specs.declared.format.stream_type.MINIDUMP_STREAM_TYPE.TheVariants.{ceStreamMemoryPhysicalList}
+use Rattle.minidump_format.specs.declared.format.stream_type.MINIDUMP_STREAM_TYPE.TheVariants.{ceStreamBucketParameters}
+use Rattle.minidump_format.specs.declared.format.stream_type.MINIDUMP_STREAM_TYPE.TheVariants.{ceStreamProcessModuleMap}
+use Rattle.minidump_format.specs.declared.format.stream_type.MINIDUMP_STREAM_TYPE.TheVariants.{ceStreamDiagnosisList}
+use Rattle.minidump_format.specs.declared.format.stream_type.MINIDUMP_STREAM_TYPE.TheVariants.{LastReservedStream}
+use Rattle.minidump_format.specs.declared.format.stream_type.MINIDUMP_STREAM_TYPE.TheVariants.{BreakpadInfoStream}
+use Rattle.minidump_format.specs.declared.format.stream_type.MINIDUMP_STREAM_TYPE.TheVariants.{AssertionInfoStream}
+use Rattle.minidump_format.specs.declared.format.stream_type.MINIDUMP_STREAM_TYPE.TheVariants.{LinuxCpuInfo}
+use Rattle.minidump_format.specs.declared.format.stream_type.MINIDUMP_STREAM_TYPE.TheVariants.{LinuxProcStatus}
+use Rattle.minidump_format.specs.declared.format.stream_type.MINIDUMP_STREAM_TYPE.TheVariants.{LinuxLsbRelease}
+use Rattle.minidump_format.specs.declared.format.stream_type.MINIDUMP_STREAM_TYPE.TheVariants.{LinuxCmdLine}
+use Rattle.minidump_format.specs.declared.format.stream_type.MINIDUMP_STREAM_TYPE.TheVariants.{LinuxEnviron}
+use Rattle.minidump_format.specs.declared.format.stream_type.MINIDUMP_STREAM_TYPE.TheVariants.{LinuxAuxv}
+use Rattle.minidump_format.specs.declared.format.stream_type.MINIDUMP_STREAM_TYPE.TheVariants.{LinuxMaps}
+use Rattle.minidump_format.specs.declared.format.stream_type.MINIDUMP_STREAM_TYPE.TheVariants.{LinuxDsoDebug}
+use Rattle.minidump_format.specs.declared.format.stream_type.MINIDUMP_STREAM_TYPE.TheVariants.{CrashpadInfoStream}
+use Rattle.minidump_format.specs.declared.format.stream_type.MINIDUMP_STREAM_TYPE.TheVariants.{MozMacosCrashInfoStream}
+use Rattle.minidump_format.specs.declared.format.stream_type.MINIDUMP_STREAM_TYPE.TheVariants.{MozMacosBootargsStream}
+use Rattle.minidump_format.specs.declared.format.stream_type.MINIDUMP_STREAM_TYPE.TheVariants.{MozLinuxLimits}
+use Rattle.minidump_format.specs.declared.format.stream_type.MINIDUMP_STREAM_TYPE.TheVariants.{MozSoftErrors}
 use Rattle.minidump_format.specs.declared.format.stream_type.MINIDUMP_STREAM_TYPE.TheVariants.{StabilityReportStream}
 
 -- the number of each type
@@ -203,14 +235,22 @@ is_unimplemented StabilityReportStream = false
 
 -- all types
 abbrev pub every_type : List MINIDUMP_STREAM_TYPE
-every_type = UnusedStream ∷ ReservedStream0 ∷ ReservedStream1 ∷ ThreadListStream ∷ ModuleListStream ∷ MemoryListStream ∷ ExceptionStream
-    ∷ SystemInfoStream ∷ ThreadExListStream ∷ Memory64ListStream ∷ CommentStreamA ∷ CommentStreamW ∷ HandleDataStream ∷ FunctionTable
-    ∷ UnloadedModuleListStream ∷ MiscInfoStream ∷ MemoryInfoListStream ∷ ThreadInfoListStream ∷ HandleOperationListStream ∷ TokenStream
-    ∷ JavaScriptDataStream ∷ SystemMemoryInfoStream ∷ ProcessVmCountersStream ∷ IptTraceStream ∷ ThreadNamesStream ∷ ceStreamNull ∷ ceStreamSystemInfo
-    ∷ ceStreamException ∷ ceStreamModuleList ∷ ceStreamProcessList ∷ ceStreamThreadList ∷ ceStreamThreadContextList ∷ ceStreamThreadCallStackList
-    ∷ ceStreamMemoryVirtualList ∷ ceStreamMemoryPhysicalList ∷ ceStreamBucketParameters ∷ ceStreamProcessModuleMap ∷ ceStreamDiagnosisList
-    ∷ LastReservedStream ∷ BreakpadInfoStream ∷ AssertionInfoStream ∷ LinuxCpuInfo ∷ LinuxProcStatus ∷ LinuxLsbRelease ∷ LinuxCmdLine ∷ LinuxEnviron
-    ∷ LinuxAuxv ∷ LinuxMaps ∷ LinuxDsoDebug ∷ CrashpadInfoStream ∷ MozMacosCrashInfoStream ∷ MozMacosBootargsStream ∷ MozLinuxLimits ∷ MozSoftErrors
+every_type = UnusedStream ∷ ReservedStream0 ∷ ReservedStream1 ∷ ThreadListStream ∷ ModuleListStream
+    ∷ MemoryListStream ∷ ExceptionStream
+    ∷ SystemInfoStream ∷ ThreadExListStream ∷ Memory64ListStream ∷ CommentStreamA ∷ CommentStreamW
+    ∷ HandleDataStream ∷ FunctionTable
+    ∷ UnloadedModuleListStream ∷ MiscInfoStream ∷ MemoryInfoListStream ∷ ThreadInfoListStream
+    ∷ HandleOperationListStream ∷ TokenStream
+    ∷ JavaScriptDataStream ∷ SystemMemoryInfoStream ∷ ProcessVmCountersStream ∷ IptTraceStream
+    ∷ ThreadNamesStream ∷ ceStreamNull ∷ ceStreamSystemInfo
+    ∷ ceStreamException ∷ ceStreamModuleList ∷ ceStreamProcessList ∷ ceStreamThreadList
+    ∷ ceStreamThreadContextList ∷ ceStreamThreadCallStackList
+    ∷ ceStreamMemoryVirtualList ∷ ceStreamMemoryPhysicalList ∷ ceStreamBucketParameters
+    ∷ ceStreamProcessModuleMap ∷ ceStreamDiagnosisList
+    ∷ LastReservedStream ∷ BreakpadInfoStream ∷ AssertionInfoStream ∷ LinuxCpuInfo ∷ LinuxProcStatus
+    ∷ LinuxLsbRelease ∷ LinuxCmdLine ∷ LinuxEnviron
+    ∷ LinuxAuxv ∷ LinuxMaps ∷ LinuxDsoDebug ∷ CrashpadInfoStream ∷ MozMacosCrashInfoStream
+    ∷ MozMacosBootargsStream ∷ MozLinuxLimits ∷ MozSoftErrors
     ∷ StabilityReportStream ∷ []
 
 -- the type that has a number, which is no other's

@@ -1,5 +1,5 @@
--- The system information: Microsoft's MINIDUMP_SYSTEM_INFO and Breakpad's MDCPUInformation, as tables of width and
--- place, and the numbers of architectures and platforms.
+-- The system information: Microsoft's MINIDUMP_SYSTEM_INFO and Breakpad's MDCPUInformation, as
+-- tables of width and offset, and the numbers of architectures and platforms.
 use Rattle.std.specs.Prelude.{ℕ, [], ◌∷◌, slice_index, find, ◌==◌, Option}
 use Rattle.minidump_bytes.specs.Layout.{Layout, byte_layout, number_layout}
 use Rattle.minidump_bytes.specs.Number.{number_at}
@@ -9,16 +9,22 @@ use Rattle.minidump_format.specs.declared.format.system.X86CpuInfo.{X86CpuInfo}
 use Rattle.minidump_format.specs.declared.format.system.ARMCpuInfo.{ARMCpuInfo}
 use Rattle.minidump_format.specs.declared.format.system.ProcessorArchitecture.{ProcessorArchitecture}
 use Rattle.minidump_format.specs.declared.format.system.PlatformId.{PlatformId}
-use Rattle.minidump_format.specs.declared.format.system.ProcessorArchitecture.TheVariants.{PROCESSOR_ARCHITECTURE_INTEL, PROCESSOR_ARCHITECTURE_MIPS}
-use Rattle.minidump_format.specs.declared.format.system.ProcessorArchitecture.TheVariants.{PROCESSOR_ARCHITECTURE_PPC, PROCESSOR_ARCHITECTURE_ARM}
+use Rattle.minidump_format.specs.declared.format.system.ProcessorArchitecture.TheVariants.{PROCESSOR_ARCHITECTURE_INTEL}
+use Rattle.minidump_format.specs.declared.format.system.ProcessorArchitecture.TheVariants.{PROCESSOR_ARCHITECTURE_MIPS}
+use Rattle.minidump_format.specs.declared.format.system.ProcessorArchitecture.TheVariants.{PROCESSOR_ARCHITECTURE_PPC}
+use Rattle.minidump_format.specs.declared.format.system.ProcessorArchitecture.TheVariants.{PROCESSOR_ARCHITECTURE_ARM}
 use Rattle.minidump_format.specs.declared.format.system.ProcessorArchitecture.TheVariants.{PROCESSOR_ARCHITECTURE_AMD64}
 use Rattle.minidump_format.specs.declared.format.system.ProcessorArchitecture.TheVariants.{PROCESSOR_ARCHITECTURE_IA32_ON_WIN64}
-use Rattle.minidump_format.specs.declared.format.system.ProcessorArchitecture.TheVariants.{PROCESSOR_ARCHITECTURE_ARM64, PROCESSOR_ARCHITECTURE_SPARC}
+use Rattle.minidump_format.specs.declared.format.system.ProcessorArchitecture.TheVariants.{PROCESSOR_ARCHITECTURE_ARM64}
+use Rattle.minidump_format.specs.declared.format.system.ProcessorArchitecture.TheVariants.{PROCESSOR_ARCHITECTURE_SPARC}
 use Rattle.minidump_format.specs.declared.format.system.ProcessorArchitecture.TheVariants.{PROCESSOR_ARCHITECTURE_PPC64}
 use Rattle.minidump_format.specs.declared.format.system.ProcessorArchitecture.TheVariants.{PROCESSOR_ARCHITECTURE_ARM64_OLD}
 use Rattle.minidump_format.specs.declared.format.system.ProcessorArchitecture.TheVariants.{PROCESSOR_ARCHITECTURE_MIPS64}
-use Rattle.minidump_format.specs.declared.format.system.PlatformId.TheVariants.{VER_PLATFORM_WIN32_WINDOWS, VER_PLATFORM_WIN32_NT, MacOs, Ios, Linux}
-use Rattle.minidump_format.specs.declared.format.system.PlatformId.TheVariants.{Solaris, Android, Ps3, NaCl}
+use Rattle.minidump_format.specs.declared.format.system.PlatformId.TheVariants.{VER_PLATFORM_WIN32_WINDOWS}
+use Rattle.minidump_format.specs.declared.format.system.PlatformId.TheVariants.{VER_PLATFORM_WIN32_NT}
+use Rattle.minidump_format.specs.declared.format.system.PlatformId.TheVariants.{MacOs, Ios, Linux}
+use Rattle.minidump_format.specs.declared.format.system.PlatformId.TheVariants.{Solaris, Android}
+use Rattle.minidump_format.specs.declared.format.system.PlatformId.TheVariants.{Ps3, NaCl}
 
 -- Microsoft's MINIDUMP_SYSTEM_INFO
 abbrev pub system_info : Layout MINIDUMP_SYSTEM_INFO
@@ -77,9 +83,12 @@ architecture_number PROCESSOR_ARCHITECTURE_MIPS64 = 0x8004
 
 -- the architecture that has a number, which is no other's
 abbrev pub architecture_of : ℕ → Option ProcessorArchitecture
-architecture_of n = find (λ a. architecture_number a == n) (PROCESSOR_ARCHITECTURE_INTEL ∷ PROCESSOR_ARCHITECTURE_MIPS ∷ PROCESSOR_ARCHITECTURE_PPC
-    ∷ PROCESSOR_ARCHITECTURE_ARM ∷ PROCESSOR_ARCHITECTURE_AMD64 ∷ PROCESSOR_ARCHITECTURE_IA32_ON_WIN64 ∷ PROCESSOR_ARCHITECTURE_ARM64
-    ∷ PROCESSOR_ARCHITECTURE_SPARC ∷ PROCESSOR_ARCHITECTURE_PPC64 ∷ PROCESSOR_ARCHITECTURE_ARM64_OLD ∷ PROCESSOR_ARCHITECTURE_MIPS64 ∷ [])
+architecture_of n = find (λ a. architecture_number a == n)
+    (PROCESSOR_ARCHITECTURE_INTEL ∷ PROCESSOR_ARCHITECTURE_MIPS ∷ PROCESSOR_ARCHITECTURE_PPC
+    ∷ PROCESSOR_ARCHITECTURE_ARM ∷ PROCESSOR_ARCHITECTURE_AMD64
+    ∷ PROCESSOR_ARCHITECTURE_IA32_ON_WIN64 ∷ PROCESSOR_ARCHITECTURE_ARM64
+    ∷ PROCESSOR_ARCHITECTURE_SPARC ∷ PROCESSOR_ARCHITECTURE_PPC64 ∷ PROCESSOR_ARCHITECTURE_ARM64_OLD
+    ∷ PROCESSOR_ARCHITECTURE_MIPS64 ∷ [])
 
 -- the number of each platform
 abbrev pub platform_number : PlatformId → ℕ
@@ -95,5 +104,6 @@ platform_number NaCl = 0x8205
 
 -- the platform that has a number, which is no other's
 abbrev pub platform_of : ℕ → Option PlatformId
-platform_of n = find (λ p. platform_number p == n) (VER_PLATFORM_WIN32_WINDOWS ∷ VER_PLATFORM_WIN32_NT ∷ MacOs ∷ Ios ∷ Linux ∷ Solaris ∷ Android ∷ Ps3
+platform_of n = find (λ p. platform_number p == n) (VER_PLATFORM_WIN32_WINDOWS
+    ∷ VER_PLATFORM_WIN32_NT ∷ MacOs ∷ Ios ∷ Linux ∷ Solaris ∷ Android ∷ Ps3
     ∷ NaCl ∷ [])

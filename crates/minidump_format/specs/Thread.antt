@@ -1,4 +1,5 @@
--- Threads: Microsoft's MINIDUMP_THREAD, MINIDUMP_THREAD_NAME and MINIDUMP_THREAD_INFO of minidumpapiset.h.
+-- Threads: Microsoft's MINIDUMP_THREAD, MINIDUMP_THREAD_NAME and MINIDUMP_THREAD_INFO of
+-- minidumpapiset.h.
 use Rattle.std.specs.Prelude.{slice_range}
 use Rattle.minidump_bytes.specs.Layout.{Layout}
 use Rattle.minidump_bytes.specs.Number.{number_at}

@@ -1,5 +1,6 @@
--- The vendors of the types of stream. The numbers up to 0xffff are Microsoft's. The high half of a number may be two
--- letters that name its vendor: `Gg`, `CP`, `Mz`. Others name none, as `Kk` of Chromium's StabilityReportStream.
+-- The vendors of the types of stream. The numbers up to 0xffff are Microsoft's. The high half of a
+-- number may be two letters that name its vendor: `Gg`, `CP`, `Mz`. Others name none, as `Kk` of
+-- Chromium's StabilityReportStream.
 use Rattle.std.specs.Prelude.{ℕ, ◌/◌, ◌^◌, List, codes, nat_le, ◌==◌, if◌then◌else◌}
 
 -- the vendor of two letters, the high half of a type

@@ -1,5 +1,5 @@
 ghost use Rattle.std.specs.Prelude.{◌≡◌};
-ghost use Rattle.minidump_format.specs.Error.{refusal_name};
+ghost use Rattle.minidump_format.specs.Error.{name_of_error};
 
 use std::alloc::{AllocError, AllocFailed};
 use thiserror::Error;
@@ -19,14 +19,15 @@ pub enum Error {
     /// The file does not begin with the signature, in either byte order.
     #[error("Header mismatch")]
     HeaderMismatch,
-    /// The version of the header, or of a record, is not one that is read, or differs from that of the record
-    /// before.
+    /// The version of the header, or of a record, is not one that is read, or differs from that of
+    /// the record before.
     #[error("Minidump version mismatch")]
     VersionMismatch,
     /// An entry of the directory is not in the file.
     #[error("Missing stream directory (heavily truncated minidump?)")]
     MissingDirectory,
-    /// A part of a stream, or the span that the directory gives it, is not in the file, or is malformed.
+    /// A part of a stream, or the span that the directory gives it, is not in the file, or is
+    /// malformed.
     #[error("Error reading stream")]
     StreamReadFailure,
     /// The length of a list is not the one that its count asks for.
@@ -63,7 +64,7 @@ pub enum Error {
 impl Error {
     /// Returns the name of the variant. That of `UknownElementType` is `UnknownElementType`.
     pub fn name(&self) -> &'static str
-        ensures { result.now ≡ refusal_name self.now }
+        ensures { result.now ≡ name_of_error self.now }
     {
         match self {
             Error::FileNotFound => "FileNotFound",

@@ -35,7 +35,10 @@ impl Exact for MINIDUMP_MEMORY_DESCRIPTOR64 {
 }
 
 impl Exact for MINIDUMP_SYSTEM_INFO {
-    ghost exact = { record { equal = λ x y. ((λ h. Prim.grind rules), (λ h. Prim.grind rules)); copied = λ x y h. Prim.search rules } };
+    ghost exact = { record {
+      equal = λ x y. ((λ h. Prim.grind rules), (λ h. Prim.grind rules));
+      copy = λ x y h. Prim.search rules;
+    } };
 }
 
 impl Exact for X86CpuInfo {
@@ -51,7 +54,10 @@ impl Exact for MINIDUMP_MISC_INFO {
 }
 
 impl Exact for MINIDUMP_MISC_INFO_2 {
-    ghost exact = { record { equal = λ x y. ((λ h. Prim.grind rules), (λ h. Prim.grind rules)); copied = λ x y h. Prim.search rules } };
+    ghost exact = { record {
+      equal = λ x y. ((λ h. Prim.grind rules), (λ h. Prim.grind rules));
+      copy = λ x y h. Prim.search rules;
+    } };
 }
 
 impl Exact for SYSTEMTIME {
@@ -63,7 +69,10 @@ impl Exact for XSTATE_FEATURE {
 }
 
 impl Exact for MINIDUMP_STREAM_TYPE {
-    ghost exact = { record { equal = λ x y. ((λ h. Prim.grind rules), (λ h. Prim.grind rules)); copied = λ x y h. Prim.search rules } };
+    ghost exact = { record {
+      equal = λ x y. ((λ h. Prim.grind rules), (λ h. Prim.grind rules));
+      copy = λ x y h. Prim.search rules;
+    } };
 }
 
 impl Exact for ProcessorArchitecture {

@@ -1,5 +1,5 @@
-//! The records of a minidump, by the names of Microsoft's, Breakpad's and Crashpad's headers. All are
-//! packed, and in the byte order of the file.
+//! The records of a minidump, by the names of Microsoft's, Breakpad's and Crashpad's headers. All
+//! are packed, and in the byte order of the file.
 mod assertion;
 mod breakpad;
 mod code_view;

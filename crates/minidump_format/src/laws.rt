@@ -8,20 +8,30 @@ ghost use Rattle.minidump_format.specs.ContextAmd64.{context_amd64};
 ghost use Rattle.minidump_format.specs.ContextArm.{arm_float_save, context_arm};
 ghost use Rattle.minidump_format.specs.ContextArm64.{context_arm64, context_arm64_old};
 ghost use Rattle.minidump_format.specs.ContextX86.{context_x86, x86_float_save};
-ghost use Rattle.minidump_format.specs.Crashpad.{annotation, crashpad_info, dictionary_entry, module_crashpad_info, module_link};
+ghost use Rattle.minidump_format.specs.Crashpad.{annotation, crashpad_info, dictionary_entry};
+ghost use Rattle.minidump_format.specs.Crashpad.{module_crashpad_info, module_link};
 ghost use Rattle.minidump_format.specs.ContextFlags.{context_flags};
 ghost use Rattle.minidump_format.specs.Exception.{exception, exception_layout};
 ghost use Rattle.minidump_format.specs.Flags.{arm_features, misc_info_flags};
 ghost use Rattle.minidump_format.specs.Guid.{guid};
-ghost use Rattle.minidump_format.specs.Handle.{handle_descriptor, handle_descriptor_2, information_type_number, information_type_of, object_information};
+ghost use Rattle.minidump_format.specs.Handle.{handle_descriptor, handle_descriptor_2};
+ghost use Rattle.minidump_format.specs.Handle.{information_type_number, information_type_of};
+ghost use Rattle.minidump_format.specs.Handle.{object_information};
 ghost use Rattle.minidump_format.specs.Header.{directory_entry, header, location};
-ghost use Rattle.minidump_format.specs.Mac.{mac_boot_args, mac_crash_info, mac_record, mac_record_4, mac_record_5};
+ghost use Rattle.minidump_format.specs.Mac.{mac_boot_args, mac_crash_info, mac_record};
+ghost use Rattle.minidump_format.specs.Mac.{mac_record_4, mac_record_5};
 ghost use Rattle.minidump_format.specs.Memory.{memory_descriptor, memory_descriptor_64};
-ghost use Rattle.minidump_format.specs.MemoryInfo.{memory_info, memory_protection, memory_state, memory_type};
-ghost use Rattle.minidump_format.specs.Misc.{misc_info, misc_info_2, misc_info_3, misc_info_4, misc_info_5, system_time, time_zone, xstate_config, xstate_feature};
-ghost use Rattle.minidump_format.specs.Module.{fixed_file_info, module_entry, unloaded_module_entry};
+ghost use Rattle.minidump_format.specs.MemoryInfo.{memory_info, memory_protection, memory_state};
+ghost use Rattle.minidump_format.specs.MemoryInfo.{memory_type};
+ghost use Rattle.minidump_format.specs.Misc.{misc_info, misc_info_2, misc_info_3, misc_info_4};
+ghost use Rattle.minidump_format.specs.Misc.{misc_info_5, system_time, time_zone, xstate_config};
+ghost use Rattle.minidump_format.specs.Misc.{xstate_feature};
+ghost use Rattle.minidump_format.specs.Module.{fixed_file_info, module_entry};
+ghost use Rattle.minidump_format.specs.Module.{unloaded_module_entry};
 ghost use Rattle.minidump_format.specs.StreamType.{number_of, stream_type_of};
-ghost use Rattle.minidump_format.specs.System.{architecture_number, architecture_of, arm_cpu_info, platform_number, platform_of, system_info, x86_cpu_info};
+ghost use Rattle.minidump_format.specs.System.{architecture_number, architecture_of, arm_cpu_info};
+ghost use Rattle.minidump_format.specs.System.{platform_number, platform_of, system_info};
+ghost use Rattle.minidump_format.specs.System.{x86_cpu_info};
 ghost use Rattle.minidump_format.specs.Thread.{thread, thread_info, thread_name};
 ghost use Rattle.minidump_format.specs.Xstate.{feature_of, index_of};
 
@@ -48,8 +58,8 @@ use crate::format::{
 use bitflags::Flags;
 use minidump_bytes::Record;
 
-/// The layout of each record is the one that the crate defines for it: its size, and the offset, the width and the
-/// meaning of each field.
+/// The layout of each record is the one that the crate defines for it: its size, and the offset,
+/// the width and the meaning of each field.
 pub fn records_are_as_defined()
     ensures assertion_info { ⟦<MINIDUMP_ASSERTION_INFO as Record>⟧.layout ≡ assertion_info }
     ensures breakpad_info { ⟦<MINIDUMP_BREAKPAD_INFO as Record>⟧.layout ≡ breakpad_info }
@@ -62,15 +72,20 @@ pub fn records_are_as_defined()
     ensures context_x86 { ⟦<CONTEXT_X86 as Record>⟧.layout ≡ context_x86 }
     ensures crashpad_info { ⟦<MINIDUMP_CRASHPAD_INFO as Record>⟧.layout ≡ crashpad_info }
     ensures module_link { ⟦<MINIDUMP_MODULE_CRASHPAD_INFO_LINK as Record>⟧.layout ≡ module_link }
-    ensures module_crashpad_info { ⟦<MINIDUMP_MODULE_CRASHPAD_INFO as Record>⟧.layout ≡ module_crashpad_info }
-    ensures dictionary_entry { ⟦<MINIDUMP_SIMPLE_STRING_DICTIONARY_ENTRY as Record>⟧.layout ≡ dictionary_entry }
+    ensures module_crashpad_info { ⟦<MINIDUMP_MODULE_CRASHPAD_INFO as Record>⟧.layout
+        ≡ module_crashpad_info }
+    ensures dictionary_entry { ⟦<MINIDUMP_SIMPLE_STRING_DICTIONARY_ENTRY as Record>⟧.layout
+        ≡ dictionary_entry }
     ensures annotation { ⟦<MINIDUMP_ANNOTATION as Record>⟧.layout ≡ annotation }
     ensures exception { ⟦<MINIDUMP_EXCEPTION as Record>⟧.layout ≡ exception }
     ensures exception_layout { ⟦<MINIDUMP_EXCEPTION_STREAM as Record>⟧.layout ≡ exception_layout }
     ensures guid { ⟦<GUID as Record>⟧.layout ≡ guid }
-    ensures handle_descriptor { ⟦<MINIDUMP_HANDLE_DESCRIPTOR as Record>⟧.layout ≡ handle_descriptor }
-    ensures handle_descriptor_2 { ⟦<MINIDUMP_HANDLE_DESCRIPTOR_2 as Record>⟧.layout ≡ handle_descriptor_2 }
-    ensures object_information { ⟦<MINIDUMP_HANDLE_OBJECT_INFORMATION as Record>⟧.layout ≡ object_information }
+    ensures handle_descriptor { ⟦<MINIDUMP_HANDLE_DESCRIPTOR as Record>⟧.layout
+        ≡ handle_descriptor }
+    ensures handle_descriptor_2 { ⟦<MINIDUMP_HANDLE_DESCRIPTOR_2 as Record>⟧.layout
+        ≡ handle_descriptor_2 }
+    ensures object_information { ⟦<MINIDUMP_HANDLE_OBJECT_INFORMATION as Record>⟧.layout
+        ≡ object_information }
     ensures header { ⟦<MINIDUMP_HEADER as Record>⟧.layout ≡ header }
     ensures location { ⟦<MINIDUMP_LOCATION_DESCRIPTOR as Record>⟧.layout ≡ location }
     ensures directory_entry { ⟦<MINIDUMP_DIRECTORY as Record>⟧.layout ≡ directory_entry }
@@ -79,8 +94,10 @@ pub fn records_are_as_defined()
     ensures mac_record_4 { ⟦<MINIDUMP_MAC_CRASH_INFO_RECORD_4 as Record>⟧.layout ≡ mac_record_4 }
     ensures mac_record_5 { ⟦<MINIDUMP_MAC_CRASH_INFO_RECORD_5 as Record>⟧.layout ≡ mac_record_5 }
     ensures mac_boot_args { ⟦<MINIDUMP_MAC_BOOTARGS as Record>⟧.layout ≡ mac_boot_args }
-    ensures memory_descriptor { ⟦<MINIDUMP_MEMORY_DESCRIPTOR as Record>⟧.layout ≡ memory_descriptor }
-    ensures memory_descriptor_64 { ⟦<MINIDUMP_MEMORY_DESCRIPTOR64 as Record>⟧.layout ≡ memory_descriptor_64 }
+    ensures memory_descriptor { ⟦<MINIDUMP_MEMORY_DESCRIPTOR as Record>⟧.layout
+        ≡ memory_descriptor }
+    ensures memory_descriptor_64 { ⟦<MINIDUMP_MEMORY_DESCRIPTOR64 as Record>⟧.layout
+        ≡ memory_descriptor_64 }
     ensures memory_info { ⟦<MINIDUMP_MEMORY_INFO as Record>⟧.layout ≡ memory_info }
     ensures misc_info { ⟦<MINIDUMP_MISC_INFO as Record>⟧.layout ≡ misc_info }
     ensures misc_info_2 { ⟦<MINIDUMP_MISC_INFO_2 as Record>⟧.layout ≡ misc_info_2 }
@@ -93,7 +110,8 @@ pub fn records_are_as_defined()
     ensures misc_info_5 { ⟦<MINIDUMP_MISC_INFO_5 as Record>⟧.layout ≡ misc_info_5 }
     ensures fixed_file_info { ⟦<VS_FIXEDFILEINFO as Record>⟧.layout ≡ fixed_file_info }
     ensures module_entry { ⟦<MINIDUMP_MODULE as Record>⟧.layout ≡ module_entry }
-    ensures unloaded_module_entry { ⟦<MINIDUMP_UNLOADED_MODULE as Record>⟧.layout ≡ unloaded_module_entry }
+    ensures unloaded_module_entry { ⟦<MINIDUMP_UNLOADED_MODULE as Record>⟧.layout
+        ≡ unloaded_module_entry }
     ensures system_info { ⟦<MINIDUMP_SYSTEM_INFO as Record>⟧.layout ≡ system_info }
     ensures x86_cpu_info { ⟦<X86CpuInfo as Record>⟧.layout ≡ x86_cpu_info }
     ensures arm_cpu_info { ⟦<ARMCpuInfo as Record>⟧.layout ≡ arm_cpu_info }
@@ -113,36 +131,47 @@ pub fn flags_are_as_defined()
     ensures kind { ⟦<MemoryType as Flags>⟧.table ≡ memory_type }
 {}
 
-/// Of the records that hold other records or long arrays, `==` holds of equal values alone, and clones
-/// are equal values. The other types are [`Exact`](minidump_bytes::Exact).
+/// Of the records that hold other records or long arrays, `==` holds of equal values alone, and
+/// clones are equal values. The other types are [`Exact`](minidump_bytes::Exact).
 #[tactic(auto, using(crate::proofs::Equality::zone_same, crate::proofs::Equality::config_same, crate::proofs::Equality::misc_3_same, crate::proofs::Equality::misc_4_same, crate::proofs::Equality::misc_5_same, crate::proofs::Equality::image_same, crate::proofs::Equality::mac_same))]
 pub fn large_records_are_exact()
-    ensures time_zone { IsExact ⟦<TIME_ZONE_INFORMATION as PartialEq>⟧.eq ⟦<TIME_ZONE_INFORMATION as Clone>⟧.is_clone }
-    ensures xstate { IsExact ⟦<XSTATE_CONFIG_FEATURE_MSC_INFO as PartialEq>⟧.eq ⟦<XSTATE_CONFIG_FEATURE_MSC_INFO as Clone>⟧.is_clone }
-    ensures misc_info_3 { IsExact ⟦<MINIDUMP_MISC_INFO_3 as PartialEq>⟧.eq ⟦<MINIDUMP_MISC_INFO_3 as Clone>⟧.is_clone }
-    ensures misc_info_4 { IsExact ⟦<MINIDUMP_MISC_INFO_4 as PartialEq>⟧.eq ⟦<MINIDUMP_MISC_INFO_4 as Clone>⟧.is_clone }
-    ensures misc_info_5 { IsExact ⟦<MINIDUMP_MISC_INFO_5 as PartialEq>⟧.eq ⟦<MINIDUMP_MISC_INFO_5 as Clone>⟧.is_clone }
-    ensures module { IsExact ⟦<MINIDUMP_MODULE as PartialEq>⟧.eq ⟦<MINIDUMP_MODULE as Clone>⟧.is_clone }
-    ensures mac_crash_info { IsExact ⟦<MINIDUMP_MAC_CRASH_INFO as PartialEq>⟧.eq ⟦<MINIDUMP_MAC_CRASH_INFO as Clone>⟧.is_clone }
+    ensures time_zone { IsExact ⟦<TIME_ZONE_INFORMATION as PartialEq>⟧.eq
+        ⟦<TIME_ZONE_INFORMATION as Clone>⟧.is_clone }
+    ensures xstate { IsExact ⟦<XSTATE_CONFIG_FEATURE_MSC_INFO as PartialEq>⟧.eq
+        ⟦<XSTATE_CONFIG_FEATURE_MSC_INFO as Clone>⟧.is_clone }
+    ensures misc_info_3 { IsExact ⟦<MINIDUMP_MISC_INFO_3 as PartialEq>⟧.eq
+        ⟦<MINIDUMP_MISC_INFO_3 as Clone>⟧.is_clone }
+    ensures misc_info_4 { IsExact ⟦<MINIDUMP_MISC_INFO_4 as PartialEq>⟧.eq
+        ⟦<MINIDUMP_MISC_INFO_4 as Clone>⟧.is_clone }
+    ensures misc_info_5 { IsExact ⟦<MINIDUMP_MISC_INFO_5 as PartialEq>⟧.eq
+        ⟦<MINIDUMP_MISC_INFO_5 as Clone>⟧.is_clone }
+    ensures module { IsExact ⟦<MINIDUMP_MODULE as PartialEq>⟧.eq
+        ⟦<MINIDUMP_MODULE as Clone>⟧.is_clone }
+    ensures mac_crash_info { IsExact ⟦<MINIDUMP_MAC_CRASH_INFO as PartialEq>⟧.eq
+        ⟦<MINIDUMP_MAC_CRASH_INFO as Clone>⟧.is_clone }
 {}
 
 /// Clones of contexts are equal values. Contexts have no `==`.
 pub fn contexts_are_copied()
     ensures x86 { (x y : CONTEXT_X86) → ⟦<CONTEXT_X86 as Clone>⟧.is_clone x y → y ≡ x }
-    ensures x86_float_save { (x y : FLOATING_SAVE_AREA_X86) → ⟦<FLOATING_SAVE_AREA_X86 as Clone>⟧.is_clone x y → y ≡ x }
+    ensures x86_float_save { (x y : FLOATING_SAVE_AREA_X86)
+        → ⟦<FLOATING_SAVE_AREA_X86 as Clone>⟧.is_clone x y → y ≡ x }
     ensures amd64 { (x y : CONTEXT_AMD64) → ⟦<CONTEXT_AMD64 as Clone>⟧.is_clone x y → y ≡ x }
     ensures arm { (x y : CONTEXT_ARM) → ⟦<CONTEXT_ARM as Clone>⟧.is_clone x y → y ≡ x }
-    ensures arm_float_save { (x y : FLOATING_SAVE_AREA_ARM) → ⟦<FLOATING_SAVE_AREA_ARM as Clone>⟧.is_clone x y → y ≡ x }
+    ensures arm_float_save { (x y : FLOATING_SAVE_AREA_ARM)
+        → ⟦<FLOATING_SAVE_AREA_ARM as Clone>⟧.is_clone x y → y ≡ x }
     ensures arm64 { (x y : CONTEXT_ARM64) → ⟦<CONTEXT_ARM64 as Clone>⟧.is_clone x y → y ≡ x }
-    ensures arm64_old { (x y : CONTEXT_ARM64_OLD) → ⟦<CONTEXT_ARM64_OLD as Clone>⟧.is_clone x y → y ≡ x }
+    ensures arm64_old { (x y : CONTEXT_ARM64_OLD) → ⟦<CONTEXT_ARM64_OLD as Clone>⟧.is_clone x y
+        → y ≡ x }
 {}
 
-/// Each type of stream, platform, architecture, feature of the extended state, CodeView signature and type of
-/// information is the one that has its number.
+/// Each type of stream, platform, architecture, feature of the extended state, CodeView signature
+/// and type of information is the one that has its number.
 pub fn numbers_name_their_values()
     ensures stream_type { (t : MINIDUMP_STREAM_TYPE) → stream_type_of (number_of t) ≡ Some t }
     ensures platform { (p : PlatformId) → platform_of (platform_number p) ≡ Some p }
-    ensures architecture { (a : ProcessorArchitecture) → architecture_of (architecture_number a) ≡ Some a }
+    ensures architecture { (a : ProcessorArchitecture)
+        → architecture_of (architecture_number a) ≡ Some a }
     ensures feature { (f : XstateFeatureIndex) → feature_of (index_of f) ≡ Some f }
     ensures signature { (s : CvSignature) → signature_of (signature_number s) ≡ Some s }
     ensures information_type { (t : MINIDUMP_HANDLE_OBJECT_INFORMATION_TYPE)

@@ -1,5 +1,4 @@
 //! The texts of descriptors of regions.
-ghost use Rattle.std.specs.Prelude.{◌≡◌, ◌++◌, OnOk};
 ghost use Rattle.minidump_format.specs.MemoryText.{descriptor_64_text, descriptor_text};
 
 use crate::Pushed;

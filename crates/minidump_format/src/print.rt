@@ -12,7 +12,8 @@ pub trait Pushed {
     // its text
     ghost text: { Self → List ℕ };
 
-    /// Appends the text. Returns `AllocError` if memory runs out, and then what the bytes hold is unspecified.
+    /// Appends the text. Returns `AllocError` if memory runs out, and then the contents of
+    /// `out` are unspecified.
     fn push(&self, out: &mut Vec<u8>) -> Result<(), AllocError>
         ensures { OnOk result (out.new.items ≡ out.old.items ++ text self.now) };
 }
@@ -35,7 +36,7 @@ pub fn print_item<T: Pushed, W: Write>(
 /// Prints a text. The only error is [`Error::IoError`].
 pub fn put_text<W: Write>(f: &mut Told<W>, text: &str) -> Result<(), Error>
     ensures prints { Prints W.contents f.old f.new text.now result }
-    ensures refusal { IfErr result (λ e. e ≡ Error.IoError) }
+    ensures error { IfErr result (λ e. e ≡ Error.IoError) }
 {
     put_bytes(f, text.as_bytes())
 }
@@ -44,7 +45,7 @@ pub fn put_text<W: Write>(f: &mut Told<W>, text: &str) -> Result<(), Error>
 #[tactic(auto, unfolding(crate::specs::Text::line_end))]
 pub fn print_line_end<W: Write>(f: &mut Told<W>) -> Result<(), Error>
     ensures prints { Prints W.contents f.old f.new line_end result }
-    ensures refusal { IfErr result (λ e. e ≡ Error.IoError) }
+    ensures error { IfErr result (λ e. e ≡ Error.IoError) }
 {
     put_text(f, "\n")
 }
@@ -61,7 +62,7 @@ pub fn push_line_end(out: &mut Vec<u8>) -> Result<(), AllocError>
 // Prints bytes.
 pub(crate) fn put_bytes<W: Write>(f: &mut Told<W>, bytes: &[u8]) -> Result<(), Error>
     ensures prints { Prints W.contents f.old f.new bytes.now result }
-    ensures refusal { IfErr result (λ e. e ≡ Error.IoError) }
+    ensures error { IfErr result (λ e. e ≡ Error.IoError) }
 {
     match f.put(bytes) {
         Ok(()) => Ok(()),
@@ -69,8 +70,8 @@ pub(crate) fn put_bytes<W: Write>(f: &mut Told<W>, bytes: &[u8]) -> Result<(), E
     }
 }
 
-/// Returns the error of a call that prints and ran out of memory: [`Error::IoError`] if the writer has
-/// failed, and else [`Error::OutOfMemory`].
+/// Returns the error of a call that prints and ran out of memory: [`Error::IoError`] if the writer
+/// has failed, and else [`Error::OutOfMemory`].
 pub fn no_memory<W: Write>(f: &Told<W>) -> Error
     ensures { result ≡ out_of_memory f.now }
 {

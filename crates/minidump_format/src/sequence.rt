@@ -2,7 +2,7 @@ ghost use Rattle.std.specs.Prelude.{◌≡◌, ℕ, List, [], IfErr, length};
 ghost use Rattle.std.specs.Iterator.{IsFinite};
 ghost use Rattle.std.specs.List.{enumerate_from, flat_map};
 ghost use Rattle.std.proofs.lemmas.Iterator.{YieldsList};
-ghost use Rattle.minidump_format.specs.Numbered.{numbered_item, numbered_list};
+ghost use Rattle.minidump_format.specs.Numbered.{numbered_list};
 ghost use Rattle.minidump_format.specs.Print.{Prints};
 
 use crate::print::put_bytes;
@@ -14,8 +14,8 @@ use std::io::Write;
 // The number of bytes at which a block is written. What waits is shorter.
 const BLOCK: usize = 32768;
 
-/// Prints what an iterator yields, in blocks of some 32 KiB. Stops at the first error. If there is nothing, the
-/// only error is [`Error::IoError`].
+/// Prints what an iterator yields, in blocks of some 32 KiB. Stops at the first error. If there is
+/// nothing, the only error is [`Error::IoError`].
 pub fn print_all<I: Iterator + Drop, W: Write>(
     items: I,
     alloc: Global,
@@ -27,7 +27,8 @@ where
     requires ends { IsFinite (I.remaining items) }
     ensures prints { (texts : List (List ℕ)) → YieldsList I.next_gives I.Item.text items texts
         → Prints W.contents f.old f.new (flat_map (λ t. t) texts) result }
-    ensures none { YieldsList I.next_gives I.Item.text items [] → IfErr result (λ e. e ≡ Error.IoError) }
+    ensures none { YieldsList I.next_gives I.Item.text items []
+        → IfErr result (λ e. e ≡ Error.IoError) }
 {
     if f.failed() {
         return Err(Error::IoError);
@@ -46,8 +47,8 @@ where
     put_bytes(f, block.as_slice())
 }
 
-/// Prints a heading with the number of items, and then the items in order, each after a line of the name and its
-/// index.
+/// Prints a heading with the number of items, and then the items in order, each after a line of the
+/// name and its index.
 pub fn print_numbered<'a, T: Pushed, W: Write>(
     heading: &str,
     name: &'a str,
@@ -55,14 +56,15 @@ pub fn print_numbered<'a, T: Pushed, W: Write>(
     alloc: Global,
     f: &mut Told<W>,
 ) -> Result<(), Error>
-    ensures { Prints W.contents f.old f.new (numbered_list heading.now name.now T.text items.now) result }
+    ensures { Prints W.contents f.old f.new
+        (numbered_list heading.now name.now T.text items.now) result }
 {
     let numbered = items.iter().enumerate();
     print_numbered_all(heading, name, items.len(), numbered, alloc, f)
 }
 
-/// Prints a heading with a count, and then the values that an iterator yields with their indexes, each after a line
-/// of the name and its index.
+/// Prints a heading with a count, and then the values that an iterator yields with their indices,
+/// each after a line of the name and its index.
 pub fn print_numbered_all<T: Pushed + Drop, I: Iterator<Item = (usize, T)> + Drop, W: Write>(
     heading: &str,
     name: &str,
@@ -73,8 +75,11 @@ pub fn print_numbered_all<T: Pushed + Drop, I: Iterator<Item = (usize, T)> + Dro
 ) -> Result<(), Error>
     requires can { I.can_next items }
     requires ends { IsFinite (I.remaining items) }
-    ensures { (texts : List (List ℕ)) → YieldsList {B = ℕ × List ℕ} I.next_gives (λ p. (p.0, T.text p.1)) items (enumerate_from 0 texts)
-        → count ≡ length texts → Prints W.contents f.old f.new (numbered_list heading.now name.now (λ t. t) texts) result }
+    ensures { (texts : List (List ℕ))
+        → YieldsList {B = ℕ × List ℕ} I.next_gives (λ p. (p.0, T.text p.1)) items
+        (enumerate_from 0 texts)
+        → count ≡ length texts
+        → Prints W.contents f.old f.new (numbered_list heading.now name.now (λ t. t) texts) result }
 {
     print_item(
         &Heading {
@@ -84,21 +89,6 @@ pub fn print_numbered_all<T: Pushed + Drop, I: Iterator<Item = (usize, T)> + Dro
         alloc,
         f,
     )?;
-    print_lines(name, items, alloc, f)
-}
-
-// Prints values that come with their indexes, each after a line of the name and its index.
-fn print_lines<T: Pushed + Drop, I: Iterator<Item = (usize, T)> + Drop, W: Write>(
-    name: &str,
-    items: I,
-    alloc: Global,
-    f: &mut Told<W>,
-) -> Result<(), Error>
-    requires can { I.can_next items }
-    requires ends { IsFinite (I.remaining items) }
-    ensures { (all : List (ℕ × List ℕ)) → YieldsList {B = ℕ × List ℕ} I.next_gives (λ p. (p.0, T.text p.1)) items all
-        → Prints W.contents f.old f.new (flat_map (numbered_item name.now (λ t. t)) all) result }
-{
     let lines = items.map(|(index, value)| Numbered { name, index, value });
     print_all(lines, alloc, f)
 }

@@ -15,13 +15,13 @@ use Rattle.minidump_index.specs.Tree.{FitsSmall, FitsWide}
 use Rattle.minidump_index.proofs.RangedEntries.{entry, holds_ranged, same_entry, one_range, in_list}
 use Rattle.minidump_index.proofs.KeptEntries.{index_from}
 
--- ---- the first places of a list
+-- ---- the first indices of a list
 -- each of them has a range, which ends before each later one of them starts
 pub record AscendBelow (ranges : List (Option Range)) (n : ℕ) : Type 0 where
   pub each : (p : ℕ) → p < n → (r : Range) × HasRange ranges p r
   pub apart : (p q : ℕ) → p < q → q < n → EndsBefore ranges p q
 
--- the range before place n, none where there is none
+-- the range before index n, none where there is none
 abbrev pub IsLast : List (Option Range) → ℕ → Option Range → Type 0
 IsLast ranges n before = MatchOption before (n ≡ 0) (λ r. (0 < n) × HasRange ranges (n - 1) r)
 
@@ -92,7 +92,7 @@ module _ (ranges : List (Option Range)) where
   pub most_below : (n most : ℕ) → length ranges ≤ n → AtMostBelow ranges n most → AreAtMost ranges most
   most_below n most h a p r at = (let within = in_list ranges p r at in a p r (omega (arith, within, h)) at)
 
--- ---- the entries of a list that has a range at each place
+-- ---- the entries of a list that has a range at each index
 here_none : (os : List (Option Range)) → ((p : ℕ) → p < length (None ∷ os) → (r : Range) × HasRange (None ∷ os) p r) → ⊥
 here_none os each = let r = each 0 (omega arith) in let there : Some None ≡ Some (Some r.0) = r.1 in cc
 
@@ -115,18 +115,18 @@ module _ (ranges : List (Option Range)) (a : AreAscending ranges) where
   pub entries_len : length (entries_in ranges) ≡ length ranges
   entries_len = length-entries 0 ranges a.each
 
-  -- the entry of a place
+  -- the entry of an index
   pub entry_is : (i : ℕ) (r : Range) → HasRange ranges i r → slice_get (entries_in ranges) i ≡ Some (entry r i)
   entry_is i r h = entries-get 0 i i ranges r a.each (omega arith) h
 
-  pub at_place : (i : ℕ) (r : Range) (d : Entry) → HasRange ranges i r → get_or (entries_in ranges) i d ≡ entry r i
-  at_place i r d h = get_or_from_slice_get (entries_in ranges) i (entry r i) d (entry_is i r h)
+  pub at_index : (i : ℕ) (r : Range) (d : Entry) → HasRange ranges i r → get_or (entries_in ranges) i d ≡ entry r i
+  at_index i r d h = get_or_from_slice_get (entries_in ranges) i (entry r i) d (entry_is i r h)
 
   ascends : IsAscending (entries_in ranges)
   ascends i j d lt h =
       let r = a.each i (omega (arith, entries_len, lt, h)) in
       let s = a.each j (omega (arith, entries_len, h)) in
-      rw (at_place i r.0 d r.1, at_place j s.0 d s.1) (a.apart i j lt r.0 s.0 r.1 s.1)
+      rw (at_index i r.0 d r.1, at_index j s.0 d s.1) (a.apart i j lt r.0 s.0 r.1 s.1)
 
   -- the entries as they stand are the index
   pub ascending_index : IsIndexOf ranges (entries_in ranges)
@@ -139,10 +139,10 @@ module _ (ranges : List (Option Range)) (a : AreAscending ranges) where
   all_small most few short within k d h =
       let r = a.each k (omega (arith, entries_len, h)) in
       let size : r.0.end - r.0.start ≤ most = within k r.0 r.1 in
-      rw (at_place k r.0 d r.1) (omega (arith, size, few), omega (arith, entries_len, h, short))
+      rw (at_index k r.0 d r.1) (omega (arith, size, few), omega (arith, entries_len, h, short))
 
   pub all_wide : length (entries_in ranges) < 2 ^ 63 → All FitsWide (entries_in ranges)
-  all_wide few k d h = let r = a.each k (omega (arith, entries_len, h)) in rw (at_place k r.0 d r.1) (omega (arith, few, h))
+  all_wide few k d h = let r = a.each k (omega (arith, entries_len, h)) in rw (at_index k r.0 d r.1) (omega (arith, few, h))
 
 -- ---- the entry of a rank
 pub rank_within : {R : Type 0} (range : R → Option Range) (regions : List R) → AreAscending (map range regions) → (rank : ℕ)

@@ -1,12 +1,16 @@
-//! The descent of a lookup, and what makes it fast. Each form here pays from some number of kept regions on:
+//! The descent of a lookup, and what makes it fast. Each form here pays from some number of kept
+//! regions on:
 //!
-//! - The search goes down a complete tree in level order, so that the upper levels share cache lines. It makes one comparison
-//!   a level and no branch on its result, so it takes the same steps whatever the address, but for the last level, where
-//!   the tree may lack the place that the search comes to. That pays at every size.
-//! - Entries have 16 bytes where all ranges fit ([`Small`](crate::stored::Small)), so four stand in a cache line. Entries of
-//!   24 bytes ([`Wide`](crate::stored::Wide)) take a tenth longer at 1,000 regions, and a third longer from 100,000 on.
-//! - Entries three levels below are read in advance (`bits_below`), so that they come from memory while the levels between are
-//!   compared. It costs up to 4 ns below 10,000 regions, and saves a quarter at 100,000 and almost half at a million.
+//! - The search goes down a complete tree in level order, so that the upper levels share cache
+//!   lines. It makes one comparison a level and no branch on its result, so it takes the same steps
+//!   whatever the address, but for the last level, where the tree may lack the slot that the search
+//!   comes to. That pays at every size.
+//! - Entries have 16 bytes where all ranges fit ([`Small`](crate::stored::Small)), so four stand in
+//!   a cache line. Entries of 24 bytes ([`Wide`](crate::stored::Wide)) take a tenth longer at 1,000
+//!   regions, and a third longer from 100,000 on.
+//! - Entries three levels below are read in advance (`bits_below`), so that they come from memory
+//!   while the levels between are compared. It costs up to 4 ns below 10,000 regions, and saves a
+//!   quarter at 100,000 and almost half at a million.
 ghost use Rattle.std.specs.Prelude.{◌≡◌, ◌+◌, ◌*◌, ◌^◌, ◌<◌, ◌≤◌, true, length, map};
 ghost use Rattle.minidump_bytes.specs.Steps.{after};
 ghost use Rattle.minidump_index.specs.Digits.{digits};
@@ -18,8 +22,9 @@ use crate::tree::Stored;
 use minidump_bytes::{Steps, probe};
 use std::cmp::Ordering;
 
-// Compares the range of the entry with a number with the address. Returns the number to go on at, the number where the
-// lookup last went to the right, and whether a range that contains the address was met.
+// Compares the address with the range of the entry numbered `number`. Returns the number to go on
+// at, the number where the lookup last went to the right, and whether a range that contains the
+// address was met.
 #[inline(always)]
 fn below(
     range: Range,
@@ -31,11 +36,12 @@ fn below(
 ) -> (usize, usize, bool)
     requires { 2 * number + 1 < 2 ^ 64 }
     ensures left { address < range.start → result ≡ (2 * number, found, inside) }
-    ensures here { range.start ≤ address → address ≤ range.end → result ≡ (2 * number + 1, number, true) }
+    ensures here { range.start ≤ address → address ≤ range.end
+        → result ≡ (2 * number + 1, number, true) }
     ensures right { range.end < address → result ≡ (2 * number + 1, number, inside) }
     ensures step { steps.new ≡ after steps.old 1 }
 {
-    // Numbers and no branch: which way it goes can't be foretold.
+    // No branch, since which way the search goes can't be predicted.
     let order = probe(range.start, range.end, address, steps);
     let right = order != Ordering::Less;
     (
@@ -45,8 +51,9 @@ fn below(
     )
 }
 
-// Reads two of the eight entries three levels below a number, or the last entry where the tree ends before them. Returns a
-// number below 2^31 that depends on both. The numbers of their places may wrap: then it reads other entries.
+// Reads two of the eight entries three levels below a number, or the last entry where the tree ends
+// before them. Returns a number below 2^31 that depends on both. The numbers of their slots may
+// wrap: then it reads other entries.
 #[inline(always)]
 fn bits_below<S: Stored>(tree: &[S], number: usize) -> u32
     requires { 0 < length tree.now }
@@ -60,12 +67,13 @@ fn bits_below<S: Stored>(tree: &[S], number: usize) -> u32
 
 // Returns the index in the list of the range that contains the address, or `None` if no range does.
 //
-// Entries are numbered from 1 in level order: the children of `number` are `2 * number` and `2 * number + 1`. At most one
-// range contains the address, and once it was met the lookup goes only to the left; so it is where the lookup last went
-// to the right.
+// Entries are numbered from 1 in level order: the children of `number` are `2 * number` and
+// `2 * number + 1`. At most one range contains the address, and once it was met the lookup goes
+// only to the left; so it is where the lookup last went to the right.
 //
-// While the lookup is at a number, two of the eight entries three levels below are read, so that they are there when it
-// gets to them. What is read is below 2^31. The compiler doesn't know that, so it keeps the reads.
+// While the lookup is at a number, two of the eight entries three levels below are read, so that
+// they are there when it gets to them. What is read is below 2^31. The compiler doesn't know that,
+// so it keeps the reads.
 #[inline(always)]
 pub fn find<S: Stored>(tree: &[S], address: u64, steps: &mut Steps) -> Option<usize>
     requires few { length tree.now < 2 ^ 63 }
@@ -99,7 +107,7 @@ pub fn find<S: Stored>(tree: &[S], address: u64, steps: &mut Steps) -> Option<us
         (_, found, inside) = below(range, number, found, inside, address, steps);
     }
     if inside && ahead < 1 << 31 {
-        Some(tree[found - 1].entry().place)
+        Some(tree[found - 1].entry().index)
     } else {
         None
     }

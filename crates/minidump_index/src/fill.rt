@@ -1,18 +1,20 @@
-ghost use Rattle.std.specs.Prelude.{◌≡◌, ◌+◌, ◌*◌, ◌^◌, ◌<◌, ◌≤◌, IfOk, IfSome, IsTrue, ◌↔◌, All, MatchOption, Some, length, map, slice_get};
+ghost use Rattle.std.specs.Prelude.{◌≡◌, ◌+◌, ◌*◌, ◌^◌, ◌<◌, ◌≤◌, IfOk, IfSome, IsTrue, ◌↔◌, All};
+ghost use Rattle.std.specs.Prelude.{MatchOption, Some, length, map, slice_get};
 ghost use Rattle.minidump_index.specs.Ascending.{AreAscending, AreAtMost, entries_in};
 ghost use Rattle.minidump_index.specs.Digits.{digits};
 ghost use Rattle.minidump_index.specs.Kept.{IsIndexOf};
-ghost use Rattle.minidump_index.specs.Tree.{FitsSmall, FitsWide, IsSearchTree, entries_of, place_at, walk};
+ghost use Rattle.minidump_index.specs.Tree.{FitsSmall, FitsWide, IsSearchTree, entries_of, slot_at};
+ghost use Rattle.minidump_index.specs.Tree.{walk};
 
-use crate::index::{Entry, keep_apart, ranged};
+use crate::index::{Entry, entries_with_range, keep_apart};
 use crate::stored::{Small, Wide};
 use crate::tree::{Stored, Tree};
 use crate::{Range, Region};
 use std::alloc::{AllocError, Global};
 use std::marker::Model;
 
-// A complete tree of `len` entries lacks places on its last level. Returns one more than the number of places
-// of the full tree with the same levels.
+// Returns one more than the number of slots of the full tree that has as many levels as a complete
+// tree of `len` entries.
 pub fn full(len: usize) -> usize
     requires { len < 2 ^ 63 }
     ensures { result ≡ 2 ^ digits len }
@@ -20,12 +22,12 @@ pub fn full(len: usize) -> usize
     1 << (usize::BITS - len.leading_zeros())
 }
 
-// Returns the place of number `k`, counted from 1, in the walk of a full tree.
-pub fn place_at(total: usize, k: usize) -> usize
+// Returns the slot of number `k`, counted from 1, in the walk of a full tree.
+pub fn slot_at(total: usize, k: usize) -> usize
     requires starts { 0 < k }
     requires within { k < total }
     requires bound { total ≤ 2 ^ 63 }
-    ensures { result ≡ place_at total k }
+    ensures { result ≡ slot_at total k }
 {
     ((total + k) >> k.trailing_zeros() >> 1) - 1
 }
@@ -57,7 +59,8 @@ impl Ranked for Vec<Entry> {
     }
 }
 
-// Regions that ascend. Their ranges are the entries as they stand, so they need no copy and no sort.
+// Regions that ascend. Their ranges are the entries as they stand, so they need no copy and no
+// sort.
 #[derive(Drop)]
 struct InOrder<'a, R: Region> {
     regions: &'a [R],
@@ -85,7 +88,7 @@ impl<'a, R: Region> Ranked for InOrder<'a, R> {
     fn at(&self, rank: usize) -> Entry {
         let regions = self.regions;
         match regions[rank].memory_range() {
-            Some(range) => Entry { range, place: rank },
+            Some(range) => Entry { range, index: rank },
             None => unreachable!(),
         }
     }
@@ -101,9 +104,9 @@ fn put_entries<S: Stored, E: Ranked>(tree: &mut Vec<S>, entries: &E)
     let total = full(len);
     let mut rank = 0;
     for k in 1..total {
-        let place = place_at(total, k);
-        if place < len {
-            tree[place] = S::of(entries.at(rank));
+        let slot = slot_at(total, k);
+        if slot < len {
+            tree[slot] = S::of(entries.at(rank));
             rank += 1;
         }
     }
@@ -135,16 +138,17 @@ fn follows(before: Option<Range>, range: Range) -> bool
     }
 }
 
-// Returns how many addresses the longest region has after its first, or `None` unless each region has a range, which ends
-// before the next one starts.
+// Returns how many addresses the longest region has after its first, or `None` unless each region
+// has a range, which ends before the next one starts.
 fn longest_in_order<R: Region>(regions: &[R]) -> Option<u64>
     ensures { MatchOption result (¬ AreAscending (map R.range regions.now))
-        (λ most. AreAscending (map R.range regions.now) × AreAtMost (map R.range regions.now) most) }
+        (λ most. AreAscending (map R.range regions.now)
+        × AreAtMost (map R.range regions.now) most) }
 {
     let mut before = None;
     let mut most = 0;
-    for place in 0..regions.len() {
-        let range = regions[place].memory_range()?;
+    for index in 0..regions.len() {
+        let range = regions[index].memory_range()?;
         if !follows(before, range) {
             return None;
         }
@@ -154,7 +158,8 @@ fn longest_in_order<R: Region>(regions: &[R]) -> Option<u64>
     Some(most)
 }
 
-// Tells whether so many regions fit entries of 16 bytes, by how many addresses the longest has after its first.
+// Tells whether `count` regions fit entries of 16 bytes, where the longest has `most` addresses
+// after its first.
 fn is_small(most: u64, count: usize) -> bool
     ensures { IsTrue result ↔ ((most < 2 ^ 32) × (count ≤ 2 ^ 31)) }
 {
@@ -163,14 +168,15 @@ fn is_small(most: u64, count: usize) -> bool
 
 // Builds the tree of the kept ranges of regions.
 pub fn tree_of<R: Region>(alloc: Global, regions: &[R]) -> Result<Tree, AllocError>
-    ensures kept { IfOk result (λ tree. IsIndexOf (map R.range regions.now) (walk (entries_of tree))) }
+    ensures kept { IfOk result
+        (λ tree. IsIndexOf (map R.range regions.now) (walk (entries_of tree))) }
     ensures tree { IfOk result (λ tree. IsSearchTree (entries_of tree)) }
 {
     if let Some(most) = longest_in_order(regions) {
         let entries = InOrder { regions };
         return tree_of_entries(alloc, &entries, is_small(most, regions.len()));
     }
-    let mut kept = ranged(alloc, regions)?;
+    let mut kept = entries_with_range(alloc, regions)?;
     keep_apart(&mut kept);
     let all_fit = kept.iter().all(|entry| Small::holds(*entry));
     tree_of_entries(alloc, &kept, all_fit)

@@ -6,13 +6,13 @@ use Rattle.minidump_format.specs.declared.format.memory.MINIDUMP_MEMORY_DESCRIPT
 use Rattle.minidump_format.specs.declared.format.memory_info.MINIDUMP_MEMORY_INFO.{MINIDUMP_MEMORY_INFO}
 use Rattle.minidump_system.specs.Reads.{all_kept}
 use Rattle.minidump_system.proofs.KeptLemmas.{kept_filtered, kept_mapped}
-use Rattle.minidump_memory.specs.Memory.{described}
+use Rattle.minidump_memory.specs.Memory.{descriptor_region}
 use Rattle.minidump_memory.specs.MemoryInfo.{info_in}
-use Rattle.minidump_memory.specs.MemoryList.{all_described}
+use Rattle.minidump_memory.specs.MemoryList.{descriptor_regions}
 
-pub kept_described : (order : Endian) (file : List ℕ) (ds : List MINIDUMP_MEMORY_DESCRIPTOR)
-    → all_kept (λ d. Ok (result_ok (described order file d))) ds ≡ Ok (all_described order file ds)
-kept_described order file ds = kept_filtered (λ d. result_ok (described order file d)) ds
+pub kept_descriptor_regions : (order : Endian) (file : List ℕ) (ds : List MINIDUMP_MEMORY_DESCRIPTOR)
+    → all_kept (λ d. Ok (result_ok (descriptor_region order file d))) ds ≡ Ok (descriptor_regions order file ds)
+kept_descriptor_regions order file ds = kept_filtered (λ d. result_ok (descriptor_region order file d)) ds
 
 pub kept_infos : (raws : List MINIDUMP_MEMORY_INFO) → all_kept (λ raw. Ok (Some (info_in raw))) raws ≡ Ok (map info_in raws)
 kept_infos raws = kept_mapped info_in raws

@@ -13,7 +13,7 @@ first_four order (a ∷ b ∷ c ∷ []) = refl
 first_four Little (a ∷ b ∷ c ∷ d ∷ bytes) = refl
 first_four Big (a ∷ b ∷ c ∷ d ∷ bytes) = refl
 
-pub number_inside : (order : Endian) (place : ℕ) (bytes : List ℕ) → number_at order 4 0 (slice_range bytes place (place + 4)) ≡ number_at order 4 place bytes
-number_inside order place bytes =
-    let size : place + 4 - place ≡ 4 = omega arith in
-    rw size (first_four order (drop place bytes))
+pub number_inside : (order : Endian) (offset : ℕ) (bytes : List ℕ) → number_at order 4 0 (slice_range bytes offset (offset + 4)) ≡ number_at order 4 offset bytes
+number_inside order offset bytes =
+    let size : offset + 4 - offset ≡ 4 = omega arith in
+    rw size (first_four order (drop offset bytes))

@@ -10,7 +10,7 @@ use Rattle.std.proofs.lemmas.List.Quantifiers.{position-Some}
 use Rattle.std.proofs.lemmas.List.Sums.{fails_before_first}
 use Rattle.std.proofs.lemmas.Option.{slice_get_cases}
 use Rattle.minidump_index.proofs.RegionsLemmas.{fewer_after_first, first_region}
-use Rattle.minidump_modules.specs.declared.unloaded_order.Placed.{Placed}
+use Rattle.minidump_modules.specs.declared.unloaded_order.IndexedRange.{IndexedRange}
 use Rattle.minidump_modules.proofs.RestLemmas.{rest_all}
 use Rattle.minidump_modules.specs.UnloadedOrder.{IsInside, modules_of_order}
 
@@ -26,7 +26,7 @@ past p xs e = grind (arith, common_steps)
 pub none_passes : {X : Type 0} (p : X → Bool) (xs : List X) → position p xs ≡ None → filter p xs ≡ []
 none_passes p xs e = let far = past p xs e in none_kept p xs (λ k d lt. fails_before_first p xs k d (omega (arith, lt, far)))
 
--- the first that passes is the first that is kept; what is left is spelled as a slice from behind it
+-- the first that passes is the first that is kept; what is left is a slice from the index after it
 pub first_passes : {X : Type 0} (p : X → Bool) (xs : List X) (i : ℕ) (d : X) → position p xs ≡ Some i
     → filter p xs ≡ get_or xs i d ∷ filter p (take (length xs - (i + 1)) (drop (i + 1) xs))
 first_passes p xs i d e =
@@ -40,26 +40,26 @@ first_passes p xs i d e =
 
 module _ {M : Type 0} (modules : List M) where
   -- the module of the first index
-  pub first_module : (m : M) (e : Placed) (all rest : List Placed) → all ≡ e ∷ rest → e.place < length modules → m ≡ get_or modules e.place m
+  pub first_module : (m : M) (e : IndexedRange) (all rest : List IndexedRange) → all ≡ e ∷ rest → e.index < length modules → m ≡ get_or modules e.index m
       → modules_of_order modules all ≡ m ∷ modules_of_order modules rest
   first_module m e all rest is lt at =
-      first_region modules m e.place (map (λ e. e.place) all) (map (λ e. e.place) rest) (ap (map (λ (e : Placed). e.place)) is) lt at
+      first_region modules m e.index (map (λ e. e.index) all) (map (λ e. e.index) rest) (ap (map (λ (e : IndexedRange). e.index)) is) lt at
 
-  pub fewer : (m : M) (e : Placed) (all rest : List Placed) → all ≡ e ∷ rest → e.place < length modules → m ≡ get_or modules e.place m
+  pub fewer : (m : M) (e : IndexedRange) (all rest : List IndexedRange) → all ≡ e ∷ rest → e.index < length modules → m ≡ get_or modules e.index m
       → length (modules_of_order modules rest) < length (modules_of_order modules all)
   fewer m e all rest is lt at =
-      fewer_after_first modules m e.place (map (λ e. e.place) all) (map (λ e. e.place) rest) (ap (map (λ (e : Placed). e.place)) is) lt at
+      fewer_after_first modules m e.index (map (λ e. e.index) all) (map (λ e. e.index) rest) (ap (map (λ (e : IndexedRange). e.index)) is) lt at
 
-  pub first_inside : (e : Placed) (all rest : List Placed) → all ≡ e ∷ rest → IsInside modules all → e.place < length modules
+  pub first_inside : (e : IndexedRange) (all rest : List IndexedRange) → all ≡ e ∷ rest → IsInside modules all → e.index < length modules
   first_inside e all rest is h = (rw is at h) 0 e (omega arith)
 
-  pub rest_inside : (e : Placed) (all rest : List Placed) → all ≡ e ∷ rest → IsInside modules all → IsInside modules rest
+  pub rest_inside : (e : IndexedRange) (all rest : List IndexedRange) → all ≡ e ∷ rest → IsInside modules all → IsInside modules rest
   rest_inside e all rest is h = λ k d lt. (rw is at h) (suc k) d (omega (arith, lt))
 
   -- as many modules as indices
-  pub length-modules : (order : List Placed) → IsInside modules order → length (modules_of_order modules order) ≡ length order
+  pub length-modules : (order : List IndexedRange) → IsInside modules order → length (modules_of_order modules order) ≡ length order
   length-modules [] h = refl
-  length-modules (e ∷ es) h = elim (slice_get_cases modules e.place).1 [
+  length-modules (e ∷ es) h = elim (slice_get_cases modules e.index).1 [
     | inl found ↦ ap (λ (o : Option M). length (cons_option o (modules_of_order modules es))) found.2
         ∙ ap suc (length-modules es (rest_inside e (e ∷ es) es refl h))
     | inr none ↦ absurd (let lt = first_inside e (e ∷ es) es refl h in omega (arith, lt, none.0))

@@ -5,10 +5,10 @@ mod FoundLemmas
 mod InsideLemmas
 mod KeptLemmas
 pub mod ListLemmas
-mod ListedLemmas
+mod SameListLemmas
 mod OrderLemmas
-mod PaddedLemmas
+mod PaddingLemmas
 mod RestLemmas
-mod ShownLemmas
+mod DisplayLemmas
 pub mod UnloadedLaws
 pub mod UnloadedViews

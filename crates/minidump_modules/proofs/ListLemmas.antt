@@ -8,7 +8,7 @@ use Rattle.minidump_system.specs.Reads.{all_kept, all_ok, read_each, read_if}
 use Rattle.minidump_system.proofs.KeptLemmas.{kept_each, kept_if}
 use Rattle.minidump_modules.specs.Module.{has_range, read_module}
 use Rattle.minidump_format.specs.declared.format.module.MINIDUMP_UNLOADED_MODULE.{MINIDUMP_UNLOADED_MODULE}
-use Rattle.minidump_modules.specs.UnloadedModule.{listed_unloaded}
+use Rattle.minidump_modules.specs.UnloadedModule.{unloaded_with_range}
 use Rattle.minidump_modules.specs.ModuleList.{modules_in}
 
 pub kept_modules : (order : Endian) (os : Option Os) (file : List ℕ) (raws : List MINIDUMP_MODULE)
@@ -16,8 +16,8 @@ pub kept_modules : (order : Endian) (os : Option Os) (file : List ℕ) (raws : L
 kept_modules order os file raws = kept_if has_range (read_module order os file) raws
 
 pub kept_unloaded : (order : Endian) (file : List ℕ) (raws : List MINIDUMP_UNLOADED_MODULE)
-    → all_kept (λ raw. read_each (listed_unloaded order file) raw) raws ≡ all_ok (listed_unloaded order file) raws
-kept_unloaded order file raws = kept_each (listed_unloaded order file) raws
+    → all_kept (λ raw. read_each (unloaded_with_range order file) raw) raws ≡ all_ok (unloaded_with_range order file) raws
+kept_unloaded order file raws = kept_each (unloaded_with_range order file) raws
 
 -- where a module was read, there is an entry
 pub some_kept : {R V M : Type 0} (read : R → Result (Option V) Error) (raws : List R) (view : M → V) (ms : List M)

@@ -11,13 +11,13 @@ use Rattle.minidump_index.specs.declared.range.Range.{Range}
 use Rattle.minidump_index.specs.Lookup.{HasAddress}
 use Rattle.minidump_index.specs.Overlap.{HasRange, IsIn}
 use Rattle.minidump_index.proofs.ContainsLemmas.{all_from, cases, first_pairs, head, nothing, rest_pairs, tail}
-use Rattle.minidump_modules.specs.declared.unloaded_order.Placed.{Placed}
-use Rattle.minidump_modules.specs.UnloadedModule.{UnloadedValue, unloaded_value_range}
+use Rattle.minidump_modules.specs.declared.unloaded_order.IndexedRange.{IndexedRange}
+use Rattle.minidump_modules.specs.UnloadedModule.{UnloadedValue, range_of_unloaded}
 use Rattle.minidump_modules.specs.UnloadedOrder.{HasUnloadedLaws, IsOrderOf, Precedes, StartsBefore, has, modules_of_order}
-use Rattle.minidump_modules.proofs.ListedLemmas.{same_list}
+use Rattle.minidump_modules.proofs.SameListLemmas.{same_list}
 
 -- ---- one order
-one_way : (e f : Placed) → Precedes e f → Precedes f e → ⊥
+one_way : (e f : IndexedRange) → Precedes e f → Precedes f e → ⊥
 one_way e f (inl a) (inl b) = omega arith
 one_way e f (inl a) (inr b) = omega (arith, b.0)
 one_way e f (inr a) (inl b) = omega (arith, a.0)
@@ -26,29 +26,29 @@ one_way e f (inr (a, inl b)) (inr (c, inr d)) = omega (arith, d.0)
 one_way e f (inr (a, inr b)) (inr (c, inl d)) = omega (arith, b.0)
 one_way e f (inr (a, inr b)) (inr (c, inr d)) = omega (arith, b.1, d.1)
 
-starts : (e f : Placed) → Precedes e f → (e.range.start < f.range.start) ⊎ ((e.range.start ≡ f.range.start) × (e.range.end ≤ f.range.end))
+starts : (e f : IndexedRange) → Precedes e f → (e.range.start < f.range.start) ⊎ ((e.range.start ≡ f.range.start) × (e.range.end ≤ f.range.end))
 starts e f (inl a) = inl a
 starts e f (inr (a, inl b)) = inr (a, omega arith)
 starts e f (inr (a, inr b)) = inr (a, omega (arith, b.0))
 
-has_there : (address : ℕ) (e : Placed) → has address e ≡ true → IsIn address e.range
+has_there : (address : ℕ) (e : IndexedRange) → has address e ≡ true → IsIn address e.range
 has_there address e h = (grind (arith, nat_tests), grind (arith, nat_tests))
 
-there_has : (address : ℕ) (e : Placed) → IsIn address e.range → has address e ≡ true
+there_has : (address : ℕ) (e : IndexedRange) → IsIn address e.range → has address e ≡ true
 there_has address e (a, b) = grind (arith, nat_tests)
 
 -- what is kept of a list is of it and passes
-kept_from : (p : Placed → Bool) (es : List Placed) (e : Placed) → Contains (filter p es) e → Contains es e × (p e ≡ true)
+kept_from : (p : IndexedRange → Bool) (es : List IndexedRange) (e : IndexedRange) → Contains (filter p es) e → Contains es e × (p e ≡ true)
 kept_from p [] e h = absurd (nothing e h)
 kept_from p (f ∷ fs) e h = elim (cases_Bool (p f)) [
   | inl t ↦ elim (cases f (filter p fs) e (rw t at h)) [
-    | inl same ↦ subst (λ (x : Placed). Contains (f ∷ fs) x × (p x ≡ true)) same (head f fs, t)
+    | inl same ↦ subst (λ (x : IndexedRange). Contains (f ∷ fs) x × (p x ≡ true)) same (head f fs, t)
     | inr more ↦ (let k = kept_from p fs e more in (tail f fs e k.0, k.1))
   ]
   | inr t ↦ (let k = kept_from p fs e (rw t at h) in (tail f fs e k.0, k.1))
 ]
 
-kept_to : (p : Placed → Bool) (es : List Placed) (e : Placed) → Contains es e → p e ≡ true → Contains (filter p es) e
+kept_to : (p : IndexedRange → Bool) (es : List IndexedRange) (e : IndexedRange) → Contains es e → p e ≡ true → Contains (filter p es) e
 kept_to p [] e h t = absurd (nothing e h)
 kept_to p (f ∷ fs) e h t = elim (cases_Bool (p f)) [
   | inl s ↦ rw s (elim (cases f fs e h) [
@@ -63,44 +63,44 @@ kept_to p (f ∷ fs) e h t = elim (cases_Bool (p f)) [
 
 module _ (modules : List UnloadedValue) where
   abbrev Ranges : List (Option Range)
-  Ranges = map unloaded_value_range modules
+  Ranges = map range_of_unloaded modules
 
-  pub one_placed : (a b : List Placed) → IsOrderOf Ranges a → IsOrderOf Ranges b → a ≡ b
-  one_placed a b of_a of_b = same_list Precedes one_way a b of_a.ascending of_b.ascending
+  pub same_order : (a b : List IndexedRange) → IsOrderOf Ranges a → IsOrderOf Ranges b → a ≡ b
+  same_order a b of_a of_b = same_list Precedes one_way a b of_a.ascending of_b.ascending
       (λ e. ((λ h. (of_b.members e).1 ((of_a.members e).0 h)), (λ h. (of_a.members e).1 ((of_b.members e).0 h))))
 
   -- ---- the module at an index
-  record IsAt (e : Placed) (m : UnloadedValue) : Type 0 where
-    at : slice_get modules e.place ≡ Some m
-    range : unloaded_value_range m ≡ Some e.range
+  record IsAt (e : IndexedRange) (m : UnloadedValue) : Type 0 where
+    at : slice_get modules e.index ≡ Some m
+    range : range_of_unloaded m ≡ Some e.range
 
-  read : (e : Placed) (o : Option UnloadedValue) → slice_get modules e.place ≡ o → HasRange Ranges e.place e.range → (m : UnloadedValue) × IsAt e m
-  read e (Some m) at h = let same : Some (unloaded_value_range m) ≡ Some (Some e.range) = ap (option_map unloaded_value_range) (sym at)
-      ∙ sym (slice_get-map unloaded_value_range modules e.place) ∙ h in
+  read : (e : IndexedRange) (o : Option UnloadedValue) → slice_get modules e.index ≡ o → HasRange Ranges e.index e.range → (m : UnloadedValue) × IsAt e m
+  read e (Some m) at h = let same : Some (range_of_unloaded m) ≡ Some (Some e.range) = ap (option_map range_of_unloaded) (sym at)
+      ∙ sym (slice_get-map range_of_unloaded modules e.index) ∙ h in
       (m, record { at = at; range = cc })
-  read e None at h = let same : None ≡ Some (Some e.range) = ap (option_map unloaded_value_range) (sym at)
-      ∙ sym (slice_get-map unloaded_value_range modules e.place) ∙ h in absurd (let b : ⊥ = cc in b)
+  read e None at h = let same : None ≡ Some (Some e.range) = ap (option_map range_of_unloaded) (sym at)
+      ∙ sym (slice_get-map range_of_unloaded modules e.index) ∙ h in absurd (let b : ⊥ = cc in b)
 
-  module_at : (e : Placed) → HasRange Ranges e.place e.range → (m : UnloadedValue) × IsAt e m
-  module_at e h = read e (slice_get modules e.place) refl h
+  module_at : (e : IndexedRange) → HasRange Ranges e.index e.range → (m : UnloadedValue) × IsAt e m
+  module_at e h = read e (slice_get modules e.index) refl h
 
   -- a module of the list that has a range stands at an index
-  index_of : (m : UnloadedValue) (r : Range) → Contains modules m → unloaded_value_range m ≡ Some r
-      → (e : Placed) × HasRange Ranges e.place e.range × IsAt e m × (e.range ≡ r)
+  index_of : (m : UnloadedValue) (r : Range) → Contains modules m → range_of_unloaded m ≡ Some r
+      → (e : IndexedRange) × HasRange Ranges e.index e.range × IsAt e m × (e.range ≡ r)
   index_of m r (k, within, at) range =
       let there : slice_get modules k ≡ Some m = slice_get-get_or modules k m within ∙ ap (λ (x : UnloadedValue). Some x) at in
-      let has : HasRange Ranges k r = slice_get-map unloaded_value_range modules k ∙ ap (option_map unloaded_value_range) there
+      let has : HasRange Ranges k r = slice_get-map range_of_unloaded modules k ∙ ap (option_map range_of_unloaded) there
       ∙ ap (λ (o : Option Range). Some o) range in
-      (record { range = r; place = k }, has, record { at = there; range = range }, refl)
+      (record { range = r; index = k }, has, record { at = there; range = range }, refl)
 
   -- ---- the modules of an order
-  one_more : (e : Placed) (m : UnloadedValue) (es : List Placed) → IsAt e m → modules_of_order modules (e ∷ es) ≡ m ∷ modules_of_order modules es
+  one_more : (e : IndexedRange) (m : UnloadedValue) (es : List IndexedRange) → IsAt e m → modules_of_order modules (e ∷ es) ≡ m ∷ modules_of_order modules es
   one_more e m es at = ap (λ (o : Option UnloadedValue). cons_option o (modules_of_order modules es)) at.at
 
-  abbrev AllHave : List Placed → Type 0
-  AllHave es = (e : Placed) → Contains es e → HasRange Ranges e.place e.range
+  abbrev AllHave : List IndexedRange → Type 0
+  AllHave es = (e : IndexedRange) → Contains es e → HasRange Ranges e.index e.range
 
-  from_order : (es : List Placed) (m : UnloadedValue) → AllHave es → Contains (modules_of_order modules es) m → (e : Placed) × Contains es e × IsAt e m
+  from_order : (es : List IndexedRange) (m : UnloadedValue) → AllHave es → Contains (modules_of_order modules es) m → (e : IndexedRange) × Contains es e × IsAt e m
   from_order [] m has h = absurd (nothing m h)
   from_order (e ∷ es) m has h =
       let n = module_at e (has e (head e es)) in
@@ -109,19 +109,19 @@ module _ (modules : List UnloadedValue) where
         | inr more ↦ (let f = from_order es m (λ f k. has f (tail e es f k)) more in (f.0, tail e es f.0 f.1, f.2))
       ]
 
-  into_order : (es : List Placed) (e : Placed) (m : UnloadedValue) → AllHave es → Contains es e → IsAt e m → Contains (modules_of_order modules es) m
+  into_order : (es : List IndexedRange) (e : IndexedRange) (m : UnloadedValue) → AllHave es → Contains es e → IsAt e m → Contains (modules_of_order modules es) m
   into_order [] e m has h at = absurd (nothing e h)
   into_order (f ∷ fs) e m has h at =
       let n = module_at f (has f (head f fs)) in
       let more : modules_of_order modules (f ∷ fs) ≡ n.0 ∷ modules_of_order modules fs = one_more f n.0 fs n.1 in
       subst (λ (ms : List UnloadedValue). Contains ms m) (sym more) (elim (cases f fs e h) [
-        | inl same ↦ (let one : n.0 ≡ m = (let a = n.1.at in let b = at.at in let c = ap (λ (x : Placed). slice_get modules x.place) same in
+        | inl same ↦ (let one : n.0 ≡ m = (let a = n.1.at in let b = at.at in let c = ap (λ (x : IndexedRange). slice_get modules x.index) same in
             let s : Some n.0 ≡ Some m = sym a ∙ c ∙ b in cc) in
             subst (Contains (n.0 ∷ modules_of_order modules fs)) one (head n.0 (modules_of_order modules fs)))
         | inr rest ↦ tail n.0 (modules_of_order modules fs) m (into_order fs e m (λ x k. has x (tail f fs x k)) rest at)
       ])
 
-  ascend : (es : List Placed) → AllHave es → AllPairs Precedes es → AllPairs StartsBefore (modules_of_order modules es)
+  ascend : (es : List IndexedRange) → AllHave es → AllPairs Precedes es → AllPairs StartsBefore (modules_of_order modules es)
   ascend [] has up = λ i j d lt within. absurd (omega arith)
   ascend (e ∷ es) has up =
       let n = module_at e (has e (head e es)) in
@@ -132,14 +132,14 @@ module _ (modules : List UnloadedValue) where
       (e.range, f.0.range, n.1.range, f.2.range, starts e f.0 (first_pairs Precedes e es up f.0 f.1))))
       (ascend es (λ f k. has f (tail e es f k)) (rest_pairs Precedes e es up)))
 
-  module _ (order : List Placed) (is : IsOrderOf Ranges order) where
+  module _ (order : List IndexedRange) (is : IsOrderOf Ranges order) where
     all_have : AllHave order
     all_have e h = (is.members e).0 h
 
-    pub ranged : (m : UnloadedValue) → Contains (modules_of_order modules order) m ↔ (Contains modules m × ((r : Range) × (unloaded_value_range m ≡ Some r)))
-    ranged m = (
+    pub with_ranges : (m : UnloadedValue) → Contains (modules_of_order modules order) m ↔ (Contains modules m × ((r : Range) × (range_of_unloaded m ≡ Some r)))
+    with_ranges m = (
       (λ h. let e = from_order order m all_have h in
-          ((e.0.place, slice_get_within modules e.0.place m e.2.at, get_or_from_slice_get modules e.0.place m m e.2.at), (e.0.range, e.2.range))),
+          ((e.0.index, slice_get_within modules e.0.index m e.2.at, get_or_from_slice_get modules e.0.index m m e.2.at), (e.0.range, e.2.range))),
       (λ h. let e = index_of m h.1.0 h.0 h.1.1 in into_order order e.0 m all_have ((is.members e.0).1 e.1) e.2),
     )
 
@@ -147,11 +147,11 @@ module _ (modules : List UnloadedValue) where
     kept_have address e h = all_have e (kept_from (has address) order e h).0
 
     pub found : (address : ℕ) (m : UnloadedValue)
-        → Contains (modules_of_order modules (filter (has address) order)) m ↔ (Contains modules m × HasAddress unloaded_value_range address m)
+        → Contains (modules_of_order modules (filter (has address) order)) m ↔ (Contains modules m × HasAddress range_of_unloaded address m)
     found address m = (
       (λ h. let e = from_order (filter (has address) order) m (kept_have address) h in
           let k = kept_from (has address) order e.0 e.1 in (
-            (e.0.place, slice_get_within modules e.0.place m e.2.at, get_or_from_slice_get modules e.0.place m m e.2.at),
+            (e.0.index, slice_get_within modules e.0.index m e.2.at, get_or_from_slice_get modules e.0.index m m e.2.at),
             (e.0.range, e.2.range, has_there address e.0 k.1),
           )),
       (λ h. let e = index_of m h.1.0 h.0 h.1.1 in
@@ -161,11 +161,11 @@ module _ (modules : List UnloadedValue) where
 
 pub unloaded_laws : (modules : List UnloadedValue) → HasUnloadedLaws modules
 unloaded_laws modules = record {
-  one_order = λ given other a b. a.2 ∙ ap (modules_of_order modules) (one_placed modules a.0 b.0 a.1 b.1) ∙ sym b.2;
-  ranged = λ given m o. rw o.2 (ranged modules o.0 o.1 m);
+  one_order = λ given other a b. a.2 ∙ ap (modules_of_order modules) (same_order modules a.0 b.0 a.1 b.1) ∙ sym b.2;
+  with_ranges = λ given m o. rw o.2 (with_ranges modules o.0 o.1 m);
   ascending = λ given o. rw o.2 (ascend modules o.0 (all_have modules o.0 o.1) o.1.ascending);
-  one_answer = λ address given other a b. a.2 ∙ ap (λ (es : List Placed). modules_of_order modules (filter (has address) es))
-      (one_placed modules a.0 b.0 a.1 b.1) ∙ sym b.2;
+  one_answer = λ address given other a b. a.2 ∙ ap (λ (es : List IndexedRange). modules_of_order modules (filter (has address) es))
+      (same_order modules a.0 b.0 a.1 b.1) ∙ sym b.2;
   found = λ address given m o. rw o.2 (found modules o.0 o.1 address m);
   found_ascend = λ address given o. rw o.2 (ascend modules (filter (has address) o.0) (kept_have modules o.0 o.1 address)
       (AllPairs-filter Precedes (has address) o.0 o.1.ascending));

@@ -43,13 +43,15 @@ pdb70_guid order bytes = guid.value order (slice_range bytes 4 20)
 unfoldable pub pdb70_in : Endian → List ℕ → Result View Error
 pdb70_in order bytes =
     if nat_lt (length bytes) 24 then Err CodeViewReadFailure else
-    Ok (pdb70 (number_at order 4 0 bytes) (pdb70_guid order bytes) (number_at order 4 20 bytes) (drop 24 bytes))
+    Ok (pdb70 (number_at order 4 0 bytes) (pdb70_guid order bytes) (number_at order 4 20 bytes)
+    (drop 24 bytes))
 
 -- Microsoft's CV_INFO_PDB20: 16 bytes and a name
 unfoldable pub pdb20_in : Endian → List ℕ → Result View Error
 pdb20_in order bytes =
     if nat_lt (length bytes) 16 then Err CodeViewReadFailure else
-    Ok (pdb20 (number_at order 4 0 bytes) (number_at order 4 4 bytes) (number_at order 4 8 bytes) (number_at order 4 12 bytes) (drop 16 bytes))
+    Ok (pdb20 (number_at order 4 0 bytes) (number_at order 4 4 bytes) (number_at order 4 8 bytes)
+    (number_at order 4 12 bytes) (drop 16 bytes))
 
 -- the record of a kind
 abbrev record_of : Endian → List ℕ → Option CvSignature → Result View Error
@@ -65,24 +67,28 @@ code_view order bytes =
     record_of order bytes (signature_of (number_at order 4 0 bytes))
 
 -- the record at a location: none where that has no size
-unfoldable pub code_view_at : Endian → List ℕ → MINIDUMP_LOCATION_DESCRIPTOR → Result (Option View) Error
-code_view_at order file place =
-    if place.data_size == 0 then Ok None else
-    and_then (ok_or (located file place) CodeViewReadFailure) (λ bytes. and_then (code_view order bytes) (λ view. Ok (Some view)))
+unfoldable pub code_view_at : Endian → List ℕ → MINIDUMP_LOCATION_DESCRIPTOR
+    → Result (Option View) Error
+code_view_at order file location =
+    if location.data_size == 0 then Ok None else
+    and_then (ok_or (located file location) CodeViewReadFailure)
+    (λ bytes. and_then (code_view order bytes) (λ view. Ok (Some view)))
 
--- the reads that a record takes: one for its signature, and one for each field; a record of an unknown kind has one field, all of its bytes
+-- the reads that a record takes: one for its signature, and one for each field; a record of an
+-- unknown kind has one field, all of its bytes
 abbrev pub record_reads : View → ℕ
 record_reads (pdb70 s g age name) = 4
 record_reads (pdb20 s offset signature age name) = 5
 record_reads (elf s id) = 2
 record_reads (unknown bytes) = 2
 
--- the reads that a location takes: one for the span of the record, and those of the record; 5 for `RSDS`, 6 for `NB10`, and 3 for others
+-- the reads that a location takes: one for the span of the record, and those of the record; 5 for
+-- `RSDS`, 6 for `NB10`, and 3 for others
 abbrev pub view_reads : Option View → ℕ
 view_reads None = 0
 view_reads (Some view) = 1 + record_reads view
 
--- the bytes before the first NUL as a text, with U+FFFD for what is not UTF-8: one for each longest beginning of a well-formed sequence
--- that can't go on, and else one for each byte
+-- the bytes before the first NUL as a text, with U+FFFD for what is not UTF-8: one for each longest
+-- prefix of a well-formed sequence that can't go on, and else one for each byte
 unfoldable pub lossy_name : List ℕ → List ℕ
 lossy_name bytes = utf8_lossy (before_first (λ b. b == 0) bytes)

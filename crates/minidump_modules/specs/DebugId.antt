@@ -25,10 +25,11 @@ sixteen_bytes digits = parsed_simple digits
 abbrev pub from_breakpad : List ℕ → Option DebugId
 from_breakpad text =
     if nat_le 33 (length text) && nat_le (length text) 40
-    then option_and_then (λ uuid. option_map (by_guid uuid) (number_of_digits 16 32 (drop 32 text))) (sixteen_bytes (take 32 text))
+    then option_and_then (λ uuid. option_map (by_guid uuid) (number_of_digits 16 32 (drop 32 text)))
+    (sixteen_bytes (take 32 text))
     else None
 
--- an appendix behind a hyphen, where it is not 0
+-- an appendix after a hyphen, where it is not 0
 abbrev pub appendix_text : ℕ → List ℕ
 appendix_text n = if n == 0 then [] else codes "-" ++ digits 16 false n
 
@@ -49,7 +50,8 @@ debug_id_text id = kind_text id.kind
 unfoldable pub breakpad_digits : List ℕ → List ℕ
 breakpad_digits bytes = simple_text upper bytes
 
--- the digits of a GUID or of a time stamp in upper case, then its appendix in lower case, also where it is 0
+-- the digits of a GUID or of a time stamp in upper case, then its appendix in lower case, also
+-- where it is 0
 abbrev breakpad_kind_text : Kind → List ℕ
 breakpad_kind_text (Guid bytes appendix) = breakpad_digits bytes ++ digits 16 false appendix
 breakpad_kind_text (Stamp stamp age) = digits 16 true stamp ++ digits 16 false age

@@ -1,5 +1,5 @@
--- What symbol tools know a module by: its code identifier, its debug identifier (Breakpad's), the names of both
--- files and the version.
+-- What symbol tools know a module by: its code identifier, its debug identifier (Breakpad's), the
+-- names of both files and the version.
 use Rattle.std.specs.Prelude.{ℕ, ◌-◌, ◌==◌, ◌++◌, Bool, List, length, take, replicate, Option, Some, None, if◌then◌else◌}
 use Rattle.std.specs.List.{list_all}
 use Rattle.hex.specs.Hex.{encode_lower}
@@ -24,26 +24,32 @@ pub record Identity : Type 0 where
   pub version : Option (List ℕ)
 
 -- a build id that is empty, or all zeros
-unfoldable pub is_blank : List ℕ → Bool
-is_blank id = list_all (λ b. b == 0) id
+unfoldable pub is_all_zeros : List ℕ → Bool
+is_all_zeros id = list_all (λ b. b == 0) id
 
--- the first 16 bytes of a build id, with zeros behind it where it is shorter
-unfoldable pub padded : List ℕ → List ℕ
-padded id = take 16 id ++ replicate (16 - length id) 0
+-- the first 16 bytes of a build id, with zeros after it where it is shorter
+unfoldable pub pad_to_16 : List ℕ → List ℕ
+pad_to_16 id = take 16 id ++ replicate (16 - length id) 0
 
 -- by the system, the time stamp, the size and the CodeView record
 abbrev pub code_identifier : Option Os → ℕ → ℕ → Option View → Option (List ℕ)
-code_identifier os stamp size (Some (pdb70 s g age name)) = Some (if is_apple os then encode_lower (guid_bytes g) else stamp_form stamp size)
-code_identifier os stamp size (Some (pdb20 s offset signature age name)) = Some (stamp_form stamp size)
-code_identifier os stamp size (Some (elf s id)) = if is_blank id then None else Some (encode_lower id)
+code_identifier os stamp size (Some (pdb70 s g age name)) =
+    Some (if is_apple os then encode_lower (guid_bytes g) else stamp_form stamp size)
+code_identifier os stamp size (Some (pdb20 s offset signature age name)) =
+    Some (stamp_form stamp size)
+code_identifier os stamp size (Some (elf s id)) =
+    if is_all_zeros id then None else Some (encode_lower id)
 code_identifier os stamp size (Some (unknown bytes)) = None
 code_identifier os stamp size None = if is_windows os then Some (stamp_form stamp size) else None
 
 -- by the CodeView record; a build id is a GUID in the byte order of the dump
 abbrev pub debug_identifier : Endian → Option View → Option DebugId
-debug_identifier order (Some (pdb70 s g age name)) = if is_nil_bytes (guid_bytes g) then None else Some (by_guid (guid_bytes g) age)
+debug_identifier order (Some (pdb70 s g age name)) =
+    if is_nil_bytes (guid_bytes g) then None else Some (by_guid (guid_bytes g) age)
 debug_identifier order (Some (pdb20 s offset signature age name)) = Some (by_stamp signature age)
-debug_identifier order (Some (elf s id)) = if is_blank id then None else Some (by_guid (guid_bytes (guid.value order (padded id))) 0)
+debug_identifier order (Some (elf s id)) =
+    if is_all_zeros id then None
+    else Some (by_guid (guid_bytes (guid.value order (pad_to_16 id))) 0)
 debug_identifier order (Some (unknown bytes)) = None
 debug_identifier order None = None
 

@@ -30,7 +30,13 @@ pub record ModuleValue : Type 0 where
 
 -- the module of a `MinidumpModule`, as its fields have it
 abbrev pub module_of : MinidumpModule → ModuleValue
-module_of m = record { raw = m.raw; name = string_bytes m.name; view = option_map view_of m.codeview_info; order = m.endian; os = m.os }
+module_of m = record {
+  raw = m.raw;
+  name = string_bytes m.name;
+  view = option_map view_of m.codeview_info;
+  order = m.endian;
+  os = m.os;
+}
 
 -- an entry of a base address and a size, with zeros everywhere else
 abbrev entry_of : ℕ → ℕ → MINIDUMP_MODULE
@@ -62,7 +68,13 @@ entry_of base size = record {
 
 -- a module that was made, not read: of no known system, without a CodeView record
 abbrev pub new_module : ℕ → ℕ → List ℕ → ModuleValue
-new_module base size name = record { raw = entry_of base size; name = name; view = None; order = Little; os = None }
+new_module base size name = record {
+  raw = entry_of base size;
+  name = name;
+  view = None;
+  order = Little;
+  os = None;
+}
 
 -- what a module is known by
 abbrev pub identity_of : ModuleValue → Identity
@@ -80,22 +92,24 @@ identity_of m = record {
 abbrev pub module_identity : MinidumpModule → Identity
 module_identity m = identity_of (module_of m)
 
--- the code identifier that a module's time stamp and size make, or the bytes of a GUID or a build id
+-- the code identifier that a module's time stamp and size make, or the bytes of a GUID or a build
+-- id
 abbrev pub source_text : MINIDUMP_MODULE → CodeSource → List ℕ
 source_text raw Stamp = stamp_form raw.time_date_stamp raw.size_of_image
 source_text raw (Guid bytes) = encode_lower bytes
 source_text raw (BuildId id) = encode_lower id.now
 
 -- the addresses of a module as a value
-abbrev pub value_range : ModuleValue → Option Range
-value_range m = range_of m.raw.base_of_image m.raw.size_of_image
+abbrev pub range_of_module : ModuleValue → Option Range
+range_of_module m = range_of m.raw.base_of_image m.raw.size_of_image
 
 -- the addresses of a module
-abbrev pub module_range : MinidumpModule → Option Range
-module_range m = range_of m.raw.base_of_image m.raw.size_of_image
+abbrev pub range_of_module_struct : MinidumpModule → Option Range
+range_of_module_struct m = range_of m.raw.base_of_image m.raw.size_of_image
 
 -- the module of an entry: its name, and then its CodeView record
-unfoldable pub read_module : Endian → Option Os → List ℕ → MINIDUMP_MODULE → Result ModuleValue Error
+unfoldable pub read_module : Endian → Option Os → List ℕ → MINIDUMP_MODULE
+    → Result ModuleValue Error
 read_module order os file raw =
     and_then (ok_or (text16 order raw.module_name_rva file) CodeViewReadFailure) (λ name.
     and_then (code_view_at order file raw.cv_record) (λ view.

@@ -9,7 +9,7 @@ use Rattle.minidump_format.specs.declared.format.module.MINIDUMP_MODULE.{MINIDUM
 use Rattle.minidump_format.specs.Module.{module_entry}
 use Rattle.minidump_format.specs.StreamType.{number_of}
 use Rattle.minidump_system.specs.Framing.{count_of, plain_list}
-use Rattle.minidump_system.specs.StreamSpec.{StreamSpec, linear}
+use Rattle.minidump_system.specs.StreamSpec.{StreamSpec}
 use Rattle.minidump_system.specs.declared.os.Os.{Os}
 use Rattle.minidump_system.specs.SystemInfo.{System}
 use Rattle.minidump_system.specs.Reads.{all_ok, and_then}
@@ -26,12 +26,16 @@ abbrev pub module_list_of : MinidumpModuleList → List ModuleValue
 module_list_of l = map module_of (modules_of l)
 
 -- the modules of entries; an entry without addresses is skipped whole
-abbrev pub modules_in : Endian → Option Os → List ℕ → List MINIDUMP_MODULE → Result (List ModuleValue) Error
+abbrev pub modules_in : Endian → Option Os → List ℕ → List MINIDUMP_MODULE
+    → Result (List ModuleValue) Error
 modules_in order os file raws = all_ok (read_module order os file) (filter has_range raws)
 
 -- Microsoft's MINIDUMP_MODULE_LIST: a plain list of entries
-abbrev pub module_list_in : Endian → List ℕ → List ℕ → Option System → Result (List ModuleValue) Error
-module_list_in order file bytes system = and_then (plain_list module_entry order bytes) (modules_in order (option_map (λ s. s.os) system) file)
+abbrev pub module_list_in : Endian → List ℕ → List ℕ → Option System
+    → Result (List ModuleValue) Error
+module_list_in order file bytes system =
+    and_then (plain_list module_entry order bytes)
+    (modules_in order (option_map (λ s. s.os) system) file)
 
 -- the reads that modules take
 abbrev pub modules_read : List ModuleValue → ℕ
@@ -43,7 +47,8 @@ module_list_stream = record {
   stream_type = number_of ModuleListStream;
   value = module_list_of;
   meaning = module_list_in;
-  most = linear;
+  most = λ n. n + 7;
   fewest = λ order bytes modules. 1 + count_of order bytes + modules_read modules;
-  memory = λ order file bytes system. IsOkAnd (plain_list module_entry order bytes) (λ raws. 0 < length raws);
+  memory = λ order file bytes system. IsOkAnd (plain_list module_entry order bytes)
+      (λ raws. 0 < length raws);
 }

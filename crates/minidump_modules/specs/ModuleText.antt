@@ -1,4 +1,5 @@
--- The printed texts of modules, loaded and unloaded, and of their lists: MINIDUMP_MODULE and MINIDUMP_UNLOADED_MODULE.
+-- The printed texts of modules, loaded and unloaded, and of their lists: MINIDUMP_MODULE and
+-- MINIDUMP_UNLOADED_MODULE.
 use Rattle.std.specs.Prelude.{ℕ, List, [], ◌∷◌, ◌++◌, codes, Option, Some, None}
 use Rattle.std.specs.Fmt.{decimal}
 use Rattle.std.specs.List.{concat}
@@ -47,8 +48,8 @@ version_info_text v = concat (
     ∷ [])
 
 -- where the debug records are
-unfoldable pub places_text : MINIDUMP_MODULE → List ℕ
-places_text raw = concat (
+unfoldable pub locations_text : MINIDUMP_MODULE → List ℕ
+locations_text raw = concat (
     codes "  cv_record.data_size             = " ∷ decimal raw.cv_record.data_size ∷ codes "\n"
     ∷ codes "  cv_record.rva                   = " ∷ hex raw.cv_record.rva ∷ codes "\n"
     ∷ codes "  misc_record.data_size           = " ∷ decimal raw.misc_record.data_size ∷ codes "\n"
@@ -60,7 +61,7 @@ unfoldable pub raw_text : MINIDUMP_MODULE → List ℕ
 raw_text raw =
     codes "MINIDUMP_MODULE\n"
     ++ (entry_text raw.base_of_image raw.size_of_image raw.checksum raw.time_date_stamp raw.module_name_rva
-    ++ (version_info_text raw.version_info ++ places_text raw))
+    ++ (version_info_text raw.version_info ++ locations_text raw))
 
 -- the name of the file and the identifier of its code
 unfoldable pub code_text : List ℕ → List ℕ → List ℕ
@@ -97,12 +98,14 @@ elf_text signature id = concat (
 
 -- a record with another signature
 unfoldable pub unknown_text : List ℕ → List ℕ
-unknown_text bytes = concat (codes "  (cv_record)                     = " ∷ encode_lower bytes ∷ codes "\n" ∷ [])
+unknown_text bytes =
+    concat (codes "  (cv_record)                     = " ∷ encode_lower bytes ∷ codes "\n" ∷ [])
 
 -- the CodeView record
 abbrev pub view_text : Option View → List ℕ
 view_text (Some (pdb70 s g age name)) = pdb70_text s (guid_text g) age (lossy_name name)
-view_text (Some (pdb20 s offset stamp age name)) = pdb20_text s offset stamp (date_text_of stamp) age (lossy_name name)
+view_text (Some (pdb20 s offset stamp age name)) =
+    pdb20_text s offset stamp (date_text_of stamp) age (lossy_name name)
 view_text (Some (elf s id)) = elf_text s id
 view_text (Some (unknown bytes)) = unknown_text bytes
 view_text None = codes "  (cv_record)                     = (null)\n"
@@ -128,7 +131,8 @@ module_text m =
     raw_text m.raw
     ++ (code_text m.name (or_empty (identity_of m).code_identifier)
     ++ (view_text m.view
-    ++ debug_text (or_empty (identity_of m).debug_file) (or_nil (identity_of m).debug_identifier) (or_empty (identity_of m).version)))
+    ++ debug_text (or_empty (identity_of m).debug_file) (or_nil (identity_of m).debug_identifier)
+    (or_empty (identity_of m).version)))
 
 -- an unloaded module, with no empty line after it
 unfoldable pub unloaded_text : UnloadedValue → List ℕ
@@ -139,7 +143,9 @@ unloaded_text m =
 
 -- the list of loaded modules, MINIDUMP_MODULE_LIST: how many they are, and each after its index
 abbrev pub module_list_text : List ModuleValue → List ℕ
-module_list_text modules = numbered_list (codes "MinidumpModuleList\n  module_count = ") (codes "module") module_text modules
+module_list_text modules =
+    numbered_list (codes "MinidumpModuleList\n  module_count = ")
+    (codes "module") module_text modules
 
 -- the list of unloaded modules, MINIDUMP_UNLOADED_MODULE_LIST
 abbrev pub unloaded_module_list_text : List UnloadedValue → List ℕ

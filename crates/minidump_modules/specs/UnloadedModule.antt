@@ -24,7 +24,13 @@ unloaded_of m = record { raw = m.raw; name = string_bytes m.name }
 
 -- an entry of a base address and a size, with zeros everywhere else
 abbrev entry_of : ℕ → ℕ → MINIDUMP_UNLOADED_MODULE
-entry_of base size = record { base_of_image = base; size_of_image = size; checksum = 0; time_date_stamp = 0; module_name_rva = 0 }
+entry_of base size = record {
+  base_of_image = base;
+  size_of_image = size;
+  checksum = 0;
+  time_date_stamp = 0;
+  module_name_rva = 0;
+}
 
 -- a module that was made, not read
 abbrev pub new_unloaded : ℕ → ℕ → List ℕ → UnloadedValue
@@ -43,19 +49,25 @@ unloaded_identity m = record {
 }
 
 -- the addresses of an unloaded module as a value
-abbrev pub unloaded_value_range : UnloadedValue → Option Range
-unloaded_value_range m = range_of m.raw.base_of_image m.raw.size_of_image
+abbrev pub range_of_unloaded : UnloadedValue → Option Range
+range_of_unloaded m = range_of m.raw.base_of_image m.raw.size_of_image
 
 -- the addresses of an unloaded module
-abbrev pub unloaded_range : MinidumpUnloadedModule → Option Range
-unloaded_range m = range_of m.raw.base_of_image m.raw.size_of_image
+abbrev pub range_of_unloaded_struct : MinidumpUnloadedModule → Option Range
+range_of_unloaded_struct m = range_of m.raw.base_of_image m.raw.size_of_image
 
 -- the module of an entry: its name is read
-unfoldable pub read_unloaded : Endian → List ℕ → MINIDUMP_UNLOADED_MODULE → Result UnloadedValue Error
+unfoldable pub read_unloaded : Endian → List ℕ → MINIDUMP_UNLOADED_MODULE
+    → Result UnloadedValue Error
 read_unloaded order file raw =
-    and_then (ok_or (text16 order raw.module_name_rva file) DataError) (λ name. Ok (record { raw = raw; name = name }))
+    and_then (ok_or (text16 order raw.module_name_rva file) DataError) (λ name. Ok (record {
+      raw = raw;
+      name = name;
+    }))
 
--- an entry of a list: one without addresses is refused
-unfoldable pub listed_unloaded : Endian → List ℕ → MINIDUMP_UNLOADED_MODULE → Result UnloadedValue Error
-listed_unloaded order file raw =
-    if is_some (range_of raw.base_of_image raw.size_of_image) then read_unloaded order file raw else Err ModuleReadFailure
+-- the module of an entry of a list; one without addresses is an error
+unfoldable pub unloaded_with_range : Endian → List ℕ → MINIDUMP_UNLOADED_MODULE
+    → Result UnloadedValue Error
+unloaded_with_range order file raw =
+    if is_some (range_of raw.base_of_image raw.size_of_image) then read_unloaded order file raw
+    else Err ModuleReadFailure

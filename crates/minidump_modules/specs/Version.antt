@@ -11,8 +11,9 @@ abbrev pub is_set : VS_FIXEDFILEINFO → Bool
 is_set v = (v.signature == 0xfeef04bd) && (v.struct_version == 0x10000)
 
 -- four numbers, joined by dots
-unfoldable pub dotted : ℕ → ℕ → ℕ → ℕ → List ℕ
-dotted a b c d = concat (decimal a ∷ codes "." ∷ decimal b ∷ codes "." ∷ decimal c ∷ codes "." ∷ decimal d ∷ [])
+unfoldable pub join_by_dots : ℕ → ℕ → ℕ → ℕ → List ℕ
+join_by_dots a b c d =
+    concat (decimal a ∷ codes "." ∷ decimal b ∷ codes "." ∷ decimal c ∷ codes "." ∷ decimal d ∷ [])
 
 -- the system is macOS or iOS
 abbrev pub is_apple : Option Os → Bool
@@ -27,14 +28,17 @@ is_windows _ = false
 
 -- the file's version by its four halves
 abbrev halves : VS_FIXEDFILEINFO → List ℕ
-halves v = dotted (v.file_version_hi / 65536) (v.file_version_hi % 65536) (v.file_version_lo / 65536) (v.file_version_lo % 65536)
+halves v =
+    join_by_dots (v.file_version_hi / 65536) (v.file_version_hi % 65536) (v.file_version_lo / 65536)
+    (v.file_version_lo % 65536)
 
 -- the halves on Windows and Apple's systems; elsewhere the numbers of the file and of its product
 abbrev pub version_text : Option Os → VS_FIXEDFILEINFO → List ℕ
 version_text (Some Windows) v = halves v
 version_text (Some MacOs) v = halves v
 version_text (Some Ios) v = halves v
-version_text _ v = dotted v.file_version_hi v.file_version_lo v.product_version_hi v.product_version_lo
+version_text _ v =
+    join_by_dots v.file_version_hi v.file_version_lo v.product_version_hi v.product_version_lo
 
 -- the version in a module's VS_FIXEDFILEINFO, where that is set
 abbrev pub version_of : Option Os → VS_FIXEDFILEINFO → Option (List ℕ)

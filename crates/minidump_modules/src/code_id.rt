@@ -2,7 +2,7 @@ ghost use Rattle.std.specs.Prelude.{◌≡◌, ◌<◌, IfOk, IsOkUnless, OnErr,
 ghost use Rattle.hex.specs.Hex.{encode_lower};
 ghost use Rattle.minidump_modules.specs.CodeId.{kept_digits, stamp_form, text_of};
 
-use crate::text::copied;
+use crate::text::copy_text;
 use minidump_format::Error;
 use std::alloc::{AllocError, Global};
 use std::fmt;
@@ -67,7 +67,7 @@ impl CodeId {
         ensures some { OnErr result (0 < length (text_of self.now)) }
     {
         Ok(CodeId {
-            text: copied(alloc, self.text.as_str())?,
+            text: copy_text(alloc, self.text.as_str())?,
         })
     }
 }

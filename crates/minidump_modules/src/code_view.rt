@@ -58,20 +58,22 @@ impl CodeView {
 #[tactic(auto, unfolding(crate::specs::CodeView::code_view_at))]
 pub(crate) fn code_view_at(
     alloc: Global,
-    place: &MINIDUMP_LOCATION_DESCRIPTOR,
+    location: &MINIDUMP_LOCATION_DESCRIPTOR,
     all: Source<'_>,
     endian: Endian,
     steps: &mut Steps,
 ) -> Result<Option<CodeView>, Error>
-    ensures means { Gives (option_map view_of) ⊤ result (code_view_at endian (bytes_of all.entry) place.now) }
+    ensures means { Gives (option_map view_of) ⊤ result
+        (code_view_at endian (bytes_of all.entry) location.now) }
     ensures within { steps.new ≤ steps.old + 6 }
     ensures grows { steps.old ≤ steps.new }
-    ensures steps { IfOk result (λ view. steps.new ≡ after steps.old (view_reads (option_map view_of view))) }
+    ensures steps { IfOk result (λ view. steps.new
+        ≡ after steps.old (view_reads (option_map view_of view))) }
 {
-    if place.data_size == 0 {
+    if location.data_size == 0 {
         return Ok(None);
     }
-    let bytes = place
+    let bytes = location
         .bytes_in(all, steps)
         .ok_or(Error::CodeViewReadFailure)?;
     Ok(Some(read_code_view(alloc, Source::new(bytes), endian, steps)?))
@@ -88,7 +90,8 @@ fn read_code_view(
     ensures means { Gives view_of ⊤ result (code_view endian (bytes_of bytes.entry)) }
     ensures within { steps.new ≤ steps.old + 5 }
     ensures grows { steps.old ≤ steps.new }
-    ensures steps { IfOk result (λ view. steps.new ≡ after steps.old (record_reads (view_of view))) }
+    ensures steps { IfOk result (λ view. steps.new
+        ≡ after steps.old (record_reads (view_of view))) }
 {
     let cv_signature = number(bytes, 0, endian, steps)?;
     match CvSignature::from_u32(cv_signature) {
@@ -101,14 +104,14 @@ fn read_code_view(
             Ok(CodeView::Pdb20(record))
         }
         Some(CvSignature::Elf) => {
-            let build_id = bytes_behind(alloc, 4, bytes, steps)?;
+            let build_id = bytes_from(alloc, 4, bytes, steps)?;
             Ok(CodeView::Elf(CV_INFO_ELF {
                 cv_signature,
                 build_id,
             }))
         }
         None => {
-            let all = bytes_behind(alloc, 0, bytes, steps)?;
+            let all = bytes_from(alloc, 0, bytes, steps)?;
             Ok(CodeView::Unknown(all))
         }
     }
@@ -124,7 +127,8 @@ fn read_pdb70(
     steps: &mut Steps,
 ) -> Result<CV_INFO_PDB70, Error>
     requires { cv_signature ≡ number_at endian 4 0 (bytes_of bytes) }
-    ensures means { Gives (λ r. view_of (CodeView.Pdb70 r)) ⊤ result (pdb70_in endian (bytes_of bytes.entry)) }
+    ensures means { Gives (λ r. view_of (CodeView.Pdb70 r)) ⊤ result
+        (pdb70_in endian (bytes_of bytes.entry)) }
     ensures within { steps.new ≤ steps.old + 3 }
     ensures grows { steps.old ≤ steps.new }
     ensures steps { IfOk result (λ _. steps.new ≡ after steps.old 3) }
@@ -133,7 +137,7 @@ fn read_pdb70(
         .record(4, endian, steps)
         .ok_or(Error::CodeViewReadFailure)?;
     let age = number(bytes, 20, endian, steps)?;
-    let pdb_file_name = bytes_behind(alloc, 24, bytes, steps)?;
+    let pdb_file_name = bytes_from(alloc, 24, bytes, steps)?;
     Ok(CV_INFO_PDB70 {
         cv_signature,
         signature,
@@ -152,7 +156,8 @@ fn read_pdb20(
     steps: &mut Steps,
 ) -> Result<CV_INFO_PDB20, Error>
     requires { cv_signature ≡ number_at endian 4 0 (bytes_of bytes) }
-    ensures means { Gives (λ r. view_of (CodeView.Pdb20 r)) ⊤ result (pdb20_in endian (bytes_of bytes.entry)) }
+    ensures means { Gives (λ r. view_of (CodeView.Pdb20 r)) ⊤ result
+        (pdb20_in endian (bytes_of bytes.entry)) }
     ensures within { steps.new ≤ steps.old + 4 }
     ensures grows { steps.old ≤ steps.new }
     ensures steps { IfOk result (λ _. steps.new ≡ after steps.old 4) }
@@ -160,7 +165,7 @@ fn read_pdb20(
     let cv_offset = number(bytes, 4, endian, steps)?;
     let signature = number(bytes, 8, endian, steps)?;
     let age = number(bytes, 12, endian, steps)?;
-    let pdb_file_name = bytes_behind(alloc, 16, bytes, steps)?;
+    let pdb_file_name = bytes_from(alloc, 16, bytes, steps)?;
     Ok(CV_INFO_PDB20 {
         cv_signature,
         cv_offset,
@@ -172,30 +177,30 @@ fn read_pdb20(
 
 // Reads the 32-bit number at an offset of a record.
 #[tactic(auto, using(crate::proofs::FieldLemmas::number_inside))]
-fn number(bytes: Source<'_>, place: u64, endian: Endian, steps: &mut Steps) -> Result<u32, Error>
-    ensures value { IfOk result (λ n. n ≡ number_at endian 4 place (bytes_of bytes.entry)) }
-    ensures inside { IsOk result ↔ (place + 4 ≤ length (bytes_of bytes.entry)) }
+fn number(bytes: Source<'_>, offset: u64, endian: Endian, steps: &mut Steps) -> Result<u32, Error>
+    ensures value { IfOk result (λ n. n ≡ number_at endian 4 offset (bytes_of bytes.entry)) }
+    ensures inside { IsOk result ↔ (offset + 4 ≤ length (bytes_of bytes.entry)) }
     ensures error { IfErr result (λ e. e ≡ CodeViewReadFailure) }
     ensures step { steps.new ≡ after steps.old 1 }
 {
     bytes
-        .record(place, endian, steps)
+        .record(offset, endian, steps)
         .ok_or(Error::CodeViewReadFailure)
 }
 
 // Reads the bytes from an offset of a record to its end.
-fn bytes_behind(
+fn bytes_from(
     alloc: Global,
-    place: u64,
+    offset: u64,
     bytes: Source<'_>,
     steps: &mut Steps,
 ) -> Result<Vec<u8>, Error>
-    requires { place ≤ length (bytes_of bytes) }
-    ensures means { Gives (λ v. v.items) ⊤ result (Ok (drop place (bytes_of bytes.entry))) }
+    requires { offset ≤ length (bytes_of bytes) }
+    ensures means { Gives (λ v. v.items) ⊤ result (Ok (drop offset (bytes_of bytes.entry))) }
     ensures step { steps.new ≡ after steps.old 1 }
 {
     let rest = bytes
-        .span(place, bytes.len() as u64 - place, steps)
+        .span(offset, bytes.len() as u64 - offset, steps)
         .ok_or(Error::CodeViewReadFailure)?;
     Ok(Vec::from_slice(alloc, rest)?)
 }

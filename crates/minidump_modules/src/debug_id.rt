@@ -74,7 +74,7 @@ impl Exact for DebugId {
 }
 
 /// Formats a GUID in lower case with hyphens, and a time stamp as eight digits in upper case; an appendix
-/// other than 0 follows behind a hyphen.
+/// other than 0 follows a hyphen.
 impl fmt::Display for DebugId {
     ghost use Rattle.std.specs.Prelude.{Some};
     ghost use Rattle.minidump_modules.specs.DebugId.{debug_id_text};

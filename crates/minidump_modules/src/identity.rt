@@ -26,14 +26,16 @@ pub trait Module {
     /// Returns the identifier of its code, or `None` if it has none. The only error is
     /// [`Error::OutOfMemory`], and only if it has one.
     fn code_identifier(&self, alloc: Global) -> Result<Option<CodeId>, Error>
-        ensures means { IfOk result (λ id. option_map text_of id ≡ (identity self.now).code_identifier) }
+        ensures means { IfOk result (λ id. option_map text_of id
+            ≡ (identity self.now).code_identifier) }
         ensures memory { IsOkUnless result Error.OutOfMemory }
         ensures some { OnErr result (IsSome (identity self.now).code_identifier) };
 
     /// Returns the name of its debug file, or `None` if it has none. The only error is
     /// [`Error::OutOfMemory`], and only if it has one.
     fn debug_file(&self, alloc: Global) -> Result<Option<String>, Error>
-        ensures means { IfOk result (λ name. option_map string_bytes name ≡ (identity self.now).debug_file) }
+        ensures means { IfOk result (λ name. option_map string_bytes name
+            ≡ (identity self.now).debug_file) }
         ensures memory { IsOkUnless result Error.OutOfMemory }
         ensures some { OnErr result (IsSome (identity self.now).debug_file) };
 
@@ -44,7 +46,8 @@ pub trait Module {
     /// Returns the version, or `None` if it has none. The only error is [`Error::OutOfMemory`], and only if it
     /// has one.
     fn version(&self, alloc: Global) -> Result<Option<String>, Error>
-        ensures means { IfOk result (λ text. option_map string_bytes text ≡ (identity self.now).version) }
+        ensures means { IfOk result (λ text. option_map string_bytes text
+            ≡ (identity self.now).version) }
         ensures memory { IsOkUnless result Error.OutOfMemory }
         ensures some { OnErr result (IsSome (identity self.now).version) };
 }

@@ -3,7 +3,7 @@ ghost use Rattle.std.specs.Prelude.{◌≡◌, ◌↔◌, ◌<◌, ◌^◌, ℕ,
 ghost use Rattle.minidump_index.specs.Lookup.{HasRegionLaws};
 ghost use Rattle.minidump_modules.specs.CodeId.{text_of};
 ghost use Rattle.minidump_modules.specs.DebugId.{breakpad_text, by_guid, from_breakpad};
-ghost use Rattle.minidump_modules.specs.Module.{ModuleValue, module_identity, value_range};
+ghost use Rattle.minidump_modules.specs.Module.{ModuleValue, module_identity, range_of_module};
 ghost use Rattle.minidump_modules.specs.UnloadedModule.{UnloadedValue, unloaded_identity};
 ghost use Rattle.minidump_modules.specs.UnloadedOrder.{HasUnloadedLaws};
 
@@ -12,7 +12,7 @@ use crate::{CodeId, MinidumpModule, MinidumpUnloadedModule, Module};
 /// The laws of a list of modules: how lookups, the order by address and the modules fit together.
 #[tactic(auto, using(minidump_index::proofs::RegionLaws::region_laws))]
 pub fn region_laws()
-    ensures { (modules : List ModuleValue) → HasRegionLaws value_range modules }
+    ensures { (modules : List ModuleValue) → HasRegionLaws range_of_module modules }
 {}
 
 /// The laws of a list of unloaded modules: there is one order by start, with exactly the modules that have a
@@ -38,6 +38,7 @@ pub fn modules_are_identified_as_defined()
 /// identifier.
 #[tactic(auto, using(crate::proofs::BreakpadLemmas::reads_back))]
 pub fn breakpad_texts_are_read_back()
-    ensures { (bytes : List ℕ) (appendix : ℕ) → length bytes ≡ 16 → All (λ b. b < 256) bytes → appendix < 2 ^ 32
+    ensures { (bytes : List ℕ) (appendix : ℕ) → length bytes ≡ 16 → All (λ b. b < 256) bytes
+        → appendix < 2 ^ 32
         → from_breakpad (breakpad_text (by_guid bytes appendix)) ≡ Some (by_guid bytes appendix) }
 {}

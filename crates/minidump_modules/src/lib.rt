@@ -18,16 +18,17 @@
 //! - Each list has the modules that the format assigns to its stream, in its order, or returns the error that
 //!   it assigns, in at most n + 7 reads and at least one for the count and for each entry and name, and for the
 //!   span, the signature and each field of a CodeView record: `MinidumpStream::read` of both lists, by
-//!   `module_list_in` and `unloaded_module_list_in`. One module by its entry: `MinidumpModule::read`, by `read_module`;
-//!   `MinidumpUnloadedModule::read`, by `read_unloaded`.
-//! - The identifiers, the debug file and the version are those of the CodeView record, the system, the build
-//!   id and the version record: the functions of `Module`, by `identity_of` and `unloaded_identity`:
+//!   `module_list_in` and `unloaded_module_list_in`. One module by its entry: `MinidumpModule::read`, by
+//!   `read_module`; `MinidumpUnloadedModule::read`, by `read_unloaded`.
+//! - The identifiers, the debug file and the version are those of the CodeView record, the system, the build id
+//!   and the version record: the functions of `Module`, by `identity_of` and `unloaded_identity`:
 //!   `laws::modules_are_identified_as_defined`. Their texts: `CodeId::new`, `from_binary`, `Display`;
-//!   `DebugId::from_breakpad`, `Display`, and `breakpad` with the `Display` of [`BreakpadFormat`], by `breakpad_text`;
-//!   `from_breakpad` reads that of a GUID back: `laws::breakpad_texts_are_read_back`.
-//! - A lookup returns the kept module that contains the address: `module_at_address`, and
-//!   `module_at_address_counted`, which compares it with at most as many modules as the number of kept ones has
-//!   binary digits. The kept ones by address, from both ends: `by_addr`. How these fit together: `laws::region_laws`.
+//!   `DebugId::from_breakpad`, `Display`, and `breakpad` with the `Display` of [`BreakpadFormat`], by
+//!   `breakpad_text`; `from_breakpad` reads that of a GUID back: `laws::breakpad_texts_are_read_back`.
+//! - A lookup returns the kept module, by the rule of [`minidump_index`], that contains the address:
+//!   `module_at_address`, and `module_at_address_counted`, which compares it with at most as many modules as
+//!   the number of kept ones has binary digits. The kept ones by address, from both ends: `by_addr`. How these
+//!   fit together: `laws::region_laws`.
 //! - Of unloaded modules all that contain an address are returned, by start, then by end, then by index:
 //!   `modules_at_address`, by `AreAt`; all that have a range: `by_addr`, by `IsByStart`. There is one such
 //!   order and one such answer, each with exactly these modules, ascending: `laws::unloaded_laws`.

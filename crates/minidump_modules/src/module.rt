@@ -7,11 +7,11 @@ ghost use Rattle.minidump_bytes.specs.Text16.{HoldsText16, text16};
 ghost use Rattle.minidump_format.specs.Answer.{Gives};
 ghost use Rattle.minidump_format.specs.declared.error.Error.TheVariants.{CodeViewReadFailure};
 ghost use Rattle.minidump_format.specs.Guid.{guid, guid_bytes};
-ghost use Rattle.minidump_modules.specs.Identity.{is_blank, padded};
-ghost use Rattle.minidump_modules.specs.Module.{identity_of, new_module, module_of, module_range, module_reads, read_module, source_text};
+ghost use Rattle.minidump_modules.specs.Identity.{is_all_zeros, pad_to_16};
+ghost use Rattle.minidump_modules.specs.Module.{identity_of, new_module, module_of, range_of_module_struct, module_reads, read_module, source_text};
 
 use crate::code_view::{code_view_at, lossy_name};
-use crate::text::copied;
+use crate::text::copy_text;
 use crate::version::version_of;
 use crate::{CodeId, CodeView, DebugId, Module};
 use minidump_bytes::{Endian, Record, Source, Steps};
@@ -56,7 +56,7 @@ impl MinidumpModule {
     {
         Ok(MinidumpModule {
             raw: empty_entry(base, size),
-            name: copied(alloc, name)?,
+            name: copy_text(alloc, name)?,
             codeview_info: None,
             endian: Endian::Little,
             os: None,
@@ -72,7 +72,9 @@ impl MinidumpModule {
         endian: Endian,
         system_info: Option<&MinidumpSystemInfo>,
     ) -> Result<MinidumpModule, Error>
-        ensures { Gives module_of (HoldsText16 endian raw.module_name_rva bytes.now) result (read_module endian (option_map (λ s. s.os) (option_copied system_info.entry)) bytes.now raw) }
+        ensures { Gives module_of (HoldsText16 endian raw.module_name_rva bytes.now) result
+            (read_module endian (option_map (λ s. s.os)
+            (option_copied system_info.entry)) bytes.now raw) }
     {
         let os = system_info.map(|system| system.os);
         MinidumpModule::read_counted(
@@ -95,11 +97,13 @@ impl MinidumpModule {
         os: Option<Os>,
         steps: &mut Steps,
     ) -> Result<MinidumpModule, Error>
-        ensures means { Gives module_of (HoldsText16 endian raw.now.module_name_rva (bytes_of all.entry)) result
+        ensures means { Gives module_of
+            (HoldsText16 endian raw.now.module_name_rva (bytes_of all.entry)) result
             (read_module endian os (bytes_of all.entry) raw.now) }
         ensures within { steps.new ≤ steps.old + 7 }
         ensures grows { steps.old ≤ steps.new }
-        ensures steps { IfOk result (λ m. steps.new ≡ after steps.old (module_reads (module_of m))) }
+        ensures steps { IfOk result (λ m. steps.new
+            ≡ after steps.old (module_reads (module_of m))) }
     {
         let name = name_at(alloc, raw.module_name_rva, all, endian, steps)?;
         let codeview_info = code_view_at(alloc, &raw.cv_record, all, endian, steps)?;
@@ -143,7 +147,8 @@ impl MinidumpModule {
 
     // Returns what the identifier of the code is made of, or `None` if there is none.
     pub(crate) fn code_source(&self) -> Option<CodeSource<'_>>
-        ensures { option_map (source_text self.now.raw) result ≡ (identity_of (module_of self.now)).code_identifier }
+        ensures { option_map (source_text self.now.raw) result
+            ≡ (identity_of (module_of self.now)).code_identifier }
     {
         match &self.codeview_info {
             Some(CodeView::Pdb70(record)) => match self.os {
@@ -154,7 +159,7 @@ impl MinidumpModule {
             },
             Some(CodeView::Pdb20(_)) => Some(CodeSource::Stamp),
             Some(CodeView::Elf(record)) => {
-                if is_blank(&record.build_id) {
+                if is_all_zeros(&record.build_id) {
                     return None;
                 }
                 Some(CodeSource::BuildId(&record.build_id))
@@ -240,7 +245,7 @@ impl Module for MinidumpModule {
                 record.age,
             )),
             Some(CodeView::Elf(record)) => {
-                if is_blank(&record.build_id) {
+                if is_all_zeros(&record.build_id) {
                     return None;
                 }
                 Some(DebugId::from_uuid(build_uuid(&record.build_id, self.endian)))
@@ -255,7 +260,7 @@ impl Module for MinidumpModule {
 }
 
 impl Region for MinidumpModule {
-    ghost range = { module_range };
+    ghost range = { range_of_module_struct };
 
     fn memory_range(&self) -> Option<Range> {
         Range::from_size(self.raw.base_of_image, self.raw.size_of_image as u64)
@@ -312,7 +317,8 @@ fn name_at(
     endian: Endian,
     steps: &mut Steps,
 ) -> Result<String, Error>
-    ensures means { Gives string_bytes (HoldsText16 endian rva (bytes_of all.entry)) result (ok_or (text16 endian rva (bytes_of all.entry)) CodeViewReadFailure) }
+    ensures means { Gives string_bytes (HoldsText16 endian rva (bytes_of all.entry)) result
+        (ok_or (text16 endian rva (bytes_of all.entry)) CodeViewReadFailure) }
     ensures step { steps.new ≡ after steps.old 1 }
 {
     match all.text16(alloc, rva as u64, endian, steps)? {
@@ -322,23 +328,23 @@ fn name_at(
 }
 
 // Tells whether a build id is empty or all zeros.
-#[tactic(auto, unfolding(crate::specs::Identity::is_blank))]
-fn is_blank(build_id: &[u8]) -> bool
-    ensures { result ≡ is_blank build_id.now }
+#[tactic(auto, unfolding(crate::specs::Identity::is_all_zeros))]
+fn is_all_zeros(build_id: &[u8]) -> bool
+    ensures { result ≡ is_all_zeros build_id.now }
 {
     build_id.iter().all(|b| *b == 0)
 }
 
 // Makes the UUID that a build id begins with, in the byte order of the dump.
 fn build_uuid(build_id: &[u8], endian: Endian) -> Uuid
-    ensures { result ≡ guid_bytes (guid.value endian (padded build_id.now)) }
+    ensures { result ≡ guid_bytes (guid.value endian (pad_to_16 build_id.now)) }
 {
-    uuid_of(&GUID::decode(&padded(build_id), endian))
+    uuid_of(&GUID::decode(&pad_to_16(build_id), endian))
 }
 
-// Copies the first 16 bytes, with zeros behind them where there are fewer.
-fn padded(build_id: &[u8]) -> [u8; 16]
-    ensures { result ≡ padded build_id.now }
+// Copies the first 16 bytes, with zeros after them where there are fewer.
+fn pad_to_16(build_id: &[u8]) -> [u8; 16]
+    ensures { result ≡ pad_to_16 build_id.now }
 {
     let mut bytes = [0; 16];
     let len = build_id.len().min(16);

@@ -1,12 +1,10 @@
-ghost use Rattle.std.specs.Prelude.{◌≡◌, ◌+◌, ◌*◌, ◌<◌, ◌≤◌, [], IfOk, IfSome, IsOkUnless, IsTrue, OnErr, ◌↔◌, length, map, slice_get};
+ghost use Rattle.std.specs.Prelude.{◌≡◌, ◌+◌, ◌<◌, ◌≤◌, [], IfOk, IfSome, IsOkUnless, OnErr, length, map, slice_get};
 ghost use Rattle.std.specs.Slice.Iter.{iter_rest};
 ghost use Rattle.std.specs.Option.{option_copied, option_map};
-ghost use Rattle.minidump_bytes.specs.Source.{bytes_of};
 ghost use Rattle.minidump_bytes.specs.Steps.{after};
-ghost use Rattle.minidump_format.specs.Answer.{Gives};
 ghost use Rattle.minidump_index.specs.Lookup.{IsByAddress, IsCountedLookup, IsLookedUp};
-ghost use Rattle.minidump_modules.specs.Module.{has_range, module_of, value_range};
-ghost use Rattle.minidump_modules.specs.ModuleList.{module_list_of, modules_in, modules_of, modules_read};
+ghost use Rattle.minidump_modules.specs.Module.{has_range, module_of, range_of_module};
+ghost use Rattle.minidump_modules.specs.ModuleList.{module_list_of, modules_of};
 
 use crate::MinidumpModule;
 use minidump_bytes::{Endian, Source, Steps};
@@ -14,7 +12,7 @@ use minidump_format::Error;
 use minidump_format::format::MINIDUMP_MODULE;
 use minidump_index::{Range, RegionList, RegionsByAddress};
 use minidump_system::framing::plain_entries;
-use minidump_system::listed::{Listed, read_items};
+use minidump_system::read_items::{ReadEntry, read_items};
 use minidump_system::{MinidumpStream, MinidumpSystemInfo, Os};
 use std::alloc::Global;
 use std::ops::Deref;
@@ -22,12 +20,13 @@ use std::slice;
 
 /// The loaded modules of a process, with lookups by address.
 ///
-/// Of overlapping modules one is kept: they are taken by first address, then by last address, then by
-/// index, and each is kept that shares no address with one kept before. A module without a size, or whose
+/// Of modules that share an address, the one that starts first is kept, by the rule of [`minidump_index`]: they are
+/// taken by first address, then by last address, then by index, and each is kept that shares no address with one
+/// kept before. A module without a size, or whose
 /// end, base address and size, is more than 2^64, has no addresses and is not kept.
 ///
 /// Dereferences to the [`RegionList`] of its modules, which has `len`, `is_empty`, `iter` and `as_slice` for all
-/// modules in the order of the list, those that are not kept among them. An entry of the stream without addresses is
+/// modules in the order of the list, including those that are not kept. An entry of the stream without addresses is
 /// no module of the list: it is skipped as the stream is read.
 #[derive(Drop)]
 pub struct MinidumpModuleList {
@@ -66,31 +65,34 @@ impl MinidumpModuleList {
         self.modules.as_slice().first()
     }
 
-    /// Returns the kept module that contains `address`, or `None` if no kept module does. The module begins at
-    /// or below the address and ends behind it.
+    /// Returns the [kept](MinidumpModuleList) module that contains `address`, or `None` if no kept module does.
     pub fn module_at_address(&self, address: u64) -> Option<&MinidumpModule>
-        ensures found { IsLookedUp value_range (module_list_of self.now) address (option_map module_of (option_copied result)) }
+        ensures found { IsLookedUp range_of_module (module_list_of self.now) address
+            (option_map module_of (option_copied result)) }
         ensures inside { IfSome result (λ m. (m.now.raw.base_of_image ≤ address)
             × (address < m.now.raw.base_of_image + m.now.raw.size_of_image)) }
     {
         self.module_at_address_counted(address, &mut Steps::new())
     }
 
-    /// Looks up as `module_at_address` does, and counts its comparisons with modules: at most as many as the
-    /// number of kept modules has binary digits, and at least one if a module is kept.
+    /// Looks up as `module_at_address` does, and adds to `steps` one for each comparison with a
+    /// module: between 1 and ⌊log₂ k⌋ + 1 for k kept modules, and none if k is 0.
     pub fn module_at_address_counted(
         &self,
         address: u64,
         steps: &mut Steps,
     ) -> Option<&MinidumpModule>
-        ensures { IsCountedLookup value_range (module_list_of self.now) address steps.old steps.new (option_map module_of (option_copied result)) }
+        ensures { IsCountedLookup range_of_module
+            (module_list_of self.now) address steps.old steps.new
+            (option_map module_of (option_copied result)) }
     {
         self.modules.at_address(address, steps)
     }
 
-    /// Returns an iterator over the kept modules, ascending by address, from both ends.
+    /// Returns a double-ended iterator over the [kept](MinidumpModuleList) modules, ascending by
+    /// address.
     pub fn by_addr(&self) -> RegionsByAddress<'_, MinidumpModule>
-        ensures { IsByAddress value_range (module_list_of self.now) (map module_of result) }
+        ensures { IsByAddress range_of_module (module_list_of self.now) (map module_of result) }
     {
         self.modules.by_addr()
     }
@@ -101,7 +103,7 @@ impl MinidumpModuleList {
         ensures memory { IsOkUnless result Error.OutOfMemory }
         ensures some { OnErr result (0 < length (modules_of self.now)) }
     {
-        let modules = copied_modules(alloc, self.modules.as_slice())?;
+        let modules = copy_modules(alloc, self.modules.as_slice())?;
         MinidumpModuleList::from_modules(alloc, modules)
     }
 }
@@ -171,13 +173,13 @@ impl<'a> MinidumpStream<'a> for MinidumpModuleList {
     }
 }
 
-// An entry becomes a module; one without addresses is skipped.
+// Reads the module of each entry. An entry without addresses is skipped.
 #[derive(Clone, Copy)]
 struct Modules {
     os: Option<Os>,
 }
 
-impl<'a> Listed<'a, MINIDUMP_MODULE> for Modules {
+impl<'a> ReadEntry<'a, MINIDUMP_MODULE> for Modules {
     ghost use Rattle.minidump_system.specs.Reads.{read_if};
     ghost use Rattle.minidump_modules.specs.Module.{ModuleValue, has_range, module_of, module_reads, read_module};
 
@@ -187,7 +189,7 @@ impl<'a> Listed<'a, MINIDUMP_MODULE> for Modules {
 
     ghost value = { module_of };
 
-    ghost listed = { λ modules order file raw. read_if has_range (read_module order modules.os file) raw };
+    ghost entry_value = { λ modules order file raw. read_if has_range (read_module order modules.os file) raw };
 
     ghost most = { λ _. 7 };
 
@@ -218,7 +220,7 @@ fn has_range(raw: &MINIDUMP_MODULE) -> bool
 }
 
 // Copies modules.
-fn copied_modules(alloc: Global, modules: &[MinidumpModule]) -> Result<Vec<MinidumpModule>, Error>
+fn copy_modules(alloc: Global, modules: &[MinidumpModule]) -> Result<Vec<MinidumpModule>, Error>
     ensures same { IfOk result (λ copies. map module_of copies.items ≡ map module_of modules.now) }
     ensures memory { IsOkUnless result Error.OutOfMemory }
     ensures some { OnErr result (0 < length modules.now) }

@@ -6,7 +6,7 @@ ghost use Rattle.minidump_modules.specs.CodeView.{view_of};
 ghost use Rattle.minidump_modules.specs.Module.{module_identity, module_of};
 ghost use Rattle.minidump_modules.specs.ModuleList.{module_list_of};
 ghost use Rattle.minidump_modules.specs.ModuleText.{code_text, debug_text, entry_text, module_list_text};
-ghost use Rattle.minidump_modules.specs.ModuleText.{module_text, or_empty, or_nil, pdb20_text, pdb70_text, places_text, raw_text, unknown_text};
+ghost use Rattle.minidump_modules.specs.ModuleText.{module_text, or_empty, or_nil, pdb20_text, pdb70_text, locations_text, raw_text, unknown_text};
 ghost use Rattle.minidump_modules.specs.ModuleText.{unloaded_module_list_text, unloaded_text, version_info_text, view_text};
 ghost use Rattle.minidump_modules.specs.UnloadedModule.{unloaded_of};
 ghost use Rattle.minidump_modules.specs.UnloadedModuleList.{unloaded_module_list_of};
@@ -63,7 +63,8 @@ impl MinidumpModuleList {
 impl MinidumpUnloadedModuleList {
     /// Prints the number of modules, and each module with its index.
     pub fn print<W: Write>(&self, alloc: Global, f: &mut Told<W>) -> Result<(), Error>
-        ensures { Prints W.contents f.old f.new (unloaded_module_list_text (unloaded_module_list_of self.now)) result }
+        ensures { Prints W.contents f.old f.new
+            (unloaded_module_list_text (unloaded_module_list_of self.now)) result }
     {
         print_numbered(
             "MinidumpUnloadedModuleList\n  module_count = ",
@@ -112,7 +113,7 @@ fn push_raw(out: &mut Vec<u8>, raw: &MINIDUMP_MODULE) -> Result<(), AllocError>
         raw.module_name_rva,
     )?;
     push_version_info(out, &raw.version_info)?;
-    push_places(out, raw)
+    push_locations(out, raw)
 }
 
 fn push_unloaded_entry(out: &mut Vec<u8>, raw: &MINIDUMP_UNLOADED_MODULE) -> Result<(), AllocError>
@@ -140,7 +141,8 @@ fn push_entry(
     stamp: u32,
     name_rva: u32,
 ) -> Result<(), AllocError>
-    ensures { OnOk result (out.new.items ≡ out.old.items ++ entry_text base size checksum stamp name_rva) }
+    ensures { OnOk result (out.new.items ≡ out.old.items
+        ++ entry_text base size checksum stamp name_rva) }
 {
     let date = date_of(*out.allocator(), stamp)?;
     push_pieces(out, &[
@@ -176,9 +178,9 @@ fn push_version_info(out: &mut Vec<u8>, v: &VS_FIXEDFILEINFO) -> Result<(), Allo
 }
 
 #[rattlefmt::skip]
-#[tactic(auto, unfolding(crate::specs::ModuleText::places_text))]
-fn push_places(out: &mut Vec<u8>, raw: &MINIDUMP_MODULE) -> Result<(), AllocError>
-    ensures { OnOk result (out.new.items ≡ out.old.items ++ places_text raw.now) }
+#[tactic(auto, unfolding(crate::specs::ModuleText::locations_text))]
+fn push_locations(out: &mut Vec<u8>, raw: &MINIDUMP_MODULE) -> Result<(), AllocError>
+    ensures { OnOk result (out.new.items ≡ out.old.items ++ locations_text raw.now) }
 {
     push_pieces(out, &[
         Piece::Words("  cv_record.data_size             = "), Piece::Decimal(raw.cv_record.data_size as u64), Piece::Words("\n"),
@@ -190,7 +192,8 @@ fn push_places(out: &mut Vec<u8>, raw: &MINIDUMP_MODULE) -> Result<(), AllocErro
 
 // Appends the name of the file and the identifier of the code of a module, loaded or unloaded.
 fn push_code<M: Module>(out: &mut Vec<u8>, m: &M) -> Result<(), AllocError>
-    ensures { OnOk result (out.new.items ≡ out.old.items ++ code_text (M.identity m.now).code_file (or_empty (M.identity m.now).code_identifier)) }
+    ensures { OnOk result (out.new.items ≡ out.old.items
+        ++ code_text (M.identity m.now).code_file (or_empty (M.identity m.now).code_identifier)) }
 {
     match m.code_identifier(*out.allocator()) {
         Ok(Some(id)) => push_code_lines(out, m.code_file(), id.as_str()),
@@ -212,7 +215,8 @@ fn push_code_lines<'t>(out: &mut Vec<u8>, file: &'t str, identifier: &'t str) ->
 
 // Appends the CodeView record.
 fn push_view(out: &mut Vec<u8>, view: &Option<CodeView>) -> Result<(), AllocError>
-    ensures { OnOk result (out.new.items ≡ out.old.items ++ view_text (option_map view_of view.now)) }
+    ensures { OnOk result (out.new.items ≡ out.old.items
+        ++ view_text (option_map view_of view.now)) }
 {
     match view {
         Some(CodeView::Pdb70(record)) => push_pdb70(out, record),
@@ -224,7 +228,8 @@ fn push_view(out: &mut Vec<u8>, view: &Option<CodeView>) -> Result<(), AllocErro
 }
 
 fn push_pdb70(out: &mut Vec<u8>, cv: &CV_INFO_PDB70) -> Result<(), AllocError>
-    ensures { OnOk result (out.new.items ≡ out.old.items ++ view_text (Some (view_of (CodeView.Pdb70 cv.now)))) }
+    ensures { OnOk result (out.new.items ≡ out.old.items
+        ++ view_text (Some (view_of (CodeView.Pdb70 cv.now)))) }
 {
     let mut buffer = [0; 45];
     let guid = guid_of(uuid_of(&cv.signature), &mut buffer);
@@ -235,7 +240,8 @@ fn push_pdb70(out: &mut Vec<u8>, cv: &CV_INFO_PDB70) -> Result<(), AllocError>
 #[rattlefmt::skip]
 #[tactic(auto, unfolding(crate::specs::ModuleText::pdb70_text))]
 fn push_pdb70_lines<'t>(out: &mut Vec<u8>, cv: &CV_INFO_PDB70, guid: &'t str, name: &'t str) -> Result<(), AllocError>
-    ensures { OnOk result (out.new.items ≡ out.old.items ++ pdb70_text cv.now.cv_signature guid.now cv.now.age name.now) }
+    ensures { OnOk result (out.new.items ≡ out.old.items
+        ++ pdb70_text cv.now.cv_signature guid.now cv.now.age name.now) }
 {
     push_pieces(out, &[
         Piece::Words("  (cv_record).cv_signature        = "), Piece::Hex(cv.cv_signature as u64), Piece::Words("\n"),
@@ -246,7 +252,8 @@ fn push_pdb70_lines<'t>(out: &mut Vec<u8>, cv: &CV_INFO_PDB70, guid: &'t str, na
 }
 
 fn push_pdb20(out: &mut Vec<u8>, cv: &CV_INFO_PDB20) -> Result<(), AllocError>
-    ensures { OnOk result (out.new.items ≡ out.old.items ++ view_text (Some (view_of (CodeView.Pdb20 cv.now)))) }
+    ensures { OnOk result (out.new.items ≡ out.old.items
+        ++ view_text (Some (view_of (CodeView.Pdb20 cv.now)))) }
 {
     let date = date_of(*out.allocator(), cv.signature)?;
     let name = lossy_name(*out.allocator(), &cv.pdb_file_name)?;
@@ -272,7 +279,8 @@ fn push_pdb20_lines<'t>(out: &mut Vec<u8>, cv: &CV_INFO_PDB20, date: &'t str, na
 #[rattlefmt::skip]
 #[tactic(auto, unfolding(crate::specs::ModuleText::elf_text))]
 fn push_elf(out: &mut Vec<u8>, cv: &CV_INFO_ELF) -> Result<(), AllocError>
-    ensures { OnOk result (out.new.items ≡ out.old.items ++ view_text (Some (view_of (CodeView.Elf cv.now)))) }
+    ensures { OnOk result (out.new.items ≡ out.old.items
+        ++ view_text (Some (view_of (CodeView.Elf cv.now)))) }
 {
     let id = hex::encode(*out.allocator(), &cv.build_id)?;
     push_pieces(out, &[
@@ -294,8 +302,10 @@ fn push_unknown(out: &mut Vec<u8>, bytes: &[u8]) -> Result<(), AllocError>
 
 // Appends what symbol tools ask of a loaded module, after the misc record, which isn't read.
 fn push_debug(out: &mut Vec<u8>, m: &MinidumpModule) -> Result<(), AllocError>
-    ensures { OnOk result (out.new.items ≡ out.old.items ++ debug_text (or_empty (module_identity m.now).debug_file)
-        (or_nil (module_identity m.now).debug_identifier) (or_empty (module_identity m.now).version)) }
+    ensures { OnOk result (out.new.items ≡ out.old.items
+        ++ debug_text (or_empty (module_identity m.now).debug_file)
+        (or_nil (module_identity m.now).debug_identifier)
+        (or_empty (module_identity m.now).version)) }
 {
     let alloc = *out.allocator();
     let file = debug_file_of(alloc, m)?;
@@ -307,7 +317,8 @@ fn push_debug(out: &mut Vec<u8>, m: &MinidumpModule) -> Result<(), AllocError>
 #[rattlefmt::skip]
 #[tactic(auto, unfolding(crate::specs::ModuleText::debug_text))]
 fn push_debug_lines<'t>(out: &mut Vec<u8>, file: &'t str, identifier: &'t str, version: &'t str) -> Result<(), AllocError>
-    ensures { OnOk result (out.new.items ≡ out.old.items ++ debug_text file.now identifier.now version.now) }
+    ensures { OnOk result (out.new.items ≡ out.old.items
+        ++ debug_text file.now identifier.now version.now) }
 {
     push_pieces(out, &[
         Piece::Words("  (misc_record)                   = (null)\n"),

@@ -4,7 +4,7 @@ ghost use Rattle.std.specs.Prelude.{◌≡◌, ◌<◌, IfOk, OnErr, length, str
 use std::alloc::{AllocError, Global};
 
 // Copies a text. An empty one takes no memory.
-pub(crate) fn copied(alloc: Global, text: &str) -> Result<String, AllocError>
+pub(crate) fn copy_text(alloc: Global, text: &str) -> Result<String, AllocError>
     ensures same { IfOk result (λ copy. string_bytes copy ≡ text.now) }
     ensures some { OnErr result (0 < length text.now) }
 {

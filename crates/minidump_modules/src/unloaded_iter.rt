@@ -4,20 +4,20 @@ ghost use Rattle.std.specs.Iterator.SizeHint.{IsWithinCount};
 ghost use Rattle.minidump_modules.specs.UnloadedOrder.{IsInside, has, modules_of_order};
 
 use crate::MinidumpUnloadedModule;
-use crate::unloaded_order::{Placed, first_at};
+use crate::unloaded_order::{IndexedRange, first_at};
 use std::marker::Model;
 
 /// An iterator over the unloaded modules that have a range, by start, then by end, then by index.
 #[derive(Drop)]
 pub struct UnloadedModulesByAddress<'a> {
-    order: &'a [Placed],
+    order: &'a [IndexedRange],
     modules: &'a [MinidumpUnloadedModule],
 }
 
 impl<'a> UnloadedModulesByAddress<'a> {
     // Makes the iterator over the modules at these indices.
     pub(crate) fn new(
-        order: &'a [Placed],
+        order: &'a [IndexedRange],
         modules: &'a [MinidumpUnloadedModule],
     ) -> UnloadedModulesByAddress<'a>
         requires { IsInside modules.now order.now }
@@ -50,7 +50,7 @@ impl<'a> Iterator for UnloadedModulesByAddress<'a> {
         let (first, rest) = self.order.split_first()?;
         self.order = rest;
         let modules = self.modules;
-        Some(&modules[first.place])
+        Some(&modules[first.index])
     }
 
     fn size_hint(&self) -> (usize, Option<usize>)
@@ -65,7 +65,7 @@ impl<'a> Iterator for UnloadedModulesByAddress<'a> {
 /// An iterator over the unloaded modules that contain an address, by start, then by end, then by index.
 #[derive(Drop)]
 pub struct ModulesAtAddress<'a> {
-    order: &'a [Placed],
+    order: &'a [IndexedRange],
     modules: &'a [MinidumpUnloadedModule],
     address: u64,
 }
@@ -73,7 +73,7 @@ pub struct ModulesAtAddress<'a> {
 impl<'a> ModulesAtAddress<'a> {
     // Makes the iterator over those of the modules at these indices that contain the address.
     pub(crate) fn new(
-        order: &'a [Placed],
+        order: &'a [IndexedRange],
         modules: &'a [MinidumpUnloadedModule],
         address: u64,
     ) -> ModulesAtAddress<'a>
@@ -115,6 +115,6 @@ impl<'a> Iterator for ModulesAtAddress<'a> {
         };
         self.order = &order[at + 1..];
         let modules = self.modules;
-        Some(&modules[order[at].place])
+        Some(&modules[order[at].index])
     }
 }

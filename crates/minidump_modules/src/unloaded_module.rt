@@ -3,9 +3,9 @@ ghost use Rattle.minidump_bytes.specs.Source.{bytes_of};
 ghost use Rattle.minidump_bytes.specs.Steps.{after};
 ghost use Rattle.minidump_bytes.specs.Text16.{TakesMemory16};
 ghost use Rattle.minidump_format.specs.Answer.{Gives};
-ghost use Rattle.minidump_modules.specs.UnloadedModule.{new_unloaded, read_unloaded, unloaded_of, unloaded_range};
+ghost use Rattle.minidump_modules.specs.UnloadedModule.{new_unloaded, read_unloaded, unloaded_of, range_of_unloaded_struct};
 
-use crate::text::copied;
+use crate::text::copy_text;
 use crate::{CodeId, DebugId, Module};
 use minidump_bytes::{Endian, Source, Steps};
 use minidump_format::Error;
@@ -43,7 +43,7 @@ impl MinidumpUnloadedModule {
                 time_date_stamp: 0,
                 module_name_rva: 0,
             },
-            name: copied(alloc, name)?,
+            name: copy_text(alloc, name)?,
         })
     }
 
@@ -55,7 +55,8 @@ impl MinidumpUnloadedModule {
         bytes: &[u8],
         endian: Endian,
     ) -> Result<MinidumpUnloadedModule, Error>
-        ensures { Gives unloaded_of (TakesMemory16 endian raw.module_name_rva bytes.now) result (read_unloaded endian bytes.now raw) }
+        ensures { Gives unloaded_of (TakesMemory16 endian raw.module_name_rva bytes.now) result
+            (read_unloaded endian bytes.now raw) }
     {
         MinidumpUnloadedModule::read_counted(
             alloc,
@@ -75,7 +76,8 @@ impl MinidumpUnloadedModule {
         endian: Endian,
         steps: &mut Steps,
     ) -> Result<MinidumpUnloadedModule, Error>
-        ensures means { Gives unloaded_of (TakesMemory16 endian raw.now.module_name_rva (bytes_of all.entry)) result
+        ensures means { Gives unloaded_of
+            (TakesMemory16 endian raw.now.module_name_rva (bytes_of all.entry)) result
             (read_unloaded endian (bytes_of all.entry) raw.now) }
         ensures step { steps.new ≡ after steps.old 1 }
     {
@@ -93,7 +95,7 @@ impl MinidumpUnloadedModule {
     {
         Ok(MinidumpUnloadedModule {
             raw: self.raw,
-            name: copied(alloc, self.name.as_str())?,
+            name: copy_text(alloc, self.name.as_str())?,
         })
     }
 }
@@ -134,7 +136,7 @@ impl Module for MinidumpUnloadedModule {
 }
 
 impl Region for MinidumpUnloadedModule {
-    ghost range = { unloaded_range };
+    ghost range = { range_of_unloaded_struct };
 
     fn memory_range(&self) -> Option<Range> {
         Range::from_size(self.raw.base_of_image, self.raw.size_of_image as u64)

@@ -1,22 +1,17 @@
-ghost use Rattle.std.specs.Prelude.{◌≡◌, ◌+◌, ◌*◌, ◌<◌, ◌≤◌, [], ◌↔◌, IfOk, IsOkUnless, IsTrue, OnErr, length, map};
+ghost use Rattle.std.specs.Prelude.{◌≡◌, ◌<◌, [], ◌↔◌, IfOk, IsOkUnless, IsTrue, OnErr, length, map};
 ghost use Rattle.std.specs.Slice.Iter.{iter_rest};
-ghost use Rattle.minidump_bytes.specs.Source.{bytes_of};
-ghost use Rattle.minidump_bytes.specs.Steps.{after};
-ghost use Rattle.minidump_bytes.specs.Text16.{TakesMemory16};
-ghost use Rattle.minidump_format.specs.Answer.{Gives};
-ghost use Rattle.minidump_system.specs.Reads.{all_ok};
-ghost use Rattle.minidump_modules.specs.UnloadedModule.{listed_unloaded, unloaded_of};
+ghost use Rattle.minidump_modules.specs.UnloadedModule.{unloaded_of};
 ghost use Rattle.minidump_modules.specs.UnloadedModuleList.{unloaded_module_list_of};
 ghost use Rattle.minidump_modules.specs.UnloadedOrder.{AreAt, IsByStart};
 
-use crate::unloaded_order::{Placed, order_of};
+use crate::unloaded_order::{IndexedRange, order_of};
 use crate::{MinidumpUnloadedModule, ModulesAtAddress, UnloadedModulesByAddress};
 use minidump_bytes::{Endian, Source, Steps};
 use minidump_format::Error;
 use minidump_format::format::MINIDUMP_UNLOADED_MODULE;
 use minidump_index::Range;
 use minidump_system::framing::extended_entries;
-use minidump_system::listed::{Listed, read_items};
+use minidump_system::read_items::{ReadEntry, read_items};
 use minidump_system::{MinidumpStream, MinidumpSystemInfo};
 use std::alloc::Global;
 use std::marker::Model;
@@ -27,20 +22,20 @@ use std::slice;
 pub struct MinidumpUnloadedModuleList {
     modules: Vec<MinidumpUnloadedModule>,
     // those that have a range, by start, then by end, then by index
-    order: Vec<Placed>,
+    order: Vec<IndexedRange>,
 }
 
 impl Model for MinidumpUnloadedModuleList {
     ghost use Rattle.std.specs.Prelude.{List, map};
     ghost use Rattle.minidump_modules.specs.declared.unloaded_module.MinidumpUnloadedModule.{MinidumpUnloadedModule};
-    ghost use Rattle.minidump_modules.specs.UnloadedModule.{unloaded_range};
+    ghost use Rattle.minidump_modules.specs.UnloadedModule.{range_of_unloaded_struct};
     ghost use Rattle.minidump_modules.specs.UnloadedOrder.{IsInside, IsOrderOf};
 
     ghost Value = { List MinidumpUnloadedModule };
 
     ghost view = { λ s. s.modules.items };
 
-    ghost invariant = { λ s. IsOrderOf (map unloaded_range s.modules.items) s.order.items × IsInside s.modules.items s.order.items };
+    ghost invariant = { λ s. IsOrderOf (map range_of_unloaded_struct s.modules.items) s.order.items × IsInside s.modules.items s.order.items };
 }
 
 impl MinidumpUnloadedModuleList {
@@ -108,11 +103,12 @@ impl MinidumpUnloadedModuleList {
 
     /// Copies the list. The only error is [`Error::OutOfMemory`], and only if there is a module.
     pub fn try_clone(&self, alloc: Global) -> Result<MinidumpUnloadedModuleList, Error>
-        ensures same { IfOk result (λ list. unloaded_module_list_of list ≡ unloaded_module_list_of self.now) }
+        ensures same { IfOk result (λ list. unloaded_module_list_of list
+            ≡ unloaded_module_list_of self.now) }
         ensures memory { IsOkUnless result Error.OutOfMemory }
         ensures some { OnErr result (0 < length self.now) }
     {
-        let modules = copied_modules(alloc, &self.modules)?;
+        let modules = copy_modules(alloc, &self.modules)?;
         MinidumpUnloadedModuleList::from_modules(alloc, modules)
     }
 }
@@ -132,8 +128,8 @@ impl<'l> IntoIterator for &'l MinidumpUnloadedModuleList {
     }
 }
 
-/// Microsoft's `MINIDUMP_UNLOADED_MODULE_LIST`: an extended list of entries. One without addresses refuses
-/// the list with `ModuleReadFailure`, one with a malformed name with `DataError`.
+/// Microsoft's `MINIDUMP_UNLOADED_MODULE_LIST`: an extended list of entries. Returns `ModuleReadFailure` if an
+/// entry has no addresses, `DataError` if a name is malformed.
 impl<'a> MinidumpStream<'a> for MinidumpUnloadedModuleList {
     ghost use Rattle.std.specs.Prelude.{List};
     ghost use Rattle.minidump_modules.specs.UnloadedModule.{UnloadedValue};
@@ -164,13 +160,13 @@ impl<'a> MinidumpStream<'a> for MinidumpUnloadedModuleList {
     }
 }
 
-// An entry becomes a module.
+// Reads the module of each entry.
 #[derive(Clone, Copy)]
 struct UnloadedModules;
 
-impl<'a> Listed<'a, MINIDUMP_UNLOADED_MODULE> for UnloadedModules {
+impl<'a> ReadEntry<'a, MINIDUMP_UNLOADED_MODULE> for UnloadedModules {
     ghost use Rattle.minidump_system.specs.Reads.{read_each};
-    ghost use Rattle.minidump_modules.specs.UnloadedModule.{UnloadedValue, listed_unloaded, unloaded_of};
+    ghost use Rattle.minidump_modules.specs.UnloadedModule.{UnloadedValue, unloaded_with_range, unloaded_of};
 
     type Item = MinidumpUnloadedModule;
 
@@ -178,7 +174,7 @@ impl<'a> Listed<'a, MINIDUMP_UNLOADED_MODULE> for UnloadedModules {
 
     ghost value = { unloaded_of };
 
-    ghost listed = { λ _ order file raw. read_each (listed_unloaded order file) raw };
+    ghost entry_value = { λ _ order file raw. read_each (unloaded_with_range order file) raw };
 
     ghost most = { λ _. 1 };
 
@@ -186,6 +182,7 @@ impl<'a> Listed<'a, MINIDUMP_UNLOADED_MODULE> for UnloadedModules {
 
     ghost fewest_of = { λ _. 0 };
 
+    #[tactic(auto, unfolding(crate::specs::UnloadedModule::unloaded_with_range))]
     fn read_entry(
         &self,
         alloc: Global,
@@ -194,37 +191,21 @@ impl<'a> Listed<'a, MINIDUMP_UNLOADED_MODULE> for UnloadedModules {
         endian: Endian,
         steps: &mut Steps,
     ) -> Result<Option<MinidumpUnloadedModule>, Error> {
-        Ok(Some(listed_module(alloc, &entry, all, endian, steps)?))
+        if Range::from_size(entry.base_of_image, entry.size_of_image as u64).is_none() {
+            return Err(Error::ModuleReadFailure);
+        }
+        let module = MinidumpUnloadedModule::read_counted(alloc, &entry, all, endian, steps)?;
+        Ok(Some(module))
     }
-}
-
-// Reads the module of an entry, which must have addresses.
-#[tactic(auto, unfolding(crate::specs::UnloadedModule::listed_unloaded))]
-fn listed_module(
-    alloc: Global,
-    raw: &MINIDUMP_UNLOADED_MODULE,
-    all: Source<'_>,
-    endian: Endian,
-    steps: &mut Steps,
-) -> Result<MinidumpUnloadedModule, Error>
-    ensures means { Gives unloaded_of (TakesMemory16 endian raw.now.module_name_rva (bytes_of all.entry)) result
-        (listed_unloaded endian (bytes_of all.entry) raw.now) }
-    ensures within { steps.new ≤ steps.old + 1 }
-    ensures grows { steps.old ≤ steps.new }
-    ensures step { IfOk result (λ _. steps.new ≡ after steps.old 1) }
-{
-    if Range::from_size(raw.base_of_image, raw.size_of_image as u64).is_none() {
-        return Err(Error::ModuleReadFailure);
-    }
-    MinidumpUnloadedModule::read_counted(alloc, raw, all, endian, steps)
 }
 
 // Copies modules.
-fn copied_modules(
+fn copy_modules(
     alloc: Global,
     modules: &[MinidumpUnloadedModule],
 ) -> Result<Vec<MinidumpUnloadedModule>, Error>
-    ensures same { IfOk result (λ copies. map unloaded_of copies.items ≡ map unloaded_of modules.now) }
+    ensures same { IfOk result (λ copies. map unloaded_of copies.items
+        ≡ map unloaded_of modules.now) }
     ensures memory { IsOkUnless result Error.OutOfMemory }
     ensures some { OnErr result (0 < length modules.now) }
 {

@@ -1,8 +1,8 @@
 ghost use Rattle.std.specs.Prelude.{◌≡◌, IfOk, IsSome, OnErr, string_bytes};
 ghost use Rattle.std.specs.Option.{option_map};
-ghost use Rattle.minidump_modules.specs.Version.{dotted, version_of};
+ghost use Rattle.minidump_modules.specs.Version.{join_by_dots, version_of};
 
-use minidump_bytes::{Piece, made};
+use minidump_bytes::{Piece, format_pieces};
 use minidump_format::format::{VS_FFI_SIGNATURE, VS_FFI_STRUCVERSION, VS_FIXEDFILEINFO};
 use minidump_system::Os;
 use std::alloc::{AllocError, Global};
@@ -23,9 +23,9 @@ pub(crate) fn version_of(
     let lo = version.file_version_lo;
     let text = match os {
         Some(Os::Windows | Os::MacOs | Os::Ios) => {
-            dotted(alloc, hi / 65536, hi % 65536, lo / 65536, lo % 65536)?
+            join_by_dots(alloc, hi / 65536, hi % 65536, lo / 65536, lo % 65536)?
         }
-        _ => dotted(
+        _ => join_by_dots(
             alloc,
             hi,
             lo,
@@ -37,11 +37,11 @@ pub(crate) fn version_of(
 }
 
 // Joins four numbers by dots.
-#[tactic(auto, unfolding(crate::specs::Version::dotted))]
-fn dotted(alloc: Global, a: u32, b: u32, c: u32, d: u32) -> Result<String, AllocError>
-    ensures { IfOk result (λ t. string_bytes t ≡ dotted a b c d) }
+#[tactic(auto, unfolding(crate::specs::Version::join_by_dots))]
+fn join_by_dots(alloc: Global, a: u32, b: u32, c: u32, d: u32) -> Result<String, AllocError>
+    ensures { IfOk result (λ t. string_bytes t ≡ join_by_dots a b c d) }
 {
-    made(
+    format_pieces(
         alloc,
         &[
             Piece::Decimal(a as u64),

@@ -13,25 +13,25 @@ use mathlib.Core.Bool.{false≢true}
 use Rattle.minidump_reason.specs.contracts.family.CodeFamily.{the_type}
 use Rattle.minidump_reason.specs.declared.family.CodeFamily.{CodeFamily}
 use Rattle.minidump_reason.specs.Names.{is_family}
-use Rattle.minidump_names.specs.NameLine.{families, family_name, named_in}
+use Rattle.minidump_names.specs.NameLine.{families, family_name, find_family}
 
 -- ---- the family of a name, from an index on
 
-pub named_here : (fs : List CodeFamily) (i : ℕ) (d : CodeFamily) (text : List ℕ) → i < length fs → bytes_eq text (family_name (get_or fs i d)) ≡ true
-    → named_in (drop i fs) text ≡ Some (get_or fs i d)
-named_here fs i d text inside same =
-    ap (λ l. named_in l text) (drop-cons fs i d inside)
-    ∙ ap (λ t. if t then Some (get_or fs i d) else named_in (drop (suc i) fs) text) same
+pub find_here : (fs : List CodeFamily) (i : ℕ) (d : CodeFamily) (text : List ℕ) → i < length fs → bytes_eq text (family_name (get_or fs i d)) ≡ true
+    → find_family (drop i fs) text ≡ Some (get_or fs i d)
+find_here fs i d text inside same =
+    ap (λ l. find_family l text) (drop-cons fs i d inside)
+    ∙ ap (λ t. if t then Some (get_or fs i d) else find_family (drop (suc i) fs) text) same
 
-pub named_later : (fs : List CodeFamily) (i : ℕ) (d : CodeFamily) (text : List ℕ) → i < length fs → bytes_eq text (family_name (get_or fs i d)) ≡ false
-    → named_in (drop i fs) text ≡ named_in (drop (i + 1) fs) text
-named_later fs i d text inside other =
-    ap (λ l. named_in l text) (drop-cons fs i d inside)
-    ∙ ap (λ t. if t then Some (get_or fs i d) else named_in (drop (suc i) fs) text) other
-    ∙ ap (λ n. named_in (drop n fs) text) (sym (add-one i))
+pub find_later : (fs : List CodeFamily) (i : ℕ) (d : CodeFamily) (text : List ℕ) → i < length fs → bytes_eq text (family_name (get_or fs i d)) ≡ false
+    → find_family (drop i fs) text ≡ find_family (drop (i + 1) fs) text
+find_later fs i d text inside other =
+    ap (λ l. find_family l text) (drop-cons fs i d inside)
+    ∙ ap (λ t. if t then Some (get_or fs i d) else find_family (drop (suc i) fs) text) other
+    ∙ ap (λ n. find_family (drop n fs) text) (sym (add-one i))
 
-pub named_never : (fs : List CodeFamily) (i : ℕ) (text : List ℕ) → length fs ≤ i → named_in (drop i fs) text ≡ None
-named_never fs i text past = ap (λ l. named_in l text) (drop_of_length-le fs past)
+pub find_never : (fs : List CodeFamily) (i : ℕ) (text : List ℕ) → length fs ≤ i → find_family (drop i fs) text ≡ None
+find_never fs i text past = ap (λ l. find_family l text) (drop_of_length-le fs past)
 
 -- ---- families are told apart
 

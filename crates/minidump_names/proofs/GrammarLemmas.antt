@@ -11,10 +11,10 @@ use Rattle.std.proofs.lemmas.Str.{IsUtf8-from_is_utf8, is_utf8-from_IsUtf8}
 use borrow.Author.Tests.{lt-ltb}
 use Rattle.minidump_bytes.proofs.DigitLemmas.{number_spells, spelled_number}
 use Rattle.minidump_bytes.specs.Digits.{number_of_digits}
-use Rattle.minidump_bytes.specs.LinuxOsStr.{behind, cut_first}
+use Rattle.minidump_bytes.specs.LinuxOsStr.{after_prefix, cut_first}
 use Rattle.minidump_bytes.specs.Text8.{utf8_text}
 use Rattle.minidump_memory.specs.MapLine.{IsCut, and_then}
-use Rattle.minidump_memory.proofs.MapTextLemmas.{behind_is, behind_some}
+use Rattle.minidump_memory.proofs.MapTextLemmas.{after_prefix_is, after_prefix_some}
 use Rattle.minidump_memory.proofs.OptionLemmas.{given, passed, some_same}
 use Rattle.minidump_memory.proofs.SeparatorLemmas.{cut_is, is_cut}
 use Rattle.minidump_reason.specs.declared.family.CodeFamily.{CodeFamily}
@@ -29,21 +29,21 @@ use Rattle.minidump_reason.specs.declared.family.CodeFamily.TheVariants.{LinuxSi
 use Rattle.minidump_reason.specs.declared.family.CodeFamily.TheVariants.{WinErrorFacility, NtStatus, FastFail, WindowsAccess, WindowsInPageError}
 use Rattle.minidump_names.specs.NameLine.{IsCode, IsLine, IsListing, IsName, Listing}
 use Rattle.minidump_names.specs.NameLine.{code_in, families, family_in, family_name, is_outside, line_in, listing_in, name_in}
-use Rattle.minidump_names.specs.NameLine.{named_in}
+use Rattle.minidump_names.specs.NameLine.{find_family}
 
 -- ---- families
-named_by : (t : Bool) (text : List ℕ) (g f : CodeFamily) (rest : Option CodeFamily) → bytes_eq text (family_name g) ≡ t
+find_by : (t : Bool) (text : List ℕ) (g f : CodeFamily) (rest : Option CodeFamily) → bytes_eq text (family_name g) ≡ t
     → (rest ≡ Some f → text ≡ family_name f) → (if t then Some g else rest) ≡ Some f → text ≡ family_name f
-named_by true text g f rest same later h = (bytes_eq-Decides text (family_name g)).0 same ∙ ap family_name (some_same g f h)
-named_by false text g f rest other later h = later h
+find_by true text g f rest same later h = (bytes_eq-Decides text (family_name g)).0 same ∙ ap family_name (some_same g f h)
+find_by false text g f rest other later h = later h
 
-named_is : (fs : List CodeFamily) (text : List ℕ) (f : CodeFamily) → named_in fs text ≡ Some f → text ≡ family_name f
-named_is [] text f h = absurd (let k : None ≡ Some f = h in cc)
-named_is (g ∷ rest) text f h = named_by (bytes_eq text (family_name g)) text g f (named_in rest text) refl (named_is rest text f) h
+find_is : (fs : List CodeFamily) (text : List ℕ) (f : CodeFamily) → find_family fs text ≡ Some f → text ≡ family_name f
+find_is [] text f h = absurd (let k : None ≡ Some f = h in cc)
+find_is (g ∷ rest) text f h = find_by (bytes_eq text (family_name g)) text g f (find_family rest text) refl (find_is rest text f) h
 
 family_is : (text : List ℕ) (f : CodeFamily) → family_in text ≡ Some f → text ≡ family_name f
 unfolding family_in
-family_is text f h = named_is families text f h
+family_is text f h = find_is families text f h
 
 spelled_family : (f : CodeFamily) → family_in (family_name f) ≡ Some f
 unfolding family_in families
@@ -98,11 +98,11 @@ code_by None rest n h = inr h
 code_spells : (text : List ℕ) (n : ℕ) → code_in text ≡ Some n → IsCode text n
 unfolding code_in
 code_spells text n h =
-    elim (code_by (number_of_digits 10 32 text) (and_then (behind (codes "0x") text) (λ digits. number_of_digits 16 32 digits)) n h) [
+    elim (code_by (number_of_digits 10 32 text) (and_then (after_prefix (codes "0x") text) (λ digits. number_of_digits 16 32 digits)) n h) [
       | inl decimal ↦ inl (number_spells 10 32 text n decimal)
       | inr other ↦
-          (let digits = given (behind (codes "0x") text) (λ digits. number_of_digits 16 32 digits) n other in
-          inr (digits.0, behind_is (codes "0x") text digits.0 digits.1, number_spells 16 32 digits.0 n digits.2))
+          (let digits = given (after_prefix (codes "0x") text) (λ digits. number_of_digits 16 32 digits) n other in
+          inr (digits.0, after_prefix_is (codes "0x") text digits.0 digits.1, number_spells 16 32 digits.0 n digits.2))
     ]
 
 not_decimal : (digits : List ℕ) → number_of_digits 10 32 (codes "0x" ++ digits) ≡ None
@@ -115,7 +115,7 @@ spelled_code : (text : List ℕ) (n : ℕ) → IsCode text n → code_in text �
 unfolding code_in
 spelled_code text n (inl decimal) = rw (spelled_number 10 32 text n decimal) refl
 spelled_code text n (inr (digits, joined, number)) =
-    rw (behind_some (codes "0x") text digits joined, joined, not_decimal digits, spelled_number 16 32 digits n number) refl
+    rw (after_prefix_some (codes "0x") text digits joined, joined, not_decimal digits, spelled_number 16 32 digits n number) refl
 
 -- ---- names
 both : (a b : Bool) → (a && not b) ≡ true → (a ≡ true) × (b ≡ false)

@@ -1,14 +1,16 @@
--- Lists that are lent: they are accepted, and their value is that of the lists that lend them.
+-- Lists that are lent: they are valid, and their value is that of the lists that lend them.
 use Rattle.std.proofs.Common.{◌≡◌, ◌≢◌, ℕ, ◌<◌, List, [], ◌∷◌, ◌++◌, ◌+◌, length, get_or, map, take, refl, sym, ap, subst, ◌∙◌, All, AllPairs, arith}
 use Rattle.std.specs.Borrow.{Bor}
 use Rattle.std.proofs.lemmas.List.{get_or-map, get_or-take, length-map, length-take}
+use Rattle.std.proofs.lemmas.List.Elements.{All-map}
 use Rattle.std.proofs.lemmas.Option.{get_or_from_slice_get, slice_get_within}
+use Rattle.std.proofs.lemmas.Simd.{map-map}
 use Rattle.minidump_bytes.proofs.ListLemmas.{mapped_more}
 use Rattle.minidump_reason.specs.declared.family.CodeFamily.{CodeFamily}
 use Rattle.minidump_reason.specs.declared.names.CodeNamesError.{CodeNamesError}
 use Rattle.minidump_reason.specs.declared.names.CodeNamesError.TheVariants.{NotAscending, Repeated}
-use Rattle.minidump_reason.proofs.HasNameLemmas.{all_map, all_pairs_map}
-use Rattle.minidump_reason.specs.Names.{AreCodeNames, Entries, IsAscending, IsFirstRefusal, IsRefused, LentEntries, LentLists, entries_of, lists_of}
+use Rattle.minidump_reason.proofs.HasNameLemmas.{all_pairs_map}
+use Rattle.minidump_reason.specs.Names.{AreCodeNames, Entries, IsAscending, IsFirstListError, IsCodeListError, LentEntries, LentLists, entries_of, lists_of}
 
 -- ---- what holds of elements, and of what they are mapped to
 
@@ -21,10 +23,6 @@ pub pairs_unmap : {X Y : Type 0} (R : Y → Y → Type 0) (h : X → Y) (xs : Li
 pairs_unmap R h xs all i j d lt within =
     let inside : j < length (map h xs) = omega (arith, within, length-map xs h) in
     rw (get_or-map h xs i d (h d) (omega arith), get_or-map h xs j d (h d) within) at (all i j (h d) lt inside)
-
-map_map : {X Y Z : Type 0} (g : Y → Z) (h : X → Y) (xs : List X) → map g (map h xs) ≡ map (λ x. g (h x)) xs
-map_map g h [] = refl
-map_map g h (x ∷ xs) = ap (λ l. g (h x) ∷ l) (map_map g h xs)
 
 -- ---- lists that lend theirs
 
@@ -41,29 +39,29 @@ module _ {X : Type 0} (raw : List X) (lends : X → CodeFamily × LentEntries) (
       let P : CodeFamily × LentEntries → Type 0 = λ p. IsAscending p.1 in
       let R : CodeFamily × LentEntries → CodeFamily × LentEntries → Type 0 = λ a b. a.0 ≢ b.0 in
       record {
-        ascending = all_unmap P lent_list lists (subst (λ (l : List (CodeFamily × LentEntries)). All P l) (sym same) (all_map P lends raw up));
+        ascending = all_unmap P lent_list lists (subst (λ (l : List (CodeFamily × LentEntries)). All P l) (sym same) (All-map P lends raw up));
         apart = pairs_unmap R lent_list lists (subst (λ (l : List (CodeFamily × LentEntries)). AllPairs R l) (sym same) (all_pairs_map R lends raw apart));
       }
 
   pub lent_value : lists_of lists ≡ map (λ x. value_list (lends x)) raw
   lent_value =
-      sym (map_map value_list lent_list lists) ∙ ap (λ l. map value_list l) same ∙ map_map value_list lends raw
+      sym (map-map value_list lent_list lists) ∙ ap (λ l. map value_list l) same ∙ map-map value_list lends raw
 
 -- ---- lists that are one for each family
 
-abbrev pub listed_by : {V : Type 0} → (V → LentEntries) → CodeFamily × V → CodeFamily × Entries
-listed_by items p = (p.0, entries_of (items p.1))
+abbrev pub entries_by : {V : Type 0} → (V → LentEntries) → CodeFamily × V → CodeFamily × Entries
+entries_by items p = (p.0, entries_of (items p.1))
 
 abbrev pub of_family : (CodeFamily → Entries) → CodeFamily → CodeFamily × Entries
 of_family entries f = (f, entries f)
 
 pub lists_more : {V : Type 0} (items : V → LentEntries) (entries : CodeFamily → Entries) (fs : List CodeFamily) (i : ℕ) (zs ys : List (CodeFamily × V))
     (z : CodeFamily × V) → ys ≡ zs ++ z ∷ [] → i < length fs → ((d : CodeFamily) → get_or fs i d ≡ z.0)
-    → map (listed_by items) zs ≡ map (of_family entries) (take i fs) → entries_of (items z.1) ≡ entries z.0
-    → map (listed_by items) ys ≡ map (of_family entries) (take (i + 1) fs)
+    → map (entries_by items) zs ≡ map (of_family entries) (take i fs) → entries_of (items z.1) ≡ entries z.0
+    → map (entries_by items) ys ≡ map (of_family entries) (take (i + 1) fs)
 lists_more items entries fs i zs ys z grown inside there so_far is =
-    let same : listed_by items z ≡ of_family entries (get_or fs i z.0) = rw (there z.0, is) refl in
-    rw grown (mapped_more (of_family entries) (listed_by items) fs zs i z.0 z inside so_far same)
+    let same : entries_by items z ≡ of_family entries (get_or fs i z.0) = rw (there z.0, is) refl in
+    rw grown (mapped_more (of_family entries) (entries_by items) fs zs i z.0 z inside so_far same)
 
 pub apart_by : {X : Type 0} (lends : X → CodeFamily × Entries) (entries : CodeFamily → Entries) (xs : List X) (fs : List CodeFamily)
     → map lends xs ≡ map {B = CodeFamily × Entries} (λ f. (f, entries f)) fs → AllPairs (λ f g. f ≢ g) fs
@@ -73,20 +71,20 @@ apart_by lends entries xs fs same apart =
     let each : CodeFamily → CodeFamily × Entries = λ f. (f, entries f) in
     pairs_unmap R lends xs (subst (λ (l : List (CodeFamily × Entries)). AllPairs R l) (sym same) (all_pairs_map R each fs apart))
 
--- ---- a list that is accepted is not refused
+-- ---- valid lists have no error
 
-refused_by : (lists : LentLists) (place : ℕ) (family : CodeFamily) (entries : Bor LentEntries) → place < length lists
-    → ((d : CodeFamily × Bor LentEntries) → get_or lists place d ≡ (family, entries))
-    → (e : CodeNamesError) → AreCodeNames lists → IsRefused (take place lists) family entries.now e → ⊥
-refused_by lists place family entries inside there (NotAscending f) names (_, _, not_up) =
+error_by : (lists : LentLists) (index : ℕ) (family : CodeFamily) (entries : Bor LentEntries) → index < length lists
+    → ((d : CodeFamily × Bor LentEntries) → get_or lists index d ≡ (family, entries))
+    → (e : CodeNamesError) → AreCodeNames lists → IsCodeListError (take index lists) family entries.now e → ⊥
+error_by lists index family entries inside there (NotAscending f) names (_, _, not_up) =
     let d : CodeFamily × Bor LentEntries = (family, entries) in
-    not_up (subst (λ (p : CodeFamily × Bor LentEntries). IsAscending p.1.now) (there d) (names.ascending place d inside))
-refused_by lists place family entries inside there (Repeated f) names (_, (k, x, within, at, is)) =
-    let before : k < place = omega (arith, within, length-take place lists) in
-    let first : get_or lists k x ≡ x = sym (get_or-take place lists k x before) ∙ at in
-    names.apart k place x before inside (ap (λ p. p.0) first ∙ is ∙ sym (ap (λ p. p.0) (there x)))
+    not_up (subst (λ (p : CodeFamily × Bor LentEntries). IsAscending p.1.now) (there d) (names.ascending index d inside))
+error_by lists index family entries inside there (Repeated f) names (_, (k, x, within, at, is)) =
+    let before : k < index = omega (arith, within, length-take index lists) in
+    let first : get_or lists k x ≡ x = sym (get_or-take index lists k x before) ∙ at in
+    names.apart k index x before inside (ap (λ p. p.0) first ∙ is ∙ sym (ap (λ p. p.0) (there x)))
 
-pub never_refused : (lists : LentLists) (e : CodeNamesError) → AreCodeNames lists → IsFirstRefusal lists e → ⊥
-never_refused lists e names r =
-    refused_by lists r.place r.family r.entries (slice_get_within lists r.place (r.family, r.entries) r.there)
-    (λ d. get_or_from_slice_get lists r.place (r.family, r.entries) d r.there) e names r.refused
+pub no_error : (lists : LentLists) (e : CodeNamesError) → AreCodeNames lists → IsFirstListError lists e → ⊥
+no_error lists e names r =
+    error_by lists r.index r.family r.entries (slice_get_within lists r.index (r.family, r.entries) r.there)
+    (λ d. get_or_from_slice_get lists r.index (r.family, r.entries) d r.there) e names r.error

@@ -1,7 +1,7 @@
 -- The lemmas of this crate.
 pub mod FamilyLemmas
 pub mod GrammarLemmas
-pub mod ListedLemmas
+pub mod ListingLemmas
 pub mod LentLemmas
 pub mod OrderLemmas
 pub mod TextLemmas

@@ -9,27 +9,27 @@ use Rattle.std.proofs.lemmas.Option.{slice_get-get_or}
 use Rattle.minidump_names.specs.declared.error.NamesError.{NamesError}
 use Rattle.minidump_names.specs.declared.error.NamesError.TheVariants.{NotALine, OutOfOrder, OutOfMemory}
 use Rattle.minidump_names.specs.NameLine.{Listing, line_in, listing_in, says_nothing}
-use Rattle.minidump_names.specs.NamesText.{AreLines, InOrder, IsNotAbove, IsRefused, IsTaken, IsTextRefused, lines_in, listings_in}
+use Rattle.minidump_names.specs.NamesText.{AreLines, InOrder, IsNotAbove, IsLineError, AddsLine, IsNamesTextError, lines_in, listings_in}
 
 abbrev listings_of : List ℕ → List Listing
 listings_of line = unwrap_or (line_in line) []
 
-one_listed : (line : List ℕ) (more : List Listing) → line_in line ≡ Some more → listings_in (line ∷ []) ≡ more
-one_listed line more is = rw (append-nil, is) refl
+listings_of_one : (line : List ℕ) (more : List Listing) → line_in line ≡ Some more → listings_in (line ∷ []) ≡ more
+listings_of_one line more is = rw (append-nil, is) refl
 
 pub listings_more : (lines : List (List ℕ)) (i : ℕ) (line : List ℕ) (more : List Listing) → i < length lines → get_or lines i line ≡ line
     → line_in line ≡ Some more → listings_in (take (i + 1) lines) ≡ listings_in (take i lines) ++ more
 listings_more lines i line more inside there is =
     ap listings_in (take_more lines i line inside ∙ ap (λ l. take i lines ++ (l ∷ [])) there)
     ∙ flat_map-append listings_of (take i lines) (line ∷ [])
-    ∙ ap (λ l. listings_in (take i lines) ++ l) (one_listed line more is)
+    ∙ ap (λ l. listings_in (take i lines) ++ l) (listings_of_one line more is)
 
 some_line : (o : Option (List Listing)) (more : List Listing) → o ≡ Some more → IsSome o
 some_line (Some x) more e = search rules
 some_line None more e = absurd (let k : None ≡ Some more = e in cc)
 
 pub lines_more : (lines : List (List ℕ)) (i : ℕ) (line : List ℕ) (after : List Listing) → i < length lines → get_or lines i line ≡ line
-    → AreLines (take i lines) → IsTaken (listings_in (take i lines)) line after
+    → AreLines (take i lines) → AddsLine (listings_in (take i lines)) line after
     → AreLines (take (i + 1) lines) × (after ≡ listings_in (take (i + 1) lines))
 lines_more lines i line after inside there before (more, is, grown, order) =
     let value : after ≡ listings_in (take (i + 1) lines) = grown ∙ sym (listings_more lines i line more inside there is) in
@@ -47,33 +47,33 @@ pub line_lists : (line : List ℕ) (l : Listing) → says_nothing line ≡ false
 unfolding line_in
 line_lists line l says is = rw (says, is) refl
 
-pub taken : (before : List Listing) (line : List ℕ) (l : Listing) → line_in line ≡ Some (l ∷ []) → InOrder before
-    → All (λ e. e.family ≡ l.family → e.number < l.number) before → IsTaken before line (before ++ l ∷ [])
-taken before line l is order above =
+pub adds_line : (before : List Listing) (line : List ℕ) (l : Listing) → line_in line ≡ Some (l ∷ []) → InOrder before
+    → All (λ e. e.family ≡ l.family → e.number < l.number) before → AddsLine before line (before ++ l ∷ [])
+adds_line before line l is order above =
     (l ∷ [], is, refl, all_pairs_push (λ (a b : Listing). a.family ≡ b.family → a.number < b.number) before l order above)
 
 pub out_of_order : (before : List Listing) (line : List ℕ) (l : Listing) (number : ℕ) (e : NamesError) → line_in line ≡ Some (l ∷ [])
-    → (e ≡ OutOfOrder number) × IsNotAbove before l → IsRefused before line number e
+    → (e ≡ OutOfOrder number) × IsNotAbove before l → IsLineError before line number e
 out_of_order before line l number e is (same, not_above) =
-    let refused : IsRefused before line number (OutOfOrder number) = (refl, l, is, not_above) in
-    subst (λ (e : NamesError). IsRefused before line number e) (sym same) refused
+    let error : IsLineError before line number (OutOfOrder number) = (refl, l, is, not_above) in
+    subst (λ (e : NamesError). IsLineError before line number e) (sym same) error
 
--- ---- the first refused line
+-- ---- the first line that has an error
 
-pub refused_at : (text : List ℕ) (i : ℕ) (line : List ℕ) (e : NamesError) → i < length (lines_in text) → get_or (lines_in text) i line ≡ line
-    → AreLines (take i (lines_in text)) → IsRefused (listings_in (take i (lines_in text))) line (i + 1) e → IsTextRefused text e
-refused_at text i line OutOfMemory inside there before refused = tt
-refused_at text i line (NotALine n) inside there before refused = record {
-  place = i;
+pub error_at : (text : List ℕ) (i : ℕ) (line : List ℕ) (e : NamesError) → i < length (lines_in text) → get_or (lines_in text) i line ≡ line
+    → AreLines (take i (lines_in text)) → IsLineError (listings_in (take i (lines_in text))) line (i + 1) e → IsNamesTextError text e
+error_at text i line OutOfMemory inside there before error = tt
+error_at text i line (NotALine n) inside there before error = record {
+  index = i;
   line = line;
   there = slice_get-get_or (lines_in text) i line inside ∙ ap (λ l. Some l) there;
   before = before;
-  refused = refused;
+  error = error;
 }
-refused_at text i line (OutOfOrder n) inside there before refused = record {
-  place = i;
+error_at text i line (OutOfOrder n) inside there before error = record {
+  index = i;
   line = line;
   there = slice_get-get_or (lines_in text) i line inside ∙ ap (λ l. Some l) there;
   before = before;
-  refused = refused;
+  error = error;
 }

@@ -5,7 +5,7 @@ use Rattle.std.specs.List.{list_any}
 use Rattle.std.specs.Option.{option_map, option_or}
 use Rattle.std.specs.Str.{IsUtf8, bytes_eq}
 use Rattle.minidump_bytes.specs.Digits.{IsNumber, number_of_digits}
-use Rattle.minidump_bytes.specs.LinuxOsStr.{behind, cut_first, is_white}
+use Rattle.minidump_bytes.specs.LinuxOsStr.{after_prefix, cut_first, is_white}
 use Rattle.minidump_bytes.specs.Text8.{utf8_text}
 use Rattle.minidump_memory.specs.MapLine.{IsCut, and_then}
 use Rattle.minidump_reason.specs.declared.family.CodeFamily.{CodeFamily}
@@ -18,7 +18,7 @@ use Rattle.minidump_reason.specs.declared.family.CodeFamily.TheVariants.{MacGuar
 use Rattle.minidump_reason.specs.declared.family.CodeFamily.TheVariants.{MacGuardRejectedSysCall, Linux, LinuxSicode, LinuxSigill, LinuxSigtrap}
 use Rattle.minidump_reason.specs.declared.family.CodeFamily.TheVariants.{LinuxSigbus, LinuxSigfpe, LinuxSigsegv, LinuxSigsys, Windows, WinError}
 use Rattle.minidump_reason.specs.declared.family.CodeFamily.TheVariants.{WinErrorFacility, NtStatus, FastFail, WindowsAccess, WindowsInPageError}
-use Rattle.minidump_names.specs.declared.line.Listed.{Listed as Lent}
+use Rattle.minidump_names.specs.declared.line.Listing.{Listing as Lent}
 
 -- ---- families
 
@@ -70,28 +70,32 @@ family_name WindowsInPageError = codes "WindowsInPageError"
 -- every family
 unfoldable pub families : List CodeFamily
 families =
-    Mac ∷ MacBadAccessKern ∷ MacBadAccessArm ∷ MacBadAccessPpc ∷ MacBadAccessX86 ∷ MacBadInstructionArm ∷
-    MacBadInstructionPpc ∷ MacBadInstructionX86 ∷ MacArithmeticArm ∷ MacArithmeticPpc ∷ MacArithmeticX86 ∷
-    MacBreakpointArm ∷ MacBreakpointPpc ∷ MacBreakpointX86 ∷ MacSoftware ∷ MacResource ∷ MacResourceCpu ∷
-    MacResourceWakeups ∷ MacResourceMemory ∷ MacResourceIo ∷ MacResourceThreads ∷ MacGuard ∷ MacGuardMachPort ∷
-    MacGuardFd ∷ MacGuardVn ∷ MacGuardVirtMemory ∷ MacGuardRejectedSysCall ∷ Linux ∷ LinuxSicode ∷ LinuxSigill ∷
-    LinuxSigtrap ∷ LinuxSigbus ∷ LinuxSigfpe ∷ LinuxSigsegv ∷ LinuxSigsys ∷ Windows ∷ WinError ∷ WinErrorFacility ∷
-    NtStatus ∷ FastFail ∷ WindowsAccess ∷ WindowsInPageError ∷ []
+    Mac ∷ MacBadAccessKern ∷ MacBadAccessArm ∷ MacBadAccessPpc ∷ MacBadAccessX86 ∷
+    MacBadInstructionArm ∷ MacBadInstructionPpc ∷ MacBadInstructionX86 ∷ MacArithmeticArm ∷
+    MacArithmeticPpc ∷ MacArithmeticX86 ∷ MacBreakpointArm ∷ MacBreakpointPpc ∷ MacBreakpointX86 ∷
+    MacSoftware ∷ MacResource ∷ MacResourceCpu ∷ MacResourceWakeups ∷ MacResourceMemory ∷
+    MacResourceIo ∷ MacResourceThreads ∷ MacGuard ∷ MacGuardMachPort ∷ MacGuardFd ∷ MacGuardVn ∷
+    MacGuardVirtMemory ∷ MacGuardRejectedSysCall ∷ Linux ∷ LinuxSicode ∷ LinuxSigill ∷
+    LinuxSigtrap ∷ LinuxSigbus ∷ LinuxSigfpe ∷ LinuxSigsegv ∷ LinuxSigsys ∷ Windows ∷ WinError ∷
+    WinErrorFacility ∷ NtStatus ∷ FastFail ∷ WindowsAccess ∷ WindowsInPageError ∷ []
 
 -- the first of these families that has a name
-abbrev pub named_in : List CodeFamily → List ℕ → Option CodeFamily
-named_in [] text = None
-named_in (f ∷ rest) text = if bytes_eq text (family_name f) then Some f else named_in rest text
+abbrev pub find_family : List CodeFamily → List ℕ → Option CodeFamily
+find_family [] text = None
+find_family (f ∷ rest) text =
+    if bytes_eq text (family_name f) then Some f else find_family rest text
 
 -- the family of a name
 unfoldable pub family_in : List ℕ → Option CodeFamily
-family_in text = named_in families text
+family_in text = find_family families text
 
 -- ---- a line, as it is read
 
 -- a number below 2^32: in decimal digits, or `0x` and hexadecimal ones
 unfoldable pub code_in : List ℕ → Option ℕ
-code_in text = option_or (number_of_digits 10 32 text) (and_then (behind (codes "0x") text) (λ digits. number_of_digits 16 32 digits))
+code_in text =
+    option_or (number_of_digits 10 32 text)
+    (and_then (after_prefix (codes "0x") text) (λ digits. number_of_digits 16 32 digits))
 
 -- a byte that no name of a code has: ASCII white space, and `#`
 abbrev pub is_outside : ℕ → Bool
@@ -99,7 +103,8 @@ is_outside b = is_white b || b == 35
 
 -- the name of a code: some bytes that are UTF-8, none of them outside
 unfoldable pub name_in : List ℕ → Option (List ℕ)
-name_in text = if nat_lt 0 (length text) && not (list_any is_outside text) then utf8_text text else None
+name_in text =
+    if nat_lt 0 (length text) && not (list_any is_outside text) then utf8_text text else None
 
 -- a code with its name, as a line lists it
 pub record Listing : Type 0 where
@@ -107,7 +112,7 @@ pub record Listing : Type 0 where
   pub number : ℕ
   pub name : List ℕ
 
--- the same as it is lent
+-- the value of a listing that is borrowed
 abbrev pub listing_of : Lent → Listing
 listing_of l = record { family = l.family; number = l.number; name = l.name.now }
 
@@ -131,9 +136,12 @@ line_in line = if says_nothing line then Some [] else option_map (λ l. l ∷ []
 
 -- ---- the same as a grammar
 
--- the text writes this number, which is below 2^32: in decimal digits, or behind `0x` in hexadecimal ones
+-- the text writes this number, which is below 2^32: in decimal digits, or after `0x` in hexadecimal
+-- ones
 abbrev pub IsCode : List ℕ → ℕ → Type 0
-IsCode text n = IsNumber 10 32 text n ⊎ ((digits : List ℕ) × (text ≡ codes "0x" ++ digits) × IsNumber 16 32 digits n)
+IsCode text n =
+    IsNumber 10 32 text n
+    ⊎ ((digits : List ℕ) × (text ≡ codes "0x" ++ digits) × IsNumber 16 32 digits n)
 
 -- the name of a code: at least one byte, UTF-8, no ASCII white space and no `#`
 pub record IsName (text : List ℕ) : Type 0 where
@@ -150,8 +158,10 @@ pub record IsListing (line : List ℕ) (l : Listing) : Type 0 where
   pub number_is : IsCode number l.number
   pub name_is : IsName l.name
 
--- a line of names lists these codes: an empty one and a comment list nothing, and every other one lists one code
+-- a line of names lists these codes: an empty one and a comment list nothing, and every other one
+-- lists one code
 abbrev pub IsLine : List ℕ → List Listing → Type 0
 IsLine [] listings = listings ≡ []
 IsLine (b ∷ bs) listings =
-    ((b ≡ 35) × (listings ≡ [])) ⊎ ((b ≢ 35) × (l : Listing) × (listings ≡ l ∷ []) × IsListing (b ∷ bs) l)
+    ((b ≡ 35) × (listings ≡ []))
+    ⊎ ((b ≢ 35) × (l : Listing) × (listings ≡ l ∷ []) × IsListing (b ∷ bs) l)

@@ -1,4 +1,5 @@
--- A text of names: lines, each of which lists a code with its name, or nothing. The codes of a family ascend.
+-- A text of names: lines, each of which lists a code with its name, or nothing. The codes of a
+-- family ascend.
 use Rattle.std.specs.Prelude.{◌≡◌, ◌+◌, ◌++◌, ◌<◌, ◌≤◌, ℕ, List, [], ◌∷◌, All, AllPairs, Any, IsSome, Some, None, filter, map, slice_get, take, unwrap_or}
 use Rattle.std.specs.List.{flat_map}
 use Rattle.minidump_bytes.specs.LinuxOsStr.{split_parts}
@@ -27,9 +28,10 @@ pub record AreLines (lines : List (List ℕ)) : Type 0 where
   pub each : All (λ line. IsSome (line_in line)) lines
   pub ascending : InOrder (listings_in lines)
 
--- a line behind others lists these codes too, and all of them are in order
-abbrev pub IsTaken : List Listing → List ℕ → List Listing → Type 0
-IsTaken before line after = (more : List Listing) × (line_in line ≡ Some more) × (after ≡ before ++ more) × InOrder after
+-- the codes of one more line are added to those before, and all of them are in order
+abbrev pub AddsLine : List Listing → List ℕ → List Listing → Type 0
+AddsLine before line after =
+    (more : List Listing) × (line_in line ≡ Some more) × (after ≡ before ++ more) × InOrder after
 
 -- ---- the names of a text
 
@@ -49,32 +51,33 @@ lists_in listings = map (λ family. (family, entries_of_family listings family))
 abbrev pub IsNames : List ℕ → Lists → Type 0
 IsNames text names = AreLines (lines_in text) × (names ≡ lists_in (listings_in (lines_in text)))
 
--- ---- the refused line of a text
+-- ---- the error of a text
 
--- a code is above all earlier ones of its family, and one of those isn't below it
+-- a code is above all earlier ones of its family
 abbrev pub IsAbove : List Listing → Listing → Type 0
 IsAbove before l = All (λ e. e.family ≡ l.family → e.number < l.number) before
 
--- a name of the same family has this number or a higher one
+-- an earlier code of the family is this one or a higher one
 abbrev pub IsNotAbove : List Listing → Listing → Type 0
 IsNotAbove before l = Any (λ e. (e.family ≡ l.family) × (l.number ≤ e.number)) before
 
--- the error of a line behind others, with its number: it is not a line of names, or an earlier code of its family isn't below its own
-abbrev pub IsRefused : List Listing → List ℕ → ℕ → NamesError → Type 0
-IsRefused before line number (NotALine n) = (n ≡ number) × (line_in line ≡ None)
-IsRefused before line number (OutOfOrder n) =
+-- the error of a line after others, with its number: it is not a line of names, or an earlier code
+-- of its family isn't below its own
+abbrev pub IsLineError : List Listing → List ℕ → ℕ → NamesError → Type 0
+IsLineError before line number (NotALine n) = (n ≡ number) × (line_in line ≡ None)
+IsLineError before line number (OutOfOrder n) =
     (n ≡ number) × (l : Listing) × (line_in line ≡ Some (l ∷ [])) × IsNotAbove before l
-IsRefused before line number OutOfMemory = Unit {0}
+IsLineError before line number OutOfMemory = Unit {0}
 
--- a line that is refused is the first one behind accepted ones; its number is 1 at the first line
-pub record IsFirstRefused (lines : List (List ℕ)) (e : NamesError) : Type 0 where
-  pub place : ℕ
+-- the error of the first line that has one; the number of the first line is 1
+pub record IsFirstLineError (lines : List (List ℕ)) (e : NamesError) : Type 0 where
+  pub index : ℕ
   pub line : List ℕ
-  pub there : slice_get lines place ≡ Some line
-  pub before : AreLines (take place lines)
-  pub refused : IsRefused (listings_in (take place lines)) line (place + 1) e
+  pub there : slice_get lines index ≡ Some line
+  pub before : AreLines (take index lines)
+  pub error : IsLineError (listings_in (take index lines)) line (index + 1) e
 
--- the error of a text: that of the first refused line, unless memory ran out
-abbrev pub IsTextRefused : List ℕ → NamesError → Type 0
-IsTextRefused text OutOfMemory = Unit {0}
-IsTextRefused text e = IsFirstRefused (lines_in text) e
+-- the error of a text: that of its first line that has one, or out of memory
+abbrev pub IsNamesTextError : List ℕ → NamesError → Type 0
+IsNamesTextError text OutOfMemory = Unit {0}
+IsNamesTextError text e = IsFirstLineError (lines_in text) e

@@ -4,10 +4,10 @@ use thiserror::Error;
 /// The error of reading a text of names.
 #[derive(Clone, Copy, Debug, PartialEq, Eq, Error)]
 pub enum NamesError {
-    /// The line of this number is no line of names. The first line has the number 1.
+    /// The line with this number is not a line of names. Lines are numbered from 1.
     #[error("line {0} is no line of names")]
     NotALine(u64),
-    /// The code of the line of this number isn't above each earlier code of its family.
+    /// The code of the line with this number isn't above each earlier code of its family.
     #[error("the number of line {0} is out of order")]
     OutOfOrder(u64),
     /// An allocation failed.

@@ -1,6 +1,6 @@
 ghost use Rattle.std.specs.Prelude.{◌≡◌};
 ghost use Rattle.std.specs.Str.{bytes_eq};
-ghost use Rattle.minidump_names.specs.NameLine.{families, family_in, family_name};
+ghost use Rattle.minidump_names.specs.NameLine.{family_in, family_name};
 
 use minidump_reason::CodeFamily;
 
@@ -101,7 +101,7 @@ fn family_name(family: CodeFamily) -> &'static str
 }
 
 // Tests whether a text is the name of a family.
-fn is_named(text: &[u8], family: CodeFamily) -> bool
+fn is_family_name(text: &[u8], family: CodeFamily) -> bool
     ensures { result ≡ bytes_eq text.now (family_name family) }
 {
     text == family_name(family).as_bytes()
@@ -112,7 +112,7 @@ pub(crate) fn family_in(text: &[u8]) -> Option<CodeFamily>
     ensures { result ≡ family_in text.now }
 {
     for family in FAMILIES {
-        if is_named(text, family) {
+        if is_family_name(text, family) {
             return Some(family);
         }
     }

@@ -1,4 +1,4 @@
-ghost use Rattle.std.specs.Prelude.{◌≡◌, ◌||◌, ◌==◌, length, slice_index};
+ghost use Rattle.std.specs.Prelude.{◌≡◌, ◌||◌, ◌==◌};
 ghost use Rattle.std.specs.List.{list_any};
 ghost use Rattle.std.specs.Option.{option_copied, option_map};
 ghost use Rattle.minidump_names.specs.NameLine.{code_in, is_outside, listing_in, listing_of, name_in, says_nothing};
@@ -9,7 +9,7 @@ use minidump_reason::CodeFamily;
 
 // A code with its name, which is borrowed from its line.
 #[derive(Clone, Copy)]
-pub(crate) struct Listed<'t> {
+pub(crate) struct Listing<'t> {
     pub(crate) family: CodeFamily,
     pub(crate) number: u32,
     pub(crate) name: &'t str,
@@ -17,7 +17,7 @@ pub(crate) struct Listed<'t> {
 
 // Reads the code that a line lists, or returns `None` if it lists none.
 #[tactic(auto, unfolding(crate::specs::NameLine::listing_in))]
-pub(crate) fn listing_in(line: &[u8]) -> Option<Listed<'_>>
+pub(crate) fn listing_in(line: &[u8]) -> Option<Listing<'_>>
     ensures { option_map listing_of result ≡ listing_in line.now }
 {
     let (family, rest) = LinuxOsStr(line).split_once(b' ')?;
@@ -25,14 +25,14 @@ pub(crate) fn listing_in(line: &[u8]) -> Option<Listed<'_>>
     let family = family_in(family.as_bytes())?;
     let number = code_in(number.as_bytes())?;
     let name = name_in(name.as_bytes())?;
-    Some(Listed {
+    Some(Listing {
         family,
         number,
         name,
     })
 }
 
-// Reads a number below 2^32, in decimal or, behind `0x`, in hexadecimal digits.
+// Reads a number below 2^32, in decimal digits or, after `0x`, in hexadecimal ones.
 #[tactic(auto, unfolding(crate::specs::NameLine::code_in))]
 fn code_in(text: &[u8]) -> Option<u32>
     ensures { result ≡ code_in text.now }
@@ -44,7 +44,7 @@ fn code_in(text: &[u8]) -> Option<u32>
     number_32(digits.as_bytes(), 16)
 }
 
-// Returns the name of a code, or `None` if the text is none.
+// Returns the name of a code, or `None` if the text isn't one.
 #[tactic(auto, unfolding(crate::specs::NameLine::name_in))]
 fn name_in(text: &[u8]) -> Option<&str>
     ensures { option_copied result ≡ name_in text.now }

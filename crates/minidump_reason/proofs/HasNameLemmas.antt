@@ -3,6 +3,7 @@ use Rattle.std.proofs.Common.{rules, ◌≡◌, ◌≢◌, ℕ, zero, suc, ◌<�
 use Rattle.std.proofs.Common.{◌∙◌, inl, inr, arith, if◌then◌else◌, All, AllPairs}
 use Rattle.std.specs.Prelude.{Contains}
 use Rattle.std.proofs.lemmas.List.{get_or-map, length-map}
+use Rattle.std.proofs.lemmas.List.Elements.{All-map}
 use Rattle.std.proofs.lemmas.Bool.Decides.{eqb_tells}
 use borrow.Author.Tests.{eq-eqb, ne_eqb}
 use denote.Enum.Bare.{same_true, true_same, false_same}
@@ -10,13 +11,7 @@ use Rattle.minidump_reason.specs.contracts.family.CodeFamily.{the_type}
 use Rattle.minidump_reason.specs.declared.family.CodeFamily.{CodeFamily}
 use Rattle.minidump_reason.specs.Names.{LentLists, AreCodeNames, Entries, Lists, HasName, entries_of, lists_of, is_family, list_of, name_in, name_of}
 
--- ---- what holds of elements holds of what they are mapped to
-
-pub all_map : {X Y : Type 0} (P : Y → Type 0) (h : X → Y) (xs : List X) → All (λ x. P (h x)) xs → All P (map h xs)
-all_map P h [] all k d within = absurd (omega (arith, within))
-all_map P h (x ∷ xs) all k d within =
-    let inside : k < length (x ∷ xs) = omega (arith, within, length-map (x ∷ xs) h) in
-    rw (get_or-map h (x ∷ xs) k x d inside) (all k x inside)
+-- ---- what holds of each two elements holds of what they are mapped to
 
 pub all_pairs_map : {X Y : Type 0} (R : Y → Y → Type 0) (h : X → Y) (xs : List X) → AllPairs (λ a b. R (h a) (h b)) xs → AllPairs R (map h xs)
 all_pairs_map R h [] all i j d lt within = absurd (omega (arith, within))
@@ -30,14 +25,14 @@ all_pairs_map R h (x ∷ xs) all i j d lt within =
 abbrev Ascending : Entries → Type 0
 Ascending = AllPairs (λ a b. a.0 < b.0)
 
-record Formed (lists : Lists) : Type 0 where
+record AreLists (lists : Lists) : Type 0 where
   ascending : All (λ list. Ascending list.1) lists
   apart : AllPairs (λ a b. a.0 ≢ b.0) lists
 
-formed : (lists : LentLists) → AreCodeNames lists → Formed (lists_of lists)
-formed lists names = record {
+are_lists : (lists : LentLists) → AreCodeNames lists → AreLists (lists_of lists)
+are_lists lists names = record {
   ascending =
-      all_map (λ list. Ascending list.1) (λ l. (l.0, entries_of l.1.now)) lists
+      All-map (λ list. Ascending list.1) (λ l. (l.0, entries_of l.1.now)) lists
       (λ k d within. all_pairs_map (λ a b. a.0 < b.0) (λ e. (e.0, e.1.now)) (get_or lists k d).1.now (names.ascending k d within));
   apart = all_pairs_map (λ a b. a.0 ≢ b.0) (λ l. (l.0, entries_of l.1.now)) lists names.apart;
 }
@@ -99,15 +94,15 @@ list_found ((f, es) ∷ rest) family entries (suc k) apart within at =
 
 -- ---- both
 
-pub named_from_name_of : (lists : Lists) (family : CodeFamily) (number : ℕ) (name : List ℕ) → name_of lists family number ≡ Some name
+pub has_name_from_name_of : (lists : Lists) (family : CodeFamily) (number : ℕ) (name : List ℕ) → name_of lists family number ≡ Some name
     → HasName lists family number name
 unfolding name_of
-named_from_name_of lists family number name found = list_there lists family number name found
+has_name_from_name_of lists family number name found = list_there lists family number name found
 
-pub name_of_from_named : (lists : LentLists) → AreCodeNames lists → (family : CodeFamily) (number : ℕ) (name : List ℕ)
+pub name_of_from_has_name : (lists : LentLists) → AreCodeNames lists → (family : CodeFamily) (number : ℕ) (name : List ℕ)
     → HasName (lists_of lists) family number name → name_of (lists_of lists) family number ≡ Some name
 unfolding name_of
-name_of_from_named lists names family number name (entries, (k, within, at), (j, inside, there)) =
-    let all = formed lists names in
+name_of_from_has_name lists names family number name (entries, (k, within, at), (j, inside, there)) =
+    let all = are_lists lists names in
     let up : Ascending entries = subst (λ (l : CodeFamily × Entries). Ascending l.1) at (all.ascending k (family, entries) within) in
     ap (λ es. name_in es number) (list_found (lists_of lists) family entries k all.apart within at) ∙ name_found entries number name j up inside there

@@ -1,4 +1,4 @@
--- The lists of names as they are lent: when they are accepted, and what is found in them.
+-- The lists of names as they are lent: when they are valid, and what is found in them.
 use Rattle.std.proofs.Common.{rules, ◌≡◌, ◌≢◌, ℕ, zero, suc, ◌+◌, ◌-◌, ◌<◌, ◌≤◌, true, false, List, [], ◌∷◌, length, get_or, take, Some, None}
 use Rattle.std.proofs.Common.{Result, Ok, Err, refl, sym, ap, subst, ◌∙◌, inl, inr, arith, if◌then◌else◌, All}
 use Rattle.std.specs.Borrow.{Bor}
@@ -25,7 +25,7 @@ use Rattle.minidump_reason.specs.Names.{LentEntries, LentLists, IsAscending, Are
 abbrev pub LentEntry : Type 0
 LentEntry = ℕ × Bor (List ℕ)
 
--- the numbers before a place ascend
+-- the numbers before an index ascend
 abbrev pub AscendsBefore : LentEntries → ℕ → Type 0
 AscendsBefore xs i = (j k : ℕ) (d : LentEntry) → j < k → k < i → (get_or xs j d).0 < (get_or xs k d).0
 
@@ -50,9 +50,9 @@ ascends_more xs i e f some within before step j k d lt below =
 
 -- ---- the name beside a number
 
-pub name_at : (xs : LentEntries) (place number : ℕ) (d : LentEntry) → IsAscending xs → place < length xs → (get_or xs place d).0 ≡ number
-    → name_in (entries_of xs) number ≡ Some (get_or xs place d).1.now
-name_at [] place number d up within has = absurd (omega (arith, within))
+pub name_at : (xs : LentEntries) (index number : ℕ) (d : LentEntry) → IsAscending xs → index < length xs → (get_or xs index d).0 ≡ number
+    → name_in (entries_of xs) number ≡ Some (get_or xs index d).1.now
+name_at [] index number d up within has = absurd (omega (arith, within))
 name_at (x ∷ xs) zero number d up within has = ap (λ t. if t then Some x.1.now else name_in (entries_of xs) number) (eq-eqb x.0 number has)
 name_at (x ∷ xs) (suc k) number d up within has =
     let below = up 0 (suc k) d (omega arith) within in
@@ -67,7 +67,7 @@ name_absent (x ∷ xs) number none =
     ap (λ t. if t then Some x.1.now else name_in (entries_of xs) number) (ne_eqb x.0 number (none 0 x (omega arith)))
     ∙ name_absent xs number (λ k d h. none (suc k) d (omega arith))
 
--- what a binary search for a number says
+-- what a binary search for a number finds
 pub record Found (xs : LentEntries) (number at : ℕ) : Type 0 where
   pub within : at < length xs
   pub has : (d : LentEntry) → (get_or xs at d).0 ≡ number
@@ -82,10 +82,10 @@ module _ (xs : LentEntries) (up : IsAscending xs) (number : ℕ) where
       ] in
       grind (arith, nat_tests)
 
-  pub searched : (r : Result ℕ ℕ) → IsSearchInRange r (length xs) → IsBinarySearchResult (λ e. nat_cmp e.0 number) xs r
+  pub search_result : (r : Result ℕ ℕ) → IsSearchInRange r (length xs) → IsBinarySearchResult (λ e. nat_cmp e.0 number) xs r
       → MatchResult r (λ at. Found xs number at) (λ gap. name_in (entries_of xs) number ≡ None)
-  searched (Ok at) within equal = record { within = within; has = λ d. ranked _ number _ (sym (equal d)) }
-  searched (Err at) within parted = name_absent xs number (λ k d h same. elim (cases_lt k at) [
+  search_result (Ok at) within equal = record { within = within; has = λ d. ranked _ number _ (sym (equal d)) }
+  search_result (Err at) within parted = name_absent xs number (λ k d h same. elim (cases_lt k at) [
     | inl before ↦ (let less = ranked _ number _ (sym ((parted comparisons_rise).0 k d (omega arith) before)) in omega (arith, less, same))
     | inr after ↦ (let more = ranked _ number _ (sym ((parted comparisons_rise).1 k d after h)) in omega (arith, more, same))
   ])
@@ -104,7 +104,7 @@ family_absent xs family clear k d within same =
 pub family_missing : (xs : LentLists) (family : CodeFamily) → list_any (λ list. is_family list.0 family) xs ≡ false → ¬ (HasFamily xs family)
 family_missing xs family clear (k, list, within, there, same) = family_absent xs family clear k list within (ap (λ l. l.0) there ∙ same)
 
--- one more list is well formed behind others
+-- one more list after valid ones
 pub names_more : (xs : LentLists) (i : ℕ) (d : CodeFamily × Bor LentEntries) → i < length xs → AreCodeNames (take i xs)
     → All (λ list. list.0 ≢ (get_or xs i d).0) (take i xs)
     → IsAscending (get_or xs i d).1.now → AreCodeNames (take (i + 1) xs)

@@ -22,7 +22,7 @@ LentLists = List (CodeFamily × Bor LentEntries)
 abbrev pub IsAscending : LentEntries → Type 0
 IsAscending = AllPairs (λ a b. a.0 < b.0)
 
--- the lists that are accepted: each ascends, and no two are of one family
+-- valid lists: each ascends, and no two are of one family
 pub record AreCodeNames (lists : LentLists) : Type 0 where
   pub ascending : All (λ list. IsAscending list.1.now) lists
   pub apart : AllPairs (λ a b. a.0 ≢ b.0) lists
@@ -31,19 +31,21 @@ pub record AreCodeNames (lists : LentLists) : Type 0 where
 abbrev pub HasFamily : LentLists → CodeFamily → Type 0
 HasFamily lists family = Any (λ list. list.0 ≡ family) lists
 
--- the error of a list behind others: its family is repeated, and if it isn't, its codes don't ascend
-abbrev pub IsRefused : LentLists → CodeFamily → LentEntries → CodeNamesError → Type 0
-IsRefused before family entries (Repeated f) = (f ≡ family) × HasFamily before family
-IsRefused before family entries (NotAscending f) = (f ≡ family) × (¬ (HasFamily before family)) × (¬ (IsAscending entries))
+-- the error of a list after others: `Repeated` if one of them is of its family, otherwise
+-- `NotAscending` if its codes don't ascend
+abbrev pub IsCodeListError : LentLists → CodeFamily → LentEntries → CodeNamesError → Type 0
+IsCodeListError before family entries (Repeated f) = (f ≡ family) × HasFamily before family
+IsCodeListError before family entries (NotAscending f) =
+    (f ≡ family) × (¬ (HasFamily before family)) × (¬ (IsAscending entries))
 
--- the error of lists: that of the first one behind accepted ones
-pub record IsFirstRefusal (lists : LentLists) (e : CodeNamesError) : Type 0 where
-  pub place : ℕ
+-- the error of lists: that of the first one that has an error
+pub record IsFirstListError (lists : LentLists) (e : CodeNamesError) : Type 0 where
+  pub index : ℕ
   pub family : CodeFamily
   pub entries : Bor LentEntries
-  pub there : slice_get lists place ≡ Some (family, entries)
-  pub before : AreCodeNames (take place lists)
-  pub refused : IsRefused (take place lists) family entries.now e
+  pub there : slice_get lists index ≡ Some (family, entries)
+  pub before : AreCodeNames (take index lists)
+  pub error : IsCodeListError (take index lists) family entries.now e
 
 -- ---- the lists as values
 
@@ -87,4 +89,5 @@ is_in lists family code = is_some (name_of lists family code)
 
 -- the list of the family holds the code with this name
 abbrev pub HasName : Lists → CodeFamily → ℕ → List ℕ → Type 0
-HasName lists family code name = (entries : Entries) × Contains lists (family, entries) × Contains entries (code, name)
+HasName lists family code name =
+    (entries : Entries) × Contains lists (family, entries) × Contains entries (code, name)

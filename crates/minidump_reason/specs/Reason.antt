@@ -1,5 +1,6 @@
--- The reason of a crash: a decision table over the system, the processor, the exception record and the listed codes.
--- Windows' winnt.h and ntstatus.h, Darwin's mach/exception_types.h, Linux' asm/signal.h.
+-- The reason of a crash: a decision table over the system, the processor, the exception record and
+-- the listed codes. Windows' winnt.h and ntstatus.h, Darwin's mach/exception_types.h, Linux'
+-- asm/signal.h.
 use Rattle.std.specs.Prelude.{ℕ, ◌%◌, ◌^◌, ◌==◌, nat_le, not, ◌&&◌, Bool, true, false, List, [], ◌∷◌, bit_and, slice_index, Option, Some, None}
 use Rattle.std.specs.Prelude.{unwrap_or, if◌then◌else◌}
 use Rattle.minidump_format.specs.declared.format.exception.MINIDUMP_EXCEPTION.{MINIDUMP_EXCEPTION}
@@ -15,46 +16,51 @@ use Rattle.minidump_reason.specs.Bits.{bits_of}
 use Rattle.minidump_reason.specs.Names.{Lists, is_in}
 
 -- the reason of the first row whose condition is met
-abbrev pub decided : List (Bool × CrashReason) → CrashReason → CrashReason
-decided [] otherwise = otherwise
-decided ((condition, answer) ∷ rows) otherwise = if condition then answer else decided rows otherwise
+abbrev pub first_match : List (Bool × CrashReason) → CrashReason → CrashReason
+first_match [] otherwise = otherwise
+first_match ((condition, answer) ∷ rows) otherwise =
+    if condition then answer else first_match rows otherwise
 
 -- ---- Windows
 
 -- HRESULT of winerror.h: the facility in bits 16 to 27, the error in the 16 below
 abbrev pub windows_error_with_facility : Lists → ℕ → Option CrashReason
 windows_error_with_facility names c =
-    if not (bit_and c 0xf0000000 == 0) && (is_in names family.WinErrorFacility (bits_of c 16 12) && is_in names family.WinError (bits_of c 0 16))
+    if not (bit_and c 0xf0000000 == 0)
+    && (is_in names family.WinErrorFacility (bits_of c 16 12)
+    && is_in names family.WinError (bits_of c 0 16))
     then Some (reason.WindowsWinErrorWithFacility (bits_of c 16 12) (bits_of c 0 16)) else None
 
 -- an error code of winerror.h or ntstatus.h
 abbrev pub windows_error : Lists → ℕ → CrashReason
-windows_error names c = decided (
+windows_error names c = first_match (
     (is_in names family.WinError c, reason.WindowsWinError c)
     ∷ (is_in names family.NtStatus c, reason.WindowsNtStatus c)
     ∷ []) (unwrap_or (windows_error_with_facility names c) (reason.WindowsUnknown c))
 
 -- an exception code, else an error code
 abbrev pub windows_code : Lists → ℕ → CrashReason
-windows_code names c = decided (
+windows_code names c = first_match (
     (is_in names family.Windows c, reason.WindowsGeneral c)
     ∷ []) (windows_error names c)
 
--- EXCEPTION_ACCESS_VIOLATION, EXCEPTION_IN_PAGE_ERROR and STATUS_STACK_BUFFER_OVERRUN, by k parameters, p0 and p2 of them
-abbrev windows_refined : Lists → ℕ → ℕ → ℕ → CrashReason → CrashReason
-windows_refined names k p0 p2 (reason.WindowsGeneral c) = decided (
+-- EXCEPTION_ACCESS_VIOLATION, EXCEPTION_IN_PAGE_ERROR and STATUS_STACK_BUFFER_OVERRUN, by k
+-- parameters, p0 and p2 of them
+abbrev refine_windows : Lists → ℕ → ℕ → ℕ → CrashReason → CrashReason
+refine_windows names k p0 p2 (reason.WindowsGeneral c) = first_match (
     (c == 0xc0000005 && (nat_le 1 k && is_in names family.WindowsAccess p0), reason.WindowsAccessViolation p0)
     ∷ (c == 0xc0000006 && (nat_le 3 k && is_in names family.WindowsInPageError p0), reason.WindowsInPageError p0 (p2 % 2 ^ 32))
     ∷ []) (reason.WindowsGeneral c)
-windows_refined names k p0 p2 (reason.WindowsNtStatus c) = decided (
+refine_windows names k p0 p2 (reason.WindowsNtStatus c) = first_match (
     (c == 0xc0000409 && nat_le 1 k, reason.WindowsStackBufferOverrun (p0 % 2 ^ 32))
     ∷ []) (reason.WindowsNtStatus c)
-windows_refined names k p0 p2 other = other
+refine_windows names k p0 p2 other = other
 
 -- EXCEPTION_RECORD of winnt.h
 abbrev pub windows_reason : Lists → MINIDUMP_EXCEPTION → CrashReason
 windows_reason names r =
-    windows_refined names r.number_parameters (slice_index r.exception_information 0) (slice_index r.exception_information 2)
+    refine_windows names r.number_parameters
+    (slice_index r.exception_information 0) (slice_index r.exception_information 2)
     (windows_code names r.exception_code)
 
 -- ---- macOS and iOS
@@ -76,17 +82,19 @@ is_x86 X86_64 = true
 is_x86 _ = false
 
 -- three rows: the reason of the processor's family, if its list has the flags
-abbrev pub by_processor : Lists → Cpu → ℕ → (CodeFamily × CrashReason) → (CodeFamily × CrashReason) → (CodeFamily × CrashReason) → CrashReason → CrashReason
-by_processor names cpu f arm ppc x86 otherwise = decided (
+abbrev pub by_processor : Lists → Cpu → ℕ → (CodeFamily × CrashReason) → (CodeFamily × CrashReason)
+    → (CodeFamily × CrashReason) → CrashReason → CrashReason
+by_processor names cpu f arm ppc x86 otherwise = first_match (
     (is_arm cpu && is_in names arm.0 f, arm.1)
     ∷ (is_ppc cpu && is_in names ppc.0 f, ppc.1)
     ∷ (is_x86 cpu && is_in names x86.0 f, x86.1)
     ∷ []) otherwise
 
--- a listed code c by the flags f and the parameters p1 and p2: 1 EXC_BAD_ACCESS, 2 EXC_BAD_INSTRUCTION, 3 EXC_ARITHMETIC,
--- 5 EXC_SOFTWARE, 6 EXC_BREAKPOINT, 11 EXC_RESOURCE, 12 EXC_GUARD
-abbrev pub mac_refined : Lists → Cpu → ℕ → ℕ → ℕ → ℕ → CrashReason
-mac_refined names cpu c f p1 p2 = decided (
+-- a listed code c by the flags f and the parameters p1 and p2: 1 EXC_BAD_ACCESS,
+-- 2 EXC_BAD_INSTRUCTION, 3 EXC_ARITHMETIC, 5 EXC_SOFTWARE, 6 EXC_BREAKPOINT, 11 EXC_RESOURCE,
+-- 12 EXC_GUARD
+abbrev pub mac_exception_reason : Lists → Cpu → ℕ → ℕ → ℕ → ℕ → CrashReason
+mac_exception_reason names cpu c f p1 p2 = first_match (
     (c == 1 && is_in names family.MacBadAccessKern f, reason.MacBadAccessKern f)
     ∷ (c == 1 && (is_arm cpu && is_in names family.MacBadAccessArm f), reason.MacBadAccessArm f)
     ∷ (c == 1 && (is_ppc cpu && is_in names family.MacBadAccessPpc f), reason.MacBadAccessPpc f)
@@ -109,14 +117,16 @@ mac_refined names cpu c f p1 p2 = decided (
 abbrev pub mac_reason : Lists → Cpu → MINIDUMP_EXCEPTION → Option CrashReason
 mac_reason names cpu r =
     if is_in names family.Mac r.exception_code
-    then Some (mac_refined names cpu r.exception_code r.exception_flags (slice_index r.exception_information 1) (slice_index r.exception_information 2))
+    then Some (mac_exception_reason names cpu r.exception_code r.exception_flags
+    (slice_index r.exception_information 1) (slice_index r.exception_information 2))
     else None
 
 -- ---- Linux and Android
 
--- a listed signal c by the flags f, its si_code: 4 SIGILL, 5 SIGTRAP, 7 SIGBUS, 8 SIGFPE, 11 SIGSEGV, 31 SIGSYS
-abbrev pub linux_refined : Lists → ℕ → ℕ → CrashReason
-linux_refined names c f = decided (
+-- a listed signal c by the flags f, its si_code: 4 SIGILL, 5 SIGTRAP, 7 SIGBUS, 8 SIGFPE,
+-- 11 SIGSEGV, 31 SIGSYS
+abbrev pub linux_signal_reason : Lists → ℕ → ℕ → CrashReason
+linux_signal_reason names c f = first_match (
     (c == 4 && is_in names family.LinuxSigill f, reason.LinuxSigill f)
     ∷ (c == 5 && is_in names family.LinuxSigtrap f, reason.LinuxSigtrap f)
     ∷ (c == 7 && is_in names family.LinuxSigbus f, reason.LinuxSigbus f)
@@ -127,7 +137,10 @@ linux_refined names c f = decided (
 
 -- a listed signal
 abbrev pub linux_reason : Lists → MINIDUMP_EXCEPTION → Option CrashReason
-linux_reason names r = if is_in names family.Linux r.exception_code then Some (linux_refined names r.exception_code r.exception_flags) else None
+linux_reason names r =
+    if is_in names family.Linux r.exception_code
+    then Some (linux_signal_reason names r.exception_code r.exception_flags)
+    else None
 
 -- ---- every system
 
@@ -142,4 +155,5 @@ reason_by_system names other cpu r = None
 
 -- an exception: it is unknown where its system has no table or doesn't list its code
 abbrev pub crash_reason : Lists → Os → Cpu → MINIDUMP_EXCEPTION → CrashReason
-crash_reason names os cpu r = unwrap_or (reason_by_system names os cpu r) (reason.Unknown r.exception_code r.exception_flags)
+crash_reason names os cpu r =
+    unwrap_or (reason_by_system names os cpu r) (reason.Unknown r.exception_code r.exception_flags)

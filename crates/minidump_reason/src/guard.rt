@@ -2,11 +2,11 @@ ghost use Rattle.std.specs.Prelude.{◌≡◌, ◌++◌, OnOk, codes, string_byt
 ghost use Rattle.std.specs.List.{flat_map};
 ghost use Rattle.minidump_bytes.specs.Piece.{piece_text};
 ghost use Rattle.minidump_reason.specs.Names.{name_of};
-ghost use Rattle.minidump_reason.specs.ReasonText.{flavored, guard_detail, guard_flavor, guard_text};
+ghost use Rattle.minidump_reason.specs.ReasonText.{flavor_text, guard_detail, guard_flavor, guard_text};
 
 use crate::bits::bits_of;
 use crate::flavor::Flavor;
-use crate::text::push_listed;
+use crate::text::push_name;
 use crate::{CodeFamily, CodeNames};
 use minidump_bytes::{Piece, push_pieces};
 use std::alloc::AllocError;
@@ -33,9 +33,10 @@ pub(crate) fn push_guard(
     code: u64,
     subcode: u64,
 ) -> Result<(), AllocError>
-    ensures { OnOk result (string_bytes out.new ≡ string_bytes out.old ++ guard_text names.now kind code subcode) }
+    ensures { OnOk result (string_bytes out.new ≡ string_bytes out.old
+        ++ guard_text names.now kind code subcode) }
 {
-    push_listed(
+    push_name(
         out,
         names,
         "EXC_GUARD / ",
@@ -55,7 +56,8 @@ fn push_guard_detail(
     code: u64,
     subcode: u64,
 ) -> Result<(), AllocError>
-    ensures { OnOk result (string_bytes out.new ≡ string_bytes out.old ++ guard_detail names.now kind code subcode) }
+    ensures { OnOk result (string_bytes out.new ≡ string_bytes out.old
+        ++ guard_detail names.now kind code subcode) }
 {
     match kind {
         GUARD_TYPE_NONE => Ok(()),
@@ -79,7 +81,8 @@ fn push_guard_flavor(
     code: u64,
     subcode: u64,
 ) -> Result<(), AllocError>
-    ensures { OnOk result (string_bytes out.new ≡ string_bytes out.old ++ guard_flavor names.now kind code subcode) }
+    ensures { OnOk result (string_bytes out.new ≡ string_bytes out.old
+        ++ guard_flavor names.now kind code subcode) }
 {
     let flavor = Flavor {
         number: bits_of(code, 32, 29),
@@ -108,13 +111,13 @@ fn push_guard_flavor(
         ]),
         _ => {
             out.push_str(" / ")?;
-            flavor.push_unnamed(out)
+            flavor.push_codes(out)
         }
     }
 }
 
 impl Flavor {
-    // Appends the name of a guard's flavor and its details.
+    // Appends a separator, and the flavor and its details.
     fn push_guard(
         self,
         out: &mut String,
@@ -123,7 +126,9 @@ impl Flavor {
         details: &[Piece<'_>],
     ) -> Result<(), AllocError>
         ensures { OnOk result (string_bytes out.new ≡ string_bytes out.old
-            ++ (codes " / " ++ flavored (name_of names.now family self.number) (flat_map piece_text details.now) self.code self.subcode)) }
+            ++ (codes " / "
+            ++ flavor_text (name_of names.now family self.number)
+            (flat_map piece_text details.now) self.code self.subcode)) }
     {
         out.push_str(" / ")?;
         self.push(out, names, family, details)

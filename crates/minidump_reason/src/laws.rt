@@ -18,13 +18,13 @@ pub fn codes_have_their_listed_names(names: &CodeNames<'_>)
 pub fn wide_codes_are_unlisted(names: &CodeNames<'_>, family: CodeFamily, code: u64)
     ensures { 2 ^ 32 ≤ code → is_in names.now family code ≡ false }
 {
-    match names.listed(family, code) {
-        Some(listed) => has_32_bits(listed),
+    match names.find_code(family, code) {
+        Some(code) => has_32_bits(code),
         None => {}
     }
 }
 
-// Says that a code has at most 32 bits.
+// Proves that a code has at most 32 bits.
 fn has_32_bits(_code: u32)
     ensures { _code < 2 ^ 32 }
 {}

@@ -1,5 +1,5 @@
 ghost use Rattle.std.specs.Prelude.{◌≡◌};
-ghost use Rattle.minidump_reason.specs.Reason.{linux_reason, linux_refined};
+ghost use Rattle.minidump_reason.specs.Reason.{linux_reason, linux_signal_reason};
 
 use crate::{CodeFamily, CodeNames, CrashReason};
 use minidump_format::format::MINIDUMP_EXCEPTION_STREAM;
@@ -30,13 +30,13 @@ impl CrashReason {
         if !names.has(CodeFamily::Linux, record.exception_code) {
             return None;
         }
-        Some(refined(record.exception_code, record.exception_flags, names))
+        Some(signal_reason(record.exception_code, record.exception_flags, names))
     }
 }
 
 // Returns the reason for a listed signal.
-fn refined(signal: u32, flags: u32, names: &CodeNames<'_>) -> CrashReason
-    ensures { result ≡ linux_refined names.now signal flags }
+fn signal_reason(signal: u32, flags: u32, names: &CodeNames<'_>) -> CrashReason
+    ensures { result ≡ linux_signal_reason names.now signal flags }
 {
     match signal {
         SIGILL if names.has(CodeFamily::LinuxSigill, flags) => CrashReason::LinuxSigill(flags),

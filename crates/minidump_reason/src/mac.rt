@@ -1,5 +1,5 @@
 ghost use Rattle.std.specs.Prelude.{◌≡◌, slice_index};
-ghost use Rattle.minidump_reason.specs.Reason.{by_processor, mac_reason, mac_refined};
+ghost use Rattle.minidump_reason.specs.Reason.{by_processor, mac_reason, mac_exception_reason};
 
 use crate::bits::bits_of;
 use crate::{CodeFamily, CodeNames, CrashReason};
@@ -33,15 +33,17 @@ impl CrashReason {
         if !names.has(CodeFamily::Mac, record.exception_code) {
             return None;
         }
-        Some(refined(record, cpu, names))
+        Some(exception_reason(record, cpu, names))
     }
 }
 
 // Returns the reason for an exception with a listed code.
 #[rattlefmt::skip]
-fn refined(raw: &MINIDUMP_EXCEPTION, cpu: Cpu, names: &CodeNames<'_>) -> CrashReason
-    ensures { result ≡ mac_refined names.now cpu raw.now.exception_code raw.now.exception_flags
-        (slice_index raw.now.exception_information 1) (slice_index raw.now.exception_information 2) }
+fn exception_reason(raw: &MINIDUMP_EXCEPTION, cpu: Cpu, names: &CodeNames<'_>) -> CrashReason
+    ensures { result
+        ≡ mac_exception_reason names.now cpu raw.now.exception_code raw.now.exception_flags
+        (slice_index raw.now.exception_information 1)
+        (slice_index raw.now.exception_information 2) }
 {
     let flags = raw.exception_flags;
     let general = CrashReason::MacGeneral(raw.exception_code, flags);

@@ -1,7 +1,7 @@
 ghost use Rattle.std.specs.Prelude.{◌≡◌, [], All, MatchBool, MatchOption, MatchResult, if◌then◌else◌};
 ghost use Rattle.std.specs.List.{list_any};
 ghost use Rattle.std.specs.Option.{option_copied};
-ghost use Rattle.minidump_reason.specs.Names.{AreCodeNames, IsAscending, IsFirstRefusal, entries_of, is_family, is_in, list_of, lists_of, name_in, name_of};
+ghost use Rattle.minidump_reason.specs.Names.{AreCodeNames, IsAscending, IsFirstListError, entries_of, is_family, is_in, list_of, lists_of, name_in, name_of};
 
 use crate::CodeFamily;
 use std::marker::Model;
@@ -32,29 +32,31 @@ impl<'n> Model for CodeNames<'n> {
 }
 
 impl<'n> CodeNames<'n> {
-    /// Makes names without any list. With them the reason of each exception is
+    /// Creates names without any list. With them the reason of each exception is
     /// [`CrashReason::Unknown`](crate::CrashReason::Unknown), or on Windows
-    /// [`CrashReason::WindowsUnknown`](crate::CrashReason::WindowsUnknown): the lists decide which reason an exception
-    /// has, and not only its text.
+    /// [`CrashReason::WindowsUnknown`](crate::CrashReason::WindowsUnknown): the lists decide which
+    /// reason an exception has, not only its text.
     pub fn empty() -> CodeNames<'n>
         ensures { result ≡ [] }
     {
         CodeNames { lists: &[] }
     }
 
-    /// Makes names of lists, each of which is sorted by its codes. Takes no memory.
+    /// Creates names from lists, each of which is sorted by its codes. Takes no memory.
     ///
-    /// The lists are tested in order. A list is refused as [`CodeNamesError::Repeated`] if an earlier one
-    /// is of the same family, and else as [`CodeNamesError::NotAscending`] if its codes are not strictly
-    /// ascending.
+    /// Returns the error of the first list that has one: [`CodeNamesError::Repeated`] if an earlier
+    /// list is of the same family, otherwise [`CodeNamesError::NotAscending`] if its codes are not
+    /// strictly ascending.
     pub fn new(
         lists: &'n [(CodeFamily, &'n [(u32, &'n str)])],
     ) -> Result<CodeNames<'n>, CodeNamesError>
-        ensures { MatchResult result (λ names. (names ≡ lists_of lists.entry.now) × AreCodeNames lists.entry.now) (λ e. IsFirstRefusal lists.entry.now e) }
+        ensures { MatchResult result
+            (λ names. (names ≡ lists_of lists.entry.now) × AreCodeNames lists.entry.now)
+            (λ e. IsFirstListError lists.entry.now e) }
     {
-        for place in 0..lists.len() {
-            let (family, entries) = lists[place];
-            if has_family(&lists[..place], family) {
+        for index in 0..lists.len() {
+            let (family, entries) = lists[index];
+            if has_family(&lists[..index], family) {
                 return Err(CodeNamesError::Repeated(family));
             }
             if !is_ascending(entries) {
@@ -91,7 +93,7 @@ impl<'n> CodeNames<'n> {
     }
 
     // Returns the code if the list of the family has it.
-    pub(crate) fn listed(&self, family: CodeFamily, code: u64) -> Option<u32>
+    pub(crate) fn find_code(&self, family: CodeFamily, code: u64) -> Option<u32>
         ensures { result ≡ (if is_in self.now family code then Some code else None) }
     {
         match self.entry(family, code) {
@@ -150,8 +152,8 @@ fn entry_in<'n>(entries: &[(u32, &'n str)], code: u64) -> Option<(u32, &'n str)>
     ensures { MatchOption result (name_in (entries_of entries.now) code ≡ None)
         (λ entry. (entry.0 ≡ code) × (name_in (entries_of entries.now) code ≡ Some entry.1.now)) }
 {
-    match entries.binary_search_by_key(&code, |&(listed, _)| listed as u64) {
-        Ok(place) => Some(entries[place]),
+    match entries.binary_search_by_key(&code, |&(number, _)| number as u64) {
+        Ok(index) => Some(entries[index]),
         Err(_) => None,
     }
 }

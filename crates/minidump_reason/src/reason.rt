@@ -5,7 +5,8 @@ use crate::CodeNames;
 use minidump_format::format::MINIDUMP_EXCEPTION_STREAM;
 use minidump_system::{Cpu, Os};
 
-/// The reason of a crash, as codes. [`CrashReason::text`] returns it in words, [`CrashReason::write_to`] writes them.
+/// The reason of a crash, as codes. [`CrashReason::text`] returns its text,
+/// [`CrashReason::write_to`] writes it.
 #[derive(Clone, Copy, Debug, PartialEq, Eq)]
 pub enum CrashReason {
     /// An exception on macOS or iOS: its code and flags.
@@ -68,21 +69,22 @@ pub enum CrashReason {
     WindowsAccessViolation(u32),
     /// A page that could not be loaded: the kind of access, and the NTSTATUS value of the failure.
     WindowsInPageError(u32, u64),
-    /// A fast fail of a program that found itself corrupted, by the fast fail code.
+    /// A fast fail of a program that detected its own corruption, by the fast fail code.
     WindowsStackBufferOverrun(u64),
     /// A code of Windows that is in no list.
     WindowsUnknown(u32),
-    /// An exception on an unsupported system, or with an unlisted code on one other than Windows: its code and flags.
+    /// An exception on an unsupported system, or with an unlisted code on one other than Windows:
+    /// its code and flags.
     Unknown(u32, u32),
 }
 
 impl CrashReason {
-    /// Returns the reason for an exception on any system. It is [`CrashReason::Unknown`] if the system is
-    /// none of Windows, macOS, iOS, Linux and Android, or if the code is unlisted; on Windows an unlisted code is
-    /// [`CrashReason::WindowsUnknown`].
+    /// Returns the reason for an exception on any system. It is [`CrashReason::Unknown`] if the
+    /// system is none of Windows, macOS, iOS, Linux and Android, or if the code is unlisted; on
+    /// Windows an unlisted code is [`CrashReason::WindowsUnknown`].
     ///
-    /// The lists of `names` decide which reason it is: a code counts as one of a family only if the family's
-    /// list has it.
+    /// The lists of `names` decide which reason it is: a code belongs to a family only if the
+    /// family's list has it.
     pub fn from_exception(
         raw: &MINIDUMP_EXCEPTION_STREAM,
         os: Os,

@@ -4,7 +4,7 @@ ghost use Rattle.minidump_reason.specs.ReasonText.{cpu_limit, io_limit, memory_l
 
 use crate::bits::bits_of;
 use crate::flavor::Flavor;
-use crate::text::push_listed;
+use crate::text::push_name;
 use crate::{CodeFamily, CodeNames};
 use minidump_bytes::Piece;
 use std::alloc::AllocError;
@@ -27,9 +27,10 @@ pub(crate) fn push_resource(
     code: u64,
     subcode: u64,
 ) -> Result<(), AllocError>
-    ensures { OnOk result (string_bytes out.new ≡ string_bytes out.old ++ resource_text names.now kind code subcode) }
+    ensures { OnOk result (string_bytes out.new ≡ string_bytes out.old
+        ++ resource_text names.now kind code subcode) }
 {
-    push_listed(
+    push_name(
         out,
         names,
         "EXC_RESOURCE / ",
@@ -49,7 +50,8 @@ fn push_resource_flavor(
     code: u64,
     subcode: u64,
 ) -> Result<(), AllocError>
-    ensures { OnOk result (string_bytes out.new ≡ string_bytes out.old ++ resource_flavor names.now kind code subcode) }
+    ensures { OnOk result (string_bytes out.new ≡ string_bytes out.old
+        ++ resource_flavor names.now kind code subcode) }
 {
     match kind {
         RESOURCE_TYPE_CPU => push_cpu_limit(out, names, code, subcode),
@@ -57,7 +59,7 @@ fn push_resource_flavor(
         RESOURCE_TYPE_MEMORY => push_memory_limit(out, names, code, subcode),
         RESOURCE_TYPE_IO => push_io_limit(out, names, code, subcode),
         RESOURCE_TYPE_THREADS => push_threads_limit(out, names, code, subcode),
-        _ => limit(code, subcode).push_unnamed(out),
+        _ => limit(code, subcode).push_codes(out),
     }
 }
 
@@ -82,7 +84,8 @@ fn push_cpu_limit(
     code: u64,
     subcode: u64,
 ) -> Result<(), AllocError>
-    ensures { OnOk result (string_bytes out.new ≡ string_bytes out.old ++ cpu_limit names.now code subcode) }
+    ensures { OnOk result (string_bytes out.new ≡ string_bytes out.old
+        ++ cpu_limit names.now code subcode) }
 {
     let interval = bits_of(code, 7, 25);
     let permitted = bits_of(code, 0, 3);
@@ -101,7 +104,8 @@ fn push_wakeups_limit(
     code: u64,
     subcode: u64,
 ) -> Result<(), AllocError>
-    ensures { OnOk result (string_bytes out.new ≡ string_bytes out.old ++ wakeups_limit names.now code subcode) }
+    ensures { OnOk result (string_bytes out.new ≡ string_bytes out.old
+        ++ wakeups_limit names.now code subcode) }
 {
     let interval = bits_of(code, 20, 20);
     let permitted = bits_of(code, 0, 12);
@@ -120,7 +124,8 @@ fn push_memory_limit(
     code: u64,
     subcode: u64,
 ) -> Result<(), AllocError>
-    ensures { OnOk result (string_bytes out.new ≡ string_bytes out.old ++ memory_limit names.now code subcode) }
+    ensures { OnOk result (string_bytes out.new ≡ string_bytes out.old
+        ++ memory_limit names.now code subcode) }
 {
     let permitted = bits_of(code, 0, 13);
     limit(code, subcode).push(out, names, CodeFamily::MacResourceMemory, &[
@@ -136,7 +141,8 @@ fn push_io_limit(
     code: u64,
     subcode: u64,
 ) -> Result<(), AllocError>
-    ensures { OnOk result (string_bytes out.new ≡ string_bytes out.old ++ io_limit names.now code subcode) }
+    ensures { OnOk result (string_bytes out.new ≡ string_bytes out.old
+        ++ io_limit names.now code subcode) }
 {
     let interval = bits_of(code, 15, 17);
     let permitted = bits_of(code, 0, 15);
@@ -155,7 +161,8 @@ fn push_threads_limit(
     code: u64,
     subcode: u64,
 ) -> Result<(), AllocError>
-    ensures { OnOk result (string_bytes out.new ≡ string_bytes out.old ++ threads_limit names.now code subcode) }
+    ensures { OnOk result (string_bytes out.new ≡ string_bytes out.old
+        ++ threads_limit names.now code subcode) }
 {
     let permitted = bits_of(code, 0, 15);
     limit(code, subcode).push(out, names, CodeFamily::MacResourceThreads, &[

@@ -2,7 +2,7 @@ ghost use Rattle.std.specs.Prelude.{◌≡◌, ◌++◌, IfOk, IsOkUnless, IsUtf
 ghost use Rattle.std.specs.List.{flat_map};
 ghost use Rattle.minidump_bytes.specs.Piece.{piece_text};
 ghost use Rattle.minidump_format.specs.Print.{Prints};
-ghost use Rattle.minidump_reason.specs.ReasonText.{linux_general_text, listed, mac_general_text, name_text, reason_text, windows_general_text};
+ghost use Rattle.minidump_reason.specs.ReasonText.{linux_general_text, name_with_prefix, mac_general_text, name_text, reason_text, windows_general_text};
 
 use crate::guard::push_guard;
 use crate::resource::push_resource;
@@ -12,7 +12,7 @@ use minidump_format::{Error, no_memory, put_text};
 use std::alloc::{AllocError, Global};
 use std::io::Write;
 
-// The codes with words of their own: Crashpad's simulated exceptions, Chromium's lack of memory, and
+// The codes with texts of their own: Crashpad's simulated exceptions, Chromium's out of memory, and
 // Visual C++'s exceptions.
 const MAC_SIMULATED: u32 = 0x4350_7378;
 
@@ -23,10 +23,11 @@ const WINDOWS_CPP_EXCEPTION: u32 = 0xe06d_7363;
 const WINDOWS_SIMULATED: u32 = 0x0517_a7ed;
 
 impl CrashReason {
-    /// Writes the reason in words, with the names of its codes. A code without a name is written in
-    /// hexadecimal. The names may be others than those that made the reason.
+    /// Writes the text of the reason, with the names of its codes. A code without a name is written
+    /// in hexadecimal. The names may differ from those that the reason was found with.
     ///
-    /// The errors are [`Error::IoError`], if the writer has failed, and else [`Error::OutOfMemory`].
+    /// Returns [`Error::IoError`] if the writer has failed, and otherwise [`Error::OutOfMemory`] if
+    /// an allocation fails.
     pub fn write_to<W: Write>(
         &self,
         alloc: Global,
@@ -36,23 +37,24 @@ impl CrashReason {
         ensures prints { Prints W.contents f.old f.new (reason_text names.now self.now) result }
         ensures utf8 { IfOk result (λ _. IsUtf8 (reason_text names.now self.now)) }
     {
-        match made_reason(alloc, names, self) {
+        match format_reason(alloc, names, self) {
             Ok(text) => put_text(f, text.as_str()),
             Err(AllocError) => Err(no_memory(f)),
         }
     }
 
-    /// Returns the text that [`CrashReason::write_to`] writes. The only error is [`Error::OutOfMemory`].
+    /// Returns the text that [`CrashReason::write_to`] writes. The only error is
+    /// [`Error::OutOfMemory`].
     pub fn text(&self, alloc: Global, names: &CodeNames<'_>) -> Result<String, Error>
         ensures value { IfOk result (λ text. string_bytes text ≡ reason_text names.now self.now) }
         ensures memory { IsOkUnless result Error.OutOfMemory }
     {
-        Ok(made_reason(alloc, names, self)?)
+        Ok(format_reason(alloc, names, self)?)
     }
 }
 
-// Makes the words of a reason.
-fn made_reason(
+// Returns the text of a reason.
+fn format_reason(
     alloc: Global,
     names: &CodeNames<'_>,
     reason: &CrashReason,
@@ -64,15 +66,16 @@ fn made_reason(
     Ok(text)
 }
 
-// Appends the words of a reason.
+// Appends the text of a reason.
 fn push_reason(
     out: &mut String,
     names: &CodeNames<'_>,
     reason: &CrashReason,
 ) -> Result<(), AllocError>
-    ensures { OnOk result (string_bytes out.new ≡ string_bytes out.old ++ reason_text names.now reason.now) }
+    ensures { OnOk result (string_bytes out.new ≡ string_bytes out.old
+        ++ reason_text names.now reason.now) }
 {
-    let (words, family, code) = match *reason {
+    let (prefix, family, code) = match *reason {
         CrashReason::MacGeneral(code, flags) => return push_mac_general(out, names, code, flags),
         CrashReason::MacBadAccessKern(n) => ("EXC_BAD_ACCESS / ", CodeFamily::MacBadAccessKern, n),
         CrashReason::MacBadAccessArm(n) => ("EXC_BAD_ACCESS / ", CodeFamily::MacBadAccessArm, n),
@@ -130,8 +133,8 @@ fn push_reason(
             return push_in_page_error(out, names, access, status);
         }
         CrashReason::WindowsStackBufferOverrun(n) => {
-            let words = "EXCEPTION_STACK_BUFFER_OVERRUN / ";
-            return push_listed(out, names, words, CodeFamily::FastFail, n);
+            let prefix = "EXCEPTION_STACK_BUFFER_OVERRUN / ";
+            return push_name(out, names, prefix, CodeFamily::FastFail, n);
         }
         CrashReason::WindowsUnknown(code) => {
             return push_unknown(out, &[Piece::Wide(code as u64, 8)]);
@@ -144,20 +147,21 @@ fn push_reason(
             );
         }
     };
-    push_row(out, names, words, family, code)
+    push_name_32(out, names, prefix, family, code)
 }
 
-// Appends words and the name of a code of 32 bits.
-fn push_row(
+// Appends a prefix and the name of a code of 32 bits.
+fn push_name_32(
     out: &mut String,
     names: &CodeNames<'_>,
-    words: &str,
+    prefix: &str,
     family: CodeFamily,
     code: u32,
 ) -> Result<(), AllocError>
-    ensures { OnOk result (string_bytes out.new ≡ string_bytes out.old ++ listed names.now words.now family code) }
+    ensures { OnOk result (string_bytes out.new ≡ string_bytes out.old
+        ++ name_with_prefix names.now prefix.now family code) }
 {
-    push_listed(out, names, words, family, code as u64)
+    push_name(out, names, prefix, family, code as u64)
 }
 
 // Appends a Win32 error with its facility.
@@ -168,16 +172,17 @@ fn push_facility_error(
     error: u32,
 ) -> Result<(), AllocError>
     ensures { OnOk result (string_bytes out.new
-        ≡ string_bytes out.old ++ reason_text names.now (CrashReason.WindowsWinErrorWithFacility facility error)) }
+        ≡ string_bytes out.old
+        ++ reason_text names.now (CrashReason.WindowsWinErrorWithFacility facility error)) }
 {
-    push_listed(
+    push_name(
         out,
         names,
         "",
         CodeFamily::WinErrorFacility,
         facility as u64,
     )?;
-    push_listed(out, names, " / ", CodeFamily::WinError, error as u64)
+    push_name(out, names, " / ", CodeFamily::WinError, error as u64)
 }
 
 // Appends an in-page error with its status.
@@ -188,22 +193,24 @@ fn push_in_page_error(
     status: u64,
 ) -> Result<(), AllocError>
     ensures { OnOk result (string_bytes out.new
-        ≡ string_bytes out.old ++ reason_text names.now (CrashReason.WindowsInPageError access status)) }
+        ≡ string_bytes out.old
+        ++ reason_text names.now (CrashReason.WindowsInPageError access status)) }
 {
-    let words = "EXCEPTION_IN_PAGE_ERROR_";
-    push_listed(
+    let prefix = "EXCEPTION_IN_PAGE_ERROR_";
+    push_name(
         out,
         names,
-        words,
+        prefix,
         CodeFamily::WindowsInPageError,
         access as u64,
     )?;
-    push_listed(out, names, " / ", CodeFamily::NtStatus, status)
+    push_name(out, names, " / ", CodeFamily::NtStatus, status)
 }
 
 // Appends unknown codes.
 fn push_unknown(out: &mut String, values: &[Piece<'_>]) -> Result<(), AllocError>
-    ensures { OnOk result (string_bytes out.new ≡ string_bytes out.old ++ (codes "unknown " ++ flat_map piece_text values.now)) }
+    ensures { OnOk result (string_bytes out.new ≡ string_bytes out.old
+        ++ (codes "unknown " ++ flat_map piece_text values.now)) }
 {
     out.push_str("unknown ")?;
     push_pieces(out, values)
@@ -211,7 +218,7 @@ fn push_unknown(out: &mut String, values: &[Piece<'_>]) -> Result<(), AllocError
 
 // Returns the name of a code, or the code itself in at least eight digits.
 #[tactic(auto, unfolding(crate::specs::ReasonText::name_text))]
-fn named<'n>(names: &CodeNames<'n>, family: CodeFamily, code: u64) -> Piece<'n>
+fn name_or_code<'n>(names: &CodeNames<'n>, family: CodeFamily, code: u64) -> Piece<'n>
     ensures { piece_text result ≡ name_text names.now family code }
 {
     match names.name(family, code) {
@@ -220,18 +227,22 @@ fn named<'n>(names: &CodeNames<'n>, family: CodeFamily, code: u64) -> Piece<'n>
     }
 }
 
-// Appends words and the name of a code.
-#[tactic(auto, unfolding(crate::specs::ReasonText::listed))]
-pub(crate) fn push_listed(
+// Appends a prefix and the name of a code.
+#[tactic(auto, unfolding(crate::specs::ReasonText::name_with_prefix))]
+pub(crate) fn push_name(
     out: &mut String,
     names: &CodeNames<'_>,
-    words: &str,
+    prefix: &str,
     family: CodeFamily,
     code: u64,
 ) -> Result<(), AllocError>
-    ensures { OnOk result (string_bytes out.new ≡ string_bytes out.old ++ listed names.now words.now family code) }
+    ensures { OnOk result (string_bytes out.new ≡ string_bytes out.old
+        ++ name_with_prefix names.now prefix.now family code) }
 {
-    push_pieces(out, &[Piece::Words(words), named(names, family, code)])
+    push_pieces(
+        out,
+        &[Piece::Words(prefix), name_or_code(names, family, code)],
+    )
 }
 
 // Appends an exception of macOS or iOS.
@@ -243,12 +254,13 @@ fn push_mac_general(
     code: u32,
     flags: u32,
 ) -> Result<(), AllocError>
-    ensures { OnOk result (string_bytes out.new ≡ string_bytes out.old ++ mac_general_text names.now code flags) }
+    ensures { OnOk result (string_bytes out.new ≡ string_bytes out.old
+        ++ mac_general_text names.now code flags) }
 {
     if code == MAC_SIMULATED {
         return out.push_str("Simulated Exception");
     }
-    let name = named(names, CodeFamily::Mac, code as u64);
+    let name = name_or_code(names, CodeFamily::Mac, code as u64);
     push_pieces(out, &[name, Piece::Words(" / "), Piece::Wide(flags as u64, 8)])
 }
 
@@ -261,9 +273,10 @@ fn push_linux_general(
     signal: u32,
     flags: u32,
 ) -> Result<(), AllocError>
-    ensures { OnOk result (string_bytes out.new ≡ string_bytes out.old ++ linux_general_text names.now signal flags) }
+    ensures { OnOk result (string_bytes out.new ≡ string_bytes out.old
+        ++ linux_general_text names.now signal flags) }
 {
-    let signal = named(names, CodeFamily::Linux, signal as u64);
+    let signal = name_or_code(names, CodeFamily::Linux, signal as u64);
     match names.name(CodeFamily::LinuxSicode, flags as u64) {
         Some(_) if flags == 0 => push_pieces(out, &[signal]),
         Some(name) => push_pieces(out, &[signal, Piece::Words(" / "), Piece::Words(name)]),
@@ -278,12 +291,16 @@ fn push_windows_general(
     names: &CodeNames<'_>,
     code: u32,
 ) -> Result<(), AllocError>
-    ensures { OnOk result (string_bytes out.new ≡ string_bytes out.old ++ windows_general_text names.now code) }
+    ensures { OnOk result (string_bytes out.new ≡ string_bytes out.old
+        ++ windows_general_text names.now code) }
 {
     match code {
         WINDOWS_OUT_OF_MEMORY => out.push_str("Out of Memory"),
         WINDOWS_CPP_EXCEPTION => out.push_str("Unhandled C++ Exception"),
         WINDOWS_SIMULATED => out.push_str("Simulated Exception"),
-        _ => push_pieces(out, &[named(names, CodeFamily::Windows, code as u64)]),
+        _ => push_pieces(
+            out,
+            &[name_or_code(names, CodeFamily::Windows, code as u64)],
+        ),
     }
 }

@@ -28,8 +28,8 @@ impl CrashReason {
         }
     }
 
-    /// Returns the reason for an error code of Windows: a Win32 error, else an NTSTATUS value, else an
-    /// error with its facility, else an unknown code.
+    /// Returns the reason for an error code of Windows: a Win32 error, else an NTSTATUS value, else
+    /// an error with its facility, else an unknown code.
     pub fn from_windows_error(error_code: u32, names: &CodeNames<'_>) -> CrashReason
         ensures { result ≡ windows_error names.now error_code }
     {
@@ -44,8 +44,8 @@ impl CrashReason {
         }
     }
 
-    /// Returns the reason for an error code of Windows that holds a facility and a Win32 error, as an
-    /// HRESULT does. Returns `None` if either is unlisted, or if the four highest bits are 0.
+    /// Returns the reason for an error code of Windows that holds a facility and a Win32 error, as
+    /// an HRESULT does. Returns `None` if either is unlisted, or if the four highest bits are 0.
     pub fn from_windows_error_with_facility(
         error_code: u32,
         names: &CodeNames<'_>,
@@ -64,8 +64,8 @@ impl CrashReason {
         }
     }
 
-    /// Returns the reason for an exception on Windows. It is that of the code, with the parameters of
-    /// access violations, in-page errors and fast fails. It is never `None`.
+    /// Returns the reason for an exception on Windows. It is that of the code, with the parameters
+    /// of access violations, in-page errors and fast fails. It is never `None`.
     pub fn from_windows_exception(
         raw: &MINIDUMP_EXCEPTION_STREAM,
         _cpu: Cpu,
@@ -79,14 +79,14 @@ impl CrashReason {
         let reason = CrashReason::from_windows_code(record.exception_code, names);
         Some(match reason {
             CrashReason::WindowsGeneral(EXCEPTION_ACCESS_VIOLATION) if count >= 1 => {
-                match names.listed(CodeFamily::WindowsAccess, first) {
+                match names.find_code(CodeFamily::WindowsAccess, first) {
                     Some(access) => CrashReason::WindowsAccessViolation(access),
                     None => reason,
                 }
             }
             CrashReason::WindowsGeneral(EXCEPTION_IN_PAGE_ERROR) if count >= 3 => {
                 let status = record.exception_information[2] % (1 << 32);
-                match names.listed(CodeFamily::WindowsInPageError, first) {
+                match names.find_code(CodeFamily::WindowsInPageError, first) {
                     Some(access) => CrashReason::WindowsInPageError(access, status),
                     None => reason,
                 }

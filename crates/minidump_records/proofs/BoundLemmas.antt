@@ -1,4 +1,4 @@
--- How much handles and Crashpad's information hold at most: offsets and entries are counted against the bytes of the file.
+-- How much handles and Crashpad's information hold at most, by the bytes of the file.
 use Rattle.std.proofs.Common.{◌≡◌, ℕ, zero, suc, ◌+◌, ◌-◌, ◌*◌, ◌<◌, ◌≤◌, ◌⊎◌, List, [], ◌∷◌, ◌++◌, length, drop, slice_range, arith, refl, subst, inl, inr}
 use Rattle.std.proofs.Common.{Bool, true, false, nat_eq, nat_le, nat_lt, All, IfOk, Ok, Err, length-append, length-take, length-drop, mul-suc}
 use Rattle.std.specs.Prelude.{Option, Some, None, Result, if◌then◌else◌, ◌==◌, ◌||◌, ◌&&◌}
@@ -32,13 +32,13 @@ use Rattle.minidump_system.specs.Framing.{handle_list, handles_in, list_header_o
 use Rattle.minidump_system.specs.Reads.{and_then}
 use Rattle.minidump_records.specs.declared.handles.information.MinidumpHandleObjectInformation.{MinidumpHandleObjectInformation}
 use Rattle.minidump_records.specs.declared.handles.raw.RawHandleDescriptor.TheVariants.{HandleDescriptor, HandleDescriptor2}
-use Rattle.minidump_records.specs.Bounds.{CrashpadIsWithin, FitsBehind, HandlesAreWithin}
+use Rattle.minidump_records.specs.Bounds.{CrashpadIsWithin, FitsAfter, HandlesAreWithin}
 use Rattle.minidump_records.specs.Crashpad.{Crashpad, Module, annotation_dictionary, crashpad_info_in, crashpad_record, module_in, text_dictionary, texts_at}
 use Rattle.minidump_records.specs.Crashpad.Annotations.{Annotation}
 use Rattle.minidump_records.specs.Crashpad.Dictionary.{text_in}
-use Rattle.minidump_records.specs.Crashpad.Parts.{CountedList, each, list_of, opened, part_at, parts, tested_list}
+use Rattle.minidump_records.specs.Crashpad.Parts.{EntryList, each, list_of, list_at, part_at, parts, tested_list}
 use Rattle.minidump_records.specs.Handles.{Handle, all_handles, chain_offsets, handle_data_in, handle_in, object_chain}
-use Rattle.minidump_records.specs.Handles.ObjectChain.{information_at, next_of, typed}
+use Rattle.minidump_records.specs.Handles.ObjectChain.{information_at, next_of, with_type}
 use Rattle.minidump_records.proofs.HandleLemmas.OneObjectChain.{is_object_chain}
 use Rattle.minidump_records.proofs.HandleLemmas.Chain.{nonzero}
 
@@ -51,15 +51,15 @@ either : (a b : Bool) → (a || b) ≡ true → (a ≡ true) ⊎ (b ≡ true)
 either true b h = inl refl
 either false b h = inr h
 
-module _ {I : Type 0} (at : ℕ → Option I) (next : I → ℕ) (bound : ℕ) (placed : (p : ℕ) (i : I) → at p ≡ Some i → (0 < p) × (p < bound)) where
+module _ {I : Type 0} (at : ℕ → Option I) (next : I → ℕ) (bound : ℕ) (in_file : (p : ℕ) (i : I) → at p ≡ Some i → (0 < p) × (p < bound)) where
   not_zero : (link : ℕ) (chain : List ℕ) → Follow at next link chain → AllByRecursion (λ p. nat_eq 0 p ≡ false) chain
   not_zero link [] f = tt
-  not_zero link (p ∷ ps) (here, i, is, more) = (let some = (placed p i is).0 in grind (arith, nat_tests, some), not_zero (next i) ps more)
+  not_zero link (p ∷ ps) (here, i, is, more) = (let some = (in_file p i is).0 in grind (arith, nat_tests, some), not_zero (next i) ps more)
 
   below : (link : ℕ) (chain : List ℕ) → Follow at next link chain → (q : ℕ) → list_any (nat_eq q) chain ≡ true → q < bound
   below link [] f q h = absurd (let k : false ≡ true = h in cc)
   below link (p ∷ ps) (here, i, is, more) q h = elim (either (nat_eq q p) (list_any (nat_eq q) ps) h) [
-    | inl this ↦ omega (arith, same_number q p this, (placed p i is).1)
+    | inl this ↦ omega (arith, same_number q p this, (in_file p i is).1)
     | inr rest ↦ below (next i) ps more q rest
   ]
 
@@ -76,18 +76,18 @@ module _ {I : Type 0} (at : ℕ → Option I) (next : I → ℕ) (bound : ℕ) (
       )
 
 -- a piece of information has its 12 bytes in the file
-whole : (order : Endian) (file : List ℕ) (place : ℕ) (i : MinidumpHandleObjectInformation) → information_at order file place ≡ Some i → place + 12 ≤ length file
+whole : (order : Endian) (file : List ℕ) (offset : ℕ) (i : MinidumpHandleObjectInformation) → information_at order file offset ≡ Some i → offset + 12 ≤ length file
 unfolding information_at
-whole order file place i h = by_zero (place == 0) h
+whole order file offset i h = by_zero (offset == 0) h
   where
-    by_room : (b : Bool) → nat_le (place + 12) (length file) ≡ b → option_and_then typed (record_at object_information order place file) ≡ Some i
-        → place + 12 ≤ length file
+    by_room : (b : Bool) → nat_le (offset + 12) (length file) ≡ b → option_and_then with_type (record_at object_information order offset file) ≡ Some i
+        → offset + 12 ≤ length file
     by_room true e k = grind (arith, nat_tests, e)
     by_room false e k = (let j = rw e at k in cc)
 
-    by_zero : (b : Bool) → (if b then None else option_and_then typed (record_at object_information order place file)) ≡ Some i → place + 12 ≤ length file
+    by_zero : (b : Bool) → (if b then None else option_and_then with_type (record_at object_information order offset file)) ≡ Some i → offset + 12 ≤ length file
     by_zero true k = cc
-    by_zero false k = by_room (nat_le (place + 12) (length file)) refl k
+    by_zero false k = by_room (nat_le (offset + 12) (length file)) refl k
 
 cons_length : {Y : Type 0} (o : Option Y) (ys : List Y) → length (cons_option o ys) ≤ length ys + 1
 cons_length None ys = omega arith
@@ -178,14 +178,14 @@ module _ {R V : Type 0} (layout : Layout R) (part : Endian → List ℕ → R �
       omega (arith, entry_inside bytes n b.0 b.1, mul-suc layout.size n)
 
   -- what a list is read from, where it is read
-  record Opened (l : MINIDUMP_LOCATION_DESCRIPTOR) (vs : List V) : Type 0 where
-    list : CountedList
+  record EntriesFit (l : MINIDUMP_LOCATION_DESCRIPTOR) (vs : List V) : Type 0 where
+    list : EntryList
     short : length list.bytes ≤ length file
     are : parts layout part order file list ≡ Ok vs
 
-  counted_short : (l : MINIDUMP_LOCATION_DESCRIPTOR) (list : CountedList) → opened order file l ≡ Ok list → length list.bytes ≤ length file
-  unfolding opened
-  counted_short l list h =
+  list_is_short : (l : MINIDUMP_LOCATION_DESCRIPTOR) (list : EntryList) → list_at order file l ≡ Ok list → length list.bytes ≤ length file
+  unfolding list_at
+  list_is_short l list h =
       let a = and_then_ok (ok_or (located file l) StreamReadFailure) (λ bytes.
       if l.data_size == 0 then Ok (list_of bytes 0) else
       and_then (ok_or (record_at (number_layout 4) order 0 bytes) StreamReadFailure) (λ count. Ok (list_of bytes count))) list h in
@@ -193,7 +193,7 @@ module _ {R V : Type 0} (layout : Layout R) (part : Endian → List ℕ → R �
       by (l.data_size == 0) a.0 short a.2
     where
       same : (bytes : List ℕ) (count : ℕ) → length bytes ≤ length file → list_of bytes count ≡ list → length list.bytes ≤ length file
-      same bytes count short e = subst (λ (c : CountedList). length c.bytes ≤ length file) e short
+      same bytes count short e = subst (λ (c : EntryList). length c.bytes ≤ length file) e short
 
       by : (b : Bool) (bytes : List ℕ) → length bytes ≤ length file
           → (if b then Ok (list_of bytes 0) else
@@ -204,24 +204,24 @@ module _ {R V : Type 0} (layout : Layout R) (part : Endian → List ℕ → R �
           let c = and_then_ok (ok_or (record_at (number_layout 4) order 0 bytes) StreamReadFailure) (λ count. Ok (list_of bytes count)) list k in
           (let k = c.2 in same bytes c.0 short cc)
 
-  opened_list : (l : MINIDUMP_LOCATION_DESCRIPTOR) (vs : List V) → tested_list layout part order file l ≡ Ok vs → Opened l vs
+  entries_fit : (l : MINIDUMP_LOCATION_DESCRIPTOR) (vs : List V) → tested_list layout part order file l ≡ Ok vs → EntriesFit l vs
   unfolding tested_list
-  opened_list l vs h =
-      let a = and_then_ok (opened order file l) (λ list.
+  entries_fit l vs h =
+      let a = and_then_ok (list_at order file l) (λ list.
       if nat_lt (length file) (layout.size * list.count) then Err (StreamSizeMismatch (layout.size * list.count) (length file)) else
       parts layout part order file list) vs h in
-      record { list = a.0; short = counted_short l a.0 a.1; are = by a.0 (nat_lt (length file) (layout.size * a.0.count)) a.2 }
+      record { list = a.0; short = list_is_short l a.0 a.1; are = by a.0 (nat_lt (length file) (layout.size * a.0.count)) a.2 }
     where
-      by : (list : CountedList) (b : Bool)
+      by : (list : EntryList) (b : Bool)
           → (if b then Err (StreamSizeMismatch (layout.size * list.count) (length file)) else parts layout part order file list) ≡ Ok vs
           → parts layout part order file list ≡ Ok vs
       by list true k = cc
       by list false k = k
 
-  -- the entries of a list are in the file, behind their count
-  pub list_fits : (l : MINIDUMP_LOCATION_DESCRIPTOR) (vs : List V) → tested_list layout part order file l ≡ Ok vs → FitsBehind 4 layout.size (length file) vs
+  -- the entries of a list are in the file, after their count
+  pub list_fits : (l : MINIDUMP_LOCATION_DESCRIPTOR) (vs : List V) → tested_list layout part order file l ≡ Ok vs → FitsAfter 4 layout.size (length file) vs
   list_fits l vs h some =
-      let o = opened_list l vs h in
+      let o = entries_fit l vs h in
       let count : length vs ≡ o.list.count = each_length (part_at layout part order file o.list.bytes) o.list.count vs o.are in
       let inside = entries_inside o.list.bytes o.list.count vs o.are (omega (arith, some, count)) in
       rw count (omega (arith, inside, o.short))
@@ -230,7 +230,7 @@ module _ {R V : Type 0} (layout : Layout R) (part : Endian → List ℕ → R �
   pub list_all : (P : V → Type 0) → ((x : R) (v : V) → part order file x ≡ Ok v → P v)
       → (l : MINIDUMP_LOCATION_DESCRIPTOR) (vs : List V) → tested_list layout part order file l ≡ Ok vs → All P vs
   list_all P rule l vs h =
-      let o = opened_list l vs h in
+      let o = entries_fit l vs h in
       each_all P (part_at layout part order file o.list.bytes)
       (λ i v is. (let a = and_then_ok (ok_or (record_at layout order (4 + layout.size * i) o.list.bytes) StreamReadFailure) (part order file) v is in
       rule a.0 v a.2))
@@ -332,7 +332,7 @@ module _ (order : Endian) (file : List ℕ) where
   abbrev module_record : MINIDUMP_MODULE_CRASHPAD_INFO_LINK → MINIDUMP_MODULE_CRASHPAD_INFO → Result Module Error
   module_record link raw = and_then (texts_at order file raw.list_annotations) (module_texts link raw)
 
-  texts_fit : (link : MINIDUMP_MODULE_CRASHPAD_INFO_LINK) (m : Module) → module_in order file link ≡ Ok m → FitsBehind 4 4 (length file) m.list_annotations
+  texts_fit : (link : MINIDUMP_MODULE_CRASHPAD_INFO_LINK) (m : Module) → module_in order file link ≡ Ok m → FitsAfter 4 4 (length file) m.list_annotations
   unfolding module_in
   texts_fit link m h =
       let a = and_then_ok (ok_or (record_at module_crashpad_info order link.location.rva file) StreamReadFailure) (module_record link) m h in
@@ -340,7 +340,7 @@ module _ (order : Endian) (file : List ℕ) where
       let c = and_then_ok (text_dictionary order file a.0.simple_annotations) (module_simple link a.0 b.0) m b.2 in
       let d = and_then_ok (annotation_dictionary order file a.0.annotation_objects) (module_objects link a.0 b.0 c.0) m c.2 in
       let e : b.0 ≡ m.list_annotations = (let k = d.2 in cc) in
-      subst (FitsBehind 4 4 (length file)) e (list_fits (number_layout 4) text_in order file a.0.list_annotations b.0 b.1)
+      subst (FitsAfter 4 4 (length file)) e (list_fits (number_layout 4) text_in order file a.0.list_annotations b.0 b.1)
 
   pub crashpad_within : (bytes : List ℕ) → IfOk (crashpad_info_in order file bytes) (CrashpadIsWithin (length file))
   unfolding crashpad_info_in
@@ -352,8 +352,8 @@ module _ (order : Endian) (file : List ℕ) where
       let d = and_then_ok (tested_list module_link module_in order file a.0.module_list) (modules_next a.0 b.0) c b.2 in
       let e : d.0 ≡ c.module_list = (let k = d.2 in cc) in
       record {
-        modules = subst (FitsBehind 4 12 (length file)) e (list_fits module_link module_in order file a.0.module_list d.0 d.1);
+        modules = subst (FitsAfter 4 12 (length file)) e (list_fits module_link module_in order file a.0.module_list d.0 d.1);
         texts =
-            let Fits : Module → Type 0 = λ m. FitsBehind 4 4 (length file) m.list_annotations in
+            let Fits : Module → Type 0 = λ m. FitsAfter 4 4 (length file) m.list_annotations in
             subst (All Fits) e (list_all module_link module_in order file Fits texts_fit a.0.module_list d.0 d.1);
       })

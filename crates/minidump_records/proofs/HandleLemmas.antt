@@ -2,17 +2,15 @@
 pub mod Offsets
 pub mod OneObjectChain
 pub mod Chain
-use Rattle.std.proofs.Common.{◌≡◌, ℕ, ◌+◌, ◌-◌, ◌*◌, ◌≤◌, List, Option, Some, Result, Ok, Err, ap, arith, length, map, refl, sym, ◌∙◌}
+use Rattle.std.proofs.Common.{◌≡◌, ℕ, ◌+◌, ◌-◌, ◌*◌, ◌≤◌, List, Result, Ok, Err, ap, arith, length, map, refl, sym, ◌∙◌}
 use Rattle.std.specs.Prelude.{IfErr, IfOk}
 use Rattle.std.specs.List.{sum_by}
 use Rattle.std.proofs.lemmas.List.{length-map}
 use Rattle.minidump_bytes.specs.Steps.{after}
 use Rattle.std.proofs.Math.Nat.{mul-le-mul_left}
-use Rattle.minidump_format.specs.Answer.{Gives, Refuses}
+use Rattle.minidump_format.specs.Answer.{Gives, GivesError}
 use Rattle.minidump_format.specs.declared.error.Error.{Error}
 use Rattle.minidump_format.specs.declared.error.Error.TheVariants.{OutOfMemory}
-use Rattle.minidump_system.proofs.KeptLemmas.{kept_mapped}
-use Rattle.minidump_system.specs.Reads.{all_kept}
 
 -- the read of the header, and those of so many descriptors, each with two names and a chain
 pub handles_steps : (old one new k bytes file n : ℕ) → bytes ≤ n → file ≤ n → 32 * k ≤ bytes → one ≤ old + 1 → new ≤ one + k * (1 + (file + 3))
@@ -29,7 +27,7 @@ pub given : {X V : Type 0} (view : X → V) (M : Type 0) (r : Result X Error) (a
 given view M (Ok x) assigned v is h = (let k : Ok (view x) ≡ Ok v = sym h ∙ is in cc)
 given view M (Err e) assigned v is h = tt
 
-only_memory : {V : Type 0} (M : Type 0) (e : Error) (assigned : Result V Error) (v : V) → assigned ≡ Ok v → Refuses M e assigned → (e ≡ OutOfMemory) × M
+only_memory : {V : Type 0} (M : Type 0) (e : Error) (assigned : Result V Error) (v : V) → assigned ≡ Ok v → GivesError M e assigned → (e ≡ OutOfMemory) × M
 only_memory M OutOfMemory assigned v is h = (refl, h)
 only_memory M e assigned v is h = (let k : Ok v ≡ Err e = sym is ∙ h in cc)
 

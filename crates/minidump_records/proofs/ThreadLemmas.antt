@@ -13,7 +13,7 @@ use Rattle.std.proofs.lemmas.List.Elements.{All-head, All-tail}
 use Rattle.std.proofs.lemmas.Map.Made.{lookup-map_values}
 use Rattle.minidump_records.specs.declared.thread_info.MinidumpThreadInfo.{MinidumpThreadInfo}
 use Rattle.minidump_records.specs.ThreadInfo.{last_info}
-use Rattle.minidump_records.specs.ThreadNames.{ThreadName, last_name, last_names, name_of_thread}
+use Rattle.minidump_records.specs.ThreadNames.{ThreadName, last_name, last_name_of_each_thread, name_of_thread}
 use Rattle.minidump_bytes.proofs.KeyLemmas.{at_is_equal, entries_by_key, keys_of-map, lookup_by_key, lookup_number}
 
 -- one name more is the last of its own thread, and changes the last name of no other
@@ -31,8 +31,8 @@ last_name-others id (n ∷ later) names others =
 
 -- the last name of a thread is found among the last names
 pub last_name-found : (limit : ℕ) (before later : List ThreadName) (n : ThreadName) → n.0 < limit → All (λ x. x.0 ≢ n.0) later
-    → name_of_thread (last_names limit (before ++ (n ∷ later))) n.0 ≡ Some n.1
-unfolding last_names
+    → name_of_thread (last_name_of_each_thread limit (before ++ (n ∷ later))) n.0 ≡ Some n.1
+unfolding last_name_of_each_thread
 last_name-found limit before later n small others =
     lookup_by_key (last_name (before ++ (n ∷ later))) limit 0 n.0 (omega arith) (omega (arith, small))
     ∙ ap (λ l. last_name l n.0) (sym (append_assoc before (n ∷ []) later))
@@ -40,8 +40,8 @@ last_name-found limit before later n small others =
     ∙ last_name-more before n n.0 ∙ rw (eq-eqb n.0 n.0 refl) refl
 
 -- and none is, where all names are of other threads
-pub last_name-none : (limit : ℕ) (names : List ThreadName) (id : ℕ) → id < limit → All (λ x. x.0 ≢ id) names → name_of_thread (last_names limit names) id ≡ None
-unfolding last_names
+pub last_name-none : (limit : ℕ) (names : List ThreadName) (id : ℕ) → id < limit → All (λ x. x.0 ≢ id) names → name_of_thread (last_name_of_each_thread limit names) id ≡ None
+unfolding last_name_of_each_thread
 last_name-none limit names id small others = lookup_by_key (last_name names) limit 0 id (omega arith) (omega arith) ∙ last_name-others id names [] others
 
 -- information of other threads changes nothing
@@ -99,8 +99,8 @@ module _ {X : Type 0} (text : X → List ℕ) (limit : ℕ) where
     ordered = ordered;
   }
 
-  pub has_all : (m : BTreeMap ℕ X) (names : List ThreadName) → HasLast m names → map {B = ThreadName} (λ e. (e.0, text e.1)) m.entries ≡ last_names limit names
-  unfolding last_names
+  pub has_all : (m : BTreeMap ℕ X) (names : List ThreadName) → HasLast m names → map {B = ThreadName} (λ e. (e.0, text e.1)) m.entries ≡ last_name_of_each_thread limit names
+  unfolding last_name_of_each_thread
   has_all m names h =
       let es : List ThreadName = map (λ e. (e.0, text e.1)) m.entries in
       let at : (t : ℕ) → lookup (λ k. k == t) es ≡ option_map text (get nat_cmp m t) =

@@ -46,10 +46,12 @@ fields_text raw expression function file = concat (
     ∷ codes "\n"
     ∷ [])
 
--- code units as they are printed: what is no text is empty
-abbrev pub shown_units : List ℕ → List ℕ
-shown_units units = unwrap_or (text_before_nul units) []
+-- the printed text of code units: empty if they are no text
+abbrev pub text_or_empty : List ℕ → List ℕ
+text_or_empty units = unwrap_or (text_before_nul units) []
 
 -- the printed text of a MINIDUMP_ASSERTION_INFO
 abbrev pub assertion_text : MINIDUMP_ASSERTION_INFO → List ℕ
-assertion_text raw = fields_text raw (shown_units raw.expression) (shown_units raw.function) (shown_units raw.file)
+assertion_text raw =
+    fields_text raw (text_or_empty raw.expression) (text_or_empty raw.function)
+    (text_or_empty raw.file)

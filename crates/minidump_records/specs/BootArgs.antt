@@ -38,17 +38,20 @@ short_boot_args = record {
 }
 
 -- a record of 8 bytes as one of 12
-abbrev widened : ShortBootArgs → MINIDUMP_MAC_BOOTARGS
-widened short = record { stream_type = short.stream_type; bootargs = short.bootargs }
+abbrev widen : ShortBootArgs → MINIDUMP_MAC_BOOTARGS
+widen short = record { stream_type = short.stream_type; bootargs = short.bootargs }
 
 -- the record: the long form where the bytes hold it, else the short form
 abbrev pub boot_args_record : Endian → List ℕ → Option MINIDUMP_MAC_BOOTARGS
-boot_args_record order bytes = option_or (record_at mac_boot_args order 0 bytes) (option_map widened (record_at short_boot_args order 0 bytes))
+boot_args_record order bytes =
+    option_or (record_at mac_boot_args order 0 bytes)
+    (option_map widen (record_at short_boot_args order 0 bytes))
 
 -- Mozilla's MDRawMacBootargs: a record, and the text at its RVA, which may be none
 abbrev pub mac_bootargs_in : Endian → List ℕ → List ℕ → Result BootArgs Error
 mac_bootargs_in order file bytes =
-    and_then (ok_or (boot_args_record order bytes) StreamReadFailure) (λ raw. Ok (record { raw = raw; text = text16 order raw.bootargs file }))
+    and_then (ok_or (boot_args_record order bytes) StreamReadFailure)
+    (λ raw. Ok (record { raw = raw; text = text16 order raw.bootargs file }))
 
 -- the reads: the long form, then the short form where the long one isn't there, and the text
 abbrev pub boot_args_reads : List ℕ → ℕ
@@ -62,7 +65,9 @@ mac_bootargs_stream = record {
   meaning = λ order file bytes system. mac_bootargs_in order file bytes;
   most = λ n. 3;
   fewest = λ order bytes args. boot_args_reads bytes;
-  memory = λ order file bytes system. IsSomeAnd (boot_args_record order bytes) (λ raw. TakesMemory16 order raw.bootargs file);
+  memory =
+      λ order file bytes system. IsSomeAnd (boot_args_record order bytes)
+      (λ raw. TakesMemory16 order raw.bootargs file);
 }
 
 -- the arguments as text, and an empty line: nothing where there are none

@@ -9,6 +9,7 @@ use Rattle.minidump_format.specs.declared.format.stream_type.MINIDUMP_STREAM_TYP
 use Rattle.minidump_format.specs.declared.error.Error.{Error}
 use Rattle.minidump_format.specs.declared.error.Error.TheVariants.{StreamReadFailure}
 use Rattle.minidump_format.specs.declared.format.breakpad.MINIDUMP_BREAKPAD_INFO.{MINIDUMP_BREAKPAD_INFO}
+use Rattle.minidump_format.specs.declared.format.breakpad.TheConstants.BreakpadInfoValid.{DumpThreadId, RequestingThreadId}
 use Rattle.minidump_format.specs.Breakpad.{breakpad_info}
 use Rattle.minidump_format.specs.StreamType.{number_of}
 use Rattle.minidump_system.specs.StreamSpec.{StreamSpec}
@@ -19,17 +20,19 @@ use Rattle.minidump_records.specs.declared.breakpad_info.MinidumpBreakpadInfo.{M
 abbrev pub where_valid : ℕ → ℕ → ℕ → Option ℕ
 where_valid validity flag id = if bit_and validity flag == flag then Some id else None
 
--- MD_BREAKPAD_INFO_VALID_DUMP_THREAD_ID is 1, MD_BREAKPAD_INFO_VALID_REQUESTING_THREAD_ID is 2
+-- the record with the ids whose flags are set
 abbrev pub breakpad_in : MINIDUMP_BREAKPAD_INFO → MinidumpBreakpadInfo
 breakpad_in raw = record {
   raw = raw;
-  dump_thread_id = where_valid raw.validity 1 raw.dump_thread_id;
-  requesting_thread_id = where_valid raw.validity 2 raw.requesting_thread_id;
+  dump_thread_id = where_valid raw.validity DumpThreadId.0 raw.dump_thread_id;
+  requesting_thread_id = where_valid raw.validity RequestingThreadId.0 raw.requesting_thread_id;
 }
 
 -- Breakpad's MDRawBreakpadInfo: a record
 abbrev pub breakpad_info_in : Endian → List ℕ → Result MinidumpBreakpadInfo Error
-breakpad_info_in order bytes = and_then (ok_or (record_at breakpad_info order 0 bytes) StreamReadFailure) (λ raw. Ok (breakpad_in raw))
+breakpad_info_in order bytes =
+    and_then (ok_or (record_at breakpad_info order 0 bytes) StreamReadFailure)
+    (λ raw. Ok (breakpad_in raw))
 
 -- the stream of type BreakpadInfoStream
 abbrev pub breakpad_info_stream : StreamSpec MinidumpBreakpadInfo MinidumpBreakpadInfo

@@ -1,9 +1,10 @@
--- Crashpad's information on a process and on its modules: MinidumpCrashpadInfo and MinidumpModuleCrashpadInfo.
+-- Crashpad's information on a process and on its modules: MinidumpCrashpadInfo and
+-- MinidumpModuleCrashpadInfo.
 pub mod Parts
 pub mod Dictionary
 pub mod Annotations
 pub mod Text
-use Rattle.std.specs.Prelude.{ℕ, ◌+◌, ◌==◌, ◌⊎◌, IsOkAnd, IsSomeAnd, List, Result, Ok, Err, map, string_bytes, if◌then◌else◌}
+use Rattle.std.specs.Prelude.{ℕ, ◌+◌, ◌==◌, ◌⊎◌, IsOkAnd, IsSomeAnd, List, Result, Ok, Err, map, string_bytes, if◌then◌else◌, ◌*◌, ◌-◌}
 use Rattle.std.specs.List.{sum_by}
 use Rattle.std.specs.Option.{ok_or}
 use Rattle.minidump_bytes.specs.declared.endian.Endian.{Endian}
@@ -18,24 +19,27 @@ use Rattle.minidump_format.specs.declared.format.crashpad.MINIDUMP_MODULE_CRASHP
 use Rattle.minidump_format.specs.declared.format.crashpad.MINIDUMP_MODULE_CRASHPAD_INFO_LINK.{MINIDUMP_MODULE_CRASHPAD_INFO_LINK}
 use Rattle.minidump_format.specs.declared.format.header.MINIDUMP_LOCATION_DESCRIPTOR.{MINIDUMP_LOCATION_DESCRIPTOR}
 use Rattle.minidump_format.specs.StreamType.{number_of}
-use Rattle.minidump_system.specs.StreamSpec.{StreamSpec, square}
+use Rattle.minidump_system.specs.StreamSpec.{StreamSpec}
 use Rattle.minidump_system.specs.Reads.{and_then}
 use Rattle.minidump_records.specs.declared.crashpad.info.MinidumpCrashpadInfo.{MinidumpCrashpadInfo}
 use Rattle.minidump_records.specs.declared.crashpad.module_info.MinidumpModuleCrashpadInfo.{MinidumpModuleCrashpadInfo}
 use Rattle.minidump_records.specs.Crashpad.Annotations.{Annotation, annotation_in, annotation_of, annotation_reads}
 use Rattle.minidump_records.specs.Crashpad.Dictionary.{dictionary, entries_of, text_in}
-use Rattle.minidump_records.specs.Crashpad.Parts.{CountsEntry, opened_reads, tested_list}
+use Rattle.minidump_records.specs.Crashpad.Parts.{CountsEntry, list_reads, tested_list}
 
 -- the list of texts at a location, MinidumpRVAList: an entry is the RVA of a text
 abbrev pub texts_at : Endian → List ℕ → MINIDUMP_LOCATION_DESCRIPTOR → Result (List (List ℕ)) Error
 texts_at = tested_list (number_layout 4) text_in
 
 -- the MinidumpSimpleStringDictionary at a location: an entry is the RVAs of a key and of a text
-abbrev pub text_dictionary : Endian → List ℕ → MINIDUMP_LOCATION_DESCRIPTOR → Result (List (List ℕ × List ℕ)) Error
-text_dictionary = dictionary dictionary_entry (λ e. e.key) (λ order file e. text_in order file e.value)
+abbrev pub text_dictionary : Endian → List ℕ → MINIDUMP_LOCATION_DESCRIPTOR
+    → Result (List (List ℕ × List ℕ)) Error
+text_dictionary =
+    dictionary dictionary_entry (λ e. e.key) (λ order file e. text_in order file e.value)
 
 -- the MinidumpAnnotationList at a location: an entry is the RVA of a name, and a value by its type
-abbrev pub annotation_dictionary : Endian → List ℕ → MINIDUMP_LOCATION_DESCRIPTOR → Result (List (List ℕ × Annotation)) Error
+abbrev pub annotation_dictionary : Endian → List ℕ → MINIDUMP_LOCATION_DESCRIPTOR
+    → Result (List (List ℕ × Annotation)) Error
 annotation_dictionary = dictionary annotation (λ e. e.name) annotation_in
 
 -- the information on a module
@@ -59,15 +63,20 @@ module_of m = record {
 -- the information on a module takes memory: one of its lists counts an entry
 abbrev RecordTakesMemory : Endian → List ℕ → MINIDUMP_MODULE_CRASHPAD_INFO → Type 0
 RecordTakesMemory order file raw =
-    CountsEntry order file raw.list_annotations ⊎ (CountsEntry order file raw.simple_annotations ⊎ CountsEntry order file raw.annotation_objects)
+    CountsEntry order file raw.list_annotations
+    ⊎ (CountsEntry order file raw.simple_annotations
+    ⊎ CountsEntry order file raw.annotation_objects)
 
 -- the information that a link names takes memory
 abbrev pub ModuleTakesMemory : Endian → List ℕ → MINIDUMP_MODULE_CRASHPAD_INFO_LINK → Type 0
-ModuleTakesMemory order file link = IsSomeAnd (record_at module_crashpad_info order link.location.rva file) (RecordTakesMemory order file)
+ModuleTakesMemory order file link =
+    IsSomeAnd (record_at module_crashpad_info order link.location.rva file)
+    (RecordTakesMemory order file)
 
--- the information that a link names: its record, then its lists in the record's order. The size in the link and the version in the record
--- are not looked at
-unfoldable pub module_in : Endian → List ℕ → MINIDUMP_MODULE_CRASHPAD_INFO_LINK → Result Module Error
+-- the information that a link names: its record, then its lists in the record's order. The size in
+-- the link and the version in the record are ignored
+unfoldable pub module_in : Endian → List ℕ → MINIDUMP_MODULE_CRASHPAD_INFO_LINK
+    → Result Module Error
 module_in order file link =
     and_then (ok_or (record_at module_crashpad_info order link.location.rva file) StreamReadFailure) (λ raw.
     and_then (texts_at order file raw.list_annotations) (λ texts.
@@ -81,13 +90,14 @@ module_in order file link =
       annotation_objects = objects;
     })))))
 
--- the fewest reads of the information on a module: its record and its lists; for a text of a list the entry and the text; for a pair the
--- entry, the key, and the value if it is a text
+-- the fewest reads of the information on a module: its record and its lists; for a text of a list
+-- the entry and the text; for a pair the entry, the key, and the value if it is a text
 abbrev pub module_reads : Module → ℕ
 module_reads m = 1
-    + (opened_reads m.raw.list_annotations + sum_by (λ text. 2) m.list_annotations)
-    + (opened_reads m.raw.simple_annotations + sum_by (λ e. 3) m.simple_annotations)
-    + (opened_reads m.raw.annotation_objects + sum_by (λ e. 1 + (1 + annotation_reads e.1)) m.annotation_objects)
+    + (list_reads m.raw.list_annotations + sum_by (λ text. 2) m.list_annotations)
+    + (list_reads m.raw.simple_annotations + sum_by (λ e. 3) m.simple_annotations)
+    + (list_reads m.raw.annotation_objects
+    + sum_by (λ e. 1 + (1 + annotation_reads e.1)) m.annotation_objects)
 
 -- the information on a process
 pub record Crashpad : Type 0 where
@@ -103,13 +113,14 @@ crashpad_info_of c = record {
   module_list = map module_of c.module_list.items;
 }
 
--- the record at the beginning of the stream, whose version is not 0
+-- the record at the start of the stream, whose version is not 0
 unfoldable pub crashpad_record : Endian → List ℕ → Result MINIDUMP_CRASHPAD_INFO Error
 crashpad_record order bytes =
     and_then (ok_or (record_at crashpad_info order 0 bytes) StreamReadFailure) (λ raw.
     if raw.version == 0 then Err VersionMismatch else Ok raw)
 
--- the information that the bytes of the stream give: the record, then its dictionary and its MinidumpModuleCrashpadInfoList
+-- the information that the bytes of the stream give: the record, then its dictionary and its
+-- MinidumpModuleCrashpadInfoList
 unfoldable pub crashpad_info_in : Endian → List ℕ → List ℕ → Result Crashpad Error
 crashpad_info_in order file bytes =
     and_then (crashpad_record order bytes) (λ raw.
@@ -117,15 +128,17 @@ crashpad_info_in order file bytes =
     and_then (tested_list module_link module_in order file raw.module_list) (λ modules.
     Ok (record { raw = raw; simple_annotations = simple; module_list = modules }))))
 
--- the fewest reads of the information on a process: its record, its dictionary, and for each module the link and the information on it
+-- the fewest reads of the information on a process: its record, its dictionary, and for each module
+-- the link and the information on it
 abbrev pub crashpad_reads : Crashpad → ℕ
 crashpad_reads c = 1
-    + (opened_reads c.raw.simple_annotations + sum_by (λ e. 3) c.simple_annotations)
-    + (opened_reads c.raw.module_list + sum_by (λ m. 1 + module_reads m) c.module_list)
+    + (list_reads c.raw.simple_annotations + sum_by (λ e. 3) c.simple_annotations)
+    + (list_reads c.raw.module_list + sum_by (λ m. 1 + module_reads m) c.module_list)
 
 -- the record takes memory: its dictionary or its list of modules counts an entry
 abbrev InfoTakesMemory : Endian → List ℕ → MINIDUMP_CRASHPAD_INFO → Type 0
-InfoTakesMemory order file raw = CountsEntry order file raw.simple_annotations ⊎ CountsEntry order file raw.module_list
+InfoTakesMemory order file raw =
+    CountsEntry order file raw.simple_annotations ⊎ CountsEntry order file raw.module_list
 
 -- the stream of type CrashpadInfoStream
 abbrev pub crashpad_info_stream : StreamSpec MinidumpCrashpadInfo Crashpad
@@ -133,7 +146,8 @@ crashpad_info_stream = record {
   stream_type = number_of CrashpadInfoStream;
   value = crashpad_info_of;
   meaning = λ order file bytes system. crashpad_info_in order file bytes;
-  most = square;
+  most = λ n. (n + 8) * (n + 8) - 1;
   fewest = λ order bytes info. crashpad_reads info;
-  memory = λ order file bytes system. IsOkAnd (crashpad_record order bytes) (InfoTakesMemory order file);
+  memory =
+      λ order file bytes system. IsOkAnd (crashpad_record order bytes) (InfoTakesMemory order file);
 }

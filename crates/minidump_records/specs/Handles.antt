@@ -1,7 +1,7 @@
 -- The open handles of a process: Microsoft's MINIDUMP_HANDLE_DATA_STREAM.
 pub mod Descriptor
 pub mod ObjectChain
-use Rattle.std.specs.Prelude.{ℕ, ◌+◌, ◌==◌, List, [], ◌∷◌, ◌++◌, codes, Option, None, Result, Ok, map, string_bytes, if◌then◌else◌, IsOkAnd, ◌<◌, length}
+use Rattle.std.specs.Prelude.{ℕ, ◌+◌, ◌==◌, List, [], ◌∷◌, ◌++◌, codes, Option, None, Result, Ok, map, string_bytes, if◌then◌else◌, IsOkAnd, ◌<◌, length, ◌*◌, ◌-◌}
 use Rattle.std.specs.List.{concat, flat_map, sum_by, filter_map}
 use Rattle.std.specs.Fmt.{decimal}
 use Rattle.std.specs.Option.{option_map, unwrap_or}
@@ -13,7 +13,7 @@ use Rattle.minidump_format.specs.declared.format.stream_type.MINIDUMP_STREAM_TYP
 use Rattle.minidump_format.specs.declared.error.Error.{Error}
 use Rattle.minidump_format.specs.StreamType.{number_of}
 use Rattle.minidump_system.specs.Chain.{chain_within}
-use Rattle.minidump_system.specs.StreamSpec.{StreamSpec, square}
+use Rattle.minidump_system.specs.StreamSpec.{StreamSpec}
 use Rattle.minidump_system.specs.declared.framing.HandleEntries.{HandleEntries}
 use Rattle.minidump_system.specs.declared.framing.HandleEntries.TheVariants.{Short, Long}
 use Rattle.minidump_system.specs.Framing.{handle_list, handles_in}
@@ -49,18 +49,21 @@ handle_of h = record {
 abbrev pub or_zero : Option ℕ → ℕ
 or_zero rva = unwrap_or rva 0
 
--- the name at an RVA: none at 0, and where no text is. The RVA of a text in another stream is looked at also where it is 0
+-- the name at an RVA: none at 0, and where no text is. The RVA of a text in another stream is
+-- looked at also where it is 0
 unfoldable pub name_at_rva : Endian → List ℕ → ℕ → Option (List ℕ)
 name_at_rva order file rva = if rva == 0 then None else text16 order rva file
 
--- the offsets of the object chain from a link, each of which lies in the file: by the law `object_chain_is_the_longest` they are the one
--- list that meets `IsChain` of `minidump_system`'s Chain.antt. An offset without a piece of information ends it, and is no error
+-- the offsets of the object chain from a link, each of which lies in the file: by the law
+-- `object_chain_is_the_longest` they are the one list that meets `IsChain` of `minidump_system`'s
+-- Chain.antt. An offset without a piece of information ends it, and is no error
 unfoldable pub chain_offsets : Endian → List ℕ → ℕ → List ℕ
 chain_offsets order file link = chain_within (information_at order file) next_of link (length file)
 
 -- the pieces of information that stand at them
 unfoldable pub object_chain : Endian → List ℕ → ℕ → List MinidumpHandleObjectInformation
-object_chain order file link = filter_map (information_at order file) (chain_offsets order file link)
+object_chain order file link =
+    filter_map (information_at order file) (chain_offsets order file link)
 
 -- the handle of a descriptor
 abbrev pub handle_in : Endian → List ℕ → RawHandleDescriptor → Handle
@@ -74,7 +77,8 @@ handle_in order file raw = record {
 -- the reads of the names of a handle and of the information on its object
 abbrev pub handle_reads : Handle → ℕ
 handle_reads h =
-    reads_at (or_zero (type_name_rva h.raw)) + reads_at (or_zero (object_name_rva h.raw)) + chain_reads (or_zero (object_info_rva h.raw)) h.object_infos
+    reads_at (or_zero (type_name_rva h.raw)) + reads_at (or_zero (object_name_rva h.raw))
+    + chain_reads (or_zero (object_info_rva h.raw)) h.object_infos
 
 -- ---- the stream
 
@@ -89,7 +93,8 @@ all_handles order file (Long raws) = map (λ r. handle_in order file (HandleDesc
 
 -- Microsoft's MINIDUMP_HANDLE_DATA_STREAM: a handle list
 abbrev pub handle_data_in : Endian → List ℕ → List ℕ → Result (List Handle) Error
-handle_data_in order file bytes = and_then (handle_list order bytes) (λ list. Ok (all_handles order file list))
+handle_data_in order file bytes =
+    and_then (handle_list order bytes) (λ list. Ok (all_handles order file list))
 
 -- the stream of type HandleDataStream
 abbrev pub handle_data_stream : StreamSpec MinidumpHandleDataStream (List Handle)
@@ -97,9 +102,10 @@ handle_data_stream = record {
   stream_type = number_of HandleDataStream;
   value = handle_data_of;
   meaning = λ order file bytes system. handle_data_in order file bytes;
-  most = square;
+  most = λ n. (n + 8) * (n + 8) - 1;
   fewest = λ order bytes handles. 1 + length handles + sum_by handle_reads handles;
-  memory = λ order file bytes system. IsOkAnd (handle_list order bytes) (λ list. 0 < handles_in list);
+  memory =
+      λ order file bytes system. IsOkAnd (handle_list order bytes) (λ list. 0 < handles_in list);
 }
 
 -- ---- the printed text
@@ -162,8 +168,11 @@ infos_text infos = if length infos == 0 then no_info_line else flat_map info_lin
 abbrev pub handle_text : Handle → List ℕ
 handle_text h =
     fields_text (shared_fields h.raw) (object_info_rva h.raw)
-    ++ (names_text (or_null h.type_name) (or_null h.object_name) ++ (infos_text h.object_infos ++ codes "\n"))
+    ++ (names_text (or_null h.type_name) (or_null h.object_name)
+    ++ (infos_text h.object_infos ++ codes "\n"))
 
 -- the list: the number of handles, and each of them
 abbrev pub handle_data_text : List Handle → List ℕ
-handle_data_text handles = numbered_list (codes "MinidumpHandleDataStream\n  handle_count = ") (codes "handle") handle_text handles
+handle_data_text handles =
+    numbered_list (codes "MinidumpHandleDataStream\n  handle_count = ")
+    (codes "handle") handle_text handles

@@ -25,7 +25,8 @@ abbrev pub linux_text_in : List ℕ → Result (List ℕ) Error
 linux_text_in bytes = Ok bytes
 
 -- the table of a text: nothing of it is read, and it takes no memory
-abbrev pub linux_text_stream : {F : Type 0} → MINIDUMP_STREAM_TYPE → StreamSpec (LinuxText F) (List ℕ)
+abbrev pub linux_text_stream : {F : Type 0} → MINIDUMP_STREAM_TYPE
+    → StreamSpec (LinuxText F) (List ℕ)
 linux_text_stream stream_type = record {
   stream_type = number_of stream_type;
   value = linux_text_of;

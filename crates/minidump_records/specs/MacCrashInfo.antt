@@ -14,7 +14,7 @@ use Rattle.minidump_format.specs.declared.error.Error.TheVariants.{StreamReadFai
 use Rattle.minidump_format.specs.declared.format.header.MINIDUMP_LOCATION_DESCRIPTOR.{MINIDUMP_LOCATION_DESCRIPTOR}
 use Rattle.minidump_format.specs.Mac.{mac_crash_info, mac_record}
 use Rattle.minidump_format.specs.StreamType.{number_of}
-use Rattle.minidump_system.specs.StreamSpec.{StreamSpec, linear}
+use Rattle.minidump_system.specs.StreamSpec.{StreamSpec}
 use Rattle.minidump_system.specs.Reads.{all_ok, and_then}
 use Rattle.minidump_records.specs.MacCrashInfo.Record.{MacRecord, by_version, mac_record_of, record_reads}
 use Rattle.minidump_records.specs.declared.mac_crash_info.MinidumpMacCrashInfo.{MinidumpMacCrashInfo}
@@ -33,59 +33,72 @@ record_if (Some r) = Some (mac_record_of r)
 abbrev pub stated_version : Endian → List ℕ → Option ℕ
 stated_version order bytes = option_map (λ head. head.version) (record_at mac_record order 0 bytes)
 
--- the version of a record, which has to be that of the record before it, if there is one; this is asked of version 0 too
-abbrev pub follows : Option ℕ → ℕ → Result ℕ Error
-follows None version = Ok version
-follows (Some before) version = if version == before then Ok version else Err VersionMismatch
+-- the version of a record, or `VersionMismatch` if the record before it has another one. A record
+-- of version 0 counts, too
+abbrev pub same_version : Option ℕ → ℕ → Result ℕ Error
+same_version None version = Ok version
+same_version (Some before) version = if version == before then Ok version else Err VersionMismatch
 
--- the record of these bytes, by the place where its texts begin and the version of the record before it; a record of version 0 is left out,
--- and only its first 16 bytes are tested
-abbrev pub behind_version : Endian → ℕ → Option ℕ → List ℕ → Result (Option MacRecord) Error
-behind_version order start before bytes =
+-- the record of these bytes, by the offset where its texts begin and the version of the record
+-- before it; none for version 0, of which only the first 16 bytes are read
+abbrev pub record_after_version : Endian → ℕ → Option ℕ → List ℕ → Result (Option MacRecord) Error
+record_after_version order start before bytes =
     and_then (ok_or (record_at mac_record order 0 bytes) StreamReadFailure) (λ head.
-    and_then (follows before head.version) (λ version. by_version order start head bytes))
+    and_then (same_version before head.version) (λ version. by_version order start head bytes))
 
 -- the version of the record at a location
 unfoldable pub located_version : Endian → List ℕ → MINIDUMP_LOCATION_DESCRIPTOR → Option ℕ
 located_version order file l = option_and_then (stated_version order) (located file l)
 
 -- the record at a location
-unfoldable pub located_record : Endian → List ℕ → ℕ → Option ℕ → MINIDUMP_LOCATION_DESCRIPTOR → Result (Option MacRecord) Error
+unfoldable pub located_record : Endian → List ℕ → ℕ → Option ℕ → MINIDUMP_LOCATION_DESCRIPTOR
+    → Result (Option MacRecord) Error
 located_record order file start before l =
-    and_then (ok_or (located file l) StreamReadFailure) (behind_version order start before)
+    and_then (ok_or (located file l) StreamReadFailure) (record_after_version order start before)
 
 -- each location with the one before it, if there is one
-abbrev pub with_neighbours : List MINIDUMP_LOCATION_DESCRIPTOR → List (Option MINIDUMP_LOCATION_DESCRIPTOR × MINIDUMP_LOCATION_DESCRIPTOR)
+abbrev pub with_neighbours : List MINIDUMP_LOCATION_DESCRIPTOR
+    → List (Option MINIDUMP_LOCATION_DESCRIPTOR × MINIDUMP_LOCATION_DESCRIPTOR)
 with_neighbours ls = zip (None ∷ map Some ls) ls
 
 -- the record at a location, whose version has to be that of the record before it
-abbrev pub neighbouring_record : Endian → List ℕ → ℕ → Option MINIDUMP_LOCATION_DESCRIPTOR × MINIDUMP_LOCATION_DESCRIPTOR → Result (Option MacRecord) Error
-neighbouring_record order file start p = located_record order file start (option_and_then (located_version order file) p.0) p.1
+abbrev pub neighbouring_record : Endian → List ℕ → ℕ
+    → Option MINIDUMP_LOCATION_DESCRIPTOR × MINIDUMP_LOCATION_DESCRIPTOR
+    → Result (Option MacRecord) Error
+neighbouring_record order file start p =
+    located_record order file start (option_and_then (located_version order file) p.0) p.1
 
--- the records at locations, without those of version 0
-unfoldable pub located_records : Endian → List ℕ → ℕ → List MINIDUMP_LOCATION_DESCRIPTOR → Result (List MacRecord) Error
+-- the records at locations, but for those of version 0
+unfoldable pub located_records : Endian → List ℕ → ℕ → List MINIDUMP_LOCATION_DESCRIPTOR
+    → Result (List MacRecord) Error
 located_records order file start ls =
-    and_then (all_ok (neighbouring_record order file start) (with_neighbours ls)) (λ rs. Ok (filter_map (λ r. r) rs))
+    and_then (all_ok (neighbouring_record order file start) (with_neighbours ls))
+    (λ rs. Ok (filter_map (λ r. r) rs))
 
--- Mozilla's MDRawMacCrashInfo: a count of records, of which the first 20 are read, and their locations. The numbers in it and in its
--- records that name a type of stream are not tested
+-- Mozilla's MDRawMacCrashInfo: a count of records, of which the first 20 are read, and their
+-- locations. The numbers in it and in its records that name a type of stream are not tested
 abbrev pub mac_crash_info_in : Endian → List ℕ → List ℕ → Result (List MacRecord) Error
 mac_crash_info_in order file bytes =
     and_then (ok_or (record_at mac_crash_info order 0 bytes) StreamReadFailure) (λ info.
-    located_records order file info.record_start_size (take (min info.record_count 20) info.records))
+    located_records order file info.record_start_size
+    (take (min info.record_count 20) info.records))
 
 -- how many records are read
 abbrev pub count_of_records : Endian → List ℕ → ℕ
 count_of_records order bytes = min (number_at order 4 4 (slice_range bytes 0 172)) 20
 
--- the stream of type MozMacosCrashInfoStream. Its reads are the record, the bytes and the head of each record that is counted, and those
--- of the records' versions. It takes memory where a record is counted
+-- the stream of type MozMacosCrashInfoStream. Its reads are the record of the stream, the bytes and
+-- the head of each record that it counts, and those by the records' versions. It takes memory where
+-- it counts a record
 abbrev pub mac_crash_info_stream : StreamSpec MinidumpMacCrashInfo (List MacRecord)
 mac_crash_info_stream = record {
   stream_type = number_of MozMacosCrashInfoStream;
   value = mac_crash_info_of;
   meaning = λ order file bytes system. mac_crash_info_in order file bytes;
-  most = linear;
-  fewest = λ order bytes records. 1 + 2 * count_of_records order bytes + sum_by record_reads records;
-  memory = λ order file bytes system. IsSomeAnd (record_at mac_crash_info order 0 bytes) (λ info. 0 < info.record_count);
+  most = λ n. n + 7;
+  fewest =
+      λ order bytes records. 1 + 2 * count_of_records order bytes + sum_by record_reads records;
+  memory =
+      λ order file bytes system. IsSomeAnd (record_at mac_crash_info order 0 bytes)
+      (λ info. 0 < info.record_count);
 }

@@ -9,7 +9,7 @@ use Rattle.minidump_format.specs.declared.format.thread.MINIDUMP_THREAD_INFO.{MI
 use Rattle.minidump_format.specs.StreamType.{number_of}
 use Rattle.minidump_format.specs.Thread.{thread_info}
 use Rattle.minidump_system.specs.Framing.{list_header_of, extended_list}
-use Rattle.minidump_system.specs.StreamSpec.{StreamSpec, linear}
+use Rattle.minidump_system.specs.StreamSpec.{StreamSpec}
 use Rattle.minidump_format.specs.Numbered.{numbered_list}
 use Rattle.minidump_records.specs.declared.thread_info.MinidumpThreadInfo.{MinidumpThreadInfo}
 use Rattle.minidump_records.specs.declared.thread_info.MinidumpThreadInfoList.{MinidumpThreadInfoList}
@@ -32,12 +32,14 @@ thread_info_list_stream = record {
   stream_type = number_of ThreadInfoListStream;
   value = thread_info_list_of;
   meaning = λ order file bytes system. thread_info_list_in order bytes;
-  most = linear;
+  most = λ n. n + 7;
   fewest = λ order bytes infos. 1 + (list_header_of order bytes).number_of_entries;
-  memory = λ order file bytes system. IsOkAnd (extended_list thread_info order bytes) (λ raws. 0 < length raws);
+  memory =
+      λ order file bytes system. IsOkAnd (extended_list thread_info order bytes)
+      (λ raws. 0 < length raws);
 }
 
--- the printed text of an entry, MINIDUMP_THREAD_INFO: two blanks at its end, and no line feed behind them
+-- the printed text of an entry, MINIDUMP_THREAD_INFO. It ends with two spaces, without a line feed
 unfoldable pub thread_info_text : MINIDUMP_THREAD_INFO → List ℕ
 thread_info_text raw = concat (
     codes "MINIDUMP_THREAD_INFO\n"
@@ -57,4 +59,6 @@ thread_info_text raw = concat (
 
 -- the printed text of the list: the number of entries, and each of them
 abbrev pub thread_info_list_text : List MINIDUMP_THREAD_INFO → List ℕ
-thread_info_list_text infos = numbered_list (codes "MinidumpThreadInfoList\n  thread_info_count = ") (codes "thread info") thread_info_text infos
+thread_info_list_text infos =
+    numbered_list (codes "MinidumpThreadInfoList\n  thread_info_count = ")
+    (codes "thread info") thread_info_text infos

@@ -12,7 +12,7 @@ use Rattle.minidump_format.specs.declared.format.thread.MINIDUMP_THREAD_NAME.{MI
 use Rattle.minidump_format.specs.StreamType.{number_of}
 use Rattle.minidump_format.specs.Thread.{thread_name}
 use Rattle.minidump_system.specs.Framing.{count_of, plain_list}
-use Rattle.minidump_system.specs.StreamSpec.{StreamSpec, linear}
+use Rattle.minidump_system.specs.StreamSpec.{StreamSpec}
 use Rattle.minidump_system.specs.Reads.{and_then}
 use Rattle.minidump_format.specs.Numbered.{numbered_list}
 use Rattle.minidump_records.specs.declared.thread_names.MinidumpThreadNames.{MinidumpThreadNames}
@@ -26,25 +26,30 @@ abbrev pub thread_names_of : MinidumpThreadNames → List ThreadName
 thread_names_of n = map (λ e. (e.0, string_bytes e.1)) n.names.entries
 
 -- the name of an entry: none where no text is at its RVA
-abbrev pub named : Endian → List ℕ → MINIDUMP_THREAD_NAME → Option ThreadName
-named order file raw = option_map (λ name. (raw.thread_id, name)) (text16 order raw.thread_name_rva file)
+abbrev pub thread_name_in : Endian → List ℕ → MINIDUMP_THREAD_NAME → Option ThreadName
+thread_name_in order file raw =
+    option_map (λ name. (raw.thread_id, name)) (text16 order raw.thread_name_rva file)
 
 -- an entry takes memory: its name is a text, which is kept, or has code units, which are decoded
 abbrev pub NameTakesMemory : Endian → List ℕ → MINIDUMP_THREAD_NAME → Type 0
-NameTakesMemory order file raw = IsSome (text16 order raw.thread_name_rva file) ⊎ TakesMemory16 order raw.thread_name_rva file
+NameTakesMemory order file raw =
+    IsSome (text16 order raw.thread_name_rva file) ⊎ TakesMemory16 order raw.thread_name_rva file
 
 -- the last name that has the id of a thread
 abbrev pub last_name : List ThreadName → ℕ → Option (List ℕ)
 last_name names id = lookup (λ t. t == id) (reverse names)
 
 -- the last name of each thread whose id is below a limit, ascending by id
-unfoldable pub last_names : ℕ → List ThreadName → List ThreadName
-last_names limit names = filter_map (λ id. option_map (λ name. (id, name)) (last_name names id)) (range_with_len 0 limit)
+unfoldable pub last_name_of_each_thread : ℕ → List ThreadName → List ThreadName
+last_name_of_each_thread limit names =
+    filter_map (λ id. option_map (λ name. (id, name)) (last_name names id)) (range_with_len 0 limit)
 
--- Microsoft's MINIDUMP_THREAD_NAME_LIST: a plain list of entries, without those whose name is no text. An earlier name of such a thread
--- stays
+-- Microsoft's MINIDUMP_THREAD_NAME_LIST: a plain list of entries, without those whose name is no
+-- text. An earlier name of such a thread stays
 abbrev pub thread_names_in : Endian → List ℕ → List ℕ → Result (List ThreadName) Error
-thread_names_in order file bytes = and_then (plain_list thread_name order bytes) (λ raws. Ok (last_names (2 ^ 32) (filter_map (named order file) raws)))
+thread_names_in order file bytes =
+    and_then (plain_list thread_name order bytes) (λ raws.
+    Ok (last_name_of_each_thread (2 ^ 32) (filter_map (thread_name_in order file) raws)))
 
 -- the name of a thread: the first that has its id
 abbrev pub name_of_thread : List ThreadName → ℕ → Option (List ℕ)
@@ -56,9 +61,11 @@ thread_names_stream = record {
   stream_type = number_of ThreadNamesStream;
   value = thread_names_of;
   meaning = λ order file bytes system. thread_names_in order file bytes;
-  most = linear;
+  most = λ n. n + 7;
   fewest = λ order bytes names. 1 + 2 * count_of order bytes;
-  memory = λ order file bytes system. IsOkAnd (plain_list thread_name order bytes) (Any (NameTakesMemory order file));
+  memory =
+      λ order file bytes system. IsOkAnd (plain_list thread_name order bytes)
+      (Any (NameTakesMemory order file));
 }
 
 -- the printed text of a name, in quotes, with its thread
@@ -72,4 +79,6 @@ thread_name_text t = concat (
 
 -- the printed text: the number of names, and each of them
 abbrev pub thread_names_text : List ThreadName → List ℕ
-thread_names_text names = numbered_list (codes "MinidumpThreadNames\n  thread_count = ") (codes "thread_name") thread_name_text names
+thread_names_text names =
+    numbered_list (codes "MinidumpThreadNames\n  thread_count = ")
+    (codes "thread_name") thread_name_text names

@@ -2,7 +2,7 @@ ghost use Rattle.std.specs.Prelude.{◌≡◌, ◌++◌, ◌==◌, ◌<◌, IfOk
 ghost use Rattle.std.specs.List.{before_first};
 ghost use Rattle.std.specs.Option.{option_map};
 ghost use Rattle.minidump_format.specs.Print.{Prints};
-ghost use Rattle.minidump_records.specs.Assertion.{assertion_of, assertion_text, fields_text, shown_units};
+ghost use Rattle.minidump_records.specs.Assertion.{assertion_of, assertion_text, fields_text, text_or_empty};
 ghost use Rattle.minidump_bytes.specs.Text16.{text_before_nul};
 
 use minidump_bytes::{Endian, Piece, Source, Steps, Told, push_pieces, text_before_nul};
@@ -19,32 +19,39 @@ pub struct MinidumpAssertion {
     pub raw: MINIDUMP_ASSERTION_INFO,
 }
 
-/// The texts. Each ends at its first NUL, and is `Ok(None)` if a surrogate before that NUL lacks its partner.
-/// The only error is [`Error::OutOfMemory`], and only if a code unit stands before that NUL.
+/// The texts. Each ends at its first NUL, and is `Ok(None)` if a surrogate before that NUL lacks
+/// its partner. The only error is [`Error::OutOfMemory`], and only if a code unit stands before
+/// that NUL.
 impl MinidumpAssertion {
     /// Returns the expression that was false.
     pub fn expression(&self, alloc: Global) -> Result<Option<String>, Error>
-        ensures value { IfOk result (λ text. option_map string_bytes text ≡ text_before_nul self.now.raw.expression) }
+        ensures value { IfOk result
+            (λ text. option_map string_bytes text ≡ text_before_nul self.now.raw.expression) }
         ensures memory { IsOkUnless result Error.OutOfMemory }
-        ensures some { OnErr result (0 < length (before_first (λ unit. unit == 0) self.now.raw.expression)) }
+        ensures some { OnErr result
+            (0 < length (before_first (λ unit. unit == 0) self.now.raw.expression)) }
     {
         Ok(text_before_nul(alloc, &self.raw.expression)?)
     }
 
     /// Returns the name of the function in which the assertion stands.
     pub fn function(&self, alloc: Global) -> Result<Option<String>, Error>
-        ensures value { IfOk result (λ text. option_map string_bytes text ≡ text_before_nul self.now.raw.function) }
+        ensures value { IfOk result
+            (λ text. option_map string_bytes text ≡ text_before_nul self.now.raw.function) }
         ensures memory { IsOkUnless result Error.OutOfMemory }
-        ensures some { OnErr result (0 < length (before_first (λ unit. unit == 0) self.now.raw.function)) }
+        ensures some { OnErr result
+            (0 < length (before_first (λ unit. unit == 0) self.now.raw.function)) }
     {
         Ok(text_before_nul(alloc, &self.raw.function)?)
     }
 
     /// Returns the name of the source file in which the assertion stands.
     pub fn file(&self, alloc: Global) -> Result<Option<String>, Error>
-        ensures value { IfOk result (λ text. option_map string_bytes text ≡ text_before_nul self.now.raw.file) }
+        ensures value { IfOk result
+            (λ text. option_map string_bytes text ≡ text_before_nul self.now.raw.file) }
         ensures memory { IsOkUnless result Error.OutOfMemory }
-        ensures some { OnErr result (0 < length (before_first (λ unit. unit == 0) self.now.raw.file)) }
+        ensures some { OnErr result
+            (0 < length (before_first (λ unit. unit == 0) self.now.raw.file)) }
     {
         Ok(text_before_nul(alloc, &self.raw.file)?)
     }
@@ -64,9 +71,9 @@ impl Pushed for MinidumpAssertion {
 
     fn push(&self, out: &mut Vec<u8>) -> Result<(), AllocError> {
         let alloc = *out.allocator();
-        let expression = shown_units(alloc, &self.raw.expression)?;
-        let function = shown_units(alloc, &self.raw.function)?;
-        let file = shown_units(alloc, &self.raw.file)?;
+        let expression = text_or_empty(alloc, &self.raw.expression)?;
+        let function = text_or_empty(alloc, &self.raw.function)?;
+        let file = text_or_empty(alloc, &self.raw.file)?;
         push_fields(
             out,
             &self.raw,
@@ -77,8 +84,8 @@ impl Pushed for MinidumpAssertion {
     }
 }
 
-/// Reads Breakpad's `MDRawAssertionInfo`. Returns `StreamReadFailure` if the stream is shorter than the record.
-/// Takes no memory.
+/// Reads Breakpad's `MDRawAssertionInfo`. Returns `StreamReadFailure` if the stream is shorter than
+/// the record. Takes no memory.
 impl<'a> MinidumpStream<'a> for MinidumpAssertion {
     ghost use Rattle.minidump_format.specs.declared.format.assertion.MINIDUMP_ASSERTION_INFO.{MINIDUMP_ASSERTION_INFO};
     ghost use Rattle.minidump_records.specs.Assertion.{assertion_stream};
@@ -109,8 +116,8 @@ impl<'a> MinidumpStream<'a> for MinidumpAssertion {
 }
 
 // Returns the text before the first NUL, or an empty one if that is no text.
-fn shown_units(alloc: Global, units: &[u16]) -> Result<String, AllocError>
-    ensures { IfOk result (λ text. string_bytes text ≡ shown_units units.now) }
+fn text_or_empty(alloc: Global, units: &[u16]) -> Result<String, AllocError>
+    ensures { IfOk result (λ text. string_bytes text ≡ text_or_empty units.now) }
 {
     match text_before_nul(alloc, units)? {
         Some(text) => Ok(text),
@@ -127,7 +134,8 @@ fn push_fields<'t>(
     function: &'t str,
     file: &'t str,
 ) -> Result<(), AllocError>
-    ensures { OnOk result (out.new.items ≡ out.old.items ++ fields_text raw.now expression.now function.now file.now) }
+    ensures { OnOk result (out.new.items ≡ out.old.items
+        ++ fields_text raw.now expression.now function.now file.now) }
 {
     push_pieces(out, &[
         Piece::Words("MDAssertion\n"),

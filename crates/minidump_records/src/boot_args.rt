@@ -1,4 +1,4 @@
-ghost use Rattle.std.specs.Prelude.{◌≡◌, ◌+◌, ◌≤◌, IfErr, IfOk, IsOkUnless, IfSome, IsSome, OnErr, length, nat_le, if◌then◌else◌};
+ghost use Rattle.std.specs.Prelude.{◌≡◌, ◌≤◌, IfErr, IfOk, IsOkUnless, IfSome, IsSome, OnErr, length, nat_le, if◌then◌else◌};
 ghost use Rattle.std.proofs.Common.{rules};
 ghost use Rattle.minidump_bytes.specs.Source.{bytes_of};
 ghost use Rattle.minidump_bytes.specs.Steps.{after};
@@ -6,7 +6,7 @@ ghost use Rattle.minidump_format.specs.Print.{Prints};
 ghost use Rattle.minidump_records.specs.BootArgs.{boot_args_record, mac_bootargs_of, mac_bootargs_text};
 ghost use Rattle.minidump_records.specs.Print.{text_or_nothing};
 
-use minidump_bytes::{Endian, Record, Source, Steps, Told, copied};
+use minidump_bytes::{Endian, Record, Source, Steps, Told, copy_text};
 use minidump_format::format::MINIDUMP_MAC_BOOTARGS;
 use minidump_format::{Error, put_text};
 use minidump_system::{MinidumpStream, MinidumpSystemInfo};
@@ -31,15 +31,16 @@ impl MinidumpMacBootargs {
     {
         Ok(MinidumpMacBootargs {
             raw: self.raw,
-            bootargs: copied(alloc, &self.bootargs)?,
+            bootargs: copy_text(alloc, &self.bootargs)?,
         })
     }
 
     /// Prints the arguments, or nothing after their label if they are `None`. The only error is
     /// [`Error::IoError`].
     pub fn print<W: Write>(&self, _alloc: Global, f: &mut Told<W>) -> Result<(), Error>
-        ensures prints { Prints W.contents f.old f.new (mac_bootargs_text (mac_bootargs_of self.now)) result }
-        ensures refusal { IfErr result (λ e. e ≡ Error.IoError) }
+        ensures prints { Prints W.contents f.old f.new
+            (mac_bootargs_text (mac_bootargs_of self.now)) result }
+        ensures error { IfErr result (λ e. e ≡ Error.IoError) }
     {
         put_text(f, "mac_boot_args = ")?;
         put_text(f, self.arguments())?;
@@ -83,8 +84,8 @@ impl Record for ShortBootArgs {
     ghost fits = { Prim.search rules };
 }
 
-/// Reads Mozilla's `MDRawMacBootargs`: the form of 12 bytes, or the form of 8 bytes if the stream is shorter than 12.
-/// Returns `StreamReadFailure` if the stream is shorter than 8 bytes.
+/// Reads Mozilla's `MDRawMacBootargs`: the form of 12 bytes, or the form of 8 bytes if the stream
+/// is shorter than 12. Returns `StreamReadFailure` if the stream is shorter than 8 bytes.
 impl<'a> MinidumpStream<'a> for MinidumpMacBootargs {
     ghost use Rattle.minidump_records.specs.BootArgs.{BootArgs, mac_bootargs_stream};
 
@@ -119,8 +120,9 @@ fn read_record(
     steps: &mut Steps,
 ) -> Option<MINIDUMP_MAC_BOOTARGS>
     ensures value { result ≡ boot_args_record endian (bytes_of bytes.entry) }
-    ensures held { IfSome result (λ _. 8 ≤ length (bytes_of bytes.entry)) }
-    ensures steps { steps.new ≡ after steps.old (if nat_le 12 (length (bytes_of bytes.entry)) then 1 else 2) }
+    ensures long_enough { IfSome result (λ _. 8 ≤ length (bytes_of bytes.entry)) }
+    ensures steps { steps.new ≡ after steps.old
+        (if nat_le 12 (length (bytes_of bytes.entry)) then 1 else 2) }
 {
     if let Some(raw) = bytes.record(0, endian, steps) {
         return Some(raw);

@@ -28,7 +28,8 @@ pub struct MinidumpBreakpadInfo {
 impl MinidumpBreakpadInfo {
     /// Prints the record, with `(invalid)` for an id whose flag is not set.
     pub fn print<W: Write>(&self, alloc: Global, f: &mut Told<W>) -> Result<(), Error>
-        ensures { Prints W.contents f.old f.new (breakpad_info_text (breakpad_info_stream.value self.now)) result }
+        ensures { Prints W.contents f.old f.new
+            (breakpad_info_text (breakpad_info_stream.value self.now)) result }
     {
         print_item(self, alloc, f)
     }
@@ -42,8 +43,8 @@ impl Pushed for MinidumpBreakpadInfo {
     }
 }
 
-/// Reads Breakpad's `MDRawBreakpadInfo`. Returns `StreamReadFailure` if the stream is shorter than the record.
-/// Takes no memory.
+/// Reads Breakpad's `MDRawBreakpadInfo`. Returns `StreamReadFailure` if the stream is shorter than
+/// the record. Takes no memory.
 impl<'a> MinidumpStream<'a> for MinidumpBreakpadInfo {
     ghost use Rattle.minidump_records.specs.declared.breakpad_info.MinidumpBreakpadInfo.{MinidumpBreakpadInfo};
     ghost use Rattle.minidump_records.specs.BreakpadInfo.{breakpad_info_stream};

@@ -15,7 +15,7 @@ use minidump_format::Error;
 use minidump_format::format::{MINIDUMP_LOCATION_DESCRIPTOR, MINIDUMP_MAC_CRASH_INFO};
 use minidump_system::{MinidumpStream, MinidumpSystemInfo};
 pub use raw::RawMacCrashInfo;
-use record::{Versioned, read_located};
+use record::{VersionAndRecord, read_located};
 use std::alloc::Global;
 
 /// The crash information of macOS: what the modules of the process said of the crash.
@@ -26,7 +26,8 @@ pub struct MinidumpMacCrashInfo {
 }
 
 impl MinidumpMacCrashInfo {
-    /// Copies the information. The only error is [`Error::OutOfMemory`], and only if there is a record.
+    /// Copies the information. The only error is [`Error::OutOfMemory`], and only if there is a
+    /// record.
     pub fn try_clone(&self, alloc: Global) -> Result<MinidumpMacCrashInfo, Error>
         ensures same { IfOk result (λ copy. mac_crash_info_of copy ≡ mac_crash_info_of self.now) }
         ensures memory { IsOkUnless result Error.OutOfMemory }
@@ -40,12 +41,13 @@ impl MinidumpMacCrashInfo {
     }
 }
 
-/// Reads Mozilla's `MDRawMacCrashInfo`: of the records that it counts, the first 20. Records of version 0 are left
-/// out.
+/// Reads Mozilla's `MDRawMacCrashInfo`: of the records that it counts, the first 20. Records of
+/// version 0 are left out.
 ///
-/// Returns `StreamReadFailure` if the stream is shorter than 172 bytes, if the bytes of a record, its fixed part
-/// or one of its texts is missing, or if the texts would begin within the fixed part, or one is not UTF-8. Returns
-/// `VersionMismatch` if a record has another version than the record before it.
+/// Returns `StreamReadFailure` if the stream is shorter than 172 bytes, if the bytes of a record,
+/// its fixed part or one of its texts is missing, or if the texts would begin within the fixed
+/// part, or one is not UTF-8. Returns `VersionMismatch` if a record has another version than the
+/// record before it.
 impl<'a> MinidumpStream<'a> for MinidumpMacCrashInfo {
     ghost use Rattle.std.specs.Prelude.{List};
     ghost use Rattle.minidump_records.specs.MacCrashInfo.Record.{MacRecord};
@@ -79,7 +81,8 @@ impl<'a> MinidumpStream<'a> for MinidumpMacCrashInfo {
     }
 }
 
-// Reads the records at locations. The texts of each begin `start` bytes after the start of the record.
+// Reads the records at locations. The texts of each begin `start` bytes after the start of the
+// record.
 fn read_records(
     alloc: Global,
     locations: &[MINIDUMP_LOCATION_DESCRIPTOR],
@@ -88,15 +91,18 @@ fn read_records(
     endian: Endian,
     steps: &mut Steps,
 ) -> Result<Vec<RawMacCrashInfo>, Error>
-    ensures means { Gives (λ v. map mac_record_of v.items) (0 < length locations.now) result (located_records endian (bytes_of all.entry) start locations.now) }
+    ensures means { Gives (λ v. map mac_record_of v.items) (0 < length locations.now) result
+        (located_records endian (bytes_of all.entry) start locations.now) }
     ensures within { steps.new ≤ steps.old + 8 * length locations.now }
     ensures grows { steps.old ≤ steps.new }
-    ensures at_least { IfOk result (λ v. after steps.old (2 * length locations.now + sum_by record_reads (map mac_record_of v.items)) ≤ steps.new) }
+    ensures at_least { IfOk result
+        (λ v. after steps.old (2 * length locations.now
+        + sum_by record_reads (map mac_record_of v.items)) ≤ steps.new) }
 {
     let mut records = Vec::with_capacity(alloc, locations.len())?;
     let mut before = None;
     for location in locations {
-        let Versioned { version, record } = read_located(
+        let VersionAndRecord { version, record } = read_located(
             alloc, location, start, before, all, endian, steps,
         )?;
         before = Some(version);

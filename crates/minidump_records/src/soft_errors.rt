@@ -8,7 +8,7 @@ use minidump_system::{MinidumpStream, MinidumpSystemInfo};
 use std::alloc::Global;
 use std::io::Write;
 
-/// The errors that did not keep the writer of a dump from writing it, as a text in JSON.
+/// The errors that the dump's writer met and got over, as a text in JSON.
 #[derive(Drop)]
 pub struct MinidumpSoftErrors<'a> {
     text: &'a str,
@@ -29,11 +29,13 @@ impl<'a> MinidumpSoftErrors<'a> {
         self.text
     }
 
-    /// Prints the name of the type of stream and the text, each with a line feed. The Rust crate has no such
-    /// call: this is the text that a report has for the stream. The only error is [`Error::IoError`].
+    /// Prints the name of the type of stream and the text, each with a line feed. The Rust crate
+    /// has no such call: this is the text that a report has for the stream. The only error is
+    /// [`Error::IoError`].
     pub fn print<W: Write>(&self, _alloc: Global, f: &mut Told<W>) -> Result<(), Error>
-        ensures prints { Prints W.contents f.old f.new (soft_errors_text (soft_errors_stream.value self.now)) result }
-        ensures refusal { IfErr result (λ e. e ≡ Error.IoError) }
+        ensures prints { Prints W.contents f.old f.new
+            (soft_errors_text (soft_errors_stream.value self.now)) result }
+        ensures error { IfErr result (λ e. e ≡ Error.IoError) }
     {
         put_text(f, "MozSoftErrors\n")?;
         put_text(f, self.text)?;
@@ -41,8 +43,8 @@ impl<'a> MinidumpSoftErrors<'a> {
     }
 }
 
-/// Reads Mozilla's soft errors: the stream is one text. Returns `DataError` if its bytes are not UTF-8. Counts no
-/// step, and takes no memory.
+/// Reads Mozilla's soft errors: the stream is one text. Returns `DataError` if its bytes are not
+/// UTF-8. Counts no step, and takes no memory.
 impl<'a> MinidumpStream<'a> for MinidumpSoftErrors<'a> {
     ghost use Rattle.std.specs.Prelude.{List, ℕ};
     ghost use Rattle.minidump_records.specs.SoftErrors.{soft_errors_stream};

@@ -7,7 +7,7 @@ use minidump_bytes::{Endian, Piece, Source, Steps, Told, push_pieces};
 use minidump_format::format::MINIDUMP_THREAD_INFO;
 use minidump_format::{Error, Pushed, print_item, print_numbered};
 use minidump_system::framing::extended_entries;
-use minidump_system::listed::{Listed, read_items};
+use minidump_system::read_items::{ReadEntry, read_items};
 use minidump_system::{MinidumpStream, MinidumpSystemInfo};
 use std::alloc::{AllocError, Global};
 use std::io::Write;
@@ -21,7 +21,7 @@ pub struct MinidumpThreadInfo {
 }
 
 impl MinidumpThreadInfo {
-    /// Prints the entry. Its text ends with an empty line and two blanks.
+    /// Prints the entry. Its text ends with an empty line and two spaces.
     pub fn print<W: Write>(&self, alloc: Global, f: &mut Told<W>) -> Result<(), Error>
         ensures { Prints W.contents f.old f.new (thread_info_text self.now.raw) result }
     {
@@ -93,7 +93,8 @@ impl MinidumpThreadInfoList {
 
     /// Prints the number of entries, and each of them after its index.
     pub fn print<W: Write>(&self, alloc: Global, f: &mut Told<W>) -> Result<(), Error>
-        ensures { Prints W.contents f.old f.new (thread_info_list_text (thread_info_list_of self.now)) result }
+        ensures { Prints W.contents f.old f.new
+            (thread_info_list_text (thread_info_list_of self.now)) result }
     {
         let heading = "MinidumpThreadInfoList\n  thread_info_count = ";
         print_numbered(
@@ -142,7 +143,7 @@ impl<'a> MinidumpStream<'a> for MinidumpThreadInfoList {
 #[derive(Clone, Copy)]
 struct Infos;
 
-impl<'a> Listed<'a, MINIDUMP_THREAD_INFO> for Infos {
+impl<'a> ReadEntry<'a, MINIDUMP_THREAD_INFO> for Infos {
     ghost use Rattle.std.specs.Prelude.{Ok, Some};
     ghost use Rattle.minidump_format.specs.declared.format.thread.MINIDUMP_THREAD_INFO.{MINIDUMP_THREAD_INFO};
 
@@ -152,7 +153,7 @@ impl<'a> Listed<'a, MINIDUMP_THREAD_INFO> for Infos {
 
     ghost value = { λ info. info.raw };
 
-    ghost listed = { λ _ order file raw. Ok (Some raw) };
+    ghost entry_value = { λ _ order file raw. Ok (Some raw) };
 
     ghost fewest_of = { λ _. 0 };
 

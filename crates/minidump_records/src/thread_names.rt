@@ -1,4 +1,4 @@
-ghost use Rattle.std.specs.Prelude.{◌≡◌, ◌^◌, ◌+◌, ◌*◌, ◌++◌, ◌≤◌, [], codes, ◌↔◌, length, Any, IfOk, IsOkUnless, IsTrue, OnErr, OnOk, map, string_bytes};
+ghost use Rattle.std.specs.Prelude.{◌≡◌, ◌^◌, ◌+◌, ◌*◌, ◌++◌, ◌≤◌, [], ◌↔◌, length, Any, IfOk, IsOkUnless, IsTrue, OnErr, OnOk, map, string_bytes};
 ghost use Rattle.std.specs.BTreeMap.{IsOrdered, Updates};
 ghost use Rattle.std.specs.List.{filter_map};
 ghost use Rattle.std.specs.Option.{option_copied, option_map};
@@ -7,7 +7,7 @@ ghost use Rattle.minidump_bytes.specs.Source.{bytes_of};
 ghost use Rattle.minidump_bytes.specs.Steps.{after};
 ghost use Rattle.minidump_bytes.specs.Text16.{TakesMemory16, text16};
 ghost use Rattle.minidump_format.specs.Print.{Prints};
-ghost use Rattle.minidump_records.specs.ThreadNames.{NameTakesMemory, last_names, name_of_thread, named, thread_name_text, thread_names_of, thread_names_stream, thread_names_text};
+ghost use Rattle.minidump_records.specs.ThreadNames.{NameTakesMemory, last_name_of_each_thread, name_of_thread, thread_name_in, thread_name_text, thread_names_of, thread_names_stream, thread_names_text};
 
 use minidump_bytes::{Endian, Entries, Piece, Source, Steps, Told, push_pieces};
 use minidump_format::format::MINIDUMP_THREAD_NAME;
@@ -50,7 +50,8 @@ impl MinidumpThreadNames {
 
     /// Returns the name of a thread, or `None` if it has none.
     pub fn get_name(&self, thread_id: u32) -> Option<&str>
-        ensures { option_copied result ≡ name_of_thread (thread_names_stream.value self.now) thread_id }
+        ensures { option_copied result
+            ≡ name_of_thread (thread_names_stream.value self.now) thread_id }
     {
         let name = self.names.get(&thread_id)?;
         Some(name.as_str())
@@ -66,9 +67,11 @@ impl MinidumpThreadNames {
         })
     }
 
-    /// Prints the number of names, and each of them after its index, ascending by the ids of the threads.
+    /// Prints the number of names, and each of them after its index, ascending by the ids of the
+    /// threads.
     pub fn print<W: Write>(&self, alloc: Global, f: &mut Told<W>) -> Result<(), Error>
-        ensures { Prints W.contents f.old f.new (thread_names_text (thread_names_of self.now)) result }
+        ensures { Prints W.contents f.old f.new
+            (thread_names_text (thread_names_of self.now)) result }
     {
         let heading = "MinidumpThreadNames\n  thread_count = ";
         let names = self.names.iter().map(|(id, name)| NameText { id, name });
@@ -95,8 +98,8 @@ impl<'l> IntoIterator for &'l MinidumpThreadNames {
     }
 }
 
-/// Reads Microsoft's `MINIDUMP_THREAD_NAME_LIST`: a plain list of entries. An entry whose name is no text is
-/// skipped. If several entries name one thread, the last name is kept.
+/// Reads Microsoft's `MINIDUMP_THREAD_NAME_LIST`: a plain list of entries. An entry whose name is
+/// no text is skipped. If several entries name one thread, the last name is kept.
 impl<'a> MinidumpStream<'a> for MinidumpThreadNames {
     ghost use Rattle.std.specs.Prelude.{List};
     ghost use Rattle.minidump_records.specs.ThreadNames.{ThreadName, thread_names_stream};
@@ -135,7 +138,8 @@ fn read_names(
     steps: &mut Steps,
 ) -> Result<BTreeMap<u32, String>, AllocError>
     ensures names { IfOk result (λ names. map (λ e. (e.0, string_bytes e.1)) names.entries
-        ≡ last_names (2 ^ 32) (filter_map (named endian (bytes_of all.entry)) raws.entry)) }
+        ≡ last_name_of_each_thread (2 ^ 32)
+        (filter_map (thread_name_in endian (bytes_of all.entry)) raws.entry)) }
     ensures memory { OnErr result (Any (NameTakesMemory endian (bytes_of all.entry)) raws.entry) }
     ensures within { steps.new ≤ steps.old + 2 * length raws.entry }
     ensures grows { steps.old ≤ steps.new }
@@ -159,8 +163,10 @@ fn read_name(
     endian: Endian,
     steps: &mut Steps,
 ) -> Result<Option<String>, AllocError>
-    ensures name { IfOk result (λ name. option_map string_bytes name ≡ text16 endian raw.now.thread_name_rva (bytes_of all.entry)) }
-    ensures memory { OnErr result (TakesMemory16 endian raw.now.thread_name_rva (bytes_of all.entry)) }
+    ensures name { IfOk result (λ name. option_map string_bytes name
+        ≡ text16 endian raw.now.thread_name_rva (bytes_of all.entry)) }
+    ensures memory { OnErr result
+        (TakesMemory16 endian raw.now.thread_name_rva (bytes_of all.entry)) }
     ensures step { steps.new ≡ after steps.old 1 }
 {
     all.text16(alloc, raw.thread_name_rva, endian, steps)

@@ -1,4 +1,4 @@
--- `==` of the state of a process decides whether two are the same, and `==` of a report whether two hold the same.
+-- `==` of states of processes decides whether they are the same; of reports, whether they hold the same.
 use Rattle.std.proofs.Common.{◌≡◌, ℤ, Bool, refl, ap, rules}
 use Rattle.std.specs.Prelude.{Decides, Option, Some, None, ◌&&◌}
 use Rattle.std.specs.Cmp.Lexicographic.{pointwise}

@@ -19,68 +19,68 @@ use Rattle.minidump_stability.proofs.MergeLemmas.{fields_end, fields_more}
 some_is : {A : Type 0} (x y : A) → Some x ≡ Some y → x ≡ y
 some_is x y h = cc
 
-spelled_more : (bytes : List ℕ) (place next : ℕ) (f : Field) (gs : List Field) (o : Option (List Field)) → IsFieldAt bytes place f next
-    → ((hs : List Field) → o ≡ Some hs → SpellsFields (drop next bytes) hs) → option_map (λ hs. f ∷ hs) o ≡ Some gs → SpellsFields (drop place bytes) gs
-spelled_more bytes place next f gs None at more h = (let k : None ≡ Some gs = h in cc)
-spelled_more bytes place next f gs (Some hs) at more h =
-    subst (SpellsFields (drop place bytes)) (some_is (f ∷ hs) gs h)
-    (slice_range bytes place next, drop next bytes, drop_split bytes place next at.forward, at.spelled, more hs refl)
+spelled_more : (bytes : List ℕ) (offset next : ℕ) (f : Field) (gs : List Field) (o : Option (List Field)) → IsFieldAt bytes offset f next
+    → ((hs : List Field) → o ≡ Some hs → SpellsFields (drop next bytes) hs) → option_map (λ hs. f ∷ hs) o ≡ Some gs → SpellsFields (drop offset bytes) gs
+spelled_more bytes offset next f gs None at more h = (let k : None ≡ Some gs = h in cc)
+spelled_more bytes offset next f gs (Some hs) at more h =
+    subst (SpellsFields (drop offset bytes)) (some_is (f ∷ hs) gs h)
+    (slice_range bytes offset next, drop next bytes, drop_split bytes offset next at.forward, at.spelled, more hs refl)
 
-spelled_by : (most place : ℕ) (bytes : List ℕ) (gs : List Field) (o : Option (Field × ℕ)) → field_at place bytes ≡ o
+spelled_by : (most offset : ℕ) (bytes : List ℕ) (gs : List Field) (o : Option (Field × ℕ)) → field_at offset bytes ≡ o
     → ((next : ℕ) (hs : List Field) → next ≤ length bytes → fields_from most next bytes ≡ Some hs → SpellsFields (drop next bytes) hs)
-    → option_and_then (λ r. option_map (λ fs. r.0 ∷ fs) (fields_from most r.1 bytes)) o ≡ Some gs → SpellsFields (drop place bytes) gs
-spelled_by most place bytes gs None is more h = (let k : None ≡ Some gs = h in cc)
-spelled_by most place bytes gs (Some r) is more h =
-    let at = field_there bytes place r.0 r.1 is in
-    spelled_more bytes place r.1 r.0 gs (fields_from most r.1 bytes) at (λ hs e. more r.1 hs at.within e) h
+    → option_and_then (λ r. option_map (λ fs. r.0 ∷ fs) (fields_from most r.1 bytes)) o ≡ Some gs → SpellsFields (drop offset bytes) gs
+spelled_by most offset bytes gs None is more h = (let k : None ≡ Some gs = h in cc)
+spelled_by most offset bytes gs (Some r) is more h =
+    let at = field_there bytes offset r.0 r.1 is in
+    spelled_more bytes offset r.1 r.0 gs (fields_from most r.1 bytes) at (λ hs e. more r.1 hs at.within e) h
 
-end_spelled : (most place : ℕ) (bytes : List ℕ) (fs : List Field) → place ≡ length bytes → fields_from (suc most) place bytes ≡ Some fs
-    → SpellsFields (drop place bytes) fs
-end_spelled most place bytes fs end h =
-    subst (SpellsFields (drop place bytes)) (some_is [] fs (sym (fields_end most place bytes end) ∙ h)) (drop_all place bytes (omega (arith, end)))
+end_spelled : (most offset : ℕ) (bytes : List ℕ) (fs : List Field) → offset ≡ length bytes → fields_from (suc most) offset bytes ≡ Some fs
+    → SpellsFields (drop offset bytes) fs
+end_spelled most offset bytes fs end h =
+    subst (SpellsFields (drop offset bytes)) (some_is [] fs (sym (fields_end most offset bytes end) ∙ h)) (drop_all offset bytes (omega (arith, end)))
 
-spelled : (most place : ℕ) (bytes : List ℕ) (fs : List Field) → place ≤ length bytes → fields_from most place bytes ≡ Some fs
-    → SpellsFields (drop place bytes) fs
+spelled : (most offset : ℕ) (bytes : List ℕ) (fs : List Field) → offset ≤ length bytes → fields_from most offset bytes ≡ Some fs
+    → SpellsFields (drop offset bytes) fs
 unfolding fields_from
-spelled zero place bytes fs within h = (let k : None ≡ Some fs = h in cc)
-spelled (suc most) place bytes fs within h = elim (eq-or-lt_of_le within) [
-  | inl end ↦ end_spelled most place bytes fs end h
-  | inr more ↦ spelled_by most place bytes fs (field_at place bytes) refl (λ next hs fits e. spelled most next bytes hs fits e)
-      (sym (fields_more most place bytes more) ∙ h)
+spelled zero offset bytes fs within h = (let k : None ≡ Some fs = h in cc)
+spelled (suc most) offset bytes fs within h = elim (eq-or-lt_of_le within) [
+  | inl end ↦ end_spelled most offset bytes fs end h
+  | inr more ↦ spelled_by most offset bytes fs (field_at offset bytes) refl (λ next hs fits e. spelled most next bytes hs fits e)
+      (sym (fields_more most offset bytes more) ∙ h)
 ]
 
 -- ---- what is spelled is found
-none_left : (place : ℕ) (bytes : List ℕ) → place ≤ length bytes → drop place bytes ≡ [] → place ≡ length bytes
-none_left place bytes within none = omega (arith, within, ap length none, length-drop place bytes)
+none_left : (offset : ℕ) (bytes : List ℕ) → offset ≤ length bytes → drop offset bytes ≡ [] → offset ≡ length bytes
+none_left offset bytes within none = omega (arith, within, ap length none, length-drop offset bytes)
 
--- the field at the front of what is left, and what is left behind it
-module _ (place : ℕ) (bytes front back : List ℕ) (f : Field) (within : place ≤ length bytes) (left : drop place bytes ≡ front ++ back)
+-- the field at the front of the bytes that are left, and the bytes after it
+module _ (offset : ℕ) (bytes front back : List ℕ) (f : Field) (within : offset ≤ length bytes) (left : drop offset bytes ≡ front ++ back)
     (s : SpellsField front f) where
-  long : length bytes ≡ place + length front + length back
-  long = omega (arith, within, ap length left, length-append front back, length-drop place bytes)
+  long : length bytes ≡ offset + length front + length back
+  long = omega (arith, within, ap length left, length-append front back, length-drop offset bytes)
 
-  size : place + length front - place ≡ length front
+  size : offset + length front - offset ≡ length front
   size = omega arith
 
-  cut : slice_range bytes place (place + length front) ≡ front
+  cut : slice_range bytes offset (offset + length front) ≡ front
   cut = rw (left, size) (take-append_seam front back)
 
-  behind : drop (place + length front) bytes ≡ back
-  behind = sym (drop-drop (length front) place bytes) ∙ rw left (drop-append_seam front back)
+  after_front : drop (offset + length front) bytes ≡ back
+  after_front = sym (drop-drop (length front) offset bytes) ∙ rw left (drop-append_seam front back)
 
-  at : field_at place bytes ≡ Some (f, place + length front)
-  at = there_field bytes place f (place + length front) (record { forward = omega arith; within = omega (arith, long); spelled = rw cut s })
+  at : field_at offset bytes ≡ Some (f, offset + length front)
+  at = there_field bytes offset f (offset + length front) (record { forward = omega arith; within = omega (arith, long); spelled = rw cut s })
 
-found : (most place : ℕ) (bytes : List ℕ) (fs : List Field) → place ≤ length bytes → length bytes < place + most → SpellsFields (drop place bytes) fs
-    → fields_from most place bytes ≡ Some fs
-found zero place bytes fs within enough s = absurd (omega (arith, within, enough))
-found (suc most) place bytes [] within enough s = fields_end most place bytes (none_left place bytes within s)
-found (suc most) place bytes (f ∷ fs) within enough (front, back, left, s, more) =
+found : (most offset : ℕ) (bytes : List ℕ) (fs : List Field) → offset ≤ length bytes → length bytes < offset + most → SpellsFields (drop offset bytes) fs
+    → fields_from most offset bytes ≡ Some fs
+found zero offset bytes fs within enough s = absurd (omega (arith, within, enough))
+found (suc most) offset bytes [] within enough s = fields_end most offset bytes (none_left offset bytes within s)
+found (suc most) offset bytes (f ∷ fs) within enough (front, back, left, s, more) =
     let some = field_long front f s in
-    let size = long place bytes front back f within left s in
-    let next = found most (place + length front) bytes fs (omega (arith, size)) (omega (arith, enough, some))
-    (rw (behind place bytes front back f within left s) more) in
-    fields_more most place bytes (omega (arith, size, some)) ∙ rw (at place bytes front back f within left s, next) refl
+    let size = long offset bytes front back f within left s in
+    let next = found most (offset + length front) bytes fs (omega (arith, size)) (omega (arith, enough, some))
+    (rw (after_front offset bytes front back f within left s) more) in
+    fields_more most offset bytes (omega (arith, size, some)) ∙ rw (at offset bytes front back f within left s, next) refl
 
 pub fields_are_spelled : (bytes : List ℕ) (fs : List Field) → (fields_in bytes ≡ Some fs) ↔ SpellsFields bytes fs
 unfolding fields_in
@@ -90,23 +90,23 @@ fields_are_spelled bytes fs = (
 )
 
 -- ---- a report is of the fields that are spelled
-Held : List ℕ → Result Report Error → Type 0
-Held bytes answer =
+Holds : List ℕ → Result Report Error → Type 0
+Holds bytes answer =
     MatchResult answer (λ r. (fs : List Field) × SpellsFields bytes fs × (report fs ≡ Some r))
     (λ e. (e ≡ DataError) × ((fs : List Field) → SpellsFields bytes fs → report fs ≡ None))
 
-held_by : (bytes : List ℕ) (fs : List Field) (r : Option Report) → fields_in bytes ≡ Some fs → report fs ≡ r → Held bytes (ok_or r DataError)
-unfolding Held
-held_by bytes fs None is means = (refl, (λ gs s. let same : gs ≡ fs = some_is gs fs (sym ((fields_are_spelled bytes gs).1 s) ∙ is) in rw same means))
-held_by bytes fs (Some r) is means = (fs, (fields_are_spelled bytes fs).0 is, means)
+holds_by : (bytes : List ℕ) (fs : List Field) (r : Option Report) → fields_in bytes ≡ Some fs → report fs ≡ r → Holds bytes (ok_or r DataError)
+unfolding Holds
+holds_by bytes fs None is means = (refl, (λ gs s. let same : gs ≡ fs = some_is gs fs (sym ((fields_are_spelled bytes gs).1 s) ∙ is) in rw same means))
+holds_by bytes fs (Some r) is means = (fs, (fields_are_spelled bytes fs).0 is, means)
 
-held_in : (bytes : List ℕ) (o : Option (List Field)) → fields_in bytes ≡ o → Held bytes (ok_or (option_and_then report o) DataError)
-unfolding Held
-held_in bytes None is = (refl, (λ gs s. absurd (let k : None ≡ Some gs = sym is ∙ (fields_are_spelled bytes gs).1 s in cc)))
-held_in bytes (Some fs) is = held_by bytes fs (report fs) is refl
+holds_in : (bytes : List ℕ) (o : Option (List Field)) → fields_in bytes ≡ o → Holds bytes (ok_or (option_and_then report o) DataError)
+unfolding Holds
+holds_in bytes None is = (refl, (λ gs s. absurd (let k : None ≡ Some gs = sym is ∙ (fields_are_spelled bytes gs).1 s in cc)))
+holds_in bytes (Some fs) is = holds_by bytes fs (report fs) is refl
 
-pub report_is_held : (bytes : List ℕ)
+pub stream_holds_report : (bytes : List ℕ)
     → MatchResult (stability_report_in bytes) (λ r. (fs : List Field) × SpellsFields bytes fs × (report fs ≡ Some r))
     (λ e. (e ≡ DataError) × ((fs : List Field) → SpellsFields bytes fs → report fs ≡ None))
-unfolding Held
-report_is_held bytes = held_in bytes (fields_in bytes) refl
+unfolding Holds
+stream_holds_report bytes = holds_in bytes (fields_in bytes) refl

@@ -9,7 +9,7 @@ use Rattle.minidump_stability.specs.ReportRows.{no_file_system_state, no_memory_
 use Rattle.minidump_stability.specs.ReportRows.{no_system_memory_state, no_system_windows_memory, no_windows_file_system_state, no_windows_memory}
 use Rattle.minidump_stability.specs.ReportRows.{put_file_system_state, put_memory_state, put_posix_file_system_state, put_process_state, put_report}
 use Rattle.minidump_stability.specs.ReportRows.{put_system_memory_state, put_system_windows_memory, put_windows_file_system_state, put_windows_memory}
-use Rattle.minidump_stability.specs.Rows.{merged_bytes, merged_fields}
+use Rattle.minidump_stability.specs.Rows.{put_bytes, put_fields}
 use Rattle.minidump_stability.specs.StabilityReport.{file_system_state, memory_state, no_report, posix_file_system_state, process_state, report}
 use Rattle.minidump_stability.specs.StabilityReport.{stability_report_in, system_memory_state, system_windows_memory, windows_file_system_state}
 use Rattle.minidump_stability.specs.StabilityReport.{windows_memory}
@@ -68,10 +68,10 @@ report_means =
     (beside 2 _ _ _ _ _ _ (only_repeated put_process_state no_process_state process_state process_state_means 2)
     (only_nested put_system_memory_state no_system_memory_state system_memory_state system_memory_state_means 7))
 
-report_by : (fields : Option (List Field)) → merged_fields put_report fields no_report ≡ option_and_then report fields
+report_by : (fields : Option (List Field)) → put_fields put_report fields no_report ≡ option_and_then report fields
 report_by None = refl
 report_by (Some fs) = report_means fs
 
 -- a report that is read field by field is the one that its stream holds
-pub report_is : (bytes : List ℕ) → ok_or (merged_bytes put_report bytes no_report) DataError ≡ stability_report_in bytes
+pub report_is : (bytes : List ℕ) → ok_or (put_bytes put_report bytes no_report) DataError ≡ stability_report_in bytes
 report_is bytes = ap (λ o. ok_or o DataError) (report_by (fields_in bytes))

@@ -4,8 +4,8 @@ use Rattle.std.proofs.lemmas.List.{append-nil}
 use Rattle.std.specs.Prelude.{Option, Some, None, ◌==◌, if◌then◌else◌}
 use Rattle.std.specs.Option.{option_and_then, option_map}
 use Rattle.minidump_bytes.specs.Wire.{Field, Payload}
-use Rattle.minidump_stability.specs.Fields.{both, each, joined, last_of, merged, message_in, nested, payloads, repeated, scalar}
-use Rattle.minidump_stability.specs.Rows.{merged_fields, one_nested, one_repeated, only, puts, row, scalar_row, through}
+use Rattle.minidump_stability.specs.Fields.{both, each, join, last_of, merge_messages, message_in, nested, payloads, repeated, scalar}
+use Rattle.minidump_stability.specs.Rows.{put_fields, one_nested, one_repeated, only, puts, row, scalar_row, through}
 
 -- the fields make what they mean, from a start
 abbrev pub Means : {X : Type 0} → (Field → X → Option X) → X → (List Field → Option X) → Type 0
@@ -106,31 +106,31 @@ module _ {M : Type 0} (put : Field → M → Option M) where
   puts-append (f ∷ fs) gs m = append_by fs gs (put f m) (λ n. puts-append fs gs n)
 
 module _ {M : Type 0} (put : Field → M → Option M) (empty : M) where
-  -- the fields of some payloads, joined
+  -- the fields of several payloads, one after another
   abbrev all_in : Option (List (List Field)) → M → Option M
-  all_in fss m = option_and_then (λ all. puts put (joined all) m) fss
+  all_in fss m = option_and_then (λ all. puts put (join all) m) fss
 
   nested_none : (fs : List Field) (m : M) (fss : Option (List (List Field))) → puts put fs m ≡ None → all_in (option_map (λ all. fs ∷ all) fss) m ≡ None
   nested_none fs m None is = refl
-  nested_none fs m (Some all) is = puts-append put fs (joined all) m ∙ rw is refl
+  nested_none fs m (Some all) is = puts-append put fs (join all) m ∙ rw is refl
 
   nested_some : (fs : List Field) (m n : M) (fss : Option (List (List Field))) → puts put fs m ≡ Some n
       → all_in (option_map (λ all. fs ∷ all) fss) m ≡ all_in fss n
   nested_some fs m n None is = refl
-  nested_some fs m n (Some all) is = puts-append put fs (joined all) m ∙ rw is refl
+  nested_some fs m n (Some all) is = puts-append put fs (join all) m ∙ rw is refl
 
-  nested_made : (ps : List Payload) (fs : List Field) (m : M) (r : Option M) → puts put fs m ≡ r
+  nested_step : (ps : List Payload) (fs : List Field) (m : M) (r : Option M) → puts put fs m ≡ r
       → ((n : M) → changes (one_nested put empty) ps (Some n) ≡ option_map Some (all_in (each message_in ps) n))
       → option_and_then (changes (one_nested put empty) ps) (option_map Some r) ≡ option_map Some (all_in (option_map (λ all. fs ∷ all) (each message_in ps)) m)
-  nested_made ps fs m None is more = rw (nested_none fs m (each message_in ps) is) refl
-  nested_made ps fs m (Some n) is more = more n ∙ ap (option_map Some) (sym (nested_some fs m n (each message_in ps) is))
+  nested_step ps fs m None is more = rw (nested_none fs m (each message_in ps) is) refl
+  nested_step ps fs m (Some n) is more = more n ∙ ap (option_map Some) (sym (nested_some fs m n (each message_in ps) is))
 
   nested_by : (ps : List Payload) (m : M) (fields : Option (List Field))
       → ((n : M) → changes (one_nested put empty) ps (Some n) ≡ option_map Some (all_in (each message_in ps) n))
-      → option_and_then (changes (one_nested put empty) ps) (option_map Some (merged_fields put fields m))
+      → option_and_then (changes (one_nested put empty) ps) (option_map Some (put_fields put fields m))
       ≡ option_map Some (all_in (option_and_then (λ fs. option_map (λ all. fs ∷ all) (each message_in ps)) fields) m)
   nested_by ps m None more = refl
-  nested_by ps m (Some fs) more = nested_made ps fs m (puts put fs m) refl more
+  nested_by ps m (Some fs) more = nested_step ps fs m (puts put fs m) refl more
 
   nested_on : (ps : List Payload) (m : M) → changes (one_nested put empty) ps (Some m) ≡ option_map Some (all_in (each message_in ps) m)
   nested_on [] m = refl
@@ -138,17 +138,17 @@ module _ {M : Type 0} (put : Field → M → Option M) (empty : M) where
 
   module _ (message : List Field → Option M) (means : Means put empty message) where
     first_by : (fs : List Field) (fss : Option (List (List Field)))
-        → option_map Some (all_in (option_map (λ all. fs ∷ all) fss) empty) ≡ option_and_then (merged message) (option_map (λ all. fs ∷ all) fss)
+        → option_map Some (all_in (option_map (λ all. fs ∷ all) fss) empty) ≡ option_and_then (merge_messages message) (option_map (λ all. fs ∷ all) fss)
     first_by fs None = refl
-    first_by fs (Some all) = ap (option_map Some) (means (joined (fs ∷ all)))
+    first_by fs (Some all) = ap (option_map Some) (means (join (fs ∷ all)))
 
     first : (fields : Option (List Field)) (fss : Option (List (List Field)))
         → option_map Some (all_in (option_and_then (λ fs. option_map (λ all. fs ∷ all) fss) fields) empty)
-        ≡ option_and_then (merged message) (option_and_then (λ fs. option_map (λ all. fs ∷ all) fss) fields)
+        ≡ option_and_then (merge_messages message) (option_and_then (λ fs. option_map (λ all. fs ∷ all) fss) fields)
     first None fss = refl
     first (Some fs) fss = first_by fs fss
 
-    nested_is : (ps : List Payload) → changes (one_nested put empty) ps None ≡ option_and_then (merged message) (each message_in ps)
+    nested_is : (ps : List Payload) → changes (one_nested put empty) ps None ≡ option_and_then (merge_messages message) (each message_in ps)
     nested_is [] = refl
     nested_is (p ∷ ps) = nested_on (p ∷ ps) empty ∙ first (message_in p) (each message_in ps)
 
@@ -173,19 +173,19 @@ module _ {M : Type 0} (put : Field → M → Option M) (empty : M) where
     one_message fs m xs None is = refl
     one_message fs m xs (Some all) is = rw is (more_by m xs (each message all))
 
-    repeated_made : (ps : List Payload) (fs : List Field) (xs : List M) (r : Option M) → message fs ≡ r
+    repeated_step : (ps : List Payload) (fs : List Field) (xs : List M) (r : Option M) → message fs ≡ r
         → ((ys : List M) → changes (one_repeated put empty) ps ys ≡ option_map (λ zs. ys ++ zs) (all_of (each message_in ps)))
         → option_and_then (changes (one_repeated put empty) ps) (option_map (λ m. xs ++ m ∷ []) r)
         ≡ option_map (λ ys. xs ++ ys) (all_of (option_map (λ all. fs ∷ all) (each message_in ps)))
-    repeated_made ps fs xs None is more = rw (no_message fs (each message_in ps) is) refl
-    repeated_made ps fs xs (Some m) is more = more (xs ++ m ∷ []) ∙ one_message fs m xs (each message_in ps) is
+    repeated_step ps fs xs None is more = rw (no_message fs (each message_in ps) is) refl
+    repeated_step ps fs xs (Some m) is more = more (xs ++ m ∷ []) ∙ one_message fs m xs (each message_in ps) is
 
     repeated_by : (ps : List Payload) (xs : List M) (fields : Option (List Field))
         → ((ys : List M) → changes (one_repeated put empty) ps ys ≡ option_map (λ zs. ys ++ zs) (all_of (each message_in ps)))
-        → option_and_then (changes (one_repeated put empty) ps) (option_map (λ m. xs ++ m ∷ []) (merged_fields put fields empty))
+        → option_and_then (changes (one_repeated put empty) ps) (option_map (λ m. xs ++ m ∷ []) (put_fields put fields empty))
         ≡ option_map (λ ys. xs ++ ys) (all_of (option_and_then (λ fs. option_map (λ all. fs ∷ all) (each message_in ps)) fields))
     repeated_by ps xs None more = refl
-    repeated_by ps xs (Some fs) more = repeated_made ps fs xs (puts put fs empty) (sym (means fs)) more
+    repeated_by ps xs (Some fs) more = repeated_step ps fs xs (puts put fs empty) (sym (means fs)) more
 
     repeated_is : (ps : List Payload) (xs : List M) → changes (one_repeated put empty) ps xs ≡ option_map (λ ys. xs ++ ys) (all_of (each message_in ps))
     repeated_is [] xs = ap Some (sym (append-nil xs))

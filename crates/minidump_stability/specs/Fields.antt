@@ -14,33 +14,35 @@ each value (x ∷ xs) = option_and_then (λ y. option_map (λ ys. y ∷ ys) (eac
 abbrev pub both : {A B : Type 0} → Option A → Option B → Option (A × B)
 both a b = option_and_then (λ x. option_map (λ y. (x, y)) b) a
 
--- ---- the fields as a function; `SpellsFields` says what they are, by the law `fields_are_what_bytes_spell`
--- the fields from a place on, fewer than so many
+-- ---- the fields as a function. By the law `fields_are_what_bytes_spell`, bytes spell exactly these
+-- the fields from an offset on, if they are fewer than `most`
 unfoldable pub fields_from : ℕ → ℕ → List ℕ → Option (List Field)
-fields_from zero place bytes = None
-fields_from (suc most) place bytes =
-    if place == length bytes then Some []
-    else option_and_then (λ r. option_map (λ fs. r.0 ∷ fs) (fields_from most r.1 bytes)) (field_at place bytes)
+fields_from zero offset bytes = None
+fields_from (suc most) offset bytes =
+    if offset == length bytes then Some []
+    else option_and_then (λ r. option_map (λ fs. r.0 ∷ fs) (fields_from most r.1 bytes))
+    (field_at offset bytes)
 
 -- the fields that bytes spell
 unfoldable pub fields_in : List ℕ → Option (List Field)
 fields_in bytes = fields_from (1 + length bytes) 0 bytes
 
 -- ---- what fields hold
--- a field of a kind is among the fields that bytes begin with; what stands behind it may be no field
+-- the bytes begin with fields, of which the last is of a kind. The bytes after it may be no fields
 pub record HasField (kind : Field → Type 0) (bytes : List ℕ) : Type 0 where
   pub front : List ℕ
   pub back : List ℕ
   pub before : List Field
   pub field : Field
-  pub joined : bytes ≡ front ++ back
+  pub whole : bytes ≡ front ++ back
   pub spelled : SpellsFields front (before ++ field ∷ [])
   pub is_kind : kind field
 
--- what stands in the fields of a number, in their order
+-- the payloads of the fields with a number, in their order
 abbrev pub payloads : ℕ → List Field → List Payload
 payloads number [] = []
-payloads number (f ∷ fs) = if f.number == number then f.payload ∷ payloads number fs else payloads number fs
+payloads number (f ∷ fs) =
+    if f.number == number then f.payload ∷ payloads number fs else payloads number fs
 
 -- uint32: the low 32 bits of a varint
 abbrev pub uint32_in : Payload → Option ℕ
@@ -73,36 +75,38 @@ abbrev pub scalar : {N : Type 0} → (Payload → Option N) → ℕ → List Fie
 scalar value number fs = option_map (λ ns. last_of ns None) (each value (payloads number fs))
 
 -- the fields of several messages, one after another
-abbrev pub joined : List (List Field) → List Field
-joined [] = []
-joined (fs ∷ more) = fs ++ joined more
+abbrev pub join : List (List Field) → List Field
+join [] = []
+join (fs ∷ more) = fs ++ join more
 
--- the message of the fields of some messages, joined; absent where there are none
-abbrev pub merged : {M : Type 0} → (List Field → Option M) → List (List Field) → Option (Option M)
-merged message [] = Some None
-merged message (fs ∷ more) = option_map Some (message (joined (fs ∷ more)))
+-- the message of the fields of several messages, one after another; absent where there are none
+abbrev pub merge_messages : {M : Type 0} → (List Field → Option M) → List (List Field)
+    → Option (Option M)
+merge_messages message [] = Some None
+merge_messages message (fs ∷ more) = option_map Some (message (join (fs ∷ more)))
 
--- a nested message is that of the fields of all its payloads, joined
+-- a nested message is the message of the fields of all its payloads, one after another
 abbrev pub nested : {M : Type 0} → (List Field → Option M) → ℕ → List Field → Option (Option M)
-nested message number fs = option_and_then (merged message) (each message_in (payloads number fs))
+nested message number fs =
+    option_and_then (merge_messages message) (each message_in (payloads number fs))
 
 -- a repeated message is one for each payload
 abbrev pub repeated : {M : Type 0} → (List Field → Option M) → ℕ → List Field → Option (List M)
 repeated message number fs = option_and_then (each message) (each message_in (payloads number fs))
 
 -- ---- how many fields there are
--- those of a message, with so many inside each
-abbrev pub counted : (Field → ℕ) → List Field → ℕ
-counted inside fs = sum_by (λ f. 1 + inside f) fs
+-- how many fields a list has, including those inside them, of which `inside` is the number
+abbrev pub field_count : (Field → ℕ) → List Field → ℕ
+field_count inside fs = sum_by (λ f. 1 + inside f) fs
 
--- those of the message in a payload
+-- how many fields the message in a payload has
 abbrev pub count_in : (Field → ℕ) → Payload → ℕ
-count_in inside p = counted inside (unwrap_or (message_in p) [])
+count_in inside p = field_count inside (unwrap_or (message_in p) [])
 
--- those inside a field of a number, which holds a message
+-- how many fields are inside a field, if it has this number; it holds a message then
 abbrev pub within : ℕ → (Field → ℕ) → Field → ℕ
 within number inside f = if f.number == number then count_in inside f.payload else 0
 
--- no field is inside a scalar
+-- a scalar has no fields inside
 abbrev pub none_within : Field → ℕ
 none_within f = 0

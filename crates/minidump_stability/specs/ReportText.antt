@@ -19,11 +19,15 @@ number_line name n = concat (codes "  " ∷ name ∷ codes " = " ∷ decimal n �
 
 -- a line of a number of the process with an index
 unfoldable pub state_line : ℕ → List ℕ → ℕ → List ℕ
-state_line i name n = concat (codes "  process_state[" ∷ decimal i ∷ codes "]." ∷ name ∷ codes " = " ∷ decimal n ∷ codes "\n" ∷ [])
+state_line i name n =
+    concat (codes "  process_state[" ∷ decimal i ∷ codes "]." ∷ name ∷ codes " = " ∷ decimal n
+    ∷ codes "\n" ∷ [])
 
 -- ProcessState.process_id, of the process with an index
 unfoldable pub process_id_line : ℕ → ℤ → List ℕ
-process_id_line i id = concat (codes "  process_state[" ∷ decimal i ∷ codes "].process_id = " ∷ signed_decimal id ∷ codes "\n" ∷ [])
+process_id_line i id =
+    concat (codes "  process_state[" ∷ decimal i ∷ codes "].process_id = " ∷ signed_decimal id
+    ∷ codes "\n" ∷ [])
 
 -- ProcessState.MemoryState.WindowsMemory; its lines don't name it
 abbrev pub windows_memory_text : ℕ → WindowsMemory → List ℕ
@@ -37,13 +41,16 @@ windows_memory_text i m =
 abbrev pub memory_state_text : ℕ → MemoryState → List ℕ
 memory_state_text i m = if_there (windows_memory_text i) m.windows_memory
 
--- ProcessState.FileSystemState.PosixFileSystemState; its line doesn't name the process, nor do those of WindowsFileSystemState
+-- ProcessState.FileSystemState.PosixFileSystemState; its line doesn't name the process, nor do
+-- those of WindowsFileSystemState
 abbrev pub posix_file_system_state_text : PosixFileSystemState → List ℕ
-posix_file_system_state_text m = if_there (number_line (codes "file_system_state.posix_file_system_state.open_file_descriptors")) m.open_file_descriptors
+posix_file_system_state_text m =
+    if_there (number_line (codes "file_system_state.posix_file_system_state.open_file_descriptors")) m.open_file_descriptors
 
 -- ProcessState.FileSystemState.WindowsFileSystemState
 abbrev pub windows_file_system_state_text : WindowsFileSystemState → List ℕ
-windows_file_system_state_text m = if_there (number_line (codes "file_system_state.windows_file_system_state.process_handle_count")) m.process_handle_count
+windows_file_system_state_text m =
+    if_there (number_line (codes "file_system_state.windows_file_system_state.process_handle_count")) m.process_handle_count
 
 -- ProcessState.FileSystemState
 abbrev pub file_system_state_text : FileSystemState → List ℕ

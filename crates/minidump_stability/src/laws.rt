@@ -13,11 +13,12 @@ use minidump_system::MinidumpStream;
 
 /// Bytes have the fields that they spell, and no others.
 pub fn fields_are_what_bytes_spell()
-    ensures { (bytes : List ℕ) (fs : List Field) → (fields_in bytes ≡ Some fs) ↔ SpellsFields bytes fs }
+    ensures { (bytes : List ℕ) (fs : List Field) → (fields_in bytes ≡ Some fs)
+        ↔ SpellsFields bytes fs }
 {}
 
-/// A stream holds a report exactly if it encodes fields that mean this report. Any other stream is refused
-/// with `DataError`.
+/// A stream holds a report exactly if it encodes fields that mean this report. For any other stream
+/// the error is `DataError`.
 pub fn report_is_what_its_fields_mean()
     ensures { (bytes : List ℕ) → MatchResult (stability_report_in bytes)
         (λ r. (fs : List Field) × SpellsFields bytes fs × (report fs ≡ Some r))
@@ -38,5 +39,6 @@ pub fn process_states_compare_and_copy_exactly()
 
 /// Reports are equal exactly if they hold the same states.
 pub fn reports_compare_by_what_they_hold()
-    ensures { (x y : StabilityReport) → IsTrue (⟦<StabilityReport as PartialEq>⟧.eq x y) ↔ (stability_report_of x ≡ stability_report_of y) }
+    ensures { (x y : StabilityReport) → IsTrue (⟦<StabilityReport as PartialEq>⟧.eq x y)
+        ↔ (stability_report_of x ≡ stability_report_of y) }
 {}

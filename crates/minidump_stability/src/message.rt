@@ -4,8 +4,8 @@ ghost use Rattle.minidump_bytes.specs.Steps.{after};
 ghost use Rattle.minidump_bytes.specs.Wire.{Field, field_of, payload_of, room};
 ghost use Rattle.minidump_format.specs.declared.error.Error.TheVariants.{DataError};
 ghost use Rattle.minidump_format.specs.Answer.{Gives};
-ghost use Rattle.minidump_stability.specs.Fields.{HasField, count_in, counted, fields_in, int64_in, uint32_in};
-ghost use Rattle.minidump_stability.specs.Rows.{merged_bytes, one_nested, one_scalar};
+ghost use Rattle.minidump_stability.specs.Fields.{HasField, count_in, field_count, fields_in, int64_in, uint32_in};
+ghost use Rattle.minidump_stability.specs.Rows.{put_bytes, one_nested, one_scalar};
 
 use minidump_bytes::{Source, Steps, WireField, WireValue};
 use minidump_format::Error;
@@ -33,14 +33,15 @@ pub trait Message: Sized {
     fn none(alloc: Global) -> Self
         ensures { value result ≡ empty };
 
-    /// Adds a field to the message. Returns `DataError` if the field is known and has another type, or if it
-    /// holds a message that can't be read.
+    /// Adds a field to the message. Returns `DataError` if the field is known and has another type,
+    /// or if it holds a message that can't be read.
     fn put(self, alloc: Global, field: WireField<'_>, steps: &mut Steps) -> Result<Self, Error>
         ensures means { Gives value (memory (field_of field.entry)) result
             (ok_or (put (field_of field.entry) (value self)) DataError) }
         ensures within { steps.new ≤ steps.old + room (payload_of field.entry.value) }
         ensures grows { steps.old ≤ steps.new }
-        ensures counted { IfOk result (λ _. steps.new ≡ after steps.old (inside (field_of field.entry))) };
+        ensures steps { IfOk result
+            (λ _. steps.new ≡ after steps.old (inside (field_of field.entry))) };
 }
 
 /// A message that takes no memory.
@@ -49,8 +50,8 @@ pub trait Plain: Message {
     ghost plain: { (f : Field) → Self.memory f → ⊥ };
 }
 
-/// Adds the fields that the bytes encode to the message `old`. Returns `DataError` if they don't encode
-/// fields, or a field can't be added.
+/// Adds the fields that the bytes encode to the message `old`. Returns `DataError` if they don't
+/// encode fields, or a field can't be added.
 pub fn merge<M: Message + Drop>(
     alloc: Global,
     old: M,
@@ -58,19 +59,20 @@ pub fn merge<M: Message + Drop>(
     steps: &mut Steps,
 ) -> Result<M, Error>
     ensures means { Gives M.value (HasField M.memory bytes.now) result
-        (ok_or (merged_bytes M.put bytes.now (M.value old)) DataError) }
+        (ok_or (put_bytes M.put bytes.now (M.value old)) DataError) }
     ensures within { steps.new ≤ steps.old + length bytes.now }
     ensures grows { steps.old ≤ steps.new }
-    ensures counted { IfOk result
-        (λ _. steps.new ≡ after steps.old (counted M.inside (unwrap_or (fields_in bytes.now) []))) }
+    ensures steps { IfOk result
+        (λ _. steps.new ≡ after steps.old
+        (field_count M.inside (unwrap_or (fields_in bytes.now) []))) }
 {
     let source = Source::new(bytes);
     let mut message = old;
-    let mut place = 0;
-    while place < source.len() as u64 {
-        let (field, next) = source.wire_field(place, steps).ok_or(Error::DataError)?;
+    let mut offset = 0;
+    while offset < source.len() as u64 {
+        let (field, next) = source.wire_field(offset, steps).ok_or(Error::DataError)?;
         message = message.put(alloc, field, steps)?;
-        place = next;
+        offset = next;
     }
     Ok(message)
 }
@@ -83,16 +85,18 @@ pub fn merge_plain<M: Plain + Drop>(
     steps: &mut Steps,
 ) -> Result<M, Error>
     ensures means { Gives M.Message.value ⊥ result
-        (ok_or (merged_bytes M.Message.put bytes.now (M.Message.value old)) DataError) }
+        (ok_or (put_bytes M.Message.put bytes.now (M.Message.value old)) DataError) }
     ensures within { steps.new ≤ steps.old + length bytes.now }
     ensures grows { steps.old ≤ steps.new }
-    ensures counted { IfOk result
-        (λ _. steps.new ≡ after steps.old (counted M.Message.inside (unwrap_or (fields_in bytes.now) []))) }
+    ensures steps { IfOk result
+        (λ _. steps.new ≡ after steps.old
+        (field_count M.Message.inside (unwrap_or (fields_in bytes.now) []))) }
 {
     merge(alloc, old, bytes, steps)
 }
 
-/// Adds the fields in the payload of a field to the nested message that it holds, which is empty at first.
+/// Adds the fields in the payload of a field to the nested message that it holds, which is empty at
+/// first.
 pub fn nested<M: Plain + Drop>(
     alloc: Global,
     old: Option<M>,
@@ -100,10 +104,12 @@ pub fn nested<M: Plain + Drop>(
     steps: &mut Steps,
 ) -> Result<Option<M>, Error>
     ensures means { Gives (option_map M.Message.value) ⊥ result (ok_or
-        (one_nested M.Message.put M.Message.empty (payload_of value.entry) (option_map M.Message.value old)) DataError) }
+        (one_nested M.Message.put M.Message.empty (payload_of value.entry)
+        (option_map M.Message.value old)) DataError) }
     ensures within { steps.new ≤ steps.old + room (payload_of value.entry) }
     ensures grows { steps.old ≤ steps.new }
-    ensures counted { IfOk result (λ _. steps.new ≡ after steps.old (count_in M.Message.inside (payload_of value.entry))) }
+    ensures steps { IfOk result
+        (λ _. steps.new ≡ after steps.old (count_in M.Message.inside (payload_of value.entry))) }
 {
     let WireValue::Bytes(bytes) = value else {
         return Err(Error::DataError);
@@ -125,7 +131,8 @@ pub fn uint32(value: WireValue<'_>) -> Result<Option<u32>, Error>
     }
 }
 
-/// Returns a varint as a number in two's complement. Returns `DataError` if the value is no varint.
+/// Returns a varint as a 64-bit number in two's complement, always in `Some`. Returns `DataError` if
+/// the value is no varint.
 pub fn int64(value: WireValue<'_>) -> Result<Option<i64>, Error>
     ensures { result ≡ ok_or (one_scalar int64_in (payload_of value.entry)) DataError }
 {

@@ -59,7 +59,7 @@ impl Plain for MemoryState {
 impl Exact for MemoryState {
     ghost exact = { record {
       equal = λ x y. ((λ h. Prim.search rules), (λ h. Prim.search rules));
-      copied = λ x y h. Prim.search rules;
+      copy = λ x y h. Prim.search rules;
     } };
 }
 

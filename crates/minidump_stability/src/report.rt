@@ -134,7 +134,8 @@ impl StabilityReport {
 
     /// Copies the report. The only error is [`Error::OutOfMemory`].
     pub fn try_clone(&self, alloc: Global) -> Result<StabilityReport, Error>
-        ensures report { IfOk result (λ copy. stability_report_of copy ≡ stability_report_of self.now) }
+        ensures report { IfOk result
+            (λ copy. stability_report_of copy ≡ stability_report_of self.now) }
         ensures memory { IsOkUnless result Error.OutOfMemory }
     {
         let mut process_states = Vec::new(alloc);
@@ -191,8 +192,8 @@ impl Message for StabilityReport {
     }
 }
 
-/// Reads Chromium's stability report. Returns `DataError` if the bytes of the stream, or of a message in it,
-/// aren't fields one after another, or if a known field has another wire type.
+/// Reads Chromium's stability report. Returns `DataError` if the bytes of the stream, or of a
+/// message in it, aren't fields one after another, or if a known field has another wire type.
 impl<'a> MinidumpStream<'a> for StabilityReport {
     ghost use Rattle.minidump_stability.specs.StabilityReport.{Report, stability_report_stream};
 

@@ -17,7 +17,8 @@ use std::io::Write;
 impl StabilityReport {
     /// Prints a line for each number that the report has.
     pub fn print<W: Write>(&self, alloc: Global, f: &mut Told<W>) -> Result<(), Error>
-        ensures { Prints W.contents f.old f.new (stability_report_text (stability_report_of self.now)) result }
+        ensures { Prints W.contents f.old f.new
+            (stability_report_text (stability_report_of self.now)) result }
     {
         put_text(f, "StabilityReport\n")?;
         print_process_states(self.process_states.as_slice(), alloc, f)?;
@@ -33,8 +34,8 @@ fn print_process_states<W: Write>(
 ) -> Result<(), Error>
     ensures { Prints W.contents f.old f.new (process_states_text states.now) result }
 {
-    let numbered = states.iter().enumerate();
-    let texts = numbered.map(|(index, state)| StateText { index, state });
+    let states = states.iter().enumerate();
+    let texts = states.map(|(index, state)| StateText { index, state });
     print_all(texts, alloc, f)
 }
 
@@ -77,7 +78,8 @@ fn push_memory(
     index: usize,
     memory: &Option<MemoryState>,
 ) -> Result<(), AllocError>
-    ensures { OnOk result (out.new.items ≡ out.old.items ++ if_there (memory_state_text index) memory.now) }
+    ensures { OnOk result (out.new.items ≡ out.old.items
+        ++ if_there (memory_state_text index) memory.now) }
 {
     match memory {
         Some(
@@ -100,7 +102,8 @@ fn push_windows_memory(out: &mut Vec<u8>, index: usize, memory: &WindowsMemory) 
 }
 
 fn push_files(out: &mut Vec<u8>, files: &Option<FileSystemState>) -> Result<(), AllocError>
-    ensures { OnOk result (out.new.items ≡ out.old.items ++ if_there file_system_state_text files.now) }
+    ensures { OnOk result (out.new.items ≡ out.old.items
+        ++ if_there file_system_state_text files.now) }
 {
     match files {
         Some(files) => {
@@ -115,7 +118,8 @@ fn push_posix_files(
     out: &mut Vec<u8>,
     files: &Option<PosixFileSystemState>,
 ) -> Result<(), AllocError>
-    ensures { OnOk result (out.new.items ≡ out.old.items ++ if_there posix_file_system_state_text files.now) }
+    ensures { OnOk result (out.new.items ≡ out.old.items
+        ++ if_there posix_file_system_state_text files.now) }
 {
     match files {
         Some(files) => push_line(
@@ -131,7 +135,8 @@ fn push_windows_files(
     out: &mut Vec<u8>,
     files: &Option<WindowsFileSystemState>,
 ) -> Result<(), AllocError>
-    ensures { OnOk result (out.new.items ≡ out.old.items ++ if_there windows_file_system_state_text files.now) }
+    ensures { OnOk result (out.new.items ≡ out.old.items
+        ++ if_there windows_file_system_state_text files.now) }
 {
     match files {
         Some(files) => push_line(
@@ -168,7 +173,8 @@ fn push_system_windows_memory(
 #[rattlefmt::skip]
 #[tactic(auto, unfolding(crate::specs::ReportText::number_line))]
 fn push_line(out: &mut Vec<u8>, name: &str, number: Option<u32>) -> Result<(), AllocError>
-    ensures { OnOk result (out.new.items ≡ out.old.items ++ if_there (number_line name.now) number) }
+    ensures { OnOk result (out.new.items ≡ out.old.items
+        ++ if_there (number_line name.now) number) }
 {
     match number {
         Some(n) => push_pieces(out, &[
@@ -187,7 +193,8 @@ fn push_state_line(
     name: &str,
     number: Option<u32>,
 ) -> Result<(), AllocError>
-    ensures { OnOk result (out.new.items ≡ out.old.items ++ if_there (state_line index name.now) number) }
+    ensures { OnOk result (out.new.items ≡ out.old.items
+        ++ if_there (state_line index name.now) number) }
 {
     match number {
         Some(n) => push_pieces(out, &[

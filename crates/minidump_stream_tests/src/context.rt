@@ -1,4 +1,4 @@
-use crate::given::system;
+use crate::files::system;
 use minidump_bytes::{Endian, Record};
 use minidump_context::{
     ContextError, CpuContext, CpuRegisterNames, MinidumpContext, MinidumpContextValidity,
@@ -23,9 +23,10 @@ fn read(
     Ok(MinidumpContext::read(bytes, endian, &system, None))
 }
 
-// In each row: an architecture, the flags and the length of a context, and why it is refused, if it is.
+// In each row: an architecture, the flags and the length of a context, and the error of reading it,
+// if any.
 #[rattlefmt::skip]
-const REFUSED: &[(u16, u64, usize, Option<ContextError>)] = &[
+const ERRORS: &[(u16, u64, usize, Option<ContextError>)] = &[
     (0, 0x1003f, 715, Some(ContextError::ReadFailure)),
     (0, 0x1003f, 716, None),
     (0, 0x1003f, 717, None),
@@ -47,22 +48,19 @@ const REFUSED: &[(u16, u64, usize, Option<ContextError>)] = &[
     (0x8003, 0x8000_0006_0000_0000, 796, Some(ContextError::ReadFailure)),
 ];
 
-// Whether a context that is zero but for its flags is read or refused as the row says.
-fn is_answered(
-    alloc: Global,
-    row: &(u16, u64, usize, Option<ContextError>),
-) -> Result<bool, Error> {
+// Tests whether reading a context that is zero but for its flags gives the row's error, or none.
+fn has_error(alloc: Global, row: &(u16, u64, usize, Option<ContextError>)) -> Result<bool, Error> {
     let (architecture, flags, len, want) = *row;
     let mut bytes = [0; 1000];
     bytes[..8].copy_from_slice(&flags.to_le_bytes());
-    let answer = read(alloc, &bytes[..len.min(1000)], Endian::Little, architecture)?;
-    Ok(answer.err() == want)
+    let result = read(alloc, &bytes[..len.min(1000)], Endian::Little, architecture)?;
+    Ok(result.err() == want)
 }
 
 #[test]
-fn a_context_is_accepted_by_its_length_and_flags(rt: HostRuntime) -> Result<(), Fail> {
-    for row in REFUSED {
-        assert!(rt; is_answered(rt.alloc(), row)?, "{row:?}");
+fn a_context_of_too_few_bytes_or_other_flags_is_an_error(rt: HostRuntime) -> Result<(), Fail> {
+    for row in ERRORS {
+        assert!(rt; has_error(rt.alloc(), row)?, "{row:?}");
     }
     Ok(())
 }
@@ -98,14 +96,14 @@ const ARM64: Table = &[
     ("fp", 240), ("lr", 248), ("sp", 256), ("pc", 264),
 ];
 
-// Whether the names of a context are those of a table.
+// Tests whether the names of a context are those of a table.
 fn has_names<C: CpuRegisterNames>(table: Table) -> bool {
     let is_it = |(name, row): (&&str, &(&str, usize))| *name == row.0;
     C::REGISTERS.len() == table.len() && C::REGISTERS.iter().zip(table).all(is_it)
 }
 
 // Bytes that each hold their own offset, modulo 251.
-fn marked<const N: usize>() -> [u8; N] {
+fn bytes_by_offset<const N: usize>() -> [u8; N] {
     let mut bytes = [0; N];
     for i in 0..N {
         bytes[i] = (i % 251) as u8;
@@ -113,16 +111,17 @@ fn marked<const N: usize>() -> [u8; N] {
     bytes
 }
 
-// The big-endian number of `size` bytes at an offset of marked bytes.
-fn number_at(place: usize, size: usize) -> u64 {
+// The big-endian number of `size` bytes at an offset of such bytes.
+fn number_at(offset: usize, size: usize) -> u64 {
     let mut number = 0;
     for i in 0..size {
-        number = number << 8 | (place.wrapping_add(i) % 251) as u64;
+        number = number << 8 | (offset.wrapping_add(i) % 251) as u64;
     }
     number
 }
 
-// In each row: an architecture, the offset and the bytes of the flags, the size of a register, and the registers.
+// In each row: an architecture, the offset and the bytes of the flags, the size of a register, and
+// the registers.
 #[rattlefmt::skip]
 const CONTEXTS: &[(u16, usize, &[u8], usize, Table)] = &[
     (0, 0, &[0, 1, 0, 0], 4, X86),
@@ -135,8 +134,8 @@ const CONTEXTS: &[(u16, usize, &[u8], usize, Table)] = &[
 
 fn has_registers(context: &MinidumpContext, size: usize, table: Table) -> bool {
     let mut left = context.registers();
-    for (name, place) in table {
-        let value = number_at(*place, size);
+    for (name, offset) in table {
+        let value = number_at(*offset, size);
         if left.next() != Some((*name, value)) || context.get_register(name) != Some(value) {
             return false;
         }
@@ -146,11 +145,14 @@ fn has_registers(context: &MinidumpContext, size: usize, table: Table) -> bool {
         && context.general_purpose_registers().len() == table.len()
 }
 
-fn is_placed(alloc: Global, row: &(u16, usize, &[u8], usize, Table)) -> Result<bool, Error> {
-    let (architecture, place, flags, size, table) = *row;
-    let mut bytes = marked::<1232>();
+fn has_registers_at_offsets(
+    alloc: Global,
+    row: &(u16, usize, &[u8], usize, Table),
+) -> Result<bool, Error> {
+    let (architecture, offset, flags, size, table) = *row;
+    let mut bytes = bytes_by_offset::<1232>();
     for (i, byte) in flags.iter().enumerate() {
-        bytes[place.wrapping_add(i) % 1232] = *byte;
+        bytes[offset.wrapping_add(i) % 1232] = *byte;
     }
     match read(alloc, &bytes, Endian::Big, architecture)? {
         Ok(context) => Ok(has_registers(&context, size, table)),
@@ -159,9 +161,9 @@ fn is_placed(alloc: Global, row: &(u16, usize, &[u8], usize, Table)) -> Result<b
 }
 
 #[test]
-fn each_register_is_read_at_its_place(rt: HostRuntime) -> Result<(), Fail> {
+fn each_register_is_read_at_its_offset(rt: HostRuntime) -> Result<(), Fail> {
     for row in CONTEXTS {
-        assert!(rt; is_placed(rt.alloc(), row)?, "of {}", row.0);
+        assert!(rt; has_registers_at_offsets(rt.alloc(), row)?, "of {}", row.0);
     }
     assert!(rt;
         has_names::<CONTEXT_X86>(X86)
@@ -207,7 +209,7 @@ fn an_alias_stands_for_its_canonical_name(rt: HostRuntime) {
     assert!(rt; context.memoize_register("x30") == Some("lr"));
 }
 
-// Whether each register is 0 but `fp`, which is 7.
+// Tests whether each register is 0 but `fp`, which is 7.
 fn is_of_fp_alone(context: &CONTEXT_ARM) -> bool {
     context
         .registers()
@@ -249,7 +251,7 @@ fn is_valid_by_any_name(alloc: Global) -> Result<bool, AllocError> {
     )
 }
 
-// Whether `fp` alone is valid.
+// Tests whether `fp` alone is valid.
 fn shows_fp_alone(context: &MinidumpContext) -> bool {
     let mut left = context.valid_registers();
     context.get_register("fp") == Some(0)
@@ -258,7 +260,7 @@ fn shows_fp_alone(context: &MinidumpContext) -> bool {
         && left.next().is_none()
 }
 
-fn is_copied(alloc: Global) -> Result<bool, Error> {
+fn copy_is_equal(alloc: Global) -> Result<bool, Error> {
     let context = MinidumpContext {
         raw: MinidumpRawContext::Arm(arm()),
         valid: one_of(alloc, "r11")?,
@@ -276,7 +278,7 @@ fn is_copied(alloc: Global) -> Result<bool, Error> {
 #[test]
 fn a_register_is_valid_by_any_of_its_names(rt: HostRuntime) -> Result<(), Fail> {
     assert!(rt; changes_one());
-    assert!(rt; is_valid_by_any_name(rt.alloc())? && is_copied(rt.alloc())?);
+    assert!(rt; is_valid_by_any_name(rt.alloc())? && copy_is_equal(rt.alloc())?);
     Ok(())
 }
 
@@ -289,12 +291,12 @@ fn pointers(raw: MinidumpRawContext) -> (u64, u64) {
     )
 }
 
-// The numbers at the places of the two pointers: 184 and 196, 248 and 152, 64 and 56, 264 and 256.
+// The numbers at the offsets of the two pointers: 184 and 196, 248 and 152, 64 and 56, 264 and 256.
 fn has_pointers() -> bool {
-    let x86 = CONTEXT_X86::decode(&marked::<716>(), Endian::Big);
-    let amd64 = CONTEXT_AMD64::decode(&marked::<1232>(), Endian::Big);
-    let arm = CONTEXT_ARM::decode(&marked::<368>(), Endian::Big);
-    let arm64 = CONTEXT_ARM64::decode(&marked::<912>(), Endian::Big);
+    let x86 = CONTEXT_X86::decode(&bytes_by_offset::<716>(), Endian::Big);
+    let amd64 = CONTEXT_AMD64::decode(&bytes_by_offset::<1232>(), Endian::Big);
+    let arm = CONTEXT_ARM::decode(&bytes_by_offset::<368>(), Endian::Big);
+    let arm64 = CONTEXT_ARM64::decode(&bytes_by_offset::<912>(), Endian::Big);
     (
         amd64.instruction_pointer_register_name(),
         amd64.stack_pointer_register_name(),
@@ -312,8 +314,8 @@ fn the_pointers_are_those_of_the_processor(rt: HostRuntime) {
     assert!(rt; has_pointers());
 }
 
-// How a register is written, if the context has it.
-fn is_written<C: CpuContext>(
+// Tests whether a register of one processor is formatted as the text.
+fn is_formatted_as<C: CpuContext>(
     alloc: Global,
     context: &C,
     name: &str,
@@ -325,8 +327,8 @@ fn is_written<C: CpuContext>(
     Ok(context.format_register(alloc, name)?.as_str() == text)
 }
 
-// The same of any context, with the register's value.
-fn is_written_by_any(
+// Tests whether a register of any context has the value, and is formatted as the text.
+fn has_value_and_text(
     alloc: Global,
     context: &MinidumpContext,
     name: &str,
@@ -342,7 +344,7 @@ fn is_written_by_any(
     )
 }
 
-fn are_written(alloc: Global) -> Result<bool, Error> {
+fn registers_are_formatted(alloc: Global) -> Result<bool, Error> {
     let mut arm = arm();
     arm.set_register("sp", 0xab);
     let mut arm64 = arm64();
@@ -350,17 +352,17 @@ fn are_written(alloc: Global) -> Result<bool, Error> {
     arm64.set_register("x30", long);
     let context = MinidumpContext::from_raw(MinidumpRawContext::Arm64(arm64));
     Ok(
-        is_written(alloc, &arm, "sp", "0x000000ab")?
-            && is_written(alloc, &arm, "r13", "0x000000ab")?
-            && is_written(alloc, &arm, "r0", "0x00000000")?
-            && is_written_by_any(alloc, &context, "lr", long, "0xfedcba9876543210")?
-            && is_written_by_any(alloc, &context, "x0", 0, "0x0000000000000000")?,
+        is_formatted_as(alloc, &arm, "sp", "0x000000ab")?
+            && is_formatted_as(alloc, &arm, "r13", "0x000000ab")?
+            && is_formatted_as(alloc, &arm, "r0", "0x00000000")?
+            && has_value_and_text(alloc, &context, "lr", long, "0xfedcba9876543210")?
+            && has_value_and_text(alloc, &context, "x0", 0, "0x0000000000000000")?,
     )
 }
 
 #[test]
-fn a_register_is_written_with_all_its_digits(rt: HostRuntime) -> Result<(), Fail> {
-    assert!(rt; are_written(rt.alloc())?);
+fn a_register_is_formatted_with_all_its_digits(rt: HostRuntime) -> Result<(), Fail> {
+    assert!(rt; registers_are_formatted(rt.alloc())?);
     Ok(())
 }
 
@@ -369,17 +371,17 @@ fn first<C: CpuContext>(context: &C) -> Option<(&'static str, C::Register)> {
     context.registers().next()
 }
 
-// A copy of an iterator goes on where it was made.
+// A clone of an iterator continues where the iterator stands.
 fn is_used_by_its_trait() -> Result<bool, AllocError> {
     let mut context = CONTEXT_X86::decode(&[0; 716], Endian::Little);
     context.set_register("eip", 5);
     let all = MinidumpContextValidity::All;
     let mut left = context.valid_registers(&all);
-    let begun = left.next();
+    let head = left.next();
     let mut copy = left.clone()?;
     Ok(
         first(&context) == Some(("eip", 5))
-            && begun == Some(("eip", 5))
+            && head == Some(("eip", 5))
             && left.next() == Some(("esp", 0))
             && copy.next() == Some(("esp", 0)),
     )

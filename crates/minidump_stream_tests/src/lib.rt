@@ -1,5 +1,6 @@
-//! The tests of the crates that read streams: what no contract says of `minidump_memory`, `minidump_modules`,
-//! `minidump_records`, `minidump_context`, `minidump_reason` and `minidump_stability`, by their public calls.
+//! The tests of the crates that read streams: what no contract says of `minidump_memory`,
+//! `minidump_modules`, `minidump_records`, `minidump_context`, `minidump_reason` and
+//! `minidump_stability`, by their public functions.
 //!
 //! A crate with tests is proved once with them and once without, so these stand above their crates.
 #![tactic(auto)]
@@ -7,7 +8,7 @@
 #[cfg(test)]
 mod context;
 #[cfg(test)]
-mod given;
+mod files;
 #[cfg(test)]
 mod memory;
 #[cfg(test)]

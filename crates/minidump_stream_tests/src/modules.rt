@@ -1,7 +1,7 @@
 mod identity;
 mod lists;
 
-use crate::given::Listed;
+use crate::files::ListFile;
 use minidump_bytes::Endian;
 use minidump_format::Error;
 use minidump_format::format::MINIDUMP_MODULE;
@@ -9,9 +9,9 @@ use minidump_modules::MinidumpModule;
 use minidump_synth::SynthMinidump;
 use std::alloc::Global;
 
-// A module to be written: its entry but for the places, its name and its CodeView record.
+// A module to write: its base address and size, its name and its CodeView record.
 #[derive(Clone, Copy)]
-struct Written<'a> {
+struct SynthModule<'a> {
     base: u64,
     size: u32,
     name: &'a str,
@@ -22,10 +22,10 @@ struct Written<'a> {
 const STAMP: u32 = 0xb105_4d2a;
 
 // Adds the name and the record of a module, and returns its entry.
-fn added(
+fn add_module(
     alloc: Global,
     dump: &mut SynthMinidump,
-    module: &Written<'_>,
+    module: &SynthModule<'_>,
 ) -> Result<MINIDUMP_MODULE, Error> {
     let mut raw = MinidumpModule::new(alloc, module.base, module.size, "")?.raw;
     raw.time_date_stamp = STAMP;
@@ -34,14 +34,18 @@ fn added(
     Ok(raw)
 }
 
-impl Listed {
-    fn loaded(alloc: Global, endian: Endian, modules: &[Written<'_>]) -> Result<Listed, Error> {
+impl ListFile {
+    fn of_modules(
+        alloc: Global,
+        endian: Endian,
+        modules: &[SynthModule<'_>],
+    ) -> Result<ListFile, Error> {
         let mut dump = SynthMinidump::new(alloc, endian);
         let mut list = Vec::new(alloc);
         for module in modules {
-            list.push(added(alloc, &mut dump, module)?)?;
+            list.push(add_module(alloc, &mut dump, module)?)?;
         }
-        Ok(Listed {
+        Ok(ListFile {
             stream: dump.section().list(&list).finish()?,
             file: dump.finish()?,
             endian,

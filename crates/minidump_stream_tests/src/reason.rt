@@ -9,8 +9,8 @@ use std::alloc::Global;
 
 type Lists = &'static [(CodeFamily, &'static [(u32, &'static str)])];
 
-// Whether a reason is written so, and has that text.
-fn is_written(
+// Tests whether the text of a reason, written or returned, is this one.
+fn has_text(
     alloc: Global,
     reason: CrashReason,
     names: &CodeNames<'_>,
@@ -18,7 +18,7 @@ fn is_written(
 ) -> Result<bool, Error> {
     let mut f = Told::new(Vec::new(alloc));
     reason.write_to(alloc, names, &mut f)?;
-    let written = f.into_device();
+    let bytes = f.into_device();
     let as_text = reason.text(alloc, names)?;
-    Ok(written.as_slice() == text.as_bytes() && as_text.as_str() == text)
+    Ok(bytes.as_slice() == text.as_bytes() && as_text.as_str() == text)
 }

@@ -57,12 +57,14 @@ pub struct FailsAt<D> {
 }
 
 impl<D> FailsAt<D> {
-    /// Wraps a device of which the first `at` calls succeed, and the others fail with `ErrorKind::Other`.
+    /// Wraps a device of which the first `at` calls succeed, and the others fail with
+    /// `ErrorKind::Other`.
     pub fn new(inner: D, at: usize) -> FailsAt<D> {
         FailsAt::with_kind(inner, at, ErrorKind::Other)
     }
 
-    /// Wraps a device of which the first `at` calls succeed, and the others fail with an error of this kind.
+    /// Wraps a device of which the first `at` calls succeed, and the others fail with an error of
+    /// this kind.
     pub fn with_kind(inner: D, at: usize, kind: ErrorKind) -> FailsAt<D> {
         FailsAt {
             inner,
@@ -77,7 +79,7 @@ impl<W: Write> Write for FailsAt<W> {
     ghost contents = { λ d. W.contents d.inner };
 
     fn write(&mut self, buf: &[u8]) -> io::Result<usize> {
-        if counted(&mut self.calls) >= self.at {
+        if count_call(&mut self.calls) >= self.at {
             return Err(io::Error::from(self.kind));
         }
         self.inner.write(buf)
@@ -92,7 +94,7 @@ impl<R: Read> Read for FailsAt<R> {
     ghost remaining = { λ d. R.remaining d.inner };
 
     fn read(&mut self, buf: &mut [u8]) -> io::Result<usize> {
-        if counted(&mut self.calls) >= self.at {
+        if count_call(&mut self.calls) >= self.at {
             return Err(io::Error::from(self.kind));
         }
         self.inner.read(buf)
@@ -125,7 +127,7 @@ impl<W: Write> Write for TakesNone<W> {
     ghost contents = { λ d. W.contents d.inner };
 
     fn write(&mut self, buf: &[u8]) -> io::Result<usize> {
-        if counted(&mut self.calls) < self.at {
+        if count_call(&mut self.calls) < self.at {
             self.inner.write(buf)
         } else {
             Ok(0)
@@ -155,22 +157,22 @@ impl Write for Full {
     ghost contents = { λ _. Some [] };
 
     fn write(&mut self, _buf: &[u8]) -> io::Result<usize> {
-        counted(&mut self.calls);
-        Err(refusal())
+        count_call(&mut self.calls);
+        Err(failure())
     }
 
     fn flush(&mut self) -> io::Result<()> {
-        Err(refusal())
+        Err(failure())
     }
 }
 
 // Counts a call, and returns its number.
-fn counted(calls: &mut usize) -> usize {
+fn count_call(calls: &mut usize) -> usize {
     let call = *calls;
     *calls = call.saturating_add(1);
     call
 }
 
-fn refusal() -> io::Error {
+fn failure() -> io::Error {
     io::Error::from(ErrorKind::Other)
 }

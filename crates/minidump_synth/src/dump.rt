@@ -1,4 +1,4 @@
-use crate::section::saturated;
+use crate::section::saturate;
 use crate::{Encode, Section};
 use minidump_bytes::Endian;
 use minidump_format::format::{
@@ -7,13 +7,13 @@ use minidump_format::format::{
 };
 use std::alloc::{AllocError, Global};
 
-/// A minidump in the making: the header, what was added in order, and then the directory.
+/// Builds a minidump: the header, what was added in order, and then the directory.
 ///
-/// One made by [`SynthMinidump::with_streams_first`] has the directory behind the header, then the streams, then
-/// what else was added.
+/// One made by [`SynthMinidump::with_streams_first`] has the directory after the header, then the
+/// streams, then what else was added.
 ///
-/// The public fields are those of the header, so that tests can forge them. Calls that run out of memory
-/// don't say so; [`SynthMinidump::finish`] does.
+/// The public fields are those of the header, so that tests can forge them. Calls that run out of
+/// memory don't say so; [`SynthMinidump::finish`] does.
 #[derive(Drop)]
 pub struct SynthMinidump {
     /// The signature.
@@ -22,7 +22,7 @@ pub struct SynthMinidump {
     pub version: u32,
     /// The number of entries that the header states, if it isn't the number that there are.
     pub stream_count: Option<u32>,
-    /// The RVA of the directory that the header states, if it isn't behind all that was added.
+    /// The RVA of the directory that the header states, if it isn't after all that was added.
     pub stream_directory_rva: Option<RVA>,
     /// The checksum.
     pub checksum: u32,
@@ -32,7 +32,7 @@ pub struct SynthMinidump {
     pub flags: u64,
     alloc: Global,
     endian: Endian,
-    placed: Section,
+    data: Section,
     entries: u32,
     directory: Section,
     // The numbers of bytes that are kept for the directory and for the streams, and the streams.
@@ -54,7 +54,7 @@ impl SynthMinidump {
             flags: 0,
             alloc,
             endian,
-            placed: Section::new(alloc, endian),
+            data: Section::new(alloc, endian),
             entries: 0,
             directory: Section::new(alloc, endian),
             directory_room: 0,
@@ -63,9 +63,9 @@ impl SynthMinidump {
         }
     }
 
-    /// Makes a minidump with no streams that has room for `entries` entries of the directory behind the header, and
-    /// then for streams of so many bytes in all, so that the beginnings of the file are dumps too. There may not be
-    /// more entries.
+    /// Makes a minidump with no streams that has room for `entries` entries of the directory after
+    /// the header, and then for streams of so many bytes in all, so that prefixes of the file are
+    /// dumps too. There may not be more entries.
     pub fn with_streams_first(
         alloc: Global,
         endian: Endian,
@@ -88,7 +88,7 @@ impl SynthMinidump {
     /// Returns the RVA of what is added next.
     pub fn rva(&self) -> RVA {
         let front = self.directory_room.saturating_add(self.streams_room);
-        saturated(self.placed.len())
+        saturate(self.data.len())
             .saturating_add(front)
             .saturating_add(32)
     }
@@ -96,7 +96,7 @@ impl SynthMinidump {
     /// Adds the bytes of a record, a section or an array, and returns their RVA.
     pub fn add<E: Encode>(&mut self, what: &E) -> RVA {
         let rva = self.rva();
-        self.placed.record(what);
+        self.data.record(what);
         rva
     }
 
@@ -109,19 +109,20 @@ impl SynthMinidump {
         }
     }
 
-    /// Adds a UTF-16 text behind its length, and returns its RVA.
+    /// Adds a UTF-16 text after its length, and returns its RVA.
     pub fn add_text16(&mut self, text: &str) -> RVA {
         let rva = self.rva();
-        self.placed.text16(text);
+        self.data.text16(text);
         rva
     }
 
-    /// Adds the bytes of a stream, and an entry for it. They stand in the room for streams while it has as many.
+    /// Adds the bytes of a stream, and an entry for it. They stand in the room for streams while it
+    /// has as many.
     pub fn add_stream<E: Encode>(&mut self, stream_type: u32, what: &E) {
         let mut stream = self.section();
         stream.record(what);
-        let rva = saturated(self.streams.len());
-        let data_size = saturated(stream.len());
+        let rva = saturate(self.streams.len());
+        let data_size = saturate(stream.len());
         let location = if data_size <= self.streams_room.saturating_sub(rva) && data_size > 0 {
             self.streams.append(&stream);
             MINIDUMP_LOCATION_DESCRIPTOR {
@@ -143,16 +144,16 @@ impl SynthMinidump {
         });
     }
 
-    /// Returns the bytes of the file, or `AllocError` if an earlier call ran out of memory or this one
-    /// does.
+    /// Returns the bytes of the file, or `AllocError` if an earlier call ran out of memory or this
+    /// one does.
     pub fn finish(&self) -> Result<Vec<u8>, AllocError> {
         let mut file = self.section();
         file.record(&self.header());
         if self.directory_room > 0 {
             self.append_front(&mut file);
-            file.append(&self.placed);
+            file.append(&self.data);
         } else {
-            file.append(&self.placed).append(&self.directory);
+            file.append(&self.data).append(&self.directory);
         }
         file.finish()
     }

@@ -28,7 +28,8 @@ pub trait Encode {
 // More than any record has.
 static ZEROS: [u8; 4096] = [0; 4096];
 
-/// Returns the record of zeros, for literals as `MINIDUMP_DIRECTORY { stream_type: 7, ..zeroed() }`.
+/// Returns the record of zeros, for literals as
+/// `MINIDUMP_DIRECTORY { stream_type: 7, ..zeroed() }`.
 pub fn zeroed<R: Record>() -> R
     requires { R.SIZE ≤ 4096 }
 {

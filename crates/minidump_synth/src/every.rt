@@ -17,8 +17,8 @@ const COUNT: u32 = 25;
 
 const ROOM: u32 = 4096;
 
-/// Returns a dump with a stream of each type that is read. Each has entries, and what it names is there. The
-/// directory is first, then come the streams, then what they name.
+/// Returns a dump with a stream of each type that is read. Each has entries, and what it names is
+/// there. The directory is first, then come the streams, then what they name.
 pub fn every_stream(alloc: Global, endian: Endian) -> Result<Vec<u8>, AllocError> {
     let mut dump = SynthMinidump::with_streams_first(alloc, endian, COUNT, ROOM);
     add_system(&mut dump);
@@ -33,8 +33,9 @@ pub fn every_stream(alloc: Global, endian: Endian) -> Result<Vec<u8>, AllocError
     dump.finish()
 }
 
-/// Returns a dump of so many handles, whose objects share pieces of information that run in a circle: each names the
-/// next, and the last the first. The directory is first, then come the handles, then the pieces.
+/// Returns a dump of so many handles, whose objects share pieces of information that run in a
+/// circle: each names the next, and the last the first. The directory is first, then come the
+/// handles, then the pieces.
 pub fn handle_circle(
     alloc: Global,
     endian: Endian,
@@ -58,8 +59,8 @@ pub fn handle_circle(
     dump.finish()
 }
 
-// Adds so many pieces of information on an object, each with the place of the next one, and the last with that of
-// the first, which is returned.
+// Adds so many pieces of information on an object, each with the RVA of the next one, and the last
+// with that of the first, which is returned.
 fn add_circle(dump: &mut SynthMinidump, pieces: u32) -> RVA {
     let first = dump.rva();
     for piece in 1..pieces {

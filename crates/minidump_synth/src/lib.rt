@@ -1,5 +1,5 @@
-//! Builds minidumps for tests, so that a test states records instead of bytes. Also has readers and writers that
-//! move one byte a call, fail at a call, or take nothing. It is for tests alone.
+//! Builds minidumps for tests, so that a test states records instead of bytes. Also has readers and
+//! writers that move one byte a call, fail at a call, or take nothing. It is for tests alone.
 //!
 //! ```
 //! let mut dump = SynthMinidump::new(alloc, Endian::Little);
@@ -10,13 +10,13 @@
 //! let bytes = dump.finish()?;
 //! ```
 //!
-//! - [`SynthMinidump`] is a dump in the making: header, what was added, directory.
-//! - [`every_stream`] is a dump with a stream of each type that is read, and [`handle_circle`] one of handles whose
-//!   objects share a circle.
-//! - [`ONE_STREAM`] is a dump written by hand, [`ONE_STREAM_TEXT`] its printed text, and [`one_stream_with_byte`]
-//!   the dump with another byte.
-//! - [`Section`] is bytes that grow, with a byte order, and [`BOTH`] has the two orders. [`Encode`] is what has
-//!   bytes in a minidump, and [`zeroed`] the record of zeros.
+//! - [`SynthMinidump`] builds a dump: header, what was added, directory.
+//! - [`every_stream`] is a dump with a stream of each type that is read, and [`handle_circle`] one
+//!   of handles whose objects share a circle.
+//! - [`ONE_STREAM`] is a dump written by hand, [`ONE_STREAM_TEXT`] its printed text, and
+//!   [`one_stream_with_byte`] the dump with another byte.
+//! - [`Section`] is bytes that grow, with a byte order, and [`BOTH`] has the two orders. [`Encode`]
+//!   is what has bytes in a minidump, and [`zeroed`] the record of zeros.
 //! - [`OneByte`], [`FailsAt`], [`TakesNone`] and [`Full`] are readers and writers.
 //!
 //! # Errors
@@ -25,8 +25,8 @@
 //!
 //! # What is proved
 //!
-//! That every call is safe and returns. What the bytes are, tests show: each record is written back as the
-//! bytes that it was read from, in both byte orders.
+//! That every call is safe and returns. What the bytes are, tests show: each record is written back
+//! as the bytes that it was read from, in both byte orders.
 #![tactic(auto)]
 
 mod device;

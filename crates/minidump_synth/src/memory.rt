@@ -1,11 +1,11 @@
 use crate::SynthMinidump;
-use crate::section::saturated;
+use crate::section::saturate;
 use minidump_format::format::{
     MINIDUMP_MEMORY_DESCRIPTOR, MINIDUMP_MEMORY_DESCRIPTOR64, MINIDUMP_STREAM_TYPE,
 };
 
-/// Five regions of memory: the second has the addresses of the first, the third and the fourth share some with
-/// it, and the last begins where the first ends.
+/// Five regions of memory: the second has the addresses of the first, the third and the fourth
+/// share some with it, and the last begins where the first ends.
 pub const OVERLAPPING: &[(u64, &[u8])] = &[
     (0x1000, &[0; 0x1000]),
     (0x1000, &[1; 0x1000]),
@@ -26,7 +26,7 @@ impl SynthMinidump {
     /// Adds the bytes of regions of memory, and the stream of their memory list.
     pub fn add_memory_list(&mut self, regions: &[(u64, &[u8])]) {
         let mut list = self.section();
-        list.u32(saturated(regions.len()));
+        list.u32(saturate(regions.len()));
         for (base, bytes) in regions {
             let region = self.add_memory(*base, *bytes);
             list.record(&region);
@@ -34,7 +34,7 @@ impl SynthMinidump {
         self.add_stream(MINIDUMP_STREAM_TYPE::MemoryListStream as u32, &list);
     }
 
-    /// Adds the bytes of regions of memory, one behind another, and the stream of their 64-bit list.
+    /// Adds the bytes of regions of memory, one after another, and the stream of their 64-bit list.
     pub fn add_memory64_list(&mut self, regions: &[(u64, &[u8])]) {
         let rva = self.rva();
         let mut list = self.section();

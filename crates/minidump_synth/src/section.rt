@@ -7,8 +7,8 @@ pub const BOTH: &[Endian] = &[Endian::Little, Endian::Big];
 
 /// Bytes that grow at their end, with a byte order for their numbers.
 ///
-/// Calls that append return the section, so that they chain. Calls that run out of memory don't say so;
-/// [`Section::finish`] does.
+/// Calls that append return the section, so that they chain. Calls that run out of memory don't say
+/// so; [`Section::finish`] does.
 #[derive(Drop)]
 pub struct Section {
     endian: Endian,
@@ -108,11 +108,12 @@ impl Section {
     /// Appends a UTF-16 text: its length in bytes as a `u32`, then its code units, with no NUL.
     pub fn text16(&mut self, text: &str) -> &mut Section {
         let count = text.encode_utf16().count();
-        self.u32(saturated(count.saturating_mul(2)))
+        self.u32(saturate(count.saturating_mul(2)))
             .units16(text, count)
     }
 
-    /// Appends an array of `count` UTF-16 code units: those of the text, cut to `count`, then zeros.
+    /// Appends an array of `count` UTF-16 code units: those of the text, cut to `count`, then
+    /// zeros.
     pub fn units16(&mut self, text: &str, count: usize) -> &mut Section {
         let mut units = text.encode_utf16();
         for _ in 0..count {
@@ -123,7 +124,7 @@ impl Section {
 
     /// Appends a UTF-8 text: its length in bytes as a `u32`, then its bytes, with no NUL.
     pub fn text8(&mut self, text: &str) -> &mut Section {
-        self.u32(saturated(text.len())).bytes(text.as_bytes())
+        self.u32(saturate(text.len())).bytes(text.as_bytes())
     }
 
     /// Appends the bytes of a text and a NUL.
@@ -147,12 +148,13 @@ impl Section {
 
     /// Appends the count of the records as a `u32`, then the records.
     pub fn list<R: Encode>(&mut self, records: &[R]) -> &mut Section {
-        self.u32(saturated(records.len())).records(records)
+        self.u32(saturate(records.len())).records(records)
     }
 
-    /// Appends the count of the records as a `u32`, four zeros that align what follows, then the records.
+    /// Appends the count of the records as a `u32`, four zeros that align what follows, then the
+    /// records.
     pub fn aligned_list<R: Encode>(&mut self, records: &[R]) -> &mut Section {
-        self.u32(saturated(records.len())).u32(0).records(records)
+        self.u32(saturate(records.len())).u32(0).records(records)
     }
 
     /// Appends the count of the records and an RVA, each a `u64`, then the records.
@@ -160,16 +162,16 @@ impl Section {
         self.u64(records.len() as u64).u64(rva).records(records)
     }
 
-    /// Appends the size of the list's header, the size of a record and the count of the records, each a
-    /// `u32`; zeros up to the end of the header; then the records.
+    /// Appends the size of the list's header, the size of a record and the count of the records,
+    /// each a `u32`; zeros up to the end of the header; then the records.
     pub fn extended_list<R: Encode + Record>(
         &mut self,
         size_of_header: u32,
         records: &[R],
     ) -> &mut Section {
         self.u32(size_of_header)
-            .u32(saturated(R::SIZE))
-            .u32(saturated(records.len()))
+            .u32(saturate(R::SIZE))
+            .u32(saturate(records.len()))
             .zeros((size_of_header as usize).saturating_sub(12))
             .records(records)
     }
@@ -181,6 +183,6 @@ impl Section {
 }
 
 /// Cuts a number to 32 bits: a greater one becomes `u32::MAX`.
-pub(crate) fn saturated(n: usize) -> u32 {
+pub(crate) fn saturate(n: usize) -> u32 {
     n.min(u32::MAX as usize) as u32
 }

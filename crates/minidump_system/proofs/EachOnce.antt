@@ -47,7 +47,7 @@ filter-swap : (s t : ℕ → Bool) (xs : List ℕ) → filter s (filter t xs) �
 filter-swap s t xs =
     filter-filter s t xs ∙ filter_agree (λ x. s x && t x) (λ x. t x && s x) (λ x. swapped (s x) (t x)) xs ∙ sym (filter-filter t s xs)
 
--- those behind others count only where they are not among them
+-- of numbers after others, those that are not among them are left
 pub each_once-append : (xs ys : List ℕ) → each_once (xs ++ ys) ≡ each_once xs ++ fresh xs (each_once ys)
 each_once-append [] ys = sym (fresh_none (each_once ys))
 each_once-append (x ∷ xs) ys =

@@ -1,4 +1,4 @@
--- The items of entries: none, one more, one that is skipped, and the first refusal.
+-- The items of entries: none, one more, one that is skipped, and the first error.
 use Rattle.std.proofs.Common.{◌≡◌, ℕ, ◌+◌, List, [], ◌∷◌, ◌++◌, length, take, drop, map, Result, Ok, Err, Option, Some, None, refl, ap, sym}
 use Rattle.std.proofs.Common.{◌∙◌, add-one, append-nil, arith, drop-cons}
 use Rattle.std.specs.Prelude.{Bool, true, false, filter}
@@ -11,8 +11,8 @@ use Rattle.minidump_system.specs.Reads.{all_kept, all_ok, and_then, read_each, r
 
 split_at : {R : Type 0} (xs : List R) (i : ℕ) (x : R) (rest : List R) → IsNext xs i x x rest → xs ≡ take i xs ++ x ∷ drop (i + 1) xs
 split_at {R = R} xs i x rest next =
-    let behind : drop i xs ≡ x ∷ drop (i + 1) xs = rw (add-one i, ← next.item) (drop-cons xs i x next.inside) in
-    sym (take-append-drop i xs) ∙ ap (λ (l : List R). take i xs ++ l) behind
+    let after : drop i xs ≡ x ∷ drop (i + 1) xs = rw (add-one i, ← next.item) (drop-cons xs i x next.inside) in
+    sym (take-append-drop i xs) ∙ ap (λ (l : List R). take i xs ++ l) after
 
 step : {V : Type 0} (r : Result (Option V) Error) (A B W : Result (List V) Error) → W ≡ and_then A (λ vs. and_then B (λ ws. Ok (vs ++ ws)))
     → and_then r (λ v. and_then W (λ vs. Ok (cons_option v vs)))
@@ -56,13 +56,13 @@ module _ {R V : Type 0} (read : R → Result (Option V) Error) (xs : List R) (i 
   kept_skip so_far one =
       rw (take_more xs i x next.inside, next.item, all_kept-append read (take i xs) (x ∷ []), so_far, one_kept read x None one, append-nil) refl
 
-  -- the first refusal is that of all
-  pub kept_stopped : (e : Error) → all_kept read (take i xs) ≡ Ok vs → read x ≡ Err e → all_kept read xs ≡ Err e
-  kept_stopped e so_far one =
+  -- the first error is that of all
+  pub kept_error : (e : Error) → all_kept read (take i xs) ≡ Ok vs → read x ≡ Err e → all_kept read xs ≡ Err e
+  kept_error e so_far one =
       let split : xs ≡ take i xs ++ x ∷ drop (i + 1) xs = split_at xs i x rest next in
       rw split (rw (all_kept-append read (take i xs) (x ∷ drop (i + 1) xs), so_far, first_err read x (drop (i + 1) xs) e one) refl)
 
--- reads of which none is refused
+-- reads without an error
 pub kept_filtered : {R V : Type 0} (f : R → Option V) (xs : List R) → all_kept (λ x. Ok (f x)) xs ≡ Ok (filter_map f xs)
 unfolding all_kept
 kept_filtered f [] = refl

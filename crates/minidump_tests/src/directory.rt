@@ -17,7 +17,7 @@ const ONE_BIG: [u8; 48] = [
     0, 0, 0, 0, 0, 0, 0, 0x11, 0x22, 0x33, 0x44, 0, 0, 0, 4, 0, 0, 0, 0x2c, 0x55, 0x66, 0x77, 0x88,
 ];
 
-// Tells whether too few bytes for a header are refused, in the fewest reads.
+// Tells whether too few bytes for a header are an error, in the fewest reads.
 fn is_too_short(alloc: Global, bytes: &[u8]) -> bool {
     let mut steps = Steps::new();
     let answer = Minidump::read_counted(alloc, bytes, &mut steps);
@@ -40,12 +40,13 @@ fn a_directory_may_be_empty(rt: HostRuntime) {
 }
 
 #[test]
-fn refuses_short_files(rt: HostRuntime) {
+fn a_short_file_is_an_error(rt: HostRuntime) {
     assert!(rt; is_too_short(rt.alloc(), &[]) && is_too_short(rt.alloc(), &ONE_STREAM[..31]));
 }
 
-// Five entries: two of type 0x11223344 (0 and 3), one of a type that is not read (1), one that is (2),
-// and one that ends a byte after the file (4). Four bytes are at 0x20, the directory is behind them.
+// Five entries: two of type 0x11223344 (0 and 3), one of a type that is not read (1), one that is
+// (2), and one that ends a byte after the file (4). Four bytes are at 0x20, the directory is after
+// them.
 const FIVE: &[(u32, u32, u32)] = &[
     (0x1122_3344, 1, 0x20),
     (0x4767_0006, 2, 0x20),
@@ -118,8 +119,8 @@ fn with_two_streams(alloc: Global) -> Result<Vec<u8>, AllocError> {
     dump.finish()
 }
 
-// Tells whether the list of threads is found, and neither the names of threads, which are malformed, nor the
-// exception, which is missing.
+// Tells whether the list of threads is found, and neither the names of threads, which are
+// malformed, nor the exception, which is missing.
 fn finds_what_can_be_read(alloc: Global) -> Result<bool, Error> {
     let bytes = with_two_streams(alloc)?;
     let dump = Minidump::read(alloc, &bytes)?;
@@ -139,7 +140,7 @@ fn finds_streams_that_can_be_read(rt: HostRuntime) {
 }
 
 // The type and the RVA of each deciding entry.
-const LISTED: &[(u32, u32)] = &[
+const ALL_STREAMS: &[(u32, u32)] = &[
     (7, 0x60),
     (0x1122_3344, 0x22),
     (0x1122_3345, 0x5d),
@@ -159,13 +160,13 @@ const NEVER_READ: (MINIDUMP_STREAM_TYPE, (u32, u32), &str) = (
     "Google Extension",
 );
 
-fn place(location: MINIDUMP_LOCATION_DESCRIPTOR) -> (u32, u32) {
+fn rva_and_size(location: MINIDUMP_LOCATION_DESCRIPTOR) -> (u32, u32) {
     (location.data_size, location.rva)
 }
 
 fn lists_what_decides(dump: &Minidump<'_>) -> bool {
-    dump.all_streams().count() == LISTED.len()
-        && dump.all_streams().zip(LISTED).all(|(entry, want)| (
+    dump.all_streams().count() == ALL_STREAMS.len()
+        && dump.all_streams().zip(ALL_STREAMS).all(|(entry, want)| (
             entry.stream_type,
             entry.location.rva,
         ) == *want)
@@ -175,7 +176,7 @@ fn lists_the_unknown(dump: &Minidump<'_>) -> Result<bool, Error> {
     let mut want = UNKNOWN.iter();
     for stream in dump.unknown_streams() {
         let copy = stream.clone()?;
-        if want.next() != Some(&(copy.stream_type, place(copy.location), copy.vendor)) {
+        if want.next() != Some(&(copy.stream_type, rva_and_size(copy.location), copy.vendor)) {
             return Ok(false);
         }
     }
@@ -188,7 +189,7 @@ fn lists_the_never_read(dump: &Minidump<'_>) -> Result<bool, Error> {
         Some(stream) => {
             let copy = stream.clone()?;
             Ok(
-                (copy.stream_type, place(copy.location), copy.vendor) == NEVER_READ
+                (copy.stream_type, rva_and_size(copy.location), copy.vendor) == NEVER_READ
                     && never_read.next().is_none(),
             )
         }
@@ -215,8 +216,8 @@ fn printed<W: Write + Drop>(alloc: Global, device: W) -> Result<(Option<Error>, 
     Ok((error, f.into_device()))
 }
 
-// Tells whether the call of this number fails, where it is one of those that each move a byte, and what went out
-// is the beginning of the text.
+// Tells whether the call of this number fails, where it is one of those that each move a byte, and
+// what went out is the beginning of the text.
 fn stops_at(alloc: Global, at: usize) -> Result<bool, Error> {
     let (error, device) = printed(alloc, FailsAt::new(OneByte::new(Vec::new(alloc)), at))?;
     let want = if at < ONE_STREAM_TEXT.len() {

@@ -12,7 +12,8 @@ use std::alloc::{AllocError, Global};
 
 const EXCEPTION: u32 = 6;
 
-// An exception at 0xffffffff80000000 with so many parameters, of which the second is 0xffffffff80001234.
+// An exception at 0xffffffff80000000 with so many parameters, of which the second is
+// 0xffffffff80001234.
 fn exception(exception_code: u32, exception_flags: u32, count: u32) -> MINIDUMP_EXCEPTION_STREAM {
     let mut exception_information = [0; 15];
     exception_information[1] = 0xffff_ffff_8000_1234;

@@ -1,4 +1,5 @@
-//! Files and readers: what `read_path` and `read_from` answer, and what they leave in the vector that they are lent.
+//! Files and readers: what `read_path` and `read_from` answer, and what they leave in the vector
+//! that they are lent.
 
 use minidump::{Endian, Error, Minidump, Told};
 use minidump_synth::{ONE_STREAM, SynthMinidump, one_stream_with_byte};
@@ -6,14 +7,16 @@ use std::alloc::{AllocError, Global};
 use std::fs;
 use std::test::Fail;
 
-// Tells whether this is the error of reading a file into a vector of three bytes, and what is left in it.
+// Tells whether this is the error of reading a file into a vector of three bytes, and what is left
+// in it.
 fn leaves(rt: &HostRuntime, path: &str, error: Option<Error>, left: &[u8]) -> Result<bool, Fail> {
     let mut bytes = Vec::from_array(rt.alloc(), [1, 2, 3])?;
     let found = Minidump::read_path(rt, rt.alloc(), path, &mut bytes).err();
     Ok(found == error && bytes.as_slice() == left)
 }
 
-// Where nothing can be opened the vector stays; a folder can be opened, but not read, and empties it.
+// Where nothing can be opened the vector stays; a folder can be opened, but not read, and empties
+// it.
 #[test]
 fn leaves_the_vector_of_a_file_that_is_missing(rt: HostRuntime) -> Result<(), Fail> {
     assert!(rt; leaves(&rt, "no/such.dmp", Some(Error::FileNotFound), &[1, 2, 3])?);
@@ -37,7 +40,7 @@ fn long(alloc: Global) -> Result<Vec<u8>, AllocError> {
     dump.finish()
 }
 
-// After each refusal of the format, and after none, the vector holds the bytes of the file.
+// After each error of the format, and after none, the vector holds the bytes of the file.
 #[test]
 fn fills_the_vector_with_the_file(rt: HostRuntime) -> Result<(), Fail> {
     assert!(rt; fills(&rt, &long(rt.alloc())?, None)?);
@@ -52,7 +55,8 @@ fn fills_the_vector_with_the_file(rt: HostRuntime) -> Result<(), Fail> {
     Ok(())
 }
 
-// Tells whether this is the error of reading a reader of these bytes into a vector of three bytes, which holds them then.
+// Tells whether this is the error of reading a reader of these bytes into a vector of three bytes,
+// which holds them then.
 fn takes_all(alloc: Global, file: &[u8], error: Option<Error>) -> Result<bool, Fail> {
     let mut bytes = Vec::from_array(alloc, [1, 2, 3])?;
     let mut told = Told::new(file);

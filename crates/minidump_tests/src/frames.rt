@@ -1,4 +1,5 @@
-//! Frames of a stack: records that stand in a circle, overlap or lie outside of it, and what its words are judged by.
+//! Frames of a stack: records that stand in a circle, overlap or lie outside of it, and what its
+//! words are judged by.
 
 use minidump::format::CONTEXT_AMD64;
 use minidump::system_info::PointerWidth;
@@ -10,8 +11,9 @@ use minidump_synth::zeroed;
 use stack_walk::{FrameTrust, Stack, StackFrame, frames};
 use std::alloc::Global;
 
-// A stack of x86-64 with a module at 0x4000 of 0x100 bytes: its base address, its words, the frame pointer, how many candidates
-// there may be, and the frames behind that of the context. The stack pointer is 0x1000.
+// A stack of x86-64 with a module at 0x4000 of 0x100 bytes: its base address, its words, the frame
+// pointer, how many candidates there may be, and the frames after that of the context. The stack
+// pointer is 0x1000.
 struct Row {
     base: u64,
     words: &'static [u64],
@@ -47,7 +49,7 @@ const ROWS: &[Row] = &[
         limit: 0,
         frames: &[(FrameTrust::FramePointer, 0x4001, 0x1010)],
     },
-    // A record at the end of the stack, which leads behind it, and one that isn't whole.
+    // A record at the end of the stack, which leads past it, and one that isn't whole.
     Row {
         base: 0x1000,
         words: &[0, 0x1020, 0x4001],
@@ -84,7 +86,8 @@ const ROWS: &[Row] = &[
         limit: 0,
         frames: &[],
     },
-    // The address behind the module is a return address, its first one is none. The scan begins at the stack pointer.
+    // The address after the module is a return address, its first one is none. The scan begins at
+    // the stack pointer.
     Row {
         base: 0xff8,
         words: &[0x4001, 0x4000, 0x4100, 7, 0x4002],
@@ -117,7 +120,7 @@ fn is_frame(frame: &StackFrame, want: &(FrameTrust, u64, u64)) -> bool {
     frame.trust == want.0 && frame.instruction == want.1 && frame.stack_pointer == want.2
 }
 
-// Tells whether these are the frames behind that of the context.
+// Tells whether these are the frames after that of the context.
 fn are_frames(frames: &[StackFrame], want: &[(FrameTrust, u64, u64)]) -> bool {
     frames.len() == want.len() + 1
         && frames

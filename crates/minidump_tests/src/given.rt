@@ -1,4 +1,5 @@
-//! What the tests are given: dumps of one stream, a place outside of any file, and how a stream of a dump is read.
+//! What the tests are given: dumps of one stream, an offset outside of any file, and how a stream
+//! of a dump is read.
 
 use minidump::format::MINIDUMP_LOCATION_DESCRIPTOR;
 use minidump::{Endian, Error, Minidump, MinidumpStream, Steps};

@@ -1,10 +1,12 @@
-//! Tests of `minidump`, of `crash_summary`, of `stack_walk` and of the examples `region_at` and `own_stream`, on their public calls.
-//! They stand apart from them, since a library with a test is proved twice.
+//! Tests of `minidump`, of `crash_summary`, of `stack_walk` and of the examples `region_at` and
+//! `own_stream`, on their public calls. They stand apart from them, since a library with a test is
+//! proved twice.
 //!
-//! They show what no contract says: that a call succeeds where there is memory, that definitions mean the
-//! format, and what becomes of files. So each expected value is written from the format's own tables, not from a
-//! definition here. The samples and the rows of `golden` show what is printed of a dump's header, directory and streams,
-//! how a stream is refused, what is at an address, and the summary of a crash.
+//! They show what no contract says: that a call succeeds where there is memory, that definitions
+//! mean the format, and what becomes of files. So each expected value is written from the format's
+//! own tables, not from a definition here. The samples and the rows of `golden` show what is
+//! printed of a dump's header, directory and streams, the errors of streams, what is at an address,
+//! and the summary of a crash.
 #![tactic(auto)]
 
 #[cfg(test)]

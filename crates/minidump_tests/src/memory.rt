@@ -34,8 +34,8 @@ fn ascend(memory: &UnifiedMemoryList<'_>) -> bool {
         && bases.next().is_none()
 }
 
-// The regions in the order of the list, and by address; the second ends at its last byte; numbers are in the
-// byte order of the dump.
+// The regions in the order of the list, and by address; the second ends at its last byte; numbers
+// are in the byte order of the dump.
 fn has_the_regions(memory: &UnifiedMemoryList<'_>, word: u32) -> bool {
     memory.iter().nth(2).is_none()
         && memory

@@ -1,4 +1,5 @@
-//! The identifier of a module's debug file, beside the one that Breakpad's text of it spells, and a module without a version.
+//! The identifier of a module's debug file, beside the one that Breakpad's text of it spells, and a
+//! module without a version.
 
 use minidump::format::MINIDUMP_MODULE;
 use minidump::{DebugId, Endian, Error, Minidump, MinidumpModuleList, Module};
@@ -6,7 +7,8 @@ use minidump_synth::{SynthMinidump, zeroed};
 use std::alloc::{AllocError, Global};
 use std::test::Fail;
 
-// A CodeView record, and Breakpad's text of the identifier: of a build id, and of a GUID with the age 1.
+// A CodeView record, and Breakpad's text of the identifier: of a build id, and of a GUID with the
+// age 1.
 const TEXTS: &[(&[u8], &str)] = &[
     (
         b"LEpB\0\x01\x02\x03\x04\x05\x06\x07",
@@ -33,7 +35,8 @@ fn dump_with(alloc: Global, view: &[u8]) -> Result<Vec<u8>, AllocError> {
     dump.finish()
 }
 
-// The version of the module isn't there: its record is of zeros. A report prints that as an empty one.
+// The version of the module isn't there: its record is of zeros. A report prints that as an empty
+// one.
 fn is_that_of_a_text(alloc: Global, bytes: &[u8], text: &str) -> Result<bool, Error> {
     let modules = Minidump::read(alloc, bytes)?.get_stream::<MinidumpModuleList>(alloc)?;
     let Some(module) = modules.main_module() else {

@@ -61,7 +61,7 @@ fn info(exit_status: u32) -> MINIDUMP_THREAD_INFO {
     }
 }
 
-// Two entries of one thread, behind a header of 16 bytes.
+// Two entries of one thread, after a header of 16 bytes.
 fn infos_dump(alloc: Global, endian: Endian) -> Result<Vec<u8>, AllocError> {
     let mut dump = SynthMinidump::new(alloc, endian);
     let mut list = dump.section();

@@ -36,17 +36,17 @@ fn number_in(alloc: Global, stream_type: u32, stream: &[u8]) -> Result<u32, Erro
 }
 
 #[test]
-fn refuses_a_stream_of_an_own_type(rt: HostRuntime) {
+fn a_malformed_stream_of_an_own_type_is_an_error(rt: HostRuntime) {
     let alloc = rt.alloc();
     let found = [
         number_in(alloc, BUILD, &[0; 11]),
         number_in(alloc, BUILD, &[0xff; 12]),
         number_in(alloc, BUILD + 1, &[0; 12]),
     ];
-    let refusals = [
+    let errors = [
         Err(Error::StreamReadFailure),
         Err(Error::DataError),
         Err(Error::StreamNotFound),
     ];
-    assert!(rt; found == refusals);
+    assert!(rt; found == errors);
 }

@@ -9,7 +9,7 @@ use std::alloc::{AllocError, Global};
 
 const SYSTEM_INFO: u32 = 7;
 
-// The system information of Windows on x86-64, whose service pack is at this place.
+// The system information of Windows on x86-64, whose service pack is at this offset.
 fn windows(csd_version_rva: u32) -> MINIDUMP_SYSTEM_INFO {
     MINIDUMP_SYSTEM_INFO {
         processor_architecture: 9,

@@ -1,4 +1,5 @@
-//! The boot arguments of a Mac, the environment and the limits of Linux, and the texts of an assertion.
+//! The boot arguments of a Mac, the environment and the limits of Linux, and the texts of an
+//! assertion.
 
 use crate::given::{counted_stream_of, dump_of, is_text, stream_of};
 use minidump::format::MINIDUMP_MAC_BOOTARGS;
@@ -38,8 +39,8 @@ fn bootargs_dump(
     Ok((dump.finish()?, bootargs))
 }
 
-// The long form, then the short one, alone and with bytes behind it that are too few for the long one, with the
-// reads of each.
+// The long form, then the short one, alone and with bytes after it that are too few for the long
+// one, with the reads of each.
 const FORMS: &[(Endian, usize, u128)] = &[
     (Endian::Little, 12, 3),
     (Endian::Big, 12, 3),
@@ -96,7 +97,8 @@ fn is_environment(alloc: Global, text: &[u8], pairs: &[u8]) -> Result<bool, Erro
     Ok(environ.raw_bytes() == text && are_pairs(alloc, environ.iter(), pairs)?)
 }
 
-// A row of `golden` holds no such byte as the first, and doesn't tell blanks on the sides of a line from none.
+// A row of `golden` holds no such byte as the first, and doesn't tell blanks on the sides of a line
+// from none.
 #[test]
 fn an_environment_need_not_be_utf_8(rt: HostRuntime) {
     let alloc = rt.alloc();

@@ -43,8 +43,8 @@ fn stack_at(
     }
 }
 
-// A dump of an x86-64 system with five threads and the overlapping regions of memory, of which those at
-// 0x1000, the first one, and at 0x2000 are kept.
+// A dump of an x86-64 system with five threads and the overlapping regions of memory, of which
+// those at 0x1000, the first one, and at 0x2000 are kept.
 fn threads_dump(alloc: Global, endian: Endian) -> Result<Vec<u8>, AllocError> {
     let mut dump = SynthMinidump::new(alloc, endian);
     add_threads(&mut dump);
@@ -78,8 +78,8 @@ fn add_threads(dump: &mut SynthMinidump) {
     dump.add_stream(THREAD_LIST, dump.section().list(&threads));
 }
 
-// What is read of a thread: where its stack begins, with the first byte there and the size, and what the
-// instruction pointer holds.
+// What is read of a thread: where its stack begins, with the first byte there and the size, and
+// what the instruction pointer holds.
 type Seen = (Option<(u64, Option<u8>, u64)>, Option<u64>);
 
 const THREADS: &[Seen] = &[
@@ -121,7 +121,8 @@ fn are_seen(alloc: Global, bytes: &[u8], list: &MinidumpThreadList<'_>) -> Resul
     )
 }
 
-// The reads: the stream, its count, five entries, five contexts, and two stacks with a place and a size.
+// The reads: the stream, its count, five entries, five contexts, and two stacks with an RVA and a
+// size.
 fn are_read(alloc: Global, endian: Endian) -> Result<bool, Error> {
     let bytes = threads_dump(alloc, endian)?;
     let (list, steps): (MinidumpThreadList, u128) = counted_stream_of(alloc, &bytes)?;
@@ -160,9 +161,9 @@ fn finds_the_last_thread_of_an_id(rt: HostRuntime) {
     assert!(rt; the_last_is_found(rt.alloc()) == Ok(true));
 }
 
-// A dump of one thread whose environment block is at an address, and whose own stack is where the field
-// of the last error is on x86-64, with the number 9; the memory list, if there is one, has 6 where that
-// field is on 32-bit processors, and 5 where it is on x86-64.
+// A dump of one thread whose environment block is at an address, and whose own stack is where the
+// field of the last error is on x86-64, with the number 9; the memory list, if there is one, has 6
+// where that field is on 32-bit processors, and 5 where it is on x86-64.
 fn last_error_dump(alloc: Global, teb: u64, listed: bool) -> Result<Vec<u8>, AllocError> {
     let mut dump = SynthMinidump::new(alloc, Endian::Little);
     let own = dump.add_memory(0x1068, &[9, 0, 0, 0]);

@@ -1,4 +1,5 @@
--- A vendor's own stream, of type 0x11223344, which has no name: the number of a program's build, the time at which it was made, and its name.
+-- A vendor's own stream, of type 0x11223344, which has no name: the number of a program's build,
+-- the time at which it was made, and its name.
 use Rattle.std.specs.Prelude.{ℕ, List, Option, Result, Ok, IsSomeAnd, string_bytes}
 use Rattle.std.specs.Option.{ok_or}
 use Rattle.minidump.specs.declared.Endian.{Endian}
@@ -54,7 +55,8 @@ build_stream = record {
   meaning = λ order file bytes system. build_in order file bytes;
   most = λ n. 2;
   fewest = λ order bytes build. 2;
-  memory = λ order file bytes system. IsSomeAnd (build_record order bytes) (λ raw. TakesMemory16 order raw.name_rva file);
+  memory = λ order file bytes system. IsSomeAnd (build_record order bytes)
+      (λ raw. TakesMemory16 order raw.name_rva file);
 }
 
 -- the build that a file tells of, or the error of the file or of its stream

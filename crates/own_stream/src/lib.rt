@@ -1,16 +1,18 @@
-//! Reads a stream whose type is a vendor's own and has no name: an example of a type of stream in a crate on `minidump`
-//! alone.
+//! Reads a stream whose type is a vendor's own and has no name: an example of a type of stream in a
+//! crate on `minidump` alone.
 //!
 //! # Errors
 //!
-//! The error that the format assigns to the bytes, or that the table of the type assigns to their stream, or `OutOfMemory`,
-//! which comes only if the directory has entries.
+//! The error that the format assigns to the bytes, or that the table of the type assigns to their
+//! stream, or `OutOfMemory`, which comes only if the directory has entries.
 //!
 //! # What is proved
 //!
-//! - A stream is read as its table says: the impl of `MinidumpStream` for `Build`, by `build_stream`.
-//! - The build is the one that the table assigns to the stream of type 0x11223344 in these bytes, or the error is the one
-//!   that is assigned to them: `read_build`, by `build_of_file`. The proof uses the contracts of `minidump`, and nothing below.
+//! - A stream is read as its table says: the impl of `MinidumpStream` for `Build`, by
+//!   `build_stream`.
+//! - The build is the one that the table assigns to the stream of type 0x11223344 in these bytes,
+//!   or the error is the one that is assigned to them: `read_build`, by `build_of_file`. The proof
+//!   uses the contracts of `minidump`, and nothing below.
 #![tactic(auto)]
 
 ghost use Rattle.std.proofs.Common.{rules};
@@ -62,8 +64,8 @@ impl Record for RawBuild {
     ghost fits = { Prim.search rules };
 }
 
-/// Reads the stream. Returns `StreamReadFailure` if it is shorter than 12 bytes, `DataError` if no text is at the RVA of
-/// the name.
+/// Reads the stream. Returns `StreamReadFailure` if it is shorter than 12 bytes, `DataError` if no
+/// text is at the RVA of the name.
 impl<'a> MinidumpStream<'a> for Build {
     ghost use Rattle.own_stream.specs.Build.{BuildValue, build_stream};
 

@@ -1,4 +1,5 @@
-//! `print_summary FILE..`, which prints the summary of each crash: an example of a caller of `crash_summary`.
+//! `print_summary FILE..`, which prints the summary of each crash: an example of a caller of
+//! `crash_summary`.
 #![tactic(auto)]
 
 use anyhow::Result;

@@ -1,13 +1,13 @@
-//! What a caller sees of a stream is its value: a function for each type of stream with private fields, which gives
-//! the value by public calls alone.
+//! What a caller sees of a stream is its value: a function for each type of stream with private
+//! fields, which gives the value by public calls alone.
 //!
 //! # What is proved
 //!
 //! The answers of the public calls, with the public fields, are the value of the table that
-//! `minidump/specs/Promise.antt` names for the type. A list is its `iter`, with a function for an item that has
-//! private fields; the names of threads are those that `get_name` returns by the ids. The proofs
-//! know only what the contracts of public calls say. If a table's value had a component that no public call
-//! returns, they would fail.
+//! `minidump/specs/Promise.antt` names for the type. A list is its `iter`, with a function for an
+//! item that has private fields; the names of threads are those that `get_name` returns by the ids.
+//! The proofs know only what the contracts of public calls say. If a table's value had a component
+//! that no public call returns, they would fail.
 //!
 //! Every other type of stream has public fields alone.
 #![tactic(auto)]
@@ -21,7 +21,14 @@ ghost use Rattle.minidump.specs.Below.MemoryLists.MemoryInfo.{info_of};
 ghost use Rattle.minidump.specs.Below.Modules.CodeView.{view_of};
 ghost use Rattle.minidump.specs.Below.Modules.Module.{module_of};
 ghost use Rattle.minidump.specs.Below.Modules.UnloadedModule.{unloaded_of};
-ghost use Rattle.minidump.specs.Promise.{exception_stream, linux_cpu_info_stream, linux_environ_stream, linux_lsb_release_stream, linux_maps_stream, linux_proc_limits_stream, linux_proc_status_stream, memory64_list_stream, memory_info_list_stream, memory_list_stream, module_list_stream, soft_errors_stream, system_info_stream, thread_list_stream, thread_names_stream, unloaded_module_list_stream};
+ghost use Rattle.minidump.specs.Promise.{exception_stream, linux_cpu_info_stream};
+ghost use Rattle.minidump.specs.Promise.{linux_environ_stream, linux_lsb_release_stream};
+ghost use Rattle.minidump.specs.Promise.{linux_maps_stream, linux_proc_limits_stream};
+ghost use Rattle.minidump.specs.Promise.{linux_proc_status_stream, memory64_list_stream};
+ghost use Rattle.minidump.specs.Promise.{memory_info_list_stream, memory_list_stream};
+ghost use Rattle.minidump.specs.Promise.{module_list_stream, soft_errors_stream};
+ghost use Rattle.minidump.specs.Promise.{system_info_stream, thread_list_stream};
+ghost use Rattle.minidump.specs.Promise.{thread_names_stream, unloaded_module_list_stream};
 ghost use Rattle.minidump.specs.Below.Records.ThreadNames.{name_of_thread};
 ghost use Rattle.minidump.specs.Thread.{thread_of};
 
@@ -180,7 +187,8 @@ pub fn exception<'a>(exception: &MinidumpException<'a>) -> (Option<&'a [u8]>, En
 
 /// Returns the name of a thread.
 pub fn thread_name(names: &MinidumpThreadNames, thread_id: u32) -> Option<&str>
-    ensures { option_copied result ≡ name_of_thread (thread_names_stream.value names.now) thread_id }
+    ensures { option_copied result ≡ name_of_thread
+        (thread_names_stream.value names.now) thread_id }
 {
     names.get_name(thread_id)
 }

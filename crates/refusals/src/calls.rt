@@ -16,7 +16,7 @@ use crate::world::World;
 use minidump::format::MINIDUMP_STREAM_TYPE::{self, *};
 use minidump::{Error, Told};
 
-/// A call, or some of a kind, that may find no memory. What is read, or made, is printed.
+/// One or more calls that may run out of memory. What is read, or made, is printed.
 #[derive(Clone, Copy)]
 pub enum Call {
     /// None, for comparison.

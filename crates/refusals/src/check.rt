@@ -11,19 +11,19 @@ const ROOM: usize = 65536;
 // A size of memory that no call asks for.
 const MARK: usize = 65537;
 
-/// What a call answered, of which it is known what it answers with ample memory.
+/// How the answer of a second call compares with that of the first, which had ample memory.
 #[derive(Clone, Copy)]
-pub enum Said {
+pub enum Answer {
     /// The same.
-    Ample,
-    /// That memory ran out, and then the same.
-    Refused,
+    Same,
+    /// `OutOfMemory`, and then the same.
+    SameLater,
     /// Something else.
     Wrong,
 }
 
-// Makes a call, and returns its answer with what went out.
-fn made(world: &World<'_>, call: Call, device: Device) -> (Result<(), Error>, Vec<u8>) {
+// Makes a call, and returns its result with what went out.
+fn make_on(world: &World<'_>, call: Call, device: Device) -> (Result<(), Error>, Vec<u8>) {
     let mut out = Told::new(device);
     let answer = make(world, call, &mut out);
     (answer, out.into_device().into_bytes())
@@ -39,25 +39,25 @@ fn mark(alloc: Global) -> Result<(), AllocError> {
     Ok(())
 }
 
-/// Makes a call, and makes it again between two marks. If memory runs out, it is made once more, and what went out
-/// before is a beginning of the text.
-pub fn answered(world: &World<'_>, call: Call) -> Result<Said, AllocError> {
+/// Makes a call, and makes it again between two marks. If memory runs out, it is made once more,
+/// and what went out before has to be a prefix of the text.
+pub fn call_twice(world: &World<'_>, call: Call) -> Result<Answer, AllocError> {
     let (device, spare) = (whole(world.alloc)?, whole(world.alloc)?);
-    let (ample, text) = made(world, call, whole(world.alloc)?);
+    let (ample, text) = make_on(world, call, whole(world.alloc)?);
     mark(world.alloc)?;
-    let (answer, out) = made(world, call, device);
+    let (answer, out) = make_on(world, call, device);
     mark(world.alloc)?;
     if answer.is_ok() && ample.is_ok() && out == text {
-        return Ok(Said::Ample);
+        return Ok(Answer::Same);
     }
     if answer != Err(Error::OutOfMemory) || !text.starts_with(&out) {
-        return Ok(Said::Wrong);
+        return Ok(Answer::Wrong);
     }
-    let (answer, out) = made(world, call, spare);
+    let (answer, out) = make_on(world, call, spare);
     if answer.is_ok() && ample.is_ok() && out == text {
-        return Ok(Said::Refused);
+        return Ok(Answer::SameLater);
     }
-    Ok(Said::Wrong)
+    Ok(Answer::Wrong)
 }
 
 // A device that fails, or takes nothing, from a call on.
@@ -75,12 +75,12 @@ fn failing(alloc: Global, kind: Kind, at: usize) -> Result<Device, AllocError> {
     })
 }
 
-/// Tells whether a call writes a text, and the same to a device that takes a byte a call, and answers `IoError` on each
-/// that fails or takes nothing, where a beginning of it went out.
+/// Tells whether a call writes a text, and the same to a device that takes a byte a call, and
+/// returns `IoError` on each that fails or takes nothing, where a prefix of it went out.
 pub fn is_told(world: &World<'_>, call: Call) -> Result<bool, AllocError> {
-    let (_, text) = made(world, call, whole(world.alloc)?);
+    let (_, text) = make_on(world, call, whole(world.alloc)?);
     let room = Vec::with_capacity(world.alloc, ROOM)?;
-    let (answer, out) = made(world, call, Device::OneByte(OneByte::new(room)));
+    let (answer, out) = make_on(world, call, Device::OneByte(OneByte::new(room)));
     Ok(
         answer.is_ok()
             && out == text
@@ -97,7 +97,7 @@ fn fails_at_each(
     text: &[u8],
 ) -> Result<bool, AllocError> {
     for at in 0..ROOM {
-        let (answer, out) = made(world, call, failing(world.alloc, kind, at)?);
+        let (answer, out) = make_on(world, call, failing(world.alloc, kind, at)?);
         if answer.is_ok() {
             return Ok(out.as_slice() == text);
         }
@@ -108,8 +108,8 @@ fn fails_at_each(
     Ok(false)
 }
 
-/// Tells whether `read_all` has the same bytes of a reader that gives a byte a call, and of each that fails it answers
-/// `IoError` and leaves nothing in the vector.
+/// Tells whether `read_all` has the same bytes of a reader that gives a byte a call, and of each
+/// that fails it returns `IoError` and leaves nothing in the vector.
 pub fn is_read(alloc: Global, bytes: &[u8]) -> Result<bool, AllocError> {
     for at in 0..ROOM {
         let mut into = Vec::from_slice(alloc, &[1])?;

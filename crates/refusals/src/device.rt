@@ -2,7 +2,8 @@ use minidump_synth::{FailsAt, OneByte, TakesNone};
 use std::io;
 use std::io::Write;
 
-/// A writer into a vector, which fails at a call, takes nothing from a call on, or takes a byte a call.
+/// A writer into a vector, which fails at a call, takes nothing from a call on, or takes a byte a
+/// call.
 #[derive(Drop)]
 pub enum Device {
     FailsAt(FailsAt<Vec<u8>>),

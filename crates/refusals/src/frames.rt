@@ -19,7 +19,7 @@ pub fn walk(world: &World<'_>, out: &mut Told<Device>) -> Result<(), Error> {
     Ok(())
 }
 
-// Six records, each of which leads to the one behind it, and six words, all in a module.
+// Six records, each of which leads to the one after it, and six words, all in a module.
 const WORDS: &[u64] = &[
     0x1010, 0x4001, 0x1020, 0x4002, 0x1030, 0x4003, 0x1040, 0x4004, 0x1050, 0x4005, 0, 0x4006,
     0x4007, 0x4008, 0x4009, 0x400a, 0x400b, 0x400c,

@@ -1,17 +1,19 @@
-//! `refusals FILE [devices]` and `refusals FILE NAME`, which show what the library answers where memory runs out, or a
-//! device fails.
+//! `refusals FILE [devices]` and `refusals FILE NAME`, which show what the library returns where
+//! memory runs out, or a device fails.
 //!
-//! On a dump with a stream of each type it makes the calls that may find no memory, twice, and writes a line for each: its
-//! name, and `ok` if it answered and wrote the same. `FILE` is a dump for `read_path`.
+//! On a dump with a stream of each type it makes the calls that may find no memory, twice, and
+//! writes a line for each: its name, and `ok` if it returned and wrote the same. `FILE` is a dump
+//! for `read_path`.
 //!
-//! With `devices` it also makes each call on writers that fail, or take nothing, from each of their calls on, and on
-//! one that takes a byte a call; and reads readers alike.
+//! With `devices` it also makes each call on writers that fail, or take nothing, from their n-th
+//! call on, for each n, and on one that takes one byte a call; it reads readers in the same ways.
 //!
-//! With a name it makes only the call of that name. The line is `NAME: OutOfMemory, ok` if the second call found no memory,
-//! what it wrote is a beginning of the text, and a third call answers as the first did. `.ci/refusals` uses this to refuse
-//! each allocation of each second call, before and behind which the program takes memory of a size of its own.
+//! With a name it makes only the call of that name. The line is `NAME: OutOfMemory, ok` if the
+//! second call found no memory, what it wrote is a prefix of the text, and a third call returns
+//! what the first did. `.ci/refusals` uses this to fail each allocation of each second call, before
+//! and after which the program takes memory of a size of its own.
 //!
-//! The status is 1 if an answer was another, else 0.
+//! The status is 1 if a call answered otherwise, and 0 if none did.
 #![tactic(auto)]
 
 mod calls;
@@ -27,7 +29,7 @@ mod whole;
 mod world;
 
 use crate::calls::{CALLS, Call};
-use crate::check::{Said, answered, is_read, is_told};
+use crate::check::{Answer, call_twice, is_read, is_told};
 use crate::world::World;
 use minidump::Endian;
 use minidump_synth::every_stream;
@@ -41,7 +43,7 @@ fn main(rt: HostRuntime) -> ExitCode {
     }
 }
 
-// Makes the calls, and tells whether each was answered as it has to be.
+// Makes the calls, and tells whether each returns what it has to.
 fn run(rt: &HostRuntime) -> io::Result<bool> {
     let words: Vec<String> = env::args(rt)?.collect(rt.alloc())?;
     let path = words.get(1).map_or("", |word| word.as_str());
@@ -76,9 +78,9 @@ fn make_one(
     call: Call,
     devices: bool,
 ) -> io::Result<bool> {
-    let answer = match answered(world, call)? {
-        Said::Ample if !devices || is_told(world, call)? => "ok",
-        Said::Refused => "OutOfMemory, ok",
+    let answer = match call_twice(world, call)? {
+        Answer::Same if !devices || is_told(world, call)? => "ok",
+        Answer::SameLater => "OutOfMemory, ok",
         _ => "wrong",
     };
     println!(rt; "{name}: {answer}")?;

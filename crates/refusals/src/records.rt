@@ -12,7 +12,7 @@ pub fn new_modules(world: &World<'_>, out: &mut Told<Device>) -> Result<(), Erro
     MinidumpUnloadedModule::new(world.alloc, 0x1000, 16, "b")?.print(world.alloc, out)
 }
 
-/// Reads each module again, copies it, and makes a list of them.
+/// Reads the list of modules, then each of them anew from its record, and prints a list of copies.
 pub fn module_list(world: &World<'_>, out: &mut Told<Device>) -> Result<(), Error> {
     let list = world.dump.get_stream::<MinidumpModuleList>(world.alloc)?;
     let mut modules = Vec::new(world.alloc);
@@ -111,8 +111,8 @@ pub fn mac_records(world: &World<'_>, out: &mut Told<Device>) -> Result<(), Erro
 pub fn crashpad_module(world: &World<'_>, out: &mut Told<Device>) -> Result<(), Error> {
     let info = world.dump.get_stream::<MinidumpCrashpadInfo>(world.alloc)?;
     let all = Source::new(world.bytes);
-    let place = u64::from(info.raw.module_list.rva).saturating_add(4);
-    let link = all.record(place, world.dump.endian, &mut Steps::new());
+    let offset = u64::from(info.raw.module_list.rva).saturating_add(4);
+    let link = all.record(offset, world.dump.endian, &mut Steps::new());
     let link = link.ok_or(Error::StreamReadFailure)?;
     let module = MinidumpModuleCrashpadInfo::read(
         world.alloc,

@@ -139,8 +139,8 @@ fn put_index(world: &World<'_>, last: Range, out: &mut Told<Device>) -> Result<(
         Some(Range::new(2, 3)),
     ];
     let index = AddressIndex::build(world.alloc, &ranges)?;
-    for place in index.by_addr() {
-        put_line(out, (place == 0).then_some("first"))?;
+    for number in index.by_addr() {
+        put_line(out, (number == 0).then_some("first"))?;
     }
     Ok(())
 }

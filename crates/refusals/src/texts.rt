@@ -33,9 +33,9 @@ pub fn system_texts(world: &World<'_>, out: &mut Told<Device>) -> Result<(), Err
     put_line(out, Some(name.as_str()))?;
     let date = date_text(world.alloc, 0x45d3_5f73)?;
     put_line(out, Some(date.as_str()))?;
-    let place = u64::from(world.system.raw.csd_version_rva);
+    let offset = u64::from(world.system.raw.csd_version_rva);
     let all = Source::new(world.bytes);
-    let text = all.text16(world.alloc, place, world.dump.endian, &mut Steps::new())?;
+    let text = all.text16(world.alloc, offset, world.dump.endian, &mut Steps::new())?;
     put_text(out, &text)
 }
 

@@ -1,4 +1,5 @@
--- A caller stands on the stack: its frame's record lies in the region, at or above the lowest place, and its own stack pointer behind it.
+-- A caller stands on the stack: its frame's record lies in the region, at or above the lowest
+-- address, and its own stack pointer after it.
 use Rattle.std.proofs.Common.{◌≡◌, ◌∙◌, ℕ, ◌+◌, ◌-◌, ◌*◌, ◌<◌, ◌≤◌, ◌^◌, length, Bool, true, false, Option, Some, None, refl, ap, sym, arith}
 use Rattle.std.specs.Prelude.{nat_lt, nat_le, slice_range, if◌then◌else◌}
 use Rattle.std.specs.Option.{option_and_then, option_map_or}
@@ -34,7 +35,7 @@ failed false o y e = (refl, e)
 abbrev pub base_of : StackValue → ℕ
 base_of s = option_map_or (λ r. r.base_address) s.region 0
 
--- the address behind a stack
+-- the address after a stack
 abbrev pub end_of : StackValue → ℕ
 end_of s = base_of s + length (stack_bytes s)
 
@@ -49,10 +50,10 @@ whole : (size : ℕ) (r : UnifiedRegion) (a w : ℕ) → number_in (number_layou
     → (r.base_address ≤ a) × (a + size ≤ r.base_address + length r.bytes)
 whole size r a w e =
     let above = passed (nat_le r.base_address a) (record_at (number_layout size) r.endian (a - r.base_address) r.bytes) w e in
-    let place = a - r.base_address in
+    let offset = a - r.base_address in
     let within =
-    passed (nat_le (place + size) (length r.bytes))
-    (Some ((number_layout size).value r.endian (slice_range r.bytes place (place + size)))) w above.1
+    passed (nat_le (offset + size) (length r.bytes))
+    (Some ((number_layout size).value r.endian (slice_range r.bytes offset (offset + size)))) w above.1
     in
     let low : r.base_address ≤ a = grind (arith, nat_tests, above.0) in
     let high : a - r.base_address + size ≤ length r.bytes = grind (arith, nat_tests, within.0) in
@@ -75,61 +76,61 @@ in_stack s a w size is e =
 -- the record of a frame, and what the caller that it leads to is
 pub record Record (s : StackValue) (f g : StackFrame) : Type 0 where
   pub size : ℕ
-  pub place : ℕ
+  pub address : ℕ
   pub saved : ℕ
   pub is_size : pointer_bytes s.width ≡ Some size
-  pub above : lowest_record f ≤ place
-  pub low : place + 2 * size < 2 ^ 64
-  pub first : pointer_at s place ≡ Some saved
-  pub second : pointer_at s (place + size) ≡ Some g.instruction
-  pub behind : g.stack_pointer ≡ place + 2 * size
+  pub above : lowest_record f ≤ address
+  pub low : address + 2 * size < 2 ^ 64
+  pub first : pointer_at s address ≡ Some saved
+  pub second : pointer_at s (address + size) ≡ Some g.instruction
+  pub after : g.stack_pointer ≡ address + 2 * size
   pub trust : g.trust ≡ FramePointer
 
--- the record at a place
-record At (s : StackValue) (size place : ℕ) (g : StackFrame) : Type 0 where
+-- the record at an address
+record At (s : StackValue) (size address : ℕ) (g : StackFrame) : Type 0 where
   saved : ℕ
-  low : place + 2 * size < 2 ^ 64
-  first : pointer_at s place ≡ Some saved
-  second : pointer_at s (place + size) ≡ Some g.instruction
-  behind : g.stack_pointer ≡ place + 2 * size
+  low : address + 2 * size < 2 ^ 64
+  first : pointer_at s address ≡ Some saved
+  second : pointer_at s (address + size) ≡ Some g.instruction
+  after : g.stack_pointer ≡ address + 2 * size
   trust : g.trust ≡ FramePointer
 
 -- a caller has the return address and the saved frame pointer
-by_call : (s : StackValue) (behind saved address : ℕ) (g : StackFrame) → caller_by s behind saved address ≡ Some g
-    → ◌≡◌ {A = StackFrame} (record { instruction = address; stack_pointer = behind; frame_pointer = Some saved; trust = FramePointer }) g
-by_call s behind saved address g e =
+by_call : (s : StackValue) (after saved address : ℕ) (g : StackFrame) → caller_by s after saved address ≡ Some g
+    → ◌≡◌ {A = StackFrame} (record { instruction = address; stack_pointer = after; frame_pointer = Some saved; trust = FramePointer }) g
+by_call s after saved address g e =
     let call =
     step (λ call. if is_code s.modules call
-    then Some (record { instruction = address; stack_pointer = behind; frame_pointer = Some saved; trust = FramePointer })
+    then Some (record { instruction = address; stack_pointer = after; frame_pointer = Some saved; trust = FramePointer })
     else None) (call_site address) g e
     in
     let code =
     passed (is_code s.modules call.0)
-    (Some (record { instruction = address; stack_pointer = behind; frame_pointer = Some saved; trust = FramePointer })) g call.2
+    (Some (record { instruction = address; stack_pointer = after; frame_pointer = Some saved; trust = FramePointer })) g call.2
     in
     let same : ◌≡◌ {A = Option StackFrame}
-    (Some (record { instruction = address; stack_pointer = behind; frame_pointer = Some saved; trust = FramePointer })) (Some g) =
+    (Some (record { instruction = address; stack_pointer = after; frame_pointer = Some saved; trust = FramePointer })) (Some g) =
     code.1
     in cc
 
-at : (s : StackValue) (size place : ℕ) (g : StackFrame) → caller_at s size place ≡ Some g → At s size place g
+at : (s : StackValue) (size address : ℕ) (g : StackFrame) → caller_at s size address ≡ Some g → At s size address g
 unfolding caller_at
-at s size place g e =
+at s size address g e =
     let low =
-    passed (nat_lt (place + 2 * size) (2 ^ 64))
-    (option_and_then (λ saved. option_and_then (caller_by s (place + 2 * size) saved) (pointer_at s (place + size))) (pointer_at s place)) g e
+    passed (nat_lt (address + 2 * size) (2 ^ 64))
+    (option_and_then (λ saved. option_and_then (caller_by s (address + 2 * size) saved) (pointer_at s (address + size))) (pointer_at s address)) g e
     in
     let first =
-    step (λ saved. option_and_then (caller_by s (place + 2 * size) saved) (pointer_at s (place + size))) (pointer_at s place) g low.1
+    step (λ saved. option_and_then (caller_by s (address + 2 * size) saved) (pointer_at s (address + size))) (pointer_at s address) g low.1
     in
-    let second = step (caller_by s (place + 2 * size) first.0) (pointer_at s (place + size)) g first.2 in
-    let is = by_call s (place + 2 * size) first.0 second.0 g second.2 in
+    let second = step (caller_by s (address + 2 * size) first.0) (pointer_at s (address + size)) g first.2 in
+    let is = by_call s (address + 2 * size) first.0 second.0 g second.2 in
     record {
       saved = first.0;
       low = grind (arith, nat_tests, low.0);
       first = first.1;
       second = second.1 ∙ ap (λ (f : StackFrame). Some f.instruction) is;
-      behind = sym (ap (λ (f : StackFrame). f.stack_pointer) is);
+      after = sym (ap (λ (f : StackFrame). f.stack_pointer) is);
       trust = sym (ap (λ (f : StackFrame). f.trust) is);
     }
 
@@ -137,28 +138,28 @@ at s size place g e =
 pub has_record : (s : StackValue) (f g : StackFrame) → caller_of s f ≡ Some g → Record s f g
 has_record s f g e =
     let size =
-    step (λ size. option_and_then (λ place. if nat_lt place (lowest_record f) then None else caller_at s size place) f.frame_pointer)
+    step (λ size. option_and_then (λ address. if nat_lt address (lowest_record f) then None else caller_at s size address) f.frame_pointer)
     (pointer_bytes s.width) g e
     in
-    let place = step (λ place. if nat_lt place (lowest_record f) then None else caller_at s size.0 place) f.frame_pointer g size.2 in
-    let above = failed (nat_lt place.0 (lowest_record f)) (caller_at s size.0 place.0) g place.2 in
-    let r = at s size.0 place.0 g above.1 in
+    let address = step (λ address. if nat_lt address (lowest_record f) then None else caller_at s size.0 address) f.frame_pointer g size.2 in
+    let above = failed (nat_lt address.0 (lowest_record f)) (caller_at s size.0 address.0) g address.2 in
+    let r = at s size.0 address.0 g above.1 in
     record {
       size = size.0;
-      place = place.0;
+      address = address.0;
       saved = r.saved;
       is_size = size.1;
       above = grind (arith, nat_tests, above.0);
       low = r.low;
       first = r.first;
       second = r.second;
-      behind = r.behind;
+      after = r.after;
       trust = r.trust;
     }
 
--- the lowest record of a caller stands behind that of its frame
-pub lowest_of_caller : (s : StackValue) (f g : StackFrame) → (r : Record s f g) → lowest_record g ≡ r.place + 2 * r.size
-lowest_of_caller s f g r = rw r.trust r.behind
+-- the lowest record of a caller stands after that of its frame
+pub lowest_of_caller : (s : StackValue) (f g : StackFrame) → (r : Record s f g) → lowest_record g ≡ r.address + 2 * r.size
+lowest_of_caller s f g r = rw r.trust r.after
 
 -- a caller lies higher than its frame, and in the region
 pub climbs : (s : StackValue) (f g : StackFrame) → caller_of s f ≡ Some g
@@ -167,6 +168,6 @@ climbs s f g e =
     let r = has_record s f g e in
     let lowest = lowest_of_caller s f g r in
     let some = wide s.width r.size r.is_size in
-    let first = in_stack s r.place r.saved r.size r.is_size r.first in
-    let second = in_stack s (r.place + r.size) g.instruction r.size r.is_size r.second in
+    let first = in_stack s r.address r.saved r.size r.is_size r.first in
+    let second = in_stack s (r.address + r.size) g.instruction r.size r.is_size r.second in
     (omega (arith, r.above), omega (arith, first.0), omega (arith, second.1))

@@ -8,7 +8,7 @@ use Rattle.minidump.specs.Below.Contexts.Amd64.{amd64_registers, amd64_values}
 use Rattle.minidump.specs.Below.Contexts.Arm.{arm_aliases, arm_numbers, arm_registers, arm_values}
 use Rattle.minidump.specs.Below.Contexts.Arm64.{arm64_aliases, arm64_old_values, arm64_registers, arm64_values}
 use Rattle.minidump.specs.Below.Contexts.Context.{registers_of, valid_value_in, value_in}
-use Rattle.minidump.specs.Below.Contexts.Register.{canonical_name, place_of}
+use Rattle.minidump.specs.Below.Contexts.Register.{canonical_name, register_index}
 use Rattle.minidump.specs.Below.Contexts.X86.{x86_registers, x86_values}
 use Rattle.stack_walk.specs.declared.frame.FrameTrust.TheVariants.{Context}
 use Rattle.stack_walk.specs.declared.frame.StackFrame.{StackFrame}
@@ -21,7 +21,7 @@ IsKnown raw =
     × (is_some (value_in (registers_of raw) (registers_of raw).stack_pointer) ≡ true)
 
 known : (raw : MinidumpRawContext) → IsKnown raw
-unfolding x86_registers x86_values amd64_registers amd64_values arm_registers arm_aliases arm_numbers arm_values arm64_registers arm64_aliases arm64_values arm64_old_values canonical_name place_of
+unfolding x86_registers x86_values amd64_registers amd64_values arm_registers arm_aliases arm_numbers arm_values arm64_registers arm64_aliases arm64_values arm64_old_values canonical_name register_index
 known (X86 c) = (refl, refl)
 known (Amd64 c) = (refl, refl)
 known (Arm c) = (refl, refl)

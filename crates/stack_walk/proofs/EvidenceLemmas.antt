@@ -15,36 +15,36 @@ use Rattle.stack_walk.specs.Lookups.{call_site, is_code, may_be_run}
 use Rattle.stack_walk.proofs.CallerLemmas.{Record, has_record, passed, step}
 
 -- a word below a stack pointer
-below : (place size : ℕ) → (if nat_le size (place + size) then Some (place + size - size) else None) ≡ Some place
-below place size =
-    let fits : nat_le size (place + size) ≡ true = grind (arith, nat_tests) in
-    let there : place + size - size ≡ place = omega arith in
+below : (address size : ℕ) → (if nat_le size (address + size) then Some (address + size - size) else None) ≡ Some address
+below address size =
+    let fits : nat_le size (address + size) ≡ true = grind (arith, nat_tests) in
+    let there : address + size - size ≡ address = omega arith in
     rw (fits, there) refl
 
 of_caller : (s : StackValue) (f g : StackFrame) → Record s f g → HasEvidence s g
 of_caller s f g r =
-    let behind : g.stack_pointer ≡ (r.place + r.size) + r.size = r.behind ∙ omega arith in
+    let after : g.stack_pointer ≡ (r.address + r.size) + r.size = r.after ∙ omega arith in
     record {
-      place = r.place + r.size;
-      is_place = rw (r.is_size, r.trust, behind) (below (r.place + r.size) r.size);
+      address = r.address + r.size;
+      is_address = rw (r.is_size, r.trust, after) (below (r.address + r.size) r.size);
       stands = r.second;
     }
 
 -- a candidate has the word as its return address
-by_word : (s : StackValue) (behind word : ℕ) (f : StackFrame) → candidate_by s behind word ≡ Some f
-    → ◌≡◌ {A = StackFrame} (record { instruction = word; stack_pointer = behind; frame_pointer = None; trust = Scan }) f
-by_word s behind word f e =
+by_word : (s : StackValue) (after word : ℕ) (f : StackFrame) → candidate_by s after word ≡ Some f
+    → ◌≡◌ {A = StackFrame} (record { instruction = word; stack_pointer = after; frame_pointer = None; trust = Scan }) f
+by_word s after word f e =
     let call =
     step (λ call. if is_code s.modules call && may_be_run s.infos call
-    then Some (record { instruction = word; stack_pointer = behind; frame_pointer = None; trust = Scan })
+    then Some (record { instruction = word; stack_pointer = after; frame_pointer = None; trust = Scan })
     else None) (call_site word) f e
     in
     let code =
     passed (is_code s.modules call.0 && may_be_run s.infos call.0)
-    (Some (record { instruction = word; stack_pointer = behind; frame_pointer = None; trust = Scan })) f call.2
+    (Some (record { instruction = word; stack_pointer = after; frame_pointer = None; trust = Scan })) f call.2
     in
     let same : ◌≡◌ {A = Option StackFrame}
-    (Some (record { instruction = word; stack_pointer = behind; frame_pointer = None; trust = Scan })) (Some f) =
+    (Some (record { instruction = word; stack_pointer = after; frame_pointer = None; trust = Scan })) (Some f) =
     code.1
     in cc
 
@@ -57,8 +57,8 @@ of_word s size address f is_size e =
     let word = step (candidate_by s (address + size)) (pointer_at s address) f low.1 in
     let is = by_word s (address + size) word.0 f word.2 in
     record {
-      place = address;
-      is_place =
+      address = address;
+      is_address =
           rw (is_size, sym (ap (λ (g : StackFrame). g.trust) is), sym (ap (λ (g : StackFrame). g.stack_pointer) is)) (below address size);
       stands = word.1 ∙ ap (λ (g : StackFrame). Some g.instruction) is;
     }

@@ -32,11 +32,11 @@ pub same_frames : (s : StackValue) (c : MinidumpContext) (limit : ℕ) (frames o
 same_frames s c limit frames other x y =
     let first = same_first c x.first y.first x.is_first y.is_first in
     let walk =
-    same_walk s x.first x.walked y.walked x.last y.last x.is_walk
-    (subst (λ (f : StackFrame). IsWalk s f y.walked y.last) first y.is_walk)
+    same_walk s x.first x.walk y.walk x.last y.last x.is_walk
+    (subst (λ (f : StackFrame). IsWalk s f y.walk y.last) first y.is_walk)
     in
     y.whole ∙ ap (λ w. w ++ scan s y.last.stack_pointer limit) walk.0
-    ∙ ap (λ (l : StackFrame). x.walked ++ scan s l.stack_pointer limit) walk.1 ∙ sym x.whole
+    ∙ ap (λ (l : StackFrame). x.walk ++ scan s l.stack_pointer limit) walk.1 ∙ sym x.whole
 
 -- and one
 pub some_frames : (s : StackValue) (c : MinidumpContext) (limit : ℕ) → (frames : List StackFrame) × AreFrames s c limit frames
@@ -44,7 +44,7 @@ some_frames s c limit =
     let first = a_frame c in
     let walk = a_walk s first.0 in (
       walk.0 ++ scan s walk.1.stack_pointer limit,
-      record { first = first.0; is_first = first.1; walked = walk.0; last = walk.1; is_walk = walk.2; whole = refl },
+      record { first = first.0; is_first = first.1; walk = walk.0; last = walk.1; is_walk = walk.2; whole = refl },
     )
 
 at_most : (n : ℕ) (l : List StackFrame) → length (take n l) ≤ n

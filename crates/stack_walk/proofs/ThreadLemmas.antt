@@ -4,7 +4,7 @@ use Rattle.minidump.specs.declared.MinidumpContextValidity.TheVariants.{All}
 use Rattle.minidump.specs.declared.MinidumpRawContext.{MinidumpRawContext}
 use Rattle.minidump.specs.declared.format.MINIDUMP_MEMORY_DESCRIPTOR.{MINIDUMP_MEMORY_DESCRIPTOR}
 use Rattle.minidump.specs.Below.Index.Lookup.{IsLookedUp}
-use Rattle.minidump.specs.Below.MemoryLists.Memory.{MemoryRegion, region_range}
+use Rattle.minidump.specs.Below.MemoryLists.Memory.{MemoryRegion, range_of_region}
 use Rattle.minidump.specs.Below.MemoryLists.Unified.{Memory, UnifiedRegion, UnifiedRegions, of_kind, unified_regions}
 use Rattle.minidump.specs.Below.System.Cpu.{width_of}
 use Rattle.minidump.specs.LookedUp.{looked_up}
@@ -18,15 +18,15 @@ use Rattle.stack_walk.proofs.FramesLemmas.{same_frames, some_frames}
 
 -- by the law of lookups
 module _ (law : (regions : List UnifiedRegion) (address : ℕ) (found : Option UnifiedRegion)
-    → IsLookedUp region_range regions address found ↔ (found ≡ looked_up region_range regions address)) where
+    → IsLookedUp range_of_region regions address found ↔ (found ≡ looked_up range_of_region regions address)) where
   -- the answer of a lookup of memory
   an_answer : (memory : UnifiedRegions) (address : ℕ)
-      → IsLookedUp region_range (unified_regions memory) address (looked_up region_range (unified_regions memory) address)
-  an_answer memory address = (law (unified_regions memory) address (looked_up region_range (unified_regions memory) address)).1 refl
+      → IsLookedUp range_of_region (unified_regions memory) address (looked_up range_of_region (unified_regions memory) address)
+  an_answer memory address = (law (unified_regions memory) address (looked_up range_of_region (unified_regions memory) address)).1 refl
 
   -- and the only one
-  one_answer : (memory : UnifiedRegions) (address : ℕ) (a b : Option UnifiedRegion) → IsLookedUp region_range (unified_regions memory) address a
-      → IsLookedUp region_range (unified_regions memory) address b → b ≡ a
+  one_answer : (memory : UnifiedRegions) (address : ℕ) (a b : Option UnifiedRegion) → IsLookedUp range_of_region (unified_regions memory) address a
+      → IsLookedUp range_of_region (unified_regions memory) address b → b ≡ a
   one_answer memory address a b x y = (law (unified_regions memory) address b).0 y ∙ sym ((law (unified_regions memory) address a).0 x)
 
   same_stack : (t : Thread) (memory : UnifiedRegions) (a b : Option UnifiedRegion) → IsStack t memory a → IsStack t memory b → b ≡ a
@@ -42,25 +42,25 @@ module _ (law : (regions : List UnifiedRegion) (address : ℕ) (found : Option U
       go : (own : Option (MemoryRegion MINIDUMP_MEMORY_DESCRIPTOR)) → t.stack ≡ own → (region : Option UnifiedRegion) × IsStack t memory region
       go (Some own) is = (Some (of_kind Memory own), rw is refl)
       go None is =
-          (looked_up region_range (unified_regions memory) t.raw.stack.start_of_memory_range, rw is (an_answer memory t.raw.stack.start_of_memory_range))
+          (looked_up range_of_region (unified_regions memory) t.raw.stack.start_of_memory_range, rw is (an_answer memory t.raw.stack.start_of_memory_range))
 
   same_region : (memory : UnifiedRegions) (address : ℕ) (found a b : Option UnifiedRegion)
-      → IsFoundOr found (IsLookedUp region_range (unified_regions memory) address a) a
-      → IsFoundOr found (IsLookedUp region_range (unified_regions memory) address b) b → b ≡ a
+      → IsFoundOr found (IsLookedUp range_of_region (unified_regions memory) address a) a
+      → IsFoundOr found (IsLookedUp range_of_region (unified_regions memory) address b) b → b ≡ a
   same_region memory address (Some found) a b x y = y ∙ sym x
   same_region memory address None a b x y = one_answer memory address a b x y
 
   a_region : (memory : UnifiedRegions) (address : ℕ) (found : Option UnifiedRegion)
-      → (region : Option UnifiedRegion) × IsFoundOr found (IsLookedUp region_range (unified_regions memory) address region) region
+      → (region : Option UnifiedRegion) × IsFoundOr found (IsLookedUp range_of_region (unified_regions memory) address region) region
   a_region memory address (Some found) = (Some found, refl)
-  a_region memory address None = (looked_up region_range (unified_regions memory) address, an_answer memory address)
+  a_region memory address None = (looked_up range_of_region (unified_regions memory) address, an_answer memory address)
 
   same_thread_stack : (memory : UnifiedRegions) (t : Thread) (address : ℕ) (a b : Option UnifiedRegion) → IsThreadStack memory t address a
       → IsThreadStack memory t address b → b ≡ a
   same_thread_stack memory t address a b (f, is_f, x) (g, is_g, y) =
       let same : g ≡ f = same_stack t memory f g is_f is_g in
       same_region memory address f a b x
-      (subst (λ (h : Option UnifiedRegion). IsFoundOr h (IsLookedUp region_range (unified_regions memory) address b) b) same y)
+      (subst (λ (h : Option UnifiedRegion). IsFoundOr h (IsLookedUp range_of_region (unified_regions memory) address b) b) same y)
 
   same_by : (p : ProcessValue) (t : Thread) (found : Option MinidumpRawContext) (limit : ℕ) (frames other : List StackFrame)
       → AreFramesBy p t found limit frames → AreFramesBy p t found limit other → other ≡ frames

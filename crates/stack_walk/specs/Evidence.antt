@@ -1,4 +1,5 @@
--- The evidence of a frame that isn't the context's: its return address stands in the stack, right below its stack pointer.
+-- The evidence of a frame that isn't the context's: its return address stands in the stack, right
+-- below its stack pointer.
 use Rattle.std.specs.Prelude.{◌≡◌, ℕ, ◌-◌, nat_le, Option, Some, None, if◌then◌else◌}
 use Rattle.std.specs.Option.{option_and_then}
 use Rattle.minidump.specs.declared.system_info.PointerWidth.{PointerWidth}
@@ -11,15 +12,18 @@ use Rattle.stack_walk.specs.Frames.{StackValue, pointer_at}
 -- the address of the word below the stack pointer of a caller or a candidate: none of a context
 abbrev word_below : FrameTrust → ℕ → ℕ → Option ℕ
 word_below Context stack_pointer size = None
-word_below FramePointer stack_pointer size = if nat_le size stack_pointer then Some (stack_pointer - size) else None
-word_below Scan stack_pointer size = if nat_le size stack_pointer then Some (stack_pointer - size) else None
+word_below FramePointer stack_pointer size = if nat_le size stack_pointer
+    then Some (stack_pointer - size) else None
+word_below Scan stack_pointer size = if nat_le size stack_pointer then Some (stack_pointer - size)
+    else None
 
 -- where the return address of a frame stands: none of a context
-abbrev pub evidence_place : PointerWidth → StackFrame → Option ℕ
-evidence_place width f = option_and_then (word_below f.trust f.stack_pointer) (pointer_bytes width)
+abbrev pub evidence_address : PointerWidth → StackFrame → Option ℕ
+evidence_address width f = option_and_then (word_below f.trust f.stack_pointer)
+    (pointer_bytes width)
 
--- a frame has its evidence: its return address stands in the stack at that place
+-- a frame has its evidence: its return address stands in the stack at that address
 pub record HasEvidence (s : StackValue) (f : StackFrame) : Type 0 where
-  pub place : ℕ
-  pub is_place : evidence_place s.width f ≡ Some place
-  pub stands : pointer_at s place ≡ Some f.instruction
+  pub address : ℕ
+  pub is_address : evidence_address s.width f ≡ Some address
+  pub stands : pointer_at s address ≡ Some f.instruction

@@ -1,6 +1,7 @@
--- The frames of a thread: that of its context, its callers by the frame records that the stack holds, and the words of the stack that may
--- be return addresses.
-use Rattle.std.specs.Prelude.{◌≡◌, ℕ, ◌+◌, ◌*◌, ◌/◌, ◌^◌, max, nat_lt, ◌&&◌, List, [], ◌∷◌, ◌++◌, codes, length, take, Option, Some, None, if◌then◌else◌}
+-- The frames of a thread: that of its context, its callers by the frame records that the stack
+-- holds, and the words of the stack that may be return addresses.
+use Rattle.std.specs.Prelude.{◌≡◌, ℕ, ◌+◌, ◌*◌, ◌/◌, ◌^◌, max, nat_lt, ◌&&◌, List, [], ◌∷◌, ◌++◌}
+use Rattle.std.specs.Prelude.{codes, length, take, Option, Some, None, if◌then◌else◌}
 use Rattle.std.specs.Int.{div_ceil}
 use Rattle.std.specs.List.{filter_map, range_with_len}
 use Rattle.std.specs.Option.{option_and_then, option_map, option_map_or}
@@ -23,7 +24,8 @@ use Rattle.stack_walk.specs.declared.frame.StackFrame.{StackFrame}
 use Rattle.stack_walk.specs.declared.stack.Stack.{Stack}
 use Rattle.stack_walk.specs.Lookups.{call_site, is_code, may_be_run}
 
--- a stack: the region of memory that holds it, if the dump has one, the modules, what is known of the memory, and the width of an address
+-- a stack: the region of memory that holds it, if the dump has one, the modules, what is known of
+-- the memory, and the width of an address
 pub record StackValue : Type 0 where
   pub region : Option UnifiedRegion
   pub modules : List ModuleValue
@@ -65,30 +67,39 @@ frame_register (OldArm64 c) = codes "fp"
 
 -- a frame is that of a context: its registers are the context's
 pub record IsContextFrame (c : MinidumpContext) (f : StackFrame) : Type 0 where
-  pub instruction : value_in (registers_of c.raw) (registers_of c.raw).instruction_pointer ≡ Some f.instruction
-  pub stack_pointer : value_in (registers_of c.raw) (registers_of c.raw).stack_pointer ≡ Some f.stack_pointer
-  pub frame_pointer : f.frame_pointer ≡ valid_value_in c.valid (registers_of c.raw) (frame_register c.raw)
+  pub instruction : value_in (registers_of c.raw) (registers_of c.raw).instruction_pointer
+      ≡ Some f.instruction
+  pub stack_pointer : value_in (registers_of c.raw) (registers_of c.raw).stack_pointer
+      ≡ Some f.stack_pointer
+  pub frame_pointer : f.frame_pointer ≡ valid_value_in c.valid (registers_of c.raw)
+      (frame_register c.raw)
   pub trust : f.trust ≡ Context
 
 -- ---- callers, by frame pointers
 
--- the caller that a record gives, by the address behind the record, the saved frame pointer and the return address; none where no kept
--- module has the call
+-- the caller that a record gives, by the address after the record, the saved frame pointer and the
+-- return address; none where no kept module has the call
 abbrev pub caller_by : StackValue → ℕ → ℕ → ℕ → Option StackFrame
-caller_by s behind saved address = option_and_then (λ call. if is_code s.modules call
-    then Some (record { instruction = address; stack_pointer = behind; frame_pointer = Some saved; trust = FramePointer })
+caller_by s after saved address = option_and_then (λ call. if is_code s.modules call
+    then Some (record {
+      instruction = address;
+      stack_pointer = after;
+      frame_pointer = Some saved;
+      trust = FramePointer;
+    })
     else None) (call_site address)
 
--- the frame to which the record at a place returns. A record is two words: the saved frame pointer and the return address. None where the
--- address behind it has more than 64 bits
+-- the frame to which the record at an address returns. A record is two words: the saved frame
+-- pointer and the return address. None where the address after it has more than 64 bits
 unfoldable pub caller_at : StackValue → ℕ → ℕ → Option StackFrame
-caller_at s size place =
-    if nat_lt (place + 2 * size) (2 ^ 64)
-    then option_and_then (λ saved. option_and_then (caller_by s (place + 2 * size) saved) (pointer_at s (place + size))) (pointer_at s place)
+caller_at s size address =
+    if nat_lt (address + 2 * size) (2 ^ 64)
+    then option_and_then (λ saved. option_and_then (caller_by s (address + 2 * size) saved)
+    (pointer_at s (address + size))) (pointer_at s address)
     else None
 
--- the lowest address at which the record of a frame may stand: that of a context anywhere, that of a caller behind its own record, so that
--- records neither overlap nor stand in a circle
+-- the lowest address at which the record of a frame may stand: that of a context anywhere, that of
+-- a caller after its own record, so that records neither overlap nor stand in a circle
 abbrev lowest_by : FrameTrust → ℕ → ℕ
 lowest_by Context stack_pointer = 0
 lowest_by FramePointer stack_pointer = stack_pointer
@@ -100,40 +111,56 @@ lowest_record f = lowest_by f.trust f.stack_pointer
 
 -- the caller of a frame: that of the record at its frame pointer
 abbrev pub caller_of : StackValue → StackFrame → Option StackFrame
-caller_of s f = option_and_then (λ size. option_and_then (λ place.
-    if nat_lt place (lowest_record f) then None else caller_at s size place) f.frame_pointer) (pointer_bytes s.width)
+caller_of s f = option_and_then (λ size. option_and_then (λ address.
+    if nat_lt address (lowest_record f) then None else caller_at s size address) f.frame_pointer)
+    (pointer_bytes s.width)
 
--- the callers of a frame, the innermost first: each is the caller of the one before it, and the last frame has none
+-- the callers of a frame, the innermost first: each is the caller of the one before it, and the
+-- last frame has none
 abbrev pub AreCallers : StackValue → StackFrame → List StackFrame → StackFrame → Type 0
 AreCallers s f [] last = (caller_of s f ≡ None) × (last ≡ f)
 AreCallers s f (g ∷ gs) last = (caller_of s f ≡ Some g) × AreCallers s g gs last
 
 -- the frames from one on: that frame and its callers, and the last of them
-pub record IsWalk (s : StackValue) (first : StackFrame) (frames : List StackFrame) (last : StackFrame) : Type 0 where
+pub record IsWalk (s : StackValue) (first : StackFrame) (frames : List StackFrame)
+    (last : StackFrame) : Type 0 where
   pub callers : List StackFrame
   pub whole : frames ≡ first ∷ callers
   pub are_callers : AreCallers s first callers last
 
 -- ---- candidates, by the words of the stack
 
--- the frame that a word may be the return address of; none where no kept module has the call, or where its memory can't be run
+-- the frame that a word may be the return address of; none where no kept module has the call, or
+-- where its memory can't be run
 abbrev pub candidate_by : StackValue → ℕ → ℕ → Option StackFrame
-candidate_by s behind word = option_and_then (λ call. if is_code s.modules call && may_be_run s.infos call
-    then Some (record { instruction = word; stack_pointer = behind; frame_pointer = None; trust = Scan })
+candidate_by s after word = option_and_then
+    (λ call. if is_code s.modules call && may_be_run s.infos call
+    then Some (record {
+      instruction = word;
+      stack_pointer = after;
+      frame_pointer = None;
+      trust = Scan;
+    })
     else None) (call_site word)
 
--- the candidate of the word at an address. None where the address behind it has more than 64 bits
+-- the candidate of the word at an address. None where the address after it has more than 64 bits
 abbrev pub candidate_at : StackValue → ℕ → ℕ → Option StackFrame
 candidate_at s size address =
-    if nat_lt (address + size) (2 ^ 64) then option_and_then (candidate_by s (address + size)) (pointer_at s address) else None
+    if nat_lt (address + size) (2 ^ 64) then option_and_then (candidate_by s (address + size))
+    (pointer_at s address) else None
 
--- the candidate of an aligned word, by its number: how many words lie below it in the space of addresses
+-- the candidate of an aligned word, by its number: how many words lie below it in the space of
+-- addresses
 unfoldable pub word_candidate : StackValue → ℕ → Option StackFrame
-word_candidate s number = option_and_then (λ size. candidate_at s size (number * size)) (pointer_bytes s.width)
+word_candidate s number = option_and_then (λ size. candidate_at s size (number * size))
+    (pointer_bytes s.width)
 
--- the first aligned word of a region from an address on, by its number, and as many words as the region may have from there
+-- the number of the first aligned word at or above an address in a region, and at most how many
+-- words the region has from there
 abbrev words_in : PointerWidth → UnifiedRegion → ℕ → ℕ × ℕ
-words_in width region from = option_map_or (λ size. (div_ceil (max from region.base_address) size, length region.bytes / size)) (pointer_bytes width) (0, 0)
+words_in width region from = option_map_or
+    (λ size. (div_ceil (max from region.base_address) size, length region.bytes / size))
+    (pointer_bytes width) (0, 0)
 
 -- the same of a stack
 abbrev pub words_from : StackValue → ℕ → ℕ × ℕ
@@ -142,15 +169,18 @@ words_from s from = option_map_or (λ region. words_in s.width region from) s.re
 -- the candidates of the aligned words from an address on, in their order, at most so many
 abbrev pub scan : StackValue → ℕ → ℕ → List StackFrame
 scan s from limit =
-    let words = words_from s from in take limit (filter_map (λ index. word_candidate s (words.0 + index)) (range_with_len 0 words.1))
+    let words = words_from s from in take limit
+    (filter_map (λ index. word_candidate s (words.0 + index)) (range_with_len 0 words.1))
 
 -- ---- both
 
--- the frames of a context: its own, its callers, and the candidates from the last one's stack pointer on, at most so many
-pub record AreFrames (s : StackValue) (c : MinidumpContext) (limit : ℕ) (frames : List StackFrame) : Type 0 where
+-- the frames of a context: its own, its callers, and the candidates from the last one's stack
+-- pointer on, at most so many
+pub record AreFrames (s : StackValue) (c : MinidumpContext) (limit : ℕ)
+    (frames : List StackFrame) : Type 0 where
   pub first : StackFrame
   pub is_first : IsContextFrame c first
-  pub walked : List StackFrame
+  pub walk : List StackFrame
   pub last : StackFrame
-  pub is_walk : IsWalk s first walked last
-  pub whole : frames ≡ walked ++ scan s last.stack_pointer limit
+  pub is_walk : IsWalk s first walk last
+  pub whole : frames ≡ walk ++ scan s last.stack_pointer limit

@@ -1,8 +1,11 @@
--- What the address of a frame is looked up in: the modules of a process, and what is known of its memory.
-use Rattle.std.specs.Prelude.{ℕ, ◌-◌, Bool, true, is_some, nat_le, List, Option, Some, None, if◌then◌else◌}
+-- What the address of a frame is looked up in: the modules of a process, and what is known of its
+-- memory.
+use Rattle.std.specs.Prelude.{ℕ, ◌-◌, Bool, true, is_some, nat_le, List, Option, Some, None}
+use Rattle.std.specs.Prelude.{if◌then◌else◌}
 use Rattle.std.specs.Option.{option_and_then, option_map, option_map_or}
-use Rattle.minidump.specs.Below.MemoryLists.UnifiedInfo.{InfoRegion, info_region_range, region_is_executable}
-use Rattle.minidump.specs.Below.Modules.Module.{ModuleValue, value_range}
+use Rattle.minidump.specs.Below.MemoryLists.UnifiedInfo.{InfoRegion, range_of_info_region}
+use Rattle.minidump.specs.Below.MemoryLists.UnifiedInfo.{region_is_executable}
+use Rattle.minidump.specs.Below.Modules.Module.{ModuleValue, range_of_module}
 use Rattle.minidump.specs.LookedUp.{looked_up}
 use Rattle.stack_walk.specs.declared.frame.FrameTrust.{FrameTrust}
 use Rattle.stack_walk.specs.declared.frame.FrameTrust.TheVariants.{Context, FramePointer, Scan}
@@ -12,7 +15,8 @@ use Rattle.stack_walk.specs.declared.frame.StackFrame.{StackFrame}
 abbrev pub call_site : ℕ → Option ℕ
 call_site address = if nat_le 1 address then Some (address - 1) else None
 
--- the address by which a frame is looked up: the instruction pointer of a context, else that of the call
+-- the address by which a frame is looked up: the instruction pointer of a context, else that of the
+-- call
 abbrev lookup_by : FrameTrust → ℕ → Option ℕ
 lookup_by Context address = Some address
 lookup_by FramePointer address = call_site address
@@ -24,17 +28,19 @@ lookup_address f = lookup_by f.trust f.instruction
 
 -- the kept module that contains an address
 abbrev pub module_at : List ModuleValue → Option ℕ → Option ModuleValue
-module_at modules address = option_and_then (looked_up value_range modules) address
+module_at modules address = option_and_then (looked_up range_of_module modules) address
 
 -- the offset of an address in that module
 abbrev pub module_offset_at : List ModuleValue → Option ℕ → Option ℕ
 module_offset_at modules address =
-    option_and_then (λ a. option_map (λ m. a - m.raw.base_of_image) (looked_up value_range modules a)) address
+    option_and_then (λ a. option_map (λ m. a - m.raw.base_of_image)
+    (looked_up range_of_module modules a)) address
 
 -- whether a kept module contains an address
 abbrev pub is_code : List ModuleValue → ℕ → Bool
-is_code modules address = is_some (looked_up value_range modules address)
+is_code modules address = is_some (looked_up range_of_module modules address)
 
 -- whether the memory at an address may be run, by what is known of it: also where nothing is known
 abbrev pub may_be_run : List InfoRegion → ℕ → Bool
-may_be_run infos address = option_map_or region_is_executable (looked_up info_region_range infos address) true
+may_be_run infos address = option_map_or region_is_executable
+    (looked_up range_of_info_region infos address) true

@@ -2,14 +2,14 @@ ghost use Rattle.std.specs.Prelude.{◌≡◌};
 ghost use Rattle.std.specs.Option.{option_copied, option_map};
 ghost use Rattle.minidump.specs.Below.Modules.Module.{module_of};
 ghost use Rattle.minidump.specs.Promise.{module_list_stream};
-ghost use Rattle.stack_walk.specs.Evidence.{evidence_place};
+ghost use Rattle.stack_walk.specs.Evidence.{evidence_address};
 ghost use Rattle.stack_walk.specs.Lookups.{lookup_address, module_at, module_offset_at};
 
 use crate::lookups::{call_site, module_at, offset_at};
 use minidump::system_info::PointerWidth;
 use minidump::{MinidumpModule, MinidumpModuleList};
 
-/// What a frame is known by.
+/// How a frame was found.
 #[derive(Clone, Copy, Debug, PartialEq, Eq)]
 pub enum FrameTrust {
     /// The registers of the thread's context.
@@ -25,17 +25,18 @@ pub enum FrameTrust {
 pub struct StackFrame {
     /// The instruction pointer of the context, or else the return address of the frame before.
     pub instruction: u64,
-    /// The stack pointer: of a caller or a candidate, the address behind its return address.
+    /// The stack pointer: of a caller or a candidate, the address after its return address.
     pub stack_pointer: u64,
     /// The frame pointer, as the context or the frame record has it, or `None` if it isn't known.
     pub frame_pointer: Option<u64>,
-    /// What the frame is known by.
+    /// How the frame was found.
     pub trust: FrameTrust,
 }
 
 impl StackFrame {
-    /// Returns the address by which the frame is looked up: the instruction pointer of the context, and else the return
-    /// address less one, which lies in the call. Returns `None` for a return address of 0.
+    /// Returns the address by which the frame is looked up: the instruction pointer of the context,
+    /// and else the return address less one, which lies in the call. Returns `None` for a return
+    /// address of 0.
     pub fn lookup_address(&self) -> Option<u64>
         ensures { result ≡ lookup_address self.now }
     {
@@ -45,26 +46,30 @@ impl StackFrame {
         }
     }
 
-    /// Returns the kept module of the frame, the one that contains its lookup address, or `None` if no kept module does.
+    /// Returns the kept module of the frame, the one that contains its lookup address, or `None` if
+    /// no kept module does.
     pub fn module<'l>(&self, modules: &'l MinidumpModuleList) -> Option<&'l MinidumpModule>
-        ensures { option_map module_of (option_copied result) ≡ module_at (module_list_stream.value modules.now) (lookup_address self.now) }
+        ensures { option_map module_of (option_copied result)
+            ≡ module_at (module_list_stream.value modules.now) (lookup_address self.now) }
     {
         module_at(modules, self.lookup_address()?)
     }
 
-    /// Returns the offset of the frame's lookup address in its module, or `None` if it has no module.
+    /// Returns the offset of the frame's lookup address in its module, or `None` if it has no
+    /// module.
     pub fn module_offset(&self, modules: &MinidumpModuleList) -> Option<u64>
-        ensures { result ≡ module_offset_at (module_list_stream.value modules.now) (lookup_address self.now) }
+        ensures { result ≡ module_offset_at (module_list_stream.value modules.now)
+            (lookup_address self.now) }
     {
         let address = self.lookup_address()?;
         offset_at(modules, address)
     }
 
-    /// Returns the address in the stack at which the frame's return address stands, the word below its stack pointer.
-    /// Returns `None` for the frame of a context, where the width of an address is unknown, and where the stack pointer is less
-    /// than that.
+    /// Returns the address in the stack at which the frame's return address stands, the word below
+    /// its stack pointer. Returns `None` for the frame of a context, where the width of an address
+    /// is unknown, and if the stack pointer is less than that width.
     pub fn evidence(&self, width: PointerWidth) -> Option<u64>
-        ensures { result ≡ evidence_place width self.now }
+        ensures { result ≡ evidence_address width self.now }
     {
         let size = width.size_in_bytes()?;
         match self.trust {

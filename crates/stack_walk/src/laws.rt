@@ -13,41 +13,50 @@ use crate::{FrameTrust, StackFrame};
 
 /// A context has exactly one list of frames on a stack.
 pub fn one_list_of_frames()
-    ensures one { (s : StackValue) (c : MinidumpContext) (limit : ℕ) (frames other : List StackFrame) → AreFrames s c limit frames
+    ensures one { (s : StackValue) (c : MinidumpContext) (limit : ℕ)
+        (frames other : List StackFrame) → AreFrames s c limit frames
         → AreFrames s c limit other → other ≡ frames }
-    ensures exists { (s : StackValue) (c : MinidumpContext) (limit : ℕ) → (frames : List StackFrame) × AreFrames s c limit frames }
+    ensures exists { (s : StackValue) (c : MinidumpContext) (limit : ℕ)
+        → (frames : List StackFrame) × AreFrames s c limit frames }
 {}
 
 /// A thread has exactly one list of frames in a process.
 pub fn one_list_of_thread_frames()
-    ensures one { (p : ProcessValue) (t : Thread) (limit : ℕ) (frames other : List StackFrame) → AreThreadFrames p t limit frames
+    ensures one { (p : ProcessValue) (t : Thread) (limit : ℕ) (frames other : List StackFrame)
+        → AreThreadFrames p t limit frames
         → AreThreadFrames p t limit other → other ≡ frames }
-    ensures exists { (p : ProcessValue) (t : Thread) (limit : ℕ) → (frames : List StackFrame) × AreThreadFrames p t limit frames }
+    ensures exists { (p : ProcessValue) (t : Thread) (limit : ℕ)
+        → (frames : List StackFrame) × AreThreadFrames p t limit frames }
 {
     minidump::laws::a_report_has_what_a_lookup_returns();
 }
 
 /// Each frame but the first has its evidence.
 pub fn each_caller_has_its_evidence()
-    ensures { (s : StackValue) (c : MinidumpContext) (limit : ℕ) (first : StackFrame) (rest : List StackFrame)
+    ensures { (s : StackValue) (c : MinidumpContext) (limit : ℕ) (first : StackFrame)
+        (rest : List StackFrame)
         → AreFrames s c limit (first ∷ rest) → All (HasEvidence s) rest }
 {}
 
-/// There is at most one caller for every eight bytes of the stack, and beside these the frame of the context and the
-/// candidates, as many as are asked for.
+/// There is at most one caller for every eight bytes of the stack, and beside these the frame of
+/// the context and the candidates, as many as are asked for.
 pub fn frames_are_few()
-    ensures { (s : StackValue) (c : MinidumpContext) (limit : ℕ) (frames : List StackFrame) → AreFrames s c limit frames
+    ensures { (s : StackValue) (c : MinidumpContext) (limit : ℕ) (frames : List StackFrame)
+        → AreFrames s c limit frames
         → 8 * length frames ≤ length (stack_bytes s) + 8 * (1 + limit) }
 {}
 
-/// The scan from an address on leaves out no aligned word at or above it that has a candidate, if as many are asked for as
-/// the stack has bytes.
+/// The scan from an address on leaves out no aligned word at or above it that has a candidate, if
+/// as many are asked for as the stack has bytes.
 pub fn each_aligned_word_is_scanned()
-    ensures { (s : StackValue) (from limit number size : ℕ) (f : StackFrame) → pointer_bytes s.width ≡ Some size
-        → from ≤ number * size → word_candidate s number ≡ Some f → length (stack_bytes s) ≤ limit → Contains (scan s from limit) f }
+    ensures { (s : StackValue) (from limit number size : ℕ) (f : StackFrame) → pointer_bytes s.width
+        ≡ Some size
+        → from ≤ number * size → word_candidate s number ≡ Some f → length (stack_bytes s) ≤ limit
+        → Contains (scan s from limit) f }
 {}
 
-/// A frame equals the same frame alone, and a clone of it is the same frame. So it is with what a frame is known by.
+/// A frame equals the same frame alone, and a clone of it is the same frame. The same holds of how
+/// a frame was found.
 pub fn frames_compare_and_copy_exactly()
     ensures frame { IsExact ⟦<StackFrame as PartialEq>⟧.eq ⟦<StackFrame as Clone>⟧.is_clone }
     ensures trust { IsExact ⟦<FrameTrust as PartialEq>⟧.eq ⟦<FrameTrust as Clone>⟧.is_clone }

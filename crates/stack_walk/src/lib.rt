@@ -2,30 +2,35 @@
 //!
 //! - The first frame is that of the thread's context: [`FrameTrust::Context`].
 //! - Its callers follow by frame pointers: [`FrameTrust::FramePointer`].
-//! - Behind the last of them, the words of the stack that may be return addresses are candidates: [`FrameTrust::Scan`].
+//! - After the last of them, the words of the stack that may be return addresses are candidates:
+//!   [`FrameTrust::Scan`].
 //!
-//! [`frames`] returns them by a context and a [`Stack`], [`thread_frames`] those of a thread, by what a dump has of its
-//! [`Process`].
+//! [`frames`] returns them by a context and a [`Stack`], [`thread_frames`] those of a thread, by
+//! what a dump has of its [`Process`].
 //!
 //! # What is proved
 //!
-//! - The frames are those of the definition `AreFrames`: [`frames`]. Those of a thread are the ones of its context, which is
-//!   the exception's on the thread where that happened, and of its stack: [`thread_frames`], by `AreThreadFrames`.
-//! - There is exactly one such list: [`laws::one_list_of_frames`], [`laws::one_list_of_thread_frames`]. Want of memory is an
-//!   error, never a shorter list.
-//! - Each frame but the first has a return address that stands in the stack right below its stack pointer:
-//!   [`laws::each_caller_has_its_evidence`].
-//! - The walk ends on every stack, and its length is bounded by that of the stack: [`laws::frames_are_few`].
-//! - The scan takes the first words, as many as are asked for, and leaves out no aligned word if that is enough:
-//!   [`laws::each_aligned_word_is_scanned`].
-//! - The module of a frame and the offset in it are looked up at the instruction pointer of a context, and else at the
-//!   return address less one: [`StackFrame::module`], [`StackFrame::module_offset`].
+//! - The frames are those of the definition `AreFrames`: [`frames`]. The frames of a thread are
+//!   those of its stack and of its context, which on the thread of the exception is the
+//!   exception's: [`thread_frames`], by `AreThreadFrames`.
+//! - There is exactly one such list: [`laws::one_list_of_frames`],
+//!   [`laws::one_list_of_thread_frames`]. Out of memory is an error, never a shorter list.
+//! - Each frame but the first has a return address that stands in the stack right below its stack
+//!   pointer: [`laws::each_caller_has_its_evidence`].
+//! - The walk ends on every stack, and its length is bounded by that of the stack:
+//!   [`laws::frames_are_few`].
+//! - The scan takes the first candidates, as many as are asked for, and leaves out none if that is
+//!   enough: [`laws::each_aligned_word_is_scanned`].
+//! - The module of a frame and the offset in it are looked up by the instruction pointer of a
+//!   context, or by the address one below a return address: [`StackFrame::module`],
+//!   [`StackFrame::module_offset`].
 //!
 //! The proofs use the contracts and the laws of `minidump`, and nothing below.
 #![tactic(auto)]
 
 ghost use Rattle.std.specs.Prelude.{◌≡◌, IfOk, IsOkUnless};
-ghost use Rattle.stack_walk.specs.Frames.{AreFrames, IsContextFrame, IsWalk, frame_register, stack_of};
+ghost use Rattle.stack_walk.specs.Frames.{AreFrames, IsContextFrame, IsWalk, frame_register};
+ghost use Rattle.stack_walk.specs.Frames.{stack_of};
 
 mod frame;
 pub mod laws;
@@ -40,25 +45,27 @@ use stack::{caller_of, scan};
 use std::alloc::{AllocError, Global};
 pub use thread::{Process, thread_frames};
 
-/// Returns the frames of a thread, whose context and stack these are: that of the context, its callers by frame
-/// pointers, and behind them at most `limit` candidates.
+/// Returns the frames of the thread that has this context and this stack: that of the context, its
+/// callers by frame pointers, and after them at most `limit` candidates.
 ///
-/// - The frame pointer is `ebp`, `rbp`, or ARM's `fp`. At it stands the frame record, two words of the stack: the saved frame
-///   pointer, and the return address, which a kept module contains. A context's record may stand anywhere in the stack,
-///   that of a caller only behind the record before it. The last caller is the one whose saved frame pointer leads to no
-///   record. Bits by which ARM64 authenticates a return address are not taken off.
-/// - A candidate is an aligned word from the last caller's stack pointer on that a kept module contains, unless what is
-///   known of the memory says that it can't be run.
+/// - The frame pointer is `ebp`, `rbp`, or ARM's `fp`. It points to the frame record, two words of
+///   the stack: the saved frame pointer, and the return address, which a kept module contains. A
+///   context's record may stand anywhere in the stack, that of a caller only after the record
+///   before it. The last caller is the one whose saved frame pointer leads to no record. Bits by
+///   which ARM64 authenticates a return address are kept.
+/// - A candidate is an aligned word from the last caller's stack pointer on that a kept module
+///   contains, unless what is known of the memory says that it can't be run.
 ///
-/// A module contains a return address if it contains the address before it, which lies in the call. The only error is
-/// `OutOfMemory`.
+/// A module contains a return address if it contains the address before it, which lies in the call.
+/// The only error is `OutOfMemory`.
 pub fn frames(
     alloc: Global,
     stack: &Stack<'_, '_>,
     context: &MinidumpContext,
     limit: usize,
 ) -> Result<Vec<StackFrame>, Error>
-    ensures frames { IfOk result (λ frames. AreFrames (stack_of stack.now) context.now limit frames.items) }
+    ensures frames { IfOk result
+        (λ frames. AreFrames (stack_of stack.now) context.now limit frames.items) }
     ensures memory { IsOkUnless result Error.OutOfMemory }
 {
     let (mut frames, last) = walk(alloc, stack, context_frame(context))?;

@@ -1,7 +1,8 @@
 ghost use Rattle.std.specs.Prelude.{◌≡◌, ◌≤◌, IfSome, Some};
 ghost use Rattle.std.specs.Option.{option_copied, option_map};
-ghost use Rattle.minidump.specs.Below.MemoryLists.UnifiedInfo.{info_list, info_region, info_region_range, info_regions};
-ghost use Rattle.minidump.specs.Below.Modules.Module.{module_of, value_range};
+ghost use Rattle.minidump.specs.Below.MemoryLists.UnifiedInfo.{info_list, info_region};
+ghost use Rattle.minidump.specs.Below.MemoryLists.UnifiedInfo.{range_of_info_region, info_regions};
+ghost use Rattle.minidump.specs.Below.Modules.Module.{module_of, range_of_module};
 ghost use Rattle.minidump.specs.LookedUp.{looked_up};
 ghost use Rattle.minidump.specs.Promise.{module_list_stream};
 ghost use Rattle.stack_walk.specs.Lookups.{call_site, is_code, may_be_run, module_offset_at};
@@ -19,7 +20,8 @@ pub(crate) fn call_site(address: u64) -> Option<u64>
 
 // Returns the kept module that contains an address.
 pub(crate) fn module_at(modules: &MinidumpModuleList, address: u64) -> Option<&MinidumpModule>
-    ensures found { option_map module_of (option_copied result) ≡ looked_up value_range (module_list_stream.value modules.now) address }
+    ensures found { option_map module_of (option_copied result) ≡ looked_up range_of_module
+        (module_list_stream.value modules.now) address }
     ensures inside { IfSome result (λ m. m.now.raw.base_of_image ≤ address) }
 {
     laws::a_report_has_what_a_lookup_returns();
@@ -46,7 +48,8 @@ fn info_at<'l, 'a>(
     infos: &'l UnifiedMemoryInfoList<'a>,
     address: u64,
 ) -> Option<UnifiedMemoryInfo<'l, 'a>>
-    ensures { option_map info_region result ≡ looked_up info_region_range (info_regions (info_list infos.now)) address }
+    ensures { option_map info_region result ≡ looked_up range_of_info_region
+        (info_regions (info_list infos.now)) address }
 {
     laws::a_report_has_what_a_lookup_returns();
     infos.memory_info_at_address(address)

@@ -1,5 +1,6 @@
 ghost use Rattle.std.specs.Prelude.{◌≡◌, ◌+◌, IfOk};
-ghost use Rattle.stack_walk.specs.Frames.{caller_at, caller_of, candidate_at, lowest_record, pointer_at, scan, stack_of, word_candidate, words_from};
+ghost use Rattle.stack_walk.specs.Frames.{caller_at, caller_of, candidate_at, lowest_record};
+ghost use Rattle.stack_walk.specs.Frames.{pointer_at, scan, stack_of, word_candidate, words_from};
 
 use crate::lookups::{call_site, is_code, may_be_run};
 use crate::{FrameTrust, StackFrame};
@@ -7,7 +8,7 @@ use minidump::system_info::PointerWidth;
 use minidump::{MinidumpModuleList, UnifiedMemory, UnifiedMemoryInfoList};
 use std::alloc::{AllocError, Global};
 
-/// The stack of a thread, and what its words are judged by.
+/// The stack of a thread, and what decides which of its words may be return addresses.
 #[derive(Clone, Copy)]
 pub struct Stack<'l, 'a> {
     /// The region of memory that holds it, or `None` if the dump has none.
@@ -50,21 +51,21 @@ pub(crate) fn caller_of(stack: &Stack<'_, '_>, frame: &StackFrame) -> Option<Sta
     ensures { result ≡ caller_of (stack_of stack.now) frame.now }
 {
     let size = stack.width.size_in_bytes()?;
-    let place = frame.frame_pointer?;
-    if place < lowest_record(frame) {
+    let address = frame.frame_pointer?;
+    if address < lowest_record(frame) {
         return None;
     }
-    caller_at(stack, size as u64, place)
+    caller_at(stack, size as u64, address)
 }
 
-// Returns the frame to which the record at a place returns.
+// Returns the frame to which the record at an address returns.
 #[tactic(auto, unfolding(crate::specs::Frames::caller_at))]
-fn caller_at(stack: &Stack<'_, '_>, size: u64, place: u64) -> Option<StackFrame>
-    ensures { result ≡ caller_at (stack_of stack.now) size place }
+fn caller_at(stack: &Stack<'_, '_>, size: u64, address: u64) -> Option<StackFrame>
+    ensures { result ≡ caller_at (stack_of stack.now) size address }
 {
-    let stack_pointer = place.checked_add(size.checked_mul(2)?)?;
-    let saved = pointer_at(stack, place)?;
-    let instruction = pointer_at(stack, place + size)?;
+    let stack_pointer = address.checked_add(size.checked_mul(2)?)?;
+    let saved = pointer_at(stack, address)?;
+    let instruction = pointer_at(stack, address + size)?;
     if is_code(stack.modules, call_site(instruction)?) {
         Some(StackFrame {
             instruction,
@@ -93,7 +94,8 @@ pub(crate) fn scan(
         .collect(alloc)
 }
 
-// Returns the number of the first aligned word from an address on, and how many words there may be from there.
+// Returns the number of the first aligned word from an address on, and how many words there may be
+// from there.
 fn words_from(stack: &Stack<'_, '_>, from: u64) -> (u64, usize)
     ensures { result ≡ words_from (stack_of stack.now) from }
 {

@@ -3,7 +3,8 @@ ghost use Rattle.std.specs.Option.{option_map};
 ghost use Rattle.minidump.specs.declared.MinidumpContextValidity.TheVariants.{All};
 ghost use Rattle.minidump.specs.Below.MemoryLists.Unified.{unified_list, unified_region};
 ghost use Rattle.minidump.specs.Thread.{thread_of};
-ghost use Rattle.stack_walk.specs.Threads.{AreThreadFrames, HasFrames, IsThreadStack, exception_context, process_of, thread_context};
+ghost use Rattle.stack_walk.specs.Threads.{AreThreadFrames, HasFrames, IsThreadStack};
+ghost use Rattle.stack_walk.specs.Threads.{exception_context, process_of, thread_context};
 
 use crate::{Stack, StackFrame, frames};
 use minidump::{
@@ -12,7 +13,7 @@ use minidump::{
 };
 use std::alloc::Global;
 
-/// What a dump has of a process that the walk of a thread asks for.
+/// What walking a thread needs of the process.
 #[derive(Clone, Copy)]
 pub struct Process<'l, 'a> {
     /// The system information.
@@ -27,20 +28,24 @@ pub struct Process<'l, 'a> {
     pub infos: &'l UnifiedMemoryInfoList<'a>,
 }
 
-/// Returns the frames of a thread, as [`frames`] does of its context and its stack; none if it has no context.
+/// Returns the frames of a thread, as [`frames`] does of its context and its stack; none if it has
+/// no context.
 ///
-/// The context is the exception's, if that happened on the thread and its context is accepted, and else the thread's own.
-/// The stack is [`MinidumpThread::stack_memory`], and without one the kept region of the memory that contains the context's
-/// stack pointer. The only error is `OutOfMemory`, which comes only if there is a context.
+/// The context is the exception's, if that happened on the thread and its context is accepted, and
+/// else the thread's own. The stack is [`MinidumpThread::stack_memory`], and without one the kept
+/// region of the memory that contains the context's stack pointer. The only error is `OutOfMemory`,
+/// which comes only if there is a context.
 pub fn thread_frames<'a>(
     alloc: Global,
     process: &Process<'_, 'a>,
     thread: &MinidumpThread<'a>,
     limit: usize,
 ) -> Result<Vec<StackFrame>, Error>
-    ensures frames { IfOk result (λ frames. AreThreadFrames (process_of process.now) (thread_of thread.now) limit frames.items) }
+    ensures frames { IfOk result (λ frames. AreThreadFrames (process_of process.now)
+        (thread_of thread.now) limit frames.items) }
     ensures memory { IsOkUnless result Error.OutOfMemory }
-    ensures some { OnErr result (IsSome (thread_context (process_of process.now) (thread_of thread.now))) }
+    ensures some { OnErr result (IsSome (thread_context (process_of process.now)
+        (thread_of thread.now))) }
 {
     match thread_context(process, thread) {
         Some(context) => frames_of(alloc, process, thread, &context, limit),
@@ -50,7 +55,8 @@ pub fn thread_frames<'a>(
 
 // Returns the context of a thread.
 fn thread_context(process: &Process<'_, '_>, thread: &MinidumpThread<'_>) -> Option<MinidumpContext>
-    ensures raw { option_map (λ c. c.raw) result ≡ thread_context (process_of process.now) (thread_of thread.now) }
+    ensures raw { option_map (λ c. c.raw) result ≡ thread_context (process_of process.now)
+        (thread_of thread.now) }
     ensures valid { IfSome result (λ c. c.valid ≡ All) }
 {
     match exception_context(process, thread.raw.thread_id) {
@@ -78,7 +84,8 @@ fn stack_memory<'l, 'a>(
     thread: &'l MinidumpThread<'a>,
     stack_pointer: u64,
 ) -> Option<UnifiedMemory<'l, 'a>>
-    ensures { IsThreadStack (unified_list memory.now) (thread_of thread.now) stack_pointer (option_map unified_region result) }
+    ensures { IsThreadStack (unified_list memory.now) (thread_of thread.now) stack_pointer
+        (option_map unified_region result) }
 {
     match thread.stack_memory(memory) {
         Some(found) => Some(found),
@@ -94,7 +101,8 @@ fn frames_of<'a>(
     context: &MinidumpContext,
     limit: usize,
 ) -> Result<Vec<StackFrame>, Error>
-    ensures frames { IfOk result (λ frames. HasFrames (process_of process.now) (thread_of thread.now) context.now limit frames.items) }
+    ensures frames { IfOk result (λ frames. HasFrames (process_of process.now)
+        (thread_of thread.now) context.now limit frames.items) }
     ensures memory { IsOkUnless result Error.OutOfMemory }
 {
     let stack = Stack {

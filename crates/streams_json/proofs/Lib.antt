@@ -1,3 +1,2 @@
--- Lemmas on the last part of a path, and on how deep the values nest.
-pub mod LastPart
+-- How deep the values nest.
 pub mod Depth

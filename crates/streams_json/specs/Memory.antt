@@ -6,7 +6,8 @@ use Rattle.json_tree.specs.Tree.{count, hex_string, object_of}
 
 -- a region by its first address and its size
 unfoldable pub region_object : ℕ → ℕ → Json
-region_object base size = object_of ((codes "base_addr", hex_string base) ∷ (codes "size", count size) ∷ [])
+region_object base size = object_of ((codes "base_addr", hex_string base)
+    ∷ (codes "size", count size) ∷ [])
 
 -- a region of memory
 abbrev pub region_json : UnifiedRegion → Json

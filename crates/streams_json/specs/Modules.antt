@@ -1,5 +1,6 @@
 -- Modules as JSON, loaded and unloaded.
-use Rattle.std.specs.Prelude.{ℕ, ◌+◌, ◌^◌, List, [], ◌∷◌, codes, nat_lt, Option, Some, None, if◌then◌else◌}
+use Rattle.std.specs.Prelude.{ℕ, ◌+◌, ◌^◌, List, [], ◌∷◌, codes, nat_lt, Option, Some, None}
+use Rattle.std.specs.Prelude.{if◌then◌else◌}
 use Rattle.std.specs.Option.{option_map}
 use Rattle.json.specs.Json.{Json, string}
 use Rattle.minidump.specs.Below.Modules.CodeId.{stamp_form}
@@ -7,15 +8,16 @@ use Rattle.minidump.specs.Below.Modules.DebugId.{breakpad_text}
 use Rattle.minidump.specs.Below.Modules.Identity.{Identity}
 use Rattle.minidump.specs.Below.Modules.Module.{ModuleValue, identity_of}
 use Rattle.minidump.specs.Below.Modules.UnloadedModule.{UnloadedValue}
+use Rattle.file_names.specs.FileName.{file_name}
 use Rattle.json_tree.specs.Tree.{hex_string, object_of, or_null}
-use Rattle.streams_json.specs.Names.{file_name}
 
--- the address behind a module; none where it has more than 64 bits
+-- the address after a module; none where it has more than 64 bits
 abbrev pub end_of : ℕ → ℕ → Option ℕ
 end_of base size = if nat_lt (base + size) (2 ^ 64) then Some (base + size) else None
 
 -- a module by its addresses and its texts
-unfoldable pub module_object : ℕ → ℕ → List ℕ → Option (List ℕ) → Option (List ℕ) → Option (List ℕ) → Option (List ℕ) → Json
+unfoldable pub module_object : ℕ → ℕ → List ℕ → Option (List ℕ) → Option (List ℕ) → Option (List ℕ)
+    → Option (List ℕ) → Json
 module_object base size name code_id debug_file debug_id version = object_of (
     (codes "base_addr", hex_string base)
     ∷ (codes "end_addr", or_null hex_string (end_of base size))
@@ -28,7 +30,8 @@ module_object base size name code_id debug_file debug_id version = object_of (
 
 -- a module by what it is known by
 abbrev pub identity_json : Identity → Json
-identity_json i = module_object i.base i.size (file_name i.code_file) i.code_identifier (option_map file_name i.debug_file) (option_map breakpad_text i.debug_identifier) i.version
+identity_json i = module_object i.base i.size (file_name i.code_file) i.code_identifier
+    (option_map file_name i.debug_file) (option_map breakpad_text i.debug_identifier) i.version
 
 -- a module
 abbrev pub module_json : ModuleValue → Json
@@ -45,4 +48,5 @@ unloaded_object base size name code_id = object_of (
 
 -- an unloaded module
 abbrev pub unloaded_json : UnloadedValue → Json
-unloaded_json m = unloaded_object m.raw.base_of_image m.raw.size_of_image (file_name m.name) (Some (stamp_form m.raw.time_date_stamp m.raw.size_of_image))
+unloaded_json m = unloaded_object m.raw.base_of_image m.raw.size_of_image (file_name m.name)
+    (Some (stamp_form m.raw.time_date_stamp m.raw.size_of_image))

@@ -7,14 +7,15 @@ use Rattle.minidump.specs.Below.System.OsParts.{os_parts_of}
 use Rattle.minidump.specs.Below.System.System.{System}
 use Rattle.json_tree.specs.Tree.{count, object_of, or_null}
 
--- a version, and behind a blank the build, where it is known
+-- a version, and after a space the build, where it is known
 abbrev pub with_build : List ℕ × Option (List ℕ) → List ℕ
 with_build (version, Some build) = version ++ (codes " " ++ build)
 with_build (version, None) = version
 
 -- the version of an operating system with its build
 abbrev pub os_version : System → List ℕ
-os_version s = with_build (os_parts_of s.raw.major_version s.raw.minor_version s.raw.build_number s.raw.platform_id s.csd_version)
+os_version s = with_build (os_parts_of s.raw.major_version s.raw.minor_version s.raw.build_number
+    s.raw.platform_id s.csd_version)
 
 -- a system by its texts and the number of its processors
 unfoldable pub system_object : List ℕ → List ℕ → List ℕ → Option (List ℕ) → ℕ → Json
@@ -28,4 +29,5 @@ system_object os version cpu cpu_info processors = object_of (
 
 -- the system information
 abbrev pub system_json : System → Json
-system_json s = system_object (os_long_name s.os) (os_version s) (cpu_name s.cpu) s.cpu_info s.raw.number_of_processors
+system_json s = system_object (os_long_name s.os) (os_version s) (cpu_name s.cpu) s.cpu_info
+    s.raw.number_of_processors

@@ -1,22 +1,24 @@
-//! JSON values of what the streams of a minidump hold: the system, modules, memory, handles, and records of Linux and macOS.
+//! JSON values of what the streams of a minidump hold: the system, modules, memory, handles, and
+//! records of Linux and macOS.
 //!
-//! Members have the names of `minidump-stackwalk --json`. A member is `null` if the dump lacks what it says. Addresses, and
-//! other numbers that tools print in hexadecimal, are texts such as `"0x7ff6"`, without leading zeros.
+//! Members have the names of `minidump-stackwalk --json`. A member is `null` if the dump lacks what
+//! it says. Addresses, and other numbers that tools print in hexadecimal, are texts such as
+//! `"0x7ff6"`, without leading zeros.
 //!
 //! # What is proved
 //!
-//! Each type puts the value that its definition has for the stream, or is out of memory: the `json` and `json_of` of its
-//! implementation name it, as `system_json` and `module_json`.
+//! Each type puts the value that its definition has for the stream, or is out of memory: the `json`
+//! and `json_of` of its implementation name it, as `system_json` and `module_json`.
 #![tactic(auto)]
 
 mod memory;
 mod modules;
-mod names;
 mod records;
 mod system;
+mod texts;
 
 pub use memory::{EachRegion, RegionJson};
 pub use modules::{EachModule, EachUnloadedModule};
-pub use names::{borrowed, file_name};
 pub use records::{EachHandle, LsbReleaseJson, MacCrashJson};
 pub use system::SystemJson;
+pub use texts::as_text;

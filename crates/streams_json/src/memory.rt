@@ -6,7 +6,7 @@ use json_tree::{ItemJson, Scalar, ToJson, put_object};
 use minidump::{Error, UnifiedMemory};
 use std::alloc::Global;
 
-/// A region of memory of a list.
+/// Gives each region of memory of a list its JSON value.
 #[derive(Clone, Copy)]
 pub struct EachRegion;
 

@@ -2,17 +2,18 @@ ghost use Rattle.std.specs.Prelude.{◌≡◌, IfOk, IsOkUnless, string_bytes};
 ghost use Rattle.std.specs.Option.{option_copied, option_map};
 ghost use Rattle.minidump.specs.Below.Modules.CodeId.{text_of};
 ghost use Rattle.minidump.specs.Below.Modules.DebugId.{breakpad_text};
+ghost use Rattle.file_names.specs.FileName.{file_name};
 ghost use Rattle.json_tree.specs.Tree.{Puts};
 ghost use Rattle.streams_json.specs.Modules.{end_of, module_object, unloaded_object};
-ghost use Rattle.streams_json.specs.Names.{file_name};
 
-use crate::names::{borrowed, file_name};
+use crate::texts::as_text;
+use file_names::file_name;
 use json::Writer;
 use json_tree::{ItemJson, Scalar, put_object};
 use minidump::{CodeId, DebugId, Error, MinidumpModule, MinidumpUnloadedModule, Module};
 use std::alloc::Global;
 
-/// A module of a list.
+/// Gives each module of a list its JSON value.
 #[derive(Clone, Copy)]
 pub struct EachModule;
 
@@ -28,9 +29,8 @@ impl ItemJson<MinidumpModule> for EachModule {
         out: &mut Writer,
         alloc: Global,
     ) -> Result<(), Error> {
-        let name = file_name(alloc, item.code_file())?;
         let code_id = item.code_identifier(alloc)?;
-        let debug_file = name_of(alloc, &item.debug_file(alloc)?)?;
+        let debug_file = item.debug_file(alloc)?;
         let debug_id = breakpad_text(alloc, item.debug_identifier())?;
         let version = item.version(alloc)?;
         put_module(
@@ -38,16 +38,16 @@ impl ItemJson<MinidumpModule> for EachModule {
             alloc,
             item.base_address(),
             item.size(),
-            name.as_str(),
+            file_name(item.code_file()),
             digits_of(&code_id),
-            borrowed(&debug_file),
-            borrowed(&debug_id),
-            borrowed(&version),
+            name_of(&debug_file),
+            as_text(&debug_id),
+            as_text(&version),
         )
     }
 }
 
-/// An unloaded module of a list.
+/// Gives each unloaded module of a list its JSON value.
 #[derive(Clone, Copy)]
 pub struct EachUnloadedModule;
 
@@ -63,31 +63,29 @@ impl ItemJson<MinidumpUnloadedModule> for EachUnloadedModule {
         out: &mut Writer,
         alloc: Global,
     ) -> Result<(), Error> {
-        let name = file_name(alloc, item.code_file())?;
         let code_id = item.code_identifier(alloc)?;
         put_unloaded(
             out,
             alloc,
             item.base_address(),
             item.size(),
-            name.as_str(),
+            file_name(item.code_file()),
             digits_of(&code_id),
         )
     }
 }
 
-// Makes the name of a file that may be absent.
-fn name_of(alloc: Global, path: &Option<String>) -> Result<Option<String>, Error>
-    ensures value { IfOk result (λ name. option_map string_bytes name ≡ option_map (λ p. file_name (string_bytes p)) path.now) }
-    ensures memory { IsOkUnless result Error.OutOfMemory }
+// Returns the name of a file whose path may be absent.
+fn name_of(path: &Option<String>) -> Option<&str>
+    ensures { option_copied result ≡ option_map (λ p. file_name (string_bytes p)) path.now }
 {
     match path {
-        Some(path) => Ok(Some(file_name(alloc, path.as_str())?)),
-        None => Ok(None),
+        Some(path) => Some(file_name(path.as_str())),
+        None => None,
     }
 }
 
-// Returns the address behind a module, or `None` if it has more than 64 bits.
+// Returns the address after a module, or `None` if it has more than 64 bits.
 fn end_of(base: u64, size: u64) -> Option<u64>
     ensures { result ≡ end_of base size }
 {
@@ -103,7 +101,8 @@ fn digits_of(id: &Option<CodeId>) -> Option<&str>
 
 // Makes Breakpad's text of an identifier that may be absent.
 fn breakpad_text(alloc: Global, id: Option<DebugId>) -> Result<Option<String>, Error>
-    ensures value { IfOk result (λ text. option_map string_bytes text ≡ option_map breakpad_text id) }
+    ensures value { IfOk result
+        (λ text. option_map string_bytes text ≡ option_map breakpad_text id) }
     ensures memory { IsOkUnless result Error.OutOfMemory }
 {
     match id {
@@ -124,8 +123,10 @@ fn put_module<'t>(
     debug_id: Option<&'t str>,
     version: Option<&'t str>,
 ) -> Result<(), Error>
-    ensures { Puts result out.old out.new (module_object base size name.now (option_copied code_id.entry)
-        (option_copied debug_file.entry) (option_copied debug_id.entry) (option_copied version.entry)) }
+    ensures { Puts result out.old out.new
+        (module_object base size name.now (option_copied code_id.entry)
+        (option_copied debug_file.entry) (option_copied debug_id.entry)
+        (option_copied version.entry)) }
 {
     put_object(
         out,
@@ -151,7 +152,8 @@ fn put_unloaded<'t>(
     name: &'t str,
     code_id: Option<&'t str>,
 ) -> Result<(), Error>
-    ensures { Puts result out.old out.new (unloaded_object base size name.now (option_copied code_id.entry)) }
+    ensures { Puts result out.old out.new
+        (unloaded_object base size name.now (option_copied code_id.entry)) }
 {
     put_object(
         out,

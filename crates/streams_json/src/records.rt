@@ -4,9 +4,10 @@ ghost use Rattle.minidump.specs.Below.Bytes.LinuxOsStr.{text_of};
 ghost use Rattle.minidump.specs.Below.Records.Record.{mac_record_of};
 ghost use Rattle.minidump.specs.Promise.{linux_lsb_release_stream};
 ghost use Rattle.json_tree.specs.Tree.{Adds, Puts};
-ghost use Rattle.streams_json.specs.Records.{first_value, handle_object, lsb_object, lsb_value, mac_members, mac_object};
+ghost use Rattle.streams_json.specs.Records.{first_value, handle_object, lsb_object, lsb_value};
+ghost use Rattle.streams_json.specs.Records.{mac_members, mac_object};
 
-use crate::names::borrowed;
+use crate::texts::as_text;
 use json::Writer;
 use json_tree::{ItemJson, Scalar, ToJson, put_fields, put_list, put_object};
 use minidump::strings::LinuxOsStr;
@@ -15,7 +16,7 @@ use minidump::{
 };
 use std::alloc::{AllocError, Global};
 
-/// A handle of a list.
+/// Gives each handle of a list its JSON value.
 #[derive(Clone, Copy)]
 pub struct EachHandle;
 
@@ -35,8 +36,8 @@ impl ItemJson<MinidumpHandleDescriptor> for EachHandle {
             out,
             alloc,
             item.raw.handle().copied(),
-            borrowed(&item.type_name),
-            borrowed(&item.object_name),
+            as_text(&item.type_name),
+            as_text(&item.object_name),
         )
     }
 }
@@ -49,7 +50,8 @@ fn put_handle<'t>(
     type_name: Option<&'t str>,
     object_name: Option<&'t str>,
 ) -> Result<(), Error>
-    ensures { Puts result out.old out.new (handle_object handle (option_copied type_name.entry) (option_copied object_name.entry)) }
+    ensures { Puts result out.old out.new
+        (handle_object handle (option_copied type_name.entry) (option_copied object_name.entry)) }
 {
     put_object(
         out,
@@ -142,8 +144,10 @@ fn put_mac_record<'t>(
     backtrace: Option<&'t str>,
     message2: Option<&'t str>,
 ) -> Result<(), Error>
-    ensures { Puts result out.old out.new (mac_object thread dialog_mode abort_cause (option_copied module_path.entry)
-        (option_copied message.entry) (option_copied signature.entry) (option_copied backtrace.entry) (option_copied message2.entry)) }
+    ensures { Puts result out.old out.new
+        (mac_object thread dialog_mode abort_cause (option_copied module_path.entry)
+        (option_copied message.entry) (option_copied signature.entry)
+        (option_copied backtrace.entry) (option_copied message2.entry)) }
 {
     put_object(
         out,
@@ -179,10 +183,10 @@ impl ToJson for LsbReleaseJson<'_, '_> {
         put_release(
             out,
             alloc,
-            borrowed(&id),
-            borrowed(&release),
-            borrowed(&codename),
-            borrowed(&description),
+            as_text(&id),
+            as_text(&release),
+            as_text(&codename),
+            as_text(&description),
         )
     }
 }
@@ -194,7 +198,8 @@ fn value_of(
     key: &[u8],
     other: &[u8],
 ) -> Result<Option<String>, AllocError>
-    ensures { IfOk result (λ text. option_map string_bytes text ≡ lsb_value (linux_lsb_release_stream.value release.now) key.now other.now) }
+    ensures { IfOk result (λ text. option_map string_bytes text
+        ≡ lsb_value (linux_lsb_release_stream.value release.now) key.now other.now) }
 {
     match first_value(release, key, other) {
         Some(value) => Ok(Some(value.to_string_lossy(alloc)?)),
@@ -208,7 +213,8 @@ fn first_value<'a>(
     key: &[u8],
     other: &[u8],
 ) -> Option<LinuxOsStr<'a>>
-    ensures { option_map text_of result ≡ first_value (linux_lsb_release_stream.value release.now) key.now other.now }
+    ensures { option_map text_of result ≡ first_value (linux_lsb_release_stream.value release.now)
+        key.now other.now }
 {
     for (name, value) in release.iter() {
         if name.as_bytes() == key || name.as_bytes() == other {
@@ -227,7 +233,8 @@ fn put_release<'t>(
     codename: Option<&'t str>,
     description: Option<&'t str>,
 ) -> Result<(), Error>
-    ensures { Puts result out.old out.new (lsb_object (option_copied id.entry) (option_copied release.entry)
+    ensures { Puts result out.old out.new
+        (lsb_object (option_copied id.entry) (option_copied release.entry)
         (option_copied codename.entry) (option_copied description.entry)) }
 {
     put_object(

@@ -6,7 +6,7 @@ ghost use Rattle.streams_json.specs.System.{os_version, system_object};
 
 use json::Writer;
 use json_tree::{Scalar, ToJson, put_object};
-use minidump::text::{Piece, made};
+use minidump::text::{Piece, format_pieces};
 use minidump::{Error, MinidumpSystemInfo};
 use std::alloc::{AllocError, Global};
 
@@ -40,21 +40,22 @@ impl ToJson for SystemJson<'_> {
 
 // Makes the text of the version of an operating system, and of its build if that is known.
 fn os_version(alloc: Global, system: &MinidumpSystemInfo) -> Result<String, Error>
-    ensures value { IfOk result (λ text. string_bytes text ≡ os_version (system_info_stream.value system.now)) }
+    ensures value { IfOk result
+        (λ text. string_bytes text ≡ os_version (system_info_stream.value system.now)) }
     ensures memory { IsOkUnless result Error.OutOfMemory }
 {
     let (version, build) = system.os_parts(alloc)?;
     match build {
-        Some(build) => Ok(joined(alloc, version.as_str(), build.as_str())?),
+        Some(build) => Ok(join_texts(alloc, version.as_str(), build.as_str())?),
         None => Ok(version),
     }
 }
 
-// Makes a text of two, with a blank between them.
-fn joined<'t>(alloc: Global, first: &'t str, second: &'t str) -> Result<String, AllocError>
+// Makes a text of two, with a space between them.
+fn join_texts<'t>(alloc: Global, first: &'t str, second: &'t str) -> Result<String, AllocError>
     ensures { IfOk result (λ text. string_bytes text ≡ first.now ++ (codes " " ++ second.now)) }
 {
-    made(
+    format_pieces(
         alloc,
         &[Piece::Words(first), Piece::Words(" "), Piece::Words(second)],
     )
@@ -70,7 +71,8 @@ fn put_system<'t>(
     cpu_info: Option<&'t str>,
     processors: u8,
 ) -> Result<(), Error>
-    ensures { Puts result out.old out.new (system_object os.now version.now cpu.now (option_copied cpu_info.entry) processors) }
+    ensures { Puts result out.old out.new
+        (system_object os.now version.now cpu.now (option_copied cpu_info.entry) processors) }
 {
     put_object(
         out,

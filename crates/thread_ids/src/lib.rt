@@ -2,15 +2,16 @@
 //!
 //! # Errors
 //!
-//! The error that the format assigns to the bytes or to their list of threads, or `OutOfMemory`, which comes only if the
-//! directory has entries.
+//! The error that the format assigns to the bytes or to their list of threads, or `OutOfMemory`,
+//! which comes only if the directory has entries.
 //!
 //! # What is proved
 //!
-//! The ids are those of the threads that the format assigns to these bytes, one for each, in the order of the
-//! list, or the error is the one that it assigns to them: `thread_ids`, by `ids_in`. Of a file, its bytes are in the vector
-//! whether they are a dump or not; it stays where the file can't be opened, and is empty where a read fails or finds no
-//! memory: `thread_ids_of_file`. The proofs use the contracts and a law of `minidump`, and nothing below.
+//! The ids are those of the threads that the format assigns to these bytes, one for each, in the
+//! order of the list, or the error is the one that it assigns to them: `thread_ids`, by `ids_in`.
+//! Of a file, its bytes are in the vector whether they are a dump or not; it stays where the file
+//! can't be opened, and is empty where a read fails or finds no memory: `thread_ids_of_file`. The
+//! proofs use the contracts and a law of `minidump`, and nothing below.
 #![tactic(auto)]
 
 ghost use Rattle.std.specs.Prelude.{◌≡◌, IfOk, map};
@@ -25,7 +26,8 @@ pub use file::thread_ids_of_file;
 use minidump::{Error, Minidump, MinidumpThreadList, laws};
 use std::alloc::{AllocError, Global};
 
-/// Returns the ids of the threads of a minidump, in the order of its list. `bytes` are those of the minidump.
+/// Returns the ids of the threads of a minidump, in the order of its list. `bytes` are those of the
+/// minidump.
 ///
 /// Returns the errors of [`Minidump::read`] and [`Minidump::get_stream`].
 pub fn thread_ids(alloc: Global, bytes: &[u8]) -> Result<Vec<u32>, Error>
@@ -46,7 +48,8 @@ fn ids_of(alloc: Global, threads: &MinidumpThreadList<'_>) -> Result<Vec<u32>, A
 
 // Returns the ids of entries.
 fn ids_of_entries(alloc: Global, threads: &MinidumpThreadList<'_>) -> Result<Vec<u32>, AllocError>
-    ensures { IfOk result (λ ids. ids.items ≡ map (λ t. t.raw.thread_id) threads.now.threads.items) }
+    ensures { IfOk result (λ ids. ids.items ≡ map
+        (λ t. t.raw.thread_id) threads.now.threads.items) }
 {
     threads
         .iter()

@@ -15,7 +15,7 @@ use Rattle.streams_json.proofs.Depth.{region_object_depth}
 use Rattle.threads_json.specs.Frames.{frame_fields, frame_json, of_first, registers_at}
 use Rattle.threads_json.specs.Registers.{registers_json}
 use Rattle.threads_json.specs.Threads.{Scope, crashing_json, stack_json, thread_fields, thread_json, thread_members}
-use Rattle.threads_json.specs.Walked.{Walked}
+use Rattle.threads_json.specs.ThreadWalk.{ThreadWalk}
 
 fields_within : (registers : List (List ℕ × ℕ)) → members_depth (members_of (map (λ r. (r.0, hex_string r.1)) registers)) ≤ 0
 fields_within [] = omega arith
@@ -41,13 +41,13 @@ members_within : (id : ℕ) (name last_error : Option (List ℕ)) (count : ℕ) 
 unfolding thread_fields
 members_within id name last_error count stack frames low high = omega (arith, flat_text name, flat_text last_error)
 
-thread_members_depth : (s : Scope) (context : Option MinidumpRawContext) (w : Walked) → members_depth (members_of (thread_members s context w)) ≤ 3
+thread_members_depth : (s : Scope) (context : Option MinidumpRawContext) (w : ThreadWalk) → members_depth (members_of (thread_members s context w)) ≤ 3
 thread_members_depth s context w =
     members_within _ _ _ _ _ _ (stack_depth w.thread.raw.stack)
     (numbered_array_within (frame_json s.modules context) 2 (take s.frames w.frames) (frame_depth s.modules context))
 
-pub thread_depth : (s : Scope) (w : Walked) → depth (thread_json s w) ≤ 4
+pub thread_depth : (s : Scope) (w : ThreadWalk) → depth (thread_json s w) ≤ 4
 thread_depth s w = omega (arith, thread_members_depth s None w)
 
-pub crashing_depth : (s : Scope) (index : ℕ) (context : Option MinidumpRawContext) (w : Walked) → depth (crashing_json s index context w) ≤ 4
+pub crashing_depth : (s : Scope) (index : ℕ) (context : Option MinidumpRawContext) (w : ThreadWalk) → depth (crashing_json s index context w) ≤ 4
 crashing_depth s index context w = omega (arith, thread_members_depth s context w)

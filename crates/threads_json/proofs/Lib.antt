@@ -1,3 +1,4 @@
 -- Lemmas on threads, and on how deep the values nest.
+pub mod LastThread
 pub mod NextThread
 pub mod Depth

@@ -8,18 +8,20 @@ use Rattle.stack_walk.specs.declared.frame.FrameTrust.{FrameTrust}
 use Rattle.stack_walk.specs.declared.frame.FrameTrust.TheVariants.{Context, FramePointer, Scan}
 use Rattle.stack_walk.specs.declared.frame.StackFrame.{StackFrame}
 use Rattle.stack_walk.specs.Lookups.{lookup_address, module_at, module_offset_at}
-use Rattle.streams_json.specs.Names.{file_name}
+use Rattle.file_names.specs.FileName.{file_name}
 use Rattle.json_tree.specs.Tree.{count, hex_string, object_of, or_null}
 use Rattle.threads_json.specs.Registers.{registers_json}
 
--- the word for what a frame is known by
+-- the word for how a frame was found
 abbrev pub trust_name : FrameTrust → List ℕ
 trust_name Context = codes "context"
 trust_name FramePointer = codes "frame_pointer"
 trust_name Scan = codes "scan"
 
--- the members without parts: the number of a frame, the word for its trust, the name of its module, the offset in it, and the address
-unfoldable pub frame_fields : ℕ → List ℕ → Option (List ℕ) → Option ℕ → Option ℕ → List (List ℕ × Json)
+-- the members without parts: the number of a frame, the word for its trust, the name of its module,
+-- the offset in it, and the address
+unfoldable pub frame_fields : ℕ → List ℕ → Option (List ℕ) → Option ℕ → Option ℕ
+    → List (List ℕ × Json)
 frame_fields number trust name offset address =
     (codes "frame", count number)
     ∷ (codes "trust", string trust)
@@ -36,11 +38,13 @@ of_first number context = if number == 0 then context else None
 abbrev pub registers_at : ℕ → Option MinidumpRawContext → Json
 registers_at number context = or_null registers_json (of_first number context)
 
--- the members of a frame. Its address is the one by which it is looked up: of a caller the return address less one, which lies in the call. Its
--- module is the kept one that contains that address
-abbrev pub frame_members : List ModuleValue → Option MinidumpRawContext → ℕ → StackFrame → List (List ℕ × Json)
+-- the members of a frame. Its address is the one by which it is looked up: of a caller the return
+-- address less one, which lies in the call. Its module is the kept one that contains that address
+abbrev pub frame_members : List ModuleValue → Option MinidumpRawContext → ℕ → StackFrame
+    → List (List ℕ × Json)
 frame_members modules context number f =
-    frame_fields number (trust_name f.trust) (option_map (λ m. file_name m.name) (module_at modules (lookup_address f)))
+    frame_fields number (trust_name f.trust)
+    (option_map (λ m. file_name m.name) (module_at modules (lookup_address f)))
     (module_offset_at modules (lookup_address f)) (lookup_address f)
     ++ ((codes "registers", registers_at number context) ∷ [])
 

@@ -1,5 +1,6 @@
 -- The definitions that the contracts cite.
-pub mod Walked
+pub mod ThreadWalk
+pub mod Last
 pub mod Registers
 pub mod Frames
 pub mod Threads

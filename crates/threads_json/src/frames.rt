@@ -1,20 +1,22 @@
-ghost use Rattle.std.specs.Prelude.{◌≡◌, ◌∷◌, [], IfOk, IsOkUnless, codes, string_bytes};
+ghost use Rattle.std.specs.Prelude.{◌≡◌, ◌∷◌, [], codes};
 ghost use Rattle.std.specs.Option.{option_copied, option_map};
 ghost use Rattle.minidump.specs.Promise.{module_list_stream};
 ghost use Rattle.stack_walk.specs.Lookups.{lookup_address, module_at};
-ghost use Rattle.streams_json.specs.Names.{file_name};
+ghost use Rattle.file_names.specs.FileName.{file_name};
 ghost use Rattle.json_tree.specs.Tree.{Adds};
-ghost use Rattle.threads_json.specs.Frames.{frame_fields, frame_members, of_first, registers_at, trust_name};
+ghost use Rattle.threads_json.specs.Frames.{frame_fields, frame_members, of_first, registers_at};
+ghost use Rattle.threads_json.specs.Frames.{trust_name};
 
 use crate::registers::RegistersJson;
+use file_names::file_name;
 use json::Writer;
 use json_tree::{NumberedJson, Scalar, put_fields, put_member};
 use minidump::{Error, MinidumpContext, MinidumpModuleList, Module};
 use stack_walk::{FrameTrust, StackFrame};
 use std::alloc::Global;
-use streams_json::{borrowed, file_name};
 
-/// A frame of a list, with the modules that it may lie in, and the registers of the first one if they are known.
+/// A frame of a list, with the modules that it may lie in, and the registers of the first one if
+/// they are known.
 #[derive(Clone, Copy)]
 pub(crate) struct EachFrame<'l> {
     pub(crate) modules: &'l MinidumpModuleList,
@@ -26,7 +28,8 @@ impl NumberedJson<StackFrame> for EachFrame<'_> {
     ghost use Rattle.minidump.specs.Promise.{module_list_stream};
     ghost use Rattle.threads_json.specs.Frames.{frame_json};
 
-    ghost json_at = { λ e n f. frame_json (module_list_stream.value e.modules.now) (option_map (λ c. c.raw) (option_copied e.context)) n f };
+    ghost json_at = { λ e n f. frame_json (module_list_stream.value e.modules.now)
+        (option_map (λ c. c.raw) (option_copied e.context)) n f };
 
     #[tactic(auto, using(json_tree::proofs::Tokens::object_of_members))]
     fn put_item_at(
@@ -51,15 +54,15 @@ fn put_members(
     number: usize,
     frame: &StackFrame,
 ) -> Result<(), Error>
-    ensures { Adds result out.old out.new (frame_members (module_list_stream.value by.now.modules.now)
+    ensures { Adds result out.old out.new
+        (frame_members (module_list_stream.value by.now.modules.now)
         (option_map (λ c. c.raw) (option_copied by.now.context)) number frame.now) }
 {
-    let name = module_name(alloc, by.modules, frame)?;
     put_frame(
         out,
         alloc,
         number,
-        borrowed(&name),
+        module_name(by.modules, frame),
         frame.module_offset(by.modules),
         frame.lookup_address(),
         trust_name(frame.trust),
@@ -68,23 +71,19 @@ fn put_members(
     Ok(())
 }
 
-// Makes the name of the file of a frame's module.
-fn module_name(
-    alloc: Global,
-    modules: &MinidumpModuleList,
-    frame: &StackFrame,
-) -> Result<Option<String>, Error>
-    ensures value { IfOk result (λ name. option_map string_bytes name
-        ≡ option_map (λ m. file_name m.name) (module_at (module_list_stream.value modules.now) (lookup_address frame.now))) }
-    ensures memory { IsOkUnless result Error.OutOfMemory }
+// Returns the name of the file of a frame's module.
+fn module_name<'l>(modules: &'l MinidumpModuleList, frame: &StackFrame) -> Option<&'l str>
+    ensures { option_copied result
+        ≡ option_map (λ m. file_name m.name)
+        (module_at (module_list_stream.value modules.now) (lookup_address frame.now)) }
 {
     match frame.module(modules) {
-        Some(module) => Ok(Some(file_name(alloc, module.code_file())?)),
-        None => Ok(None),
+        Some(module) => Some(file_name(module.code_file())),
+        None => None,
     }
 }
 
-// Returns the word for what a frame is known by.
+// Returns the word for how a frame was found.
 fn trust_name(trust: FrameTrust) -> &'static str
     ensures { result.now ≡ trust_name trust }
 {
@@ -105,7 +104,8 @@ fn put_frame<'t>(
     address: Option<u64>,
     trust: &'t str,
 ) -> Result<(), Error>
-    ensures { Adds result out.old out.new (frame_fields number trust.now (option_copied module.entry) offset address) }
+    ensures { Adds result out.old out.new
+        (frame_fields number trust.now (option_copied module.entry) offset address) }
 {
     put_fields(
         out,
@@ -127,7 +127,12 @@ fn put_registers(
     number: usize,
     context: Option<&MinidumpContext>,
 ) -> Result<(), Error>
-    ensures { Adds result out.old out.new ((codes "registers", registers_at number (option_map (λ c. c.raw) (option_copied context.entry))) ∷ []) }
+    ensures { Adds result out.old out.new
+        ((
+          codes "registers",
+          registers_at number
+              (option_map (λ c. c.raw) (option_copied context.entry)),
+        ) ∷ []) }
 {
     match of_first(number, context) {
         Some(context) => put_member(out, alloc, "registers", &RegistersJson(context)),
@@ -137,7 +142,8 @@ fn put_registers(
 
 // Returns the context for the first frame, and for any other none.
 fn of_first(number: usize, context: Option<&MinidumpContext>) -> Option<&MinidumpContext>
-    ensures { option_map (λ c. c.raw) (option_copied result) ≡ of_first number (option_map (λ c. c.raw) (option_copied context.entry)) }
+    ensures { option_map (λ c. c.raw) (option_copied result)
+        ≡ of_first number (option_map (λ c. c.raw) (option_copied context.entry)) }
 {
     if number == 0 { context } else { None }
 }

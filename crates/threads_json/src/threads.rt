@@ -4,8 +4,9 @@ ghost use Rattle.minidump.specs.Below.Reasons.ReasonText.{reason_text};
 ghost use Rattle.minidump.specs.Promise.{module_list_stream, thread_names_stream};
 ghost use Rattle.json_tree.specs.Tree.{Adds, Puts, count, numbered_array_of};
 ghost use Rattle.threads_json.specs.Frames.{frame_json};
-ghost use Rattle.threads_json.specs.Threads.{crashing_json, fields_of, name_in, scope_of, stack_json, thread_fields, thread_members};
-ghost use Rattle.threads_json.specs.Walked.{walked_of};
+ghost use Rattle.threads_json.specs.Threads.{crashing_json, fields_of, name_in, scope_of};
+ghost use Rattle.threads_json.specs.Threads.{stack_json, thread_fields, thread_members};
+ghost use Rattle.threads_json.specs.ThreadWalk.{walk_of};
 
 use crate::WalkedThread;
 use crate::frames::EachFrame;
@@ -17,10 +18,10 @@ use minidump::{
 };
 use stack_walk::StackFrame;
 use std::alloc::Global;
-use streams_json::{RegionJson, borrowed};
+use streams_json::{RegionJson, as_text};
 
-/// What the value of a thread is made by: the modules, the names of the threads and those of codes, and how many frames
-/// are written at most.
+/// Gives each thread of a list its JSON value, by the modules, the names of the threads and of
+/// codes, and how many frames are written at most.
 #[derive(Clone, Copy)]
 pub struct EachThread<'l, 'n> {
     /// The modules.
@@ -35,9 +36,9 @@ pub struct EachThread<'l, 'n> {
 
 impl<'t, 'a> ItemJson<WalkedThread<'t, 'a>> for EachThread<'_, '_> {
     ghost use Rattle.threads_json.specs.Threads.{scope_of, thread_json};
-    ghost use Rattle.threads_json.specs.Walked.{walked_of};
+    ghost use Rattle.threads_json.specs.ThreadWalk.{walk_of};
 
-    ghost json_of = { λ e w. thread_json (scope_of e) (walked_of w) };
+    ghost json_of = { λ e w. thread_json (scope_of e) (walk_of w) };
 
     #[tactic(auto, using(json_tree::proofs::Tokens::object_of_members))]
     fn put_item(
@@ -53,8 +54,8 @@ impl<'t, 'a> ItemJson<WalkedThread<'t, 'a>> for EachThread<'_, '_> {
     }
 }
 
-/// Puts the value of the thread that crashed: its index in the list of threads, its members, and the registers of `context` in
-/// its first frame. The only error is `OutOfMemory`.
+/// Puts the value of the thread that crashed: its index in the list of threads, its members, and
+/// the registers of `context` in its first frame. The only error is `OutOfMemory`.
 #[tactic(auto, using(json_tree::proofs::Tokens::object_of_members))]
 pub fn put_crashing_thread(
     out: &mut Writer,
@@ -64,7 +65,9 @@ pub fn put_crashing_thread(
     thread: &WalkedThread<'_, '_>,
     context: Option<&MinidumpContext>,
 ) -> Result<(), Error>
-    ensures { Puts result out.old out.new (crashing_json (scope_of by.now) index (option_map (λ c. c.raw) (option_copied context.entry)) (walked_of thread.now)) }
+    ensures { Puts result out.old out.new
+        (crashing_json (scope_of by.now) index
+        (option_map (λ c. c.raw) (option_copied context.entry)) (walk_of thread.now)) }
 {
     out.begin_object()?;
     put_crashing(out, alloc, by, index, thread, context)?;
@@ -82,7 +85,8 @@ fn put_crashing(
     context: Option<&MinidumpContext>,
 ) -> Result<(), Error>
     ensures { Adds result out.old out.new ((codes "threads_index", count index)
-        ∷ thread_members (scope_of by.now) (option_map (λ c. c.raw) (option_copied context.entry)) (walked_of thread.now)) }
+        ∷ thread_members (scope_of by.now) (option_map (λ c. c.raw) (option_copied context.entry))
+        (walk_of thread.now)) }
 {
     put_fields(
         out,
@@ -98,14 +102,16 @@ fn put_thread(
     out: &mut Writer,
     alloc: Global,
     by: &EachThread<'_, '_>,
-    walked: &WalkedThread<'_, '_>,
+    walk: &WalkedThread<'_, '_>,
     context: Option<&MinidumpContext>,
 ) -> Result<(), Error>
-    ensures { Adds result out.old out.new (thread_members (scope_of by.now) (option_map (λ c. c.raw) (option_copied context.entry)) (walked_of walked.now)) }
+    ensures { Adds result out.old out.new
+        (thread_members (scope_of by.now) (option_map (λ c. c.raw) (option_copied context.entry))
+        (walk_of walk.now)) }
 {
-    put_thread_fields(out, alloc, by, walked)?;
-    put_stack(out, alloc, &walked.thread.raw.stack)?;
-    put_frames(out, alloc, by, walked.frames.as_slice(), context)?;
+    put_thread_fields(out, alloc, by, walk)?;
+    put_stack(out, alloc, &walk.thread.raw.stack)?;
+    put_frames(out, alloc, by, walk.frames.as_slice(), context)?;
     Ok(())
 }
 
@@ -114,19 +120,19 @@ fn put_thread_fields(
     out: &mut Writer,
     alloc: Global,
     by: &EachThread<'_, '_>,
-    walked: &WalkedThread<'_, '_>,
+    walk: &WalkedThread<'_, '_>,
 ) -> Result<(), Error>
-    ensures { Adds result out.old out.new (fields_of (scope_of by.now) (walked_of walked.now)) }
+    ensures { Adds result out.old out.new (fields_of (scope_of by.now) (walk_of walk.now)) }
 {
-    let error = error_text(alloc, walked.last_error, by.names)?;
-    let id = walked.thread.raw.thread_id;
+    let error = error_text(alloc, walk.last_error, by.names)?;
+    let id = walk.thread.raw.thread_id;
     put_fields_of(
         out,
         alloc,
         id,
         name_of(by.thread_names, id),
-        borrowed(&error),
-        walked.frames.len(),
+        as_text(&error),
+        walk.frames.len(),
     )
 }
 
@@ -139,7 +145,8 @@ fn put_fields_of<'t>(
     last_error: Option<&'t str>,
     frame_count: usize,
 ) -> Result<(), Error>
-    ensures { Adds result out.old out.new (thread_fields id (option_copied name.entry) (option_copied last_error.entry) frame_count) }
+    ensures { Adds result out.old out.new
+        (thread_fields id (option_copied name.entry) (option_copied last_error.entry) frame_count) }
 {
     put_fields(
         out,
@@ -155,7 +162,8 @@ fn put_fields_of<'t>(
 
 // Returns the name of a thread.
 fn name_of(names: Option<&MinidumpThreadNames>, id: u32) -> Option<&str>
-    ensures { option_copied result ≡ name_in (option_map thread_names_stream.value (option_copied names.entry)) id }
+    ensures { option_copied result ≡ name_in
+        (option_map thread_names_stream.value (option_copied names.entry)) id }
 {
     names?.get_name(id)
 }
@@ -166,7 +174,8 @@ fn error_text(
     error: Option<CrashReason>,
     names: &CodeNames<'_>,
 ) -> Result<Option<String>, Error>
-    ensures value { IfOk result (λ text. option_map string_bytes text ≡ option_map (reason_text names.now) error) }
+    ensures value { IfOk result
+        (λ text. option_map string_bytes text ≡ option_map (reason_text names.now) error) }
     ensures memory { IsOkUnless result Error.OutOfMemory }
 {
     match error {
@@ -205,7 +214,8 @@ fn put_frames(
     ensures { Adds result out.old out.new ((
       codes "frames",
       numbered_array_of
-          (frame_json (module_list_stream.value by.now.modules.now) (option_map (λ c. c.raw) (option_copied context.entry))) (take by.now.frames frames.now),
+          (frame_json (module_list_stream.value by.now.modules.now)
+          (option_map (λ c. c.raw) (option_copied context.entry))) (take by.now.frames frames.now),
     ) ∷ []) }
 {
     let each = EachFrame {

@@ -1,5 +1,6 @@
 -- What an option says, by the text that clap found for it.
-use Rattle.std.specs.Prelude.{◌≡◌, ◌<◌, ◌^◌, ℕ, Bool, false, true, List, Some, None, codes, if◌then◌else◌}
+use Rattle.std.specs.Prelude.{◌≡◌, ◌<◌, ◌^◌, ℕ, Bool, false, true, List, Some, None, codes}
+use Rattle.std.specs.Prelude.{if◌then◌else◌}
 use Rattle.std.specs.Str.Parse.{IsNumeral, digits_value, without_leading_plus}
 use Rattle.clap.specs.Words.{one_text}
 use Rattle.clap.specs.declared.parser.matches.Found.{Found}
@@ -12,10 +13,12 @@ IsFlag found id set = (one_text found id ≡ None → set ≡ false)
     × (one_text found id ≡ Some (codes "true") → set ≡ true)
     × (one_text found id ≡ Some (codes "false") → set ≡ false)
 
--- a number is the one that its text writes in decimal, if the text does and the number has at most 64 bits
+-- a number is the one that its text writes in decimal, if the text does and the number has at most
+-- 64 bits
 abbrev pub IsNumber : Found → List ℕ → ℕ → Type 0
 IsNumber found id n = (text : List ℕ) → one_text found id ≡ Some text
-    → IsNumeral 10 (without_leading_plus text) → digits_value 10 (without_leading_plus text) < 2 ^ 64
+    → IsNumeral 10 (without_leading_plus text)
+    → digits_value 10 (without_leading_plus text) < 2 ^ 64
     → n ≡ digits_value 10 (without_leading_plus text)
 
 -- the form that the flags --json and --html ask for

@@ -14,7 +14,8 @@ pub(crate) fn complain_of(rt: &HostRuntime, path: &str, error: &io::Error) -> io
     complain(rt, path, format!(in rt.alloc(); "{error}")?.as_str())
 }
 
-/// Prints a line on the error that ends the program, or that memory ran out if it did for that line too.
+/// Prints a line on the error that ends the program, or that memory ran out if it did for that line
+/// too.
 pub(crate) fn complain_at_end(rt: &HostRuntime, error: &io::Error) {
     if complain_of(rt, "whocrashed", error).is_err() {
         match eprint!(rt; "whocrashed: Out of memory\n") {

@@ -1,26 +1,27 @@
-//! `whocrashed [OPTIONS] DUMP..`, which prints who crashed, where, why and by whom called: an example of a caller of `minidump`,
-//! of what stands on it, and of `clap`, whose output the README shows. `whocrashed --help` prints its options.
+//! `whocrashed [OPTIONS] DUMP..`, which prints who crashed, where, why and by whom called: an
+//! example of a program on `minidump`, the crates above it and `clap`. The README shows its output.
+//! `whocrashed --help` prints its options.
 //!
 //! Of each dump, in the order of the arguments, it prints
 //!
 //! - the lines of [`crash_lines::add_dump`], under the dump's path if there are several;
-//! - with `--json` the line of JSON of [`crash_json::crash_json`]. A file that can't be read, or is no dump, has a line too, whose
-//!   `status` says why, so that there are as many lines as dumps;
+//! - with `--json` the line of JSON of [`crash_json::crash_json`]. A file that can't be read, or is
+//!   no dump, has a line too, whose `status` says why, so that there are as many lines as dumps;
 //! - with `--html`, which takes one dump, the page of [`crash_html::page`].
 //!
-//! Codes have the names of [`known_names::text`], or those of the file of `--names` in their place.
+//! Codes have the names of [`known_names::text`], or instead those of the file of `--names`.
 //!
 //! # Errors
 //!
-//! Status 1: a file can't be read or is no dump, which a line on standard error says with its path, or the line of JSON, while
-//! the other dumps are printed; or in the lines of text a stream, a context or a stack that was wanted can't be read, which a line
-//! says. Status 2: the arguments are refused, among them one that isn't UTF-8. A closed pipe ends the program quietly, with
-//! status 0.
+//! Status 1: a file can't be read or is no dump, which is said on standard error, or in its line of
+//! JSON; or, among lines of text, a stream, a context or a stack can't be read. The other dumps are
+//! printed all the same. Status 2: the arguments are malformed, or one isn't UTF-8. A closed pipe
+//! ends the program quietly, with status 0.
 //!
 //! # What is proved
 //!
-//! The dumps are the values of the argument `DUMP`, in their order: `dumps_of`. No status is above 2: `run`. What is printed of a
-//! dump is proved in the crates below.
+//! The dumps are the values of the argument `DUMP`, in their order: `dumps_of`. No status is above
+//! 2: `run`. What is printed of a dump is proved in the crates below.
 #![tactic(auto)]
 
 mod complain;
@@ -35,7 +36,7 @@ use std::process::ExitCode;
 fn main(rt: HostRuntime) -> ExitCode {
     let args = match env::args(&rt) {
         Ok(args) => args,
-        Err(error) => return ExitCode::from(program::refuse(&rt, &error)),
+        Err(error) => return ExitCode::from(program::complain_of_arguments(&rt, &error)),
     };
     let words: Result<Vec<String>, AllocError> = args.collect(rt.alloc());
     let Ok(words) = words else {

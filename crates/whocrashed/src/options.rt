@@ -105,7 +105,8 @@ fn limits_of(matches: &ArgMatches<'_>) -> Limits
     }
 }
 
-// Returns the number of an option. clap has a default for each, and refuses a text that is no number.
+// Returns the number of an option. clap has a default for each, and returns an error for a text
+// that is no number.
 fn number_of(matches: &ArgMatches<'_>, id: &str) -> usize
     ensures { IsNumber (found_of matches.now) id.now result }
 {
@@ -115,7 +116,8 @@ fn number_of(matches: &ArgMatches<'_>, id: &str) -> usize
 // Copies the paths of the dumps, in their order.
 fn dumps_of<'w>(alloc: Global, matches: &ArgMatches<'w>) -> Result<Vec<&'w str>, AllocError>
     ensures { IfOk result (λ dumps. map (λ d. d.now) dumps.items
-        ≡ unwrap_or (option_map raw_values (matched_of (found_of matches.now) (codes "dumps"))) []) }
+        ≡ unwrap_or (option_map raw_values (matched_of (found_of matches.now) (codes "dumps")))
+        []) }
 {
     match matches.get_strs("dumps") {
         Some(paths) => Vec::from_slice(alloc, paths),
@@ -129,7 +131,36 @@ fn command<'w>(alloc: Global) -> Result<Command<'w>, AllocError> {
         .no_binary_name(true)
         .version("0.27.0+rattle.1")
         .about(ABOUT)
-        .after_help(EXAMPLES);
+        .after_help(EXAMPLES)
+        .arg(names(alloc))?;
+    let command = with_limits(alloc, command)?;
+    with_forms(alloc, command)?.arg(dumps(alloc))
+}
+
+// Adds the options of limits.
+fn with_limits<'w>(alloc: Global, command: Command<'w>) -> Result<Command<'w>, AllocError> {
+    let all_threads = flag(
+        alloc,
+        "all-threads",
+        "Print all frames of each thread in the lines of text",
+    );
+    let frames = number(
+        alloc,
+        "frames",
+        FRAMES,
+        "Print at most N frames of a thread",
+    );
+    let scan = number(
+        alloc,
+        "scan",
+        SCAN,
+        "Print at most N candidates among the words of a stack",
+    );
+    command.arg(all_threads)?.arg(frames)?.arg(scan)
+}
+
+// Adds the options of forms.
+fn with_forms<'w>(alloc: Global, command: Command<'w>) -> Result<Command<'w>, AllocError> {
     let json = flag(alloc, "json", "Print a line of JSON for each DUMP");
     let html = flag(alloc, "html", "Print a page in HTML on the one DUMP").conflicts_with("json")?;
     let progress = flag(
@@ -137,29 +168,7 @@ fn command<'w>(alloc: Global) -> Result<Command<'w>, AllocError> {
         "progress",
         "Say on standard error how many dumps are done",
     );
-    command
-        .arg(names(alloc))?
-        .arg(flag(
-            alloc,
-            "all-threads",
-            "Print all frames of each thread in the lines of text",
-        ))?
-        .arg(number(
-            alloc,
-            "frames",
-            FRAMES,
-            "Print at most N frames of a thread",
-        ))?
-        .arg(number(
-            alloc,
-            "scan",
-            SCAN,
-            "Print at most N candidates among the words of a stack",
-        ))?
-        .arg(json)?
-        .arg(html)?
-        .arg(progress)?
-        .arg(dumps(alloc))
+    command.arg(json)?.arg(html)?.arg(progress)
 }
 
 fn names<'w>(alloc: Global) -> Arg<'w> {

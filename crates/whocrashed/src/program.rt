@@ -10,17 +10,17 @@ use minidump::text::Piece;
 use minidump_names::NameTable;
 use std::{fs, io};
 
-/// Runs the program with its arguments, without its own name, and returns the status: 0; 1 where a dump, a file or the
-/// output failed, or a stream that was wanted can't be read; 2 for arguments that are refused. A pipe that is closed ends it
-/// quietly.
+/// Runs the program with its arguments, without its own name, and returns the status: 0; 1 where a
+/// dump, a file or the output failed, or a stream that was wanted can't be read; 2 for arguments
+/// that are malformed. A pipe that is closed ends it quietly.
 pub(crate) fn run(rt: &HostRuntime, words: &[String]) -> u8
     ensures { result ≤ 2 }
 {
-    let answered = match Options::read(rt.alloc(), words) {
+    let status = match Options::read(rt.alloc(), words) {
         Ok(options) => obey(rt, &options),
         Err(error) => answer(rt, &error),
     };
-    match answered {
+    match status {
         Ok(status) => status,
         Err(error) if error.kind() == io::ErrorKind::BrokenPipe => 0,
         Err(error) => {
@@ -31,7 +31,7 @@ pub(crate) fn run(rt: &HostRuntime, words: &[String]) -> u8
 }
 
 /// Prints why the arguments can't be had, and returns the status.
-pub(crate) fn refuse(rt: &HostRuntime, error: &io::Error) -> u8
+pub(crate) fn complain_of_arguments(rt: &HostRuntime, error: &io::Error) -> u8
     ensures { result ≤ 2 }
 {
     if error.kind() == io::ErrorKind::OutOfMemory {
@@ -43,7 +43,8 @@ pub(crate) fn refuse(rt: &HostRuntime, error: &io::Error) -> u8
     }
 }
 
-// Prints the help or the version that was asked for, or why the arguments are refused. Returns the status.
+// Prints the help or the version that was asked for, or why the arguments are malformed. Returns
+// the status.
 fn answer(rt: &HostRuntime, error: &Error) -> io::Result<u8>
     ensures { IfOk result (λ status. status ≤ 2) }
 {
@@ -64,7 +65,8 @@ fn answer(rt: &HostRuntime, error: &Error) -> io::Result<u8>
     })
 }
 
-// Reports on the dumps, with the names of the options' file or else those that are compiled in. Returns the status.
+// Reports on the dumps, with the names of the options' file or else those that are compiled in.
+// Returns the status.
 fn obey(rt: &HostRuntime, options: &Options<'_>) -> io::Result<u8>
     ensures { IfOk result (λ status. status < 2) }
 {
@@ -127,8 +129,8 @@ fn status_of(is_whole: bool) -> u8
     if is_whole { 0 } else { 1 }
 }
 
-// Prints how many dumps are done of how many, after each hundredth part of them and the last one. `last` is the number of dumps
-// before the last that is done.
+// Prints how many dumps are done of how many, after each hundredth part of them and the last one.
+// `last` is the number of dumps before the last that is done.
 fn show_progress(rt: &HostRuntime, last: usize, all: usize) -> io::Result<()> {
     let done = last.saturating_add(1);
     if done == all || done % (all / 100 + 1) == 0 {

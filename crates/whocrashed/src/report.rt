@@ -1,6 +1,6 @@
 use crate::complain::{complain, complain_of};
 use crate::options::Form;
-use crash_json::{crash_json, refused_json};
+use crash_json::{crash_json, error_json};
 use crash_lines::{Limits, add_dump};
 use crash_page::Page;
 use minidump::text::Piece;
@@ -22,14 +22,15 @@ pub(crate) struct Reporter<'l, 'n> {
 }
 
 impl Reporter<'_, '_> {
-    /// Reports on a dump, and tells whether all that was wanted could be read. Want of memory is said, and ends nothing.
+    /// Reports on a dump, and tells whether all that was wanted could be read. Running out of
+    /// memory is a line, and ends nothing.
     pub(crate) fn report(&self, path: &str) -> io::Result<bool> {
         match self.report_file(path) {
             Err(error) if error.kind() == io::ErrorKind::OutOfMemory => {
                 self.complain_of_memory(path, &error)?;
                 Ok(false)
             }
-            reported => reported,
+            result => result,
         }
     }
 
@@ -47,7 +48,7 @@ impl Reporter<'_, '_> {
             Err(error) if error.kind() == io::ErrorKind::OutOfMemory => {
                 eprint!(self.rt; "whocrashed: Out of memory\n")
             }
-            complained => complained,
+            result => result,
         }
     }
 
@@ -76,9 +77,9 @@ impl Reporter<'_, '_> {
         if !self.is_one {
             page.line(&[Piece::Words("dump    "), Piece::Words(path)])?;
         }
-        let added = add_dump(&mut page, bytes, self.names, &self.limits);
+        let result = add_dump(&mut page, bytes, self.names, &self.limits);
         print!(self.rt; "{}", page.text())?;
-        match added {
+        match result {
             Ok(()) => Ok(!page.is_damaged()),
             Err(error) => self.complain_of_dump(path, error),
         }
@@ -92,7 +93,7 @@ impl Reporter<'_, '_> {
                 Ok(true)
             }
             Err(error) => {
-                self.print_line(refused_json(self.rt.alloc(), path, error.name()))?;
+                self.print_line(error_json(self.rt.alloc(), path, error.name()))?;
                 Ok(false)
             }
         }
@@ -119,9 +120,10 @@ impl Reporter<'_, '_> {
         crash_json(self.rt.alloc(), path, bytes, self.names, &limits)
     }
 
-    // Prints a line of JSON with its end in one write, or a line that takes no memory where there was none for that.
+    // Prints a line of JSON with its end in one write, or a line that takes no memory where there
+    // was none for that.
     fn print_line(&self, line: Result<Vec<u8>, Error>) -> io::Result<()> {
-        match line.and_then(ended) {
+        match line.and_then(end_line) {
             Ok(line) => self.rt.write_all(&line),
             Err(_) => self.rt.write_all(NO_MEMORY.as_bytes()),
         }
@@ -137,14 +139,14 @@ impl Reporter<'_, '_> {
 // Makes the line of JSON of a file that can't be read. The only error is `OutOfMemory`.
 fn unread_json(alloc: Global, path: &str, error: &io::Error) -> Result<Vec<u8>, Error> {
     if error.kind() == io::ErrorKind::OutOfMemory {
-        return refused_json(alloc, path, Error::OutOfMemory.name());
+        return error_json(alloc, path, Error::OutOfMemory.name());
     }
     let reason = format!(in alloc; "{error}")?;
-    refused_json(alloc, path, reason.as_str())
+    error_json(alloc, path, reason.as_str())
 }
 
 // Ends a line.
-fn ended(mut line: Vec<u8>) -> Result<Vec<u8>, Error> {
+fn end_line(mut line: Vec<u8>) -> Result<Vec<u8>, Error> {
     line.push(b'\n').map_err(AllocError::from)?;
     Ok(line)
 }

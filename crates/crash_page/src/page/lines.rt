@@ -3,12 +3,13 @@ ghost use Rattle.std.specs.List.{flat_map};
 ghost use Rattle.minidump.specs.Below.Bytes.Piece.{piece_text};
 ghost use Rattle.crash_page.specs.Escape.{line_of};
 ghost use Rattle.crash_page.specs.Page.{Adds, has_damage, marks_of, text_of};
-ghost use Rattle.crash_page.specs.Part.{absent, absent_stream, damage_line, is_missing, line, mark, outside, unread, unread_stream};
+ghost use Rattle.crash_page.specs.Part.{absent, absent_stream, damage_line, is_missing, line, mark};
+ghost use Rattle.crash_page.specs.Part.{outside, unless_missing, stream_unless_missing};
 
 use super::Page;
 use crate::escape::push_escaped;
 use minidump::Error;
-use minidump::text::{Piece, made};
+use minidump::text::{Piece, format_pieces};
 use std::alloc::{AllocError, Global};
 
 impl Page {
@@ -79,11 +80,12 @@ impl Page {
 
     // Adds the text of the pieces, and its end.
     fn put(&mut self, pieces: &[Piece<'_>]) -> Result<(), AllocError>
-        ensures text { OnOk result (text_of self.new ≡ text_of self.old ++ line_of (flat_map piece_text pieces.now)) }
+        ensures text { OnOk result (text_of self.new ≡ text_of self.old ++ line_of
+            (flat_map piece_text pieces.now)) }
         ensures same { has_damage self.new ≡ has_damage self.old }
         ensures marks { marks_of self.new ≡ marks_of self.old }
     {
-        let words = made(self.alloc, pieces)?;
+        let words = format_pieces(self.alloc, pieces)?;
         self.words(words.as_str())
     }
 
@@ -136,22 +138,22 @@ impl Page {
     }
 
     /// Adds the line of a stream that can't be read, and none for one that is missing or was read.
-    pub fn unread_stream<T>(
+    pub fn stream_unless_missing<T>(
         &mut self,
         name: &str,
         stream: &Result<T, Error>,
     ) -> Result<(), AllocError>
-        ensures { Adds self.old self.new (unread_stream name.now stream.now) result }
+        ensures { Adds self.old self.new (stream_unless_missing name.now stream.now) result }
     {
         match stream {
             Ok(_) => Ok(()),
-            Err(error) => self.unread(name, *error),
+            Err(error) => self.unless_missing(name, *error),
         }
     }
 
     /// Adds the line of a stream that can't be read, and none for one that is missing.
-    pub fn unread(&mut self, name: &str, error: Error) -> Result<(), AllocError>
-        ensures { Adds self.old self.new (unread name.now error) result }
+    pub fn unless_missing(&mut self, name: &str, error: Error) -> Result<(), AllocError>
+        ensures { Adds self.old self.new (unless_missing name.now error) result }
     {
         if is_missing(error) {
             return Ok(());

@@ -6,7 +6,7 @@ ghost use Rattle.minidump_format.specs.Text.{line_end};
 ghost use Rattle.minidump_system.specs.SystemInfo.{system_info_of};
 ghost use Rattle.minidump_memory.specs.Unified.{unified_list, unified_region};
 ghost use Rattle.minidump.specs.Thread.{known_context, thread_of};
-ghost use Rattle.minidump.specs.ThreadText.{listed_stack, no_stack, no_thread_context, pointer_width, stack_heading, stack_of, stack_text, thread_context_text, thread_end, thread_head, thread_head_of, thread_text, words_text};
+ghost use Rattle.minidump.specs.ThreadText.{stack_in_list, no_stack, no_thread_context, pointer_width, stack_heading, stack_of, stack_text, thread_context_text, thread_end, thread_head, thread_head_of, thread_text, stack_words_text};
 
 use super::stack::print_words;
 use super::{MinidumpThread, known_context};
@@ -20,9 +20,10 @@ use std::alloc::{AllocError, Global};
 use std::io::Write;
 
 impl<'a> MinidumpThread<'a> {
-    /// Prints the entry, the context as far as `system` decodes it, and unless `brief` is set the whole words of the
-    /// stack: the thread's own, else that of [`stack_memory`](MinidumpThread::stack_memory). A word has the size of a
-    /// pointer on the processor of `system`, and 8 bytes if that is unknown.
+    /// Prints the entry, the context, if `system` has an architecture by which it can be decoded,
+    /// and unless `brief` is set the whole words of the stack: the thread's own, else that of
+    /// [`stack_memory`](MinidumpThread::stack_memory). A word has the size of a pointer on the
+    /// processor of `system`, and 8 bytes if that is unknown.
     pub fn print<W: Write>(
         &self,
         alloc: Global,
@@ -32,8 +33,10 @@ impl<'a> MinidumpThread<'a> {
         misc: Option<&MinidumpMiscInfo>,
         brief: bool,
     ) -> Result<(), Error>
-        ensures { Prints W.contents f.old f.new (thread_text (option_map unified_list (option_copied memory.entry))
-            (option_map system_info_of (option_copied system.entry)) brief (thread_of self.now)) result }
+        ensures { Prints W.contents f.old f.new
+            (thread_text (option_map unified_list (option_copied memory.entry))
+            (option_map system_info_of (option_copied system.entry)) brief
+            (thread_of self.now)) result }
     {
         self.print_after(&self.head(system, misc), alloc, f, memory, system, brief)
     }
@@ -49,8 +52,11 @@ impl<'a> MinidumpThread<'a> {
         misc: Option<&MinidumpMiscInfo>,
         brief: bool,
     ) -> Result<(), Error>
-        ensures { Prints W.contents f.old f.new (numbered_item (codes "thread") (thread_text (option_map unified_list (option_copied memory.entry))
-            (option_map system_info_of (option_copied system.entry)) brief) (index, thread_of self.now)) result }
+        ensures { Prints W.contents f.old f.new
+            (numbered_item (codes "thread")
+            (thread_text (option_map unified_list (option_copied memory.entry))
+            (option_map system_info_of (option_copied system.entry)) brief)
+            (index, thread_of self.now)) result }
     {
         let head = Numbered {
             name: "thread",
@@ -60,14 +66,17 @@ impl<'a> MinidumpThread<'a> {
         self.print_after(&head, alloc, f, memory, system, brief)
     }
 
-    // Returns what is printed first: the entry, and the context as far as `system` decodes it.
+    // Returns the entry, and the context, if `system` has an architecture by which it can be
+    // decoded.
     pub(crate) fn head(
         &self,
         system: Option<&MinidumpSystemInfo>,
         misc: Option<&MinidumpMiscInfo>,
     ) -> ThreadHead<'_>
-        ensures { thread_head_of result ≡ thread_head (thread_of self.now).raw ++ thread_context_text
-            (known_context (option_map system_info_of (option_copied system.entry)) (thread_of self.now).order (thread_of self.now).context) }
+        ensures { thread_head_of result ≡ thread_head (thread_of self.now).raw
+            ++ thread_context_text
+            (known_context (option_map system_info_of (option_copied system.entry))
+            (thread_of self.now).order (thread_of self.now).context) }
     {
         ThreadHead {
             raw: &self.raw,
@@ -75,7 +84,7 @@ impl<'a> MinidumpThread<'a> {
         }
     }
 
-    // Prints what comes first, and then an empty line where the text is brief, else the stack.
+    // Prints the head, and then the stack, or an empty line if `brief` is set.
     #[tactic(auto, using(minidump_format::proofs::Printing::prints_then, minidump_format::proofs::Printing::prints_exit))]
     pub(crate) fn print_after<H: Pushed, W: Write>(
         &self,
@@ -86,9 +95,11 @@ impl<'a> MinidumpThread<'a> {
         system: Option<&MinidumpSystemInfo>,
         brief: bool,
     ) -> Result<(), Error>
-        ensures { Prints W.contents f.old f.new (H.text head.now ++ thread_end brief (thread_of self.now).order
+        ensures { Prints W.contents f.old f.new
+            (H.text head.now ++ thread_end brief (thread_of self.now).order
             (pointer_width (option_map system_info_of (option_copied system.entry)))
-            (stack_of (option_map unified_list (option_copied memory.entry)) (thread_of self.now))) result }
+            (stack_of (option_map unified_list (option_copied memory.entry))
+            (thread_of self.now))) result }
     {
         print_item(head, alloc, f)?;
         let width = pointer_width(system);
@@ -106,18 +117,18 @@ impl<'a> MinidumpThread<'a> {
     {
         match &self.stack {
             Some(stack) => Some(UnifiedMemory::Memory(stack)),
-            None => listed_stack(memory, self.raw.stack.start_of_memory_range),
+            None => stack_in_list(memory, self.raw.stack.start_of_memory_range),
         }
     }
 }
 
-// Returns the region of a list of memory that an address lies in.
-fn listed_stack<'mem, 'a>(
+// Returns the kept region of a list of memory that contains an address.
+fn stack_in_list<'mem, 'a>(
     memory: Option<&'mem UnifiedMemoryList<'a>>,
     address: u64,
 ) -> Option<UnifiedMemory<'mem, 'a>>
     ensures { option_map unified_region result
-        ≡ listed_stack (option_map unified_list (option_copied memory.entry)) address }
+        ≡ stack_in_list (option_map unified_list (option_copied memory.entry)) address }
 {
     match memory {
         Some(list) => list.memory_at_address(address),
@@ -125,7 +136,7 @@ fn listed_stack<'mem, 'a>(
     }
 }
 
-// Returns the width of a pointer on the machine of a dump.
+// Returns the width of a pointer on the processor of `system`.
 fn pointer_width(system: Option<&MinidumpSystemInfo>) -> PointerWidth
     ensures { result ≡ pointer_width (option_map system_info_of (option_copied system.entry)) }
 {
@@ -231,7 +242,7 @@ fn print_found_stack<W: Write>(
     f: &mut Told<W>,
 ) -> Result<(), Error>
     ensures { Prints W.contents f.old f.new
-        (stack_heading ++ (words_text endian width bytes.now ++ line_end)) result }
+        (stack_heading ++ (stack_words_text endian width bytes.now ++ line_end)) result }
 {
     print_stack_heading(f)?;
     print_stack_lines(bytes, endian, width, alloc, f)
@@ -245,7 +256,8 @@ fn print_stack_lines<W: Write>(
     alloc: Global,
     f: &mut Told<W>,
 ) -> Result<(), Error>
-    ensures { Prints W.contents f.old f.new (words_text endian width bytes.now ++ line_end) result }
+    ensures { Prints W.contents f.old f.new
+        (stack_words_text endian width bytes.now ++ line_end) result }
 {
     print_words(bytes, endian, width, alloc, f)?;
     print_line_end(f)

@@ -1,7 +1,7 @@
 ghost use Rattle.std.specs.Prelude.{◌≡◌, ◌≤◌, ◌++◌, OnOk, codes};
 ghost use Rattle.minidump_bytes.specs.FixedHex.{fixed_hex};
 ghost use Rattle.minidump_format.specs.Print.{Prints};
-ghost use Rattle.minidump.specs.ThreadText.{word_line, words_of, words_text};
+ghost use Rattle.minidump.specs.ThreadText.{word_line, word_lines, stack_words_text};
 
 use minidump_bytes::{Endian, Piece, Told, last_digit, push_pieces};
 use minidump_format::{Error, Pushed, print_all};
@@ -9,8 +9,9 @@ use minidump_system::PointerWidth;
 use std::alloc::{AllocError, Global};
 use std::io::Write;
 
-// Prints the whole words of a stack, one a line. A word has 8 bytes if the width of a pointer is unknown.
-#[tactic(auto, unfolding(crate::specs::ThreadText::words_text))]
+// Prints the whole words of a stack, one a line. A word has 8 bytes if the width of a pointer is
+// unknown.
+#[tactic(auto, unfolding(crate::specs::ThreadText::stack_words_text))]
 pub(crate) fn print_words<W: Write>(
     bytes: &[u8],
     endian: Endian,
@@ -18,7 +19,7 @@ pub(crate) fn print_words<W: Write>(
     alloc: Global,
     f: &mut Told<W>,
 ) -> Result<(), Error>
-    ensures { Prints W.contents f.old f.new (words_text endian width bytes.now) result }
+    ensures { Prints W.contents f.old f.new (stack_words_text endian width bytes.now) result }
 {
     match width {
         PointerWidth::Bits32 => print_words_32(bytes, endian, alloc, f),
@@ -32,7 +33,7 @@ fn print_words_32<W: Write>(
     alloc: Global,
     f: &mut Told<W>,
 ) -> Result<(), Error>
-    ensures { Prints W.contents f.old f.new (words_of endian 4 bytes.now) result }
+    ensures { Prints W.contents f.old f.new (word_lines endian 4 bytes.now) result }
 {
     let words = (0..bytes.len() / 4).map(|index| Word32 {
         offset: 4 * index,
@@ -47,7 +48,7 @@ fn print_words_64<W: Write>(
     alloc: Global,
     f: &mut Told<W>,
 ) -> Result<(), Error>
-    ensures { Prints W.contents f.old f.new (words_of endian 8 bytes.now) result }
+    ensures { Prints W.contents f.old f.new (word_lines endian 8 bytes.now) result }
 {
     let words = (0..bytes.len() / 8).map(|index| Word64 {
         offset: 8 * index,

@@ -1,7 +1,7 @@
 use minidump_bytes::{LinuxOsStr, LinuxOsString};
 use std::alloc::{AllocError, Global};
 
-// What stands before and behind the first separator, or the last.
+// What stands before and after the first separator, or the last.
 type Halves = Option<(&'static [u8], &'static [u8])>;
 
 // A separator in `b" a b=c=d"`, the halves around the first one, and around the last.
@@ -13,8 +13,8 @@ const CUTS: &[(u8, Halves, Halves)] = &[
 
 fn halves_are(found: Option<(LinuxOsStr<'_>, LinuxOsStr<'_>)>, want: Halves) -> bool {
     match (found, want) {
-        (Some((front, back)), Some((before, behind))) => {
-            front.as_bytes() == before && back.as_bytes() == behind
+        (Some((front, back)), Some((before, after))) => {
+            front.as_bytes() == before && back.as_bytes() == after
         }
         (None, None) => true,
         _ => false,
@@ -42,7 +42,7 @@ fn trimmed_is(row: &(&[u8], &[u8])) -> bool {
         == row.1
 }
 
-// An end of `b"[heap]"`, what is left without it in front, and without it behind.
+// An end of `b"[heap]"`, what is left without it in front, and without it at the end.
 #[rattlefmt::skip]
 const STRIPPED: &[(&[u8], Option<&[u8]>, Option<&[u8]>)] = &[
     (b"[", Some(b"heap]"), None),
@@ -71,7 +71,7 @@ enum By {
     Parts,
 }
 
-// A text, and each of its parts with `|` behind it.
+// A text, and each of its parts with `|` after it.
 #[rattlefmt::skip]
 const PARTS: &[(By, &[u8], &[u8])] = &[
     (By::Lines, b"A=1\0B=2\0", b"A=1|B=2|"),
@@ -125,8 +125,8 @@ fn goes_through_lines_words_and_parts(rt: HostRuntime) {
     }
 }
 
-// Bytes, the text if they are UTF-8, and the text with marks in it. A sequence of four bytes that ends after
-// three is one mark, and bytes that begin none are one each.
+// Bytes, the text if they are UTF-8, and the text with marks in it. A sequence of four bytes that
+// ends after three is one mark, and bytes that begin none are one each.
 #[rattlefmt::skip]
 const SHOWN: &[(&[u8], Option<&str>, &str)] = &[
     (b"a\xc3\xa9", Some("a\u{e9}"), "a\u{e9}"),

@@ -1,7 +1,7 @@
-use minidump_bytes::{Endian, Piece, Source, Steps, made, text_before_nul};
+use minidump_bytes::{Endian, Piece, Source, Steps, format_pieces, text_before_nul};
 use std::alloc::{AllocError, Global};
 
-// Bytes, a place, the byte order, and the text there.
+// Bytes, an offset, the byte order, and the text there.
 #[rattlefmt::skip]
 const TEXTS_16: &[(&[u8], u64, Endian, Option<&str>)] = &[
     (&[2, 0, 0, 0, 0x00, 0xd8], 0, Endian::Little, None),
@@ -20,8 +20,8 @@ const TEXTS_16: &[(&[u8], u64, Endian, Option<&str>)] = &[
 ];
 
 fn text16_is(alloc: Global, row: &(&[u8], u64, Endian, Option<&str>)) -> Result<bool, AllocError> {
-    let (bytes, place, endian, text) = *row;
-    let read = Source::new(bytes).text16(alloc, place, endian, &mut Steps::new())?;
+    let (bytes, offset, endian, text) = *row;
+    let read = Source::new(bytes).text16(alloc, offset, endian, &mut Steps::new())?;
     Ok(read.as_deref() == text)
 }
 
@@ -54,7 +54,7 @@ fn ends_texts_at_a_nul(rt: HostRuntime) {
     }
 }
 
-// Bytes, a place, the byte order, the text there, and the one that has to have a NUL behind it.
+// Bytes, an offset, the byte order, the text there, and the one that has to have a NUL after it.
 #[rattlefmt::skip]
 const TEXTS_8: &[(&[u8], u64, Endian, Option<&str>, Option<&str>)] = &[
     (&[9, 4, 0, 0, 0, b'k', 0xc3, 0xa9, b'!'], 1, Endian::Little, Some("k\u{e9}!"), None),
@@ -70,10 +70,10 @@ const TEXTS_8: &[(&[u8], u64, Endian, Option<&str>, Option<&str>)] = &[
 ];
 
 fn text8_is(row: &(&[u8], u64, Endian, Option<&str>, Option<&str>)) -> bool {
-    let (bytes, place, endian, text, text_nul) = *row;
+    let (bytes, offset, endian, text, text_nul) = *row;
     let source = Source::new(bytes);
-    source.text8(place, endian, &mut Steps::new()) == text
-        && source.text8_nul(place, endian, &mut Steps::new()) == text_nul
+    source.text8(offset, endian, &mut Steps::new()) == text
+        && source.text8_nul(offset, endian, &mut Steps::new()) == text_nul
 }
 
 #[test]
@@ -83,7 +83,7 @@ fn reads_texts_of_utf8(rt: HostRuntime) {
     }
 }
 
-// A place in `b"ab\0\0c\xff\0d"`, and the text from there up to a NUL.
+// An offset in `b"ab\0\0c\xff\0d"`, and the text from there up to a NUL.
 #[rattlefmt::skip]
 const STRINGS: &[(u64, Option<&str>)] = &[
     (0, Some("ab")), (2, Some("")), (3, Some("")), (4, None), (7, None), (8, None), (9, None), (u64::MAX, None),
@@ -93,7 +93,7 @@ fn cstring_is(row: &(u64, Option<&str>)) -> bool {
     Source::new(b"ab\0\0c\xff\0d").cstring(row.0, &mut Steps::new()) == row.1
 }
 
-// A place in `b"a\r\n\nb\0c"`, and the line from there.
+// An offset in `b"a\r\n\nb\0c"`, and the line from there.
 #[rattlefmt::skip]
 const LINES: &[(u64, Option<&[u8]>)] = &[
     (0, Some(b"a\r")), (1, Some(b"\r")), (3, Some(b"")), (4, Some(b"b\0c")), (7, None), (u64::MAX, None),
@@ -111,7 +111,7 @@ fn reads_strings_and_lines(rt: HostRuntime) {
 
 // One text of every kind of piece that pads.
 fn padded(alloc: Global) -> Result<String, AllocError> {
-    made(
+    format_pieces(
         alloc,
         &[
             Piece::Wide(0xc000_0005, 8),

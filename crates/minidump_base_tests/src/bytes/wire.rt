@@ -1,9 +1,9 @@
 use minidump_bytes::{Source, Steps, WireField, WireValue};
 
-// A field, a number or bytes, with its number and the place behind it.
+// A field, a number or bytes, with its number and the offset after it.
 type Found = Option<(u32, Result<u64, &'static [u8]>, u64)>;
 
-// Bytes, a place, and the field there. A number is `Ok`, and bytes are `Err`.
+// Bytes, an offset, and the field there. A number is `Ok`, and bytes are `Err`.
 #[rattlefmt::skip]
 const FIELDS: &[(&[u8], u64, Found)] = &[
     // The tenth byte of a number has one bit.
@@ -51,13 +51,13 @@ fn value_is(value: WireValue<'_>, want: Result<u64, &[u8]>) -> bool {
 }
 
 fn field_is(row: &(&[u8], u64, Found)) -> bool {
-    let (bytes, place, want) = *row;
+    let (bytes, offset, want) = *row;
     match (
-        Source::new(bytes).wire_field(place, &mut Steps::new()),
+        Source::new(bytes).wire_field(offset, &mut Steps::new()),
         want,
     ) {
-        (Some((WireField { number, value }, next)), Some((of, wanted, behind))) => {
-            number == of && value_is(value, wanted) && next == behind
+        (Some((WireField { number, value }, next)), Some((of, wanted, after))) => {
+            number == of && value_is(value, wanted) && next == after
         }
         (None, None) => true,
         _ => false,

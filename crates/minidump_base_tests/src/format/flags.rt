@@ -1,5 +1,5 @@
-// Each flag with its bit, and all bits that have a name: those of minidumpapiset.h, winnt.h, Linux's
-// asm/hwcap.h and Breakpad's headers.
+// Each flag with its bit, and all bits that have a name: those of minidumpapiset.h, winnt.h,
+// Linux's asm/hwcap.h and Breakpad's headers.
 use bitflags::Flags;
 use minidump_format::format::{
     ArmElfHwCaps, BreakpadInfoValid, ContextFlagsCpu, MemoryProtection, MemoryState, MemoryType,

@@ -16,16 +16,16 @@ impl Pushed for Line {
     }
 }
 
-// Whether three items, printed twice to a device whose calls fail from a number on, leave that text and make
-// that many calls: the first print succeeds or not, and the second is refused.
-fn prints(alloc: Global, at: usize, text: &str, made: usize, first: Result<(), Error>) -> bool {
+// Whether three items, printed twice to a device whose calls fail from a number on, leave that text
+// and make that many calls: the first print succeeds or not, and the second fails.
+fn prints(alloc: Global, at: usize, text: &str, count: usize, first: Result<(), Error>) -> bool {
     let mut f = Told::new(FailsAt::new(Vec::new(alloc), at));
     let printed = [
         print_all([Line, Line, Line].iter(), alloc, &mut f),
         print_all([Line, Line, Line].iter(), alloc, &mut f),
     ];
     let FailsAt { inner, calls, .. } = f.into_device();
-    printed == [first, Err(Error::IoError)] && inner.as_slice() == text.as_bytes() && calls == made
+    printed == [first, Err(Error::IoError)] && inner.as_slice() == text.as_bytes() && calls == count
 }
 
 #[test]

@@ -1,15 +1,15 @@
 // The devices, and the readers and writers of `minidump_bytes` over them.
-use minidump_bytes::{Refused, Told, write_bytes};
+use minidump_bytes::{DeviceFailed, Told, write_bytes};
 use minidump_synth::{FailsAt, Full, OneByte, TakesNone};
 use std::alloc::Global;
 use std::io::ErrorKind;
 
-// Whether a writer of one byte a call whose calls fail from a number on takes that many of five bytes. From a
-// failure on it is not called again, not by a write of nothing either.
+// Whether a writer of one byte a call whose calls fail from a number on takes that many of five
+// bytes. From a failure on it is not called again, not by a write of nothing either.
 fn takes_up_to(alloc: Global, at: usize) -> bool {
     let text = b"abcde";
     let mut f = Told::new(FailsAt::new(OneByte::new(Vec::new(alloc)), at));
-    let wants = if at < 5 { Err(Refused) } else { Ok(()) };
+    let wants = if at < 5 { Err(DeviceFailed) } else { Ok(()) };
     let answers = [f.put(b""), f.put(text), f.put(b"")];
     let digits = write_bytes(&mut f, b"");
     let device = f.into_device();
@@ -25,8 +25,8 @@ fn writes_up_to_a_failure(rt: HostRuntime) {
     assert!(rt; (0..7).all(|at| takes_up_to(alloc, at)));
 }
 
-// Whether a reader of one byte a call whose calls fail from a number on gives that many bytes, and is not called
-// again.
+// Whether a reader of one byte a call whose calls fail from a number on gives that many bytes, and
+// is not called again.
 fn gives_up_to(at: usize) -> bool {
     let mut f = Told::new(FailsAt::new(OneByte::new(&b"abcde"[..]), at));
     let mut buf = [0; 4];
@@ -35,7 +35,7 @@ fn gives_up_to(at: usize) -> bool {
     let failed = f.failed();
     let device = f.into_device();
     gives
-        && answers == [Err(Refused); 3]
+        && answers == [Err(DeviceFailed); 3]
         && failed
         && device.calls == at.saturating_add(1)
         && b"abcde".get(at..) == Some(device.inner.inner)
@@ -58,12 +58,14 @@ fn nothing_taken_is_a_failure(alloc: Global) -> bool {
     let mut f = Told::new(TakesNone::new(OneByte::new(Vec::new(alloc)), 2));
     let answer = f.put(b"abcde");
     let device = f.into_device();
-    answer == Err(Refused) && device.calls == 3 && device.inner.inner.as_slice() == b"ab".as_slice()
+    answer == Err(DeviceFailed)
+        && device.calls == 3
+        && device.inner.inner.as_slice() == b"ab".as_slice()
 }
 
 fn a_full_device_takes_nothing() -> bool {
     let mut f = Told::new(Full::new());
-    f.put(b"abcde") == Err(Refused) && f.into_device().calls == 1
+    f.put(b"abcde") == Err(DeviceFailed) && f.into_device().calls == 1
 }
 
 fn bytes_are_two_digits_each(alloc: Global) -> bool {
@@ -125,7 +127,8 @@ const KINDS: &[ErrorKind] = &[
     ErrorKind::Uncategorized,
 ];
 
-// Whether a writer and a reader whose second call fails with an error of the kind are not called again.
+// Whether a writer and a reader whose second call fails with an error of the kind are not called
+// again.
 fn fails_for_good(alloc: Global, kind: ErrorKind) -> bool {
     let mut f = Told::new(FailsAt::with_kind(OneByte::new(Vec::new(alloc)), 1, kind));
     let puts = [f.put(b"ab"), f.put(b"c"), f.put(b"")];
@@ -134,10 +137,10 @@ fn fails_for_good(alloc: Global, kind: ErrorKind) -> bool {
     let mut buf = [0; 4];
     let takes = [f.take(&mut buf), f.take(&mut buf), f.take(&mut buf)];
     let reader = f.into_device();
-    puts == [Err(Refused); 3]
+    puts == [Err(DeviceFailed); 3]
         && writer.calls == 2
         && writer.inner.inner.as_slice() == b"a".as_slice()
-        && takes == [Ok(1), Err(Refused), Err(Refused)]
+        && takes == [Ok(1), Err(DeviceFailed), Err(DeviceFailed)]
         && reader.calls == 2
         && reader.inner.inner == b"b".as_slice()
 }

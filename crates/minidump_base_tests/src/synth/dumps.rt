@@ -39,7 +39,7 @@ fn forged_header_is_written(alloc: Global) -> Result<bool, AllocError> {
 }
 
 // A text, a record, a located record, a list, and two entries of the directory.
-const PLACED: &[u8] = &[
+const ADDED: &[u8] = &[
     4, 0, 0, 0, 0x61, 0, 0x62, 0, //
     0x63, 0, 0xcc, //
     0xd0, 0xd1, //
@@ -48,7 +48,7 @@ const PLACED: &[u8] = &[
     8, 0, 0, 0, 2, 0, 0, 0, 0x2b, 0, 0, 0,
 ];
 
-fn what_is_added_is_placed(alloc: Global) -> Result<bool, AllocError> {
+fn what_is_added_is_in_order(alloc: Global) -> Result<bool, AllocError> {
     let mut dump = SynthMinidump::new(alloc, Endian::Little);
     let text = dump.add_text16("ab");
     let record = dump.add(dump.section().cstring("c").u8(0xcc));
@@ -61,7 +61,7 @@ fn what_is_added_is_placed(alloc: Global) -> Result<bool, AllocError> {
     Ok(
         [text, record, location.rva, next, location.data_size] == [0x20, 0x28, 0x2b, 0x2d, 2]
             && bytes.get(8..16) == Some(&[2, 0, 0, 0, 0x35, 0, 0, 0])
-            && bytes.get(32..) == Some(PLACED),
+            && bytes.get(32..) == Some(ADDED),
     )
 }
 
@@ -72,7 +72,7 @@ fn writes_dumps(rt: HostRuntime) {
         one_stream_is(alloc, Endian::Little, ONE),
         one_stream_is(alloc, Endian::Big, ONE_BIG),
         forged_header_is_written(alloc),
-        what_is_added_is_placed(alloc),
+        what_is_added_is_in_order(alloc),
     ];
     assert!(rt; found == [Ok(true); 4]);
 }
@@ -107,7 +107,7 @@ fn list_is(alloc: Global, endian: Endian, bytes: &[u8]) -> Result<bool, AllocErr
     Ok(dump.finish()?.get(32..) == Some(bytes))
 }
 
-// The same regions behind one another with a list of 64 bits, and its entry in the directory.
+// The same regions one after another with a list of 64 bits, and its entry in the directory.
 const LIST64: &[u8] = &[
     0xaa, 0xab, 0xba, 0xbb, 0xbc, //
     2, 0, 0, 0, 0, 0, 0, 0, 0x20, 0, 0, 0, 0, 0, 0, 0, //

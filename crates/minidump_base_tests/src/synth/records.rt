@@ -1,6 +1,6 @@
-// Each record is read of the bytes 0, 1, 2, .. in both byte orders: each field has the number of the bytes at its
-// place in the format's table, and what was read is written as these bytes. Of a record within a record the first
-// field shows the place: the rest is the table of the inner one.
+// Each record is read of the bytes 0, 1, 2, .. in both byte orders: each field has the number of
+// the bytes at its offset in the format's table, and what was read is written as these bytes. Of a
+// record within a record the first field shows the offset: the rest is the table of the inner one.
 mod contexts;
 mod extensions;
 mod process;
@@ -11,14 +11,14 @@ use minidump_format::format::MINIDUMP_SYSTEM_INFO;
 use minidump_synth::{Encode, Section, zeroed};
 use std::alloc::{AllocError, Global};
 
-// A record whose fields are known to stand at places.
+// A record whose fields are known to stand at offsets.
 trait Fields {
     // Whether each field has the number of its bytes, which are 0, 1, 2, ..
     fn stand(&self, endian: Endian) -> bool;
 }
 
 // The bytes 0, 1, 2, .. 250, 0, 1, .. so that each field of a record has a value of its own.
-fn counted(alloc: Global, size: usize) -> Result<Vec<u8>, AllocError> {
+fn count_up(alloc: Global, size: usize) -> Result<Vec<u8>, AllocError> {
     let mut bytes = Vec::new(alloc);
     for i in 0..size {
         bytes.push((i % 251) as u8)?;
@@ -26,27 +26,28 @@ fn counted(alloc: Global, size: usize) -> Result<Vec<u8>, AllocError> {
     Ok(bytes)
 }
 
-// The number in so many of these bytes from a place on.
-fn number(endian: Endian, place: u16, width: u16) -> u128 {
+// The number in so many of these bytes from an offset on.
+fn number(endian: Endian, offset: u16, width: u16) -> u128 {
     let mut number = 0;
     for i in 0..width {
         let k = match endian {
             Endian::Little => width - 1 - i,
             Endian::Big => i,
         };
-        number = (number << 8) | ((place as u128 + k as u128) % 251);
+        number = (number << 8) | ((offset as u128 + k as u128) % 251);
     }
     number
 }
 
-// Whether the values are the numbers of a width in bytes that stand one after another from a place on.
-fn follow<T: Copy + Into<u128>>(endian: Endian, place: u16, width: u16, values: &[T]) -> bool {
-    let mut place = place;
+// Whether the values are the numbers of a width in bytes that stand one after another from an
+// offset on.
+fn follow<T: Copy + Into<u128>>(endian: Endian, offset: u16, width: u16, values: &[T]) -> bool {
+    let mut offset = offset;
     for value in values {
-        if (*value).into() != number(endian, place, width) {
+        if (*value).into() != number(endian, offset, width) {
             return false;
         }
-        place = place.wrapping_add(width);
+        offset = offset.wrapping_add(width);
     }
     true
 }
@@ -55,7 +56,7 @@ fn is_kept<R: Record + Encode + Fields + Drop>(
     alloc: Global,
     endian: Endian,
 ) -> Result<bool, AllocError> {
-    let bytes = counted(alloc, R::SIZE)?;
+    let bytes = count_up(alloc, R::SIZE)?;
     if bytes.len() != R::SIZE {
         return Ok(false);
     }
@@ -64,7 +65,7 @@ fn is_kept<R: Record + Encode + Fields + Drop>(
     Ok(record.stand(endian) && written.as_slice() == bytes.as_slice())
 }
 
-// Whether the fields stand at their places and are written back there, in both byte orders.
+// Whether the fields stand at their offsets and are written back there, in both byte orders.
 fn is_exact<R: Record + Encode + Fields + Drop>(alloc: Global) -> bool {
     is_kept::<R>(alloc, Endian::Little) == Ok(true) && is_kept::<R>(alloc, Endian::Big) == Ok(true)
 }

@@ -52,7 +52,7 @@ fn writes_numbers(rt: HostRuntime) {
     assert!(rt; found == [Ok(true); 4]);
 }
 
-// The text behind its length, and its units alone.
+// The text after its length, and its units alone.
 fn text_is(alloc: Global, endian: Endian, bytes: &[u8]) -> Result<bool, AllocError> {
     let mut text = Section::new(alloc, endian);
     text.text16("a\u{1F600}");

@@ -12,7 +12,7 @@ fn are_numbers(entries: Entries<'_, u32>, numbers: &[u32]) -> bool {
             == Some(*n))
 }
 
-// A plain list of numbers, and the numbers. Behind the count may stand four bytes that align them.
+// A plain list of numbers, and the numbers. Four bytes that align them may follow the count.
 #[rattlefmt::skip]
 const PLAIN: &[(&[u8], Endian, &[u32])] = &[
     (&[0, 0, 0, 0], Endian::Little, &[]),
@@ -30,7 +30,7 @@ fn plain_is(row: &(&[u8], Endian, &[u32])) -> bool {
     }
 }
 
-// A plain list that is refused, and its error. The count alone is read.
+// A malformed plain list, and its error. The count alone is read.
 #[rattlefmt::skip]
 const NOT_PLAIN: &[(&[u8], Error)] = &[
     (&[], Error::StreamReadFailure),
@@ -43,7 +43,7 @@ const NOT_PLAIN: &[(&[u8], Error)] = &[
     (&[255, 255, 255, 255, 0, 0, 0, 0], Error::StreamSizeMismatch { expected: 17_179_869_184, actual: 8 }),
 ];
 
-fn plain_is_refused(row: &(&[u8], Error)) -> bool {
+fn plain_is_an_error(row: &(&[u8], Error)) -> bool {
     let mut steps = Steps::new();
     let list = plain_entries::<u32>(Source::new(row.0), Endian::Little, &mut steps);
     list.err() == Some(row.1) && steps.count() == 1
@@ -51,7 +51,7 @@ fn plain_is_refused(row: &(&[u8], Error)) -> bool {
 
 #[test]
 fn the_length_says_where_a_plain_list_begins(rt: HostRuntime) {
-    assert!(rt; PLAIN.iter().all(plain_is) && NOT_PLAIN.iter().all(plain_is_refused));
+    assert!(rt; PLAIN.iter().all(plain_is) && NOT_PLAIN.iter().all(plain_is_an_error));
 }
 
 // A 64-bit list, its RVA and its numbers.
@@ -69,8 +69,9 @@ fn list_64_is(row: &(&[u8], Endian, &[u32])) -> bool {
     }
 }
 
-// A 64-bit list that is refused, its error and how many reads it takes: the count and the RVA. The last two have
-// counts of 2^62 - 4 and of 2^62 - 5: 4 * (2^62 - 4) + 16 is 2^64, no length of a stream.
+// A malformed 64-bit list, its error and how many reads it takes: the count and the RVA.
+// The last two have counts of 2^62 - 4 and of 2^62 - 5: 4 * (2^62 - 4) + 16 is 2^64, no length of a
+// stream.
 #[rattlefmt::skip]
 const NOT_64: &[(&[u8], Error, u128)] = &[
     (&[], Error::StreamReadFailure, 1),
@@ -85,7 +86,7 @@ const NOT_64: &[(&[u8], Error, u128)] = &[
     (&[0xfb, 255, 255, 255, 255, 255, 255, 0x3f, 0, 0, 0, 0, 0, 0, 0, 0], Error::StreamSizeMismatch { expected: 18_446_744_073_709_551_612, actual: 16 }, 2),
 ];
 
-fn list_64_is_refused(row: &(&[u8], Error, u128)) -> bool {
+fn list_64_is_an_error(row: &(&[u8], Error, u128)) -> bool {
     let mut steps = Steps::new();
     let list = entries_64::<u32>(Source::new(row.0), Endian::Little, &mut steps);
     list.err() == Some(row.1) && steps.count() == row.2
@@ -93,7 +94,7 @@ fn list_64_is_refused(row: &(&[u8], Error, u128)) -> bool {
 
 #[test]
 fn reads_64_bit_lists(rt: HostRuntime) {
-    assert!(rt; LISTS_64.iter().all(list_64_is) && NOT_64.iter().all(list_64_is_refused));
+    assert!(rt; LISTS_64.iter().all(list_64_is) && NOT_64.iter().all(list_64_is_an_error));
 }
 
 // An extended list and its numbers.
@@ -112,8 +113,8 @@ fn extended_is(row: &(&[u8], Endian, &[u32])) -> bool {
     }
 }
 
-// An extended list that is refused: a count that is not there, an entry too many, 2^32 - 1 of them behind a
-// header of 8, a header of 11 bytes, and entries of 8 and of 3.
+// A malformed extended list: a count that is not there, an entry too many, 2^32 - 1 of them
+// after a header of 8, a header of 11 bytes, and entries of 8 and of 3.
 #[rattlefmt::skip]
 const NOT_EXTENDED: &[(&[u8], Error)] = &[
     (&[], Error::StreamReadFailure),
@@ -125,14 +126,14 @@ const NOT_EXTENDED: &[(&[u8], Error)] = &[
     (&[12, 0, 0, 0, 3, 0, 0, 0, 0, 0, 0, 0], Error::StreamReadFailure),
 ];
 
-fn extended_is_refused(row: &(&[u8], Error)) -> bool {
+fn extended_is_an_error(row: &(&[u8], Error)) -> bool {
     extended_entries::<u32>(Source::new(row.0), Endian::Little, &mut Steps::new()).err()
         == Some(row.1)
 }
 
 #[test]
-fn extended_entries_begin_behind_their_header(rt: HostRuntime) {
-    assert!(rt; EXTENDED.iter().all(extended_is) && NOT_EXTENDED.iter().all(extended_is_refused));
+fn extended_entries_begin_after_their_header(rt: HostRuntime) {
+    assert!(rt; EXTENDED.iter().all(extended_is) && NOT_EXTENDED.iter().all(extended_is_an_error));
 }
 
 // The first handle of a list and how many there are, with whether they have 40 bytes.
@@ -153,7 +154,8 @@ fn first_handle(bytes: &[u8]) -> Result<(bool, usize, Option<u64>), Error> {
     }
 }
 
-// Two handles of the given size behind a header of four bytes, so that the first begins in that size.
+// Two handles of the given size after a header of four bytes, so that the first begins in that
+// size.
 fn two_handles(size: u8) -> Result<(bool, usize, Option<u64>), Error> {
     let mut bytes = [0; 84];
     bytes[0] = 4;
@@ -181,8 +183,8 @@ const NO_HANDLES: &[&[u8]] = &[
     &[12, 0, 0, 0, 255, 255, 255, 255, 0, 0, 0, 0],
 ];
 
-// Lists that are refused: no number, one missing, and the greatest sizes and count, whose product is no number of
-// 32 bits.
+// Malformed lists: no number, one missing, and the greatest sizes and count, whose product
+// is no number of 32 bits.
 #[rattlefmt::skip]
 const NOT_HANDLES: &[(&[u8], Error)] = &[
     (&[], Error::StreamReadFailure),
@@ -190,7 +192,7 @@ const NOT_HANDLES: &[(&[u8], Error)] = &[
     (&[255, 255, 255, 255, 255, 255, 255, 255, 255, 255, 255, 255], Error::StreamSizeMismatch { expected: 18_446_744_069_414_584_320, actual: 12 }),
 ];
 
-fn handles_are_refused(row: &(&[u8], Error)) -> bool {
+fn handles_are_an_error(row: &(&[u8], Error)) -> bool {
     let mut steps = Steps::new();
     let list = handle_entries(Source::new(row.0), Endian::Little, &mut steps);
     list.err() == Some(row.1) && steps.count() == 1
@@ -198,7 +200,7 @@ fn handles_are_refused(row: &(&[u8], Error)) -> bool {
 
 #[test]
 fn handles_have_32_or_40_bytes(rt: HostRuntime) {
-    assert!(rt; handles_have_two_sizes() && NOT_HANDLES.iter().all(handles_are_refused));
+    assert!(rt; handles_have_two_sizes() && NOT_HANDLES.iter().all(handles_are_an_error));
     assert!(rt;
         NO_HANDLES
             .iter()

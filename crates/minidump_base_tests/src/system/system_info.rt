@@ -5,7 +5,7 @@ use minidump_synth::{Section, zeroed};
 use minidump_system::MinidumpSystemInfo;
 use std::alloc::Global;
 
-// The system information of a record, with that text behind it in the file.
+// The system information of a record, with that text after it in the file.
 fn read(
     alloc: Global,
     endian: Endian,
@@ -19,7 +19,8 @@ fn read(
     MinidumpSystemInfo::read_record(alloc, source, source, endian, &mut Steps::new())
 }
 
-// The numbers of a version, the platform, the text of the service pack, and the version and the build.
+// The numbers of a version, the platform, the text of the service pack, and the version and the
+// build.
 #[rattlefmt::skip]
 const PARTS: &[((u32, u32, u32), u32, Option<&str>, &str, Option<&str>)] = &[
     ((10, 0, 19041), 2, None, "10.0.19041", None),
@@ -49,7 +50,7 @@ fn parts_are(
         minor_version: numbers.1,
         build_number: numbers.2,
         platform_id,
-        // The text stands behind the record, of 56 bytes.
+        // The text stands after the record, of 56 bytes.
         csd_version_rva: if csd_version.is_some() { 56 } else { 1000 },
         ..zeroed()
     };

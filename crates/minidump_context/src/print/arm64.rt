@@ -39,7 +39,8 @@ fn push_common(
     fpcr: u32,
     float_regs: &[u128; 32],
 ) -> Result<(), AllocError>
-    ensures { OnOk result (out.new.items ≡ out.old.items ++ arm64_lines iregs.now sp pc cpsr fpsr fpcr float_regs.now) }
+    ensures { OnOk result (out.new.items ≡ out.old.items
+        ++ arm64_lines iregs.now sp pc cpsr fpsr fpcr float_regs.now) }
 {
     push_x(out, iregs)?;
     push_state(out, iregs, sp, pc, cpsr, fpsr, fpcr)?;
@@ -65,7 +66,8 @@ fn push_state(
     fpsr: u32,
     fpcr: u32,
 ) -> Result<(), AllocError>
-    ensures { OnOk result (out.new.items ≡ out.old.items ++ state_lines iregs.now sp pc cpsr fpsr fpcr) }
+    ensures { OnOk result (out.new.items ≡ out.old.items
+        ++ state_lines iregs.now sp pc cpsr fpsr fpcr) }
 {
     push_registers(out, &[
         ("  x29 (fp)             = ", iregs[29]),

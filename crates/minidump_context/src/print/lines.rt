@@ -1,8 +1,7 @@
-ghost use Rattle.std.specs.Prelude.{◌≡◌, ◌++◌, ◌∷◌, ℕ, [], OnOk, codes};
-ghost use Rattle.std.specs.Fmt.{decimal};
+ghost use Rattle.std.specs.Prelude.{◌≡◌, ◌++◌, ℕ, OnOk, codes};
 ghost use Rattle.std.specs.List.{enumerate_from, flat_map};
 ghost use Rattle.minidump_bytes.specs.Piece.{hex};
-ghost use Rattle.minidump_context.specs.Text.{bytes_line, front_text, left_front, register_line, right_front};
+ghost use Rattle.minidump_context.specs.Text.{bytes_line, front_text, left_front, register_line};
 
 use itoa::Buffer;
 use minidump_bytes::{Piece, push_bytes, push_pieces};
@@ -54,8 +53,8 @@ fn push_wide(out: &mut Vec<u8>, value: u128) -> Result<(), AllocError>
     push_pieces(out, &[Piece::Hex(high), Piece::WideDigits(low, 16)])
 }
 
-// What stands in front of the value of a register that has a number: words before and after it, the number at the left or
-// at the right of two columns.
+// The text in front of the value of a numbered register: a text before the number, the number at
+// the left or at the right of two columns, and a text after it.
 #[derive(Clone, Copy)]
 pub(crate) enum Front<'a> {
     Left(&'a str, &'a str),
@@ -67,24 +66,26 @@ fn push_front(out: &mut Vec<u8>, front: Front<'_>, number: usize) -> Result<(), 
     ensures { OnOk result (out.new.items ≡ out.old.items ++ front_text front.entry number) }
 {
     match front {
-        Front::Left(before, behind) => push_left(out, before, number, behind),
-        Front::Right(before, behind) => push_pieces(out, &[
-            Piece::Words(before), Piece::Right(number as u64, 2), Piece::Words(behind),
+        Front::Left(before, after) => push_left(out, before, number, after),
+        Front::Right(before, after) => push_pieces(out, &[
+            Piece::Words(before), Piece::Right(number as u64, 2), Piece::Words(after),
         ]),
     }
 }
 
 #[rattlefmt::skip]
-fn push_left(out: &mut Vec<u8>, before: &str, number: usize, behind: &str) -> Result<(), AllocError>
-    ensures { OnOk result (out.new.items ≡ out.old.items ++ left_front before.now behind.now number) }
+fn push_left(out: &mut Vec<u8>, before: &str, number: usize, after: &str) -> Result<(), AllocError>
+    ensures { OnOk result (out.new.items ≡ out.old.items
+        ++ left_front before.now after.now number) }
 {
     let mut buffer = Buffer::new();
-    push_pieces(out, &[Piece::Words(before), Piece::Left(buffer.format(number), 2), Piece::Words(behind)])
+    push_pieces(out, &[Piece::Words(before), Piece::Left(buffer.format(number), 2), Piece::Words(after)])
 }
 
 // Appends a value and the end of its line.
 fn push_value<T: RegisterValue>(out: &mut Vec<u8>, value: &T) -> Result<(), AllocError>
-    ensures { OnOk result (out.new.items ≡ out.old.items ++ (hex (T.number value.now) ++ codes "\n")) }
+    ensures { OnOk result (out.new.items ≡ out.old.items
+        ++ (hex (T.number value.now) ++ codes "\n")) }
 {
     value.push_hex(out)?;
     out.extend_from_slice(b"\n")
@@ -97,15 +98,17 @@ pub(crate) fn push_register<T: RegisterValue>(
     front: &str,
     value: &T,
 ) -> Result<(), AllocError>
-    ensures { OnOk result (out.new.items ≡ out.old.items ++ register_line front.now (T.number value.now)) }
+    ensures { OnOk result (out.new.items ≡ out.old.items
+        ++ register_line front.now (T.number value.now)) }
 {
     out.extend_from_slice(front.as_bytes())?;
     push_value(out, value)
 }
 
-// Appends a line for each register: what stands in front of its value, and the value.
+// Appends a line for each register: the text in front of its value, and the value.
 pub(crate) fn push_registers(out: &mut Vec<u8>, rows: &[(&str, u64)]) -> Result<(), AllocError>
-    ensures { OnOk result (out.new.items ≡ out.old.items ++ flat_map (λ r. register_line r.0.now r.1) rows.now) }
+    ensures { OnOk result (out.new.items ≡ out.old.items
+        ++ flat_map (λ r. register_line r.0.now r.1) rows.now) }
 {
     for row in rows {
         push_register(out, row.0, &row.1)?;
@@ -113,14 +116,15 @@ pub(crate) fn push_registers(out: &mut Vec<u8>, rows: &[(&str, u64)]) -> Result<
     Ok(())
 }
 
-// Appends a line for each of some numbered registers.
+// Appends a line for each of the numbered registers.
 pub(crate) fn push_numbered<T: RegisterValue>(
     out: &mut Vec<u8>,
     front: Front<'_>,
     values: &[T],
 ) -> Result<(), AllocError>
     ensures { OnOk result (out.new.items ≡ out.old.items
-        ++ flat_map (λ r. register_line (front_text front.entry r.0) (T.number r.1)) (enumerate_from 0 values.now)) }
+        ++ flat_map (λ r. register_line (front_text front.entry r.0) (T.number r.1))
+        (enumerate_from 0 values.now)) }
 {
     for number in 0..values.len() {
         push_numbered_register(out, front, number, &values[number])?;
@@ -135,13 +139,14 @@ fn push_numbered_register<T: RegisterValue>(
     number: usize,
     value: &T,
 ) -> Result<(), AllocError>
-    ensures { OnOk result (out.new.items ≡ out.old.items ++ register_line (front_text front.entry number) (T.number value.now)) }
+    ensures { OnOk result (out.new.items ≡ out.old.items
+        ++ register_line (front_text front.entry number) (T.number value.now)) }
 {
     push_front(out, front, number)?;
     push_value(out, value)
 }
 
-// Appends the line of a register that is many bytes.
+// Appends the line of a register of many bytes.
 #[tactic(auto, unfolding(crate::specs::Text::bytes_line))]
 pub(crate) fn push_bytes_line(
     out: &mut Vec<u8>,

@@ -41,5 +41,16 @@ impl Record for MINIDUMP_ASSERTION_INFO {
 }
 
 impl Exact for MINIDUMP_ASSERTION_INFO {
-    ghost exact = { record { equal = λ x y. ((λ h. Prim.grind (rules, bytes_eq-Decides x.expression y.expression, bytes_eq-Decides x.function y.function, bytes_eq-Decides x.file y.file)), (λ h. rw h (Prim.search (rules, bytes_eq-Decides)))); copied = λ x y h. Prim.search rules } };
+    ghost exact = { record {
+      equal = λ x y. (
+        (λ h. Prim.grind (
+          rules,
+          bytes_eq-Decides x.expression y.expression,
+          bytes_eq-Decides x.function y.function,
+          bytes_eq-Decides x.file y.file,
+        )),
+        (λ h. rw h (Prim.search (rules, bytes_eq-Decides))),
+      );
+      copy = λ x y h. Prim.search rules;
+    } };
 }

@@ -41,7 +41,8 @@ impl Exact for CvSignature {
     ghost exact = { Prim.search rules };
 }
 
-/// A program database identified by a GUID: the CodeView record `CV_INFO_PDB70`, of 24 bytes and a name.
+/// A program database identified by a GUID: the CodeView record `CV_INFO_PDB70`, of 24 bytes and a
+/// name.
 #[derive(Drop)]
 pub struct CV_INFO_PDB70 {
     /// [`CvSignature::Pdb70`], as a number.
@@ -54,8 +55,8 @@ pub struct CV_INFO_PDB70 {
     pub pdb_file_name: Vec<u8>,
 }
 
-/// A program database identified by a time stamp: the CodeView record `CV_INFO_PDB20`, of 16 bytes and a
-/// name.
+/// A program database identified by a time stamp: the CodeView record `CV_INFO_PDB20`, of 16 bytes
+/// and a name.
 #[derive(Drop)]
 pub struct CV_INFO_PDB20 {
     /// [`CvSignature::Pdb20`], as a number.

@@ -42,7 +42,17 @@ impl Record for MINIDUMP_CRASHPAD_INFO {
 }
 
 impl Exact for MINIDUMP_CRASHPAD_INFO {
-    ghost exact = { record { equal = λ x y. ((λ h. Prim.grind (rules, bytes_eq-Decides x.report_id.data4 y.report_id.data4, bytes_eq-Decides x.client_id.data4 y.client_id.data4)), (λ h. rw h (Prim.search (rules, bytes_eq-Decides)))); copied = λ x y h. Prim.search rules } };
+    ghost exact = { record {
+      equal = λ x y. (
+        (λ h. Prim.grind (
+          rules,
+          bytes_eq-Decides x.report_id.data4 y.report_id.data4,
+          bytes_eq-Decides x.client_id.data4 y.client_id.data4,
+        )),
+        (λ h. rw h (Prim.search (rules, bytes_eq-Decides))),
+      );
+      copy = λ x y h. Prim.search rules;
+    } };
 }
 
 /// A link from a module to Crashpad's information on it: `MinidumpModuleCrashpadInfoLink`.

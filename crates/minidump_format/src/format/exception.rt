@@ -48,7 +48,13 @@ impl Record for MINIDUMP_EXCEPTION {
 }
 
 impl Exact for MINIDUMP_EXCEPTION {
-    ghost exact = { record { equal = λ x y. ((λ h. Prim.grind (rules, bytes_eq-Decides x.exception_information y.exception_information)), (λ h. rw h (Prim.search (rules, bytes_eq-Decides)))); copied = λ x y h. Prim.search rules } };
+    ghost exact = { record {
+      equal = λ x y. (
+        (λ h. Prim.grind (rules, bytes_eq-Decides x.exception_information y.exception_information)),
+        (λ h. rw h (Prim.search (rules, bytes_eq-Decides))),
+      );
+      copy = λ x y h. Prim.search rules;
+    } };
 }
 
 /// An exception with its thread: Microsoft's `MINIDUMP_EXCEPTION_STREAM`.
@@ -86,5 +92,15 @@ impl Record for MINIDUMP_EXCEPTION_STREAM {
 }
 
 impl Exact for MINIDUMP_EXCEPTION_STREAM {
-    ghost exact = { record { equal = λ x y. ((λ h. Prim.grind (rules, bytes_eq-Decides x.exception_record.exception_information y.exception_record.exception_information)), (λ h. rw h (Prim.search (rules, bytes_eq-Decides)))); copied = λ x y h. Prim.search rules } };
+    ghost exact = { record {
+      equal = λ x y. (
+        (λ h. Prim.grind (
+          rules,
+          bytes_eq-Decides x.exception_record.exception_information
+              y.exception_record.exception_information,
+        )),
+        (λ h. rw h (Prim.search (rules, bytes_eq-Decides))),
+      );
+      copy = λ x y h. Prim.search rules;
+    } };
 }

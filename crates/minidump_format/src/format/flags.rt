@@ -53,7 +53,8 @@ impl Flags for MiscInfoFlags {
     }
 }
 
-/// The features of an ARM processor, as Linux reports them: the `HWCAP_` numbers of its `asm/hwcap.h`.
+/// The features of an ARM processor, as Linux reports them: the `HWCAP_` numbers of its
+/// `asm/hwcap.h`.
 #[derive(Clone, Copy, Debug, PartialEq, Eq)]
 pub struct ArmElfHwCaps(u32);
 

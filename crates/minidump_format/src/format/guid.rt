@@ -42,7 +42,13 @@ impl Record for GUID {
 }
 
 impl Exact for GUID {
-    ghost exact = { record { equal = λ x y. ((λ h. Prim.grind (rules, bytes_eq-Decides x.data4 y.data4)), (λ h. rw h (Prim.search (rules, bytes_eq-Decides)))); copied = λ x y h. Prim.search rules } };
+    ghost exact = { record {
+      equal = λ x y. (
+        (λ h. Prim.grind (rules, bytes_eq-Decides x.data4 y.data4)),
+        (λ h. rw h (Prim.search (rules, bytes_eq-Decides))),
+      );
+      copy = λ x y h. Prim.search rules;
+    } };
 }
 
 /// Makes the UUID of a GUID: the highest byte of each number comes first.

@@ -52,7 +52,8 @@ impl Exact for MINIDUMP_HANDLE_DESCRIPTOR {
     ghost exact = { Prim.search rules };
 }
 
-/// An open handle, with further information on its object: Microsoft's `MINIDUMP_HANDLE_DESCRIPTOR_2`.
+/// An open handle, with further information on its object: Microsoft's
+/// `MINIDUMP_HANDLE_DESCRIPTOR_2`.
 #[derive(Clone, Copy, Debug, PartialEq, Eq)]
 pub struct MINIDUMP_HANDLE_DESCRIPTOR_2 {
     /// The value of the handle.

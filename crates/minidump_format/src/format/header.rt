@@ -7,7 +7,7 @@ ghost use Rattle.minidump_format.specs.Header.{located};
 
 use minidump_bytes::{Endian, Record, Source, Steps};
 
-/// An offset in the file, in bytes from its beginning.
+/// An offset in the file, in bytes from its start.
 pub type RVA = u32;
 
 /// The signature of a minidump, its first four bytes: `MDMP`, as a number.
@@ -69,8 +69,8 @@ pub struct MINIDUMP_LOCATION_DESCRIPTOR {
 }
 
 impl MINIDUMP_LOCATION_DESCRIPTOR {
-    /// Returns the bytes of the file at this location, or `None` if the file ends before they do. Counts
-    /// one step either way.
+    /// Returns the bytes of the file at this location, or `None` if the file ends before they do.
+    /// Counts one step either way.
     pub fn bytes_in<'a>(&self, all: Source<'a>, steps: &mut Steps) -> Option<&'a [u8]>
         ensures value { option_copied result ≡ located (bytes_of all.entry) self.now }
         ensures step { steps.new ≡ after steps.old 1 }

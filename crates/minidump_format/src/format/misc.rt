@@ -108,8 +108,8 @@ pub struct SYSTEMTIME {
     pub month: u16,
     /// The day of the week, 0 for Sunday.
     pub day_of_week: u16,
-    /// The day of the month; in a date that recurs every year, which occurrence of `day_of_week` in the
-    /// month, 5 for the last.
+    /// The day of the month; in a date that recurs every year, which occurrence of `day_of_week` in
+    /// the month, 5 for the last.
     pub day: u16,
     /// The hour, 0 to 23.
     pub hour: u16,
@@ -337,7 +337,7 @@ impl Record for MINIDUMP_MISC_INFO_4 {
     ghost fits = { Prim.search rules };
 }
 
-/// The place of a feature in the extended state: Microsoft's `XSTATE_FEATURE`.
+/// The offset and the size of a feature in the extended state: Microsoft's `XSTATE_FEATURE`.
 #[derive(Clone, Copy, Debug, PartialEq, Eq)]
 pub struct XSTATE_FEATURE {
     /// The offset of its state in the extended state.
@@ -374,7 +374,8 @@ pub struct XSTATE_CONFIG_FEATURE_MSC_INFO {
     pub context_size: u32,
     /// The enabled features, a bit for each index.
     pub enabled_features: u64,
-    /// The places of the features by index, [`XstateFeatureIndex`](super::XstateFeatureIndex).
+    /// The offsets and sizes of the features by index,
+    /// [`XstateFeatureIndex`](super::XstateFeatureIndex).
     pub features: [XSTATE_FEATURE; 64],
 }
 

@@ -65,7 +65,10 @@ impl Record for VS_FIXEDFILEINFO {
 }
 
 impl Exact for VS_FIXEDFILEINFO {
-    ghost exact = { record { equal = λ x y. ((λ h. Prim.grind rules), (λ h. Prim.grind rules)); copied = λ x y h. Prim.search rules } };
+    ghost exact = { record {
+      equal = λ x y. ((λ h. Prim.grind rules), (λ h. Prim.grind rules));
+      copy = λ x y h. Prim.search rules;
+    } };
 }
 
 /// A loaded module: Microsoft's `MINIDUMP_MODULE`.

@@ -1,5 +1,6 @@
 ghost use Rattle.std.specs.Prelude.{◌≡◌};
-ghost use Rattle.minidump_format.specs.StreamType.{is_unimplemented, number_of, type_name, stream_type_of};
+ghost use Rattle.minidump_format.specs.StreamType.{is_unimplemented, number_of, type_name};
+ghost use Rattle.minidump_format.specs.StreamType.{stream_type_of};
 
 /// The named types of stream: Microsoft's `MINIDUMP_STREAM_TYPE`, with the extensions of Breakpad,
 /// Crashpad, Chromium and Mozilla.

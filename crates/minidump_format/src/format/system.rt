@@ -1,6 +1,7 @@
 ghost use Rattle.std.proofs.Common.{rules};
 ghost use Rattle.std.specs.Prelude.{◌≡◌};
-ghost use Rattle.minidump_format.specs.System.{architecture_number, architecture_of, platform_number, platform_of};
+ghost use Rattle.minidump_format.specs.System.{architecture_number, architecture_of};
+ghost use Rattle.minidump_format.specs.System.{platform_number, platform_of};
 
 use super::RVA;
 use minidump_bytes::{Endian, Record, array_at};

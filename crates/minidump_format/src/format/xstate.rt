@@ -1,6 +1,7 @@
 ghost use Rattle.std.specs.Prelude.{◌≡◌};
 ghost use Rattle.std.specs.Iterator.{YieldsFirst, item_count};
-ghost use Rattle.minidump_format.specs.Xstate.{xstate_features, features_left, feature_of, index_name, index_of};
+ghost use Rattle.minidump_format.specs.Xstate.{xstate_features, features_left, feature_of};
+ghost use Rattle.minidump_format.specs.Xstate.{index_name, index_of};
 
 use super::{XSTATE_CONFIG_FEATURE_MSC_INFO, XSTATE_FEATURE};
 
@@ -16,8 +17,8 @@ impl XSTATE_CONFIG_FEATURE_MSC_INFO {
     }
 }
 
-/// An iterator over the enabled features of an [`XSTATE_CONFIG_FEATURE_MSC_INFO`], each with its index,
-/// ascending.
+/// An iterator over the enabled features of an [`XSTATE_CONFIG_FEATURE_MSC_INFO`], each with its
+/// index, ascending.
 #[derive(Drop)]
 pub struct XstateFeatures<'a> {
     config: &'a XSTATE_CONFIG_FEATURE_MSC_INFO,

@@ -1,4 +1,4 @@
-//! The index as a vector: which entry stands at which place.
+//! The index as a vector: which entry is in which slot.
 use super::AddressIndex;
 use crate::Range;
 use minidump_format::Error;
@@ -13,31 +13,32 @@ const LEVELS: &[&[usize]] = &[
     &[4, 2, 6, 1, 3, 5, 7, 0],
 ];
 
-// So many ranges of four addresses, ascending or descending.
+// Makes `count` ranges of four addresses, ascending or descending.
 fn ranges(alloc: Global, count: usize, ascend: bool) -> Result<Vec<Option<Range>>, AllocError> {
     let mut ranges = Vec::new(alloc);
-    for place in 0..count {
-        let number = if ascend { place } else { count - 1 - place };
+    for index in 0..count {
+        let number = if ascend { index } else { count - 1 - index };
         ranges.push(Range::from_size(16 * (number as u64 % 16), 4))?;
     }
     Ok(ranges)
 }
 
-// Tells whether the tree is that vector. In a list that descends, number 0 comes last.
+// Tells whether the tree of a list has its entries in this order. In a list that descends, number 0
+// comes last.
 fn is_in_level_order(alloc: Global, level: &[usize], ascend: bool) -> Result<bool, Error> {
-    let index = AddressIndex::build(alloc, &ranges(alloc, level.len(), ascend)?)?;
+    let addresses = AddressIndex::build(alloc, &ranges(alloc, level.len(), ascend)?)?;
     Ok(
-        index.len() == level.len()
+        addresses.len() == level.len()
             && level.iter().enumerate().all(|(slot, number)| {
-                let place = if ascend {
+                let index = if ascend {
                     *number
                 } else {
                     level.len().wrapping_sub(*number).wrapping_sub(1)
                 };
-                index
+                addresses
                     .tree
                     .get(slot)
-                    .is_some_and(|entry| entry.place == place)
+                    .is_some_and(|entry| entry.index == index)
             }),
     )
 }

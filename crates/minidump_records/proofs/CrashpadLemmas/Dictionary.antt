@@ -1,4 +1,4 @@
--- A list is the dictionary of pairs exactly if it meets `IsDictionaryOf` them.
+-- A list is the dictionary of pairs exactly if it meets `IsDictionaryOf`.
 use Rattle.std.proofs.Common.{◌≡◌, ◌↔◌, ℕ, List, sym, subst}
 use Rattle.minidump_system.specs.LastValues.{IsDictionaryOf, dictionary_of}
 use Rattle.minidump_system.proofs.OneDictionary.{dictionary_is_one, is_dictionary}

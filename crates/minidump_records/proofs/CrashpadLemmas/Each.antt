@@ -7,7 +7,7 @@ use Rattle.std.specs.Option.{ok_or}
 use Rattle.minidump_bytes.specs.declared.endian.Endian.{Endian}
 use Rattle.minidump_bytes.specs.Layout.{Layout}
 use Rattle.minidump_bytes.specs.Span.{record_at}
-use Rattle.minidump_format.specs.Answer.{Gives, Refuses}
+use Rattle.minidump_format.specs.Answer.{Gives, GivesError}
 use Rattle.minidump_format.specs.declared.error.Error.{Error}
 use Rattle.minidump_format.specs.declared.error.Error.TheVariants.{OutOfMemory, StreamReadFailure}
 use Rattle.minidump_records.specs.Crashpad.Parts.{each, part_at}
@@ -26,20 +26,20 @@ unfolding each
 stays read n zero e h = rw (add-zero) h
 stays read n (suc k) e h = rw (add-suc, stays read n k e h) refl
 
-refuses : {N B : Type 0} (e : Error) (whole : Result B Error) → N → whole ≡ Err e → Refuses N e whole
-refuses OutOfMemory whole memory h = memory
-refuses e whole memory h = h
+is_that_error : {N B : Type 0} (e : Error) (whole : Result B Error) → N → whole ≡ Err e → GivesError N e whole
+is_that_error OutOfMemory whole memory h = memory
+is_that_error e whole memory h = h
 
 -- the exit of a `?` whose error is known to be that of the whole, where memory may run out
 pub gives_missing : {N X B : Type 0} (view : X → B) (r : Result X Error) (e : Error) (whole : Result B Error) → IsErrAnd r (λ y. y ≡ e) → N → whole ≡ Err e
     → Gives view N r whole
-gives_missing view r e whole exit memory h = let p = err_from_is_err_and r exit in rw (p.1, p.2) (refuses e whole memory h)
+gives_missing view r e whole exit memory h = let p = err_from_is_err_and r exit in rw (p.1, p.2) (is_that_error e whole memory h)
 
 -- the error of the first index that has one is that of all
-pub each-refused : {V : Type 0} (read : ℕ → Result V Error) (i n : ℕ) (vs : List V) (e : Error) → i < n → each read i ≡ Ok vs → read i ≡ Err e
+pub each-error : {V : Type 0} (read : ℕ → Result V Error) (i n : ℕ) (vs : List V) (e : Error) → i < n → each read i ≡ Ok vs → read i ≡ Err e
     → each read n ≡ Err e
 unfolding each
-each-refused read i n vs e lt before one =
+each-error read i n vs e lt before one =
     let here : each read (suc i) ≡ Err e = rw (before, one) refl in
     let so : suc i + (n - suc i) ≡ n = omega arith in
     rw so at (stays read (suc i) (n - suc i) e here)

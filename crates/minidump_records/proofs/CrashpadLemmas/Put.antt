@@ -33,7 +33,7 @@ module _ {V : Type 0} (weight : V → ℕ) where
       let q : sum_by weighed ((k, v) ∷ []) ≤ sum_by weighed [] + weight v = omega (arith, p) in q
   insert_weighs (e ∷ es) k v = by_order (slice_cmp nat_cmp k e.0) e es (insert_entry (slice_cmp nat_cmp) es k v) k v (insert_weighs es k v)
 
--- to insert a pair, and then to take each key as bytes and each value as its value, is to insert what is taken of the pair
+-- to insert a pair, and then to view all pairs, is to insert the view of the pair
 module _ {K V W : Type 0} (cmp : K → K → Ordering) (key : K → List ℕ) (value : V → W) (same : (j k : K) → cmp j k ≡ slice_cmp nat_cmp (key j) (key k)) where
   abbrev pair : K × V → List ℕ × W
   pair e = (key e.0, value e.1)

@@ -1,4 +1,4 @@
--- The set of the offsets so far, beside the list of them, and the pieces that stand at these offsets.
+-- The set and the list of the offsets so far, and the pieces at these offsets.
 use Rattle.std.proofs.Common.{◌≡◌, ℕ, List, [], ◌∷◌, ◌++◌, map, refl, ap, sym, ◌∙◌, Bool, true, false, nat_eq, cond, Option, Some}
 use Rattle.std.specs.Prelude.{◌||◌, not}
 use Rattle.std.specs.List.{filter_map, list_any}
@@ -14,12 +14,12 @@ cond_or false true = refl
 cond_or false false = refl
 
 -- the set and the list after one offset more
-pub same_push : (done : List ℕ) (place q : ℕ) (new old : Bool) → new ≡ cond (nat_eq place q) true old → old ≡ list_any (nat_eq q) done
-    → new ≡ list_any (nat_eq q) (done ++ place ∷ [])
-same_push done place q new old e f =
-    e ∙ cond_or (nat_eq place q) old ∙ ap (λ b. b || nat_eq place q) f ∙ ap (λ b. list_any (nat_eq q) done || b)
-    (same_test place q ∙ sym (right_false (nat_eq q place)))
-    ∙ sym (list_any-append (nat_eq q) done (place ∷ []))
+pub same_push : (done : List ℕ) (offset q : ℕ) (new old : Bool) → new ≡ cond (nat_eq offset q) true old → old ≡ list_any (nat_eq q) done
+    → new ≡ list_any (nat_eq q) (done ++ offset ∷ [])
+same_push done offset q new old e f =
+    e ∙ cond_or (nat_eq offset q) old ∙ ap (λ b. b || nat_eq offset q) f ∙ ap (λ b. list_any (nat_eq q) done || b)
+    (same_test offset q ∙ sym (right_false (nat_eq q offset)))
+    ∙ sym (list_any-append (nat_eq q) done (offset ∷ []))
 
 -- a set had a key exactly if to add it changed nothing
 pub was_there : (added had : Bool) → added ≡ not had → added ≡ false → had ≡ true

@@ -10,22 +10,22 @@ use Rattle.minidump_system.specs.Chain.{IsChain}
 use Rattle.minidump_system.proofs.OneChain.{chain_is_one, chain_within_is_chain}
 use Rattle.minidump_records.specs.declared.handles.information.MinidumpHandleObjectInformation.{MinidumpHandleObjectInformation}
 use Rattle.minidump_records.specs.Handles.{chain_offsets}
-use Rattle.minidump_records.specs.Handles.ObjectChain.{information_at, next_of, typed}
+use Rattle.minidump_records.specs.Handles.ObjectChain.{information_at, next_of, with_type}
 
 -- a piece of information stands within the file
-pub readable : (order : Endian) (file : List ℕ) (place : ℕ) (i : MinidumpHandleObjectInformation) → information_at order file place ≡ Some i
-    → place < length file
+pub readable : (order : Endian) (file : List ℕ) (offset : ℕ) (i : MinidumpHandleObjectInformation) → information_at order file offset ≡ Some i
+    → offset < length file
 unfolding information_at
-readable order file place i h = by_zero (place == 0) h
+readable order file offset i h = by_zero (offset == 0) h
   where
-    by_room : (b : Bool) → nat_le (place + 12) (length file) ≡ b → option_and_then typed (record_at object_information order place file) ≡ Some i
-        → place < length file
+    by_room : (b : Bool) → nat_le (offset + 12) (length file) ≡ b → option_and_then with_type (record_at object_information order offset file) ≡ Some i
+        → offset < length file
     by_room true e k = grind (arith, nat_tests, e)
     by_room false e k = (let j = rw e at k in cc)
 
-    by_zero : (b : Bool) → (if b then None else option_and_then typed (record_at object_information order place file)) ≡ Some i → place < length file
+    by_zero : (b : Bool) → (if b then None else option_and_then with_type (record_at object_information order offset file)) ≡ Some i → offset < length file
     by_zero true k = cc
-    by_zero false k = by_room (nat_le (place + 12) (length file)) refl k
+    by_zero false k = by_room (nat_le (offset + 12) (length file)) refl k
 
 -- the offsets of the chain of information on an object
 pub is_object_chain : (order : Endian) (file : List ℕ) (link : ℕ) → IsChain (information_at order file) next_of link (chain_offsets order file link)

@@ -24,12 +24,14 @@ annotation_of (String s) = text (string_bytes s)
 annotation_of (UserDefined raw) = user_defined raw
 annotation_of (Unsupported raw) = unsupported raw
 
--- by the type: 0 is invalid, 1 is a text, which needs no NUL behind it, and from 0x8000 on it is user-defined. A value that is no text is
--- not looked at
+-- the annotation of a record, by its type: 0 is invalid, 1 is a text, which needs no NUL after it,
+-- and 0x8000 and above are user-defined. Only the value of a text is read
 abbrev pub annotation_in : Endian → List ℕ → MINIDUMP_ANNOTATION → Result Annotation Error
 annotation_in order file raw =
     if raw.ty == 0 then Ok invalid else (
-    if raw.ty == 1 then and_then (ok_or (text8 order raw.value file) StreamReadFailure) (λ bytes. Ok (text bytes)) else (
+    if raw.ty == 1
+    then and_then (ok_or (text8 order raw.value file) StreamReadFailure) (λ bytes. Ok (text bytes))
+    else (
     if nat_le 0x8000 raw.ty then Ok (user_defined raw) else Ok (unsupported raw)))
 
 -- the reads of a value: that of a text

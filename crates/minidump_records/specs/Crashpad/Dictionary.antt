@@ -1,4 +1,5 @@
--- Texts of a file and dictionaries: Crashpad's MinidumpUTF8String with its NUL, MinidumpSimpleStringDictionary and MinidumpAnnotationList.
+-- Texts of a file and dictionaries: Crashpad's MinidumpUTF8String with its NUL,
+-- MinidumpSimpleStringDictionary and MinidumpAnnotationList.
 use Rattle.std.specs.Prelude.{ℕ, IsOk, List, map, Result, Ok, string_bytes, String}
 use Rattle.std.specs.Global.{Global}
 use Rattle.std.specs.Option.{ok_or}
@@ -10,10 +11,10 @@ use Rattle.minidump_format.specs.declared.error.Error.TheVariants.{StreamReadFai
 use Rattle.minidump_format.specs.declared.format.header.MINIDUMP_LOCATION_DESCRIPTOR.{MINIDUMP_LOCATION_DESCRIPTOR}
 use Rattle.minidump_system.specs.LastValues.{dictionary_of}
 use Rattle.minidump_system.specs.Reads.{and_then}
-use Rattle.minidump_records.specs.declared.crashpad.dictionary.Keyed.{Keyed}
+use Rattle.minidump_records.specs.declared.crashpad.dictionary.Pair.{Pair}
 use Rattle.minidump_records.specs.Crashpad.Parts.{untested_list}
 
--- the text at an RVA, which has a NUL behind it
+-- the text at an RVA, up to the NUL that has to come after it
 abbrev pub text_in : Endian → List ℕ → ℕ → Result (List ℕ) Error
 text_in order file rva = ok_or (text8_nul order rva file) StreamReadFailure
 
@@ -22,19 +23,25 @@ abbrev pub HasText : Endian → List ℕ → ℕ → Type 0
 HasText order file rva = IsOk (text_in order file rva)
 
 -- the key and the value that an entry names
-abbrev pub keyed : {E V : Type 0} → (E → ℕ) → (Endian → List ℕ → E → Result V Error) → Endian → List ℕ → E → Result (List ℕ × V) Error
-keyed key value order file e = and_then (text_in order file (key e)) (λ k. and_then (value order file e) (λ v. Ok (k, v)))
+abbrev pub pair_in : {E V : Type 0} → (E → ℕ) → (Endian → List ℕ → E → Result V Error) → Endian
+    → List ℕ → E → Result (List ℕ × V) Error
+pair_in key value order file e =
+    and_then (text_in order file (key e)) (λ k. and_then (value order file e) (λ v. Ok (k, v)))
 
 -- the key and the value of an entry
-abbrev pub pair_of : {V W : Type 0} → (V → W) → Keyed V → List ℕ × W
+abbrev pub pair_of : {V W : Type 0} → (V → W) → Pair V → List ℕ × W
 pair_of value p = (string_bytes p.key, value p.value)
 
 -- the entries of a map of texts, ascending by the bytes of the key
 abbrev pub entries_of : {V W : Type 0} → (V → W) → List (String Global × V) → List (List ℕ × W)
 entries_of value es = map (λ e. (string_bytes e.0, value e.1)) es
 
--- the dictionary at a location: of entries with one key the last is kept (`dictionaries_have_the_last_values`). Each entry is read, so that
--- a malformed one is an error also where a later one has its key
-unfoldable pub dictionary : {R V : Type 0} → Layout R → (R → ℕ) → (Endian → List ℕ → R → Result V Error) → Endian → List ℕ → MINIDUMP_LOCATION_DESCRIPTOR
+-- the dictionary at a location: of entries with one key the last is kept
+-- (`dictionaries_have_the_last_values`). Each entry is read: a malformed one is an error also where
+-- a later one has its key
+unfoldable pub dictionary : {R V : Type 0} → Layout R → (R → ℕ)
+    → (Endian → List ℕ → R → Result V Error) → Endian → List ℕ → MINIDUMP_LOCATION_DESCRIPTOR
     → Result (List (List ℕ × V)) Error
-dictionary layout key value order file l = and_then (untested_list layout (keyed key value) order file l) (λ pairs. Ok (dictionary_of pairs))
+dictionary layout key value order file l =
+    and_then (untested_list layout (pair_in key value) order file l)
+    (λ pairs. Ok (dictionary_of pairs))

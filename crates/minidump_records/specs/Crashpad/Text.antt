@@ -1,4 +1,5 @@
--- The text of Crashpad's information: of its record, of its dictionary, and of each of its modules by index.
+-- The text of Crashpad's information: of its record, of its dictionary, and of each of its modules
+-- by index.
 use Rattle.std.specs.Prelude.{ℕ, List, [], ◌∷◌, ◌++◌, codes}
 use Rattle.std.specs.Fmt.{decimal}
 use Rattle.std.specs.List.{concat, enumerate_from, flat_map}
@@ -23,7 +24,8 @@ process_text raw = process_lines raw.version (guid_text raw.report_id) (guid_tex
 
 -- a key of the dictionary of a process, and its text
 unfoldable pub process_line : List ℕ × List ℕ → List ℕ
-process_line e = concat (codes "  simple_annotations[\"" ∷ e.0 ∷ codes "\"] = " ∷ e.1 ∷ codes "\n" ∷ [])
+process_line e =
+    concat (codes "  simple_annotations[\"" ∷ e.0 ∷ codes "\"] = " ∷ e.1 ∷ codes "\n" ∷ [])
 
 -- the module at an index: what its link and its record state
 unfoldable pub module_lines : ℕ × Module → List ℕ
@@ -33,12 +35,16 @@ module_lines m = concat (
     ∷ [])
 
 -- a text of the list of the module at an index, with its own index
-unfoldable pub listed_line : ℕ → ℕ × List ℕ → List ℕ
-listed_line m e = concat (codes "  module_list[" ∷ decimal m ∷ codes "].list_annotations[" ∷ decimal e.0 ∷ codes "] = " ∷ e.1 ∷ codes "\n" ∷ [])
+unfoldable pub list_line : ℕ → ℕ × List ℕ → List ℕ
+list_line m e =
+    concat (codes "  module_list[" ∷ decimal m ∷ codes "].list_annotations[" ∷ decimal e.0
+    ∷ codes "] = " ∷ e.1 ∷ codes "\n" ∷ [])
 
 -- a key of the dictionary of the module at an index, and its text
 unfoldable pub simple_line : ℕ → List ℕ × List ℕ → List ℕ
-simple_line m e = concat (codes "  module_list[" ∷ decimal m ∷ codes "].simple_annotations[\"" ∷ e.0 ∷ codes "\"] = " ∷ e.1 ∷ codes "\n" ∷ [])
+simple_line m e =
+    concat (codes "  module_list[" ∷ decimal m ∷ codes "].simple_annotations[\"" ∷ e.0
+    ∷ codes "\"] = " ∷ e.1 ∷ codes "\n" ∷ [])
 
 -- an annotation: a text as it is, and the kind of any other
 abbrev pub annotation_text : Annotation → List ℕ
@@ -55,13 +61,19 @@ object_line m e = concat (
 
 -- the lines of the dictionary and of the annotations of the module at an index
 abbrev pub objects_text : ℕ × Module → List ℕ
-objects_text m = flat_map (simple_line m.0) m.1.simple_annotations ++ flat_map (object_line m.0) m.1.annotation_objects
+objects_text m =
+    flat_map (simple_line m.0) m.1.simple_annotations
+    ++ flat_map (object_line m.0) m.1.annotation_objects
 
--- the lines on the module at an index: its own, and those of its list, of its dictionary and of its annotations
+-- the lines on the module at an index: its own, and those of its list, of its dictionary and of its
+-- annotations
 abbrev pub module_text : ℕ × Module → List ℕ
-module_text m = module_lines m ++ (flat_map (listed_line m.0) (enumerate_from 0 m.1.list_annotations) ++ objects_text m)
+module_text m =
+    module_lines m ++ (flat_map (list_line m.0) (enumerate_from 0 m.1.list_annotations)
+    ++ objects_text m)
 
 -- the information on a process
 abbrev pub crashpad_info_text : Crashpad → List ℕ
 crashpad_info_text c =
-    process_text c.raw ++ (flat_map process_line c.simple_annotations ++ (flat_map module_text (enumerate_from 0 c.module_list) ++ line_end))
+    process_text c.raw ++ (flat_map process_line c.simple_annotations
+    ++ (flat_map module_text (enumerate_from 0 c.module_list) ++ line_end))

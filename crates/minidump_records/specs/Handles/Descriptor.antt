@@ -1,4 +1,5 @@
--- The fields of the descriptor of a handle: Microsoft's MINIDUMP_HANDLE_DESCRIPTOR and MINIDUMP_HANDLE_DESCRIPTOR_2.
+-- The fields of the descriptor of a handle: Microsoft's MINIDUMP_HANDLE_DESCRIPTOR and
+-- MINIDUMP_HANDLE_DESCRIPTOR_2.
 use Rattle.std.specs.Prelude.{ℕ, Option, Some, None}
 use Rattle.minidump_records.specs.declared.handles.raw.RawHandleDescriptor.{RawHandleDescriptor}
 use Rattle.minidump_records.specs.declared.handles.raw.RawHandleDescriptor.TheVariants.{HandleDescriptor, HandleDescriptor2}

@@ -10,13 +10,16 @@ use Rattle.minidump_format.specs.Handle.{information_type_of, object_information
 use Rattle.minidump_records.specs.declared.handles.information.MinidumpHandleObjectInformation.{MinidumpHandleObjectInformation}
 
 -- a record with its type, which has to be one of 0 to 8
-abbrev pub typed : MINIDUMP_HANDLE_OBJECT_INFORMATION → Option MinidumpHandleObjectInformation
-typed raw = option_map (λ t. record { raw = raw; info_type = t }) (information_type_of raw.info_type)
+abbrev pub with_type : MINIDUMP_HANDLE_OBJECT_INFORMATION → Option MinidumpHandleObjectInformation
+with_type raw =
+    option_map (λ t. record { raw = raw; info_type = t }) (information_type_of raw.info_type)
 
 -- the piece of information at an offset of the file; there is none at 0
 unfoldable pub information_at : Endian → List ℕ → ℕ → Option MinidumpHandleObjectInformation
-information_at order file place =
-    if place == 0 then None else option_and_then typed (record_at object_information order place file)
+information_at order file offset =
+    if offset == 0
+    then None
+    else option_and_then with_type (record_at object_information order offset file)
 
 -- the offset of the next piece, or 0
 abbrev pub next_of : MinidumpHandleObjectInformation → ℕ
@@ -31,8 +34,8 @@ abbrev pub last_link : ℕ → List MinidumpHandleObjectInformation → ℕ
 last_link link [] = link
 last_link link (i ∷ is) = last_link (next_of i) is
 
--- the reads of the pieces from a link on: one for each, and one at the offset where the chain ends, if that is not 0. An offset that was
--- met before is read again
+-- the reads of the pieces from a link on: one for each, and one at the offset where the chain ends,
+-- if that is not 0. An offset that came before is read again
 abbrev pub chain_reads : ℕ → List MinidumpHandleObjectInformation → ℕ
 chain_reads link infos = length infos + reads_at (last_link link infos)
 

@@ -1,4 +1,5 @@
--- The text of Linux's files in a report: the name of the type, and a line for each pair, or for each line of the limits.
+-- The text of Linux's files in a report: the name of the type, and a line for each pair, or for
+-- each line of the limits.
 use Rattle.std.specs.Prelude.{ℕ, List, [], ◌∷◌, ◌++◌, codes}
 use Rattle.std.specs.List.{concat, flat_map}
 use Rattle.minidump_bytes.specs.LinuxOsStr.{text_lines}
@@ -23,7 +24,8 @@ limit_line line = concat (codes "  " ∷ line ∷ codes "\n" ∷ [])
 
 -- a text of pairs around a separator
 abbrev pub linux_pairs_text : MINIDUMP_STREAM_TYPE → ℕ → List ℕ → List ℕ
-linux_pairs_text stream_type separator text = name_line stream_type ++ flat_map pair_line (pairs_of separator text)
+linux_pairs_text stream_type separator text =
+    name_line stream_type ++ flat_map pair_line (pairs_of separator text)
 
 -- the separators of cpuinfo and status are colons
 abbrev pub linux_cpu_info_text : List ℕ → List ℕ

@@ -109,43 +109,50 @@ text_of field (v5 raw texts) = unless_empty (field texts)
 
 -- ---- its bytes
 
--- the text at a place of the bytes of a record, up to its NUL, which has to be among them too
+-- the text at an offset in the bytes of a record, up to its NUL, which they have to contain, too
 abbrev pub text_at : ℕ → List ℕ → Result (List ℕ) Error
-text_at place bytes = ok_or (cstring place bytes) StreamReadFailure
+text_at offset bytes = ok_or (cstring offset bytes) StreamReadFailure
 
--- the place behind the text at a place and its NUL
-abbrev pub behind : ℕ → List ℕ → ℕ
-behind place text = place + length text + 1
+-- the offset after the text at an offset and its NUL
+abbrev pub end_of_text : ℕ → List ℕ → ℕ
+end_of_text offset text = offset + length text + 1
 
--- the five texts: the first is at a place, and each other one is behind the text before it
+-- the five texts: the first is at an offset, and each other one comes after the text before it
 unfoldable pub texts_in : ℕ → List ℕ → Result MacTexts Error
 texts_in first bytes =
-    and_then (text_at first bytes) (λ module_path. let second = behind first module_path in
-    and_then (text_at second bytes) (λ message. let third = behind second message in
-    and_then (text_at third bytes) (λ signature_string. let fourth = behind third signature_string in
-    and_then (text_at fourth bytes) (λ backtrace. let fifth = behind fourth backtrace in
+    and_then (text_at first bytes) (λ module_path. let second = end_of_text first module_path in
+    and_then (text_at second bytes) (λ message. let third = end_of_text second message in
+    and_then (text_at third bytes) (λ signature. let fourth = end_of_text third signature in
+    and_then (text_at fourth bytes) (λ backtrace. let fifth = end_of_text fourth backtrace in
     and_then (text_at fifth bytes) (λ message2. Ok (record {
       module_path = module_path;
       message = message;
-      signature_string = signature_string;
+      signature_string = signature;
       backtrace = backtrace;
       message2 = message2;
     }))))))
 
--- the fixed part, which has to end where the texts begin, or before; bytes between the two are not read
+-- the fixed part, which has to end where the texts begin, or before; bytes between the two are not
+-- read
 unfoldable pub fixed_part : {R : Type 0} → Layout R → Endian → ℕ → List ℕ → Result R Error
 fixed_part layout order start bytes =
-    if nat_lt start layout.size then Err StreamReadFailure else ok_or (record_at layout order 0 bytes) StreamReadFailure
+    if nat_lt start layout.size
+    then Err StreamReadFailure
+    else ok_or (record_at layout order 0 bytes) StreamReadFailure
 
--- the record of a head, by its version, where the texts begin at `start`; a record of version 0 is left out. In versions 1 to 3, which have
--- no texts, `start` may lie behind the record
-abbrev pub by_version : Endian → ℕ → MINIDUMP_MAC_CRASH_INFO_RECORD → List ℕ → Result (Option MacRecord) Error
+-- the record of a head, by its version, where the texts begin at `start`; none for version 0.
+-- Versions 1 to 3 have no texts: there `start` may lie after the record
+abbrev pub by_version : Endian → ℕ → MINIDUMP_MAC_CRASH_INFO_RECORD → List ℕ
+    → Result (Option MacRecord) Error
 by_version order start head bytes =
     if head.version == 0 then Ok None else (
-    if nat_lt head.version 4 then (if nat_lt start 16 then Err StreamReadFailure else Ok (Some (v1 head))) else (
+    if nat_lt head.version 4 then
+    (if nat_lt start 16 then Err StreamReadFailure else Ok (Some (v1 head))) else (
     if head.version == 4
-    then and_then (fixed_part mac_record_4 order start bytes) (λ raw. and_then (texts_in start bytes) (λ texts. Ok (Some (v4 raw texts))))
-    else and_then (fixed_part mac_record_5 order start bytes) (λ raw. and_then (texts_in start bytes) (λ texts. Ok (Some (v5 raw texts))))))
+    then and_then (fixed_part mac_record_4 order start bytes)
+    (λ raw. and_then (texts_in start bytes) (λ texts. Ok (Some (v4 raw texts))))
+    else and_then (fixed_part mac_record_5 order start bytes)
+    (λ raw. and_then (texts_in start bytes) (λ texts. Ok (Some (v5 raw texts))))))
 
 -- the record is of a version that has texts
 abbrev pub HasTexts : MacRecord → Type 0
@@ -153,13 +160,13 @@ HasTexts (v1 raw) = ⊥
 HasTexts (v4 raw texts) = ⊤
 HasTexts (v5 raw texts) = ⊤
 
--- the fewest reads of a record behind its head: from version 4 on the fixed part and five texts
+-- the fewest reads of a record after its head: from version 4 on the fixed part and five texts
 abbrev pub record_reads : MacRecord → ℕ
 record_reads (v1 raw) = 0
 record_reads (v4 raw texts) = 6
 record_reads (v5 raw texts) = 6
 
--- the fewest reads behind the head of a record that may be left out
+-- the fewest reads after the head, none for a record of version 0
 abbrev pub item_reads : Option MacRecord → ℕ
 item_reads None = 0
 item_reads (Some r) = record_reads r

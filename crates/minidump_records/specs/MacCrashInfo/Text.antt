@@ -26,4 +26,6 @@ record_text r = concat (
 
 -- how many records there are, and each of them
 abbrev pub mac_crash_info_text : List MacRecord → List ℕ
-mac_crash_info_text rs = count_text (codes "MINIDUMP_MAC_CRASH_INFO\n  num_records = ") (length rs) ++ flat_map record_text (enumerate_from 0 rs)
+mac_crash_info_text rs =
+    count_text (codes "MINIDUMP_MAC_CRASH_INFO\n  num_records = ") (length rs)
+    ++ flat_map record_text (enumerate_from 0 rs)

@@ -1,7 +1,7 @@
-ghost use Rattle.std.specs.Prelude.{◌≡◌, ◌↔◌, ◌+◌, ◌≤◌, IfOk, IsOkUnless, IsTrue, OnErr};
+ghost use Rattle.std.specs.Prelude.{◌≡◌, ◌↔◌, IfOk, IsOkUnless, IsTrue, OnErr};
 ghost use Rattle.minidump_records.specs.Crashpad.Annotations.{AreSame, IsText, annotation_of};
 
-use super::dictionary::Valued;
+use super::dictionary::DictionaryValue;
 use minidump_bytes::{Endian, Source, Steps};
 use minidump_format::Error;
 use minidump_format::format::MINIDUMP_ANNOTATION;
@@ -21,8 +21,8 @@ pub enum MinidumpAnnotation {
 }
 
 impl MinidumpAnnotation {
-    /// Returns `true` if both are `Invalid`, or are equal texts. This is no equality: an annotation of another
-    /// kind is not the same as itself, since its value is not read.
+    /// Returns `true` if both are `Invalid`, or are equal texts. This is no equality: an annotation
+    /// of another kind is not the same as itself, since its value is not read.
     pub fn same_as(&self, other: &MinidumpAnnotation) -> bool
         ensures { IsTrue result ↔ AreSame (annotation_of self.now) (annotation_of other.now) }
     {
@@ -51,7 +51,7 @@ impl MinidumpAnnotation {
 }
 
 /// Reads the value of an annotation by its type.
-impl Valued<MINIDUMP_ANNOTATION> for MinidumpAnnotation {
+impl DictionaryValue<MINIDUMP_ANNOTATION> for MinidumpAnnotation {
     ghost use Rattle.minidump_records.specs.Crashpad.Annotations.{Annotation, annotation_in, annotation_of, annotation_reads};
 
     ghost Value = { Annotation };

@@ -1,4 +1,4 @@
-ghost use Rattle.std.specs.Prelude.{◌≡◌, ◌+◌, ◌≤◌, ⊤, ℕ, IfOk, List, Result, length, map, string_bytes};
+ghost use Rattle.std.specs.Prelude.{◌≡◌, ◌+◌, ◌≤◌, ⊤, ℕ, IfOk, List, Result, length, string_bytes};
 ghost use Rattle.std.specs.List.{sum_by};
 ghost use Rattle.minidump_bytes.specs.declared.endian.Endian.{Endian};
 ghost use Rattle.minidump_bytes.specs.Source.{bytes_of};
@@ -6,7 +6,7 @@ ghost use Rattle.minidump_bytes.specs.Steps.{after};
 ghost use Rattle.minidump_format.specs.declared.error.Error.{Error};
 ghost use Rattle.minidump_format.specs.Answer.{Gives};
 ghost use Rattle.minidump_records.specs.Crashpad.Dictionary.{dictionary, entries_of};
-ghost use Rattle.minidump_records.specs.Crashpad.Parts.{CountsEntry, opened_reads, WithinParts};
+ghost use Rattle.minidump_records.specs.Crashpad.Parts.{CountsEntry, list_reads, WithinParts};
 
 use super::part::{Part, read_untested};
 use super::text::read_text;
@@ -19,7 +19,7 @@ use std::alloc::Global;
 use std::collections::BTreeMap;
 
 /// The value that an entry of a dictionary names, beside its key.
-pub(crate) trait Valued<E>: Sized {
+pub(crate) trait DictionaryValue<E>: Sized {
     ghost Value: { Type 0 };
 
     ghost value: { Self → Value };
@@ -52,7 +52,7 @@ pub(crate) trait Valued<E>: Sized {
 }
 
 /// Reads the value of an entry of a plain dictionary, which is a text.
-impl Valued<MINIDUMP_SIMPLE_STRING_DICTIONARY_ENTRY> for String {
+impl DictionaryValue<MINIDUMP_SIMPLE_STRING_DICTIONARY_ENTRY> for String {
     ghost use Rattle.std.specs.Prelude.{ℕ, List, string_bytes};
     ghost use Rattle.minidump_records.specs.Crashpad.Dictionary.{text_in};
 
@@ -83,20 +83,20 @@ impl Valued<MINIDUMP_SIMPLE_STRING_DICTIONARY_ENTRY> for String {
 
 /// A key with its value.
 #[derive(Drop)]
-pub(crate) struct Keyed<V> {
+pub(crate) struct Pair<V> {
     key: String,
     value: V,
 }
 
-impl<E, V: Valued<E>> Part<E> for Keyed<V> {
+impl<E, V: DictionaryValue<E>> Part<E> for Pair<V> {
     ghost use Rattle.std.specs.Prelude.{ℕ, ◌+◌, List};
-    ghost use Rattle.minidump_records.specs.Crashpad.Dictionary.{HasText, keyed, pair_of};
+    ghost use Rattle.minidump_records.specs.Crashpad.Dictionary.{HasText, pair_in, pair_of};
 
     ghost Value = { List ℕ × V.Value };
 
     ghost value = { pair_of V.value };
 
-    ghost part = { keyed V.key V.part };
+    ghost part = { pair_in V.key V.part };
 
     ghost memory = { λ order file e. HasText order file (V.key e) };
 
@@ -113,29 +113,33 @@ impl<E, V: Valued<E>> Part<E> for Keyed<V> {
     ) -> Result<Self, Error> {
         let key = read_text(alloc, V::key_of(entry), all, endian, steps)?;
         let value = V::read_value(alloc, entry, all, endian, steps)?;
-        Ok(Keyed { key, value })
+        Ok(Pair { key, value })
     }
 }
 
-/// Reads the dictionary at a location. All entries are read; if several have one key, the last one is kept.
-pub(crate) fn read_dictionary<E: Record + Drop, V: Valued<E> + Drop>(
+/// Reads the dictionary at a location. All entries are read; if several have one key, the last one
+/// is kept.
+pub(crate) fn read_dictionary<E: Record + Drop, V: DictionaryValue<E> + Drop>(
     alloc: Global,
     location: MINIDUMP_LOCATION_DESCRIPTOR,
     all: Source<'_>,
     endian: Endian,
     steps: &mut Steps,
 ) -> Result<BTreeMap<String, V>, Error>
-    ensures means { Gives (λ m. entries_of V.value m.entries) (CountsEntry endian (bytes_of all.entry) location) result
+    ensures means { Gives (λ m. entries_of V.value m.entries)
+        (CountsEntry endian (bytes_of all.entry) location) result
         (dictionary E.layout V.key V.part endian (bytes_of all.entry) location) }
-    ensures within { WithinParts E.layout.size (length (bytes_of all.entry)) 2 (steps.old + 2) steps.new }
+    ensures within { WithinParts E.layout.size (length (bytes_of all.entry)) 2
+        (steps.old + 2) steps.new }
     ensures grows { steps.old ≤ steps.new }
     ensures at_least { IfOk result (λ m. after steps.old
-        (opened_reads location + sum_by (λ e. 1 + (1 + V.fewest e.1)) (entries_of V.value m.entries)) ≤ steps.new) }
+        (list_reads location + sum_by (λ e. 1 + (1 + V.fewest e.1)) (entries_of V.value m.entries))
+        ≤ steps.new) }
 {
-    let pairs: Vec<Keyed<V>> = read_untested::<E, Keyed<V>>(alloc, location, all, endian, steps)?;
+    let pairs: Vec<Pair<V>> = read_untested::<E, Pair<V>>(alloc, location, all, endian, steps)?;
     let mut dictionary = BTreeMap::new(alloc);
     for pair in pairs {
-        let Keyed { key, value } = pair;
+        let Pair { key, value } = pair;
         dictionary.insert(key, value)?;
     }
     Ok(dictionary)

@@ -1,4 +1,4 @@
-ghost use Rattle.std.specs.Prelude.{◌≡◌, ◌+◌, ◌≤◌};
+ghost use Rattle.std.specs.Prelude.{◌≡◌};
 ghost use Rattle.minidump_bytes.specs.Source.{bytes_of};
 ghost use Rattle.minidump_bytes.specs.Steps.{after};
 ghost use Rattle.minidump_format.specs.Answer.{Gives};
@@ -20,7 +20,7 @@ use std::collections::BTreeMap;
 /// Crashpad's information on a process and its modules: `MinidumpCrashpadInfo`.
 #[derive(Drop)]
 pub struct MinidumpCrashpadInfo {
-    /// The record at the beginning of the stream.
+    /// The record at the start of the stream.
     pub raw: MINIDUMP_CRASHPAD_INFO,
     /// The texts of the process's dictionary, by key.
     pub simple_annotations: BTreeMap<String, String>,
@@ -47,11 +47,12 @@ fn read_record(
     Ok(raw)
 }
 
-/// Reads Crashpad's `MinidumpCrashpadInfo`: a record, then its dictionary and its list of links to modules.
+/// Reads Crashpad's `MinidumpCrashpadInfo`: a record, then its dictionary and its list of links to
+/// modules.
 ///
 /// Returns `StreamReadFailure` if a record, a location, a text or an entry isn't in the file,
-/// `StreamSizeMismatch` if a list of texts or of links counts more bytes than the file has, `VersionMismatch` if
-/// the version of the record is 0.
+/// `StreamSizeMismatch` if a list of texts or of links counts more bytes than the file has,
+/// `VersionMismatch` if the version of the record is 0.
 impl<'a> MinidumpStream<'a> for MinidumpCrashpadInfo {
     ghost use Rattle.minidump_records.specs.Crashpad.{Crashpad, crashpad_info_stream};
 

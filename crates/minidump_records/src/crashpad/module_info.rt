@@ -29,20 +29,22 @@ pub struct MinidumpModuleCrashpadInfo {
 }
 
 impl MinidumpModuleCrashpadInfo {
-    /// Reads the information that a link names from the bytes of the file, `all`: the record, and then its three
-    /// lists in the order of the record. Ignores the size that the link states, and the version of the record.
+    /// Reads the information that a link names from the bytes of the file, `all`: the record, and
+    /// then its three lists in the order of the record. Ignores the size that the link states, and
+    /// the version of the record.
     ///
     /// Returns `StreamReadFailure` if a record, a location, a text or an entry is not in the file,
-    /// `StreamSizeMismatch` if the entries that the list of texts counts would be more bytes than the file
-    /// has, and `OutOfMemory` if an allocation fails. Memory is taken only if one of the lists
-    /// counts an entry.
+    /// `StreamSizeMismatch` if the entries that the list of texts counts would be more bytes than
+    /// the file has, and `OutOfMemory` if an allocation fails. Memory is taken only if one of the
+    /// lists counts an entry.
     pub fn read(
         alloc: Global,
         link: MINIDUMP_MODULE_CRASHPAD_INFO_LINK,
         all: &[u8],
         endian: Endian,
     ) -> Result<MinidumpModuleCrashpadInfo, Error>
-        ensures { Gives module_of (ModuleTakesMemory endian all.now link) result (module_in endian all.now link) }
+        ensures { Gives module_of (ModuleTakesMemory endian all.now link) result
+            (module_in endian all.now link) }
     {
         MinidumpModuleCrashpadInfo::read_part(
             alloc,

@@ -1,11 +1,11 @@
-ghost use Rattle.std.specs.Prelude.{◌≡◌, ◌+◌, ◌<◌, ◌≤◌, ℕ, List, Result, length, map, IfOk};
+ghost use Rattle.std.specs.Prelude.{◌+◌, ◌<◌, ◌≤◌, ℕ, List, Result, length, map, IfOk};
 ghost use Rattle.std.specs.List.{sum_by};
 ghost use Rattle.minidump_bytes.specs.declared.endian.Endian.{Endian};
 ghost use Rattle.minidump_bytes.specs.Source.{bytes_of};
 ghost use Rattle.minidump_bytes.specs.Steps.{after};
 ghost use Rattle.minidump_format.specs.declared.error.Error.{Error};
 ghost use Rattle.minidump_format.specs.Answer.{Gives};
-ghost use Rattle.minidump_records.specs.Crashpad.Parts.{CountsEntry, list_of, opened, opened_reads, parts, tested_list, untested_list, WithinParts};
+ghost use Rattle.minidump_records.specs.Crashpad.Parts.{CountsEntry, list_of, list_at, list_reads, parts, tested_list, untested_list, WithinParts};
 
 use minidump_bytes::{Endian, Record, Source, Steps};
 use minidump_format::Error;
@@ -38,25 +38,28 @@ pub(crate) trait Part<E>: Sized {
         endian: Endian,
         steps: &mut Steps,
     ) -> Result<Self, Error>
-        ensures means { Gives value (memory endian (bytes_of all.entry) entry.now) result (part endian (bytes_of all.entry) entry.now) }
+        ensures means { Gives value (memory endian (bytes_of all.entry) entry.now) result
+            (part endian (bytes_of all.entry) entry.now) }
         ensures within { steps.new ≤ steps.old + most (length (bytes_of all.entry)) }
         ensures grows { steps.old ≤ steps.new }
         ensures at_least { IfOk result (λ p. after steps.old (fewest (value p)) ≤ steps.new) };
 }
 
-// Reads the bytes of the list at a location, and the count that they begin with. The count of no bytes is 0.
-#[tactic(auto, unfolding(crate::specs::Crashpad::Parts::opened))]
+// Reads the bytes of the list at a location, and the count that they begin with. The count of no
+// bytes is 0.
+#[tactic(auto, unfolding(crate::specs::Crashpad::Parts::list_at))]
 fn open_list<'a>(
     location: MINIDUMP_LOCATION_DESCRIPTOR,
     all: Source<'a>,
     endian: Endian,
     steps: &mut Steps,
 ) -> Result<(Source<'a>, u32), Error>
-    ensures means { Gives (λ l. list_of (bytes_of l.0) l.1) ⊥ result (opened endian (bytes_of all.entry) location) }
+    ensures means { Gives (λ l. list_of (bytes_of l.0) l.1) ⊥ result
+        (list_at endian (bytes_of all.entry) location) }
     ensures inside { IfOk result (λ l. length (bytes_of l.0) ≤ length (bytes_of all.entry)) }
     ensures within { steps.new ≤ steps.old + 2 }
     ensures grows { steps.old ≤ steps.new }
-    ensures at_least { IfOk result (λ _. after steps.old (opened_reads location) ≤ steps.new) }
+    ensures at_least { IfOk result (λ _. after steps.old (list_reads location) ≤ steps.new) }
 {
     let bytes = location
         .bytes_in(all, steps)
@@ -71,8 +74,8 @@ fn open_list<'a>(
     Ok((bytes, count))
 }
 
-// Reads the parts that the `count` entries after the count name. The list grows entry by entry, so that a
-// forged count reserves no memory.
+// Reads the parts that the `count` entries after the count name. The list grows entry by entry, so
+// that a forged count reserves no memory.
 fn read_parts<E: Record + Drop, P: Part<E> + Drop>(
     alloc: Global,
     bytes: Source<'_>,
@@ -84,15 +87,17 @@ fn read_parts<E: Record + Drop, P: Part<E> + Drop>(
     ensures means { Gives (λ v. map P.value v.items) (0 < count) result
         (parts E.layout P.part endian (bytes_of all.entry) (list_of (bytes_of bytes.entry) count)) }
     ensures few { IfOk result (λ v. 0 < length v.items → 0 < count) }
-    ensures within { WithinParts E.layout.size (length (bytes_of bytes.entry)) (P.most (length (bytes_of all.entry))) steps.old steps.new }
+    ensures within { WithinParts E.layout.size (length (bytes_of bytes.entry))
+        (P.most (length (bytes_of all.entry))) steps.old steps.new }
     ensures grows { steps.old ≤ steps.new }
-    ensures at_least { IfOk result (λ v. after steps.old (sum_by (λ p. 1 + P.fewest p) (map P.value v.items)) ≤ steps.new) }
+    ensures at_least { IfOk result
+        (λ v. after steps.old (sum_by (λ p. 1 + P.fewest p) (map P.value v.items)) ≤ steps.new) }
 {
     let mut parts = Vec::new(alloc);
     for i in 0..count {
-        let place = 4 + E::SIZE as u64 * i as u64;
+        let offset = 4 + E::SIZE as u64 * i as u64;
         let entry: E = bytes
-            .record(place, endian, steps)
+            .record(offset, endian, steps)
             .ok_or(Error::StreamReadFailure)?;
         let part = P::read_part(alloc, &entry, all, endian, steps)?;
         parts.push(part)?;
@@ -100,7 +105,7 @@ fn read_parts<E: Record + Drop, P: Part<E> + Drop>(
     Ok(parts)
 }
 
-/// Reads the parts of the list at a location, whatever its count says.
+/// Reads the parts of the list at a location. Any count is allowed.
 #[tactic(auto, unfolding(crate::specs::Crashpad::Parts::untested_list))]
 pub(crate) fn read_untested<E: Record + Drop, P: Part<E> + Drop>(
     alloc: Global,
@@ -109,20 +114,23 @@ pub(crate) fn read_untested<E: Record + Drop, P: Part<E> + Drop>(
     endian: Endian,
     steps: &mut Steps,
 ) -> Result<Vec<P>, Error>
-    ensures means { Gives (λ v. map P.value v.items) (CountsEntry endian (bytes_of all.entry) location) result
+    ensures means { Gives (λ v. map P.value v.items)
+        (CountsEntry endian (bytes_of all.entry) location) result
         (untested_list E.layout P.part endian (bytes_of all.entry) location) }
-    ensures few { IfOk result (λ v. 0 < length v.items → CountsEntry endian (bytes_of all.entry) location) }
-    ensures within { WithinParts E.layout.size (length (bytes_of all.entry)) (P.most (length (bytes_of all.entry))) (steps.old + 2) steps.new }
+    ensures few { IfOk result (λ v. 0 < length v.items
+        → CountsEntry endian (bytes_of all.entry) location) }
+    ensures within { WithinParts E.layout.size (length (bytes_of all.entry))
+        (P.most (length (bytes_of all.entry))) (steps.old + 2) steps.new }
     ensures grows { steps.old ≤ steps.new }
     ensures at_least { IfOk result (λ v. after steps.old
-        (opened_reads location + sum_by (λ p. 1 + P.fewest p) (map P.value v.items)) ≤ steps.new) }
+        (list_reads location + sum_by (λ p. 1 + P.fewest p) (map P.value v.items)) ≤ steps.new) }
 {
     let (bytes, count) = open_list(location, all, endian, steps)?;
     read_parts(alloc, bytes, count, all, endian, steps)
 }
 
-/// Reads the parts of the list at a location. Returns `StreamSizeMismatch` if `count` entries are more bytes
-/// than the whole file has.
+/// Reads the parts of the list at a location. Returns `StreamSizeMismatch` if `count` entries are
+/// more bytes than the whole file has.
 #[tactic(auto, unfolding(crate::specs::Crashpad::Parts::tested_list))]
 pub(crate) fn read_list<E: Record + Drop, P: Part<E> + Drop>(
     alloc: Global,
@@ -131,12 +139,14 @@ pub(crate) fn read_list<E: Record + Drop, P: Part<E> + Drop>(
     endian: Endian,
     steps: &mut Steps,
 ) -> Result<Vec<P>, Error>
-    ensures means { Gives (λ v. map P.value v.items) (CountsEntry endian (bytes_of all.entry) location) result
+    ensures means { Gives (λ v. map P.value v.items)
+        (CountsEntry endian (bytes_of all.entry) location) result
         (tested_list E.layout P.part endian (bytes_of all.entry) location) }
-    ensures within { WithinParts E.layout.size (length (bytes_of all.entry)) (P.most (length (bytes_of all.entry))) (steps.old + 2) steps.new }
+    ensures within { WithinParts E.layout.size (length (bytes_of all.entry))
+        (P.most (length (bytes_of all.entry))) (steps.old + 2) steps.new }
     ensures grows { steps.old ≤ steps.new }
     ensures at_least { IfOk result (λ v. after steps.old
-        (opened_reads location + sum_by (λ p. 1 + P.fewest p) (map P.value v.items)) ≤ steps.new) }
+        (list_reads location + sum_by (λ p. 1 + P.fewest p) (map P.value v.items)) ≤ steps.new) }
 {
     let (bytes, count) = open_list(location, all, endian, steps)?;
     let expected = E::SIZE * count as usize;

@@ -7,7 +7,7 @@ ghost use Rattle.minidump_format.specs.Text.{line_end};
 ghost use Rattle.minidump_records.specs.Crashpad.{Module, crashpad_info_of, module_of};
 ghost use Rattle.minidump_records.specs.Crashpad.Annotations.{annotation_of};
 ghost use Rattle.minidump_records.specs.Crashpad.Dictionary.{entries_of};
-ghost use Rattle.minidump_records.specs.Crashpad.Text.{annotation_text, crashpad_info_text, listed_line, module_lines, module_text, object_line, objects_text, process_line, process_lines, process_text, simple_line};
+ghost use Rattle.minidump_records.specs.Crashpad.Text.{annotation_text, crashpad_info_text, list_line, module_lines, module_text, object_line, objects_text, process_line, process_lines, process_text, simple_line};
 
 use super::{MinidumpAnnotation, MinidumpCrashpadInfo, MinidumpModuleCrashpadInfo};
 use minidump_bytes::{Piece, Told, push_pieces};
@@ -18,10 +18,12 @@ use std::collections::BTreeMap;
 use std::io::Write;
 
 impl MinidumpCrashpadInfo {
-    /// Prints the record and the texts of the process, and then each module with its texts and annotations.
+    /// Prints the record and the texts of the process, and then each module with its texts and
+    /// annotations.
     #[tactic(auto, using(minidump_format::proofs::Printing::prints_then, minidump_format::proofs::Printing::prints_exit))]
     pub fn print<W: Write>(&self, alloc: Global, f: &mut Told<W>) -> Result<(), Error>
-        ensures { Prints W.contents f.old f.new (crashpad_info_text (crashpad_info_of self.now)) result }
+        ensures { Prints W.contents f.old f.new
+            (crashpad_info_text (crashpad_info_of self.now)) result }
     {
         print_item(&ProcessText { raw: &self.raw }, alloc, f)?;
         self.print_lists(alloc, f)
@@ -31,7 +33,8 @@ impl MinidumpCrashpadInfo {
     fn print_lists<W: Write>(&self, alloc: Global, f: &mut Told<W>) -> Result<(), Error>
         ensures { Prints W.contents f.old f.new
             (flat_map process_line (entries_of string_bytes self.now.simple_annotations.entries)
-            ++ (flat_map module_text (enumerate_from 0 (map module_of self.now.module_list.items)) ++ line_end)) result }
+            ++ (flat_map module_text (enumerate_from 0 (map module_of self.now.module_list.items))
+            ++ line_end)) result }
     {
         print_process_lines(&self.simple_annotations, alloc, f)?;
         self.print_modules(alloc, f)
@@ -40,7 +43,8 @@ impl MinidumpCrashpadInfo {
     #[tactic(auto, using(minidump_format::proofs::Printing::prints_then, minidump_format::proofs::Printing::prints_exit))]
     fn print_modules<W: Write>(&self, alloc: Global, f: &mut Told<W>) -> Result<(), Error>
         ensures { Prints W.contents f.old f.new
-            (flat_map module_text (enumerate_from 0 (map module_of self.now.module_list.items)) ++ line_end) result }
+            (flat_map module_text (enumerate_from 0 (map module_of self.now.module_list.items))
+            ++ line_end) result }
     {
         print_module_list(self.module_list.as_slice(), alloc, f)?;
         print_line_end(f)
@@ -52,7 +56,8 @@ fn print_process_lines<W: Write>(
     alloc: Global,
     f: &mut Told<W>,
 ) -> Result<(), Error>
-    ensures { Prints W.contents f.old f.new (flat_map process_line (entries_of string_bytes texts.now.entries)) result }
+    ensures { Prints W.contents f.old f.new
+        (flat_map process_line (entries_of string_bytes texts.now.entries)) result }
 {
     let lines = texts.iter().map(|(key, text)| ProcessLine { key, text });
     print_all(lines, alloc, f)
@@ -63,7 +68,8 @@ fn print_module_list<W: Write>(
     alloc: Global,
     f: &mut Told<W>,
 ) -> Result<(), Error>
-    ensures { Prints W.contents f.old f.new (flat_map module_text (enumerate_from 0 (map module_of modules.now))) result }
+    ensures { Prints W.contents f.old f.new
+        (flat_map module_text (enumerate_from 0 (map module_of modules.now))) result }
 {
     print_each_module(modules.iter().enumerate(), alloc, f)
 }
@@ -75,7 +81,8 @@ fn print_each_module<
 >(modules: I, alloc: Global, f: &mut Told<W>) -> Result<(), Error>
     requires can { I.can_next modules }
     requires ends { IsFinite (I.remaining modules) }
-    ensures { (all : List (ℕ × Module)) → YieldsList I.next_gives (λ m. (m.0, module_of m.1.now)) modules all
+    ensures { (all : List (ℕ × Module))
+        → YieldsList I.next_gives (λ m. (m.0, module_of m.1.now)) modules all
         → Prints W.contents f.old f.new (flat_map module_text all) result }
 {
     if f.failed() {
@@ -108,10 +115,11 @@ fn print_annotations<W: Write>(
     f: &mut Told<W>,
 ) -> Result<(), Error>
     ensures { Prints W.contents f.old f.new
-        (flat_map (listed_line index) (enumerate_from 0 (map string_bytes info.now.list_annotations.items))
+        (flat_map (list_line index)
+        (enumerate_from 0 (map string_bytes info.now.list_annotations.items))
         ++ objects_text (index, module_of info.now)) result }
 {
-    print_listed(index, info.list_annotations.as_slice(), alloc, f)?;
+    print_list(index, info.list_annotations.as_slice(), alloc, f)?;
     print_dictionaries(index, info, alloc, f)
 }
 
@@ -128,17 +136,18 @@ fn print_dictionaries<W: Write>(
     print_objects(index, &info.annotation_objects, alloc, f)
 }
 
-fn print_listed<W: Write>(
+fn print_list<W: Write>(
     index: usize,
     texts: &[String],
     alloc: Global,
     f: &mut Told<W>,
 ) -> Result<(), Error>
-    ensures { Prints W.contents f.old f.new (flat_map (listed_line index) (enumerate_from 0 (map string_bytes texts.now))) result }
+    ensures { Prints W.contents f.old f.new
+        (flat_map (list_line index) (enumerate_from 0 (map string_bytes texts.now))) result }
 {
-    let lines = texts.iter().enumerate().map(|(place, text)| ListedLine {
+    let lines = texts.iter().enumerate().map(|(entry, text)| ListLine {
         module: index,
-        index: place,
+        index: entry,
         text,
     });
     print_all(lines, alloc, f)
@@ -150,7 +159,8 @@ fn print_simple<W: Write>(
     alloc: Global,
     f: &mut Told<W>,
 ) -> Result<(), Error>
-    ensures { Prints W.contents f.old f.new (flat_map (simple_line index) (entries_of string_bytes texts.now.entries)) result }
+    ensures { Prints W.contents f.old f.new
+        (flat_map (simple_line index) (entries_of string_bytes texts.now.entries)) result }
 {
     let lines = texts
         .iter()
@@ -164,7 +174,8 @@ fn print_objects<W: Write>(
     alloc: Global,
     f: &mut Told<W>,
 ) -> Result<(), Error>
-    ensures { Prints W.contents f.old f.new (flat_map (object_line index) (entries_of annotation_of annotations.now.entries)) result }
+    ensures { Prints W.contents f.old f.new
+        (flat_map (object_line index) (entries_of annotation_of annotations.now.entries)) result }
 {
     let lines = annotations.iter().map(|(name, annotation)| ObjectLine {
         index,
@@ -203,7 +214,8 @@ fn push_process<'x>(
     report_id: &'x str,
     client_id: &'x str,
 ) -> Result<(), AllocError>
-    ensures { OnOk result (out.new.items ≡ out.old.items ++ process_lines version report_id.now client_id.now) }
+    ensures { OnOk result (out.new.items ≡ out.old.items
+        ++ process_lines version report_id.now client_id.now) }
 {
     push_pieces(out, &[
         Piece::Words("MDRawCrashpadInfo\n"),
@@ -256,19 +268,19 @@ impl<'a> Pushed for ModuleLines<'a> {
 
 // The line of a text of the list of a module.
 #[derive(Clone, Copy)]
-struct ListedLine<'a> {
+struct ListLine<'a> {
     module: usize,
     index: usize,
     text: &'a String,
 }
 
-impl<'a> Pushed for ListedLine<'a> {
+impl<'a> Pushed for ListLine<'a> {
     ghost use Rattle.std.specs.Prelude.{string_bytes};
 
-    ghost text = { λ l. listed_line l.module (l.index, string_bytes l.text.now) };
+    ghost text = { λ l. list_line l.module (l.index, string_bytes l.text.now) };
 
     #[rattlefmt::skip]
-    #[tactic(auto, unfolding(crate::specs::Crashpad::Text::listed_line))]
+    #[tactic(auto, unfolding(crate::specs::Crashpad::Text::list_line))]
     fn push(&self, out: &mut Vec<u8>) -> Result<(), AllocError> {
         push_pieces(out, &[
             Piece::Words("  module_list["), Piece::Decimal(self.module as u64), Piece::Words("].list_annotations["), Piece::Decimal(self.index as u64), Piece::Words("] = "), Piece::Words(self.text.as_str()), Piece::Words("\n"),
@@ -315,13 +327,13 @@ impl<'a> Pushed for ObjectLine<'a> {
     #[tactic(auto, unfolding(crate::specs::Crashpad::Text::object_line))]
     fn push(&self, out: &mut Vec<u8>) -> Result<(), AllocError> {
         push_pieces(out, &[
-            Piece::Words("  module_list["), Piece::Decimal(self.index as u64), Piece::Words("].annotation_objects[\""), Piece::Words(self.name.as_str()), Piece::Words("\"] = "), Piece::Words(shown(self.annotation)), Piece::Words("\n"),
+            Piece::Words("  module_list["), Piece::Decimal(self.index as u64), Piece::Words("].annotation_objects[\""), Piece::Words(self.name.as_str()), Piece::Words("\"] = "), Piece::Words(annotation_str(self.annotation)), Piece::Words("\n"),
         ])
     }
 }
 
 // Returns a text as it is, and the kind of any other annotation.
-fn shown(annotation: &MinidumpAnnotation) -> &str
+fn annotation_str(annotation: &MinidumpAnnotation) -> &str
     ensures { result.now ≡ annotation_text (annotation_of annotation.now) }
 {
     match annotation {

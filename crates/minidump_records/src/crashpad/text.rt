@@ -1,4 +1,4 @@
-ghost use Rattle.std.specs.Prelude.{◌+◌, ◌≤◌, IfOk, string_bytes};
+ghost use Rattle.std.specs.Prelude.{◌+◌, ◌≤◌, string_bytes};
 ghost use Rattle.minidump_bytes.specs.Source.{bytes_of};
 ghost use Rattle.minidump_bytes.specs.Steps.{after};
 ghost use Rattle.minidump_format.specs.Answer.{Gives};
@@ -17,9 +17,10 @@ pub(crate) fn read_text(
     endian: Endian,
     steps: &mut Steps,
 ) -> Result<String, Error>
-    ensures means { Gives string_bytes (HasText endian (bytes_of all.entry) rva) result (text_in endian (bytes_of all.entry) rva) }
+    ensures means { Gives string_bytes (HasText endian (bytes_of all.entry) rva) result
+        (text_in endian (bytes_of all.entry) rva) }
     ensures within { steps.new ≤ steps.old + 1 }
-    ensures begun { after steps.old 1 ≤ steps.new }
+    ensures at_least { after steps.old 1 ≤ steps.new }
 {
     let text = all
         .text8_nul(rva as u64, endian, steps)

@@ -12,9 +12,9 @@ use minidump_bytes::{Endian, Source, Steps};
 use std::alloc::{AllocError, Global};
 use std::collections::BTreeSet;
 
-// Reads the pieces of information from the offset `link` on. Each piece names the offset of the next; the chain
-// ends at an offset that came before, and at one where no piece can be read. Counts one step for each piece, and
-// one more if the chain ends at another offset than 0.
+// Reads the pieces of information from the offset `link` on. Each piece names the offset of the
+// next; the chain ends at an offset that came before, and at one where no piece can be read. Counts
+// one step for each piece, and one more if the chain ends at another offset than 0.
 pub(super) fn read_chain(
     alloc: Global,
     link: u32,
@@ -28,20 +28,21 @@ pub(super) fn read_chain(
     ensures at_least { IfOk result (λ v. after steps.old (chain_reads link v.items) ≤ steps.new) }
 {
     let mut infos = Vec::new(alloc);
-    let mut met = BTreeSet::new(alloc);
-    let mut place = link;
-    while let Some(info) = information_at(place, all, endian, steps) {
+    let mut offsets = BTreeSet::new(alloc);
+    let mut offset = link;
+    while let Some(info) = information_at(offset, all, endian, steps) {
         let next = info.raw.next_info_rva;
-        if !is_new(&mut met, place, next)? {
+        if !is_new(&mut offsets, offset, next)? {
             break;
         }
         push_piece(&mut infos, info)?;
-        place = next;
+        offset = next;
     }
     Ok(infos)
 }
 
-// Appends a piece of information. Most objects have one: so the first piece takes room for itself alone.
+// Appends a piece of information. Most objects have one: so the first piece takes room for itself
+// alone.
 fn push_piece(
     infos: &mut Vec<MinidumpHandleObjectInformation>,
     info: MinidumpHandleObjectInformation,
@@ -54,16 +55,17 @@ fn push_piece(
     Ok(infos.push(info)?)
 }
 
-// Inserts the offset of a piece into the set of those that came before. Returns `true` if the set did not have
-// it. The offset of a last piece, whose `next` is 0, is only looked up: so a chain of one piece takes no memory
-// for the set.
-fn is_new(met: &mut BTreeSet<u32>, place: u32, next: u32) -> Result<bool, AllocError>
-    ensures new { IfOk result (λ new. new ≡ not (contains nat_cmp met.old place)) }
+// Inserts the offset of a piece into the offsets of the pieces before it. Returns `true` if it was
+// not among them. The offset of a last piece, whose `next` is 0, is only looked up: so a chain of
+// one piece takes no memory for the set.
+fn is_new(offsets: &mut BTreeSet<u32>, offset: u32, next: u32) -> Result<bool, AllocError>
+    ensures new { IfOk result (λ new. new ≡ not (contains nat_cmp offsets.old offset)) }
     ensures keeps { IfOk result (λ new. 0 < next → (q : ℕ)
-        → contains nat_cmp met.new q ≡ cond (is_at (nat_cmp place) q) true (contains nat_cmp met.old q)) }
+        → contains nat_cmp offsets.new q
+        ≡ cond (is_at (nat_cmp offset) q) true (contains nat_cmp offsets.old q)) }
 {
     if next == 0 {
-        return Ok(!met.contains(&place));
+        return Ok(!offsets.contains(&offset));
     }
-    Ok(met.insert(place)?)
+    Ok(offsets.insert(offset)?)
 }

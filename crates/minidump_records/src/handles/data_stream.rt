@@ -11,7 +11,7 @@ use minidump_bytes::{Endian, Entries, Record, Source, Steps};
 use minidump_format::Error;
 use minidump_format::format::{MINIDUMP_HANDLE_DESCRIPTOR, MINIDUMP_HANDLE_DESCRIPTOR_2};
 use minidump_system::framing::{HandleEntries, handle_entries};
-use minidump_system::listed::{Listed, read_items};
+use minidump_system::read_items::{ReadEntry, read_items};
 use minidump_system::{MinidumpStream, MinidumpSystemInfo};
 use std::alloc::Global;
 use std::slice;
@@ -90,8 +90,9 @@ impl<'l> IntoIterator for &'l MinidumpHandleDataStream {
     }
 }
 
-/// Reads Microsoft's `MINIDUMP_HANDLE_DATA_STREAM`: a list of descriptors of 32 or 40 bytes. A name is `None` if its
-/// RVA is 0 or no text is there. Descriptors of 40 bytes also name information on their objects.
+/// Reads Microsoft's `MINIDUMP_HANDLE_DATA_STREAM`: a list of descriptors of 32 or 40 bytes. A name
+/// is `None` if its RVA is 0 or no text is there. Descriptors of 40 bytes also name information on
+/// their objects.
 impl<'a> MinidumpStream<'a> for MinidumpHandleDataStream {
     ghost use Rattle.std.specs.Prelude.{List};
     ghost use Rattle.minidump_records.specs.Handles.{Handle, handle_data_stream};
@@ -161,20 +162,25 @@ fn read_handles<'a, R: Descriptor + Drop>(
     endian: Endian,
     steps: &mut Steps,
 ) -> Result<Vec<MinidumpHandleDescriptor>, Error>
-    ensures items { IfOk result (λ v. map handle_of v.items ≡ map (λ r. handle_in endian (bytes_of all.entry) (R.raw r)) raws.entry) }
-    ensures within { steps.new ≤ steps.old + length raws.entry * (1 + (length (bytes_of all.entry) + 3)) }
+    ensures items { IfOk result
+        (λ v. map handle_of v.items
+        ≡ map (λ r. handle_in endian (bytes_of all.entry) (R.raw r)) raws.entry) }
+    ensures within { steps.new ≤ steps.old
+        + length raws.entry * (1 + (length (bytes_of all.entry) + 3)) }
     ensures grows { steps.old ≤ steps.new }
-    ensures at_least { IfOk result (λ v. after steps.old (length v.items + sum_by handle_reads (map handle_of v.items)) ≤ steps.new) }
+    ensures at_least { IfOk result
+        (λ v. after steps.old (length v.items + sum_by handle_reads (map handle_of v.items))
+        ≤ steps.new) }
     ensures some { IfErr result (λ e. (e ≡ Error.OutOfMemory) × (0 < length raws.entry)) }
 {
     read_items(&Handles, alloc, raws, all, endian, steps)
 }
 
-// What each descriptor of a list leads to.
+// Reads the handle of each descriptor of a list.
 #[derive(Clone, Copy)]
 struct Handles;
 
-impl<'a, R: Descriptor> Listed<'a, R> for Handles {
+impl<'a, R: Descriptor> ReadEntry<'a, R> for Handles {
     ghost use Rattle.std.specs.Prelude.{◌+◌, Ok, Some};
     ghost use Rattle.minidump_records.specs.Handles.{Handle, handle_in, handle_of, handle_reads};
 
@@ -184,7 +190,7 @@ impl<'a, R: Descriptor> Listed<'a, R> for Handles {
 
     ghost value = { handle_of };
 
-    ghost listed = { λ _ order file raw. Ok (Some (handle_in order file (R.raw raw))) };
+    ghost entry_value = { λ _ order file raw. Ok (Some (handle_in order file (R.raw raw))) };
 
     ghost most = { λ n. n + 3 };
 

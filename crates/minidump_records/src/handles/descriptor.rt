@@ -7,7 +7,7 @@ ghost use Rattle.minidump_records.specs.Handles.ObjectChain.{reads_at};
 
 use super::chain::read_chain;
 use super::{MinidumpHandleObjectInformation, RawHandleDescriptor};
-use minidump_bytes::{Endian, Source, Steps, copied};
+use minidump_bytes::{Endian, Source, Steps, copy_text};
 use minidump_format::Error;
 use std::alloc::{AllocError, Global};
 
@@ -20,8 +20,8 @@ pub struct MinidumpHandleDescriptor {
     pub type_name: Option<String>,
     /// The name of its object, or `None` if the RVA is 0 or no text is there.
     pub object_name: Option<String>,
-    /// The pieces of information on its object. Each piece names the next; the list ends before the first one
-    /// that is repeated, cannot be read or has an unknown type.
+    /// The pieces of information on its object. Each piece names the next; the list ends before the
+    /// first one that is repeated, cannot be read or has an unknown type.
     pub object_infos: Vec<MinidumpHandleObjectInformation>,
 }
 
@@ -33,8 +33,8 @@ impl MinidumpHandleDescriptor {
     {
         Ok(MinidumpHandleDescriptor {
             raw: self.raw,
-            type_name: copied(alloc, &self.type_name)?,
-            object_name: copied(alloc, &self.object_name)?,
+            type_name: copy_text(alloc, &self.type_name)?,
+            object_name: copy_text(alloc, &self.object_name)?,
             object_infos: Vec::from_slice(alloc, &self.object_infos)?,
         })
     }
@@ -77,7 +77,9 @@ fn read_name(
     endian: Endian,
     steps: &mut Steps,
 ) -> Result<Option<String>, AllocError>
-    ensures value { IfOk result (λ text. option_map string_bytes text ≡ name_at_rva endian (bytes_of all.entry) (or_zero (option_copied rva.entry))) }
+    ensures value { IfOk result
+        (λ text. option_map string_bytes text
+        ≡ name_at_rva endian (bytes_of all.entry) (or_zero (option_copied rva.entry))) }
     ensures step { steps.new ≡ after steps.old (reads_at (or_zero (option_copied rva.entry))) }
 {
     let rva = rva.copied().unwrap_or(0);

@@ -37,25 +37,25 @@ impl fmt::Display for MinidumpHandleObjectInformation {
     }
 }
 
-// Reads the piece of information at an offset. Returns `None` if the offset is 0, if no record can be read there,
-// and if its type is not known.
+// Reads the piece of information at an offset. Returns `None` if the offset is 0, if no record can
+// be read there, and if its type is not known.
 #[tactic(auto, unfolding(crate::specs::Handles::ObjectChain::information_at))]
 pub(super) fn information_at(
-    place: u32,
+    offset: u32,
     all: Source<'_>,
     endian: Endian,
     steps: &mut Steps,
 ) -> Option<MinidumpHandleObjectInformation>
-    ensures value { result ≡ information_at endian (bytes_of all.entry) place }
+    ensures value { result ≡ information_at endian (bytes_of all.entry) offset }
     ensures within { steps.new ≤ steps.old + 1 }
     ensures grows { steps.old ≤ steps.new }
-    ensures begun { IfSome result (λ _. after steps.old 1 ≤ steps.new) }
-    ensures step { steps.new ≡ after steps.old (reads_at place) }
+    ensures at_least { IfSome result (λ _. after steps.old 1 ≤ steps.new) }
+    ensures step { steps.new ≡ after steps.old (reads_at offset) }
 {
-    if place == 0 {
+    if offset == 0 {
         return None;
     }
-    let raw: MINIDUMP_HANDLE_OBJECT_INFORMATION = all.record(place as u64, endian, steps)?;
+    let raw: MINIDUMP_HANDLE_OBJECT_INFORMATION = all.record(offset as u64, endian, steps)?;
     let info_type = MINIDUMP_HANDLE_OBJECT_INFORMATION_TYPE::from_u32(raw.info_type)?;
     Some(MinidumpHandleObjectInformation { raw, info_type })
 }

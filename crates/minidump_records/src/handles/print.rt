@@ -15,7 +15,8 @@ use std::io::Write;
 impl MinidumpHandleDataStream {
     /// Prints the number of handles, and each of them after its index.
     pub fn print<W: Write>(&self, alloc: Global, f: &mut Told<W>) -> Result<(), Error>
-        ensures { Prints W.contents f.old f.new (handle_data_text (handle_data_of self.now)) result }
+        ensures { Prints W.contents f.old f.new
+            (handle_data_text (handle_data_of self.now)) result }
     {
         let heading = "MinidumpHandleDataStream\n  handle_count = ";
         print_numbered(heading, "handle", self.handles.as_slice(), alloc, f)
@@ -23,8 +24,8 @@ impl MinidumpHandleDataStream {
 }
 
 impl MinidumpHandleDescriptor {
-    /// Prints the descriptor, the names and the information on the object, with `(invalid)` for a field that the
-    /// layout doesn't have and `(null)` for a name or information that is absent.
+    /// Prints the descriptor, the names and the information on the object, with `(invalid)` for a
+    /// field that the layout doesn't have and `(null)` for a name or information that is absent.
     pub fn print<W: Write>(&self, alloc: Global, f: &mut Told<W>) -> Result<(), Error>
         ensures { Prints W.contents f.old f.new (handle_text (handle_of self.now)) result }
     {
@@ -73,7 +74,8 @@ fn push_names<'t>(
     type_name: &'t str,
     object_name: &'t str,
 ) -> Result<(), AllocError>
-    ensures { OnOk result (out.new.items ≡ out.old.items ++ names_text type_name.now object_name.now) }
+    ensures { OnOk result (out.new.items ≡ out.old.items
+        ++ names_text type_name.now object_name.now) }
 {
     push_pieces(out, &[
         Piece::Words("  (type_name)       = "), Piece::Words(type_name), Piece::Words("\n"),

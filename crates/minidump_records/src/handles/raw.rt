@@ -5,7 +5,8 @@ ghost use Rattle.minidump_records.specs.Handles.{shared_fields};
 
 use minidump_format::format::{MINIDUMP_HANDLE_DESCRIPTOR, MINIDUMP_HANDLE_DESCRIPTOR_2, RVA};
 
-/// The descriptor of a handle, in one of two layouts. The second has the fields of the first, and two more.
+/// The descriptor of a handle, in one of two layouts. The second has the fields of the first, and
+/// two more.
 #[derive(Clone, Copy)]
 pub enum RawHandleDescriptor {
     HandleDescriptor(MINIDUMP_HANDLE_DESCRIPTOR),

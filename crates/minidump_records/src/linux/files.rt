@@ -16,7 +16,8 @@ pub type MinidumpLinuxProcStatus<'a> = LinuxText<'a, ProcStatus>;
 /// The text of `/etc/lsb-release`. Each line is a key and a value around an equals sign.
 pub type MinidumpLinuxLsbRelease<'a> = LinuxText<'a, LsbRelease>;
 
-/// The text of `/proc/PID/environ`. Each line is a key and a value around an equals sign, and ends with a NUL.
+/// The text of `/proc/PID/environ`. Each line is a key and a value around an equals sign, and ends
+/// with a NUL.
 pub type MinidumpLinuxEnviron<'a> = LinuxText<'a, Environ>;
 
 /// The text of `/proc/PID/limits`. Each line is a limit.
@@ -36,7 +37,7 @@ impl LinuxFile for CpuInfo {
         MINIDUMP_STREAM_TYPE::LinuxCpuInfo.name()
     }
 
-    ghost numbered = { refl };
+    ghost is_its_number = { refl };
 }
 
 impl LinuxPairsFile for CpuInfo {
@@ -59,7 +60,7 @@ impl LinuxFile for ProcStatus {
         MINIDUMP_STREAM_TYPE::LinuxProcStatus.name()
     }
 
-    ghost numbered = { refl };
+    ghost is_its_number = { refl };
 }
 
 impl LinuxPairsFile for ProcStatus {
@@ -82,7 +83,7 @@ impl LinuxFile for LsbRelease {
         MINIDUMP_STREAM_TYPE::LinuxLsbRelease.name()
     }
 
-    ghost numbered = { refl };
+    ghost is_its_number = { refl };
 }
 
 impl LinuxPairsFile for LsbRelease {
@@ -105,7 +106,7 @@ impl LinuxFile for Environ {
         MINIDUMP_STREAM_TYPE::LinuxEnviron.name()
     }
 
-    ghost numbered = { refl };
+    ghost is_its_number = { refl };
 }
 
 impl LinuxPairsFile for Environ {
@@ -128,7 +129,7 @@ impl LinuxFile for ProcLimits {
         MINIDUMP_STREAM_TYPE::MozLinuxLimits.name()
     }
 
-    ghost numbered = { refl };
+    ghost is_its_number = { refl };
 }
 
 impl<'a> LinuxText<'a, ProcLimits> {

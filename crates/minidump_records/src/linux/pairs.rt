@@ -2,13 +2,13 @@ ghost use Rattle.std.specs.Prelude.{◌≡◌};
 ghost use Rattle.std.specs.Option.{option_map};
 ghost use Rattle.std.specs.Iterator.{YieldsFirstBy, item_count};
 ghost use Rattle.minidump_bytes.specs.LinuxOsStr.{parts_of, text_of};
-ghost use Rattle.minidump_records.specs.Linux.Pairs.{pair_of, pair_side, pairs_of, unquoted};
+ghost use Rattle.minidump_records.specs.Linux.Pairs.{pair_of, pair_side, pairs_of, without_quotes};
 
 use minidump_bytes::{Lines, LinuxOsStr};
 use std::marker::Model;
 
-/// An iterator over the pairs of a text that Linux wrote. Each line that has the separator is cut at the first
-/// one into a key and a value. Both are trimmed, and then lose their quotes.
+/// An iterator over the pairs of a text that Linux wrote. Each line that has the separator is cut
+/// at the first one into a key and a value. Both are trimmed, and then lose their quotes.
 #[derive(Drop)]
 pub struct LinuxPairs<'a> {
     lines: Lines<'a>,
@@ -66,13 +66,13 @@ fn pair_in(line: LinuxOsStr<'_>, separator: u8) -> Option<(LinuxOsStr<'_>, Linux
 fn side(text: LinuxOsStr<'_>) -> LinuxOsStr<'_>
     ensures { text_of result ≡ pair_side (text_of text.entry) }
 {
-    unquoted(text.trim_ascii_whitespace())
+    without_quotes(text.trim_ascii_whitespace())
 }
 
 // Returns a text without the quotes at its ends, or as it is if one of them is missing.
-#[tactic(auto, unfolding(crate::specs::Linux::Pairs::unquoted))]
-fn unquoted(text: LinuxOsStr<'_>) -> LinuxOsStr<'_>
-    ensures { text_of result ≡ unquoted (text_of text.entry) }
+#[tactic(auto, unfolding(crate::specs::Linux::Pairs::without_quotes))]
+fn without_quotes(text: LinuxOsStr<'_>) -> LinuxOsStr<'_>
+    ensures { text_of result ≡ without_quotes (text_of text.entry) }
 {
     let bytes = text.as_bytes();
     let end = bytes.len();

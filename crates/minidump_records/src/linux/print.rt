@@ -1,4 +1,4 @@
-ghost use Rattle.std.specs.Prelude.{◌≡◌, ◌++◌, [], IfErr, OnOk};
+ghost use Rattle.std.specs.Prelude.{◌≡◌, [], IfErr};
 ghost use Rattle.std.specs.List.{flat_map};
 ghost use Rattle.minidump_bytes.specs.LinuxOsStr.{text_lines};
 ghost use Rattle.minidump_format.specs.Print.{Prints};
@@ -16,14 +16,15 @@ use std::alloc::{AllocError, Global};
 use std::io::Write;
 
 impl<'a, F: LinuxPairsFile> LinuxText<'a, F> {
-    /// Prints the name of the type of stream, and a line for each pair, with the key and the value as the
-    /// bytes that they are. The Rust crate has no such call: this is the text that a report has for the
-    /// stream. Takes no memory if there is no pair.
+    /// Prints the name of the type of stream, and a line for each pair, with the key and the value
+    /// as the bytes that they are. The Rust crate has no such call: this is the text that a report
+    /// has for the stream. Takes no memory if there is no pair.
     #[tactic(auto, using(minidump_format::proofs::Printing::prints_then, minidump_format::proofs::Printing::prints_exit))]
     pub fn print<W: Write>(&self, alloc: Global, f: &mut Told<W>) -> Result<(), Error>
         ensures prints { Prints W.contents f.old f.new
             (linux_pairs_text F.LinuxFile.stream_type F.SEPARATOR (linux_text_of self.now)) result }
-        ensures none { pairs_of F.SEPARATOR (linux_text_of self.now) ≡ [] → IfErr result (λ e. e ≡ Error.IoError) }
+        ensures none { pairs_of F.SEPARATOR (linux_text_of self.now) ≡ []
+            → IfErr result (λ e. e ≡ Error.IoError) }
     {
         print_name::<F, W>(f)?;
         print_pairs(self.data, F::SEPARATOR, alloc, f)
@@ -31,13 +32,15 @@ impl<'a, F: LinuxPairsFile> LinuxText<'a, F> {
 }
 
 impl<'a> LinuxText<'a, ProcLimits> {
-    /// Prints the name of the type of stream, and each limit on a line, as the bytes that it is. The Rust
-    /// crate has no such call: this is the text that a report has for the stream. Takes no memory if there is
-    /// no limit.
+    /// Prints the name of the type of stream, and each limit on a line, as the bytes that it is.
+    /// The Rust crate has no such call: this is the text that a report has for the stream. Takes no
+    /// memory if there is no limit.
     #[tactic(auto, using(minidump_format::proofs::Printing::prints_then, minidump_format::proofs::Printing::prints_exit))]
     pub fn print<W: Write>(&self, alloc: Global, f: &mut Told<W>) -> Result<(), Error>
-        ensures prints { Prints W.contents f.old f.new (linux_proc_limits_text (linux_text_of self.now)) result }
-        ensures none { text_lines (linux_text_of self.now) ≡ [] → IfErr result (λ e. e ≡ Error.IoError) }
+        ensures prints { Prints W.contents f.old f.new
+            (linux_proc_limits_text (linux_text_of self.now)) result }
+        ensures none { text_lines (linux_text_of self.now) ≡ []
+            → IfErr result (λ e. e ≡ Error.IoError) }
     {
         print_name::<ProcLimits, W>(f)?;
         print_limits(self.data, alloc, f)
@@ -48,7 +51,7 @@ impl<'a> LinuxText<'a, ProcLimits> {
 #[tactic(auto, unfolding(crate::specs::Linux::Text::name_line), using(minidump_format::proofs::Printing::prints_then, minidump_format::proofs::Printing::prints_exit))]
 fn print_name<F: LinuxFile, W: Write>(f: &mut Told<W>) -> Result<(), Error>
     ensures prints { Prints W.contents f.old f.new (name_line F.stream_type) result }
-    ensures refusal { IfErr result (λ e. e ≡ Error.IoError) }
+    ensures error { IfErr result (λ e. e ≡ Error.IoError) }
 {
     print_type::<F, W>(f)?;
     print_line_end(f)
@@ -56,7 +59,7 @@ fn print_name<F: LinuxFile, W: Write>(f: &mut Told<W>) -> Result<(), Error>
 
 fn print_type<F: LinuxFile, W: Write>(f: &mut Told<W>) -> Result<(), Error>
     ensures prints { Prints W.contents f.old f.new (type_name F.stream_type) result }
-    ensures refusal { IfErr result (λ e. e ≡ Error.IoError) }
+    ensures error { IfErr result (λ e. e ≡ Error.IoError) }
 {
     put_text(f, F::name_of_type())
 }
@@ -67,7 +70,8 @@ fn print_pairs<W: Write>(
     alloc: Global,
     f: &mut Told<W>,
 ) -> Result<(), Error>
-    ensures prints { Prints W.contents f.old f.new (flat_map pair_line (pairs_of separator text.now)) result }
+    ensures prints { Prints W.contents f.old f.new
+        (flat_map pair_line (pairs_of separator text.now)) result }
     ensures none { pairs_of separator text.now ≡ [] → IfErr result (λ e. e ≡ Error.IoError) }
 {
     let pairs = LinuxPairs::new(text, separator);
@@ -75,7 +79,8 @@ fn print_pairs<W: Write>(
 }
 
 fn print_limits<W: Write>(text: &[u8], alloc: Global, f: &mut Told<W>) -> Result<(), Error>
-    ensures prints { Prints W.contents f.old f.new (flat_map limit_line (text_lines text.now)) result }
+    ensures prints { Prints W.contents f.old f.new
+        (flat_map limit_line (text_lines text.now)) result }
     ensures none { text_lines text.now ≡ [] → IfErr result (λ e. e ≡ Error.IoError) }
 {
     let lines = LinuxOsStr::from_bytes(text).lines();

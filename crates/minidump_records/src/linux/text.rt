@@ -25,7 +25,7 @@ pub trait LinuxFile {
         ensures { result.now ≡ type_name stream_type };
 
     // the constant is the number of the type
-    ghost numbered: { STREAM_TYPE ≡ number_of stream_type };
+    ghost is_its_number: { STREAM_TYPE ≡ number_of stream_type };
 }
 
 /// A file of Linux whose text is pairs of a key and a value.
@@ -75,8 +75,8 @@ impl<'a, F: LinuxPairsFile> LinuxText<'a, F> {
     }
 }
 
-/// Reads the text, which is the whole stream, whatever its bytes are. Counts no step, takes no memory, and has no
-/// error.
+/// Reads the text, which is the whole stream. Any bytes are allowed. Counts no step, takes no
+/// memory, and has no error.
 impl<'a, F: LinuxFile> MinidumpStream<'a> for LinuxText<'a, F> {
     ghost use Rattle.std.specs.Prelude.{List, ℕ};
     ghost use Rattle.minidump_records.specs.Linux.{linux_text_stream};

@@ -20,7 +20,8 @@ impl MinidumpMacCrashInfo {
     /// Prints the count of the records, and each field of each record, or nothing if it is `None`.
     #[tactic(auto, using(minidump_format::proofs::Printing::prints_then, minidump_format::proofs::Printing::prints_exit))]
     pub fn print<W: Write>(&self, alloc: Global, f: &mut Told<W>) -> Result<(), Error>
-        ensures { Prints W.contents f.old f.new (mac_crash_info_text (mac_crash_info_of self.now)) result }
+        ensures { Prints W.contents f.old f.new
+            (mac_crash_info_text (mac_crash_info_of self.now)) result }
     {
         let words = "MINIDUMP_MAC_CRASH_INFO\n  num_records = ";
         let records = self.raw.as_slice();
@@ -35,7 +36,8 @@ fn print_records<W: Write>(
     alloc: Global,
     f: &mut Told<W>,
 ) -> Result<(), Error>
-    ensures { Prints W.contents f.old f.new (flat_map record_text (enumerate_from 0 (map mac_record_of records.now))) result }
+    ensures { Prints W.contents f.old f.new
+        (flat_map record_text (enumerate_from 0 (map mac_record_of records.now))) result }
 {
     let texts = records
         .iter()

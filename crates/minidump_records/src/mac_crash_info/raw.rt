@@ -86,7 +86,8 @@ impl RawMacCrashInfo {
 
     /// Returns the signature.
     pub fn signature_string(&self) -> Option<&str>
-        ensures { option_copied result ≡ text_of (λ t. t.signature_string) (mac_record_of self.now) }
+        ensures { option_copied result
+            ≡ text_of (λ t. t.signature_string) (mac_record_of self.now) }
     {
         from_version_4!(self, (_, texts) => unless_empty(texts.signature_string.as_str()))
     }
@@ -105,7 +106,8 @@ impl RawMacCrashInfo {
         from_version_4!(self, (_, texts) => unless_empty(texts.message2.as_str()))
     }
 
-    /// Copies the record. The only error is [`Error::OutOfMemory`], and only if its version has texts.
+    /// Copies the record. The only error is [`Error::OutOfMemory`], and only if its version has
+    /// texts.
     pub fn try_clone(&self, alloc: Global) -> Result<RawMacCrashInfo, Error>
         ensures same { IfOk result (λ copy. mac_record_of copy ≡ mac_record_of self.now) }
         ensures memory { IsOkUnless result Error.OutOfMemory }
@@ -115,8 +117,14 @@ impl RawMacCrashInfo {
             RawMacCrashInfo::V1(raw, _) => {
                 RawMacCrashInfo::V1(*raw, MINIDUMP_MAC_CRASH_INFO_RECORD_STRINGS {})
             }
-            RawMacCrashInfo::V4(raw, texts) => RawMacCrashInfo::V4(*raw, copied_4(alloc, texts)?),
-            RawMacCrashInfo::V5(raw, texts) => RawMacCrashInfo::V5(*raw, copied_5(alloc, texts)?),
+            RawMacCrashInfo::V4(raw, texts) => RawMacCrashInfo::V4(
+                *raw,
+                copy_strings_4(alloc, texts)?,
+            ),
+            RawMacCrashInfo::V5(raw, texts) => RawMacCrashInfo::V5(
+                *raw,
+                copy_strings_5(alloc, texts)?,
+            ),
         })
     }
 }
@@ -136,7 +144,7 @@ fn unless_empty(text: &str) -> Option<&str>
 }
 
 // Copies the texts of a record of version 4.
-fn copied_4(
+fn copy_strings_4(
     alloc: Global,
     texts: &MINIDUMP_MAC_CRASH_INFO_RECORD_STRINGS_4,
 ) -> Result<MINIDUMP_MAC_CRASH_INFO_RECORD_STRINGS_4, Error>
@@ -153,7 +161,7 @@ fn copied_4(
 }
 
 // Copies the texts of a record of version 5.
-fn copied_5(
+fn copy_strings_5(
     alloc: Global,
     texts: &MINIDUMP_MAC_CRASH_INFO_RECORD_STRINGS_5,
 ) -> Result<MINIDUMP_MAC_CRASH_INFO_RECORD_STRINGS_5, Error>

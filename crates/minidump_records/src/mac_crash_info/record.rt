@@ -1,10 +1,9 @@
-ghost use Rattle.std.specs.Prelude.{◌≡◌, ◌+◌, ◌≤◌, ⊤, Some, string_bytes, IfOk, IfSome};
-ghost use Rattle.std.specs.Option.{option_map};
+ghost use Rattle.std.specs.Prelude.{◌≡◌, ◌+◌, ◌≤◌, ⊤, Some, string_bytes, IfOk};
 ghost use Rattle.minidump_bytes.specs.Source.{bytes_of};
 ghost use Rattle.minidump_bytes.specs.Steps.{after};
 ghost use Rattle.minidump_format.specs.Answer.{Gives};
-ghost use Rattle.minidump_records.specs.MacCrashInfo.Record.{behind, by_version, fixed_part, item_reads, text_at, texts_4, texts_5, texts_in, texts_of};
-ghost use Rattle.minidump_records.specs.MacCrashInfo.{behind_version, located_record, located_version, record_if, stated_version};
+ghost use Rattle.minidump_records.specs.MacCrashInfo.Record.{end_of_text, by_version, fixed_part, item_reads, text_at, texts_4, texts_5, texts_in, texts_of};
+ghost use Rattle.minidump_records.specs.MacCrashInfo.{record_after_version, located_record, located_version, record_if, stated_version};
 
 use super::RawMacCrashInfo;
 use minidump_bytes::{Endian, Record, Source, Steps};
@@ -18,7 +17,7 @@ use std::alloc::Global;
 
 // The version of a record, and the record, or `None` for version 0.
 #[derive(Drop)]
-pub(super) struct Versioned {
+pub(super) struct VersionAndRecord {
     pub(super) version: u64,
     pub(super) record: Option<RawMacCrashInfo>,
 }
@@ -59,7 +58,8 @@ impl Texts {
     }
 }
 
-// Reads the record at a location. `before` is the version of the record before it, which it has to have too.
+// Reads the record at a location. `before` is the version of the record before it, which it has to
+// have too.
 #[tactic(auto, unfolding(crate::specs::MacCrashInfo::located_record, crate::specs::MacCrashInfo::located_version))]
 pub(super) fn read_located(
     alloc: Global,
@@ -69,33 +69,39 @@ pub(super) fn read_located(
     all: Source<'_>,
     endian: Endian,
     steps: &mut Steps,
-) -> Result<Versioned, Error>
-    ensures means { Gives (λ v. record_if v.record) ⊤ result (located_record endian (bytes_of all.entry) start before location.now) }
-    ensures version { IfOk result (λ v. Some v.version ≡ located_version endian (bytes_of all.entry) location.now) }
+) -> Result<VersionAndRecord, Error>
+    ensures means { Gives (λ v. record_if v.record) ⊤ result
+        (located_record endian (bytes_of all.entry) start before location.now) }
+    ensures version { IfOk result
+        (λ v. Some v.version ≡ located_version endian (bytes_of all.entry) location.now) }
     ensures within { steps.new ≤ steps.old + 8 }
     ensures grows { steps.old ≤ steps.new }
-    ensures at_least { IfOk result (λ v. after steps.old (2 + item_reads (record_if v.record)) ≤ steps.new) }
+    ensures at_least { IfOk result
+        (λ v. after steps.old (2 + item_reads (record_if v.record)) ≤ steps.new) }
 {
     let bytes = location
         .bytes_in(all, steps)
         .ok_or(Error::StreamReadFailure)?;
-    read_behind(alloc, Source::new(bytes), start, before, endian, steps)
+    read_after_version(alloc, Source::new(bytes), start, before, endian, steps)
 }
 
 // Reads the record of these bytes. `before` is the version of the record before it.
-fn read_behind(
+fn read_after_version(
     alloc: Global,
     bytes: Source<'_>,
     start: u32,
     before: Option<u64>,
     endian: Endian,
     steps: &mut Steps,
-) -> Result<Versioned, Error>
-    ensures means { Gives (λ v. record_if v.record) ⊤ result (behind_version endian start before (bytes_of bytes.entry)) }
-    ensures version { IfOk result (λ v. Some v.version ≡ stated_version endian (bytes_of bytes.entry)) }
+) -> Result<VersionAndRecord, Error>
+    ensures means { Gives (λ v. record_if v.record) ⊤ result
+        (record_after_version endian start before (bytes_of bytes.entry)) }
+    ensures version { IfOk result
+        (λ v. Some v.version ≡ stated_version endian (bytes_of bytes.entry)) }
     ensures within { steps.new ≤ steps.old + 7 }
     ensures grows { steps.old ≤ steps.new }
-    ensures at_least { IfOk result (λ v. after steps.old (1 + item_reads (record_if v.record)) ≤ steps.new) }
+    ensures at_least { IfOk result
+        (λ v. after steps.old (1 + item_reads (record_if v.record)) ≤ steps.new) }
 {
     let head: MINIDUMP_MAC_CRASH_INFO_RECORD = bytes
         .record(0, endian, steps)
@@ -107,7 +113,7 @@ fn read_behind(
     }
     let version = head.version;
     let record = read_by_version(alloc, head, start, bytes, endian, steps)?;
-    Ok(Versioned { version, record })
+    Ok(VersionAndRecord { version, record })
 }
 
 // Reads the record of a head by its version. The texts begin at `start`.
@@ -157,7 +163,7 @@ fn fixed_part<R: Record>(
     ensures means { result ≡ fixed_part R.layout endian start (bytes_of bytes.entry) }
     ensures within { steps.new ≤ steps.old + 1 }
     ensures grows { steps.old ≤ steps.new }
-    ensures begun { IfOk result (λ _. after steps.old 1 ≤ steps.new) }
+    ensures at_least { IfOk result (λ _. after steps.old 1 ≤ steps.new) }
 {
     if (start as usize) < R::SIZE {
         return Err(Error::StreamReadFailure);
@@ -180,12 +186,12 @@ fn read_texts(
     ensures grows { steps.old ≤ steps.new }
     ensures at_least { IfOk result (λ _. after steps.old 5 ≤ steps.new) }
 {
-    let mut place = start as u64;
-    let module_path = next_text(alloc, bytes, &mut place, steps)?;
-    let message = next_text(alloc, bytes, &mut place, steps)?;
-    let signature_string = next_text(alloc, bytes, &mut place, steps)?;
-    let backtrace = next_text(alloc, bytes, &mut place, steps)?;
-    let message2 = next_text(alloc, bytes, &mut place, steps)?;
+    let mut offset = start as u64;
+    let module_path = next_text(alloc, bytes, &mut offset, steps)?;
+    let message = next_text(alloc, bytes, &mut offset, steps)?;
+    let signature_string = next_text(alloc, bytes, &mut offset, steps)?;
+    let backtrace = next_text(alloc, bytes, &mut offset, steps)?;
+    let message2 = next_text(alloc, bytes, &mut offset, steps)?;
     Ok(Texts {
         module_path,
         message,
@@ -195,20 +201,20 @@ fn read_texts(
     })
 }
 
-// Reads the text at `place`, and moves `place` past the text and its NUL.
+// Reads the text at `offset`, and moves `offset` past the text and its NUL.
 fn next_text(
     alloc: Global,
     bytes: Source<'_>,
-    place: &mut u64,
+    offset: &mut u64,
     steps: &mut Steps,
 ) -> Result<String, Error>
-    ensures means { Gives string_bytes ⊤ result (text_at place.old (bytes_of bytes.entry)) }
-    ensures moves { IfOk result (λ text. place.new ≡ behind place.old (string_bytes text)) }
+    ensures means { Gives string_bytes ⊤ result (text_at offset.old (bytes_of bytes.entry)) }
+    ensures moves { IfOk result (λ text. offset.new ≡ end_of_text offset.old (string_bytes text)) }
     ensures step { steps.new ≡ after steps.old 1 }
 {
     let text = bytes
-        .cstring(*place, steps)
+        .cstring(*offset, steps)
         .ok_or(Error::StreamReadFailure)?;
-    *place = *place + text.len() as u64 + 1;
+    *offset = *offset + text.len() as u64 + 1;
     Ok(String::from_str(alloc, text)?)
 }

@@ -67,6 +67,6 @@ impl Plain for WindowsMemory {
 impl Exact for WindowsMemory {
     ghost exact = { record {
       equal = λ x y. ((λ h. Prim.search rules), (λ h. Prim.search rules));
-      copied = λ x y h. Prim.search rules;
+      copy = λ x y h. Prim.search rules;
     } };
 }

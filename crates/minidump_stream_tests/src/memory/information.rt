@@ -1,4 +1,4 @@
-use crate::given::read_in;
+use crate::files::read_in;
 use bitflags::Flags;
 use minidump_bytes::{Endian, Steps};
 use minidump_format::Error;
@@ -31,10 +31,10 @@ const INODES: &[(u64, Option<u64>)] = &[
 fn finds_the_lines(alloc: Global) -> Result<bool, Error> {
     let mut steps = Steps::new();
     let list = maps(alloc, THREE, &mut steps)?;
-    let found = |row: &(u64, Option<u64>)| {
+    let is_found = |row: &(u64, Option<u64>)| {
         list.memory_info_at_address(row.0).map(|m| m.map.inode) == row.1
     };
-    Ok(steps.count() == 4 && list.memory_map_count() == 3 && INODES.iter().all(found))
+    Ok(steps.count() == 4 && list.memory_map_count() == 3 && INODES.iter().all(is_found))
 }
 
 #[test]
@@ -54,7 +54,7 @@ fn entry(base_address: u64, region_size: u64, protection: u32) -> MINIDUMP_MEMOR
 }
 
 // The bytes of a list of entries.
-fn written(
+fn list_bytes(
     alloc: Global,
     endian: Endian,
     entries: &[MINIDUMP_MEMORY_INFO],
@@ -88,14 +88,14 @@ const ACCESS: &[(u32, u32, (bool, bool, bool))] = &[
 ];
 
 fn allows(alloc: Global, row: &(u32, u32, (bool, bool, bool))) -> Result<bool, Error> {
-    let (protection, named, access) = *row;
+    let (protection, bits, access) = *row;
     let raw = entry(0xa902_06ca_83eb_2852, 0xf80e_064a_93eb_2356, protection);
-    let bytes = written(alloc, Endian::Big, &[raw])?;
+    let bytes = list_bytes(alloc, Endian::Big, &[raw])?;
     let list = infos(alloc, &bytes, Endian::Big, &mut Steps::new())?;
     let is_it = |info: &MinidumpMemoryInfo<'_>| {
         (info.is_readable(), info.is_writable(), info.is_executable()) == access
             && info.raw == raw
-            && info.protection.bits() == named
+            && info.protection.bits() == bits
             && Region::memory_range(info).is_none()
     };
     Ok(list.iter().next().is_some_and(is_it))
@@ -111,12 +111,12 @@ fn a_protection_says_what_its_region_allows(rt: HostRuntime) -> Result<(), Fail>
 
 // An address, and where the region at it begins. The last ends at the last address.
 #[rattlefmt::skip]
-const FOUND: &[(u64, Option<u64>)] = &[
+const LOOKUPS: &[(u64, Option<u64>)] = &[
     (0xfff, None), (0x1fff, Some(0x1000)), (0x2000, Some(0x2000)), (0x3000, None), (u64::MAX, Some(0x4000)),
 ];
 
 fn finds_the_entries(alloc: Global, endian: Endian) -> Result<bool, Error> {
-    let bytes = written(
+    let bytes = list_bytes(
         alloc,
         endian,
         &[
@@ -127,12 +127,12 @@ fn finds_the_entries(alloc: Global, endian: Endian) -> Result<bool, Error> {
     )?;
     let mut steps = Steps::new();
     let list = infos(alloc, &bytes, endian, &mut steps)?;
-    let found = |row: &(u64, Option<u64>)| {
+    let is_found = |row: &(u64, Option<u64>)| {
         list.memory_info_at_address(row.0)
             .map(|info| info.raw.base_address)
             == row.1
     };
-    Ok(steps.count() == 4 && FOUND.iter().all(found))
+    Ok(steps.count() == 4 && LOOKUPS.iter().all(is_found))
 }
 
 #[test]
@@ -150,7 +150,7 @@ fn start_at(list: &UnifiedMemoryInfoList<'_>, address: u64) -> Option<u64> {
 }
 
 fn keeps_the_information(alloc: Global) -> Result<bool, Error> {
-    let bytes = written(alloc, Endian::Little, &[entry(0x10b00, 0x80, 0x40)])?;
+    let bytes = list_bytes(alloc, Endian::Little, &[entry(0x10b00, 0x80, 0x40)])?;
     let info = infos(alloc, &bytes, Endian::Little, &mut Steps::new())?;
     let both = UnifiedMemoryInfoList::new(Some(info), Some(MinidumpLinuxMaps::new(alloc)));
     match both {

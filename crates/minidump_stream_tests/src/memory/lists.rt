@@ -1,5 +1,5 @@
 use super::{region, region_64};
-use crate::given::Listed;
+use crate::files::ListFile;
 use minidump_bytes::{Endian, Steps};
 use minidump_format::Error;
 use minidump_index::Range;
@@ -11,7 +11,7 @@ use std::test::Fail;
 const FILE: &[u8] = &[0, 1, 2, 3, 4, 5, 6, 7];
 
 // The base addresses of all regions, and of those that are kept, from both ends.
-fn listed(alloc: Global, list: &UnifiedMemoryList<'_>) -> Result<Vec<u64>, AllocError> {
+fn base_addresses(alloc: Global, list: &UnifiedMemoryList<'_>) -> Result<Vec<u64>, AllocError> {
     list.iter().map(|m| m.base_address()).collect(alloc)
 }
 
@@ -26,7 +26,8 @@ fn descending(alloc: Global, list: &UnifiedMemoryList<'_>) -> Result<Vec<u64>, A
         .collect(alloc)
 }
 
-// Whether a list has regions of these bases, in its own order, and those that it keeps, ascending.
+// Tests whether a list has regions of these bases, in its own order, and keeps those of `kept`,
+// ascending.
 fn has(
     alloc: Global,
     list: &UnifiedMemoryList<'_>,
@@ -36,14 +37,14 @@ fn has(
     let mut backwards = descending(alloc, list)?;
     backwards.reverse();
     Ok(
-        listed(alloc, list)?.as_slice() == all
+        base_addresses(alloc, list)?.as_slice() == all
             && ascending(alloc, list)?.as_slice() == kept
             && backwards.as_slice() == kept,
     )
 }
 
 // An address, and where the region at it begins, with each of its bytes.
-const FOUND: &[(u64, Option<(u64, u8)>)] = &[
+const LOOKUPS: &[(u64, Option<(u64, u8)>)] = &[
     (0xfff, None),
     (0x1000, Some((0x1000, 0))),
     (0x1fff, Some((0x1000, 0))),
@@ -52,7 +53,7 @@ const FOUND: &[(u64, Option<(u64, u8)>)] = &[
     (0x3000, None),
 ];
 
-// Whether the region is found, in at most two comparisons.
+// Tests whether the region is found, in at most two comparisons.
 fn is_found(list: &UnifiedMemoryList<'_>, row: &(u64, Option<(u64, u8)>)) -> bool {
     let mut steps = Steps::new();
     let found = list.memory_at_address_counted(row.0, &mut steps);
@@ -68,18 +69,18 @@ fn is_found(list: &UnifiedMemoryList<'_>, row: &(u64, Option<(u64, u8)>)) -> boo
 
 fn keeps_two_of(alloc: Global, list: &UnifiedMemoryList<'_>) -> Result<bool, AllocError> {
     let five = [0x1000, 0x1000, 0x1001, 0x1001, 0x2000];
-    Ok(has(alloc, list, &five, &[0x1000, 0x2000])? && FOUND.iter().all(|row| is_found(list, row)))
+    Ok(has(alloc, list, &five, &[0x1000, 0x2000])? && LOOKUPS.iter().all(|row| is_found(list, row)))
 }
 
 fn plain_keeps_two(alloc: Global, endian: Endian) -> Result<bool, Error> {
-    let listed = Listed::plain(alloc, endian, OVERLAPPING)?;
-    let list: MinidumpMemoryList = listed.read(alloc, &mut Steps::new())?;
+    let file = ListFile::plain(alloc, endian, OVERLAPPING)?;
+    let list: MinidumpMemoryList = file.read(alloc, &mut Steps::new())?;
     Ok(keeps_two_of(alloc, &UnifiedMemoryList::Memory(list))?)
 }
 
 fn long_keeps_two(alloc: Global, endian: Endian) -> Result<bool, Error> {
-    let listed = Listed::long(alloc, endian, OVERLAPPING)?;
-    let list: MinidumpMemory64List = listed.read(alloc, &mut Steps::new())?;
+    let file = ListFile::long(alloc, endian, OVERLAPPING)?;
+    let list: MinidumpMemory64List = file.read(alloc, &mut Steps::new())?;
     Ok(keeps_two_of(alloc, &UnifiedMemoryList::Memory64(list))?)
 }
 
@@ -92,7 +93,8 @@ fn of_overlapping_regions_the_first_is_kept(rt: HostRuntime) -> Result<(), Fail>
     Ok(())
 }
 
-// These regions by hand: in another order than their addresses, one of no bytes, and one that ends at 2^64.
+// Regions made by hand: not in the order of their addresses, one of no bytes, and one that ends at
+// 2^64.
 const BY_HAND: &[(u64, usize)] = &[
     (0x3000, 8),
     (0x4000, 0),
@@ -102,7 +104,7 @@ const BY_HAND: &[(u64, usize)] = &[
     (0x2000, 2),
 ];
 
-// The region of no bytes is listed, and found nowhere. The other at the last address is found there.
+// The region of no bytes is in the list, and found nowhere. The other at the last address is found there.
 fn has_those_by_hand(alloc: Global, list: &UnifiedMemoryList<'_>) -> Result<bool, AllocError> {
     let last = u64::MAX;
     let all = [0x3000, 0x4000, last, 0x1000, last - 1, 0x2000];
@@ -156,7 +158,7 @@ fn lists_are_made_by_hand(rt: HostRuntime) -> Result<(), Fail> {
     Ok(())
 }
 
-// The bytes at an address of a list that is let go of.
+// The bytes at an address of a list that is dropped.
 fn bytes_at<'a>(list: MinidumpMemoryList<'a>, address: u64) -> Option<&'a [u8]> {
     let list = UnifiedMemoryList::Memory(list);
     let region = list.memory_at_address(address)?;
@@ -169,10 +171,10 @@ fn long_bytes_at<'a>(list: MinidumpMemory64List<'a>, address: u64) -> Option<&'a
 
 const TWO: &[(u64, &[u8])] = &[(0x1000, &[0xa0, 0xa1]), (0x2000, &[0xb0, 0xb1, 0xb2])];
 
-// The bytes begin behind the header of the one file, and at the second byte of the other.
+// The bytes begin after the header of the one file, and at the second byte of the other.
 fn outlive_their_list(alloc: Global) -> Result<bool, Error> {
-    let plain = Listed::plain(alloc, Endian::Little, TWO)?;
-    let long = Listed::long(alloc, Endian::Little, TWO)?;
+    let plain = ListFile::plain(alloc, Endian::Little, TWO)?;
+    let long = ListFile::long(alloc, Endian::Little, TWO)?;
     let second = bytes_at(plain.read(alloc, &mut Steps::new())?, 0x2000);
     let third = long_bytes_at(long.read(alloc, &mut Steps::new())?, 0x2002);
     Ok(

@@ -31,8 +31,8 @@ fn has_six_fields(alloc: Global) -> Result<bool, Error> {
                 (map.address, map.offset, map.dev, map.inode)
                     == ((0x1a00, 0x1b00), 16, (0xfd, 5), 7)
                     && are_private(map.perms)
-                    && shown(&map.pathname) == ("path", 0, "/x y")
-                    && shown(&other.map.pathname) == ("path", 0, "/x\0")
+                    && kind_and_text(&map.pathname) == ("path", 0, "/x y")
+                    && kind_and_text(&other.map.pathname) == ("path", 0, "/x\0")
                     && copy == region
                     && other != region,
             )
@@ -79,8 +79,8 @@ fn a_line_has_six_fields(rt: HostRuntime) -> Result<(), Fail> {
     Ok(())
 }
 
-// What is mapped: a word for its kind, its number and its text.
-fn shown(path: &MMapPath) -> (&str, u32, &str) {
+// What is mapped: its kind, its number and its text.
+fn kind_and_text(path: &MMapPath) -> (&str, u32, &str) {
     match path {
         MMapPath::Path(text) => ("path", 0, text.as_str()),
         MMapPath::Heap => ("heap", 0, ""),
@@ -100,7 +100,7 @@ fn is_line(alloc: Global, bytes: &[u8]) -> Result<bool, Error> {
     Ok(MinidumpLinuxMapInfo::from_line(alloc, bytes)?.is_some())
 }
 
-// Of bytes that are no line, these two are no line of a map either.
+// Neither no bytes nor two lines are a line of a map.
 #[test]
 fn other_bytes_are_no_line(rt: HostRuntime) -> Result<(), Fail> {
     assert!(rt; !is_line(rt.alloc(), b"")? && !is_line(rt.alloc(), b"1-2 r 0 0:0 1 x\ny")?);

@@ -1,5 +1,5 @@
 use super::{region, region_64};
-use crate::given::Listed;
+use crate::files::ListFile;
 use minidump_bytes::{Endian, FixedRead, Steps, Told};
 use minidump_format::Error;
 use minidump_format::format::{MINIDUMP_LOCATION_DESCRIPTOR, MINIDUMP_MEMORY_DESCRIPTOR};
@@ -10,17 +10,17 @@ use std::test::Fail;
 
 const FILE: &[u8] = &[0, 1, 2, 3, 4, 5, 6, 7];
 
-// The descriptor of a region of so many bytes at a place of the file.
-fn described(base: u64, rva: u32, data_size: u32) -> MINIDUMP_MEMORY_DESCRIPTOR {
+// The descriptor of a region of `data_size` bytes at the offset `rva` of the file.
+fn descriptor(base: u64, rva: u32, data_size: u32) -> MINIDUMP_MEMORY_DESCRIPTOR {
     MINIDUMP_MEMORY_DESCRIPTOR {
         start_of_memory_range: base,
         memory: MINIDUMP_LOCATION_DESCRIPTOR { data_size, rva },
     }
 }
 
-// Places and sizes in the file, with the error of a region there.
+// Offsets and sizes in the file, each with the error of reading a region there.
 #[rattlefmt::skip]
-const REFUSED: &[(u32, u32, Error)] = &[
+const ERRORS: &[(u32, u32, Error)] = &[
     (0, 2, Error::MemoryReadFailure),
     (0, 0, Error::MemoryReadFailure),
     (5, 0, Error::MemoryReadFailure),
@@ -31,14 +31,14 @@ const REFUSED: &[(u32, u32, Error)] = &[
     (u32::MAX, u32::MAX, Error::StreamReadFailure),
 ];
 
-fn is_refused(row: &(u32, u32, Error)) -> bool {
+fn is_an_error(row: &(u32, u32, Error)) -> bool {
     let (rva, data_size, error) = *row;
-    let desc = described(0x1000, rva, data_size);
+    let desc = descriptor(0x1000, rva, data_size);
     MinidumpMemory::read(&desc, FILE, Endian::Little).err() == Some(error)
 }
 
-// A copy of the region has its values too.
-fn is_copied(region: &MinidumpMemory<'_>) -> Result<bool, AllocError> {
+// Tests whether a clone of the region has its values.
+fn clone_is_equal(region: &MinidumpMemory<'_>) -> Result<bool, AllocError> {
     let copy = region.clone()?;
     Ok(
         copy.desc == region.desc
@@ -48,21 +48,21 @@ fn is_copied(region: &MinidumpMemory<'_>) -> Result<bool, AllocError> {
 }
 
 fn is_read(endian: Endian) -> Result<bool, Error> {
-    let desc = described(0x1000, 5, 3);
+    let desc = descriptor(0x1000, 5, 3);
     let region = MinidumpMemory::read(&desc, FILE, endian)?;
     Ok(
         region.desc == desc
             && (region.base_address, region.size) == (0x1000, 3)
             && region.bytes == [5, 6, 7].as_slice()
             && region.endian == endian
-            && is_copied(&region)?,
+            && clone_is_equal(&region)?,
     )
 }
 
 #[test]
 fn a_region_is_read_where_its_bytes_are_in_the_file(rt: HostRuntime) -> Result<(), Fail> {
-    for row in REFUSED {
-        assert!(rt; is_refused(row), "at {}", row.0);
+    for row in ERRORS {
+        assert!(rt; is_an_error(row), "at {}", row.0);
     }
     for endian in BOTH {
         assert!(rt; is_read(*endian)?);
@@ -74,7 +74,8 @@ const SIXTEEN: &[u8] = &[1, 2, 3, 4, 5, 6, 7, 8, 9, 10, 11, 12, 13, 14, 15, 16];
 
 const FOUR: &[u8] = &[1, 2, 3, 4];
 
-// The number at an address of bytes from 0x1000 on, in a region of either kind and as a unified one.
+// The number at an address of bytes from 0x1000 on, in a region of either kind and as a unified
+// one.
 fn holds<T: FixedRead + PartialEq>(
     bytes: &[u8],
     endian: Endian,
@@ -157,7 +158,7 @@ fn a_number_is_read_where_the_region_holds_it_whole(rt: HostRuntime) {
 }
 
 // A list of one region of 15 bytes, with them, of either kind.
-const PRINTED: &str = "MinidumpMemoryList
+const TEXT: &str = "MinidumpMemoryList
   region_count = 1
 
 region[0]
@@ -170,7 +171,7 @@ Memory
 
 ";
 
-const PRINTED_64: &str = "MinidumpMemory64List
+const TEXT_64: &str = "MinidumpMemory64List
   region_count = 1
 
 region[0]
@@ -190,11 +191,11 @@ fn prints(alloc: Global, list: &UnifiedMemoryList<'_>, text: &str) -> Result<boo
 
 fn prints_the_bytes(alloc: Global) -> Result<bool, Error> {
     let row: &[(u64, &[u8])] = &[(0x1000, b"memory_contents")];
-    let plain = Listed::plain(alloc, Endian::Little, row)?;
-    let long = Listed::long(alloc, Endian::Little, row)?;
+    let plain = ListFile::plain(alloc, Endian::Little, row)?;
+    let long = ListFile::long(alloc, Endian::Little, row)?;
     let plain = UnifiedMemoryList::Memory(plain.read(alloc, &mut Steps::new())?);
     let long = UnifiedMemoryList::Memory64(long.read(alloc, &mut Steps::new())?);
-    Ok(prints(alloc, &plain, PRINTED)? && prints(alloc, &long, PRINTED_64)?)
+    Ok(prints(alloc, &plain, TEXT)? && prints(alloc, &long, TEXT_64)?)
 }
 
 #[test]

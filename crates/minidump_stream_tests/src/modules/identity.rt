@@ -1,5 +1,5 @@
-use super::{Written, added};
-use crate::given::system;
+use super::{SynthModule, add_module};
+use crate::files::system;
 use minidump_bytes::Endian;
 use minidump_format::Error;
 use minidump_modules::{CodeId, DebugId, MinidumpModule, MinidumpUnloadedModule, Module};
@@ -14,14 +14,14 @@ fn module(
     platform: Option<u32>,
     view: &[u8],
 ) -> Result<MinidumpModule, Error> {
-    let written = Written {
+    let data = SynthModule {
         base: 0x1000,
         size: 0x4000,
         name: "mod",
         view,
     };
     let mut dump = SynthMinidump::new(alloc, endian);
-    let raw = added(alloc, &mut dump, &written)?;
+    let raw = add_module(alloc, &mut dump, &data)?;
     let file = dump.finish()?;
     match platform {
         None => MinidumpModule::read(alloc, raw, &file, endian, None),
@@ -36,7 +36,7 @@ const WINDOWS: Option<u32> = Some(2);
 
 const LINUX: Option<u32> = Some(0x8201);
 
-fn shown(alloc: Global, id: Option<DebugId>) -> Result<Option<String>, AllocError> {
+fn debug_id_text(alloc: Global, id: Option<DebugId>) -> Result<Option<String>, AllocError> {
     match id {
         None => Ok(None),
         Some(id) => Ok(Some(format!(in alloc; "{id}")?)),
@@ -47,20 +47,22 @@ fn is_text(text: &Option<String>, want: Option<&str>) -> bool {
     text.as_ref().map(|text| text.as_str()) == want
 }
 
-// `RSDS` with a GUID of zeros, a build id of zeros, one of no bytes, and a record of another signature.
+// `RSDS` with a GUID of zeros, a build id of zeros, one of no bytes, and a record of another
+// signature.
 const RSDS_NIL: &[u8] = b"RSDS\0\0\0\0\0\0\0\0\0\0\0\0\0\0\0\0\x01\0\0\0a.b";
 
-const ELF_BLANK: &[u8] = b"LEpB\0\0\0\0\0\0\0\0";
+const ELF_ZEROS: &[u8] = b"LEpB\0\0\0\0\0\0\0\0";
 
 const ELF_EMPTY: &[u8] = b"LEpB";
 
 const OTHER: &[u8] = b"MTOCxyz";
 
-// A platform and a record, and whether the module has identifiers of its code and of its debug file, and its name.
+// A platform and a record, and whether the module has identifiers of its code and of its debug
+// file, and its name.
 #[rattlefmt::skip]
 const ABSENT: &[(Option<u32>, &[u8], (bool, bool, bool))] = &[
     (None, RSDS_NIL, (true, false, true)),
-    (LINUX, ELF_BLANK, (false, false, true)),
+    (LINUX, ELF_ZEROS, (false, false, true)),
     (LINUX, ELF_EMPTY, (false, false, true)),
     (WINDOWS, OTHER, (false, false, false)),
     (WINDOWS, b"", (true, false, false)),
@@ -102,33 +104,33 @@ const BREAKPAD: &[(&str, Option<&str>)] = &[
     ("ABCD1234F00DBEEF01020304050607g81", None),
 ];
 
-fn is_shown(alloc: Global, row: &(&str, Option<&str>)) -> Result<bool, AllocError> {
-    Ok(is_text(&shown(alloc, DebugId::from_breakpad(row.0))?, row.1))
+fn has_debug_id(alloc: Global, row: &(&str, Option<&str>)) -> Result<bool, AllocError> {
+    Ok(is_text(&debug_id_text(alloc, DebugId::from_breakpad(row.0))?, row.1))
 }
 
-fn are_shown(alloc: Global) -> Result<bool, Error> {
-    let old = shown(alloc, Some(DebugId::from_pdb20(0xabcd, 0x1f)))?;
+fn other_ids_have_texts(alloc: Global) -> Result<bool, Error> {
+    let old = debug_id_text(alloc, Some(DebugId::from_pdb20(0xabcd, 0x1f)))?;
     let code = CodeId::new(alloc, "B1-05 4D2g")?;
     Ok(is_text(&old, Some("0000ABCD-1f")) && code.as_str() == "b1054d2")
 }
 
 // Breakpad's texts in another case, and as Breakpad writes them.
 #[rattlefmt::skip]
-const WRITTEN: &[(&str, &str)] = &[
+const BREAKPAD_FORMS: &[(&str, &str)] = &[
     ("dfb8e43af2423d73a453aeb6a777ef75A", "DFB8E43AF2423D73A453AEB6A777EF75a"),
     ("abcd1234f00dbeef01020304050607080", "ABCD1234F00DBEEF01020304050607080"),
 ];
 
-fn written(alloc: Global, id: DebugId) -> Result<String, AllocError> {
+fn breakpad_text(alloc: Global, id: DebugId) -> Result<String, AllocError> {
     let form = id.breakpad();
     format!(in alloc; "{form}")
 }
 
-fn is_written(alloc: Global, row: &(&str, &str)) -> Result<bool, AllocError> {
+fn has_breakpad_form(alloc: Global, row: &(&str, &str)) -> Result<bool, AllocError> {
     match DebugId::from_breakpad(row.0) {
         None => Ok(false),
         Some(id) => {
-            let text = written(alloc, id)?;
+            let text = breakpad_text(alloc, id)?;
             Ok(text.as_str() == row.1 && DebugId::from_breakpad(text.as_str()) == Some(id))
         }
     }
@@ -136,10 +138,10 @@ fn is_written(alloc: Global, row: &(&str, &str)) -> Result<bool, AllocError> {
 
 #[test]
 fn identifiers_are_written_for_breakpad(rt: HostRuntime) -> Result<(), Fail> {
-    for row in WRITTEN {
-        assert!(rt; is_written(rt.alloc(), row)?, "{}", row.1);
+    for row in BREAKPAD_FORMS {
+        assert!(rt; has_breakpad_form(rt.alloc(), row)?, "{}", row.1);
     }
-    let old = written(rt.alloc(), DebugId::from_pdb20(0xabcd, 0x1f))?;
+    let old = breakpad_text(rt.alloc(), DebugId::from_pdb20(0xabcd, 0x1f))?;
     assert!(rt; old.as_str() == "ABCD1f");
     Ok(())
 }
@@ -147,13 +149,13 @@ fn identifiers_are_written_for_breakpad(rt: HostRuntime) -> Result<(), Fail> {
 #[test]
 fn identifiers_are_texts(rt: HostRuntime) -> Result<(), Fail> {
     for row in BREAKPAD {
-        assert!(rt; is_shown(rt.alloc(), row)?, "{}", row.0);
+        assert!(rt; has_debug_id(rt.alloc(), row)?, "{}", row.0);
     }
-    assert!(rt; are_shown(rt.alloc())?);
+    assert!(rt; other_ids_have_texts(rt.alloc())?);
     Ok(())
 }
 
-fn is_unloaded(alloc: Global) -> Result<bool, Error> {
+fn stamp_identifies_unloaded_module(alloc: Global) -> Result<bool, Error> {
     let mut module = MinidumpUnloadedModule::new(alloc, 0x1000, 0x4000, "old")?;
     module.raw.time_date_stamp = super::STAMP;
     let code = module.code_identifier(alloc)?;
@@ -168,6 +170,6 @@ fn is_unloaded(alloc: Global) -> Result<bool, Error> {
 
 #[test]
 fn an_unloaded_module_is_identified_by_its_stamp(rt: HostRuntime) -> Result<(), Fail> {
-    assert!(rt; is_unloaded(rt.alloc())?);
+    assert!(rt; stamp_identifies_unloaded_module(rt.alloc())?);
     Ok(())
 }

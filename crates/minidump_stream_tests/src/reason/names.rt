@@ -21,18 +21,18 @@ const ASCENDING: Lists = &[
 ];
 
 #[rattlefmt::skip]
-const REFUSED: &[(Lists, Option<CodeNamesError>)] = &[
+const ERRORS: &[(Lists, Option<CodeNamesError>)] = &[
     (TWICE, Some(CodeNamesError::Repeated(CodeFamily::Mac))),
     (EQUAL, Some(CodeNamesError::NotAscending(CodeFamily::Mac))),
     (DESCENDING, Some(CodeNamesError::NotAscending(CodeFamily::NtStatus))),
     (ASCENDING, None),
 ];
 
-fn is_tested(row: &(Lists, Option<CodeNamesError>)) -> bool {
+fn has_error(row: &(Lists, Option<CodeNamesError>)) -> bool {
     CodeNames::new(row.0).err() == row.1
 }
 
 #[test]
-fn lists_are_tested_in_order(rt: HostRuntime) {
-    assert!(rt; REFUSED.iter().all(is_tested));
+fn the_error_is_that_of_the_first_malformed_list(rt: HostRuntime) {
+    assert!(rt; ERRORS.iter().all(has_error));
 }

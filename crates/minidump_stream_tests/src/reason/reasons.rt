@@ -1,4 +1,4 @@
-use super::{Lists, is_written};
+use super::{Lists, has_text};
 use minidump_format::Error;
 use minidump_format::format::{
     MINIDUMP_EXCEPTION, MINIDUMP_EXCEPTION_STREAM, MINIDUMP_LOCATION_DESCRIPTOR,
@@ -8,7 +8,7 @@ use minidump_system::{Cpu, Os};
 use std::alloc::Global;
 use std::test::Fail;
 
-// An exception with so many parameters, of which the first three are given.
+// An exception with `count` parameters, and the first three of them.
 fn exception(code: u32, flags: u32, count: u32, first: [u64; 3]) -> MINIDUMP_EXCEPTION_STREAM {
     let mut parameters = [0; 15];
     parameters[0] = first[0];
@@ -33,7 +33,7 @@ fn exception(code: u32, flags: u32, count: u32, first: [u64; 3]) -> MINIDUMP_EXC
     }
 }
 
-// The names of the first lists of these.
+// The names of the first `count` lists.
 fn first_of(lists: Lists, count: usize) -> CodeNames<'static> {
     let count = count.min(lists.len());
     CodeNames::new(&lists[..count]).unwrap_or(CodeNames::empty())
@@ -61,7 +61,7 @@ const LINUX: Lists = &[
     (CodeFamily::LinuxSigsys, &[(1, "SYS_SECCOMP")]),
 ];
 
-// How many of the lists there are, a signal, its flags, and the reason in words.
+// The number of lists, a signal, its flags, and the reason's text.
 #[rattlefmt::skip]
 const SIGNALS: &[(usize, u32, u32, &str)] = &[
     (2, 11, 1, "SIGSEGV / SEGV_MAPERR"),
@@ -85,7 +85,7 @@ fn is_of_linux(alloc: Global, os: Os, row: &(usize, u32, u32, &str)) -> Result<b
     let names = first_of(LINUX, lists);
     let raw = exception(code, flags, 0, [0; 3]);
     let reason = CrashReason::from_exception(&raw, os, Cpu::X86_64, &names);
-    is_written(alloc, reason, &names, text)
+    has_text(alloc, reason, &names, text)
 }
 
 #[test]
@@ -147,8 +147,8 @@ const MAC: Lists = &[
     (CodeFamily::MacBreakpointX86, &[(2, "EXC_I386_BPT")]),
 ];
 
-// How many of the lists there are, a code, its flags, the processor, and the reason in words. The parameters
-// are 0, 7 and 9.
+// The number of lists, a code, its flags, the processor, and the reason's text. The parameters are
+// 0, 7 and 9.
 #[rattlefmt::skip]
 const MAC_CODES: &[(usize, u32, u32, Cpu, &str)] = &[
     (6, 12, 0x6000_0000, Cpu::Arm64, "EXC_GUARD / GUARD_TYPE_USER/ namespace: 7 guard identifier: 9"),
@@ -190,7 +190,7 @@ fn is_of_mac(
     let names = first_of(MAC, lists);
     let raw = exception(code, flags, 0, parameters);
     let reason = CrashReason::from_exception(&raw, os, cpu, &names);
-    is_written(alloc, reason, &names, text)
+    has_text(alloc, reason, &names, text)
 }
 
 // A limit of CPU time, with and without the list of its flavors. Its parameters are other ones.
@@ -253,8 +253,8 @@ const WINDOWS: Lists = &[
     ),
 ];
 
-// How many of the lists there are, an error, and the reason in words: the severity is the four highest bits,
-// the facility the twelve behind them, and the error the low 16.
+// The number of lists, an error, and the reason's text: the severity is the four highest bits, the
+// facility the twelve after them, and the error the low 16.
 #[rattlefmt::skip]
 const ERRORS: &[(usize, u32, &str)] = &[
     (2, 0x8007_0005, "FACILITY_WIN32 / ERROR_ACCESS_DENIED"),
@@ -270,7 +270,7 @@ const ERRORS: &[(usize, u32, &str)] = &[
 
 fn is_of_windows(alloc: Global, row: &(usize, u32, &str)) -> Result<bool, Error> {
     let names = first_of(WINDOWS, row.0);
-    is_written(
+    has_text(
         alloc,
         CrashReason::from_windows_error(row.1, &names),
         &names,
@@ -278,7 +278,7 @@ fn is_of_windows(alloc: Global, row: &(usize, u32, &str)) -> Result<bool, Error>
     )
 }
 
-// A code, the number of its parameters, three of them, and the reason in words.
+// A code, the number of its parameters, three of them, and the reason's text.
 #[rattlefmt::skip]
 const EXCEPTIONS: &[(u32, u32, [u64; 3], &str)] = &[
     (0xc000_0005, 2, [1, 0xffff_ffff_8000_1234, 0], "EXCEPTION_ACCESS_VIOLATION_WRITE"),
@@ -296,7 +296,7 @@ fn is_raised(alloc: Global, row: &(u32, u32, [u64; 3], &str)) -> Result<bool, Er
     let names = first_of(WINDOWS, 6);
     let raw = exception(code, 0, count, parameters);
     let reason = CrashReason::from_exception(&raw, Os::Windows, Cpu::X86, &names);
-    is_written(alloc, reason, &names, text)
+    has_text(alloc, reason, &names, text)
 }
 
 // Other systems have no reasons.

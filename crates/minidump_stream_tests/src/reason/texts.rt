@@ -1,4 +1,4 @@
-use super::{Lists, is_written};
+use super::{Lists, has_text};
 use minidump_format::Error;
 use minidump_reason::{CodeFamily, CodeNames, CrashReason};
 use std::alloc::Global;
@@ -50,9 +50,9 @@ const NAMES: Lists = &[
     (CodeFamily::WindowsInPageError, &[(0, "READ")]),
 ];
 
-// Each reason in words, with these names.
+// The text of each reason, with these names.
 #[rattlefmt::skip]
-const NAMED: &[(CrashReason, &str)] = &[
+const WITH_NAMES: &[(CrashReason, &str)] = &[
     (CrashReason::MacGeneral(2, 0x1f), "EXC_BAD_INSTRUCTION / 0x0000001f"),
     (CrashReason::MacGeneral(0x4350_7378, 1), "Simulated Exception"),
     (CrashReason::MacBadAccessKern(1), "EXC_BAD_ACCESS / KERN_INVALID_ADDRESS"),
@@ -108,7 +108,7 @@ const NAMED: &[(CrashReason, &str)] = &[
 
 // The same without names.
 #[rattlefmt::skip]
-const NAMELESS: &[(CrashReason, &str)] = &[
+const WITHOUT_NAMES: &[(CrashReason, &str)] = &[
     (CrashReason::MacGeneral(1, 2), "0x00000001 / 0x00000002"),
     (CrashReason::MacSoftware(2), "EXC_SOFTWARE / 0x00000002"),
     (CrashReason::MacResource(6, 1, 2), "EXC_RESOURCE / 0x00000006 / 0x0000000000000001 / 0x0000000000000002"),
@@ -125,19 +125,19 @@ const NAMELESS: &[(CrashReason, &str)] = &[
     (CrashReason::WindowsStackBufferOverrun(0x1_2345_6789), "EXCEPTION_STACK_BUFFER_OVERRUN / 0x123456789"),
 ];
 
-fn is_named(alloc: Global, row: &(CrashReason, &str)) -> Result<bool, Error> {
+fn has_text_with_names(alloc: Global, row: &(CrashReason, &str)) -> Result<bool, Error> {
     let names = CodeNames::new(NAMES).unwrap_or(CodeNames::empty());
-    is_written(alloc, row.0, &names, row.1)
+    has_text(alloc, row.0, &names, row.1)
 }
 
 #[test]
-fn every_reason_has_words(rt: HostRuntime) -> Result<(), Fail> {
-    for row in NAMED {
-        assert!(rt; is_named(rt.alloc(), row)?, "{}", row.1);
+fn every_reason_has_a_text(rt: HostRuntime) -> Result<(), Fail> {
+    for row in WITH_NAMES {
+        assert!(rt; has_text_with_names(rt.alloc(), row)?, "{}", row.1);
     }
-    for (reason, text) in NAMELESS {
+    for (reason, text) in WITHOUT_NAMES {
         assert!(rt;
-            is_written(rt.alloc(), *reason, &CodeNames::empty(), text)?,
+            has_text(rt.alloc(), *reason, &CodeNames::empty(), text)?,
             "{text}"
         );
     }

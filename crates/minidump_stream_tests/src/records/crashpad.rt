@@ -1,4 +1,4 @@
-use crate::given::read_in;
+use crate::files::read_in;
 use minidump_bytes::{Endian, Steps};
 use minidump_format::Error;
 use minidump_format::format::{
@@ -39,10 +39,10 @@ fn link(
     }
 }
 
-// A text with the byte behind it.
-fn text(dump: &mut SynthMinidump, text: &str, behind: u8) -> RVA {
+// Adds a text and the byte after it.
+fn text(dump: &mut SynthMinidump, text: &str, after: u8) -> RVA {
     let mut section = dump.section();
-    section.text8(text).u8(behind);
+    section.text8(text).u8(after);
     dump.add(&section)
 }
 
@@ -75,7 +75,7 @@ fn module(dump: &mut SynthMinidump) -> MINIDUMP_LOCATION_DESCRIPTOR {
 }
 
 // A dump with a dictionary in which `k` occurs twice, and ten links to one module.
-fn written(alloc: Global, endian: Endian) -> Result<(Vec<u8>, Vec<u8>), AllocError> {
+fn dump_with_links(alloc: Global, endian: Endian) -> Result<(Vec<u8>, Vec<u8>), AllocError> {
     let mut dump = SynthMinidump::new(alloc, endian);
     let k = text(&mut dump, "k", 0);
     let j = text(&mut dump, "j", 0);
@@ -116,10 +116,10 @@ fn is_the_module(module: &MinidumpModuleCrashpadInfo) -> bool {
         && has(&module.simple_annotations, "c", "d")
 }
 
-// The reads are those of the record, 11 for the dictionary, 2 for the list, and 24 for each link with its
-// module.
+// The reads are those of the record, 11 for the dictionary, 2 for the list, and 24 for each link
+// with its module.
 fn is_read(alloc: Global, endian: Endian) -> Result<bool, Error> {
-    let (stream, file) = written(alloc, endian)?;
+    let (stream, file) = dump_with_links(alloc, endian)?;
     let mut steps = Steps::new();
     let info = read(alloc, &stream, &file, endian, &mut steps)?;
     Ok(

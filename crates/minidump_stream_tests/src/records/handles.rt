@@ -1,4 +1,4 @@
-use crate::given::read_in;
+use crate::files::read_in;
 use minidump_bytes::{Endian, Steps};
 use minidump_format::Error;
 use minidump_format::format::MINIDUMP_HANDLE_DESCRIPTOR_2;
@@ -17,7 +17,8 @@ fn read(
     read_in(alloc, stream, file, endian, steps)
 }
 
-// A dump of so many handles that share a circle of 1,000 pieces. Its stream stands behind the header and one entry.
+// A dump of `handles` handles that share a circle of 1,000 pieces. Its stream follows the header
+// and one entry.
 fn goes_round_once(alloc: Global, endian: Endian, handles: u32) -> Result<bool, Error> {
     let file = handle_circle(alloc, endian, handles, 1000)?;
     let stream = file.get(44..).unwrap_or(&[]);
@@ -37,8 +38,8 @@ fn a_circle_is_gone_round_once(rt: HostRuntime) -> Result<(), Fail> {
     Ok(())
 }
 
-// A dump's bytes, and a handle list in it: one handle with two names, of which the second has an odd size,
-// and a piece of information.
+// A dump's bytes, and a handle list in it: one handle with two names, of which the second has an
+// odd size, and a piece of information.
 fn one_handle(alloc: Global, endian: Endian) -> Result<(Vec<u8>, Vec<u8>), AllocError> {
     let mut dump = SynthMinidump::new(alloc, endian);
     let mut piece = dump.section();
@@ -54,7 +55,7 @@ fn one_handle(alloc: Global, endian: Endian) -> Result<(Vec<u8>, Vec<u8>), Alloc
     Ok((dump.finish()?, list))
 }
 
-const SHOWN: &str = "{next_info_rva: 0x70, info_type: 1, size_of_info: 12}";
+const INFO_TEXT: &str = "{next_info_rva: 0x70, info_type: 1, size_of_info: 12}";
 
 fn is_the_one(alloc: Global, handle: &MinidumpHandleDescriptor) -> Result<bool, AllocError> {
     match handle.object_infos.first() {
@@ -65,14 +66,14 @@ fn is_the_one(alloc: Global, handle: &MinidumpHandleDescriptor) -> Result<bool, 
                 handle.type_name.as_ref().map(|t| t.as_str()) == Some("Event")
                     && handle.object_name.is_none()
                     && handle.raw.handle() == Some(&0x1c)
-                    && text.as_str() == SHOWN,
+                    && text.as_str() == INFO_TEXT,
             )
         }
     }
 }
 
-// The reads are those of the header, the entry, two names, a piece of information, and 0x70, where there is
-// none.
+// The reads are those of the header, the entry, two names, a piece of information, and 0x70, where
+// there is none.
 fn has_its_names(alloc: Global, endian: Endian) -> Result<bool, Error> {
     let (file, stream) = one_handle(alloc, endian)?;
     let mut steps = Steps::new();

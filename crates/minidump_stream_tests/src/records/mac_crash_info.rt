@@ -1,4 +1,4 @@
-use crate::given::read_in;
+use crate::files::read_in;
 use minidump_bytes::{Endian, Steps};
 use minidump_format::Error;
 use minidump_format::format::MINIDUMP_MAC_CRASH_INFO;
@@ -99,8 +99,8 @@ const FULL_TEXTS: &[Option<&str>] = &[
     Some("second"),
 ];
 
-// A record, its reads, its numbers and its texts. The reads are those of the stream, the record's bytes and its
-// head, and from version 4 on of its fixed part and five texts.
+// A record, its reads, its numbers and its texts. The reads are those of the stream, the record's
+// bytes and its head, and from version 4 on of its fixed part and five texts.
 type Row = (
     Record,
     u128,

@@ -8,8 +8,8 @@ use Rattle.minidump.specs.DumpValue.{dump_of}
 use Rattle.region_at.specs.RegionAt.{IsInMemory}
 use Rattle.region_at.proofs.region_at.Goals as goal
 
-pub returns-in_err-memory-clause-refused : goal.returns-in_err-memory-clause-refused
-returns-in_err-memory-clause-refused c =
+pub returns-in_err-memory-clause-error : goal.returns-in_err-memory-clause-error
+returns-in_err-memory-clause-error c =
     let p = err_from_is_err_and c.from_residual-in_err-memory.result c.from_residual-in_err-memory.ensures.1 in
     let memory = c.in_err-memory.ensures.memory in
     rw (p.1, p.2, memory.0) (inr (refl, rw c.in_ok-dump.ensures memory.1))

@@ -4,7 +4,7 @@ use Rattle.std.specs.Prelude.{Ok}
 use Rattle.std.proofs.lemmas.Result.{err_from_is_err_and}
 use Rattle.minidump.specs.declared.Error.{Error}
 use Rattle.minidump.specs.declared.Error.TheVariants.{OutOfMemory}
-use Rattle.minidump.specs.Below.Format.Answer.{Refuses}
+use Rattle.minidump.specs.Below.Format.Answer.{GivesError}
 use Rattle.minidump.specs.Dump.{Dump, HasEntries, dump_in, stream_memory, stream_of}
 use Rattle.minidump.specs.DumpValue.{dump_of}
 use Rattle.minidump.specs.Promise.{thread_list_stream}
@@ -12,16 +12,16 @@ use Rattle.thread_ids.specs.ThreadIds.{ids_in}
 use Rattle.thread_ids.proofs.thread_ids.Goals as goal
 
 -- the error of the list of threads
-refused : (bytes : List ℕ) (d : Dump) (e : Error) → dump_in bytes ≡ Ok d → (e ≡ OutOfMemory → 0 < d.header.stream_count)
-    → Refuses (stream_memory thread_list_stream d) e (stream_of thread_list_stream d) → Refuses (HasEntries bytes) e (ids_in bytes)
-refused bytes d OutOfMemory is has k = rw is (has refl)
-refused bytes d e is has k = rw (is, k) refl
+error_of_stream : (bytes : List ℕ) (d : Dump) (e : Error) → dump_in bytes ≡ Ok d → (e ≡ OutOfMemory → 0 < d.header.stream_count)
+    → GivesError (stream_memory thread_list_stream d) e (stream_of thread_list_stream d) → GivesError (HasEntries bytes) e (ids_in bytes)
+error_of_stream bytes d OutOfMemory is has k = rw is (has refl)
+error_of_stream bytes d e is has k = rw (is, k) refl
 
 pub returns-in_err-threads : goal.returns-in_err-threads
 returns-in_err-threads c =
     let p = err_from_is_err_and c.from_residual-in_err-threads.result c.from_residual-in_err-threads.ensures.1 in
     rw (p.1, p.2)
-    (refused c.args.bytes.now (dump_of c.in_ok-dump.dump) _ c.in_ok-dump.ensures c.in_err-threads.ensures.memory c.in_err-threads.ensures.means)
+    (error_of_stream c.args.bytes.now (dump_of c.in_ok-dump.dump) _ c.in_ok-dump.ensures c.in_err-threads.ensures.memory c.in_err-threads.ensures.means)
 
 pub returns-in_err-ids_of : goal.returns-in_err-ids_of
 returns-in_err-ids_of c =

@@ -1,4 +1,4 @@
--- The members, one behind another, by the parts of the crash.
+-- The members, one after another, by the parts of the crash.
 use Rattle.std.proofs.Common.{rules}
 use Rattle.json_tree.proofs.Tokens.{more}
 use Rattle.crash_json.proofs.report.put_crash.Goals as goal

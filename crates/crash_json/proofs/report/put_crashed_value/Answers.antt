@@ -6,14 +6,14 @@ use Rattle.minidump.specs.declared.MinidumpRawContext.{MinidumpRawContext}
 use Rattle.crash_summary.specs.Summary.{crash_context}
 use Rattle.json_tree.specs.Tree.{Puts}
 use Rattle.threads_json.specs.Threads.{Scope, crashing_json, scope_of}
-use Rattle.threads_json.specs.Walked.{walked_of}
+use Rattle.threads_json.specs.ThreadWalk.{walk_of}
 use Rattle.crash_json.specs.Parts.{parts_of}
 use Rattle.crash_json.proofs.report.put_crashed_value.Goals as goal
 
 pub returns : goal.returns
 returns c =
     let p = parts_of c.args.report.now in
-    let w = walked_of c.args.thread.now in
+    let w = walk_of c.args.thread.now in
     let context : option_map (λ (x : MinidumpContext). x.raw) (option_copied c.as_ref.result) ≡ crash_context p.system p.exception (Some w.thread) =
     ap (option_map (λ (x : MinidumpContext). x.raw)) c.as_ref.ensures.value ∙ c.context_of-context.ensures in
     subst (λ (s : Scope). Puts c.put_crashing_thread.result c.args.out.now c.put_crashing_thread.new.out

@@ -1,10 +1,10 @@
--- The members, one behind another, by the values of the streams and of the regions.
+-- The members, one after another, by the values of the streams and of the regions.
 use Rattle.std.proofs.Common.{rules}
 use Rattle.minidump.specs.Below.MemoryLists.Unified.{unified_region}
 use Rattle.json_tree.proofs.Tokens.{array_of_views, more}
 use Rattle.streams_json.specs.Memory.{region_json}
-use Rattle.crash_json.specs.Directory.{stream_json}
-use Rattle.crash_json.specs.Parts.{stream_of}
+use Rattle.directory_json.specs.Directory.{stream_json}
+use Rattle.directory_json.specs.Entries.{stream_of}
 use Rattle.crash_json.proofs.report.put_parts.Goals as goal
 
 pub returns : goal.returns

@@ -1,4 +1,4 @@
--- The members, one behind another.
+-- The members, one after another.
 use Rattle.std.proofs.Common.{rules}
 use Rattle.json_tree.proofs.Tokens.{more}
 use Rattle.crash_json.proofs.report.put_report.Goals as goal

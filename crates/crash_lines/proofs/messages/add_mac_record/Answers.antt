@@ -1,4 +1,4 @@
--- The five texts, one behind another.
+-- The five texts, one after another.
 use Rattle.crash_page.proofs.Adding.{grows_last, grows_then}
 use Rattle.crash_lines.proofs.messages.add_mac_record.Goals as goal
 

@@ -1,4 +1,4 @@
--- The three streams, one behind another.
+-- The three streams, one after another.
 use Rattle.crash_page.proofs.Adding.{grows_last, grows_then}
 use Rattle.crash_lines.proofs.messages.add_messages.Goals as goal
 

@@ -10,7 +10,7 @@ pub loop-name-preserved : goal.loop-name-preserved
 loop-name-preserved c =
     leads_next (λ e. annotation_part (e.0, annotation_text e.1)) (λ e. (string_bytes e.0, annotation_of e.1)) _ c.loop-name.name-iterator c.next.new.self
     (c.in-Some.name.now, c.in-Some.annotation.now) c.in-Some.ensures.steps c.loop-name.invariant
-    (rw (← c.as_str.ensures.value, ← c.shown.ensures) c.in_ok-add_annotation.ensures)
+    (rw (← c.as_str.ensures.value, ← c.annotation_text.ensures) c.in_ok-add_annotation.ensures)
 
 pub returns : goal.returns
 returns c =

@@ -6,8 +6,8 @@ use Rattle.crash_lines.proofs.space.infos_of.Goals as goal
 
 pub returns-clause-lines : goal.returns-clause-lines
 returns-clause-lines c =
-    grows_then _ (unread_given _ memory_info_list_stream.value _ _ c.in_ok-infos.ensures.found c.in_ok-unread_stream.ensures)
-    (grows_last (unread_given _ linux_maps_stream.value _ _ c.in_ok-maps.ensures.found c.in_ok-unread_stream-2.ensures))
+    grows_then _ (unread_given _ memory_info_list_stream.value _ _ c.in_ok-infos.ensures.found c.in_ok-stream_unless_missing.ensures)
+    (grows_last (unread_given _ linux_maps_stream.value _ _ c.in_ok-maps.ensures.found c.in_ok-stream_unless_missing-2.ensures))
 
 pub returns-clause-value : goal.returns-clause-value
 returns-clause-value c =

@@ -6,5 +6,5 @@ use Rattle.crash_lines.proofs.space.memory_of.Goals as goal
 pub returns-in-Ok-clause-lines : goal.returns-in-Ok-clause-lines
 returns-in-Ok-clause-lines c = rw (rw c.in-Ok.is at c.in_ok-list.ensures.found) grows_nothing
 
-pub short_memory_of-requires : goal.short_memory_of-requires
-short_memory_of-requires c = assigned_as _ _ (rw c.in-Err.is at c.in_ok-list.ensures.found)
+pub plain_memory_of-requires : goal.plain_memory_of-requires
+plain_memory_of-requires c = assigned_as _ _ (rw c.in-Err.is at c.in_ok-list.ensures.found)

@@ -1,6 +1,6 @@
 -- Each stream is the dump's.
 use Rattle.minidump.specs.DumpValue.{dump_of}
-use Rattle.minidump.specs.Promise.{assertion_stream, crashpad_info_stream, exception_stream, mac_crash_info_stream, misc_info_stream}
+use Rattle.minidump.specs.Promise.{exception_stream, misc_info_stream}
 use Rattle.minidump.specs.Promise.{system_info_stream, thread_list_stream, thread_names_stream}
 use Rattle.crash_lines.proofs.StreamLemmas.{given, same_streams}
 use Rattle.crash_lines.proofs.streams.streams_of.Goals as goal
@@ -14,6 +14,6 @@ returns-clause-streams c =
     (c.or_none-modules.ensures.modules (dump_of c.args.dump.now) c.in_ok-found.ensures.found)
     (c.or_none-modules.ensures.error (dump_of c.args.dump.now) c.in_ok-found.ensures.found)
     (given misc_info_stream.value _ _ c.in_ok-misc.ensures.found)
-    (given assertion_stream.value _ _ c.in_ok-assertion.ensures.found)
-    (given crashpad_info_stream.value _ _ c.in_ok-crashpad.ensures.found)
-    (given mac_crash_info_stream.value _ _ c.in_ok-mac.ensures.found)
+    c.in_ok-messages.ensures.assertion
+    c.in_ok-messages.ensures.crashpad
+    c.in_ok-messages.ensures.mac

@@ -1,4 +1,4 @@
--- What was put, and the items from the number on behind it, are all.
+-- What was put, and then the items from the number on, are all.
 use Rattle.std.proofs.Common.{drop, ◌≡◌, ◌++◌}
 use Rattle.std.specs.List.{enumerate_from}
 use Rattle.json_tree.specs.Tree.{item_tokens, numbered_tokens}

@@ -1,4 +1,4 @@
--- Behind the last entry there is none.
+-- There is none after the last entry.
 use Rattle.std.proofs.Common.{arith, false, ◌≡◌, ◌+◌, length, nat_lt}
 use Rattle.std.proofs.lemmas.Bool.Decides.{nat_tests}
 use Rattle.minidump.proofs.DirectoryLemmas.{ends_at_end}

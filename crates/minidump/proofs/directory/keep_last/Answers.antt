@@ -2,7 +2,7 @@
 use Rattle.std.proofs.Common.{arith, refl, ap, drop, ◌∙◌}
 use Rattle.std.proofs.lemmas.List.{drop-set-lt, length-set}
 use Rattle.minidump.specs.Deciding.{ends_a_type}
-use Rattle.minidump.proofs.DirectoryLemmas.{all_kept, keep_more, rest_more, skip_more}
+use Rattle.minidump.proofs.DirectoryLemmas.{kept_are_last, keep_more, rest_more, skip_more}
 use Rattle.minidump.proofs.directory.keep_last.Goals as goal
 use Rattle.minidump.proofs.directory.keep_last.Goals.{then-is_last_of_type, else-is_last_of_type}
 
@@ -36,4 +36,4 @@ loop-i-preserved c =
 pub returns : goal.returns
 returns c =
     rw c.truncate.ensures.items
-    (all_kept c.args.entries.now.items c.loop-i.entries.items c.loop-i.i c.loop-i.kept c.requires (omega arith) c.loop-i.invariant.last)
+    (kept_are_last c.args.entries.now.items c.loop-i.entries.items c.loop-i.i c.loop-i.kept c.requires (omega arith) c.loop-i.invariant.last)

@@ -8,7 +8,7 @@ use Rattle.minidump_bytes.proofs.EntryLemmas.{length-entries}
 use Rattle.minidump_format.specs.Header.{directory_entry}
 use Rattle.minidump.specs.Deciding.{type_of}
 use Rattle.minidump.specs.Directory.{directory}
-use Rattle.minidump.proofs.DirectoryLemmas.{decides, length-indexed, stable_by_type}
+use Rattle.minidump.proofs.DirectoryLemmas.{decides, length-with_indices, stable_by_type}
 use Rattle.minidump.proofs.directory.read_directory.Goals as goal
 
 pub returns-in_err-sort_by_key-clause-means : goal.returns-in_err-sort_by_key-clause-means
@@ -16,7 +16,7 @@ returns-in_err-sort_by_key-clause-means c =
     let h = c.args.header.now in
     let source = bytes_of c.args.source in
     let count : length c.in_ok-entries.entries.items ≡ h.stream_count =
-    ap length c.in_ok-entries.ensures.means.1 ∙ length-indexed (directory c.args.endian source h)
+    ap length c.in_ok-entries.ensures.means.1 ∙ length-with_indices (directory c.args.endian source h)
     ∙ length-entries directory_entry c.args.endian source h.stream_directory_rva h.stream_count in
     let some : 0 < h.stream_count = elim (cases_lt 0 h.stream_count) [
       | inl some ↦ some

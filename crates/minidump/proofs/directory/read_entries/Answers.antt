@@ -7,7 +7,7 @@ use Rattle.minidump_bytes.specs.Entries.{entry, entries}
 use Rattle.minidump_bytes.proofs.EntryLemmas.{entries-more, entries-none, length-entries}
 use Rattle.minidump_format.specs.Header.{directory_entry}
 use Rattle.minidump.specs.Deciding.{type_of}
-use Rattle.minidump.proofs.DirectoryLemmas.{indexed-more}
+use Rattle.minidump.proofs.DirectoryLemmas.{with_indices-more}
 use Rattle.minidump.proofs.directory.read_entries.Goals as goal
 
 pub loop-index-init : goal.loop-index-init
@@ -27,7 +27,7 @@ loop-index-preserved c =
     let read : c.in_ok-entry.entry ≡ entry directory_entry order source start c.loop-index.index = grind (arith, common_steps, c.record.ensures.found) in
     let small : c.in_ok-entry.entry.stream_type < 2 ^ 32 = grind (arith, common_steps) in
     record {
-      items = rw (entries-more, ← read, indexed-more before c.in_ok-entry.entry, length-entries, ← c.loop-index.invariant.items) c.in_ok-push.ensures.items;
+      items = rw (entries-more, ← read, with_indices-more before c.in_ok-entry.entry, length-entries, ← c.loop-index.invariant.items) c.in_ok-push.ensures.items;
       small = rw c.in_ok-push.ensures.items (All-push (λ d. type_of d < 2 ^ 32) _ _ c.loop-index.invariant.small small);
       steps = omega (arith, c.record.ensures.step, c.loop-index.invariant.steps);
       readable = grind (arith, c.record.ensures.readable.0);

@@ -1,4 +1,4 @@
--- What is read with the system information handed in is that information, or it is refused as without.
+-- What is read with the system information handed in is that information, or it has the same error.
 use Rattle.std.proofs.Common.{◌≡◌, ℕ, List, Ok, Err, refl}
 use Rattle.std.specs.Prelude.{Result}
 use Rattle.std.specs.Result.{result_ok}

@@ -5,8 +5,8 @@ use Rattle.std.specs.Option.{option_map}
 use Rattle.minidump.specs.Below.MemoryLists.Unified.{UnifiedRegions, unified_list, unified_region}
 use Rattle.minidump.specs.DumpValue.{dump_of}
 use Rattle.minidump.specs.Memory.{memories_of_dump}
-use Rattle.minidump_c.specs.Memory.{IsIn}
-use Rattle.minidump_c.proofs.RefusedLemmas.{refused_at_entry}
+use Rattle.minidump_c.specs.Memory.{IsLookedUpIn}
+use Rattle.minidump_c.proofs.ErrorLemmas.{error_at_entry}
 use Rattle.minidump_c.proofs.memory.bytes_at.Goals as goal
 
 pub returns-clause-found : goal.returns-clause-found
@@ -14,11 +14,11 @@ returns-clause-found c =
     let dump = dump_of c.in_ok-dump.dump in
     let found = option_map unified_region c.memory_at.result in
     let same : option_map unified_list c.in_ok-memory.memory ≡ memories_of_dump dump = cc c.in_ok-memory.ensures.means in
-    let at = subst (λ (m : Option UnifiedRegions). IsIn m c.args.address found)
+    let at = subst (λ (m : Option UnifiedRegions). IsLookedUpIn m c.args.address found)
     (ap (option_map unified_list) c.as_ref.ensures.value ∙ same) c.memory_at.ensures in
     (dump, c.in_ok-dump.ensures, (found, at, c.bytes_from.ensures))
 
-pub returns-in_err-memory-clause-refused : goal.returns-in_err-memory-clause-refused
-returns-in_err-memory-clause-refused c =
-    refused_at_entry (dump_of c.in_ok-dump.dump) c.args.bytes.now c.in_ok-dump.ensures c.from_residual-in_err-memory.result _
+pub returns-in_err-memory-clause-error : goal.returns-in_err-memory-clause-error
+returns-in_err-memory-clause-error c =
+    error_at_entry (dump_of c.in_ok-dump.dump) c.args.bytes.now c.in_ok-dump.ensures c.from_residual-in_err-memory.result _
     c.from_residual-in_err-memory.ensures.1 c.in_err-memory.ensures.memory

@@ -1,7 +1,7 @@
 -- The name is that of a module of the minidump that was read.
 use Rattle.minidump.specs.DumpValue.{dump_of}
 use Rattle.minidump.specs.Promise.{module_list_stream}
-use Rattle.minidump_c.proofs.RefusedLemmas.{stream_refused}
+use Rattle.minidump_c.proofs.ErrorLemmas.{stream_error}
 use Rattle.minidump_c.proofs.modules.module_name.Goals as goal
 
 pub returns-clause-name : goal.returns-clause-name
@@ -12,12 +12,12 @@ returns-clause-name c = (
     (dump_of c.in_ok-dump.dump, c.in_ok-dump.ensures, cc c.in_ok-modules.ensures.means),
     c.name_at.ensures,
   ),
-  c.fill.ensures.filled,
+  c.fill.ensures.contents,
   c.fill.ensures.count,
 )
 
-pub returns-in_err-modules-clause-refused : goal.returns-in_err-modules-clause-refused
-returns-in_err-modules-clause-refused c =
-    stream_refused (dump_of c.in_ok-dump.dump) c.args.bytes.now c.in_ok-dump.ensures module_list_stream
+pub returns-in_err-modules-clause-error : goal.returns-in_err-modules-clause-error
+returns-in_err-modules-clause-error c =
+    stream_error (dump_of c.in_ok-dump.dump) c.args.bytes.now c.in_ok-dump.ensures module_list_stream
     c.from_residual-in_err-modules.result _ c.from_residual-in_err-modules.ensures.1
     c.in_err-modules.ensures.memory c.in_err-modules.ensures.means

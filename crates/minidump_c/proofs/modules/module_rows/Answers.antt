@@ -2,7 +2,7 @@
 use Rattle.std.proofs.Common.{inl}
 use Rattle.minidump.specs.DumpValue.{dump_of}
 use Rattle.minidump.specs.Promise.{module_list_stream}
-use Rattle.minidump_c.proofs.RefusedLemmas.{at_entry, stream_refused}
+use Rattle.minidump_c.proofs.ErrorLemmas.{at_entry, stream_error}
 use Rattle.minidump_c.proofs.modules.module_rows.Goals as goal
 
 pub returns-in-Ok-clause-rows : goal.returns-in-Ok-clause-rows
@@ -12,11 +12,11 @@ returns-in-Ok-clause-rows c = (
   c.in-Ok.ensures,
 )
 
-pub returns-in_err-modules-clause-refused : goal.returns-in_err-modules-clause-refused
-returns-in_err-modules-clause-refused c =
-    stream_refused (dump_of c.in_ok-dump.dump) c.args.bytes.now c.in_ok-dump.ensures module_list_stream
+pub returns-in_err-modules-clause-error : goal.returns-in_err-modules-clause-error
+returns-in_err-modules-clause-error c =
+    stream_error (dump_of c.in_ok-dump.dump) c.args.bytes.now c.in_ok-dump.ensures module_list_stream
     c.from_residual-in_err-modules.result _ c.from_residual-in_err-modules.ensures.1
     c.in_err-modules.ensures.memory c.in_err-modules.ensures.means
 
-pub returns-clause-refused : goal.returns-clause-refused
-returns-clause-refused c = inl (at_entry (dump_of c.in_ok-dump.dump) c.args.bytes.now c.in_ok-dump.ensures c.in_ok-modules.ensures.entry)
+pub returns-clause-error : goal.returns-clause-error
+returns-clause-error c = inl (at_entry (dump_of c.in_ok-dump.dump) c.args.bytes.now c.in_ok-dump.ensures c.in_ok-modules.ensures.entry)

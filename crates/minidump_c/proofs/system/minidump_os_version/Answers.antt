@@ -10,7 +10,7 @@ returns-in-Ok c = inl (
   (
     string_bytes c.in-Ok.version,
     (option_map string_bytes c.in-Ok.field-0-1, c.in-Ok.ensures.parts),
-    rw c.as_bytes.ensures.value at c.fill.ensures.filled,
+    rw c.as_bytes.ensures.value at c.fill.ensures.contents,
     rw c.as_bytes.ensures.value at c.fill.ensures.count,
   ),
 )

@@ -6,7 +6,7 @@ use Rattle.minidump.specs.Memory.{memories_of_dump}
 use Rattle.minidump.specs.Below.MemoryLists.Unified.{UnifiedRegions, unified_list}
 use Rattle.minidump.specs.DumpValue.{dump_of}
 use Rattle.minidump_c.specs.Table.{IsTableIn}
-use Rattle.minidump_c.proofs.RefusedLemmas.{at_entry, on_copied, refused_at_entry}
+use Rattle.minidump_c.proofs.ErrorLemmas.{at_entry, on_copied, error_at_entry}
 use Rattle.minidump_c.proofs.table.table.Goals as goal
 
 pub returns-in-Ok-clause-table : goal.returns-in-Ok-clause-table
@@ -19,12 +19,12 @@ returns-in-Ok-clause-table c =
           (ap (option_map unified_list) c.as_ref.ensures.value ∙ same) c.in-Ok.ensures.rows,
     )
 
-pub returns-in_err-memory-clause-refused : goal.returns-in_err-memory-clause-refused
-returns-in_err-memory-clause-refused c =
-    refused_at_entry (dump_of c.in_ok-dump.dump) c.args.bytes.now c.in_ok-dump.ensures c.from_residual-in_err-memory.result _
+pub returns-in_err-memory-clause-error : goal.returns-in_err-memory-clause-error
+returns-in_err-memory-clause-error c =
+    error_at_entry (dump_of c.in_ok-dump.dump) c.args.bytes.now c.in_ok-dump.ensures c.from_residual-in_err-memory.result _
     c.from_residual-in_err-memory.ensures.1 c.in_err-memory.ensures.memory
 
-pub returns-clause-refused : goal.returns-clause-refused
-returns-clause-refused c =
+pub returns-clause-error : goal.returns-clause-error
+returns-clause-error c =
     at_entry (dump_of c.in_ok-dump.dump) c.args.bytes.now c.in_ok-dump.ensures
     (on_copied c.as_ref.result c.in_ok-memory.memory c.as_ref.ensures.value c.in_ok-memory.ensures.entry c.in-Err.ensures.memory)

@@ -6,7 +6,7 @@ use Rattle.minidump.specs.Below.System.System.{System}
 use Rattle.minidump.specs.DumpValue.{dump_of}
 use Rattle.minidump.specs.Promise.{system_info_stream, thread_list_stream}
 use Rattle.minidump_c.specs.Threads.{row_of}
-use Rattle.minidump_c.proofs.RefusedLemmas.{at_entry, other_refused, stream_refused}
+use Rattle.minidump_c.proofs.ErrorLemmas.{at_entry, other_error, stream_error}
 use Rattle.minidump_c.proofs.threads.thread_rows.Goals as goal
 
 pub returns-in-Ok-clause-rows : goal.returns-in-Ok-clause-rows
@@ -21,16 +21,16 @@ returns-in-Ok-clause-rows c =
       subst (λ (s : Option System). c.in-Ok.rows.items ≡ map (row_of s) threads) system c.in-Ok.ensures,
     )
 
-pub returns-in_err-threads-clause-refused : goal.returns-in_err-threads-clause-refused
-returns-in_err-threads-clause-refused c =
-    stream_refused (dump_of c.in_ok-dump.dump) c.args.bytes.now c.in_ok-dump.ensures thread_list_stream
+pub returns-in_err-threads-clause-error : goal.returns-in_err-threads-clause-error
+returns-in_err-threads-clause-error c =
+    stream_error (dump_of c.in_ok-dump.dump) c.args.bytes.now c.in_ok-dump.ensures thread_list_stream
     c.from_residual-in_err-threads.result _ c.from_residual-in_err-threads.ensures.1
     c.in_err-threads.ensures.memory c.in_err-threads.ensures.means
 
-pub returns-clause-refused : goal.returns-clause-refused
-returns-clause-refused c = inl (at_entry (dump_of c.in_ok-dump.dump) c.args.bytes.now c.in_ok-dump.ensures c.in_ok-threads.ensures.entry)
+pub returns-clause-error : goal.returns-clause-error
+returns-clause-error c = inl (at_entry (dump_of c.in_ok-dump.dump) c.args.bytes.now c.in_ok-dump.ensures c.in_ok-threads.ensures.entry)
 
-pub returns-in_err-system-clause-refused : goal.returns-in_err-system-clause-refused
-returns-in_err-system-clause-refused c =
-    other_refused (dump_of c.in_ok-dump.dump) c.args.bytes.now c.in_ok-dump.ensures thread_list_stream
+pub returns-in_err-system-clause-error : goal.returns-in_err-system-clause-error
+returns-in_err-system-clause-error c =
+    other_error (dump_of c.in_ok-dump.dump) c.args.bytes.now c.in_ok-dump.ensures thread_list_stream
     c.from_residual-in_err-system.result _ c.from_residual-in_err-system.ensures.1 c.in_err-system.ensures.memory

@@ -1,6 +1,6 @@
 -- The name of the instruction pointer is one that `memoize_register` knows.
-use Rattle.minidump_context.proofs.LawLemmas.{is_memoized}
+use Rattle.minidump_context.proofs.LawLemmas.{has_register_name}
 use Rattle.minidump_context.proofs.context.instruction_pointer_of.Goals as goal
 
 pub get_register_always-requires : goal.get_register_always-requires
-get_register_always-requires g c = rw c.instruction_pointer_register_name.ensures (is_memoized _ _ _ g.met.C.CpuContext.named.instruction_pointer_known)
+get_register_always-requires g c = rw c.instruction_pointer_register_name.ensures (has_register_name _ _ _ g.met.C.CpuContext.register_names.instruction_pointer_known)

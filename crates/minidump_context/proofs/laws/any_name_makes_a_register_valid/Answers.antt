@@ -3,4 +3,4 @@ use Rattle.minidump_context.proofs.LawLemmas.{valid_by_any}
 use Rattle.minidump_context.proofs.laws.any_name_makes_a_register_valid.Goals as goal
 
 pub returns : goal.returns
-returns g c = λ valid name member place named other known. valid_by_any valid _ _ name member place named other known
+returns g c = λ valid name member index named other known. valid_by_any valid _ _ name member index named other known

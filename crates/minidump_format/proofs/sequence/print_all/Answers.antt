@@ -1,13 +1,13 @@
 -- One item more waits or went out, and the end.
 use Rattle.std.proofs.Common.{[], ◌∙◌}
 use Rattle.std.proofs.lemmas.Iterator.{YieldsList}
-use Rattle.minidump_format.proofs.SequenceLemmas.{last_went, never_some, one_refused, one_waits, one_went}
+use Rattle.minidump_format.proofs.SequenceLemmas.{last_went, never_some, one_failed, one_waits, one_went}
 use Rattle.minidump_format.proofs.sequence.print_all.Goals.{then-len-ge-BLOCK+in_ok-put_bytes, else-len-ge-BLOCK}
 use Rattle.minidump_format.proofs.sequence.print_all.Goals as goal
 
 pub returns-in_err-put_bytes-clause-prints : goal.returns-in_err-put_bytes-clause-prints
 returns-in_err-put_bytes-clause-prints g c = λ all e.
-    one_refused g.W.Write.contents g.I.Iterator.next_gives g.I.Item.Pushed.text (λ t. t)
+    one_failed g.W.Write.contents g.I.Iterator.next_gives g.I.Item.Pushed.text (λ t. t)
     c.loop-item.item-iterator c.next.new.self c.in-Some.item c.args.f.now c.loop-item.f all c.loop-item.block.items c.as_slice.result.now
     (c.as_slice.ensures.value ∙ c.in-Ok.ensures) c.in-Some.ensures.steps _ _ _ c.from_residual.ensures.1 c.in_err-put_bytes.ensures.prints
     (c.loop-item.invariant.2 all e)

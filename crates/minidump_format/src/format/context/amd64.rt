@@ -18,8 +18,8 @@ pub struct CONTEXT_AMD64 {
     pub p5_home: u64,
     /// The home space of a call's sixth parameter.
     pub p6_home: u64,
-    /// The processor, as [`ContextFlagsCpu`](super::ContextFlagsCpu) names it, and which registers are
-    /// set.
+    /// The processor, as [`ContextFlagsCpu`](super::ContextFlagsCpu) names it, and which registers
+    /// are set.
     pub context_flags: u32,
     /// The control and status register of SSE, `mxcsr`.
     pub mx_csr: u32,
@@ -87,8 +87,8 @@ pub struct CONTEXT_AMD64 {
     pub unused1: [u8; 512],
     /// The vector registers, Microsoft's `VectorRegister`.
     pub unused2: [u128; 26],
-    /// Microsoft's `VectorControl`, `DebugControl`, and the addresses of the last branch and the last
-    /// exception, to and from.
+    /// Microsoft's `VectorControl`, `DebugControl`, and the addresses of the last branch and the
+    /// last exception, to and from.
     pub unused3: [u64; 6],
 }
 

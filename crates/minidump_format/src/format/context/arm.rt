@@ -36,8 +36,8 @@ impl Record for FLOATING_SAVE_AREA_ARM {
 /// The registers of a thread on an ARM processor: Breakpad's `MDRawContextARM`.
 #[derive(Clone, Copy, Debug)]
 pub struct CONTEXT_ARM {
-    /// The processor, as [`ContextFlagsCpu`](super::ContextFlagsCpu) names it, and which registers are
-    /// set.
+    /// The processor, as [`ContextFlagsCpu`](super::ContextFlagsCpu) names it, and which registers
+    /// are set.
     pub context_flags: u32,
     /// The registers r0 to r15; r11 is the frame pointer, r13 the stack pointer, r14 the link
     /// register, r15 the instruction pointer.

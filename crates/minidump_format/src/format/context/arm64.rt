@@ -6,8 +6,8 @@ use minidump_bytes::{Endian, Record, array_at};
 /// `MDRawContextARM64`.
 #[derive(Clone, Copy, Debug)]
 pub struct CONTEXT_ARM64 {
-    /// The processor, as [`ContextFlagsCpu`](super::ContextFlagsCpu) names it, and which registers are
-    /// set.
+    /// The processor, as [`ContextFlagsCpu`](super::ContextFlagsCpu) names it, and which registers
+    /// are set.
     pub context_flags: u32,
     /// The program status register `cpsr`.
     pub cpsr: u32,
@@ -62,11 +62,12 @@ impl Record for CONTEXT_ARM64 {
     ghost fits = { Prim.search rules };
 }
 
-/// The registers of a thread on an ARM64 processor, in Breakpad's first layout: `MDRawContextARM64_Old`.
+/// The registers of a thread on an ARM64 processor, in Breakpad's first layout:
+/// `MDRawContextARM64_Old`.
 #[derive(Clone, Copy, Debug)]
 pub struct CONTEXT_ARM64_OLD {
-    /// The processor, as [`ContextFlagsCpu`](super::ContextFlagsCpu) names it, and which registers are
-    /// set.
+    /// The processor, as [`ContextFlagsCpu`](super::ContextFlagsCpu) names it, and which registers
+    /// are set.
     pub context_flags: u64,
     /// The registers x0 to x30; x29 is the frame pointer, x30 the link register.
     pub iregs: [u64; 31],

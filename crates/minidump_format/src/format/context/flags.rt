@@ -6,8 +6,8 @@ ghost use Rattle.minidump_format.specs.ContextFlags.{context_flags};
 use bitflags::{Flag, Flags, bitflag_items};
 use minidump_bytes::Exact;
 
-/// The processor of a context, as bits of its flags: Microsoft's `CONTEXT_i386` and so on, Breakpad's
-/// `MD_CONTEXT_` numbers.
+/// The processor of a context, as bits of its flags: Microsoft's `CONTEXT_i386` and so on,
+/// Breakpad's `MD_CONTEXT_` numbers.
 #[derive(Clone, Copy, Debug, PartialEq, Eq)]
 pub struct ContextFlagsCpu(u32);
 

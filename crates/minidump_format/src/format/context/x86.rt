@@ -55,8 +55,8 @@ impl Record for FLOATING_SAVE_AREA_X86 {
 /// `MDRawContextX86`.
 #[derive(Clone, Copy, Debug)]
 pub struct CONTEXT_X86 {
-    /// The processor, as [`ContextFlagsCpu`](super::ContextFlagsCpu) names it, and which registers are
-    /// set.
+    /// The processor, as [`ContextFlagsCpu`](super::ContextFlagsCpu) names it, and which registers
+    /// are set.
     pub context_flags: u32,
     /// Debug register `dr0`.
     pub dr0: u32,

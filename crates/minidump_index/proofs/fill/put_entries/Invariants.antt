@@ -1,4 +1,4 @@
--- The places before the k-th of the walk have their entries.
+-- The slots before the k-th of the walk have their entries.
 use Rattle.std.proofs.Common.{◌≡◌, length, map}
 use Rattle.minidump_index.proofs.WalkLemmas.{Filled}
 use Rattle.minidump_index.proofs.fill.put_entries.Given as goal

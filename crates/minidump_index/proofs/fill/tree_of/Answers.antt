@@ -28,11 +28,11 @@ returns-in-Some g c =
 pub tree_of_entries-requires-2-clause-wide : goal.tree_of_entries-requires-2-clause-wide
 tree_of_entries-requires-2-clause-wide g c =
     let range = g.R.Region.range in
-    let index = c.keep_apart.ensures _ c.in_ok-kept.ensures.ranged in
+    let index = c.keep_apart.ensures _ c.in_ok-kept.ensures.entries in
     let few : length (map range c.args.regions.now) ≤ 2 ^ 63 = omega (arith, length-map c.args.regions.now range, c.in_ok-kept.ensures.few) in
     λ short k d h. omega (arith, in_list (map range c.args.regions.now) _ _ (index.own k d h), few)
 
 pub returns-clause-tree : goal.returns-clause-tree
 returns-clause-tree g c =
-    let index = c.keep_apart.ensures _ c.in_ok-kept.ensures.ranged in
+    let index = c.keep_apart.ensures _ c.in_ok-kept.ensures.entries in
     IfOk-weaker c.tree_of_entries-2.result _ _ (λ tree is. tree_of (entries_of tree) _ is index.ascending) c.tree_of_entries-2.ensures

@@ -6,4 +6,4 @@ use Rattle.minidump_modules.proofs.print.push_raw.Goals as goal
 pub returns : goal.returns
 unfolding raw_text
 returns c = simp append_assoc at (
-    rw (c.in_ok-push_version_info.ensures, c.in_ok-push_entry.ensures, c.in_ok-extend_from_slice.ensures.items) at c.push_places.ensures)
+    rw (c.in_ok-push_version_info.ensures, c.in_ok-push_entry.ensures, c.in_ok-extend_from_slice.ensures.items) at c.push_locations.ensures)

@@ -6,4 +6,4 @@ use Rattle.minidump_names.specs.NamesText.{entries_of_family}
 use Rattle.minidump_names.proofs.table.entries_of_family.Given as goal
 
 abbrev pub invariant-loop-next : goal.invariant-loop-next
-invariant-loop-next l = entries_of l.entries.items ≡ entries_of_family (map listing_of (take l.next-index l.listed)) l.family
+invariant-loop-next l = entries_of l.entries.items ≡ entries_of_family (map listing_of (take l.next-index l.listings)) l.family

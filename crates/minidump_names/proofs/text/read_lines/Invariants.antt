@@ -9,5 +9,5 @@ invariant-loop-line l = record {
   left : l.line-iterator ≡ drop (length l.yielded) (lines_in l.text);
   number : l.number ≡ length l.yielded;
   lines : AreLines (take (length l.yielded) (lines_in l.text));
-  listed : map listing_of l.listed.items ≡ listings_in (take (length l.yielded) (lines_in l.text));
+  listings : map listing_of l.listings.items ≡ listings_in (take (length l.yielded) (lines_in l.text));
 }

@@ -9,12 +9,12 @@ use Rattle.minidump_reason.proofs.bits.bits_of.Goals as goal
 mask_is : (count : ℕ) → count < 64 → 1 * 2 ^ count % 2 ^ 64 ≡ 2 ^ count
 mask_is count few = let small : 2 ^ count < 2 ^ 64 = pow-lt few in let low : 1 * 2 ^ count < 2 ^ 64 = omega arith in mod-eq_of_lt low ∙ omega arith
 
-masked : (n count : ℕ) → count < 64 → bit_and n (1 * 2 ^ count % 2 ^ 64 - 1) ≡ n % 2 ^ count
-masked n count few = ap (λ m. bit_and n (m - 1)) (mask_is count few) ∙ and_mask n count
+mask_keeps : (n count : ℕ) → count < 64 → bit_and n (1 * 2 ^ count % 2 ^ 64 - 1) ≡ n % 2 ^ count
+mask_keeps n count few = ap (λ m. bit_and n (m - 1)) (mask_is count few) ∙ and_mask n count
 
 pub returns-clause-bits : goal.returns-clause-bits
 unfolding bits_of
-returns-clause-bits c = masked (c.args.number / 2 ^ c.args.lowest) c.args.count c.requires.few
+returns-clause-bits c = mask_keeps (c.args.number / 2 ^ c.args.lowest) c.args.count c.requires.few
 
 pub returns-clause-small : goal.returns-clause-small
-returns-clause-small c = rw (masked (c.args.number / 2 ^ c.args.lowest) c.args.count c.requires.few) (mod-lt _ (pow_pos c.args.count))
+returns-clause-small c = rw (mask_keeps (c.args.number / 2 ^ c.args.lowest) c.args.count c.requires.few) (mod-lt _ (pow_pos c.args.count))

@@ -1,4 +1,4 @@
--- The codes before the place ascend.
+-- The codes before the index ascend.
 use Rattle.minidump_reason.proofs.NamesLemmas.{AscendsBefore}
 use Rattle.minidump_reason.proofs.names.is_ascending.Given as goal
 

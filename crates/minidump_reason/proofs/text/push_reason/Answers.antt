@@ -1,4 +1,4 @@
--- Each row of the match says what the reason's words are.
+-- Each row of the match says what the reason's text is.
 use Rattle.minidump_reason.proofs.text.push_reason.Goals as goal
 use Rattle.minidump_reason.proofs.text.push_reason.Goals.{in-MacBadAccessKern, in-MacBadAccessArm, in-MacBadAccessPpc, in-MacBadAccessX86}
 use Rattle.minidump_reason.proofs.text.push_reason.Goals.{in-MacBadInstructionArm, in-MacBadInstructionPpc, in-MacBadInstructionX86}
@@ -8,7 +8,7 @@ use Rattle.minidump_reason.proofs.text.push_reason.Goals.{in-LinuxSigtrap, in-Li
 use Rattle.minidump_reason.proofs.text.push_reason.Goals.{in-WindowsWinError, in-WindowsNtStatus, in-WindowsAccessViolation}
 
 pub returns : goal.returns
-returns c = let put = c.push_row.ensures in elim c.match-reason.branch [
+returns c = let put = c.push_name_32.ensures in elim c.match-reason.branch [
   | in-MacBadAccessKern w ↦ rw (w.in-MacBadAccessKern.is) (rw w.family-is at put)
   | in-MacBadAccessArm w ↦ rw (w.in-MacBadAccessArm.is) (rw w.family-is at put)
   | in-MacBadAccessPpc w ↦ rw (w.in-MacBadAccessPpc.is) (rw w.family-is at put)

@@ -5,7 +5,7 @@ use Rattle.std.proofs.lemmas.List.Sums.{sum_by_push}
 use Rattle.minidump_bytes.specs.Source.{bytes_of}
 use Rattle.minidump_format.proofs.AnswerLemmas.{gives_exit}
 use Rattle.minidump_records.specs.MacCrashInfo.Record.{mac_record_of, record_reads}
-use Rattle.minidump_records.proofs.MacLemmas.{all_left, left_end, left_none, left_refused, left_some}
+use Rattle.minidump_records.proofs.MacLemmas.{all_left, left_end, left_none, left_error, left_some}
 use Rattle.minidump_records.proofs.mac_crash_info.read_records.Goals as goal
 use Rattle.minidump_records.proofs.mac_crash_info.read_records.Goals.{in-Some+in_ok-push, in_default}
 
@@ -20,7 +20,7 @@ loop-location-init c = record {
 pub returns-in_err-version-clause-means : goal.returns-in_err-version-clause-means
 returns-in_err-version-clause-means c =
     gives_exit _ _ _ _ _ c.from_residual-in_err-version.ensures.1 (λ h. omega (arith, c.loop-location-test.true)) c.in_err-version.ensures.means
-    (λ h. left_refused c.args.endian (bytes_of c.args.all) c.args.start _ _ _ c.args.locations.now c.loop-location.location-index _
+    (λ h. left_error c.args.endian (bytes_of c.args.all) c.args.start _ _ _ c.args.locations.now c.loop-location.location-index _
     c.loop-location-test.true c.loop-location.invariant.whole _ h)
 
 pub loop-location-preserved : goal.loop-location-preserved

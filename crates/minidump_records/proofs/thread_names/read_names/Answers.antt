@@ -7,7 +7,7 @@ use Rattle.std.specs.Option.{option_map}
 use Rattle.minidump_bytes.specs.Source.{bytes_of}
 use Rattle.minidump_bytes.proofs.ListLemmas.{filtered_more, filtered_skip}
 use Rattle.minidump_bytes.proofs.LeftLemmas.{IsNext, all_given, next_left, one_given}
-use Rattle.minidump_records.specs.ThreadNames.{ThreadName, named}
+use Rattle.minidump_records.specs.ThreadNames.{ThreadName, thread_name_in}
 use Rattle.minidump_records.proofs.ThreadLemmas.{has_all, has_more}
 use Rattle.minidump_records.proofs.thread_names.read_names.Goals as goal
 
@@ -16,7 +16,7 @@ loop-entry-preserved-in-Continue-branch-3 c =
     let xs = c.args.raws in
     let i = length c.loop-entry.yielded in
     let raw = c.in-Some.entry in
-    let name_in = named c.args.endian (bytes_of c.args.all) in
+    let name_in = thread_name_in c.args.endian (bytes_of c.args.all) in
     let next : IsNext xs i raw raw c.next.new.self = next_left xs i raw raw _ (sym c.loop-entry.invariant.left ∙ c.in-Some.ensures.steps) in
     let read = c.read-raw.result in
     let small : read.thread_id < 2 ^ 32 = grind (arith, common_steps) in
@@ -30,7 +30,7 @@ loop-entry-preserved-in-Continue-branch-3 c =
           c.put_name.ensures.ordered);
       within = omega (arith, c.read-raw.ensures.step, c.read_name.ensures.step, c.loop-entry.invariant.within);
       grows = omega (arith, c.read-raw.ensures.step, c.read_name.ensures.step, c.loop-entry.invariant.grows);
-      counted = omega (arith, c.read-raw.ensures.step, c.read_name.ensures.step, c.loop-entry.invariant.counted);
+      reads = omega (arith, c.read-raw.ensures.step, c.read_name.ensures.step, c.loop-entry.invariant.reads);
     })
 
 pub loop-entry-preserved : goal.loop-entry-preserved
@@ -38,7 +38,7 @@ loop-entry-preserved c =
     let xs = c.args.raws in
     let i = length c.loop-entry.yielded in
     let raw = c.in-Some.entry in
-    let name_in = named c.args.endian (bytes_of c.args.all) in
+    let name_in = thread_name_in c.args.endian (bytes_of c.args.all) in
     let next : IsNext xs i raw raw c.next.new.self = next_left xs i raw raw _ (sym c.loop-entry.invariant.left ∙ c.in-Some.ensures.steps) in
     let read = c.read-raw.result in
     let text = rw c.in_default.is at c.in_ok-name.ensures.name in
@@ -49,7 +49,7 @@ loop-entry-preserved c =
       last = rw (filtered_skip name_in xs i raw next.inside (rw (next.item, ← c.read-raw.ensures.value) is)) c.loop-entry.invariant.last;
       within = omega (arith, c.read-raw.ensures.step, c.read_name.ensures.step, c.loop-entry.invariant.within);
       grows = omega (arith, c.read-raw.ensures.step, c.read_name.ensures.step, c.loop-entry.invariant.grows);
-      counted = omega (arith, c.read-raw.ensures.step, c.read_name.ensures.step, c.loop-entry.invariant.counted);
+      reads = omega (arith, c.read-raw.ensures.step, c.read_name.ensures.step, c.loop-entry.invariant.reads);
     })
 
 pub returns-clause-names : goal.returns-clause-names

@@ -1,4 +1,4 @@
--- Callers lie on the stack, one behind the other.
+-- Callers lie on the stack, one after the other.
 use Rattle.stack_walk.proofs.FramesLemmas.{few_frames}
 use Rattle.stack_walk.proofs.laws.frames_are_few.Goals as goal
 

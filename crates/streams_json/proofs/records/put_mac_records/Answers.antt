@@ -1,4 +1,4 @@
--- The members, one behind another, by the values of the records.
+-- The members, one after another, by the values of the records.
 use Rattle.std.proofs.Common.{◌≡◌, ◌∙◌, ◌∷◌, ◌++◌, [], ap, codes, length, map, rules, sym}
 use Rattle.std.proofs.lemmas.List.{length-map}
 use Rattle.json.specs.Json.{Json}

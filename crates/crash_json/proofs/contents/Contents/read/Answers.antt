@@ -17,7 +17,7 @@ returns-clause-contents c =
       modules = c.in_ok-modules.ensures.value;
       threads = c.in_ok-threads.ensures.value;
       memory = c.in_ok-memory.ensures.value;
-      infos = rw (infos, maps) at c.infos_of.ensures;
+      infos = rw (infos, maps) at c.first_infos.ensures;
       maps = c.count_of.ensures ∙ ap (option_map length) maps;
       extras = c.in_ok-extras.ensures.extras;
     }

@@ -1,7 +1,7 @@
 -- The bytes that are read have an entry.
 use Rattle.std.proofs.Common.{refl}
 use Rattle.minidump.specs.DumpValue.{dump_of}
-use Rattle.minidump.proofs.EntryLemmas.{bytes_have_entry, on_ok, on_want}
+use Rattle.minidump.proofs.EntryLemmas.{bytes_have_entry, on_ok, on_no_memory}
 use Rattle.minidump.proofs.dump.Minidump.get_stream_counted.Goals as goal
 
 pub returns-clause-entry : goal.returns-clause-entry
@@ -10,4 +10,4 @@ returns-clause-entry g c =
 
 pub returns-clause-memory : goal.returns-clause-memory
 returns-clause-memory g c =
-    on_want c.read.result (bytes_have_entry (dump_of c.args.self.now) c.number_of_type.result (rw c.in_ok-raw_stream.ensures.means refl))
+    on_no_memory c.read.result (bytes_have_entry (dump_of c.args.self.now) c.number_of_type.result (rw c.in_ok-raw_stream.ensures.means refl))

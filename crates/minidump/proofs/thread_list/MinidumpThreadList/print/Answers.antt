@@ -8,7 +8,7 @@ use Rattle.minidump_memory.specs.Unified.{unified_list}
 use Rattle.minidump_system.specs.SystemInfo.{system_info_of}
 use Rattle.minidump.specs.Thread.{thread_of}
 use Rattle.minidump.specs.ThreadText.{thread_text}
-use Rattle.minidump.proofs.PlacedLemmas.{not_placed, placed}
+use Rattle.minidump.proofs.NumberedLemmas.{numbered_failed, numbered_next}
 use Rattle.minidump.proofs.thread_list.MinidumpThreadList.print.Goals as goal
 
 pub returns-in_err-print_item : goal.returns-in_err-print_item
@@ -23,12 +23,12 @@ pub loop-index-preserved : goal.loop-index-preserved
 loop-index-preserved g c =
     let memory = option_map unified_list (option_copied c.args.memory) in
     let system = option_map system_info_of (option_copied c.args.system) in
-    placed (numbered_item (codes "thread") (thread_text memory system c.args.brief)) thread_of c.as_slice-threads.result.now c.loop-index.index g.W.Write.contents _ _ _ _ _
+    numbered_next (numbered_item (codes "thread") (thread_text memory system c.args.brief)) thread_of c.as_slice-threads.result.now c.loop-index.index g.W.Write.contents _ _ _ _ _
     c.loop-index-test.true c.loop-index.invariant c.in_ok-print_numbered.ensures
 
 pub returns-in_err-print_numbered : goal.returns-in_err-print_numbered
 returns-in_err-print_numbered g c =
     let memory = option_map unified_list (option_copied c.args.memory) in
     let system = option_map system_info_of (option_copied c.args.system) in
-    rw (← c.as_slice-threads.ensures.value) (not_placed (numbered_item (codes "thread") (thread_text memory system c.args.brief)) thread_of c.as_slice-threads.result.now c.loop-index.index
+    rw (← c.as_slice-threads.ensures.value) (numbered_failed (numbered_item (codes "thread") (thread_text memory system c.args.brief)) thread_of c.as_slice-threads.result.now c.loop-index.index
     g.W.Write.contents _ _ _ _ _ _ _ c.loop-index-test.true c.loop-index.invariant c.from_residual-in_err-print_numbered.ensures.1 c.in_err-print_numbered.ensures)

@@ -8,4 +8,4 @@ pub returns-clause-set : goal.returns-clause-set
 unfolding arm_registers arm_values arm_numbers
 returns-clause-set c =
     let s = c.args.self.now in
-    set_in_order s.iregs arm_numbers [] c.args.place c.number_of.result c.args.value refl (omega arith) (sym c.number_of.ensures.listed) (omega arith)
+    set_in_order s.iregs arm_numbers [] c.args.index c.number_of.result c.args.value refl (omega arith) (sym c.number_of.ensures.value) (omega arith)

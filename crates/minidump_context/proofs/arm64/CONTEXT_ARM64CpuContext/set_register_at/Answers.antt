@@ -8,4 +8,4 @@ use Rattle.minidump_context.proofs.arm64.CONTEXT_ARM64CpuContext.set_register_at
 pub returns-in_default-clause-set : goal.returns-in_default-clause-set
 unfolding arm64_values arm64_registers
 returns-in_default-clause-set c =
-    let s = c.args.self.now in set_itself s.iregs (s.sp ∷ s.pc ∷ []) 31 c.args.place c.args.value refl (omega arith) (omega arith)
+    let s = c.args.self.now in set_itself s.iregs (s.sp ∷ s.pc ∷ []) 31 c.args.index c.args.value refl (omega arith) (omega arith)

@@ -1,4 +1,4 @@
--- Passing over a register that is not yielded keeps what is left.
+-- Passing over a register that is not valid keeps what is left.
 use Rattle.std.proofs.Common.{length, ◌-◌, ◌≡◌, map}
 use Rattle.minidump_context.specs.Context.{context_registers_left, registers_of}
 use Rattle.minidump_context.proofs.context_registers.ContextRegistersIterator.next.Given as goal
@@ -10,4 +10,4 @@ invariant-loop-self l = record {
 }
 
 abbrev pub decreases-loop-self : goal.decreases-loop-self
-decreases-loop-self l = length l.names - l.self.place
+decreases-loop-self l = length l.names - l.self.index

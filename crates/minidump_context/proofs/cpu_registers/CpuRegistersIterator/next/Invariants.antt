@@ -8,4 +8,4 @@ invariant-loop-self g l = registers_left (names_of g.T.CpuRegisterNames.table) g
     ≡ registers_left (names_of g.T.CpuRegisterNames.table) g.T.CpuContext.aliases g.T.CpuContext.values l.self
 
 abbrev pub decreases-loop-self : goal.decreases-loop-self
-decreases-loop-self g l = length l.names - l.self.place
+decreases-loop-self g l = length l.names - l.self.index

@@ -3,7 +3,7 @@ use Rattle.std.proofs.Common.{arith, refl, length, map, ◌∙◌, ap}
 use Rattle.std.specs.Prelude.{Some}
 use Rattle.std.proofs.lemmas.Option.{slice_get_read}
 use Rattle.minidump_index.proofs.AscendingRegions.{rank_within, entry_is, no_range}
-use Rattle.minidump_index.proofs.RangedEntries.{at_region, has_region, place_within}
+use Rattle.minidump_index.proofs.RangedEntries.{at_region, has_region, index_within}
 use Rattle.minidump_index.proofs.fill.InOrderRanked.at.Goals as goal
 
 pub offset_bounds-regions-rank : goal.offset_bounds-regions-rank
@@ -18,7 +18,7 @@ unreachable-requires g c =
     let range = g.R.Region.range in
     let regions = c.self.inside.regions.now in
     let h = rank_within range regions c.self.invariant c.args.rank (rw c.self.view_is c.requires) in
-    let within = place_within range regions c.args.rank h in
+    let within = index_within range regions c.args.rank h in
     let at = at_region range regions c.args.rank _ _ h c.index-regions-rank.is c.memory_range.ensures in
     let none = slice_get_read (map range regions) (length (map range regions)) c.args.rank c.memory_range.result refl within at ∙ ap Some c.in-None.is in
     no_range (map range regions) c.args.rank within none c.self.invariant

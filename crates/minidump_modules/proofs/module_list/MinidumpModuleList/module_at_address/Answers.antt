@@ -1,4 +1,4 @@
--- The module that is found begins at the address or below it, and ends behind it.
+-- The module that is found contains the address.
 use Rattle.minidump_modules.proofs.InsideLemmas.{module_inside}
 use Rattle.minidump_modules.proofs.module_list.MinidumpModuleList.module_at_address.Goals as goal
 

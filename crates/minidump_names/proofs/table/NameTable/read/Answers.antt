@@ -12,7 +12,7 @@ use Rattle.minidump_names.proofs.table.NameTable.read.Goals as goal
 pub loop-family-preserved : goal.loop-family-preserved
 unfolding families
 loop-family-preserved c =
-    let listings = map listing_of c.in_ok-listed.listed.items in
+    let listings = map listing_of c.in_ok-listings.listings.items in
     let entries = rw c.deref.ensures.value at c.in_ok-entries_of_family.ensures.entries in
     record {
       lists = lists_more (λ v. v.items) (λ f. entries_of_family listings f) families c.loop-family.family-index c.loop-family.lists.items _ _
@@ -25,7 +25,7 @@ loop-family-preserved c =
 pub invariant_of-result : goal.invariant_of-result
 unfolding families
 invariant_of-result c =
-    let listings = map listing_of c.in_ok-listed.listed.items in
+    let listings = map listing_of c.in_ok-listings.listings.items in
     let all = rw (take_all c.loop-family.family-index families (omega (arith, c.loop-family-test.false))) at c.loop-family.invariant.lists in (
       c.loop-family.invariant.ascending,
       apart_by (λ p. (p.0, entries_of p.1.items)) (λ f. entries_of_family listings f) c.loop-family.lists.items families all families_apart,
@@ -35,4 +35,4 @@ pub returns-clause-names : goal.returns-clause-names
 unfolding families
 returns-clause-names c =
     let all = rw (take_all c.loop-family.family-index families (omega (arith, c.loop-family-test.false))) at c.loop-family.invariant.lists in
-    (c.in_ok-listed.ensures.0, all ∙ ap lists_in c.in_ok-listed.ensures.1)
+    (c.in_ok-listings.ensures.0, all ∙ ap lists_in c.in_ok-listings.ensures.1)

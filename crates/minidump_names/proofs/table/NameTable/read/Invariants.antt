@@ -9,6 +9,6 @@ use Rattle.minidump_names.proofs.table.NameTable.read.Given as goal
 abbrev pub invariant-loop-family : goal.invariant-loop-family
 invariant-loop-family l = record {
   lists : map {B = CodeFamily × Entries} (λ p. (p.0, entries_of p.1.items)) l.lists.items
-      ≡ map {B = CodeFamily × Entries} (λ f. (f, entries_of_family (map listing_of l.listed.items) f)) (take l.family-index l.family-items);
+      ≡ map {B = CodeFamily × Entries} (λ f. (f, entries_of_family (map listing_of l.listings.items) f)) (take l.family-index l.family-items);
   ascending : All (λ p. IsAscending p.1.items) l.lists.items;
 }

@@ -1,7 +1,7 @@
--- The lists before the place are accepted.
+-- The lists before the index are valid.
 use Rattle.std.proofs.Common.{take}
 use Rattle.minidump_reason.specs.Names.{AreCodeNames}
 use Rattle.minidump_reason.proofs.names.CodeNames.new.Given as goal
 
-abbrev pub invariant-loop-place : goal.invariant-loop-place
-invariant-loop-place l = AreCodeNames (take l.place l.lists)
+abbrev pub invariant-loop-index : goal.invariant-loop-index
+invariant-loop-index l = AreCodeNames (take l.index l.lists)

@@ -22,22 +22,22 @@ pub loop-pair-preserved-in_ok-insert : goal.loop-pair-preserved-in_ok-insert
 loop-pair-preserved-in_ok-insert g c =
     rw (c.in_ok-insert.ensures.entries, map_push) (record {
       dictionary =
-          put_dictionary string_cmp string_bytes g.V.Valued.value (λ j k. refl) _
-          (map (pair_of g.V.Valued.value) c.loop-pair.yielded) _ _ c.loop-pair.invariant.dictionary;
+          put_dictionary string_cmp string_bytes g.V.DictionaryValue.value (λ j k. refl) _
+          (map (pair_of g.V.DictionaryValue.value) c.loop-pair.yielded) _ _ c.loop-pair.invariant.dictionary;
       least =
-          put_weighs string_cmp string_bytes g.V.Valued.value (λ j k. refl) (λ v. 1 + (1 + g.V.Valued.fewest v)) _
-          (map (pair_of g.V.Valued.value) c.loop-pair.yielded) _ _ c.loop-pair.invariant.least;
+          put_weighs string_cmp string_bytes g.V.DictionaryValue.value (λ j k. refl) (λ v. 1 + (1 + g.V.DictionaryValue.fewest v)) _
+          (map (pair_of g.V.DictionaryValue.value) c.loop-pair.yielded) _ _ c.loop-pair.invariant.least;
     })
 
 pub loop-pair-preserved : goal.loop-pair-preserved
 loop-pair-preserved g c =
     rw (c.in_ok-insert.ensures.entries, map_push) (record {
       dictionary =
-          put_dictionary string_cmp string_bytes g.V.Valued.value (λ j k. refl) _
-          (map (pair_of g.V.Valued.value) c.loop-pair.yielded) _ _ c.loop-pair.invariant.dictionary;
+          put_dictionary string_cmp string_bytes g.V.DictionaryValue.value (λ j k. refl) _
+          (map (pair_of g.V.DictionaryValue.value) c.loop-pair.yielded) _ _ c.loop-pair.invariant.dictionary;
       least =
-          put_weighs string_cmp string_bytes g.V.Valued.value (λ j k. refl) (λ v. 1 + (1 + g.V.Valued.fewest v)) _
-          (map (pair_of g.V.Valued.value) c.loop-pair.yielded) _ _ c.loop-pair.invariant.least;
+          put_weighs string_cmp string_bytes g.V.DictionaryValue.value (λ j k. refl) (λ v. 1 + (1 + g.V.DictionaryValue.fewest v)) _
+          (map (pair_of g.V.DictionaryValue.value) c.loop-pair.yielded) _ _ c.loop-pair.invariant.least;
     })
 
 pub returns-clause-means : goal.returns-clause-means

@@ -7,7 +7,7 @@ use Rattle.minidump_records.proofs.crashpad.dictionary.read_dictionary.Given as 
 
 abbrev pub invariant-loop-pair : goal.invariant-loop-pair
 invariant-loop-pair g l = record {
-  dictionary : IsDictionaryOf (map (pair_of g.V.Valued.value) l.yielded) (entries_of g.V.Valued.value l.dictionary.entries);
-  least : sum_by (λ e. 1 + (1 + g.V.Valued.fewest e.1)) (entries_of g.V.Valued.value l.dictionary.entries)
-      ≤ sum_by (λ e. 1 + (1 + g.V.Valued.fewest e.1)) (map (pair_of g.V.Valued.value) l.yielded);
+  dictionary : IsDictionaryOf (map (pair_of g.V.DictionaryValue.value) l.yielded) (entries_of g.V.DictionaryValue.value l.dictionary.entries);
+  least : sum_by (λ e. 1 + (1 + g.V.DictionaryValue.fewest e.1)) (entries_of g.V.DictionaryValue.value l.dictionary.entries)
+      ≤ sum_by (λ e. 1 + (1 + g.V.DictionaryValue.fewest e.1)) (map (pair_of g.V.DictionaryValue.value) l.yielded);
 }

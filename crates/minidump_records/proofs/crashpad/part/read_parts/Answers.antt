@@ -5,7 +5,7 @@ use Rattle.minidump_bytes.proofs.ListLemmas.{sum_pushed}
 use Rattle.minidump_bytes.specs.Source.{bytes_of}
 use Rattle.minidump_records.specs.Crashpad.Parts.{part_at}
 use Rattle.minidump_format.proofs.AnswerLemmas.{gives_exit}
-use Rattle.minidump_records.proofs.CrashpadLemmas.Each.{each-none, each-more, each-refused, at_entry, at_none, gives_missing}
+use Rattle.minidump_records.proofs.CrashpadLemmas.Each.{each-none, each-more, each-error, at_entry, at_none, gives_missing}
 use Rattle.minidump_records.proofs.crashpad.part.read_parts.Goals as goal
 
 pub loop-i-init : goal.loop-i-init
@@ -25,7 +25,7 @@ returns-in_err-entry-clause-means g c =
     let one = at_none g.E.Record.layout g.P.Part.part c.args.endian (bytes_of c.args.all) (bytes_of c.args.bytes) c.loop-i.i c.in_err-entry.field-0.0
     (rw (c.record.ensures.value, size) at c.in_err-entry.ensures.value) in
     gives_missing _ _ _ _ c.from_residual.ensures.1 (omega (arith, c.loop-i-test.true))
-    (each-refused read c.loop-i.i c.args.count _ _ c.loop-i-test.true c.loop-i.invariant.parts one)
+    (each-error read c.loop-i.i c.args.count _ _ c.loop-i-test.true c.loop-i.invariant.parts one)
 
 pub returns-in_err-part-clause-means : goal.returns-in_err-part-clause-means
 returns-in_err-part-clause-means g c =
@@ -33,7 +33,7 @@ returns-in_err-part-clause-means g c =
     let size : c.SIZE.result ≡ g.E.Record.layout.size = c.SIZE.ensures ∙ g.met.E.Record.fits.same in
     let entry = rw (c.record.ensures.value, size) at c.in_ok-entry.ensures.ok_part in
     gives_exit _ _ _ _ _ c.from_residual-in_err-part.ensures.1 (λ h. omega (arith, c.loop-i-test.true)) c.in_err-part.ensures.means
-    (λ h. each-refused read c.loop-i.i c.args.count _ _ c.loop-i-test.true c.loop-i.invariant.parts
+    (λ h. each-error read c.loop-i.i c.args.count _ _ c.loop-i-test.true c.loop-i.invariant.parts
     (at_entry g.E.Record.layout g.P.Part.part c.args.endian (bytes_of c.args.all) (bytes_of c.args.bytes) c.loop-i.i _ _ entry h))
 
 pub loop-i-preserved : goal.loop-i-preserved

@@ -2,7 +2,7 @@
 use Rattle.std.proofs.Common.{[], refl}
 use Rattle.minidump_records.specs.Crashpad.{module_of}
 use Rattle.minidump_records.specs.Crashpad.Text.{module_text}
-use Rattle.minidump_format.proofs.SequenceLemmas.{all_went, one_refused, one_went}
+use Rattle.minidump_format.proofs.SequenceLemmas.{all_went, one_failed, one_went}
 use Rattle.minidump_records.proofs.crashpad.print.print_each_module.Goals as goal
 
 pub loop-item-preserved : goal.loop-item-preserved
@@ -18,7 +18,7 @@ loop-item-preserved g c =
 
 pub returns-in_err-print_module : goal.returns-in_err-print_module
 returns-in_err-print_module g c = λ all e.
-    one_refused g.W.Write.contents g.I.Iterator.next_gives (λ m. (m.0, module_of m.1.now)) module_text c.loop-item.item-iterator c.next.new.self
+    one_failed g.W.Write.contents g.I.Iterator.next_gives (λ m. (m.0, module_of m.1.now)) module_text c.loop-item.item-iterator c.next.new.self
     c.in-Some.item c.args.f.now c.loop-item.f all [] (module_text (c.in-Some.item.0, module_of c.in-Some.item.1.now)) refl c.in-Some.ensures.steps
     _ _ _ c.from_residual.ensures.1 c.in_err-print_module.ensures (c.loop-item.invariant.2 all e)
 

@@ -11,7 +11,7 @@ use Rattle.minidump_records.proofs.handles.chain.read_chain.Goals.{in-Some+in_ok
 
 pub loop-info-init : goal.loop-info-init
 loop-info-init c = record {
-  chaining = chaining_none _ _ _ _ _ c.new-infos.ensures.items c.new-met.ensures.empty;
+  chaining = chaining_none _ _ _ _ _ c.new-infos.ensures.items c.new-offsets.ensures.empty;
   within = omega arith;
   grows = omega arith;
   last = rw c.new-infos.ensures.items refl;
@@ -28,23 +28,23 @@ returns-in_err-push_piece-clause-within c =
 
 pub loop-info-smaller : goal.loop-info-smaller
 loop-info-smaller c =
-    let is : information_at c.args.endian (bytes_of c.args.all) c.loop-info.place ≡ Some c.in-Some.info = sym c.in-Some.ensures.value in
-    let absent : contains nat_cmp c.loop-info.met c.loop-info.place ≡ false = was_absent _ _ c.in_ok-is_new.ensures.new c.if-not-branch.false in
+    let is : information_at c.args.endian (bytes_of c.args.all) c.loop-info.offset ≡ Some c.in-Some.info = sym c.in-Some.ensures.value in
+    let absent : contains nat_cmp c.loop-info.offsets c.loop-info.offset ≡ false = was_absent _ _ c.in_ok-is_new.ensures.new c.if-not-branch.false in
     let more = chaining_more _ _ _ _ _ _ _ _ is absent c.in_ok-is_new.ensures.keeps c.loop-info.invariant.chaining in
     let short = chaining_short _ _ _ _ _ _ more in
     rw c.in_ok-push_piece.ensures.items (omega (arith, short, length-append c.loop-info.infos.items (c.in-Some.info ∷ [])))
 
 pub loop-info-preserved : goal.loop-info-preserved
 loop-info-preserved c =
-    let is : information_at c.args.endian (bytes_of c.args.all) c.loop-info.place ≡ Some c.in-Some.info = sym c.in-Some.ensures.value in
-    let absent : contains nat_cmp c.loop-info.met c.loop-info.place ≡ false = was_absent _ _ c.in_ok-is_new.ensures.new c.if-not-branch.false in
+    let is : information_at c.args.endian (bytes_of c.args.all) c.loop-info.offset ≡ Some c.in-Some.info = sym c.in-Some.ensures.value in
+    let absent : contains nat_cmp c.loop-info.offsets c.loop-info.offset ≡ false = was_absent _ _ c.in_ok-is_new.ensures.new c.if-not-branch.false in
     let longer = length-append c.loop-info.infos.items (c.in-Some.info ∷ []) in
     record {
       chaining = rw c.in_ok-push_piece.ensures.items (chaining_more _ _ _ _ _ _ _ _ is absent c.in_ok-is_new.ensures.keeps c.loop-info.invariant.chaining);
       within = rw c.in_ok-push_piece.ensures.items (omega (arith, c.information_at.ensures.within, c.loop-info.invariant.within, longer));
       grows = omega (arith, c.information_at.ensures.grows, c.loop-info.invariant.grows);
       last = rw c.in_ok-push_piece.ensures.items (sym (last_link-push c.args.link c.loop-info.infos.items c.in-Some.info));
-      least = rw c.in_ok-push_piece.ensures.items (omega (arith, c.in-Some.ensures.begun, c.loop-info.invariant.least, longer));
+      least = rw c.in_ok-push_piece.ensures.items (omega (arith, c.in-Some.ensures.at_least, c.loop-info.invariant.least, longer));
     }
 
 pub returns-clause-infos : goal.returns-clause-infos

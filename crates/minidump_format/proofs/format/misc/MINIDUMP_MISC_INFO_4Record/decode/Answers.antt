@@ -1,4 +1,4 @@
--- Each field is read at its place.
+-- Each field is read at its offset.
 use Rattle.minidump_format.proofs.format.misc.MINIDUMP_MISC_INFO_4Record.decode.Goals as goal
 
 pub returns : goal.returns

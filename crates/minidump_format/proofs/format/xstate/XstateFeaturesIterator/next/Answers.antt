@@ -1,4 +1,4 @@
--- An enabled feature is the first that is left, another is passed, and behind the last there is none.
+-- An enabled feature is the first that is left, another is passed, and after the last there is none.
 use Rattle.std.proofs.Common.{◌<◌, ◌≤◌, ◌∙◌, length, ap, arith}
 use Rattle.minidump_format.proofs.XstateLemmas.{enabled_set, enabled_clear, enabled_end}
 use Rattle.minidump_format.proofs.format.xstate.XstateFeaturesIterator.next.Goals as goal

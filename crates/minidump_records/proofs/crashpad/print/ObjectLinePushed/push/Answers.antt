@@ -4,4 +4,4 @@ use Rattle.minidump_records.proofs.crashpad.print.ObjectLinePushed.push.Goals as
 
 pub returns : goal.returns
 unfolding object_line
-returns c = rw (← c.as_str.ensures.value, ← c.shown.ensures) c.push_pieces.ensures.ok
+returns c = rw (← c.as_str.ensures.value, ← c.annotation_str.ensures) c.push_pieces.ensures.ok

@@ -1,4 +1,4 @@
--- Each field is read at its place.
+-- Each field is read at its offset.
 use Rattle.minidump_format.proofs.format.context.x86.CONTEXT_X86Record.decode.Goals as goal
 
 -- the record by its fields

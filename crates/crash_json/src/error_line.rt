@@ -1,0 +1,49 @@
+ghost use Rattle.std.specs.Prelude.{◌≡◌, IfOk, IsOkUnless, Some};
+ghost use Rattle.std.specs.Str.{IsUtf8};
+ghost use Rattle.json.specs.Json.{document};
+ghost use Rattle.json.specs.Print.{print};
+ghost use Rattle.json.specs.Tree.{json_tokens};
+ghost use Rattle.crash_json.specs.Report.{error_json};
+
+use json::Writer;
+use json_tree::{Scalar, ToJson, put_object, text_of};
+use minidump::Error;
+use std::alloc::Global;
+
+/// Makes the line of a file that is no minidump: its path, and a word for why. The only error is
+/// `OutOfMemory`.
+pub fn error_json(alloc: Global, path: &str, status: &str) -> Result<Vec<u8>, Error>
+    ensures text { IfOk result
+        (λ text. document text.items ≡ Some (error_json path.now status.now)) }
+    ensures compact { IfOk result
+        (λ text. text.items ≡ print (json_tokens (error_json path.now status.now))) }
+    ensures utf8 { IfOk result (λ text. IsUtf8 text.items) }
+    ensures memory { IsOkUnless result Error.OutOfMemory }
+{
+    text_of(alloc, &FileError { path, status })
+}
+
+// A file that is no minidump.
+#[derive(Clone, Copy)]
+struct FileError<'t> {
+    path: &'t str,
+    status: &'t str,
+}
+
+impl ToJson for FileError<'_> {
+    ghost use Rattle.crash_json.specs.Report.{error_json};
+
+    ghost json = { λ r. error_json r.path.now r.status.now };
+
+    #[tactic(auto, unfolding(crate::specs::Report::error_json))]
+    fn put(&self, out: &mut Writer, alloc: Global) -> Result<(), Error> {
+        put_object(
+            out,
+            alloc,
+            &[
+                ("path", Scalar::Text(Some(self.path))),
+                ("status", Scalar::Text(Some(self.status))),
+            ],
+        )
+    }
+}

@@ -1,0 +1,2 @@
+-- What comes after the last item that passes a test.
+mod AfterLast

@@ -1,0 +1,63 @@
+use minidump_bytes::{Endian, Source, Steps};
+use minidump_format::Error;
+use minidump_system::{MinidumpStream, MinidumpSystemInfo};
+use std::alloc::Global;
+
+// Reads the stream of some bytes, in a file.
+pub(crate) fn read_in<'a, S: MinidumpStream<'a>>(
+    alloc: Global,
+    stream: &'a [u8],
+    file: &'a [u8],
+    endian: Endian,
+    steps: &mut Steps,
+) -> Result<S, Error> {
+    S::read(
+        alloc,
+        Source::new(stream),
+        Source::new(file),
+        endian,
+        None,
+        steps,
+    )
+}
+
+// The bytes of a file, and of a list in it.
+#[derive(Drop)]
+pub(crate) struct ListFile {
+    pub(crate) file: Vec<u8>,
+    pub(crate) stream: Vec<u8>,
+    pub(crate) endian: Endian,
+}
+
+impl ListFile {
+    pub(crate) fn read<'a, S: MinidumpStream<'a>>(
+        &'a self,
+        alloc: Global,
+        steps: &mut Steps,
+    ) -> Result<S, Error> {
+        read_in(alloc, &self.stream, &self.file, self.endian, steps)
+    }
+}
+
+// The system of a processor's architecture and a platform, by their numbers.
+pub(crate) fn system(
+    alloc: Global,
+    endian: Endian,
+    architecture: u16,
+    platform: u32,
+) -> Result<MinidumpSystemInfo, Error> {
+    let mut record = [0; 56];
+    let (processor, os) = match endian {
+        Endian::Little => (architecture.to_le_bytes(), platform.to_le_bytes()),
+        Endian::Big => (architecture.to_be_bytes(), platform.to_be_bytes()),
+    };
+    record[..2].copy_from_slice(&processor);
+    record[20..24].copy_from_slice(&os);
+    MinidumpSystemInfo::read_record(
+        alloc,
+        Source::new(&record),
+        Source::new(&[]),
+        endian,
+        &mut Steps::new(),
+    )
+}
