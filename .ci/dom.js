@@ -1,4 +1,4 @@
-// Runs the script of a page over a document of its own, in place of a browser's: it reads {"ids", "data", "script"} from
+// Runs the script of a page over a document of its own, instead of a browser's: it reads {"ids", "data", "script"} from
 // standard input, and writes what the script made, and what its tools make of the drawing. A property that the script sets,
 // and an attribute, has to be one of the few below, by which no text becomes a script, an element or a link.
 "use strict";
