@@ -158,11 +158,12 @@ pub fn system_of(alloc: Global, dump: &Minidump<'_>) -> Result<Option<MinidumpSy
 }
 
 /// Returns the threads of a dump, an empty list if its list is missing or malformed. The only error
-/// is [`Error::OutOfMemory`].
+/// is [`Error::OutOfMemory`]. A directory without entries takes no memory.
 pub fn threads_of<'a>(alloc: Global, dump: &Minidump<'a>) -> Result<MinidumpThreadList<'a>, Error>
     ensures value { IfOk result (λ threads. thread_list_stream.value threads
         ≡ threads_in (dump_of dump.now)) }
-    ensures memory { IsOkUnless result Error.OutOfMemory }
+    ensures memory { IfErr result (λ e. (e ≡ Error.OutOfMemory)
+        × (0 < (dump_of dump.now).header.stream_count)) }
 {
     match dump.find_stream(alloc)? {
         Some(threads) => Ok(threads),
@@ -173,11 +174,12 @@ pub fn threads_of<'a>(alloc: Global, dump: &Minidump<'a>) -> Result<MinidumpThre
 }
 
 /// Returns the modules of a dump, an empty list if its list is missing or malformed. The only error
-/// is [`Error::OutOfMemory`].
+/// is [`Error::OutOfMemory`]. A directory without entries takes no memory.
 pub fn modules_of(alloc: Global, dump: &Minidump<'_>) -> Result<MinidumpModuleList, Error>
     ensures value { IfOk result (λ modules. module_list_stream.value modules
         ≡ modules_in (dump_of dump.now)) }
-    ensures memory { IsOkUnless result Error.OutOfMemory }
+    ensures memory { IfErr result (λ e. (e ≡ Error.OutOfMemory)
+        × (0 < (dump_of dump.now).header.stream_count)) }
 {
     match dump.find_stream(alloc)? {
         Some(modules) => Ok(modules),
@@ -186,10 +188,11 @@ pub fn modules_of(alloc: Global, dump: &Minidump<'_>) -> Result<MinidumpModuleLi
 }
 
 /// Returns the memory of a dump, an empty list if its lists are missing or malformed. The only
-/// error is [`Error::OutOfMemory`].
+/// error is [`Error::OutOfMemory`]. A directory without entries takes no memory.
 pub fn memory_of<'a>(alloc: Global, dump: &Minidump<'a>) -> Result<UnifiedMemoryList<'a>, Error>
     ensures value { IfOk result (λ memory. unified_list memory ≡ memory_in (dump_of dump.now)) }
-    ensures memory { IsOkUnless result Error.OutOfMemory }
+    ensures memory { IfErr result (λ e. (e ≡ Error.OutOfMemory)
+        × (0 < (dump_of dump.now).header.stream_count)) }
 {
     match dump.get_memory(alloc)? {
         Some(memory) => Ok(memory),

@@ -1,4 +1,4 @@
-ghost use Rattle.std.specs.Prelude.{◌≡◌, IfOk, IsOkUnless};
+ghost use Rattle.std.specs.Prelude.{◌≡◌, ◌<◌, IfErr, IfOk};
 ghost use Rattle.std.specs.Option.{option_map};
 ghost use Rattle.minidump.specs.Below.MemoryLists.UnifiedInfo.{info_list};
 ghost use Rattle.minidump.specs.DumpValue.{dump_of};
@@ -33,11 +33,12 @@ pub struct DumpProcess<'a> {
 
 impl<'a> DumpProcess<'a> {
     /// Reads the process of a dump, or returns `None` without system information. The only error is
-    /// [`Error::OutOfMemory`].
+    /// [`Error::OutOfMemory`]. A directory without entries takes no memory.
     pub fn read(alloc: Global, dump: &Minidump<'a>) -> Result<Option<DumpProcess<'a>>, Error>
         ensures value { IfOk result (λ found. option_map dump_process_of found
             ≡ process_in (dump_of dump.now)) }
-        ensures memory { IsOkUnless result Error.OutOfMemory }
+        ensures memory { IfErr result (λ e. (e ≡ Error.OutOfMemory)
+            × (0 < (dump_of dump.now).header.stream_count)) }
     {
         match system_of(alloc, dump)? {
             Some(system) => Ok(Some(process_on(alloc, dump, system)?)),
@@ -67,7 +68,8 @@ fn process_on<'a>(
 ) -> Result<DumpProcess<'a>, Error>
     ensures value { IfOk result (λ process. dump_process_of process
         ≡ process_on (dump_of dump.now) (system_info_stream.value system)) }
-    ensures memory { IsOkUnless result Error.OutOfMemory }
+    ensures memory { IfErr result (λ e. (e ≡ Error.OutOfMemory)
+        × (0 < (dump_of dump.now).header.stream_count)) }
 {
     let exception: Option<MinidumpException<'a>> = dump.find_stream(alloc)?;
     let modules = modules_of(alloc, dump)?;
@@ -82,11 +84,13 @@ fn process_on<'a>(
     })
 }
 
-/// Returns what a dump knows of the regions of its memory: its memory information, else its maps of Linux, or an
-/// empty list if both are missing or malformed. The only error is [`Error::OutOfMemory`].
+/// Returns what a dump knows of the regions of its memory: its memory information, else its maps of
+/// Linux, or an empty list if both are missing or malformed. The only error is
+/// [`Error::OutOfMemory`]. A directory without entries takes no memory.
 pub fn infos_of<'a>(alloc: Global, dump: &Minidump<'a>) -> Result<UnifiedMemoryInfoList<'a>, Error>
     ensures value { IfOk result (λ infos. info_list infos ≡ infos_in (dump_of dump.now)) }
-    ensures memory { IsOkUnless result Error.OutOfMemory }
+    ensures memory { IfErr result (λ e. (e ≡ Error.OutOfMemory)
+        × (0 < (dump_of dump.now).header.stream_count)) }
 {
     if let Some(infos) = dump.find_stream(alloc)? {
         return Ok(UnifiedMemoryInfoList::Info(infos));

@@ -180,8 +180,8 @@ pub record IsRun {F O E : Type 0} (opens : List ℕ → Option F → Type 0) (le
   pub usage : status ≡ 2 → (out_new ≡ out_old) × IsTold errors err_old err_new usage
   pub bad : status ≡ 2 ↔ ((0 < length words) × ¬ (IsCommand words))
 
--- there was no memory for the words: standard error took the name `OutOfMemory`, and the output
--- nothing
+-- there was no memory for the list of the process's arguments: standard error took the name
+-- `OutOfMemory`, and the output nothing
 abbrev pub IsOutOfMemory : {O E : Type 0} → (E → Option (List ℕ)) → Told O → Told O → Told E
     → Told E → ℕ → Type 0
 IsOutOfMemory errors out_old out_new err_old err_new status =

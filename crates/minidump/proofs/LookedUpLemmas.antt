@@ -1,12 +1,12 @@
 -- The result of a lookup is the one that `IsLookedUp` allows: the tests say what the rule says, and an index is kept exactly where the
 -- test with as many rounds as there are indices says so.
-use Rattle.std.proofs.Common.{◌≡◌, ℕ, zero, suc, ◌<◌, ◌≤◌, ◌⊎◌, Bool, true, false, cond, List, [], ◌∷◌, length, get_or, map}
+use Rattle.std.proofs.Common.{◌≡◌, ℕ, zero, suc, ◌<◌, ◌≤◌, Bool, true, false, cond, List, [], ◌∷◌, length, get_or, map}
 use Rattle.std.proofs.Common.{arith, ap, refl, subst, sym, ◌∙◌, inl, inr}
-use Rattle.std.specs.Prelude.{◌↔◌, Option, Some, None, MatchOption, find, not, slice_get, nat_le, nat_lt, ◌==◌, ◌&&◌, ◌||◌}
+use Rattle.std.specs.Prelude.{◌↔◌, Option, Some, None, MatchOption, find, not, slice_get, nat_le, ◌&&◌}
 use Rattle.std.specs.List.{list_any, range_with_len}
 use Rattle.std.specs.Option.{option_and_then, option_map}
-use Rattle.std.proofs.lemmas.Bool.{cases_lt}
-use Rattle.std.proofs.lemmas.Bool.Decides.{nat_tests}
+use Rattle.std.proofs.lemmas.Bool.{and_from, and_parts, cases_lt, eq-eqb, eqb-true, false_from_ne_true, le-leb, leb-true, lt-ltb, ltb-true, not_from_false}
+use Rattle.std.proofs.lemmas.Bool.{or_cases, or_left, or_right}
 use Rattle.std.proofs.lemmas.List.Folds.{Any-from_list_any, list_any_at}
 use Rattle.std.proofs.lemmas.List.FromFn.{get_or-range_with_len, length-range_with_len}
 use Rattle.std.proofs.lemmas.Option.{slice_get-map, slice_get_within}
@@ -18,58 +18,17 @@ use Rattle.minidump.specs.LookedUp.{comes_before, drops, has_range, is_kept, kep
 use Rattle.minidump.proofs.LawsLemmas.{find_passes}
 
 -- ---- tests
-both_true : (a b : Bool) → a ≡ true → b ≡ true → (a && b) ≡ true
-both_true a b h k = rw (h, k) refl
-
-each_true : (a b : Bool) → (a && b) ≡ true → (a ≡ true) × (b ≡ true)
-each_true true b h = (refl, h)
-each_true false b h = cc
-
-first_true : (a b : Bool) → a ≡ true → (a || b) ≡ true
-first_true a b h = rw h refl
-
-second_true : (a b : Bool) → b ≡ true → (a || b) ≡ true
-second_true true b h = refl
-second_true false b h = h
-
-some_true : (a b : Bool) → (a || b) ≡ true → (a ≡ true) ⊎ (b ≡ true)
-some_true true b h = inl refl
-some_true false b h = inr h
-
-not_true : (b : Bool) → (b ≡ true → ⊥) → b ≡ false
-not_true true h = absurd (h refl)
-not_true false h = refl
-
 both_ways : (a b : Bool) → (a ≡ true → b ≡ true) → (b ≡ true → a ≡ true) → a ≡ b
 both_ways true b f g = sym (f refl)
 both_ways false true f g = g refl
 both_ways false false f g = refl
 
 opposite : (b : Bool) → (b ≡ true → ⊥) → not b ≡ true
-opposite true h = absurd (h refl)
-opposite false h = refl
+opposite b h = not_from_false b (false_from_ne_true b h)
 
 not_both_true : (b : Bool) → not b ≡ true → b ≡ true → ⊥
 not_both_true true h k = cc
 not_both_true false h k = cc
-
-lt_test : (m n : ℕ) → nat_lt m n ≡ true → m < n
-lt_test m n h = grind (arith, nat_tests)
-
-test_lt : (m n : ℕ) → m < n → nat_lt m n ≡ true
-test_lt m n h = grind (arith, nat_tests)
-
-le_test : (m n : ℕ) → nat_le m n ≡ true → m ≤ n
-le_test m n h = grind (arith, nat_tests)
-
-test_le : (m n : ℕ) → m ≤ n → nat_le m n ≡ true
-test_le m n h = grind (arith, nat_tests)
-
-eq_test : (m n : ℕ) → (m == n) ≡ true → m ≡ n
-eq_test m n h = grind (arith, nat_tests)
-
-test_eq : (m n : ℕ) → m ≡ n → (m == n) ≡ true
-test_eq m n h = grind (arith, nat_tests)
 
 -- the range that a test found
 range_that_passes : (test : Range → Bool) (o : Option (Option Range)) → has_range test o ≡ true → (r : Range) × (o ≡ Some (Some r)) × (test r ≡ true)
@@ -79,23 +38,23 @@ range_that_passes test None h = cc
 
 -- ---- the order of ranges, and addresses that two share
 before_of : (r : Range) (i : ℕ) (s : Range) (j : ℕ) → comes_before r i s j ≡ true → IsBefore r i s j
-before_of r i s j h = elim (some_true _ _ h) [
-  | inl start ↦ inl (lt_test r.start s.start start)
-  | inr more ↦ (let m = each_true _ _ more in inr (
-    eq_test r.start s.start m.0,
-    elim (some_true _ _ m.1) [
-      | inl end ↦ inl (lt_test r.end s.end end)
-      | inr last ↦ (let l = each_true _ _ last in inr (eq_test r.end s.end l.0, lt_test i j l.1))
+before_of r i s j h = elim (or_cases _ _ h) [
+  | inl start ↦ inl (ltb-true r.start s.start start)
+  | inr more ↦ (let m = and_parts _ _ more in inr (
+    eqb-true r.start s.start m.0,
+    elim (or_cases _ _ m.1) [
+      | inl end ↦ inl (ltb-true r.end s.end end)
+      | inr last ↦ (let l = and_parts _ _ last in inr (eqb-true r.end s.end l.0, ltb-true i j l.1))
     ],
   ))
 ]
 
 of_before : (r : Range) (i : ℕ) (s : Range) (j : ℕ) → IsBefore r i s j → comes_before r i s j ≡ true
 of_before r i s j b = elim b [
-  | inl start ↦ first_true _ _ (test_lt r.start s.start start)
-  | inr more ↦ second_true _ _ (both_true _ _ (test_eq r.start s.start more.0) (elim more.1 [
-    | inl end ↦ first_true _ _ (test_lt r.end s.end end)
-    | inr last ↦ second_true _ _ (both_true _ _ (test_eq r.end s.end last.0) (test_lt i j last.1))
+  | inl start ↦ or_left _ _ (lt-ltb r.start s.start start)
+  | inr more ↦ or_right _ _ (and_from _ _ (eq-eqb r.start s.start more.0) (elim more.1 [
+    | inl end ↦ or_left _ _ (lt-ltb r.end s.end end)
+    | inr last ↦ or_right _ _ (and_from _ _ (eq-eqb r.end s.end last.0) (lt-ltb i j last.1))
   ]))
 ]
 
@@ -125,9 +84,9 @@ onward q r s h i j a b = elim a [
 
 shared_of : (r s : Range) → share_address r s ≡ true → ShareAddress r s
 shared_of r s h =
-    let e = each_true _ _ h in
-    let low : r.start ≤ s.end = le_test r.start s.end e.0 in
-    let high : s.start ≤ r.end = le_test s.start r.end e.1 in
+    let e = and_parts _ _ h in
+    let low : r.start ≤ s.end = leb-true r.start s.end e.0 in
+    let high : s.start ≤ r.end = leb-true s.start r.end e.1 in
     elim (cases_lt r.start s.start) [
       | inl lt ↦ (s.start, (omega (arith, lt), high), (omega arith, s.ordered))
       | inr ge ↦ (r.start, (omega arith, r.ordered), (ge, low))
@@ -135,7 +94,7 @@ shared_of r s h =
 
 of_shared : (r s : Range) → ShareAddress r s → share_address r s ≡ true
 of_shared r s (a, of_r, of_s) =
-    both_true _ _ (test_le r.start s.end (omega (arith, of_r.0, of_s.1))) (test_le s.start r.end (omega (arith, of_r.1, of_s.0)))
+    and_from _ _ (le-leb r.start s.end (omega (arith, of_r.0, of_s.1))) (le-leb s.start r.end (omega (arith, of_r.1, of_s.0)))
 
 -- ---- numbers below a bound that pass a test
 abbrev tally : (ℕ → Bool) → ℕ → ℕ
@@ -217,7 +176,7 @@ module _ (ranges : List (Option Range)) where
       (inner.0, inner.1, subst (λ (x : Range). IsBefore inner.0 other x index) (one index outer.0 r outer.1 has) (before_of inner.0 other outer.0 index inner.2))
 
   not_earlier : (index : ℕ) (r : Range) → HasRange ranges index r → earlier index index ≡ false
-  not_earlier index r has = not_true (earlier index index) (λ h.
+  not_earlier index r has = false_from_ne_true (earlier index index) (λ h.
       let e = earlier_of index index r has h in
       not_itself r index (subst (λ (x : Range). IsBefore x index r index) (one index e.0 r e.1 has) e.2))
 
@@ -250,8 +209,8 @@ module _ (ranges : List (Option Range)) where
       r,
       has,
       λ other s other_kept has_s before share.
-          none (any_index (dropped_by n index r) (length ranges) other (within other s has_s) (both_true _ _ (right other s has_s before ∙ other_kept)
-          (rw has_s (both_true _ _ (of_before s other r index before) (of_shared s r share))))),
+          none (any_index (dropped_by n index r) (length ranges) other (within other s has_s) (and_from _ _ (right other s has_s before ∙ other_kept)
+          (rw has_s (and_from _ _ (of_before s other r index before) (of_shared s r share))))),
     )
 
     one_drops : (n index : ℕ) (r : Range) → HasRange ranges index r → RightBefore n index r
@@ -259,9 +218,9 @@ module _ (ranges : List (Option Range)) where
     one_drops n index r has right some t =
         let (range, at, clear) = (is index).0 t in
         let (k, other, lt, is_at, test) = Any-from_list_any (dropped_by n index r) (range_with_len 0 (length ranges)) some in
-        let both = each_true _ _ test in
+        let both = and_parts _ _ test in
         let found = range_that_passes (λ s. comes_before s other r index && share_address s r) (slice_get ranges other) both.1 in
-        let tests = each_true _ _ found.2 in
+        let tests = and_parts _ _ found.2 in
         let before = before_of found.0 other r index tests.0 in
         let shared = shared_of found.0 r tests.1 in
         let same : r ≡ range = one index r range has at in
@@ -271,9 +230,9 @@ module _ (ranges : List (Option Range)) where
     by_range : (n index : ℕ) (o : Option (Option Range)) → slice_get ranges index ≡ o
         → ((r : Range) → HasRange ranges index r → RightBefore n index r) → is_kept ranges (suc n) index ≡ kept index
     by_range n index None at right =
-        rw at (sym (not_true (kept index) (λ t. let f = (is index).0 t in let h : None ≡ Some (Some f.0) = sym at ∙ f.1 in cc)))
+        rw at (sym (false_from_ne_true (kept index) (λ t. let f = (is index).0 t in let h : None ≡ Some (Some f.0) = sym at ∙ f.1 in cc)))
     by_range n index (Some None) at right =
-        rw at (sym (not_true (kept index) (λ t. let f = (is index).0 t in let h : Some None ≡ Some (Some f.0) = sym at ∙ f.1 in cc)))
+        rw at (sym (false_from_ne_true (kept index) (λ t. let f = (is index).0 t in let h : Some None ≡ Some (Some f.0) = sym at ∙ f.1 in cc)))
     by_range n index (Some (Some r)) at right =
         rw at (both_ways _ (kept index)
         (λ h. none_drops n index r at (right r at) (not_both_true _ h))
@@ -315,17 +274,17 @@ module _ {R : Type 0} (range : R → Option Range) (regions : List R) (address :
     by_index None none = λ index k.
         find_fails is_it (range_with_len 0 (length ranges)) none
         (any_index is_it (length ranges) index (within ranges index k.range k.has)
-        (both_true _ _ (right_at ranges kept is index k.range k.has ∙ k.is_kept)
-        (rw k.has (both_true _ _ (test_le _ _ k.inside.0) (test_le _ _ k.inside.1)))))
+        (and_from _ _ (right_at ranges kept is index k.range k.has ∙ k.is_kept)
+        (rw k.has (and_from _ _ (le-leb _ _ k.inside.0) (le-leb _ _ k.inside.1)))))
     by_index (Some index) found =
-        let both = each_true _ _ (find_passes is_it (range_with_len 0 (length ranges)) index found) in
+        let both = and_parts _ _ (find_passes is_it (range_with_len 0 (length ranges)) index found) in
         let (r, has, tests) = range_that_passes has_address (slice_get ranges index) both.1 in
-        let sides = each_true _ _ tests in
+        let sides = and_parts _ _ tests in
         region_of index r has (record {
           range = r;
           is_kept = sym (right_at ranges kept is index r has) ∙ both.0;
           has = has;
-          inside = (le_test r.start address sides.0, le_test address r.end sides.1);
+          inside = (leb-true r.start address sides.0, leb-true address r.end sides.1);
         }) (slice_get regions index) refl
 
   -- it is an answer

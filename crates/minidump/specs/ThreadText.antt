@@ -21,6 +21,8 @@ use Rattle.minidump_memory.specs.Unified.{Memory, UnifiedRegion, UnifiedRegions,
 use Rattle.minidump.specs.LookedUp.{looked_up}
 use Rattle.minidump.specs.Thread.{Thread, known_context}
 use Rattle.minidump.specs.declared.thread.print.ThreadHead.{ThreadHead}
+use Rattle.minidump.specs.declared.thread.stack.Word.{Word}
+use Rattle.minidump.specs.declared.thread.stack.Word.TheVariants as kind
 
 -- MINIDUMP_THREAD: the numbers of the entry
 unfoldable pub thread_head : MINIDUMP_THREAD → List ℕ
@@ -61,6 +63,11 @@ word_bytes Unknown = 8
 -- the offset of a word of a stack, and the word, of so many bytes
 unfoldable pub word_line : ℕ → ℕ → ℕ → List ℕ
 word_line size offset word = concat (codes "    0x" ∷ wide_hex 8 offset ∷ codes ": 0x" ∷ wide_hex (2 * size) word ∷ codes "\n" ∷ [])
+
+-- the line of a word of four or eight bytes
+abbrev pub text_of_word : Word → List ℕ
+text_of_word (kind.Bits32 offset word) = word_line 4 offset word
+text_of_word (kind.Bits64 offset word) = word_line 8 offset word
 
 -- the whole words of a stack; the bytes after the last one are left out
 abbrev pub word_lines : Endian → ℕ → List ℕ → List ℕ

@@ -127,7 +127,8 @@ impl<'n> Pushed for Crash<'n> {
     ghost use Rattle.std.specs.Prelude.{codes};
     ghost use Rattle.minidump.specs.Crash.{number_line, values_lines};
 
-    ghost text = { λ c. number_line (codes "crash_thread = ") c.thread_id ++ values_lines c.names.now c.values };
+    ghost text = { λ c. number_line (codes "crash_thread = ") c.thread_id
+        ++ values_lines c.names.now c.values };
 
     fn push(&self, out: &mut Vec<u8>) -> Result<(), AllocError> {
         push_number(out, "crash_thread = ", self.thread_id as u64)?;

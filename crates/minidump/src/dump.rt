@@ -29,7 +29,8 @@ pub struct Minidump<'a> {
     pub(crate) entries: Vec<DecidingEntry>,
     // set exactly where the SystemInfo stream parses
     pub(crate) system_info: Option<MinidumpSystemInfo>,
-    ghost decides: { Decides entries.items (directory endian (bytes_of source) header) } by { Prim.hlevel props },
+    ghost decides: { Decides entries.items
+        (directory endian (bytes_of source) header) } by { Prim.hlevel props },
     ghost knows: { option_map system_info_of system_info
         ≡ dump_system (record { file = bytes_of source; order = endian; header = header }) },
 }

@@ -141,7 +141,8 @@ impl<'a, 'mdmp> Pushed for ExceptionText<'a, 'mdmp> {
     ghost use Rattle.std.specs.Option.{option_map};
     ghost use Rattle.minidump.specs.Exception.{exception_of, exception_with};
 
-    ghost text = { λ t. exception_with (exception_of t.exception.now) (option_map (λ c. c.raw) t.context) };
+    ghost text = { λ t. exception_with (exception_of t.exception.now)
+        (option_map (λ c. c.raw) t.context) };
 
     fn push(&self, out: &mut Vec<u8>) -> Result<(), AllocError> {
         let exception = self.exception;

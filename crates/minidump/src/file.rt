@@ -11,7 +11,8 @@ use std::alloc::Global;
 /// Returns `FileNotFound` if the file can't be opened, which leaves `into` as it was; `IoError` if
 /// a read fails, and `OutOfMemory` if an allocation fails, which leave it empty.
 pub fn read_file<R: OpenPath>(rt: &R, path: &str, into: &mut Vec<u8>) -> Result<(), Error>
-    ensures { ReadsFile (R.opens rt.now) R.File.left R.File.failed path.now into.old.items into.new.items result }
+    ensures { ReadsFile (R.opens rt.now) R.File.left R.File.failed path.now into.old.items
+        into.new.items result }
 {
     match rt.open_path(path) {
         Some(mut file) => read_all(&mut file, into),

@@ -64,6 +64,7 @@ const SECTIONS: [Section; 25] = each_stream!(all_sections);
 ///
 /// Returns the errors of [`Minidump::read`] before anything is written; then `IoError` if the
 /// writer fails, and `OutOfMemory`, after which the writer took a prefix of the report.
+#[tactic(auto, using(minidump_format::proofs::Printing::prints_then, minidump_format::proofs::Printing::prints_exit))]
 pub fn write_report<W: Write>(
     alloc: Global,
     bytes: &[u8],
@@ -72,25 +73,14 @@ pub fn write_report<W: Write>(
 ) -> Result<(), Error>
     ensures { Reports W.contents f.old f.new names.now bytes.now result }
 {
-    match Minidump::read(alloc, bytes) {
-        Ok(dump) => print_report(&dump, names, alloc, f),
-        Err(Error::OutOfMemory) => Err(no_memory(f)),
-        Err(error) => Err(error),
-    }
-}
-
-#[tactic(auto, using(minidump_format::proofs::Printing::prints_then, minidump_format::proofs::Printing::prints_exit))]
-fn print_report<W: Write>(
-    dump: &Minidump<'_>,
-    names: &CodeNames<'_>,
-    alloc: Global,
-    f: &mut Told<W>,
-) -> Result<(), Error>
-    ensures { Prints W.contents f.old f.new (report_text names.now (dump_of dump.now)) result }
-{
+    let dump = match Minidump::read(alloc, bytes) {
+        Ok(dump) => dump,
+        Err(Error::OutOfMemory) => return Err(no_memory(f)),
+        Err(error) => return Err(error),
+    };
     dump.print(alloc, f)?;
-    let streams = SharedStreams::read(dump, alloc);
-    print_streams(dump, &streams, names, alloc, f)
+    let streams = SharedStreams::read(&dump, alloc);
+    print_streams(&dump, &streams, names, alloc, f)
 }
 
 // Prints the sections in order, and then the crash. Stops at the first error of the writer or of an
@@ -117,14 +107,15 @@ fn print_streams<W: Write>(
 
 // Prints a stream, or what it adds to the report if it can't be read.
 macro_rules! print_stream {
-    ($type:ty, $read:expr, $dump:ident, $alloc:ident, $f:ident $(, $more:expr)*) => {
+    ($type:ty, $read:expr, $section:ident, $dump:ident, $alloc:ident, $f:ident $(, $more:expr)*) => {
         match &$read {
             Ok(stream) => stream.print($alloc, $f $(, $more)*),
-            Err(error) => print_unread::<$type, W>($dump, *error, $alloc, $f),
+            Err(error) => print_unread::<$type, W>($section, $dump, *error, $alloc, $f),
         }
     };
 }
 
+#[tactic(auto, using(crate::proofs::ReportLemmas::adds_error))]
 fn print_section<W: Write>(
     section: Section,
     dump: &Minidump<'_>,
@@ -137,19 +128,19 @@ fn print_section<W: Write>(
 {
     macro_rules! print_arm {
         (ExceptionStream, $type:ty) => {
-            print_stream!($type, streams.exception, dump, alloc, f, dump.system_info.as_ref(), None)
+            print_stream!($type, streams.exception, section, dump, alloc, f, dump.system_info.as_ref(), None)
         };
         (ThreadListStream, $type:ty) => {
             print_threads(dump, streams, alloc, f)
         };
         (Memory64ListStream, $type:ty) => {
-            print_stream!($type, streams.memory64, dump, alloc, f, true)
+            print_stream!($type, streams.memory64, section, dump, alloc, f, true)
         };
         (MemoryListStream, $type:ty) => {
-            print_stream!($type, streams.memory, dump, alloc, f, true)
+            print_stream!($type, streams.memory, section, dump, alloc, f, true)
         };
         ($name:ident, $type:ty) => {
-            print_stream!($type, dump.get_stream::<$type>(alloc), dump, alloc, f)
+            print_stream!($type, dump.get_stream::<$type>(alloc), section, dump, alloc, f)
         };
     }
     macro_rules! print_arms {
@@ -162,6 +153,7 @@ fn print_section<W: Write>(
     each_stream!(print_arms)
 }
 
+#[tactic(auto, using(crate::proofs::ReportLemmas::adds_error))]
 fn print_threads<W: Write>(
     dump: &Minidump<'_>,
     streams: &SharedStreams<'_>,
@@ -172,11 +164,12 @@ fn print_threads<W: Write>(
     ensures { Prints W.contents f.old f.new
         (section_text (dump_of dump.now) Section.ThreadListStream) result }
 {
+    let section = Section::ThreadListStream;
     match &streams.threads {
         Ok(threads) => match streams.get_memory() {
             Ok(memory) => threads.print(alloc, f, memory, dump.system_info.as_ref(), None, false),
             Err(_) => Err(no_memory(f)),
         },
-        Err(error) => print_unread::<MinidumpThreadList, W>(dump, *error, alloc, f),
+        Err(error) => print_unread::<MinidumpThreadList, W>(section, dump, *error, alloc, f),
     }
 }

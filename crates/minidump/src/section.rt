@@ -3,11 +3,12 @@ ghost use Rattle.minidump_format.specs.declared.error.Error.{Error};
 ghost use Rattle.minidump_format.specs.Print.{Prints};
 ghost use Rattle.minidump.specs.Dump.{IsStreamOf};
 ghost use Rattle.minidump.specs.DumpValue.{dump_of};
-ghost use Rattle.minidump.specs.Report.{error_line, section, unread_text};
+ghost use Rattle.minidump.specs.Report.{AddsError, error_line, section_text, unread_text};
 ghost use Rattle.minidump.specs.Text.{stream_type_name};
 
 use crate::Minidump;
 use crate::print::type_name;
+use crate::report::Section;
 use minidump_bytes::{Piece, Told};
 use minidump_format::{Error, no_memory, print_item, put_text};
 use minidump_system::MinidumpStream;
@@ -17,14 +18,16 @@ use std::io::Write;
 // Prints what a stream of the type `S` adds to the report if it can't be read: nothing if it is
 // absent, else the name of its error.
 pub(crate) fn print_unread<'a, S: MinidumpStream<'a>, W: Write>(
+    section: Section,
     dump: &Minidump<'a>,
     error: Error,
     alloc: Global,
     f: &mut Told<W>,
 ) -> Result<(), Error>
-    requires { IsStreamOf S.spec (dump_of dump.now) (Err error) }
-    ensures { (text : S.Value → List ℕ)
-        → Prints W.contents f.old f.new (section S.spec text (dump_of dump.now)) result }
+    requires stream { IsStreamOf S.spec (dump_of dump.now) (Err error) }
+    requires adds { AddsError S.spec (dump_of dump.now)
+        (section_text (dump_of dump.now) section) }
+    ensures { Prints W.contents f.old f.new (section_text (dump_of dump.now) section) result }
 {
     print_error(S::number_of_type(), error, alloc, f)
 }

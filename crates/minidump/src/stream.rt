@@ -34,9 +34,9 @@ impl<'a> Minidump<'a> {
     {
         let entries = self.entries.as_slice();
         let last = entry_of_type(entries, stream_type).ok_or(Error::StreamNotFound)?;
-        last.entry
-            .location
-            .bytes_in(self.source, steps)
+        let location = last.entry.location;
+        self.source
+            .span(location.rva as u64, location.data_size as u64, steps)
             .ok_or(Error::StreamReadFailure)
     }
 

@@ -25,15 +25,16 @@ pub(crate) fn read_system_info(
     steps: &mut Steps,
 ) -> Result<Option<MinidumpSystemInfo>, Error>
     requires { Decides entries.now (directory endian (bytes_of source) header.now) }
-    ensures value { IfOk result (λ s. option_map system_info_of s
-        ≡ dump_system (record { file = bytes_of source.entry; order = endian; header = header.now })) }
+    ensures value { IfOk result (λ s. option_map system_info_of s ≡ dump_system
+        (record { file = bytes_of source.entry; order = endian; header = header.now })) }
     ensures memory { IfErr result (λ e. (e ≡ Error.OutOfMemory) × (0 < header.now.stream_count)) }
-    ensures taken { OnErr result
-        (system_memory (record { file = bytes_of source.entry; order = endian; header = header.now })) }
+    ensures taken { OnErr result (system_memory
+        (record { file = bytes_of source.entry; order = endian; header = header.now })) }
     ensures within { steps.new ≤ steps.old + 3 }
     ensures grows { steps.old ≤ steps.new }
-    ensures counted { OnOk result (after steps.old
-        (system_reads (record { file = bytes_of source.entry; order = endian; header = header.now })) ≤ steps.new) }
+    ensures counted { OnOk result (after steps.old (system_reads
+        (record { file = bytes_of source.entry; order = endian; header = header.now }))
+        ≤ steps.new) }
 {
     let Some(last) = entry_of_type(entries, MinidumpSystemInfo::STREAM_TYPE) else {
         return Ok(None);

@@ -60,7 +60,8 @@ pub struct Crash {
 }
 
 /// Summarises the crash of a minidump: its numbers to `crash`, the text of its reason and the name
-/// of its module to the fronts of `reason` and `name`, as far as they fit. Codes have no names.
+/// of its module to the fronts of `reason` and `name`, as far as they fit. Codes are not named, so
+/// most reasons are numbers: `minidump_summary_named` names codes.
 #[unsafe(no_mangle)]
 pub extern "C" fn minidump_summary(
     alloc: Global,

@@ -2,7 +2,8 @@
 use Rattle.std.specs.Prelude.{ℕ, List, [], ◌∷◌, codes}
 use Rattle.minidump_format.specs.declared.format.context.amd64.CONTEXT_AMD64.{CONTEXT_AMD64}
 
--- the canonical name of each register and its offset in the record
+-- the canonical name of each general register and of the instruction pointer, and its offset in
+-- the record
 unfoldable pub amd64_registers : List (List ℕ × ℕ)
 amd64_registers =
     (codes "rax", 120) ∷

@@ -112,7 +112,7 @@ impl<'a> Pushed for Heading<'a> {
     }
 }
 
-/// A value after a line of a name and its index.
+/// A value with its index in a list: the line `name[index]`, and then the value's text.
 #[derive(Drop)]
 pub struct Numbered<'a, T> {
     pub name: &'a str,

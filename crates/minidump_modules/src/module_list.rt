@@ -189,7 +189,8 @@ impl<'a> ReadEntry<'a, MINIDUMP_MODULE> for Modules {
 
     ghost value = { module_of };
 
-    ghost entry_value = { λ modules order file raw. read_if has_range (read_module order modules.os file) raw };
+    ghost entry_value = { λ modules order file raw. read_if has_range
+        (read_module order modules.os file) raw };
 
     ghost most = { λ _. 7 };
 

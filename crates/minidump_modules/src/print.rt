@@ -48,7 +48,8 @@ impl MinidumpUnloadedModule {
 impl MinidumpModuleList {
     /// Prints the number of modules, and each module with its index.
     pub fn print<W: Write>(&self, alloc: Global, f: &mut Told<W>) -> Result<(), Error>
-        ensures { Prints W.contents f.old f.new (module_list_text (module_list_of self.now)) result }
+        ensures { Prints W.contents f.old f.new
+            (module_list_text (module_list_of self.now)) result }
     {
         print_numbered(
             "MinidumpModuleList\n  module_count = ",
@@ -117,8 +118,9 @@ fn push_raw(out: &mut Vec<u8>, raw: &MINIDUMP_MODULE) -> Result<(), AllocError>
 }
 
 fn push_unloaded_entry(out: &mut Vec<u8>, raw: &MINIDUMP_UNLOADED_MODULE) -> Result<(), AllocError>
-    ensures { OnOk result (out.new.items ≡ out.old.items ++ entry_text
-        raw.now.base_of_image raw.now.size_of_image raw.now.checksum raw.now.time_date_stamp raw.now.module_name_rva) }
+    ensures { OnOk result (out.new.items
+        ≡ out.old.items ++ entry_text raw.now.base_of_image raw.now.size_of_image raw.now.checksum
+        raw.now.time_date_stamp raw.now.module_name_rva) }
 {
     push_entry(
         out,
@@ -263,8 +265,9 @@ fn push_pdb20(out: &mut Vec<u8>, cv: &CV_INFO_PDB20) -> Result<(), AllocError>
 #[rattlefmt::skip]
 #[tactic(auto, unfolding(crate::specs::ModuleText::pdb20_text))]
 fn push_pdb20_lines<'t>(out: &mut Vec<u8>, cv: &CV_INFO_PDB20, date: &'t str, name: &'t str) -> Result<(), AllocError>
-    ensures { OnOk result (out.new.items ≡ out.old.items
-        ++ pdb20_text cv.now.cv_signature cv.now.cv_offset cv.now.signature date.now cv.now.age name.now) }
+    ensures { OnOk result (out.new.items
+        ≡ out.old.items ++ pdb20_text cv.now.cv_signature cv.now.cv_offset cv.now.signature date.now
+        cv.now.age name.now) }
 {
     push_pieces(out, &[
         Piece::Words("  (cv_record).cv_header.signature = "), Piece::Hex(cv.cv_signature as u64), Piece::Words("\n"),

@@ -35,7 +35,8 @@ impl Model for MinidumpUnloadedModuleList {
 
     ghost view = { λ s. s.modules.items };
 
-    ghost invariant = { λ s. IsOrderOf (map range_of_unloaded_struct s.modules.items) s.order.items × IsInside s.modules.items s.order.items };
+    ghost invariant = { λ s. IsOrderOf (map range_of_unloaded_struct s.modules.items) s.order.items
+        × IsInside s.modules.items s.order.items };
 }
 
 impl MinidumpUnloadedModuleList {

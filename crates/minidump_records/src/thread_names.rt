@@ -90,8 +90,9 @@ impl<'l> IntoIterator for &'l MinidumpThreadNames {
 
     type IntoIter = btree_map::Iter<'l, u32, String>;
 
-    ghost into_iter_gives = { λ names it. (map {B = ThreadName} (λ e. (e.0, string_bytes e.1)) it ≡ thread_names_of names.now)
-        × (length it < 2 ^ 63) × ShowsInOrder (deref_pair {K = ℕ} {X = String Global}) };
+    ghost into_iter_gives = { λ names it. (map {B = ThreadName} (λ e. (e.0, string_bytes e.1)) it
+        ≡ thread_names_of names.now) × (length it < 2 ^ 63)
+        × ShowsInOrder (deref_pair {K = ℕ} {X = String Global}) };
 
     fn into_iter(self) -> btree_map::Iter<'l, u32, String> {
         self.names.iter()

@@ -45,11 +45,12 @@ pub trait ReadEntry<'a, E> {
         endian: Endian,
         steps: &mut Steps,
     ) -> Result<Option<Self::Item>, Error>
-        ensures means { Gives (option_map value) ⊤ result (entry_value self.now endian (bytes_of all.entry) entry) }
+        ensures means { Gives (option_map value) ⊤ result
+            (entry_value self.now endian (bytes_of all.entry) entry) }
         ensures within { steps.new ≤ steps.old + most (length (bytes_of all.entry)) }
         ensures grows { steps.old ≤ steps.new }
-        ensures at_least { IfOk result
-            (λ item. after steps.old (fewest entry + of_kept fewest_of (option_map value item)) ≤ steps.new) };
+        ensures at_least { IfOk result (λ item. after steps.old
+            (fewest entry + of_kept fewest_of (option_map value item)) ≤ steps.new) };
 }
 
 /// Reads the items of entries, in order, but for those that are skipped. Returns the error of the first entry that has
@@ -66,10 +67,12 @@ where
     L::Item: Drop,
     ensures means { Gives (λ items. map L.value items.items) (0 < length entries.entry) result
         (all_kept (L.entry_value reader.now endian (bytes_of all.entry)) entries.entry) }
-    ensures within { steps.new ≤ steps.old + length entries.entry * (1 + L.most (length (bytes_of all.entry))) }
+    ensures within { steps.new
+        ≤ steps.old + length entries.entry * (1 + L.most (length (bytes_of all.entry))) }
     ensures grows { steps.old ≤ steps.new }
     ensures at_least { IfOk result (λ items. after steps.old (length entries.entry
-        + (sum_by L.fewest entries.entry + sum_by L.fewest_of (map L.value items.items))) ≤ steps.new) }
+        + (sum_by L.fewest entries.entry + sum_by L.fewest_of (map L.value items.items)))
+        ≤ steps.new) }
 {
     let mut items = Vec::with_capacity(alloc, entries.len())?;
     for entry in entries {

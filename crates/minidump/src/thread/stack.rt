@@ -1,7 +1,7 @@
 ghost use Rattle.std.specs.Prelude.{◌≡◌, ◌≤◌, ◌++◌, OnOk, codes};
 ghost use Rattle.minidump_bytes.specs.FixedHex.{fixed_hex};
 ghost use Rattle.minidump_format.specs.Print.{Prints};
-ghost use Rattle.minidump.specs.ThreadText.{word_line, word_lines, stack_words_text};
+ghost use Rattle.minidump.specs.ThreadText.{word_line, stack_words_text};
 
 use minidump_bytes::{Endian, Piece, Told, last_digit, push_pieces};
 use minidump_format::{Error, Pushed, print_all};
@@ -22,68 +22,40 @@ pub(crate) fn print_words<W: Write>(
     ensures { Prints W.contents f.old f.new (stack_words_text endian width bytes.now) result }
 {
     match width {
-        PointerWidth::Bits32 => print_words_32(bytes, endian, alloc, f),
-        PointerWidth::Bits64 | PointerWidth::Unknown => print_words_64(bytes, endian, alloc, f),
+        PointerWidth::Bits32 => {
+            let words = (0..bytes.len() / 4).map(|index| Word::Bits32(
+                4 * index,
+                endian.u32_at(bytes, 4 * index),
+            ));
+            print_all(words, alloc, f)
+        }
+        PointerWidth::Bits64 | PointerWidth::Unknown => {
+            let words = (0..bytes.len() / 8).map(|index| Word::Bits64(
+                8 * index,
+                endian.u64_at(bytes, 8 * index),
+            ));
+            print_all(words, alloc, f)
+        }
     }
 }
 
-fn print_words_32<W: Write>(
-    bytes: &[u8],
-    endian: Endian,
-    alloc: Global,
-    f: &mut Told<W>,
-) -> Result<(), Error>
-    ensures { Prints W.contents f.old f.new (word_lines endian 4 bytes.now) result }
-{
-    let words = (0..bytes.len() / 4).map(|index| Word32 {
-        offset: 4 * index,
-        word: endian.u32_at(bytes, 4 * index),
-    });
-    print_all(words, alloc, f)
-}
-
-fn print_words_64<W: Write>(
-    bytes: &[u8],
-    endian: Endian,
-    alloc: Global,
-    f: &mut Told<W>,
-) -> Result<(), Error>
-    ensures { Prints W.contents f.old f.new (word_lines endian 8 bytes.now) result }
-{
-    let words = (0..bytes.len() / 8).map(|index| Word64 {
-        offset: 8 * index,
-        word: endian.u64_at(bytes, 8 * index),
-    });
-    print_all(words, alloc, f)
-}
-
-// A word of four bytes, and its offset in the stack.
+// A word of four or eight bytes after its offset in the stack.
 #[derive(Clone, Copy)]
-struct Word32 {
-    offset: usize,
-    word: u32,
+pub(crate) enum Word {
+    Bits32(usize, u32),
+    Bits64(usize, u64),
 }
 
-impl Pushed for Word32 {
-    ghost text = { λ w. word_line 4 w.offset w.word };
+impl Pushed for Word {
+    ghost use Rattle.minidump.specs.ThreadText.{text_of_word};
+
+    ghost text = { text_of_word };
 
     fn push(&self, out: &mut Vec<u8>) -> Result<(), AllocError> {
-        push_word_32(out, self.offset, self.word)
-    }
-}
-
-// A word of eight bytes, and its offset in the stack.
-#[derive(Clone, Copy)]
-struct Word64 {
-    offset: usize,
-    word: u64,
-}
-
-impl Pushed for Word64 {
-    ghost text = { λ w. word_line 8 w.offset w.word };
-
-    fn push(&self, out: &mut Vec<u8>) -> Result<(), AllocError> {
-        push_word_64(out, self.offset, self.word)
+        match *self {
+            Word::Bits32(offset, word) => push_word_32(out, offset, word),
+            Word::Bits64(offset, word) => push_word_64(out, offset, word),
+        }
     }
 }
 
@@ -118,62 +90,40 @@ fn push_far_word(out: &mut Vec<u8>, size: usize, offset: usize, word: u64) -> Re
 }
 
 // Returns the line of a word whose offset takes at most eight digits.
+#[rattlefmt::skip]
 fn near_word_32(offset: u64, word: u64) -> [u8; 27]
-    ensures { result ≡ codes "    0x" ++ (fixed_hex 8 offset ++ (codes ": 0x" ++ (fixed_hex 8 word ++ codes "\n"))) }
+    ensures { result ≡ codes "    0x" ++ (fixed_hex 8 offset
+        ++ (codes ": 0x" ++ (fixed_hex 8 word ++ codes "\n"))) }
 {
     [
-        b' ',
-        b' ',
-        b' ',
-        b' ',
-        b'0',
-        b'x',
+        b' ', b' ', b' ', b' ', b'0', b'x',
         last_digit(offset / 16 / 16 / 16 / 16 / 16 / 16 / 16),
         last_digit(offset / 16 / 16 / 16 / 16 / 16 / 16),
-        last_digit(offset / 16 / 16 / 16 / 16 / 16),
-        last_digit(offset / 16 / 16 / 16 / 16),
-        last_digit(offset / 16 / 16 / 16),
-        last_digit(offset / 16 / 16),
-        last_digit(offset / 16),
+        last_digit(offset / 16 / 16 / 16 / 16 / 16), last_digit(offset / 16 / 16 / 16 / 16),
+        last_digit(offset / 16 / 16 / 16), last_digit(offset / 16 / 16), last_digit(offset / 16),
         last_digit(offset),
-        b':',
-        b' ',
-        b'0',
-        b'x',
+        b':', b' ', b'0', b'x',
         last_digit(word / 16 / 16 / 16 / 16 / 16 / 16 / 16),
-        last_digit(word / 16 / 16 / 16 / 16 / 16 / 16),
-        last_digit(word / 16 / 16 / 16 / 16 / 16),
-        last_digit(word / 16 / 16 / 16 / 16),
-        last_digit(word / 16 / 16 / 16),
-        last_digit(word / 16 / 16),
-        last_digit(word / 16),
-        last_digit(word),
+        last_digit(word / 16 / 16 / 16 / 16 / 16 / 16), last_digit(word / 16 / 16 / 16 / 16 / 16),
+        last_digit(word / 16 / 16 / 16 / 16), last_digit(word / 16 / 16 / 16),
+        last_digit(word / 16 / 16), last_digit(word / 16), last_digit(word),
         b'\n',
     ]
 }
 
+#[rattlefmt::skip]
 fn near_word_64(offset: u64, word: u64) -> [u8; 35]
-    ensures { result ≡ codes "    0x" ++ (fixed_hex 8 offset ++ (codes ": 0x" ++ (fixed_hex 16 word ++ codes "\n"))) }
+    ensures { result ≡ codes "    0x" ++ (fixed_hex 8 offset
+        ++ (codes ": 0x" ++ (fixed_hex 16 word ++ codes "\n"))) }
 {
     [
-        b' ',
-        b' ',
-        b' ',
-        b' ',
-        b'0',
-        b'x',
+        b' ', b' ', b' ', b' ', b'0', b'x',
         last_digit(offset / 16 / 16 / 16 / 16 / 16 / 16 / 16),
         last_digit(offset / 16 / 16 / 16 / 16 / 16 / 16),
-        last_digit(offset / 16 / 16 / 16 / 16 / 16),
-        last_digit(offset / 16 / 16 / 16 / 16),
-        last_digit(offset / 16 / 16 / 16),
-        last_digit(offset / 16 / 16),
-        last_digit(offset / 16),
+        last_digit(offset / 16 / 16 / 16 / 16 / 16), last_digit(offset / 16 / 16 / 16 / 16),
+        last_digit(offset / 16 / 16 / 16), last_digit(offset / 16 / 16), last_digit(offset / 16),
         last_digit(offset),
-        b':',
-        b' ',
-        b'0',
-        b'x',
+        b':', b' ', b'0', b'x',
         last_digit(word / 16 / 16 / 16 / 16 / 16 / 16 / 16 / 16 / 16 / 16 / 16 / 16 / 16 / 16 / 16),
         last_digit(word / 16 / 16 / 16 / 16 / 16 / 16 / 16 / 16 / 16 / 16 / 16 / 16 / 16 / 16),
         last_digit(word / 16 / 16 / 16 / 16 / 16 / 16 / 16 / 16 / 16 / 16 / 16 / 16 / 16),
@@ -183,13 +133,9 @@ fn near_word_64(offset: u64, word: u64) -> [u8; 35]
         last_digit(word / 16 / 16 / 16 / 16 / 16 / 16 / 16 / 16 / 16),
         last_digit(word / 16 / 16 / 16 / 16 / 16 / 16 / 16 / 16),
         last_digit(word / 16 / 16 / 16 / 16 / 16 / 16 / 16),
-        last_digit(word / 16 / 16 / 16 / 16 / 16 / 16),
-        last_digit(word / 16 / 16 / 16 / 16 / 16),
-        last_digit(word / 16 / 16 / 16 / 16),
-        last_digit(word / 16 / 16 / 16),
-        last_digit(word / 16 / 16),
-        last_digit(word / 16),
-        last_digit(word),
+        last_digit(word / 16 / 16 / 16 / 16 / 16 / 16), last_digit(word / 16 / 16 / 16 / 16 / 16),
+        last_digit(word / 16 / 16 / 16 / 16), last_digit(word / 16 / 16 / 16),
+        last_digit(word / 16 / 16), last_digit(word / 16), last_digit(word),
         b'\n',
     ]
 }

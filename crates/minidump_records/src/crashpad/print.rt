@@ -321,7 +321,8 @@ struct ObjectLine<'a> {
 impl<'a> Pushed for ObjectLine<'a> {
     ghost use Rattle.std.specs.Prelude.{string_bytes};
 
-    ghost text = { λ l. object_line l.index (string_bytes l.name.now, annotation_of l.annotation.now) };
+    ghost text = { λ l. object_line l.index
+        (string_bytes l.name.now, annotation_of l.annotation.now) };
 
     #[rattlefmt::skip]
     #[tactic(auto, unfolding(crate::specs::Crashpad::Text::object_line))]

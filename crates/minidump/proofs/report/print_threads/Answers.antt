@@ -2,11 +2,7 @@
 use Rattle.std.proofs.Common.{ap, ◌∙◌}
 use Rattle.std.specs.Option.{option_map}
 use Rattle.minidump_system.specs.SystemInfo.{system_info_of}
-use Rattle.std.specs.Prelude.{false}
-use Rattle.minidump.specs.Dump.{dump_system}
 use Rattle.minidump.specs.DumpValue.{dump_of}
-use Rattle.minidump.specs.Memory.{memories_of_dump}
-use Rattle.minidump.specs.ThreadText.{thread_list_text}
 use Rattle.minidump.proofs.ReportLemmas.{prints_nothing, prints_threads}
 use Rattle.minidump.proofs.report.print_threads.Goals as goal
 
@@ -17,7 +13,3 @@ returns-in-Ok-get_memory g c =
 
 pub returns-in-Err-get_memory : goal.returns-in-Err-get_memory
 returns-in-Err-get_memory g c = rw c.no_memory.ensures (prints_nothing g.W.Write.contents c.args.f.now _)
-
-pub returns-in-Err : goal.returns-in-Err
-returns-in-Err g c =
-    let d = dump_of c.args.dump.now in c.print_unread.ensures (thread_list_text (memories_of_dump d) (dump_system d) false)
