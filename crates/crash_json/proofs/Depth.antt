@@ -14,10 +14,11 @@ use Rattle.directory_json.specs.Directory.{Stream, stream_json}
 use Rattle.directory_json.proofs.Depth.{stream_depth}
 use Rattle.json_tree.proofs.Depth.{array_within, flat_count, flat_hex, flat_text, or_null_within}
 use Rattle.streams_json.specs.Memory.{region_json}
-use Rattle.streams_json.specs.Modules.{module_json, unloaded_json}
+use Rattle.modules_json.specs.Modules.{module_json, unloaded_json}
 use Rattle.streams_json.specs.Records.{handle_json, lsb_json, mac_crash_json}
 use Rattle.streams_json.specs.System.{system_json}
-use Rattle.streams_json.proofs.Depth.{handle_depth, lsb_depth, mac_crash_depth, module_depth, region_depth, system_depth, unloaded_depth}
+use Rattle.modules_json.proofs.Depth.{module_depth, unloaded_depth}
+use Rattle.streams_json.proofs.Depth.{handle_depth, lsb_depth, mac_crash_depth, region_depth, system_depth}
 use Rattle.threads_json.specs.Threads.{thread_json}
 use Rattle.threads_json.proofs.Depth.{crashing_depth, thread_depth}
 use Rattle.crash_json.specs.Crash.{crash_json, crash_object}

@@ -30,7 +30,7 @@ use Rattle.crash_summary.specs.Summary.{threads_in}
 use Rattle.directory_json.specs.Directory.{Stream, stream_json, streams_in}
 use Rattle.json_tree.specs.Tree.{array_of, count, object_of, or_null}
 use Rattle.streams_json.specs.Memory.{region_json}
-use Rattle.streams_json.specs.Modules.{module_json, unloaded_json}
+use Rattle.modules_json.specs.Modules.{module_json, unloaded_json}
 use Rattle.streams_json.specs.Records.{handle_json, lsb_json, mac_crash_json}
 use Rattle.streams_json.specs.System.{system_json}
 use Rattle.threads_json.specs.Last.{last_of_id}

@@ -8,10 +8,9 @@ ghost use Rattle.crash_json.specs.Crash.{crash_object};
 
 use crash_summary::{address_of, reason_of};
 use json::Writer;
-use json_tree::{Scalar, ToJson, put_object};
+use json_tree::{Scalar, ToJson, as_text, put_object};
 use minidump::{CodeNames, Error, MinidumpAssertion, MinidumpException, MinidumpSystemInfo};
 use std::alloc::Global;
-use streams_json::as_text;
 
 /// Where and why a process crashed.
 #[derive(Clone, Copy)]

@@ -3,16 +3,13 @@ ghost use Rattle.std.specs.Option.{option_and_then, option_copied, option_map};
 ghost use Rattle.json.specs.Json.{string};
 ghost use Rattle.minidump.specs.Below.MemoryLists.Unified.{unified_list, unified_region};
 ghost use Rattle.minidump.specs.Below.MemoryLists.Unified.{unified_regions};
-ghost use Rattle.minidump.specs.Below.Modules.UnloadedModuleList.{unloaded_module_list_of};
 ghost use Rattle.minidump.specs.Below.System.MiscInfo.{process_id};
 ghost use Rattle.minidump.specs.Promise.{handle_data_stream, linux_lsb_release_stream};
 ghost use Rattle.minidump.specs.Promise.{mac_bootargs_stream, mac_crash_info_stream};
 ghost use Rattle.minidump.specs.Promise.{module_list_stream, soft_errors_stream};
 ghost use Rattle.json_tree.specs.Tree.{Adds, Puts, array_of, count, object_of, or_null};
 ghost use Rattle.crash_summary.specs.Summary.{crash_context};
-ghost use Rattle.streams_json.specs.Modules.{module_json, unloaded_json};
 ghost use Rattle.streams_json.specs.Records.{handle_json, lsb_json, mac_crash_json};
-ghost use Rattle.streams_json.specs.System.{system_json};
 ghost use Rattle.threads_json.specs.Threads.{scope_of, thread_json};
 ghost use Rattle.threads_json.specs.ThreadWalk.{walk_of};
 ghost use Rattle.directory_json.specs.Entries.{stream_of};
@@ -27,16 +24,13 @@ use crate::crash::CrashInfo;
 use crash_summary::crash_context;
 use directory_json::{EachEntry, Entry};
 use json::Writer;
-use json_tree::{Scalar, ToJson, put_fields, put_list, put_member};
+use json_tree::{Scalar, ToJson, as_text, put_fields, put_list, put_member, put_optional};
 use minidump::{
-    CodeNames, Error, MinidumpContext, MinidumpModuleList, MinidumpUnloadedModuleList,
-    UnifiedMemory, UnifiedMemoryList,
+    CodeNames, Error, MinidumpContext, MinidumpModuleList, UnifiedMemory, UnifiedMemoryList,
 };
+use modules_json::{EachModule, EachUnloadedModule};
 use std::alloc::{AllocError, Global};
-use streams_json::{
-    EachHandle, EachModule, EachRegion, EachUnloadedModule, LsbReleaseJson, MacCrashJson,
-    SystemJson, as_text,
-};
+use streams_json::{EachHandle, EachRegion, LsbReleaseJson, MacCrashJson, SystemJson};
 use threads_json::{EachThread, WalkedThread, last_of_id, put_crashing_thread};
 
 /// The report on a dump.
@@ -92,20 +86,15 @@ fn put_crash(out: &mut Writer, alloc: Global, report: &Report<'_, '_, '_, '_>) -
             ("status", Scalar::Text(Some("OK"))),
         ],
     )?;
-    put_system(out, alloc, report)?;
+    put_optional(
+        out,
+        alloc,
+        "system_info",
+        &report.contents.system,
+        &SystemJson,
+    )?;
     put_member(out, alloc, "crash_info", &crash_of(report))?;
     Ok(())
-}
-
-// Adds the system information.
-fn put_system(out: &mut Writer, alloc: Global, report: &Report<'_, '_, '_, '_>) -> Result<(), Error>
-    ensures { Adds result out.old out.new
-        ((codes "system_info", or_null system_json (parts_of report.now).system) ∷ []) }
-{
-    match &report.contents.system {
-        Some(system) => put_member(out, alloc, "system_info", &SystemJson(system)),
-        None => put_fields(out, alloc, &[("system_info", Scalar::Null)]),
-    }
 }
 
 // Returns where and why the process crashed.
@@ -151,26 +140,27 @@ fn put_modules(
 ) -> Result<(), Error>
     ensures { Adds result out.old out.new (module_members (parts_of report.now)) }
 {
-    put_main_module(out, alloc, &report.contents.modules)?;
-    put_loaded(out, alloc, &report.contents.modules)?;
-    put_unloaded(out, alloc, &report.contents.extras.unloaded)?;
-    Ok(())
-}
-
-fn put_main_module(
-    out: &mut Writer,
-    alloc: Global,
-    modules: &MinidumpModuleList,
-) -> Result<(), Error>
-    ensures { Adds result out.old out.new
-        ((codes "main_module", or_null count (main_module (module_list_stream.value modules.now)))
-        ∷ []) }
-{
+    let modules = &report.contents.modules;
     put_fields(
         out,
         alloc,
         &[("main_module", Scalar::Number(main_module(modules)))],
-    )
+    )?;
+    put_list(
+        out,
+        alloc,
+        "modules",
+        modules.iter().as_slice(),
+        &EachModule,
+    )?;
+    put_list(
+        out,
+        alloc,
+        "unloaded_modules",
+        report.contents.extras.unloaded.iter().as_slice(),
+        &EachUnloadedModule,
+    )?;
+    Ok(())
 }
 
 // Returns the index of the main module, which is the first.
@@ -181,37 +171,6 @@ fn main_module(modules: &MinidumpModuleList) -> Option<u64>
         Some(_) => Some(0),
         None => None,
     }
-}
-
-fn put_loaded(out: &mut Writer, alloc: Global, modules: &MinidumpModuleList) -> Result<(), Error>
-    ensures { Adds result out.old out.new
-        ((codes "modules", array_of module_json (module_list_stream.value modules.now)) ∷ []) }
-{
-    put_list(
-        out,
-        alloc,
-        "modules",
-        modules.iter().as_slice(),
-        &EachModule,
-    )
-}
-
-fn put_unloaded(
-    out: &mut Writer,
-    alloc: Global,
-    modules: &MinidumpUnloadedModuleList,
-) -> Result<(), Error>
-    ensures { Adds result out.old out.new
-        ((codes "unloaded_modules", array_of unloaded_json (unloaded_module_list_of modules.now))
-        ∷ []) }
-{
-    put_list(
-        out,
-        alloc,
-        "unloaded_modules",
-        modules.iter().as_slice(),
-        &EachUnloadedModule,
-    )
 }
 
 // Adds the process and its threads.
@@ -309,10 +268,12 @@ fn put_crashed(
     index: usize,
     thread: &WalkedThread<'_, '_>,
 ) -> Result<(), Error>
-    ensures { Adds result out.old out.new ((
-      codes "crashing_thread",
-      crashing_json_of report.now.names.now report.now.frames (parts_of report.now) (index, walk_of thread.now),
-    ) ∷ []) }
+    ensures { Adds result out.old out.new
+        ((
+          codes "crashing_thread",
+          crashing_json_of report.now.names.now report.now.frames
+              (parts_of report.now) (index, walk_of thread.now),
+        ) ∷ []) }
 {
     out.key("crashing_thread")?;
     put_crashed_value(out, alloc, report, index, thread)?;
@@ -366,62 +327,51 @@ fn put_records(
 ) -> Result<(), Error>
     ensures { Adds result out.old out.new (record_members (parts_of report.now)) }
 {
-    put_release(out, alloc, &report.contents.extras.records)?;
-    put_mac(out, alloc, &report.contents.extras.records)?;
+    put_systems(out, alloc, &report.contents.extras.records)?;
     put_handles(out, alloc, &report.contents.extras.records)?;
     put_last(out, alloc, report)?;
     Ok(())
 }
 
-fn put_release(out: &mut Writer, alloc: Global, records: &Records<'_>) -> Result<(), Error>
+// Adds the release of Linux, and the crash information and the boot arguments of macOS.
+fn put_systems(out: &mut Writer, alloc: Global, records: &Records<'_>) -> Result<(), Error>
     ensures { Adds result out.old out.new
         ((
           codes "lsb_release",
           or_null lsb_json
               (option_map linux_lsb_release_stream.value records.now.lsb_release),
-        ) ∷ []) }
-{
-    match &records.lsb_release {
-        Some(release) => put_member(out, alloc, "lsb_release", &LsbReleaseJson(release)),
-        None => put_fields(out, alloc, &[("lsb_release", Scalar::Null)]),
-    }
-}
-
-fn put_mac(out: &mut Writer, alloc: Global, records: &Records<'_>) -> Result<(), Error>
-    ensures { Adds result out.old out.new
-        ((
+        )
+        ∷ (
           codes "mac_crash_info",
           or_null mac_crash_json
               (option_map mac_crash_info_stream.value records.now.mac_crash_info),
         )
         ∷ (
           codes "mac_boot_args",
-          or_null string
-              (option_and_then (λ b. b.text) (option_map mac_bootargs_stream.value
-              records.now.mac_boot_args)),
+          or_null string (option_and_then (λ b. b.text)
+              (option_map mac_bootargs_stream.value records.now.mac_boot_args)),
         ) ∷ []) }
 {
-    put_mac_crash(out, alloc, records)?;
+    put_optional(
+        out,
+        alloc,
+        "lsb_release",
+        &records.lsb_release,
+        &LsbReleaseJson,
+    )?;
+    put_optional(
+        out,
+        alloc,
+        "mac_crash_info",
+        &records.mac_crash_info,
+        &MacCrashJson,
+    )?;
     put_fields(
         out,
         alloc,
         &[("mac_boot_args", Scalar::Text(boot_args(records)))],
     )?;
     Ok(())
-}
-
-fn put_mac_crash(out: &mut Writer, alloc: Global, records: &Records<'_>) -> Result<(), Error>
-    ensures { Adds result out.old out.new
-        ((
-          codes "mac_crash_info",
-          or_null mac_crash_json
-              (option_map mac_crash_info_stream.value records.now.mac_crash_info),
-        ) ∷ []) }
-{
-    match &records.mac_crash_info {
-        Some(info) => put_member(out, alloc, "mac_crash_info", &MacCrashJson(info)),
-        None => put_fields(out, alloc, &[("mac_crash_info", Scalar::Null)]),
-    }
 }
 
 // Returns the arguments of macOS's boot.

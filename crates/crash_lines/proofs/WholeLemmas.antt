@@ -1,6 +1,6 @@
 -- The lines of a dump, as a whole.
 use Rattle.std.proofs.Common.{◌≡◌, ◌⊎◌, ℕ, List, ◌++◌, Result, Ok, Err, inl, inr, ap, refl, subst, sym, ◌∙◌}
-use Rattle.std.specs.Prelude.{IfErr, IsErrAnd}
+use Rattle.std.specs.Prelude.{IfErr, IsErrAnd, OnOk}
 use Rattle.minidump.specs.declared.Error.{Error}
 use Rattle.minidump.specs.declared.Error.TheVariants.{FileNotFound, IoError, MissingHeader, HeaderMismatch, VersionMismatch, MissingDirectory}
 use Rattle.minidump.specs.declared.Error.TheVariants.{StreamReadFailure, StreamSizeMismatch, StreamNotFound, ModuleReadFailure, MemoryReadFailure}
@@ -9,7 +9,7 @@ use Rattle.minidump.specs.Below.Format.Answer.{GivesError}
 use Rattle.minidump.specs.Below.Reasons.Names.{Lists}
 use Rattle.minidump.specs.Dump.{Dump, dump_in}
 use Rattle.crash_page.specs.declared.page.Page.{Page}
-use Rattle.crash_page.specs.Page.{Grows, marks_of}
+use Rattle.crash_page.specs.Page.{Adds, Grows, marks_of}
 use Rattle.crash_page.proofs.Adding.{grows_last, grows_then}
 use Rattle.crash_lines.specs.declared.limits.Limits.{Limits}
 use Rattle.crash_lines.specs.Contents.{ContentsValue, contents_in, infos_in, memory_in, process_in}
@@ -51,6 +51,13 @@ adds_whole {a = a} {b = b} {c = c} names limits d v contents before last =
     subst (λ (m : List ℕ). Grows b c (last_part (contents_in d) d m)) first.marks rest
     in
     record { walks = walks.0; are_walks = walks.1; lines = grows_then _ first (grows_last marked) }
+
+-- the same by the result of the last call
+pub whole_if_done : {T : Type 0} (a b c : Page) (names : Lists) (limits : Limits) (d : Dump) (v : ContentsValue) (r : Result T Error) → v ≡ contents_in d
+    → ((w : Walks) → AreWalksIn (process_in (contents_in d)) w → Grows a b (before_modules names limits w (contents_in d) d))
+    → Adds b c (last_part v d (marks_of b)) r → OnOk r (AddsDump names limits d a c)
+whole_if_done a b c names limits d v (Ok x) contents before last = adds_whole names limits d v contents before last
+whole_if_done a b c names limits d v (Err e) contents before last = tt
 
 -- an error is the assigned one, or memory ran out
 pub error_as : {V : Type 0} (memory : Type 0) (e : Error) (assigned : Result V Error) → GivesError memory e assigned

@@ -28,9 +28,9 @@ pub record ContentsValue : Type 0 where
 -- those of a `Contents`, as its fields have them
 abbrev pub contents_of : Contents → ContentsValue
 contents_of c = record {
-  streams = values_of c.streams;
-  memory = unified_list c.space.memory;
-  infos = info_list c.space.infos;
+  streams = values_of c.streams.now;
+  memory = unified_list c.space.now.memory;
+  infos = info_list c.space.now.infos;
 }
 
 -- the memory by the memory list: none where it can't be read

@@ -7,23 +7,24 @@ use crate::space::Space;
 use crate::streams::Streams;
 use stack_walk::Process;
 
-/// What is read of a dump.
-#[derive(Drop)]
-pub(crate) struct Contents<'a> {
-    pub(crate) streams: Streams<'a>,
-    pub(crate) space: Space<'a>,
+/// What was read of a dump, as its lines borrow it.
+#[derive(Clone, Copy)]
+pub(crate) struct Contents<'l, 'a> {
+    pub(crate) streams: &'l Streams<'a>,
+    pub(crate) space: &'l Space<'a>,
 }
 
 // Returns the process, or `None` without system information.
-pub(crate) fn process_of<'l, 'a>(contents: &'l Contents<'a>) -> Option<Process<'l, 'a>>
+pub(crate) fn process_of<'l, 'a>(contents: &Contents<'l, 'a>) -> Option<Process<'l, 'a>>
     ensures { option_map process_of result ≡ process_in (contents_of contents.now) }
 {
-    let streams = &contents.streams;
+    let streams = contents.streams;
+    let space = contents.space;
     let system = streams.system.as_ref().ok()?;
     let exception = streams.exception.as_ref().ok();
     let modules = &streams.modules;
-    let memory = &contents.space.memory;
-    let infos = &contents.space.infos;
+    let memory = &space.memory;
+    let infos = &space.infos;
     Some(Process {
         system,
         exception,

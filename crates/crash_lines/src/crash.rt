@@ -175,8 +175,7 @@ fn add_address_line(
         (module_words address [] (option_map module_of (option_copied found.entry))))) result }
 {
     let words = module_words(page.alloc(), address, "", found)?;
-    add_row(page, address, words.as_str())?;
-    Ok(())
+    add_row(page, address, words.as_str())
 }
 
 // Adds the line of the address, with these words for its module.

@@ -1,12 +1,12 @@
-ghost use Rattle.std.specs.Prelude.{◌≡◌, IfErr, IfOk, IsOkUnless, Ok, OnOk};
+ghost use Rattle.std.specs.Prelude.{◌≡◌, IfErr, IsOkUnless, Ok, OnOk};
 ghost use Rattle.minidump.specs.Dump.{dump_in};
 ghost use Rattle.minidump.specs.DumpValue.{dump_of};
 ghost use Rattle.crash_page.specs.Page.{Adds, marks_of};
-ghost use Rattle.crash_lines.specs.Contents.{contents_in, contents_of, process_in};
-ghost use Rattle.crash_lines.specs.Streams.{values_of};
+ghost use Rattle.crash_lines.specs.Contents.{contents_of, process_in};
+ghost use Rattle.crash_lines.specs.Streams.{streams_in, values_of};
 ghost use Rattle.crash_lines.specs.Walks.{AreWalksIn, Walks};
-ghost use Rattle.crash_lines.specs.Whole.{AddsDump, AddsFile, IsAddError, before_modules};
-ghost use Rattle.crash_lines.specs.Whole.{head_part, last_part, threads_part};
+ghost use Rattle.crash_lines.specs.Whole.{AddsDump, AddsFile, IsAddError, head_part, last_part};
+ghost use Rattle.crash_lines.specs.Whole.{threads_part};
 
 use crate::Limits;
 use crate::contents::Contents;
@@ -53,32 +53,32 @@ fn add_lines(
         page.new) }
     ensures memory { IsOkUnless result Error.OutOfMemory }
 {
-    let contents = add_contents(page, dump, bytes, names, limits)?;
-    add_last(page, dump, bytes, &contents)?;
-    Ok(())
+    let streams = streams_of(page.alloc(), dump)?;
+    add_lines_by(page, dump, bytes, &streams, names, limits)
 }
 
-// Adds all lines but those of the modules, and returns what was read.
-fn add_contents<'a>(
+// Adds the same by the streams of the dump.
+fn add_lines_by<'a>(
     page: &mut Page,
     dump: &Minidump<'a>,
     bytes: &[u8],
+    streams: &Streams<'a>,
     names: &CodeNames<'_>,
     limits: &Limits,
-) -> Result<Contents<'a>, Error>
+) -> Result<(), Error>
     requires { dump_in bytes.now ≡ Ok (dump_of dump.now) }
-    ensures contents { IfOk result (λ c. contents_of c ≡ contents_in (dump_of dump.now)) }
-    ensures lines { (w : Walks) → AreWalksIn (process_in (contents_in (dump_of dump.now))) w
-        → Adds page.old page.new (before_modules names.now limits.now w
-        (contents_in (dump_of dump.now)) (dump_of dump.now)) result }
+    ensures lines { values_of streams.now ≡ streams_in (dump_of dump.now) → OnOk result
+        (AddsDump names.now limits.now (dump_of dump.now) page.old page.new) }
     ensures memory { IsOkUnless result Error.OutOfMemory }
 {
-    let streams = streams_of(page.alloc(), dump)?;
-    add_head(page, dump, bytes, &streams, names)?;
+    add_head(page, dump, bytes, streams, names)?;
     let space = space_of(page, dump)?;
-    let contents = Contents { streams, space };
+    let contents = Contents {
+        streams,
+        space: &space,
+    };
     add_threads(page, &contents, limits)?;
-    Ok(contents)
+    add_last(page, dump, bytes, &contents)
 }
 
 // Adds the lines of the system, the process and the crash.
@@ -104,13 +104,13 @@ fn add_head(
 }
 
 // Adds the lines of the threads, and of what the process itself said of the crash.
-fn add_threads(page: &mut Page, contents: &Contents<'_>, limits: &Limits) -> Result<(), Error>
+fn add_threads(page: &mut Page, contents: &Contents<'_, '_>, limits: &Limits) -> Result<(), Error>
     ensures lines { (w : Walks) → AreWalksIn (process_in (contents_of contents.now)) w
         → Adds page.old page.new (threads_part limits.now w (contents_of contents.now)) result }
     ensures memory { IsOkUnless result Error.OutOfMemory }
 {
     add_crashed_stacks(page, contents, limits)?;
-    add_messages(page, &contents.streams)?;
+    add_messages(page, contents.streams)?;
     add_other_stacks(page, contents, limits)?;
     Ok(())
 }
@@ -120,14 +120,14 @@ fn add_last(
     page: &mut Page,
     dump: &Minidump<'_>,
     bytes: &[u8],
-    contents: &Contents<'_>,
+    contents: &Contents<'_, '_>,
 ) -> Result<(), Error>
     requires { dump_in bytes.now ≡ Ok (dump_of dump.now) }
     ensures lines { Adds page.old page.new
         (last_part (contents_of contents.now) (dump_of dump.now) (marks_of page.old)) result }
     ensures memory { IsOkUnless result Error.OutOfMemory }
 {
-    add_modules(page, &contents.streams)?;
+    add_modules(page, contents.streams)?;
     add_outside(page, dump, bytes)?;
     Ok(())
 }

@@ -132,8 +132,7 @@ fn add_frame_line(
         (option_map module_of (option_copied found.entry))))) result }
 {
     let words = module_words(page.alloc(), address, " in no module", found)?;
-    add_row(page, number, frame, words.as_str())?;
-    Ok(())
+    add_row(page, number, frame, words.as_str())
 }
 
 // Adds the line of a frame: its number, its address, the words for its module, and how it was

@@ -2,12 +2,13 @@ ghost use Rattle.std.specs.Prelude.{◌≡◌, [], ◌∷◌, Err, IfOk, IsOkUnl
 ghost use Rattle.minidump.specs.Below.Contexts.Context.{map_ok};
 ghost use Rattle.minidump.specs.Below.MemoryLists.Unified.{unified_list};
 ghost use Rattle.minidump.specs.Below.MemoryLists.UnifiedInfo.{info_list};
+ghost use Rattle.minidump.specs.Below.Format.Answer.{Gives};
 ghost use Rattle.minidump.specs.Dump.{stream_of};
 ghost use Rattle.minidump.specs.DumpValue.{dump_of};
 ghost use Rattle.minidump.specs.Promise.{linux_maps_stream, memory64_list_stream};
 ghost use Rattle.minidump.specs.Promise.{memory_info_list_stream, memory_list_stream};
 ghost use Rattle.crash_page.specs.Page.{Adds};
-ghost use Rattle.crash_page.specs.Part.{parts};
+ghost use Rattle.crash_page.specs.Part.{parts, stream_unless_missing};
 ghost use Rattle.crash_lines.specs.Contents.{first_infos, infos_in, infos_part, memory_in};
 ghost use Rattle.crash_lines.specs.Contents.{memory_part, plain_memory};
 
@@ -15,7 +16,7 @@ use crate::streams::find;
 use crash_page::Page;
 use minidump::{
     Error, Minidump, MinidumpLinuxMaps, MinidumpMemory64List, MinidumpMemoryInfoList,
-    MinidumpMemoryList, UnifiedMemoryInfoList, UnifiedMemoryList,
+    MinidumpMemoryList, MinidumpStream, UnifiedMemoryInfoList, UnifiedMemoryList,
 };
 use std::alloc::Global;
 
@@ -64,9 +65,25 @@ fn plain_memory_of<'a>(
     ensures error { IsOkUnless result Error.OutOfMemory }
 {
     page.unless_missing("64-bit memory", error)?;
-    let plain = find::<MinidumpMemoryList<'a>>(page.alloc(), dump)?;
-    page.stream_unless_missing("memory", &plain)?;
+    let plain = find_or_say::<MinidumpMemoryList<'a>>(page, dump, "memory")?;
     Ok(or_empty(page.alloc(), plain))
+}
+
+// Reads a stream as [`find`] does, and adds a line if it can't be read.
+fn find_or_say<'a, S: MinidumpStream<'a> + Drop>(
+    page: &mut Page,
+    dump: &Minidump<'a>,
+    name: &str,
+) -> Result<Result<S, Error>, Error>
+    ensures lines { Adds page.old page.new
+        (stream_unless_missing name.now (stream_of S.spec (dump_of dump.now))) result }
+    ensures found { IfOk result
+        (λ found. Gives S.spec.value ⊥ found (stream_of S.spec (dump_of dump.now))) }
+    ensures memory { IsOkUnless result Error.OutOfMemory }
+{
+    let found = find(page.alloc(), dump)?;
+    page.stream_unless_missing(name, &found)?;
+    Ok(found)
 }
 
 // Returns the list that could be read, or an empty one.
@@ -88,10 +105,8 @@ fn infos_of<'a>(page: &mut Page, dump: &Minidump<'a>) -> Result<UnifiedMemoryInf
     ensures value { IfOk result (λ l. info_list l ≡ infos_in (dump_of dump.now)) }
     ensures error { IsOkUnless result Error.OutOfMemory }
 {
-    let infos = find::<MinidumpMemoryInfoList<'a>>(page.alloc(), dump)?;
-    page.stream_unless_missing("memory information", &infos)?;
-    let maps = find::<MinidumpLinuxMaps<'a>>(page.alloc(), dump)?;
-    page.stream_unless_missing("maps", &maps)?;
+    let infos = find_or_say::<MinidumpMemoryInfoList<'a>>(page, dump, "memory information")?;
+    let maps = find_or_say::<MinidumpLinuxMaps<'a>>(page, dump, "maps")?;
     Ok(first_infos(page.alloc(), infos, maps))
 }
 

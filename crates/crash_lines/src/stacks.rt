@@ -16,7 +16,7 @@ ghost use Rattle.crash_lines.specs.Stacks.{has_stack_outside, is_chosen, is_cras
 ghost use Rattle.crash_lines.specs.Stacks.{thread_list_part, missing_part, no_context_part};
 ghost use Rattle.crash_lines.specs.Stacks.{no_stack_part, no_system_part, others_part};
 ghost use Rattle.crash_lines.specs.Stacks.{exception_frames_part, exception_stack_part, exception_thread_part};
-ghost use Rattle.crash_lines.specs.Stacks.{stack_part, thread_line, thread_part, extra_thread_part};
+ghost use Rattle.crash_lines.specs.Stacks.{stack_part, thread_line, extra_thread_part};
 ghost use Rattle.crash_lines.specs.Stacks.{thread_frames_part};
 ghost use Rattle.crash_lines.specs.Walks.{AreExceptionFrames, AreWalks, AreWalksIn, HasExceptionFrames, Walks};
 
@@ -36,7 +36,7 @@ use std::alloc::{AllocError, Global};
 // list lacks such a thread.
 pub(crate) fn add_crashed_stacks(
     page: &mut Page,
-    contents: &Contents<'_>,
+    contents: &Contents<'_, '_>,
     limits: &Limits,
 ) -> Result<(), Error>
     ensures lines { (w : Walks) → AreWalksIn (process_in (contents_of contents.now)) w
@@ -53,7 +53,7 @@ pub(crate) fn add_crashed_stacks(
 // Adds the other threads with their frames.
 pub(crate) fn add_other_stacks(
     page: &mut Page,
-    contents: &Contents<'_>,
+    contents: &Contents<'_, '_>,
     limits: &Limits,
 ) -> Result<(), Error>
     ensures lines { (w : Walks) → AreWalksIn (process_in (contents_of contents.now)) w
@@ -67,7 +67,7 @@ pub(crate) fn add_other_stacks(
 // Adds the threads on which the exception happened, or the others.
 fn add_threads(
     page: &mut Page,
-    contents: &Contents<'_>,
+    contents: &Contents<'_, '_>,
     crashed: bool,
     limits: &Limits,
 ) -> Result<(), Error>
@@ -85,7 +85,7 @@ fn add_threads(
 // Adds those of the threads on which the exception happened, or the others.
 fn add_chosen_threads<'a>(
     page: &mut Page,
-    contents: &Contents<'a>,
+    contents: &Contents<'_, 'a>,
     crashed: bool,
     threads: &[MinidumpThread<'a>],
     limits: &Limits,
@@ -104,7 +104,7 @@ fn add_chosen_threads<'a>(
 // Adds a thread with its frames, if it is chosen.
 fn add_thread<'a>(
     page: &mut Page,
-    contents: &Contents<'a>,
+    contents: &Contents<'_, 'a>,
     crashed: bool,
     thread: &MinidumpThread<'a>,
     limits: &Limits,
@@ -115,31 +115,16 @@ fn add_thread<'a>(
     ensures memory { IsOkUnless result Error.OutOfMemory }
 {
     if is_chosen(contents, crashed, thread) {
-        add_chosen_thread(page, contents, thread, limits)
+        add_thread_line(page, contents, thread.raw.thread_id, "")?;
+        add_stack(page, contents, thread, limits)?;
+        Ok(())
     } else {
         Ok(())
     }
 }
 
-// Adds a thread with its frames.
-fn add_chosen_thread<'a>(
-    page: &mut Page,
-    contents: &Contents<'a>,
-    thread: &MinidumpThread<'a>,
-    limits: &Limits,
-) -> Result<(), Error>
-    ensures lines { (w : Walks) → AreWalksIn (process_in (contents_of contents.now)) w
-        → Adds page.old page.new
-        (thread_part limits.now w (contents_of contents.now) (thread_of thread.now)) result }
-    ensures memory { IsOkUnless result Error.OutOfMemory }
-{
-    add_thread_line(page, contents, thread.raw.thread_id, "")?;
-    add_stack(page, contents, thread, limits)?;
-    Ok(())
-}
-
 // Tells whether a thread is chosen: one on which the exception happened, or one of the others.
-fn is_chosen(contents: &Contents<'_>, crashed: bool, thread: &MinidumpThread<'_>) -> bool
+fn is_chosen(contents: &Contents<'_, '_>, crashed: bool, thread: &MinidumpThread<'_>) -> bool
     ensures { result ≡ is_chosen crashed (is_crashed (contents_of contents.now)
         (thread_of thread.now)) }
 {
@@ -148,7 +133,7 @@ fn is_chosen(contents: &Contents<'_>, crashed: bool, thread: &MinidumpThread<'_>
 }
 
 // Tells whether the exception happened on a thread.
-fn is_crashed(contents: &Contents<'_>, thread: &MinidumpThread<'_>) -> bool
+fn is_crashed(contents: &Contents<'_, '_>, thread: &MinidumpThread<'_>) -> bool
     ensures { result ≡ is_crashed (contents_of contents.now) (thread_of thread.now) }
 {
     exception_on(
@@ -160,41 +145,32 @@ fn is_crashed(contents: &Contents<'_>, thread: &MinidumpThread<'_>) -> bool
 
 // Adds the thread of the exception if the list of threads lacks it, with the frames of the
 // exception's context.
-fn add_extra_thread(page: &mut Page, contents: &Contents<'_>, limits: &Limits) -> Result<(), Error>
+fn add_extra_thread(
+    page: &mut Page,
+    contents: &Contents<'_, '_>,
+    limits: &Limits,
+) -> Result<(), Error>
     ensures lines { (w : Walks) → AreWalksIn (process_in (contents_of contents.now)) w
         → Adds page.old page.new (extra_thread_part limits.now w (contents_of contents.now)
         (contents_of contents.now).streams.exception) result }
     ensures memory { IsOkUnless result Error.OutOfMemory }
 {
     match &contents.streams.exception {
-        Ok(exception) => add_unless_in_list(page, contents, exception, limits),
+        Ok(exception) => {
+            if has_thread(contents, exception.thread_id) {
+                Ok(())
+            } else {
+                add_exception_thread(page, contents, exception, limits)
+            }
+        }
         Err(_) => Ok(()),
-    }
-}
-
-// Adds the thread of an exception if the list of threads lacks it.
-fn add_unless_in_list(
-    page: &mut Page,
-    contents: &Contents<'_>,
-    exception: &MinidumpException<'_>,
-    limits: &Limits,
-) -> Result<(), Error>
-    ensures lines { (w : Walks) → AreWalksIn (process_in (contents_of contents.now)) w
-        → Adds page.old page.new (extra_thread_part limits.now w (contents_of contents.now)
-        (Ok (exception_stream.value exception.now))) result }
-    ensures memory { IsOkUnless result Error.OutOfMemory }
-{
-    if has_thread(contents, exception.thread_id) {
-        Ok(())
-    } else {
-        add_exception_thread(page, contents, exception, limits)
     }
 }
 
 // Adds the thread of an exception, with the frames of the exception's context.
 fn add_exception_thread(
     page: &mut Page,
-    contents: &Contents<'_>,
+    contents: &Contents<'_, '_>,
     exception: &MinidumpException<'_>,
     limits: &Limits,
 ) -> Result<(), Error>
@@ -214,7 +190,7 @@ fn add_exception_thread(
 }
 
 // Tells whether a thread of the list has an id.
-fn has_thread(contents: &Contents<'_>, id: u32) -> bool
+fn has_thread(contents: &Contents<'_, '_>, id: u32) -> bool
     ensures { result ≡ has_thread id (contents_of contents.now).streams.threads }
 {
     match &contents.streams.threads {
@@ -226,7 +202,7 @@ fn has_thread(contents: &Contents<'_>, id: u32) -> bool
 // Adds the line of a thread with its name.
 fn add_thread_line<'t>(
     page: &mut Page,
-    contents: &'t Contents<'_>,
+    contents: &'t Contents<'_, '_>,
     id: u32,
     remark: &'t str,
 ) -> Result<(), AllocError>
@@ -252,7 +228,7 @@ fn add_thread_line<'t>(
 // Adds the frames of a thread.
 fn add_stack<'a>(
     page: &mut Page,
-    contents: &Contents<'a>,
+    contents: &Contents<'_, 'a>,
     thread: &MinidumpThread<'a>,
     limits: &Limits,
 ) -> Result<(), Error>
@@ -418,7 +394,7 @@ fn add_no_context(page: &mut Page, bytes: Option<&[u8]>) -> Result<(), AllocErro
 // Adds the frames of the exception's context.
 fn add_exception_stack(
     page: &mut Page,
-    contents: &Contents<'_>,
+    contents: &Contents<'_, '_>,
     exception: &MinidumpException<'_>,
     limits: &Limits,
 ) -> Result<(), Error>

@@ -43,22 +43,19 @@ pub(crate) fn streams_of<'a>(alloc: Global, dump: &Minidump<'a>) -> Result<Strea
     ensures streams { IfOk result (λ s. values_of s ≡ streams_in (dump_of dump.now)) }
     ensures memory { IsOkUnless result Error.OutOfMemory }
 {
-    let system = find(alloc, dump)?;
-    let exception = find(alloc, dump)?;
-    let threads = find(alloc, dump)?;
-    let names = find(alloc, dump)?;
-    let found = find(alloc, dump)?;
-    let (modules, modules_error) = or_none(alloc, found);
-    let misc = find(alloc, dump)?;
+    let crash = find_both(alloc, dump)?;
+    let threads = find_both(alloc, dump)?;
+    let others = find_both(alloc, dump)?;
     let messages = messages_of(alloc, dump)?;
+    let (modules, modules_error) = or_none(alloc, others.0);
     Ok(Streams {
-        system,
-        exception,
-        threads,
-        names,
+        system: crash.0,
+        exception: crash.1,
+        threads: threads.0,
+        names: threads.1,
         modules,
         modules_error,
-        misc,
+        misc: others.1,
         messages,
     })
 }
@@ -73,12 +70,11 @@ fn messages_of(alloc: Global, dump: &Minidump<'_>) -> Result<Messages, Error>
         ≡ stream_of mac_crash_info_stream (dump_of dump.now)) }
     ensures memory { IsOkUnless result Error.OutOfMemory }
 {
-    let assertion = find(alloc, dump)?;
-    let crashpad = find(alloc, dump)?;
+    let both = find_both(alloc, dump)?;
     let mac = find(alloc, dump)?;
     Ok(Messages {
-        assertion,
-        crashpad,
+        assertion: both.0,
+        crashpad: both.1,
         mac,
     })
 }
@@ -100,6 +96,22 @@ fn or_none(
         Ok(modules) => (modules, None),
         Err(error) => (MinidumpModuleList::new(alloc), Some(error)),
     }
+}
+
+// Reads two streams, each as [`find`] does.
+fn find_both<'a, S: MinidumpStream<'a> + Drop, T: MinidumpStream<'a>>(
+    alloc: Global,
+    dump: &Minidump<'a>,
+) -> Result<(Result<S, Error>, Result<T, Error>), Error>
+    ensures first { IfOk result
+        (λ both. Gives S.spec.value ⊥ both.0 (stream_of S.spec (dump_of dump.now))) }
+    ensures second { IfOk result
+        (λ both. Gives T.spec.value ⊥ both.1 (stream_of T.spec (dump_of dump.now))) }
+    ensures memory { IsOkUnless result Error.OutOfMemory }
+{
+    let first = find(alloc, dump)?;
+    let second = find(alloc, dump)?;
+    Ok((first, second))
 }
 
 // Reads a stream, or returns the error for which the dump has none. `OutOfMemory` is no such error.

@@ -5,8 +5,7 @@ use Rattle.std.proofs.lemmas.List.{map-append}
 use Rattle.std.proofs.Math.Seq.{take-suc}
 use Rattle.std.specs.List.{flat_map}
 use Rattle.crash_page.specs.declared.page.Page.{Page}
-use Rattle.crash_page.specs.Escape.{line_of}
-use Rattle.crash_page.specs.Page.{Adds, Grows, has_damage, marks_of, text_of}
+use Rattle.crash_page.specs.Page.{Adds, Grows, has_damage, line_of, marks_of, text_of}
 use Rattle.crash_page.specs.Part.{Part, damage_line, each, line, mark, nothing, parts}
 
 or_assoc : (a b c : Bool) → (a || b) || c ≡ a || (b || c)

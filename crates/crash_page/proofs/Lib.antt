@@ -1,3 +1,3 @@
 -- What several proofs share.
-pub mod EscapeLemmas
+pub mod LineLemmas
 pub mod Adding

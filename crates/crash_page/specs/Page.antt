@@ -1,9 +1,13 @@
 -- A page, and how it grows.
-use Rattle.std.specs.Prelude.{◌≡◌, ℕ, ◌++◌, Bool, List, Result, Ok, Err, string_bytes, ◌||◌, ⊤}
+use Rattle.std.specs.Prelude.{◌≡◌, ℕ, ◌++◌, Bool, List, [], ◌∷◌, Result, Ok, Err, string_bytes, ◌||◌, ⊤}
 use Rattle.std.specs.List.{flat_map}
 use Rattle.crash_page.specs.declared.page.Page.{Page}
-use Rattle.crash_page.specs.Escape.{line_of}
+use Rattle.escapes.specs.Escape.{escaped_text}
 use Rattle.crash_page.specs.Part.{Part}
+
+-- a line: a text as it is printed, and its end
+abbrev pub line_of : List ℕ → List ℕ
+line_of text = escaped_text text ++ 0x0a ∷ []
 
 -- the text of a page
 abbrev pub text_of : Page → List ℕ

@@ -3,8 +3,8 @@
 use Rattle.std.specs.Prelude.{ℕ, ◌++◌, Bool, List, [], ◌∷◌, Option, Some, None, Result, Ok, Err}
 use Rattle.std.specs.Prelude.{codes, false, map, true, ◌||◌, if◌then◌else◌}
 use Rattle.minidump.specs.declared.Error.{Error}
-use Rattle.minidump.specs.declared.Error.TheVariants.{StreamNotFound}
 use Rattle.minidump.specs.Below.Format.Error.{name_of_error}
+use Rattle.missing_streams.specs.Missing.{is_missing}
 
 -- a part of a page: the texts of its lines, whether something that was wanted can't be read, and
 -- the numbers that it marks
@@ -48,11 +48,6 @@ if_some part None = nothing
 if_some part (Some x) = part x
 
 -- ---- what is missing or can't be read
-
--- whether an error is that of a stream that is missing; any other is that of one that can't be read
-abbrev pub is_missing : Error → Bool
-is_missing StreamNotFound = true
-is_missing e = false
 
 -- the line of a stream that is missing, or of one that can't be read, which is damage
 abbrev pub absent : List ℕ → Error → Part

@@ -20,7 +20,6 @@
 //!   `proofs/Adding.antt`.
 #![tactic(auto)]
 
-mod escape;
 mod page;
 
 pub use page::Page;

@@ -1,6 +1,6 @@
 ghost use Rattle.std.specs.Prelude.{◌≡◌, string_bytes, true};
 ghost use Rattle.std.specs.List.{list_all};
-ghost use Rattle.crash_page.specs.Escape.{is_printed};
+ghost use Rattle.escapes.specs.Escape.{is_printed};
 
 mod lines;
 

@@ -1,2 +1,3 @@
--- How deep the values nest.
+-- The errors of streams, and how deep the values nest.
+mod Errors
 pub mod Depth

@@ -18,14 +18,15 @@ ghost use Rattle.minidump.specs.Below.Format.Error.{name_of_error};
 ghost use Rattle.minidump.specs.Below.Format.StreamType.{stream_type_of, type_name};
 ghost use Rattle.minidump.specs.DumpValue.{dump_of};
 ghost use Rattle.json_tree.specs.Tree.{Puts};
-ghost use Rattle.directory_json.specs.Directory.{error_of, error_of_number, raw_error};
-ghost use Rattle.directory_json.specs.Directory.{stream_object, streams_in};
+ghost use Rattle.directory_json.specs.Directory.{error_of, error_of_number, error_of_type};
+ghost use Rattle.directory_json.specs.Directory.{raw_error, stream_object, streams_in};
 ghost use Rattle.directory_json.specs.Entries.{stream_of};
 
 use json::Writer;
 use json_tree::{ItemJson, Scalar, put_object};
 use minidump::format::{MINIDUMP_DIRECTORY, MINIDUMP_LOCATION_DESCRIPTOR, MINIDUMP_STREAM_TYPE};
 use minidump::{Error, Minidump, MinidumpStream, each_stream};
+use read_errors::error_of;
 use std::alloc::Global;
 
 /// A stream of a dump.
@@ -46,7 +47,7 @@ pub fn streams_of(alloc: Global, dump: &Minidump<'_>) -> Result<Vec<Entry>, Erro
 {
     let mut streams = Vec::new(alloc);
     for entry in dump.all_streams() {
-        let error = error_of_type(alloc, dump, entry.stream_type)?;
+        let error = error_of_number(alloc, dump, entry.stream_type)?;
         streams.push(Entry {
             entry: *entry,
             error,
@@ -57,7 +58,7 @@ pub fn streams_of(alloc: Global, dump: &Minidump<'_>) -> Result<Vec<Entry>, Erro
 
 // Returns the error for which the stream of a type can't be read, or `None` if it can. Of a type
 // that is never read that is the error of its bytes.
-fn error_of_type(
+fn error_of_number(
     alloc: Global,
     dump: &Minidump<'_>,
     stream_type: u32,
@@ -65,10 +66,27 @@ fn error_of_type(
     ensures error { IfOk result (λ e. e ≡ error_of_number (dump_of dump.now) stream_type) }
     ensures memory { IsOkUnless result Error.OutOfMemory }
 {
+    match MINIDUMP_STREAM_TYPE::from_u32(stream_type) {
+        Some(known_type) => error_of_type(alloc, dump, stream_type, known_type),
+        None => Ok(raw_error(dump, stream_type)),
+    }
+}
+
+// Returns the same by the number of a type that has a name, and the named type.
+fn error_of_type(
+    alloc: Global,
+    dump: &Minidump<'_>,
+    stream_type: u32,
+    known_type: MINIDUMP_STREAM_TYPE,
+) -> Result<Option<Error>, Error>
+    ensures error { IfOk result
+        (λ e. e ≡ error_of_type (dump_of dump.now) stream_type known_type) }
+    ensures memory { IsOkUnless result Error.OutOfMemory }
+{
     macro_rules! error_of_each {
         ($($name:ident: $type:ty, $reads:ident;)*) => {
-            match MINIDUMP_STREAM_TYPE::from_u32(stream_type) {
-                $(Some(MINIDUMP_STREAM_TYPE::$name) => error_of::<$type>(alloc, dump),)*
+            match known_type {
+                $(MINIDUMP_STREAM_TYPE::$name => stream_error::<$type>(alloc, dump),)*
                 _ => Ok(raw_error(dump, stream_type)),
             }
         };
@@ -87,18 +105,14 @@ fn raw_error(dump: &Minidump<'_>, stream_type: u32) -> Option<Error>
 }
 
 // Returns the error of a stream.
-fn error_of<'a, S: MinidumpStream<'a> + Drop>(
+fn stream_error<'a, S: MinidumpStream<'a> + Drop>(
     alloc: Global,
     dump: &Minidump<'a>,
 ) -> Result<Option<Error>, Error>
     ensures error { IfOk result (λ e. e ≡ error_of S.spec (dump_of dump.now)) }
     ensures memory { IsOkUnless result Error.OutOfMemory }
 {
-    match dump.get_stream::<S>(alloc) {
-        Ok(_) => Ok(None),
-        Err(Error::OutOfMemory) => Err(Error::OutOfMemory),
-        Err(error) => Ok(Some(error)),
-    }
+    error_of(dump.get_stream::<S>(alloc))
 }
 
 /// Gives each stream of a list its JSON value.

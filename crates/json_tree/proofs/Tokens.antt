@@ -1,13 +1,14 @@
 -- The tokens of objects and arrays, from those of their members and items.
 use Rattle.std.specs.List.{enumerate_from}
+use Rattle.std.specs.Option.{option_map}
 use Rattle.std.proofs.lemmas.Simd.{map-map}
-use Rattle.std.proofs.Common.{◌<◌, ◌+◌, suc, length, get_or, drop, add-one, drop-cons, ◌≡◌, ◌∙◌, ◌≤◌, ℕ, List, [], ◌∷◌, ◌++◌, Some, map, option_and_then, refl, ap, sym, append_assoc, append-nil}
+use Rattle.std.proofs.Common.{◌<◌, ◌+◌, suc, length, get_or, drop, add-one, drop-cons, ◌≡◌, ◌∙◌, ◌≤◌, ℕ, List, [], ◌∷◌, ◌++◌, Option, Some, None, map, option_and_then, refl, ap, sym, append_assoc, append-nil}
 use Rattle.json.specs.Token.{Token, begin_object, end_object, begin_array, end_array}
 use Rattle.json.specs.Json.{Json, array, document, if_last, max_depth, value}
 use Rattle.json.specs.Lex.{tokens}
 use Rattle.json.proofs.Printed.Trees.{value-json_tokens}
 use Rattle.json.specs.Tree.{json_tokens, members_tokens, items_tokens, depth}
-use Rattle.json_tree.specs.Tree.{array_of, item_tokens, items_of, member_list_tokens, members_of, numbered_array_of, numbered_tokens, object_of}
+use Rattle.json_tree.specs.Tree.{array_of, item_tokens, items_of, member_list_tokens, members_of, numbered_array_of, numbered_tokens, object_of, or_null}
 
 members_of_list : (ms : List (List ℕ × Json)) → members_tokens (members_of ms) ≡ member_list_tokens ms ++ (end_object ∷ [])
 unfolding member_list_tokens
@@ -76,3 +77,8 @@ document_of_tokens text j is shallow =
 -- the array of the values of views
 pub array_of_views : {X Y : Type 0} (json : Y → Json) (view : X → Y) (xs : List X) → array_of (λ x. json (view x)) xs ≡ array_of json (map view xs)
 array_of_views json view xs = ap (λ js. array (items_of js)) (sym (map-map json view xs))
+
+-- the value of a view that may be absent
+pub or_null_of_views : {X Y : Type 0} (json : Y → Json) (view : X → Y) (o : Option X) → or_null (λ x. json (view x)) o ≡ or_null json (option_map view o)
+or_null_of_views json view None = refl
+or_null_of_views json view (Some x) = refl

@@ -3,8 +3,9 @@
 //! - A type has a JSON value by [`ToJson`]; the items of a list have theirs by [`ItemJson`], or by
 //!   [`NumberedJson`] where an item's value has its number in it.
 //! - [`put_fields`] adds members whose values have no parts, [`put_member`] one of any value,
-//!   [`put_list`] and [`put_numbered_list`] one whose value is an array. [`put_object`] puts a
-//!   whole object of values without parts.
+//!   [`put_list`] and [`put_numbered_list`] one whose value is an array, [`put_optional`] one that
+//!   may be `null`. [`put_object`] puts a whole object of values without parts.
+//! - [`as_text`] borrows a text that may be absent, as a scalar takes it.
 //! - [`text_of`] makes the text of a value.
 //!
 //! # What is proved
@@ -21,5 +22,5 @@
 mod list;
 mod tree;
 
-pub use list::{ItemJson, NumberedJson, put_list, put_numbered_list};
-pub use tree::{Scalar, ToJson, put_fields, put_member, put_object, text_of};
+pub use list::{ItemJson, NumberedJson, put_list, put_numbered_list, put_optional};
+pub use tree::{Scalar, ToJson, as_text, put_fields, put_member, put_object, text_of};

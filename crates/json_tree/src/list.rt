@@ -1,13 +1,13 @@
 ghost use Rattle.std.specs.Prelude.{◌≡◌, ◌++◌, ◌∷◌, ℕ, [], IsOkUnless, OnOk};
 ghost use Rattle.json.specs.Json.{Json};
 ghost use Rattle.json_tree.specs.Tree.{Adds, Puts, array_of, item_tokens, numbered_array_of};
-ghost use Rattle.json_tree.specs.Tree.{numbered_tokens};
+ghost use Rattle.json_tree.specs.Tree.{numbered_tokens, or_null};
 
 use json::Writer;
 use minidump_format::Error;
 use std::alloc::Global;
 
-/// Gives the items of a list their JSON values.
+/// Gives the items of a list, or a value that may be absent, their JSON values.
 pub trait ItemJson<X> {
     ghost json_of: { Self → X → Json };
 
@@ -29,6 +29,40 @@ pub trait NumberedJson<X> {
         alloc: Global,
     ) -> Result<(), Error>
         ensures { Puts result out.old out.new (json_at self.now number item.now) };
+}
+
+/// Adds a member with the value of an item, or with `null` if there is none. The only error is
+/// `OutOfMemory`.
+#[tactic(auto, unfolding(crate::specs::Tree::member_list_tokens))]
+pub fn put_optional<X, F: ItemJson<X>>(
+    out: &mut Writer,
+    alloc: Global,
+    name: &str,
+    item: &Option<X>,
+    by: &F,
+) -> Result<(), Error>
+    ensures { Adds result out.old out.new
+        ((name.now, or_null (F.json_of by.now) item.now) ∷ []) }
+{
+    out.key(name)?;
+    put_item_or_null(out, alloc, item, by)?;
+    Ok(())
+}
+
+// Puts the value of an item, or `null`.
+fn put_item_or_null<X, F: ItemJson<X>>(
+    out: &mut Writer,
+    alloc: Global,
+    item: &Option<X>,
+    by: &F,
+) -> Result<(), Error>
+    ensures { Puts result out.old out.new (or_null (F.json_of by.now) item.now) }
+{
+    match item {
+        Some(item) => by.put_item(item, out, alloc)?,
+        None => out.null()?,
+    }
+    Ok(())
 }
 
 /// Adds a member whose value is an array, with the value of each item of a list. The only error is

@@ -1,4 +1,5 @@
 ghost use Rattle.std.specs.Prelude.{◌≡◌, ◌≤◌, [], ◌∷◌, IfOk, IsOkUnless, Some, map, string_bytes};
+ghost use Rattle.std.specs.Option.{option_copied, option_map};
 ghost use Rattle.std.specs.Str.{IsUtf8};
 ghost use Rattle.json.specs.Json.{Json, document, max_depth};
 ghost use Rattle.json.specs.Print.{print};
@@ -21,6 +22,16 @@ pub enum Scalar<'a> {
     Number(Option<u64>),
     /// A number in hexadecimal, as the text `"0x1f"`, or `null`.
     Hex(Option<u64>),
+}
+
+/// Borrows a text that may be absent.
+pub fn as_text(text: &Option<String>) -> Option<&str>
+    ensures { option_copied result ≡ option_map string_bytes text.now }
+{
+    match text {
+        Some(text) => Some(text.as_str()),
+        None => None,
+    }
 }
 
 /// A type that has a JSON value.

@@ -1,7 +1,7 @@
 //! The names of Linux, of `names/linux.names`. `names/compile` made this file.
 
 ghost use Rattle.std.specs.Prelude.{◌≡◌, ◌++◌, OnOk, string_bytes};
-ghost use Rattle.known_names.specs.KnownNames.{linux_lines};
+ghost use Rattle.known_names.specs.KnownNames.{linux_lines, linux_1};
 
 use std::alloc::AllocError;
 
@@ -10,8 +10,15 @@ use std::alloc::AllocError;
 pub(crate) fn push_lines(out: &mut String) -> Result<(), AllocError>
     ensures { OnOk result (string_bytes out.new ≡ string_bytes out.old ++ linux_lines) }
 {
-    out.push_str(LINUX_1)?;
+    out.push_str(linux_1())?;
     Ok(())
+}
+
+#[tactic(auto, unfolding(crate::specs::KnownNames::linux_1))]
+fn linux_1() -> &'static str
+    ensures { result.now ≡ linux_1 }
+{
+    LINUX_1
 }
 
 const LINUX_1: &str = "\

@@ -1,7 +1,7 @@
 //! The names of macOS, of `names/macos.names`. `names/compile` made this file.
 
 ghost use Rattle.std.specs.Prelude.{◌≡◌, ◌++◌, OnOk, string_bytes};
-ghost use Rattle.known_names.specs.KnownNames.{macos_lines};
+ghost use Rattle.known_names.specs.KnownNames.{macos_lines, macos_1};
 
 use std::alloc::AllocError;
 
@@ -10,8 +10,15 @@ use std::alloc::AllocError;
 pub(crate) fn push_lines(out: &mut String) -> Result<(), AllocError>
     ensures { OnOk result (string_bytes out.new ≡ string_bytes out.old ++ macos_lines) }
 {
-    out.push_str(MACOS_1)?;
+    out.push_str(macos_1())?;
     Ok(())
+}
+
+#[tactic(auto, unfolding(crate::specs::KnownNames::macos_1))]
+fn macos_1() -> &'static str
+    ensures { result.now ≡ macos_1 }
+{
+    MACOS_1
 }
 
 const MACOS_1: &str = "\

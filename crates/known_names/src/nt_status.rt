@@ -1,7 +1,8 @@
 //! The names of NTSTATUS values, of `names/windows.names`. `names/compile` made this file.
 
 ghost use Rattle.std.specs.Prelude.{◌≡◌, ◌++◌, OnOk, string_bytes};
-ghost use Rattle.known_names.specs.KnownNames.{nt_status_lines};
+ghost use Rattle.known_names.specs.KnownNames.{nt_status_lines, nt_status_1, nt_status_2};
+ghost use Rattle.known_names.specs.KnownNames.{nt_status_3, nt_status_4, nt_status_5};
 
 use std::alloc::AllocError;
 
@@ -10,12 +11,19 @@ use std::alloc::AllocError;
 pub(crate) fn push_lines(out: &mut String) -> Result<(), AllocError>
     ensures { OnOk result (string_bytes out.new ≡ string_bytes out.old ++ nt_status_lines) }
 {
-    out.push_str(NT_STATUS_1)?;
-    out.push_str(NT_STATUS_2)?;
-    out.push_str(NT_STATUS_3)?;
-    out.push_str(NT_STATUS_4)?;
-    out.push_str(NT_STATUS_5)?;
+    out.push_str(nt_status_1())?;
+    out.push_str(nt_status_2())?;
+    out.push_str(nt_status_3())?;
+    out.push_str(nt_status_4())?;
+    out.push_str(nt_status_5())?;
     Ok(())
+}
+
+#[tactic(auto, unfolding(crate::specs::KnownNames::nt_status_1))]
+fn nt_status_1() -> &'static str
+    ensures { result.now ≡ nt_status_1 }
+{
+    NT_STATUS_1
 }
 
 const NT_STATUS_1: &str = "\
@@ -410,6 +418,13 @@ NtStatus 0xc00000c1 STATUS_TOO_MANY_COMMANDS\n\
 NtStatus 0xc00000c2 STATUS_ADAPTER_HARDWARE_ERROR\n\
 ";
 
+#[tactic(auto, unfolding(crate::specs::KnownNames::nt_status_2))]
+fn nt_status_2() -> &'static str
+    ensures { result.now ≡ nt_status_2 }
+{
+    NT_STATUS_2
+}
+
 const NT_STATUS_2: &str = "\
 NtStatus 0xc00000c3 STATUS_INVALID_NETWORK_RESPONSE\n\
 NtStatus 0xc00000c4 STATUS_UNEXPECTED_NETWORK_ERROR\n\
@@ -795,6 +810,13 @@ NtStatus 0xc00002b0 STATUS_DS_GC_NOT_AVAILABLE\n\
 NtStatus 0xc00002b1 STATUS_DIRECTORY_SERVICE_REQUIRED\n\
 ";
 
+#[tactic(auto, unfolding(crate::specs::KnownNames::nt_status_3))]
+fn nt_status_3() -> &'static str
+    ensures { result.now ≡ nt_status_3 }
+{
+    NT_STATUS_3
+}
+
 const NT_STATUS_3: &str = "\
 NtStatus 0xc00002b2 STATUS_REPARSE_ATTRIBUTE_CONFLICT\n\
 NtStatus 0xc00002b3 STATUS_CANT_ENABLE_DENY_ONLY\n\
@@ -1168,6 +1190,13 @@ NtStatus 0xc0030059 RPC_NT_INVALID_ES_ACTION\n\
 NtStatus 0xc003005a RPC_NT_WRONG_ES_VERSION\n\
 ";
 
+#[tactic(auto, unfolding(crate::specs::KnownNames::nt_status_4))]
+fn nt_status_4() -> &'static str
+    ensures { result.now ≡ nt_status_4 }
+{
+    NT_STATUS_4
+}
+
 const NT_STATUS_4: &str = "\
 NtStatus 0xc003005b RPC_NT_WRONG_STUB_VERSION\n\
 NtStatus 0xc003005c RPC_NT_INVALID_PIPE_OBJECT\n\
@@ -1512,6 +1541,13 @@ NtStatus 0xc01e0306 STATUS_GRAPHICS_VIDPN_MODALITY_NOT_SUPPORTED\n\
 NtStatus 0xc01e0308 STATUS_GRAPHICS_INVALID_VIDPN_SOURCEMODESET\n\
 NtStatus 0xc01e0309 STATUS_GRAPHICS_INVALID_VIDPN_TARGETMODESET\n\
 ";
+
+#[tactic(auto, unfolding(crate::specs::KnownNames::nt_status_5))]
+fn nt_status_5() -> &'static str
+    ensures { result.now ≡ nt_status_5 }
+{
+    NT_STATUS_5
+}
 
 const NT_STATUS_5: &str = "\
 NtStatus 0xc01e030a STATUS_GRAPHICS_INVALID_FREQUENCY\n\

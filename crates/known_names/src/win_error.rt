@@ -1,7 +1,8 @@
 //! The names of Win32 errors, of `names/windows.names`. `names/compile` made this file.
 
 ghost use Rattle.std.specs.Prelude.{◌≡◌, ◌++◌, OnOk, string_bytes};
-ghost use Rattle.known_names.specs.KnownNames.{win_error_lines};
+ghost use Rattle.known_names.specs.KnownNames.{win_error_lines, win_error_1, win_error_2};
+ghost use Rattle.known_names.specs.KnownNames.{win_error_3, win_error_4, win_error_5};
 
 use std::alloc::AllocError;
 
@@ -10,12 +11,19 @@ use std::alloc::AllocError;
 pub(crate) fn push_lines(out: &mut String) -> Result<(), AllocError>
     ensures { OnOk result (string_bytes out.new ≡ string_bytes out.old ++ win_error_lines) }
 {
-    out.push_str(WIN_ERROR_1)?;
-    out.push_str(WIN_ERROR_2)?;
-    out.push_str(WIN_ERROR_3)?;
-    out.push_str(WIN_ERROR_4)?;
-    out.push_str(WIN_ERROR_5)?;
+    out.push_str(win_error_1())?;
+    out.push_str(win_error_2())?;
+    out.push_str(win_error_3())?;
+    out.push_str(win_error_4())?;
+    out.push_str(win_error_5())?;
     Ok(())
+}
+
+#[tactic(auto, unfolding(crate::specs::KnownNames::win_error_1))]
+fn win_error_1() -> &'static str
+    ensures { result.now ≡ win_error_1 }
+{
+    WIN_ERROR_1
 }
 
 const WIN_ERROR_1: &str = "\
@@ -510,6 +518,13 @@ WinError 1356 ERROR_DOMAIN_EXISTS\n\
 WinError 1357 ERROR_DOMAIN_LIMIT_EXCEEDED\n\
 ";
 
+#[tactic(auto, unfolding(crate::specs::KnownNames::win_error_2))]
+fn win_error_2() -> &'static str
+    ensures { result.now ≡ win_error_2 }
+{
+    WIN_ERROR_2
+}
+
 const WIN_ERROR_2: &str = "\
 WinError 1358 ERROR_INTERNAL_DB_CORRUPTION\n\
 WinError 1359 ERROR_INTERNAL_ERROR\n\
@@ -968,6 +983,13 @@ WinError 5003 ERROR_DEPENDENCY_ALREADY_EXISTS\n\
 WinError 5004 ERROR_RESOURCE_NOT_ONLINE\n\
 ";
 
+#[tactic(auto, unfolding(crate::specs::KnownNames::win_error_3))]
+fn win_error_3() -> &'static str
+    ensures { result.now ≡ win_error_3 }
+{
+    WIN_ERROR_3
+}
+
 const WIN_ERROR_3: &str = "\
 WinError 5005 ERROR_HOST_NODE_NOT_AVAILABLE\n\
 WinError 5006 ERROR_RESOURCE_NOT_AVAILABLE\n\
@@ -1393,6 +1415,13 @@ WinError 8484 ERROR_DS_SRC_NAME_MISMATCH\n\
 WinError 8485 ERROR_DS_SRC_AND_DST_NC_IDENTICAL\n\
 ";
 
+#[tactic(auto, unfolding(crate::specs::KnownNames::win_error_4))]
+fn win_error_4() -> &'static str
+    ensures { result.now ≡ win_error_4 }
+{
+    WIN_ERROR_4
+}
+
 const WIN_ERROR_4: &str = "\
 WinError 8486 ERROR_DS_DST_NC_MISMATCH\n\
 WinError 8487 ERROR_DS_NOT_AUTHORITIVE_FOR_DST_NC\n\
@@ -1816,6 +1845,13 @@ WinError 13884 ERROR_IPSEC_IKE_QM_LIMIT\n\
 WinError 13885 ERROR_IPSEC_IKE_MM_EXPIRED\n\
 WinError 13886 ERROR_IPSEC_IKE_PEER_MM_ASSUMED_INVALID\n\
 ";
+
+#[tactic(auto, unfolding(crate::specs::KnownNames::win_error_5))]
+fn win_error_5() -> &'static str
+    ensures { result.now ≡ win_error_5 }
+{
+    WIN_ERROR_5
+}
 
 const WIN_ERROR_5: &str = "\
 WinError 13887 ERROR_IPSEC_IKE_CERT_CHAIN_POLICY_MISMATCH\n\

@@ -1,7 +1,7 @@
 //! The names of Windows but for NTSTATUS values and Win32 errors, of `names/windows.names`. `names/compile` made this file.
 
 ghost use Rattle.std.specs.Prelude.{◌≡◌, ◌++◌, OnOk, string_bytes};
-ghost use Rattle.known_names.specs.KnownNames.{windows_lines};
+ghost use Rattle.known_names.specs.KnownNames.{windows_lines, windows_1};
 
 use std::alloc::AllocError;
 
@@ -10,8 +10,15 @@ use std::alloc::AllocError;
 pub(crate) fn push_lines(out: &mut String) -> Result<(), AllocError>
     ensures { OnOk result (string_bytes out.new ≡ string_bytes out.old ++ windows_lines) }
 {
-    out.push_str(WINDOWS_1)?;
+    out.push_str(windows_1())?;
     Ok(())
+}
+
+#[tactic(auto, unfolding(crate::specs::KnownNames::windows_1))]
+fn windows_1() -> &'static str
+    ensures { result.now ≡ windows_1 }
+{
+    WINDOWS_1
 }
 
 const WINDOWS_1: &str = "\

@@ -1,15 +1,12 @@
 -- How deep the values nest.
 use Rattle.std.proofs.Common.{◌≤◌, ℕ, List, Option, arith}
 use Rattle.json.specs.Tree.{depth}
-use Rattle.minidump.specs.Below.MemoryLists.Unified.{UnifiedRegion}
-use Rattle.minidump.specs.Below.Modules.Module.{ModuleValue}
-use Rattle.minidump.specs.Below.Modules.UnloadedModule.{UnloadedValue}
-use Rattle.minidump.specs.Below.Records.Handles.{Handle}
-use Rattle.minidump.specs.Below.Records.Record.{MacRecord}
-use Rattle.minidump.specs.Below.System.System.{System}
+use Rattle.minidump_memory.specs.Unified.{UnifiedRegion}
+use Rattle.minidump_records.specs.Handles.{Handle}
+use Rattle.minidump_records.specs.MacCrashInfo.Record.{MacRecord}
+use Rattle.minidump_system.specs.System.{System}
 use Rattle.json_tree.proofs.Depth.{array_within, flat_hex, flat_text}
 use Rattle.streams_json.specs.Memory.{region_json, region_object}
-use Rattle.streams_json.specs.Modules.{end_of, module_json, module_object, unloaded_json, unloaded_object}
 use Rattle.streams_json.specs.Records.{handle_json, handle_object, lsb_json, lsb_object, mac_crash_json, mac_object, mac_record_json}
 use Rattle.streams_json.specs.System.{system_json, system_object}
 
@@ -23,22 +20,6 @@ region_depth r = region_object_depth _ _
 pub system_depth : (s : System) → depth (system_json s) ≤ 1
 unfolding system_object
 system_depth s = omega (arith, flat_text s.cpu_info)
-
-module_object_depth : (base size : ℕ) (name : List ℕ) (code_id debug_file debug_id version : Option (List ℕ))
-    → depth (module_object base size name code_id debug_file debug_id version) ≤ 1
-unfolding module_object
-module_object_depth base size name code_id debug_file debug_id version =
-    omega (arith, flat_hex (end_of base size), flat_text code_id, flat_text debug_file, flat_text debug_id, flat_text version)
-
-pub module_depth : (m : ModuleValue) → depth (module_json m) ≤ 1
-module_depth m = module_object_depth _ _ _ _ _ _ _
-
-unloaded_object_depth : (base size : ℕ) (name : List ℕ) (code_id : Option (List ℕ)) → depth (unloaded_object base size name code_id) ≤ 1
-unfolding unloaded_object
-unloaded_object_depth base size name code_id = omega (arith, flat_hex (end_of base size), flat_text code_id)
-
-pub unloaded_depth : (m : UnloadedValue) → depth (unloaded_json m) ≤ 1
-unloaded_depth m = unloaded_object_depth _ _ _ _
 
 handle_object_depth : (value : Option ℕ) (type_name object_name : Option (List ℕ)) → depth (handle_object value type_name object_name) ≤ 1
 unfolding handle_object

@@ -1,7 +1,7 @@
 -- Regions of memory as JSON.
 use Rattle.std.specs.Prelude.{ℕ, [], ◌∷◌, codes}
 use Rattle.json.specs.Json.{Json}
-use Rattle.minidump.specs.Below.MemoryLists.Unified.{UnifiedRegion}
+use Rattle.minidump_memory.specs.Unified.{UnifiedRegion}
 use Rattle.json_tree.specs.Tree.{count, hex_string, object_of}
 
 -- a region by its first address and its size

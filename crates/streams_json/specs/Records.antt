@@ -3,11 +3,11 @@ use Rattle.std.specs.Prelude.{ℕ, ◌||◌, List, [], ◌∷◌, bytes_eq, code
 use Rattle.std.specs.Option.{option_map}
 use Rattle.std.specs.Str.Lossy.{utf8_lossy}
 use Rattle.json.specs.Json.{Json, string}
-use Rattle.minidump.specs.Below.Records.Handles.{Handle}
-use Rattle.minidump.specs.Below.Records.Descriptor.{handle}
-use Rattle.minidump.specs.Below.Records.Pairs.{pairs_of}
-use Rattle.minidump.specs.Below.Records.Record as mac
-use Rattle.minidump.specs.Below.Records.Record.{MacRecord, text_of}
+use Rattle.minidump_records.specs.Handles.{Handle}
+use Rattle.minidump_records.specs.Handles.Descriptor.{handle}
+use Rattle.minidump_records.specs.Linux.Pairs.{pairs_of}
+use Rattle.minidump_records.specs.MacCrashInfo.Record as mac
+use Rattle.minidump_records.specs.MacCrashInfo.Record.{MacRecord, text_of}
 use Rattle.json_tree.specs.Tree.{array_of, count, hex_string, object_of, or_null}
 
 -- a handle by its value and its names

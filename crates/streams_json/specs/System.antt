@@ -1,10 +1,10 @@
 -- The system information of a dump as JSON.
 use Rattle.std.specs.Prelude.{ℕ, List, [], ◌∷◌, ◌++◌, codes, Option, Some, None}
 use Rattle.json.specs.Json.{Json, string}
-use Rattle.minidump.specs.Below.System.Cpu.{cpu_name}
-use Rattle.minidump.specs.Below.System.Os.{os_long_name}
-use Rattle.minidump.specs.Below.System.OsParts.{os_parts_of}
-use Rattle.minidump.specs.Below.System.System.{System}
+use Rattle.minidump_system.specs.Cpu.{cpu_name}
+use Rattle.minidump_system.specs.Os.{os_long_name}
+use Rattle.minidump_system.specs.OsParts.{os_parts_of}
+use Rattle.minidump_system.specs.System.{System}
 use Rattle.json_tree.specs.Tree.{count, object_of, or_null}
 
 -- a version, and after a space the build, where it is known

@@ -1,5 +1,5 @@
-//! JSON values of what the streams of a minidump hold: the system, modules, memory, handles, and
-//! records of Linux and macOS.
+//! JSON values of what the streams of a minidump hold: the system, memory, handles, and records of
+//! Linux and macOS.
 //!
 //! Members have the names of `minidump-stackwalk --json`. A member is `null` if the dump lacks what
 //! it says. Addresses, and other numbers that tools print in hexadecimal, are texts such as
@@ -8,17 +8,13 @@
 //! # What is proved
 //!
 //! Each type puts the value that its definition has for the stream, or is out of memory: the `json`
-//! and `json_of` of its implementation name it, as `system_json` and `module_json`.
+//! or `json_of` of its implementation names it, as `region_json` and `system_json`.
 #![tactic(auto)]
 
 mod memory;
-mod modules;
 mod records;
 mod system;
-mod texts;
 
 pub use memory::{EachRegion, RegionJson};
-pub use modules::{EachModule, EachUnloadedModule};
 pub use records::{EachHandle, LsbReleaseJson, MacCrashJson};
 pub use system::SystemJson;
-pub use texts::as_text;

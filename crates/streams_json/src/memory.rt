@@ -3,7 +3,8 @@ ghost use Rattle.streams_json.specs.Memory.{region_object};
 
 use json::Writer;
 use json_tree::{ItemJson, Scalar, ToJson, put_object};
-use minidump::{Error, UnifiedMemory};
+use minidump_format::Error;
+use minidump_memory::UnifiedMemory;
 use std::alloc::Global;
 
 /// Gives each region of memory of a list its JSON value.
@@ -11,7 +12,7 @@ use std::alloc::Global;
 pub struct EachRegion;
 
 impl<'l, 'a> ItemJson<UnifiedMemory<'l, 'a>> for EachRegion {
-    ghost use Rattle.minidump.specs.Below.MemoryLists.Unified.{unified_region};
+    ghost use Rattle.minidump_memory.specs.Unified.{unified_region};
     ghost use Rattle.streams_json.specs.Memory.{region_json};
 
     ghost json_of = { λ _ m. region_json (unified_region m) };

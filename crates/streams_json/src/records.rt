@@ -1,18 +1,18 @@
 ghost use Rattle.std.specs.Prelude.{◌≡◌, IfOk, map, string_bytes};
 ghost use Rattle.std.specs.Option.{option_copied, option_map};
-ghost use Rattle.minidump.specs.Below.Bytes.LinuxOsStr.{text_of};
-ghost use Rattle.minidump.specs.Below.Records.Record.{mac_record_of};
-ghost use Rattle.minidump.specs.Promise.{linux_lsb_release_stream};
+ghost use Rattle.minidump_bytes.specs.LinuxOsStr.{text_of};
+ghost use Rattle.minidump_records.specs.MacCrashInfo.Record.{mac_record_of};
+ghost use Rattle.minidump_records.specs.Linux.{linux_lsb_release_stream};
 ghost use Rattle.json_tree.specs.Tree.{Adds, Puts};
 ghost use Rattle.streams_json.specs.Records.{first_value, handle_object, lsb_object, lsb_value};
 ghost use Rattle.streams_json.specs.Records.{mac_members, mac_object};
 
-use crate::texts::as_text;
 use json::Writer;
-use json_tree::{ItemJson, Scalar, ToJson, put_fields, put_list, put_object};
-use minidump::strings::LinuxOsStr;
-use minidump::{
-    Error, MinidumpHandleDescriptor, MinidumpLinuxLsbRelease, MinidumpMacCrashInfo, RawMacCrashInfo,
+use json_tree::{ItemJson, Scalar, as_text, put_fields, put_list, put_object};
+use minidump_bytes::LinuxOsStr;
+use minidump_format::Error;
+use minidump_records::{
+    MinidumpHandleDescriptor, MinidumpLinuxLsbRelease, MinidumpMacCrashInfo, RawMacCrashInfo,
 };
 use std::alloc::{AllocError, Global};
 
@@ -21,7 +21,7 @@ use std::alloc::{AllocError, Global};
 pub struct EachHandle;
 
 impl ItemJson<MinidumpHandleDescriptor> for EachHandle {
-    ghost use Rattle.minidump.specs.Below.Records.Handles.{handle_of};
+    ghost use Rattle.minidump_records.specs.Handles.{handle_of};
     ghost use Rattle.streams_json.specs.Records.{handle_json};
 
     ghost json_of = { λ _ h. handle_json (handle_of h) };
@@ -64,20 +64,25 @@ fn put_handle<'t>(
     )
 }
 
-/// The crash information of macOS.
+/// Gives the crash information of macOS its JSON value.
 #[derive(Clone, Copy)]
-pub struct MacCrashJson<'l>(pub &'l MinidumpMacCrashInfo);
+pub struct MacCrashJson;
 
-impl ToJson for MacCrashJson<'_> {
-    ghost use Rattle.minidump.specs.Promise.{mac_crash_info_stream};
+impl ItemJson<MinidumpMacCrashInfo> for MacCrashJson {
+    ghost use Rattle.minidump_records.specs.MacCrashInfo.{mac_crash_info_stream};
     ghost use Rattle.streams_json.specs.Records.{mac_crash_json};
 
-    ghost json = { λ m. mac_crash_json (mac_crash_info_stream.value m.0.now) };
+    ghost json_of = { λ _ m. mac_crash_json (mac_crash_info_stream.value m) };
 
     #[tactic(auto, using(json_tree::proofs::Tokens::object_of_members))]
-    fn put(&self, out: &mut Writer, alloc: Global) -> Result<(), Error> {
+    fn put_item(
+        &self,
+        item: &MinidumpMacCrashInfo,
+        out: &mut Writer,
+        alloc: Global,
+    ) -> Result<(), Error> {
         out.begin_object()?;
-        put_mac_records(out, alloc, self.0.raw.as_slice())?;
+        put_mac_records(out, alloc, item.raw.as_slice())?;
         out.end_object()?;
         Ok(())
     }
@@ -105,7 +110,7 @@ fn put_mac_records(
 struct EachMacRecord;
 
 impl ItemJson<RawMacCrashInfo> for EachMacRecord {
-    ghost use Rattle.minidump.specs.Below.Records.Record.{mac_record_of};
+    ghost use Rattle.minidump_records.specs.MacCrashInfo.Record.{mac_record_of};
     ghost use Rattle.streams_json.specs.Records.{mac_record_json};
 
     ghost json_of = { λ _ r. mac_record_json (mac_record_of r) };
@@ -165,21 +170,26 @@ fn put_mac_record<'t>(
     )
 }
 
-/// The release of a Linux system.
+/// Gives the release of a Linux system its JSON value.
 #[derive(Clone, Copy)]
-pub struct LsbReleaseJson<'l, 'a>(pub &'l MinidumpLinuxLsbRelease<'a>);
+pub struct LsbReleaseJson;
 
-impl ToJson for LsbReleaseJson<'_, '_> {
-    ghost use Rattle.minidump.specs.Promise.{linux_lsb_release_stream};
+impl<'a> ItemJson<MinidumpLinuxLsbRelease<'a>> for LsbReleaseJson {
+    ghost use Rattle.minidump_records.specs.Linux.{linux_lsb_release_stream};
     ghost use Rattle.streams_json.specs.Records.{lsb_json};
 
-    ghost json = { λ r. lsb_json (linux_lsb_release_stream.value r.0.now) };
+    ghost json_of = { λ _ r. lsb_json (linux_lsb_release_stream.value r) };
 
-    fn put(&self, out: &mut Writer, alloc: Global) -> Result<(), Error> {
-        let id = value_of(alloc, self.0, b"DISTRIB_ID", b"ID")?;
-        let release = value_of(alloc, self.0, b"DISTRIB_RELEASE", b"VERSION_ID")?;
-        let codename = value_of(alloc, self.0, b"DISTRIB_CODENAME", b"VERSION_CODENAME")?;
-        let description = value_of(alloc, self.0, b"DISTRIB_DESCRIPTION", b"PRETTY_NAME")?;
+    fn put_item(
+        &self,
+        item: &MinidumpLinuxLsbRelease<'a>,
+        out: &mut Writer,
+        alloc: Global,
+    ) -> Result<(), Error> {
+        let id = value_of(alloc, item, b"DISTRIB_ID", b"ID")?;
+        let release = value_of(alloc, item, b"DISTRIB_RELEASE", b"VERSION_ID")?;
+        let codename = value_of(alloc, item, b"DISTRIB_CODENAME", b"VERSION_CODENAME")?;
+        let description = value_of(alloc, item, b"DISTRIB_DESCRIPTION", b"PRETTY_NAME")?;
         put_release(
             out,
             alloc,

@@ -1,30 +1,35 @@
 ghost use Rattle.std.specs.Prelude.{◌≡◌, ◌++◌, IfOk, IsOkUnless, codes, string_bytes};
 ghost use Rattle.std.specs.Option.{option_copied};
-ghost use Rattle.minidump.specs.Promise.{system_info_stream};
+ghost use Rattle.minidump_system.specs.SystemInfo.{system_info_stream};
 ghost use Rattle.json_tree.specs.Tree.{Puts};
 ghost use Rattle.streams_json.specs.System.{os_version, system_object};
 
 use json::Writer;
-use json_tree::{Scalar, ToJson, put_object};
-use minidump::text::{Piece, format_pieces};
-use minidump::{Error, MinidumpSystemInfo};
+use json_tree::{ItemJson, Scalar, put_object};
+use minidump_bytes::{Piece, format_pieces};
+use minidump_format::Error;
+use minidump_system::MinidumpSystemInfo;
 use std::alloc::{AllocError, Global};
 
-/// The system information of a dump.
+/// Gives the system information of a dump its JSON value.
 #[derive(Clone, Copy)]
-pub struct SystemJson<'l>(pub &'l MinidumpSystemInfo);
+pub struct SystemJson;
 
-impl ToJson for SystemJson<'_> {
-    ghost use Rattle.minidump.specs.Promise.{system_info_stream};
+impl ItemJson<MinidumpSystemInfo> for SystemJson {
+    ghost use Rattle.minidump_system.specs.SystemInfo.{system_info_stream};
     ghost use Rattle.streams_json.specs.System.{system_json};
 
-    ghost json = { λ s. system_json (system_info_stream.value s.0.now) };
+    ghost json_of = { λ _ s. system_json (system_info_stream.value s) };
 
-    fn put(&self, out: &mut Writer, alloc: Global) -> Result<(), Error> {
-        let system = self.0;
-        let os = system.os.long_name(alloc)?;
-        let version = os_version(alloc, system)?;
-        let cpu = system.cpu;
+    fn put_item(
+        &self,
+        item: &MinidumpSystemInfo,
+        out: &mut Writer,
+        alloc: Global,
+    ) -> Result<(), Error> {
+        let os = item.os.long_name(alloc)?;
+        let version = os_version(alloc, item)?;
+        let cpu = item.cpu;
         let arch = format!(in alloc; "{cpu}")?;
         put_system(
             out,
@@ -32,8 +37,8 @@ impl ToJson for SystemJson<'_> {
             os.as_str(),
             version.as_str(),
             arch.as_str(),
-            system.cpu_info(),
-            system.raw.number_of_processors,
+            item.cpu_info(),
+            item.raw.number_of_processors,
         )
     }
 }

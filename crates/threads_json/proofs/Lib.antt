@@ -1,4 +1,3 @@
 -- Lemmas on threads, and on how deep the values nest.
-pub mod LastThread
 pub mod NextThread
 pub mod Depth

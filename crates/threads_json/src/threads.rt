@@ -11,14 +11,14 @@ ghost use Rattle.threads_json.specs.ThreadWalk.{walk_of};
 use crate::WalkedThread;
 use crate::frames::EachFrame;
 use json::Writer;
-use json_tree::{ItemJson, Scalar, put_fields, put_member, put_numbered_list};
+use json_tree::{ItemJson, Scalar, as_text, put_fields, put_member, put_numbered_list};
 use minidump::format::MINIDUMP_MEMORY_DESCRIPTOR;
 use minidump::{
     CodeNames, CrashReason, Error, MinidumpContext, MinidumpModuleList, MinidumpThreadNames,
 };
 use stack_walk::StackFrame;
 use std::alloc::Global;
-use streams_json::{RegionJson, as_text};
+use streams_json::RegionJson;
 
 /// Gives each thread of a list its JSON value, by the modules, the names of the threads and of
 /// codes, and how many frames are written at most.

@@ -52,13 +52,27 @@ impl<'w> Options<'w> {
     // Reads the arguments, without the program's own name.
     pub(crate) fn read(alloc: Global, words: &'w [String]) -> Result<Options<'w>, Error> {
         let mut command = command(alloc)?;
-        let matches = command.try_get_matches_from_mut(words)?;
-        let options = options_of(alloc, &matches)?;
-        if options.form == Form::Html && options.dumps.len() > 1 {
+        let options = options_in(alloc, &mut command, words)?;
+        if is_page_of_several(&options) {
             return Err(command.error(ErrorKind::TooManyValues, "--html takes one DUMP")?);
         }
         Ok(options)
     }
+}
+
+// Tells whether a page is asked for of several dumps.
+fn is_page_of_several(options: &Options<'_>) -> bool {
+    options.form == Form::Html && options.dumps.len() > 1
+}
+
+// Returns what the arguments ask for, by the command.
+fn options_in<'w>(
+    alloc: Global,
+    command: &mut Command<'w>,
+    words: &'w [String],
+) -> Result<Options<'w>, Error> {
+    let matches = command.try_get_matches_from_mut(words)?;
+    Ok(options_of(alloc, &matches)?)
 }
 
 // Returns what the matches ask for.
@@ -127,48 +141,50 @@ fn dumps_of<'w>(alloc: Global, matches: &ArgMatches<'w>) -> Result<Vec<&'w str>,
 
 // Makes the command, which knows the options.
 fn command<'w>(alloc: Global) -> Result<Command<'w>, AllocError> {
-    let command = Command::new(alloc, "whocrashed")
+    let args = args(alloc)?;
+    described(alloc).args(args)
+}
+
+// Makes the command without its options.
+fn described<'w>(alloc: Global) -> Command<'w> {
+    Command::new(alloc, "whocrashed")
         .no_binary_name(true)
         .version("0.27.0+rattle.1")
         .about(ABOUT)
         .after_help(EXAMPLES)
-        .arg(names(alloc))?;
-    let command = with_limits(alloc, command)?;
-    with_forms(alloc, command)?.arg(dumps(alloc))
 }
 
-// Adds the options of limits.
-fn with_limits<'w>(alloc: Global, command: Command<'w>) -> Result<Command<'w>, AllocError> {
-    let all_threads = flag(
-        alloc,
-        "all-threads",
-        "Print all frames of each thread in the lines of text",
-    );
-    let frames = number(
-        alloc,
-        "frames",
-        FRAMES,
-        "Print at most N frames of a thread",
-    );
-    let scan = number(
-        alloc,
-        "scan",
-        SCAN,
-        "Print at most N candidates among the words of a stack",
-    );
-    command.arg(all_threads)?.arg(frames)?.arg(scan)
-}
-
-// Adds the options of forms.
-fn with_forms<'w>(alloc: Global, command: Command<'w>) -> Result<Command<'w>, AllocError> {
-    let json = flag(alloc, "json", "Print a line of JSON for each DUMP");
+// Makes the options, and the argument for the dumps.
+fn args<'w>(alloc: Global) -> Result<Vec<Arg<'w>>, AllocError> {
     let html = flag(alloc, "html", "Print a page in HTML on the one DUMP").conflicts_with("json")?;
-    let progress = flag(
-        alloc,
-        "progress",
-        "Say on standard error how many dumps are done",
-    );
-    command.arg(json)?.arg(html)?.arg(progress)
+    Ok(vec![in alloc;
+        names(alloc),
+        flag(
+            alloc,
+            "all-threads",
+            "Print all frames of each thread in the lines of text",
+        ),
+        number(
+            alloc,
+            "frames",
+            FRAMES,
+            "Print at most N frames of a thread",
+        ),
+        number(
+            alloc,
+            "scan",
+            SCAN,
+            "Print at most N candidates among the words of a stack",
+        ),
+        flag(alloc, "json", "Print a line of JSON for each DUMP"),
+        html,
+        flag(
+            alloc,
+            "progress",
+            "Say on standard error how many dumps are done",
+        ),
+        dumps(alloc),
+    ]?)
 }
 
 fn names<'w>(alloc: Global) -> Arg<'w> {

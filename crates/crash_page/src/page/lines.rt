@@ -1,15 +1,15 @@
 ghost use Rattle.std.specs.Prelude.{◌≡◌, ◌++◌, [], OnOk, false, true};
 ghost use Rattle.std.specs.List.{flat_map};
 ghost use Rattle.minidump.specs.Below.Bytes.Piece.{piece_text};
-ghost use Rattle.crash_page.specs.Escape.{line_of};
-ghost use Rattle.crash_page.specs.Page.{Adds, has_damage, marks_of, text_of};
-ghost use Rattle.crash_page.specs.Part.{absent, absent_stream, damage_line, is_missing, line, mark};
-ghost use Rattle.crash_page.specs.Part.{outside, unless_missing, stream_unless_missing};
+ghost use Rattle.crash_page.specs.Page.{Adds, has_damage, line_of, marks_of, text_of};
+ghost use Rattle.crash_page.specs.Part.{absent, absent_stream, damage_line, line, mark, outside};
+ghost use Rattle.crash_page.specs.Part.{unless_missing, stream_unless_missing};
 
 use super::Page;
-use crate::escape::push_escaped;
+use escapes::push_escaped;
 use minidump::Error;
 use minidump::text::{Piece, format_pieces};
+use missing_streams::is_missing;
 use std::alloc::{AllocError, Global};
 
 impl Page {
@@ -90,7 +90,7 @@ impl Page {
     }
 
     // Adds a line of words.
-    #[tactic(auto, using(crate::proofs::EscapeLemmas::line_printed))]
+    #[tactic(auto, using(crate::proofs::LineLemmas::line_printed))]
     fn words(&mut self, words: &str) -> Result<(), AllocError>
         ensures text { OnOk result (text_of self.new ≡ text_of self.old ++ line_of words.now) }
         ensures same { has_damage self.new ≡ has_damage self.old }
@@ -159,28 +159,5 @@ impl Page {
             return Ok(());
         }
         self.absent(name, error)
-    }
-}
-
-// Tells whether an error is that of a stream that is missing, and not of one that can't be read.
-fn is_missing(error: Error) -> bool
-    ensures { result ≡ is_missing error }
-{
-    match error {
-        Error::StreamNotFound => true,
-        Error::FileNotFound
-        | Error::IoError
-        | Error::MissingHeader
-        | Error::HeaderMismatch
-        | Error::VersionMismatch
-        | Error::MissingDirectory
-        | Error::StreamReadFailure
-        | Error::StreamSizeMismatch { .. }
-        | Error::ModuleReadFailure
-        | Error::MemoryReadFailure
-        | Error::DataError
-        | Error::CodeViewReadFailure
-        | Error::UknownElementType
-        | Error::OutOfMemory => false,
     }
 }

@@ -1,6 +1,6 @@
 -- The first value of what is left is that of the text.
 use Rattle.std.proofs.Common.{◌≡◌}
-use Rattle.minidump.specs.Promise.{linux_lsb_release_stream}
+use Rattle.minidump_records.specs.Linux.{linux_lsb_release_stream}
 use Rattle.streams_json.specs.Records.{first_value, first_value_in}
 use Rattle.streams_json.proofs.records.first_value.Given as goal
 

@@ -2,7 +2,7 @@
 use Rattle.std.proofs.Common.{◌≡◌, ◌∙◌, ◌∷◌, ◌++◌, [], ap, codes, length, map, rules, sym}
 use Rattle.std.proofs.lemmas.List.{length-map}
 use Rattle.json.specs.Json.{Json}
-use Rattle.minidump.specs.Below.Records.Record.{mac_record_of}
+use Rattle.minidump_records.specs.MacCrashInfo.Record.{mac_record_of}
 use Rattle.json_tree.specs.Tree.{array_of, count, member_list_tokens}
 use Rattle.json_tree.proofs.Tokens.{array_of_views, more}
 use Rattle.streams_json.specs.Records.{mac_members, mac_record_json}

@@ -1,0 +1,2 @@
+-- The last item of an id: among one more, and of views.
+pub mod LastItem

@@ -1,0 +1,2 @@
+-- How deep the values nest.
+pub mod Depth

@@ -1,0 +1,2 @@
+-- The definition that the contract cites.
+pub mod End
