@@ -1,8 +1,8 @@
 -- The directory of a file that is a dump lies in it.
-use Rattle.std.proofs.Common.{◌≡◌, ℕ, ◌+◌, ◌*◌, ◌<◌, ◌≤◌, ap, arith, Bool, true, false, cond, count_by, length, List, [], ◌∷◌, refl, sym, ◌∙◌}
+use Rattle.std.proofs.Common.{◌≡◌, ℕ, ◌+◌, ◌*◌, ◌<◌, ◌≤◌, ap, arith, Bool, true, false, cond, count_by, get_or, length, take, List, refl, sym, ◌∙◌}
 use Rattle.std.specs.Prelude.{Result, Ok, Err, nat_lt}
 use Rattle.std.proofs.lemmas.Bool.Decides.{nat_tests}
-use Rattle.std.proofs.lemmas.List.Sums.{sum_by-cons}
+use Rattle.std.proofs.lemmas.List.Sums.{sum_by_more}
 use Rattle.minidump.specs.declared.Endian.{Endian}
 use Rattle.minidump.specs.declared.Error.{Error}
 use Rattle.minidump.specs.declared.Error.TheVariants.{MissingDirectory}
@@ -52,17 +52,9 @@ unfolding entries
 no_entries order file a b n none = rw none refl
 
 -- one more was counted
-pub count_next : (test : MINIDUMP_DIRECTORY → Bool) (count weight all : ℕ) (left rest : List MINIDUMP_DIRECTORY) (e : MINIDUMP_DIRECTORY) → left ≡ e ∷ rest
-    → weight ≡ cond (test e) 1 0 → count + count_by test left ≡ all → (count + weight) + count_by test rest ≡ all
-count_next test count weight all left rest e is weight_is before =
-    let one = sum_by-cons (λ x. cond (test x) 1 0) e rest in
-    let split : count_by test left ≡ weight + count_by test rest = ap (count_by test) is ∙ one ∙ ap (λ n. n + count_by test rest) (sym weight_is) in
-    omega (arith, split, before)
-
--- and all are counted
-pub count_end : (test : MINIDUMP_DIRECTORY → Bool) (count all : ℕ) (left : List MINIDUMP_DIRECTORY) → left ≡ [] → count + count_by test left ≡ all → count ≡ all
-count_end test count all left none before =
-    let nothing : count_by test left ≡ 0 = ap (count_by test) none in omega (arith, nothing, before)
+pub count_more : (test : MINIDUMP_DIRECTORY → Bool) (weight : ℕ) (xs : List MINIDUMP_DIRECTORY) (i : ℕ) (e : MINIDUMP_DIRECTORY) → i < length xs → get_or xs i e ≡ e
+    → weight ≡ cond (test e) 1 0 → count_by test (take (i + 1) xs) ≡ count_by test (take i xs) + weight
+count_more test weight xs i e inside item is = rw (sum_by_more (λ x. cond (test x) 1 0) xs i e inside, item, is) refl
 
 -- one entry counts once at most
 pub weight_le : (b : Bool) (weight : ℕ) → weight ≡ cond b 1 0 → weight ≤ 1

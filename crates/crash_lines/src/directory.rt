@@ -60,8 +60,9 @@ fn exceptions_of(dump: &Minidump<'_>, file: &[u8]) -> u64
     ensures { result ≡ exceptions_of (dump_of dump.now) }
 {
     let mut count = 0;
-    for entry in entries_in(dump, file) {
-        count += is_exception(entry.read(&mut Steps::new()));
+    let entries = entries_in(dump, file);
+    for index in 0..entries.len() {
+        count += is_exception(entries.read(index, &mut Steps::new()));
     }
     count
 }
@@ -72,8 +73,9 @@ fn outside_of(dump: &Minidump<'_>, file: &[u8]) -> u64
     ensures { result ≡ outside_of (dump_of dump.now) }
 {
     let mut count = 0;
-    for entry in entries_in(dump, file) {
-        count += is_outside(entry.read(&mut Steps::new()), file);
+    let entries = entries_in(dump, file);
+    for index in 0..entries.len() {
+        count += is_outside(entries.read(index, &mut Steps::new()), file);
     }
     count
 }

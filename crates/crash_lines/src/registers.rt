@@ -163,7 +163,7 @@ fn register_words(alloc: Global, name: &str, value: u64, size: usize) -> Result<
         alloc,
         &[
             Piece::Words("  "),
-            Piece::Left(name, 3),
+            Piece::Left(3, name),
             Piece::Words(" "),
             Piece::Wide(value, 2 * size),
         ],

@@ -241,7 +241,7 @@ module _ (ds : List DecidingEntry) (up : IsStrictlySortedBy nat_cmp (map type_of
 
 -- ---- a sort by type
 
-abbrev of_that_type : ℕ → DecidingEntry
+abbrev pub of_that_type : ℕ → DecidingEntry
 of_that_type t = record { index = 0; entry = record { stream_type = t; location = record { data_size = 0; rva = 0 } } }
 
 types_tie : (t n : ℕ) → ties (λ a b. is_lt (nat_cmp a b)) t n ≡ (n == t)

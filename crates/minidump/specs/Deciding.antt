@@ -8,6 +8,7 @@ use Rattle.minidump_format.specs.declared.format.header.MINIDUMP_HEADER.{MINIDUM
 use Rattle.minidump.specs.declared.directory.DecidingEntry.{DecidingEntry}
 use Rattle.minidump_format.specs.declared.format.header.MINIDUMP_DIRECTORY.{MINIDUMP_DIRECTORY}
 use Rattle.minidump.specs.Directory.{deciding_entry, is_readable}
+use Rattle.minidump.specs.Dump.{bytes_of_entry}
 
 -- the type of an entry
 abbrev pub type_of : DecidingEntry → ℕ
@@ -16,6 +17,10 @@ type_of d = d.entry.stream_type
 -- the entry has a type
 abbrev pub is_of_type : ℕ → DecidingEntry → Bool
 is_of_type t d = type_of d == t
+
+-- the bytes of the stream of a type in a file whose deciding entries these are, or the error
+abbrev pub bytes_of_type : ℕ → List DecidingEntry → List ℕ → Result (List ℕ) Error
+bytes_of_type t ds file = bytes_of_entry file (find (is_of_type t) ds)
 
 -- the first entry is followed by none, or by one of another type
 abbrev pub ends_a_type : List DecidingEntry → Bool

@@ -55,7 +55,7 @@ bytes_of_span None = Err StreamReadFailure
 bytes_of_span (Some bytes) = Ok bytes
 
 -- the bytes of the stream that an entry of the directory decides, or the error
-abbrev bytes_of_entry : List ℕ → Option DecidingEntry → Result (List ℕ) Error
+abbrev pub bytes_of_entry : List ℕ → Option DecidingEntry → Result (List ℕ) Error
 bytes_of_entry file None = Err StreamNotFound
 bytes_of_entry file (Some d) = bytes_of_span (located file d.entry.location)
 

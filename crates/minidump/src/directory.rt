@@ -1,10 +1,10 @@
-ghost use Rattle.std.specs.Prelude.{◌≡◌, ◌+◌, ◌-◌, ◌*◌, ◌^◌, ◌<◌, ◌≤◌, All, find, length, drop, map, IfOk, OnOk};
+ghost use Rattle.std.specs.Prelude.{◌≡◌, ◌+◌, ◌-◌, ◌*◌, ◌^◌, ◌<◌, ◌≤◌, ◌≢◌, All, length, drop, map, IfOk, OnOk};
 ghost use Rattle.std.specs.List.Sorted.{IsNonDecreasingBy, IsStrictlySortedBy};
 ghost use Rattle.std.specs.Ordering.{nat_cmp};
-ghost use Rattle.std.specs.Option.{option_map};
 ghost use Rattle.minidump_bytes.specs.Steps.{after};
 ghost use Rattle.minidump_bytes.specs.Source.{bytes_of};
-ghost use Rattle.minidump.specs.Deciding.{AreLast, Decides, Reads, ends_a_type, is_of_type, type_of};
+ghost use Rattle.minidump_format.specs.Answer.{Gives};
+ghost use Rattle.minidump.specs.Deciding.{AreLast, Decides, Reads, bytes_of_type, ends_a_type, type_of};
 ghost use Rattle.minidump.specs.Directory.{directory, with_indices, is_readable};
 
 use minidump_bytes::{Endian, Source, Steps};
@@ -107,13 +107,31 @@ fn keep_last(entries: &mut Vec<DecidingEntry>)
     entries.truncate(kept);
 }
 
-// Returns the entry of a type, of entries that ascend by type.
-pub(crate) fn entry_of_type(entries: &[DecidingEntry], stream_type: u32) -> Option<&DecidingEntry>
+// Returns the bytes of the stream of a type, of entries that ascend by type. Returns
+// `StreamNotFound` if there is no entry of the type, and counts no step then; counts one else, and
+// returns `StreamReadFailure` if the bytes are not all in the file.
+pub(crate) fn raw_stream<'a>(
+    entries: &[DecidingEntry],
+    stream_type: u32,
+    all: Source<'a>,
+    steps: &mut Steps,
+) -> Result<&'a [u8], Error>
     requires { IsStrictlySortedBy nat_cmp (map type_of entries.now) }
-    ensures { option_map (λ d. d.now) result ≡ find (is_of_type stream_type) entries.now }
+    ensures means { Gives (λ b. b.now) ⊥ result
+        (bytes_of_type stream_type entries.now (bytes_of all.entry)) }
+    ensures counted { bytes_of_type stream_type entries.now (bytes_of all.entry)
+        ≢ Err Error.StreamNotFound
+        → steps.new ≡ after steps.old 1 }
+    ensures absent { bytes_of_type stream_type entries.now (bytes_of all.entry)
+        ≡ Err Error.StreamNotFound
+        → steps.new ≡ steps.old }
 {
     match entries.binary_search_by_key(&stream_type, |e| e.entry.stream_type) {
-        Ok(index) => Some(&entries[index]),
-        Err(_) => None,
+        Ok(index) => {
+            let location = entries[index].entry.location;
+            all.span(location.rva as u64, location.data_size as u64, steps)
+                .ok_or(Error::StreamReadFailure)
+        }
+        Err(_) => Err(Error::StreamNotFound),
     }
 }

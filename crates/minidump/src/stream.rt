@@ -5,7 +5,7 @@ ghost use Rattle.minidump.specs.Dump.{IsFoundStream, IsStreamOf, raw_stream};
 ghost use Rattle.minidump.specs.DumpValue.{dump_of};
 
 use crate::Minidump;
-use crate::directory::entry_of_type;
+use crate::directory::raw_stream;
 use minidump_bytes::{Source, Steps};
 use minidump_format::Error;
 use minidump_system::MinidumpStream;
@@ -18,26 +18,12 @@ impl<'a> Minidump<'a> {
     pub fn get_raw_stream(&self, stream_type: u32) -> Result<&'a [u8], Error>
         ensures { Gives (λ b. b.now) ⊥ result (raw_stream stream_type (dump_of self.now)) }
     {
-        self.raw_stream(stream_type, &mut Steps::new())
-    }
-
-    // Returns the bytes of a stream, and counts the read.
-    fn raw_stream(&self, stream_type: u32, steps: &mut Steps) -> Result<&'a [u8], Error>
-        ensures means { Gives (λ b. b.now) ⊥ result (raw_stream stream_type (dump_of self.now)) }
-        ensures within { steps.new ≤ steps.old + 1 }
-        ensures grows { steps.old ≤ steps.new }
-        ensures counted { raw_stream stream_type (dump_of self.now) ≢ Err Error.StreamNotFound
-            → steps.new ≡ after steps.old 1 }
-        ensures absent { raw_stream stream_type (dump_of self.now) ≡ Err Error.StreamNotFound
-            → steps.new ≡ steps.old }
-        ensures inside { IfOk result (λ b. length b.now ≤ length (dump_of self.now).file) }
-    {
-        let entries = self.entries.as_slice();
-        let last = entry_of_type(entries, stream_type).ok_or(Error::StreamNotFound)?;
-        let location = last.entry.location;
-        self.source
-            .span(location.rva as u64, location.data_size as u64, steps)
-            .ok_or(Error::StreamReadFailure)
+        raw_stream(
+            self.entries.as_slice(),
+            stream_type,
+            self.source,
+            &mut Steps::new(),
+        )
     }
 
     /// Reads the stream of the type `S`, and hands it the dump's system information. Returns
@@ -74,10 +60,11 @@ impl<'a> Minidump<'a> {
             (λ b. after steps.old (1 + S.spec.fewest (dump_of self.now).order b (S.spec.value x))
             ≤ steps.new)) }
     {
-        let bytes = Source::new(self.raw_stream(S::number_of_type(), steps)?);
+        let entries = self.entries.as_slice();
+        let bytes = raw_stream(entries, S::number_of_type(), self.source, steps)?;
         S::read(
             alloc,
-            bytes,
+            Source::new(bytes),
             self.source,
             self.endian,
             self.system_info.as_ref(),

@@ -7,7 +7,7 @@ ghost use Rattle.minidump.specs.Deciding.{Decides};
 ghost use Rattle.minidump.specs.Directory.{directory};
 ghost use Rattle.minidump.specs.Dump.{dump_system, system_memory, system_reads};
 
-use crate::directory::{DecidingEntry, entry_of_type};
+use crate::directory::{DecidingEntry, raw_stream};
 use minidump_bytes::{Endian, Source, Steps};
 use minidump_format::Error;
 use minidump_format::format::MINIDUMP_HEADER;
@@ -36,10 +36,7 @@ pub(crate) fn read_system_info(
         (record { file = bytes_of source.entry; order = endian; header = header.now }))
         ≤ steps.new) }
 {
-    let Some(last) = entry_of_type(entries, MinidumpSystemInfo::STREAM_TYPE) else {
-        return Ok(None);
-    };
-    let Some(bytes) = last.entry.location.bytes_in(source, steps) else {
+    let Ok(bytes) = raw_stream(entries, MinidumpSystemInfo::STREAM_TYPE, source, steps) else {
         return Ok(None);
     };
     match MinidumpSystemInfo::read_record(alloc, Source::new(bytes), source, endian, steps) {

@@ -7,6 +7,9 @@ use minidump_bytes::Told;
 use std::alloc::{AllocError, Global};
 use std::io::Write;
 
+// The room that is made for the text of an item. Few are longer.
+pub(crate) const ITEM: usize = 1024;
+
 /// A value that can append its text to bytes.
 pub trait Pushed {
     // its text
@@ -26,11 +29,12 @@ pub fn print_item<T: Pushed, W: Write>(
 ) -> Result<(), Error>
     ensures { Prints W.contents f.old f.new (T.text item.now) result }
 {
-    let mut text = Vec::new(alloc);
-    match item.push(&mut text) {
-        Ok(()) => put_bytes(f, text.as_slice()),
-        Err(AllocError) => Err(no_memory(f)),
+    if f.failed() {
+        return Err(Error::IoError);
     }
+    let mut text = Vec::with_capacity(alloc, ITEM)?;
+    item.push(&mut text)?;
+    put_bytes(f, text.as_slice())
 }
 
 /// Prints a text. The only error is [`Error::IoError`].

@@ -5,7 +5,7 @@ ghost use Rattle.std.proofs.lemmas.Iterator.{YieldsList};
 ghost use Rattle.minidump_format.specs.Numbered.{numbered_list};
 ghost use Rattle.minidump_format.specs.Print.{Prints};
 
-use crate::print::put_bytes;
+use crate::print::{ITEM, put_bytes};
 use crate::{Error, Pushed, print_item};
 use minidump_bytes::{Piece, Told, push_pieces};
 use std::alloc::{AllocError, Global};
@@ -35,10 +35,8 @@ where
     }
     let mut block = Vec::new(alloc);
     for item in items {
-        match item.push(&mut block) {
-            Ok(()) => {}
-            Err(AllocError) => return Err(Error::OutOfMemory),
-        }
+        block.reserve(ITEM)?;
+        item.push(&mut block)?;
         if block.len() >= BLOCK {
             put_bytes(f, block.as_slice())?;
             block.clear();

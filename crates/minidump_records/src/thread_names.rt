@@ -147,8 +147,8 @@ fn read_names(
     ensures steps { IfOk result (λ _. steps.new ≡ after steps.old (2 * length raws.entry)) }
 {
     let mut names = BTreeMap::new(alloc);
-    for entry in raws {
-        let raw = entry.read(steps);
+    for index in 0..raws.len() {
+        let raw = raws.read(index, steps);
         if let Some(name) = read_name(alloc, &raw, all, endian, steps)? {
             put_name(&mut names, raw.thread_id, name)?;
         }

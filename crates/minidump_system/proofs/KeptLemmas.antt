@@ -1,17 +1,16 @@
 -- The items of entries: none, one more, one that is skipped, and the first error.
-use Rattle.std.proofs.Common.{◌≡◌, ℕ, ◌+◌, List, [], ◌∷◌, ◌++◌, length, take, drop, map, Result, Ok, Err, Option, Some, None, refl, ap, sym}
+use Rattle.std.proofs.Common.{◌≡◌, ℕ, ◌+◌, ◌<◌, List, [], ◌∷◌, ◌++◌, length, get_or, take, drop, map, Result, Ok, Err, Option, Some, None, refl, ap, sym}
 use Rattle.std.proofs.Common.{◌∙◌, add-one, append-nil, arith, drop-cons}
 use Rattle.std.specs.Prelude.{Bool, true, false, filter}
 use Rattle.std.specs.List.{cons_option, filter_map, sum_by}
 use Rattle.std.proofs.lemmas.List.{take-append-drop, take_more}
 use Rattle.std.proofs.lemmas.List.Sums.{sum_by-cons}
-use Rattle.minidump_bytes.proofs.LeftLemmas.{IsNext}
 use Rattle.minidump_format.specs.declared.error.Error.{Error}
 use Rattle.minidump_system.specs.Reads.{all_kept, all_ok, and_then, read_each, read_if}
 
-split_at : {R : Type 0} (xs : List R) (i : ℕ) (x : R) (rest : List R) → IsNext xs i x x rest → xs ≡ take i xs ++ x ∷ drop (i + 1) xs
-split_at {R = R} xs i x rest next =
-    let after : drop i xs ≡ x ∷ drop (i + 1) xs = rw (add-one i, ← next.item) (drop-cons xs i x next.inside) in
+split_at : {R : Type 0} (xs : List R) (i : ℕ) (x : R) → i < length xs → get_or xs i x ≡ x → xs ≡ take i xs ++ x ∷ drop (i + 1) xs
+split_at {R = R} xs i x inside item =
+    let after : drop i xs ≡ x ∷ drop (i + 1) xs = rw (add-one i, ← item) (drop-cons xs i x inside) in
     sym (take-append-drop i xs) ∙ ap (λ (l : List R). take i xs ++ l) after
 
 step : {V : Type 0} (r : Result (Option V) Error) (A B W : Result (List V) Error) → W ≡ and_then A (λ vs. and_then B (λ ws. Ok (vs ++ ws)))
@@ -45,21 +44,21 @@ pub kept_none : {R V : Type 0} (read : R → Result (Option V) Error) → all_ke
 unfolding all_kept
 kept_none read = refl
 
-module _ {R V : Type 0} (read : R → Result (Option V) Error) (xs : List R) (i : ℕ) (x : R) (rest : List R) (next : IsNext xs i x x rest) (vs : List V) where
+module _ {R V : Type 0} (read : R → Result (Option V) Error) (xs : List R) (i : ℕ) (x : R) (inside : i < length xs) (item : get_or xs i x ≡ x) (vs : List V) where
   -- one value more
   pub kept_next : (v : V) → all_kept read (take i xs) ≡ Ok vs → read x ≡ Ok (Some v) → all_kept read (take (i + 1) xs) ≡ Ok (vs ++ v ∷ [])
   kept_next v so_far one =
-      rw (take_more xs i x next.inside, next.item, all_kept-append read (take i xs) (x ∷ []), so_far, one_kept read x (Some v) one) refl
+      rw (take_more xs i x inside, item, all_kept-append read (take i xs) (x ∷ []), so_far, one_kept read x (Some v) one) refl
 
   -- an entry that is skipped
   pub kept_skip : all_kept read (take i xs) ≡ Ok vs → read x ≡ Ok None → all_kept read (take (i + 1) xs) ≡ Ok vs
   kept_skip so_far one =
-      rw (take_more xs i x next.inside, next.item, all_kept-append read (take i xs) (x ∷ []), so_far, one_kept read x None one, append-nil) refl
+      rw (take_more xs i x inside, item, all_kept-append read (take i xs) (x ∷ []), so_far, one_kept read x None one, append-nil) refl
 
   -- the first error is that of all
   pub kept_error : (e : Error) → all_kept read (take i xs) ≡ Ok vs → read x ≡ Err e → all_kept read xs ≡ Err e
   kept_error e so_far one =
-      let split : xs ≡ take i xs ++ x ∷ drop (i + 1) xs = split_at xs i x rest next in
+      let split : xs ≡ take i xs ++ x ∷ drop (i + 1) xs = split_at xs i x inside item in
       rw split (rw (all_kept-append read (take i xs) (x ∷ drop (i + 1) xs), so_far, first_err read x (drop (i + 1) xs) e one) refl)
 
 -- reads without an error

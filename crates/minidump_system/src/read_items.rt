@@ -75,8 +75,8 @@ where
         ≤ steps.new) }
 {
     let mut items = Vec::with_capacity(alloc, entries.len())?;
-    for entry in entries {
-        let raw = entry.read(steps);
+    for index in 0..entries.len() {
+        let raw = entries.read(index, steps);
         if let Some(item) = reader.read_entry(alloc, raw, all, endian, steps)? {
             items.push(item)?;
         }

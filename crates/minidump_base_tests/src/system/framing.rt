@@ -6,10 +6,15 @@ use minidump_system::framing::{
 
 // Whether the entries are those numbers.
 fn are_numbers(entries: Entries<'_, u32>, numbers: &[u32]) -> bool {
-    let mut entries = entries;
-    entries.len() == numbers.len()
-        && numbers.iter().all(|n| entries.next().map(|entry| entry.read(&mut Steps::new()))
-            == Some(*n))
+    if entries.len() != numbers.len() {
+        return false;
+    }
+    for index in 0..entries.len() {
+        if entries.read(index, &mut Steps::new()) != numbers[index] {
+            return false;
+        }
+    }
+    true
 }
 
 // A plain list of numbers, and the numbers. Four bytes that align them may follow the count.

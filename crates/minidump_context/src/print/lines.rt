@@ -79,7 +79,7 @@ fn push_left(out: &mut Vec<u8>, before: &str, number: usize, after: &str) -> Res
         ++ left_front before.now after.now number) }
 {
     let mut buffer = Buffer::new();
-    push_pieces(out, &[Piece::Words(before), Piece::Left(buffer.format(number), 2), Piece::Words(after)])
+    push_pieces(out, &[Piece::Words(before), Piece::Left(2, buffer.format(number)), Piece::Words(after)])
 }
 
 // Appends a value and the end of its line.

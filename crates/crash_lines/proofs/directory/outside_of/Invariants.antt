@@ -1,13 +1,13 @@
--- The entries so far are counted, and the others are left.
-use Rattle.std.proofs.Common.{◌≡◌, ◌+◌, ◌^◌, ◌<◌, count_by, length}
+-- The entries so far are counted.
+use Rattle.std.proofs.Common.{◌≡◌, ◌≤◌, count_by, take}
 use Rattle.std.specs.Prelude.{is_none}
 use Rattle.minidump.specs.Below.Format.Header.{located}
 use Rattle.minidump.specs.DumpValue.{dump_of}
-use Rattle.crash_lines.specs.Directory.{outside_of}
+use Rattle.crash_lines.specs.Directory.{entries_in}
 use Rattle.crash_lines.proofs.directory.outside_of.Given as goal
 
-abbrev pub invariant-loop-entry : goal.invariant-loop-entry
-invariant-loop-entry l = record {
-  all : l.count + count_by (λ e. is_none (located (dump_of l.dump).file e.location)) l.entry-iterator ≡ outside_of (dump_of l.dump);
-  few : l.count + length l.entry-iterator < 2 ^ 32;
+abbrev pub invariant-loop-index : goal.invariant-loop-index
+invariant-loop-index l = record {
+  counted : l.count ≡ count_by (λ e. is_none (located (dump_of l.dump).file e.location)) (take l.index (entries_in (dump_of l.dump)));
+  bounded : l.count ≤ l.index;
 }

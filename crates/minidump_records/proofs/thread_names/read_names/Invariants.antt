@@ -1,5 +1,5 @@
 -- The map has the last names of the entries so far, each read once, as its name is.
-use Rattle.std.proofs.Common.{◌≡◌, ◌^◌, ◌+◌, ◌*◌, ◌≤◌, drop, length, take}
+use Rattle.std.proofs.Common.{◌≡◌, ◌^◌, ◌*◌, take}
 use Rattle.std.specs.Prelude.{string_bytes}
 use Rattle.std.specs.List.{filter_map}
 use Rattle.minidump_bytes.specs.Source.{bytes_of}
@@ -8,11 +8,8 @@ use Rattle.minidump_records.specs.ThreadNames.{thread_name_in}
 use Rattle.minidump_records.proofs.ThreadLemmas.{HasLast}
 use Rattle.minidump_records.proofs.thread_names.read_names.Given as goal
 
-abbrev pub invariant-loop-entry : goal.invariant-loop-entry
-invariant-loop-entry l = record {
-  left : l.entry-iterator ≡ drop (length l.yielded) l.fn.raws;
-  last : HasLast string_bytes (2 ^ 32) l.names (filter_map (thread_name_in l.endian (bytes_of l.all)) (take (length l.yielded) l.fn.raws));
-  within : l.steps ≤ l.fn.steps + 2 * length l.yielded;
-  grows : l.fn.steps ≤ l.steps;
-  reads : l.steps ≡ after l.fn.steps (2 * length l.yielded);
+abbrev pub invariant-loop-index : goal.invariant-loop-index
+invariant-loop-index l = record {
+  last : HasLast string_bytes (2 ^ 32) l.names (filter_map (thread_name_in l.endian (bytes_of l.all)) (take l.index l.raws));
+  reads : l.steps ≡ after l.fn.steps (2 * l.index);
 }

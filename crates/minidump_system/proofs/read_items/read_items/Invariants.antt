@@ -1,17 +1,15 @@
 -- The items of the entries so far, and the reads made for them.
-use Rattle.std.proofs.Common.{◌≡◌, ◌+◌, ◌*◌, ◌≤◌, drop, length, map, take, Ok}
+use Rattle.std.proofs.Common.{◌≡◌, ◌+◌, ◌*◌, ◌≤◌, length, map, take, Ok}
 use Rattle.std.specs.List.{sum_by}
 use Rattle.minidump_bytes.specs.Source.{bytes_of}
 use Rattle.minidump_bytes.specs.Steps.{after}
 use Rattle.minidump_system.specs.Reads.{all_kept}
 use Rattle.minidump_system.proofs.read_items.read_items.Given as goal
 
-abbrev pub invariant-loop-entry : goal.invariant-loop-entry
-invariant-loop-entry g l = record {
-  left : l.entry-iterator ≡ drop (length l.yielded) l.fn.entries;
-  given : length l.yielded ≤ length l.fn.entries;
-  items : all_kept (g.L.ReadEntry.entry_value l.reader l.endian (bytes_of l.all)) (take (length l.yielded) l.fn.entries) ≡ Ok (map g.L.ReadEntry.value l.items.items);
-  within : l.steps ≤ l.fn.steps + length l.yielded * (1 + g.L.ReadEntry.most (length (bytes_of l.all)));
+abbrev pub invariant-loop-index : goal.invariant-loop-index
+invariant-loop-index g l = record {
+  items : all_kept (g.L.ReadEntry.entry_value l.reader l.endian (bytes_of l.all)) (take l.index l.entries) ≡ Ok (map g.L.ReadEntry.value l.items.items);
+  within : l.steps ≤ l.fn.steps + l.index * (1 + g.L.ReadEntry.most (length (bytes_of l.all)));
   grows : l.fn.steps ≤ l.steps;
-  least : after l.fn.steps (length l.yielded + (sum_by g.L.ReadEntry.fewest (take (length l.yielded) l.fn.entries) + sum_by g.L.ReadEntry.fewest_of (map g.L.ReadEntry.value l.items.items))) ≤ l.steps;
+  least : after l.fn.steps (l.index + (sum_by g.L.ReadEntry.fewest (take l.index l.entries) + sum_by g.L.ReadEntry.fewest_of (map g.L.ReadEntry.value l.items.items))) ≤ l.steps;
 }
