@@ -1,9 +1,7 @@
 -- A stream that was found is the dump's.
 use Rattle.std.proofs.Common.{◌≡◌, ℕ, List, Result, Ok, Err, sym}
 use Rattle.minidump.specs.declared.Error.{Error}
-use Rattle.minidump.specs.declared.Error.TheVariants.{FileNotFound, IoError, MissingHeader, HeaderMismatch, VersionMismatch, MissingDirectory}
-use Rattle.minidump.specs.declared.Error.TheVariants.{StreamReadFailure, StreamSizeMismatch, StreamNotFound, ModuleReadFailure, MemoryReadFailure}
-use Rattle.minidump.specs.declared.Error.TheVariants.{DataError, CodeViewReadFailure, UknownElementType, OutOfMemory}
+use Rattle.minidump.specs.declared.Error.TheVariants.{OutOfMemory}
 use Rattle.minidump.specs.Below.Contexts.Context.{map_ok}
 use Rattle.minidump.specs.Below.Format.Answer.{Gives, GivesError}
 use Rattle.crash_page.specs.declared.page.Page.{Page}
@@ -14,20 +12,7 @@ use Rattle.crash_lines.specs.Streams.{StreamValues}
 -- the error of a call that takes no memory is the assigned one
 pub assigned_as : {V : Type 0} (e : Error) (assigned : Result V Error) → GivesError ⊥ e assigned → assigned ≡ Err e
 assigned_as OutOfMemory assigned is = absurd is
-assigned_as FileNotFound assigned is = is
-assigned_as IoError assigned is = is
-assigned_as MissingHeader assigned is = is
-assigned_as HeaderMismatch assigned is = is
-assigned_as VersionMismatch assigned is = is
-assigned_as MissingDirectory assigned is = is
-assigned_as StreamReadFailure assigned is = is
-assigned_as (StreamSizeMismatch x y) assigned is = is
-assigned_as StreamNotFound assigned is = is
-assigned_as ModuleReadFailure assigned is = is
-assigned_as MemoryReadFailure assigned is = is
-assigned_as DataError assigned is = is
-assigned_as CodeViewReadFailure assigned is = is
-assigned_as UknownElementType assigned is = is
+assigned_as e assigned is = is
 
 -- the view of what was found is the assigned result
 pub given : {S V : Type 0} (view : S → V) (found : Result S Error) (assigned : Result V Error) → Gives view ⊥ found assigned

@@ -2,9 +2,7 @@
 use Rattle.std.proofs.Common.{◌≡◌, ◌⊎◌, ℕ, List, ◌++◌, Result, Ok, Err, inl, inr, ap, refl, subst, sym, ◌∙◌}
 use Rattle.std.specs.Prelude.{IfErr, IsErrAnd, OnOk}
 use Rattle.minidump.specs.declared.Error.{Error}
-use Rattle.minidump.specs.declared.Error.TheVariants.{FileNotFound, IoError, MissingHeader, HeaderMismatch, VersionMismatch, MissingDirectory}
-use Rattle.minidump.specs.declared.Error.TheVariants.{StreamReadFailure, StreamSizeMismatch, StreamNotFound, ModuleReadFailure, MemoryReadFailure}
-use Rattle.minidump.specs.declared.Error.TheVariants.{DataError, CodeViewReadFailure, UknownElementType, OutOfMemory}
+use Rattle.minidump.specs.declared.Error.TheVariants.{OutOfMemory}
 use Rattle.minidump.specs.Below.Format.Answer.{GivesError}
 use Rattle.minidump.specs.Below.Reasons.Names.{Lists}
 use Rattle.minidump.specs.Dump.{Dump, dump_in}
@@ -63,20 +61,7 @@ whole_if_done a b c names limits d v (Err e) contents before last = tt
 pub error_as : {V : Type 0} (memory : Type 0) (e : Error) (assigned : Result V Error) → GivesError memory e assigned
     → (assigned ≡ Err e) ⊎ (e ≡ OutOfMemory)
 error_as memory OutOfMemory assigned is = inr refl
-error_as memory FileNotFound assigned is = inl is
-error_as memory IoError assigned is = inl is
-error_as memory MissingHeader assigned is = inl is
-error_as memory HeaderMismatch assigned is = inl is
-error_as memory VersionMismatch assigned is = inl is
-error_as memory MissingDirectory assigned is = inl is
-error_as memory StreamReadFailure assigned is = inl is
-error_as memory (StreamSizeMismatch x y) assigned is = inl is
-error_as memory StreamNotFound assigned is = inl is
-error_as memory ModuleReadFailure assigned is = inl is
-error_as memory MemoryReadFailure assigned is = inl is
-error_as memory DataError assigned is = inl is
-error_as memory CodeViewReadFailure assigned is = inl is
-error_as memory UknownElementType assigned is = inl is
+error_as memory e assigned is = inl is
 
 -- the exit where the file is no dump, or memory ran out while it was read
 pub error_exit : {T : Type 0} (file : List ℕ) (page : Page) (r : Result T Error) (e : Error) → IsErrAnd r (λ y. y ≡ e)

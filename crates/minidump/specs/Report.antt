@@ -58,9 +58,10 @@ abbrev pub section : {S V : Type 0} → StreamSpec S V → (V → List ℕ) → 
 section spec text dump = text_or_error (stream_type_name spec.stream_type) text (stream_of spec dump)
 
 -- a text is what the stream of a table adds to the report if it has no value
-abbrev pub AddsError : {S V : Type 0} → StreamSpec S V → Dump → List ℕ → Type 0
-AddsError spec dump text =
-    (e : Error) → stream_of spec dump ≡ Err e → text ≡ unread_text (stream_type_name spec.stream_type) e
+abbrev pub IsUnreadText : {S V : Type 0} → StreamSpec S V → Dump → List ℕ → Type 0
+IsUnreadText spec dump text =
+    (e : Error) → stream_of spec dump ≡ Err e
+    → text ≡ unread_text (stream_type_name spec.stream_type) e
 
 -- what each type of stream adds: threads are not brief, and have the memory that `get_memory`
 -- returns; both lists of memory are brief

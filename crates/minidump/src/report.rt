@@ -115,7 +115,7 @@ macro_rules! print_stream {
     };
 }
 
-#[tactic(auto, using(crate::proofs::ReportLemmas::adds_error))]
+#[tactic(auto, using(crate::proofs::ReportLemmas::section_unread))]
 fn print_section<W: Write>(
     section: Section,
     dump: &Minidump<'_>,
@@ -153,7 +153,7 @@ fn print_section<W: Write>(
     each_stream!(print_arms)
 }
 
-#[tactic(auto, using(crate::proofs::ReportLemmas::adds_error))]
+#[tactic(auto, using(crate::proofs::ReportLemmas::section_unread))]
 fn print_threads<W: Write>(
     dump: &Minidump<'_>,
     streams: &SharedStreams<'_>,

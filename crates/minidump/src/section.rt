@@ -3,7 +3,7 @@ ghost use Rattle.minidump_format.specs.declared.error.Error.{Error};
 ghost use Rattle.minidump_format.specs.Print.{Prints};
 ghost use Rattle.minidump.specs.Dump.{IsStreamOf};
 ghost use Rattle.minidump.specs.DumpValue.{dump_of};
-ghost use Rattle.minidump.specs.Report.{AddsError, error_line, section_text, unread_text};
+ghost use Rattle.minidump.specs.Report.{IsUnreadText, error_line, section_text, unread_text};
 ghost use Rattle.minidump.specs.Text.{stream_type_name};
 
 use crate::Minidump;
@@ -15,8 +15,8 @@ use minidump_system::MinidumpStream;
 use std::alloc::Global;
 use std::io::Write;
 
-// Prints what a stream of the type `S` adds to the report if it can't be read: nothing if it is
-// absent, else the name of its error.
+// Prints what a stream of the type `S`, whose section of the report this is, adds to it if it can't
+// be read: nothing if it is absent, else the name of its error.
 pub(crate) fn print_unread<'a, S: MinidumpStream<'a>, W: Write>(
     section: Section,
     dump: &Minidump<'a>,
@@ -25,7 +25,7 @@ pub(crate) fn print_unread<'a, S: MinidumpStream<'a>, W: Write>(
     f: &mut Told<W>,
 ) -> Result<(), Error>
     requires stream { IsStreamOf S.spec (dump_of dump.now) (Err error) }
-    requires adds { AddsError S.spec (dump_of dump.now)
+    requires text { IsUnreadText S.spec (dump_of dump.now)
         (section_text (dump_of dump.now) section) }
     ensures { Prints W.contents f.old f.new (section_text (dump_of dump.now) section) result }
 {

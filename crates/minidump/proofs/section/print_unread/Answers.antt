@@ -9,4 +9,4 @@ pub returns : goal.returns
 returns g c =
     let d = dump_of c.args.dump.now in
     c.print_error.ensures (section_text d c.args.section) (rw c.number_of_type.ensures (λ other.
-    c.requires.adds c.args.error (assigned_as _ c.args.error (stream_of g.S.MinidumpStream.spec d) other c.requires.stream)))
+    c.requires.text c.args.error (assigned_as _ c.args.error (stream_of g.S.MinidumpStream.spec d) other c.requires.stream)))
