@@ -1,12 +1,10 @@
 -- The directory of a file that is a dump lies in it.
-use Rattle.std.proofs.Common.{◌≡◌, ℕ, ◌+◌, ◌*◌, ◌<◌, ◌≤◌, ap, arith, Bool, true, false, cond, count_by, get_or, length, take, List, refl, sym, ◌∙◌}
+use Rattle.std.proofs.Common.{◌≡◌, ℕ, ◌+◌, ◌*◌, ◌<◌, ◌≤◌, ap, arith, Bool, true, false, cond, length, List, refl, sym, ◌∙◌}
 use Rattle.std.specs.Prelude.{Result, Ok, Err, nat_lt}
 use Rattle.std.proofs.lemmas.Bool.Decides.{nat_tests}
-use Rattle.std.proofs.lemmas.List.Sums.{sum_by_more}
 use Rattle.minidump.specs.declared.Endian.{Endian}
 use Rattle.minidump.specs.declared.Error.{Error}
 use Rattle.minidump.specs.declared.Error.TheVariants.{MissingDirectory}
-use Rattle.minidump.specs.declared.format.MINIDUMP_DIRECTORY.{MINIDUMP_DIRECTORY}
 use Rattle.minidump.specs.declared.format.MINIDUMP_HEADER.{MINIDUMP_HEADER}
 use Rattle.minidump.specs.Below.Bytes.Entries.{entries}
 use Rattle.minidump.specs.Below.Format.Header.{directory_entry}
@@ -50,13 +48,3 @@ entries_fit file h readable some = grind (arith, nat_tests)
 pub no_entries : (order : Endian) (file : List ℕ) (a b n : ℕ) → n ≡ 0 → entries directory_entry order file a n ≡ entries directory_entry order file b n
 unfolding entries
 no_entries order file a b n none = rw none refl
-
--- one more was counted
-pub count_more : (test : MINIDUMP_DIRECTORY → Bool) (weight : ℕ) (xs : List MINIDUMP_DIRECTORY) (i : ℕ) (e : MINIDUMP_DIRECTORY) → i < length xs → get_or xs i e ≡ e
-    → weight ≡ cond (test e) 1 0 → count_by test (take (i + 1) xs) ≡ count_by test (take i xs) + weight
-count_more test weight xs i e inside item is = rw (sum_by_more (λ x. cond (test x) 1 0) xs i e inside, item, is) refl
-
--- one entry counts once at most
-pub weight_le : (b : Bool) (weight : ℕ) → weight ≡ cond b 1 0 → weight ≤ 1
-weight_le true weight is = omega (arith, is)
-weight_le false weight is = omega (arith, is)
