@@ -1,4 +1,4 @@
-use minidump_bytes::{Endian, Entries, Source, Steps};
+use minidump_bytes::{Endian, Entries, Record, Source, Steps};
 use minidump_format::Error;
 use minidump_system::framing::{
     HandleEntries, entries_64, extended_entries, handle_entries, plain_entries,
@@ -141,21 +141,23 @@ fn extended_entries_begin_after_their_header(rt: HostRuntime) {
     assert!(rt; EXTENDED.iter().all(extended_is) && NOT_EXTENDED.iter().all(extended_is_an_error));
 }
 
+// The first entry of a list.
+fn first<R: Record>(list: &Entries<'_, R>) -> Option<R> {
+    if list.len() == 0 {
+        return None;
+    }
+    Some(list.read(0, &mut Steps::new()))
+}
+
 // The first handle of a list and how many there are, with whether they have 40 bytes.
 fn first_handle(bytes: &[u8]) -> Result<(bool, usize, Option<u64>), Error> {
     match handle_entries(Source::new(bytes), Endian::Little, &mut Steps::new())? {
-        HandleEntries::Short(mut list) => Ok((
-            false,
-            list.len(),
-            list.next()
-                .map(|entry| entry.read(&mut Steps::new()).handle),
-        )),
-        HandleEntries::Long(mut list) => Ok((
-            true,
-            list.len(),
-            list.next()
-                .map(|entry| entry.read(&mut Steps::new()).handle),
-        )),
+        HandleEntries::Short(list) => {
+            Ok((false, list.len(), first(&list).map(|entry| entry.handle)))
+        }
+        HandleEntries::Long(list) => {
+            Ok((true, list.len(), first(&list).map(|entry| entry.handle)))
+        }
     }
 }
 
