@@ -8,7 +8,7 @@ use std::alloc::{AllocError, Global};
 use std::io::Write;
 
 // The room that is made for the text of an item. Few are longer.
-pub(crate) const ITEM: usize = 1024;
+pub(crate) const ITEM: usize = 4096;
 
 /// A value that can append its text to bytes.
 pub trait Pushed {
