@@ -7,9 +7,13 @@ use Rattle.minidump_bytes.specs.Number.{number_at}
 use Rattle.minidump_format.specs.Guid.{guid}
 use Rattle.minidump_format.specs.Header.{location}
 use Rattle.minidump_format.specs.declared.format.crashpad.MINIDUMP_CRASHPAD_INFO.{MINIDUMP_CRASHPAD_INFO}
-use Rattle.minidump_format.specs.declared.format.crashpad.MINIDUMP_MODULE_CRASHPAD_INFO_LINK.{MINIDUMP_MODULE_CRASHPAD_INFO_LINK}
+use Rattle.minidump_format.specs.declared.format.crashpad.MINIDUMP_MODULE_CRASHPAD_INFO_LINK.{
+  MINIDUMP_MODULE_CRASHPAD_INFO_LINK,
+}
 use Rattle.minidump_format.specs.declared.format.crashpad.MINIDUMP_MODULE_CRASHPAD_INFO.{MINIDUMP_MODULE_CRASHPAD_INFO}
-use Rattle.minidump_format.specs.declared.format.crashpad.MINIDUMP_SIMPLE_STRING_DICTIONARY_ENTRY.{MINIDUMP_SIMPLE_STRING_DICTIONARY_ENTRY}
+use Rattle.minidump_format.specs.declared.format.crashpad.MINIDUMP_SIMPLE_STRING_DICTIONARY_ENTRY.{
+  MINIDUMP_SIMPLE_STRING_DICTIONARY_ENTRY,
+}
 use Rattle.minidump_format.specs.declared.format.crashpad.MINIDUMP_ANNOTATION.{MINIDUMP_ANNOTATION}
 
 -- Crashpad's MinidumpCrashpadInfo

@@ -6,17 +6,23 @@ use Rattle.minidump_bytes.specs.Layout.{Layout}
 use Rattle.minidump_bytes.specs.Number.{number_at}
 use Rattle.minidump_format.specs.declared.format.handle.MINIDUMP_HANDLE_DESCRIPTOR.{MINIDUMP_HANDLE_DESCRIPTOR}
 use Rattle.minidump_format.specs.declared.format.handle.MINIDUMP_HANDLE_DESCRIPTOR_2.{MINIDUMP_HANDLE_DESCRIPTOR_2}
-use Rattle.minidump_format.specs.declared.format.handle.MINIDUMP_HANDLE_OBJECT_INFORMATION.{MINIDUMP_HANDLE_OBJECT_INFORMATION}
-use Rattle.minidump_format.specs.declared.format.handle.MINIDUMP_HANDLE_OBJECT_INFORMATION_TYPE.{MINIDUMP_HANDLE_OBJECT_INFORMATION_TYPE}
-use Rattle.minidump_format.specs.declared.format.handle.MINIDUMP_HANDLE_OBJECT_INFORMATION_TYPE.TheVariants.{MiniHandleObjectInformationNone}
-use Rattle.minidump_format.specs.declared.format.handle.MINIDUMP_HANDLE_OBJECT_INFORMATION_TYPE.TheVariants.{MiniThreadInformation1}
-use Rattle.minidump_format.specs.declared.format.handle.MINIDUMP_HANDLE_OBJECT_INFORMATION_TYPE.TheVariants.{MiniMutantInformation1}
-use Rattle.minidump_format.specs.declared.format.handle.MINIDUMP_HANDLE_OBJECT_INFORMATION_TYPE.TheVariants.{MiniMutantInformation2}
-use Rattle.minidump_format.specs.declared.format.handle.MINIDUMP_HANDLE_OBJECT_INFORMATION_TYPE.TheVariants.{MiniProcessInformation1}
-use Rattle.minidump_format.specs.declared.format.handle.MINIDUMP_HANDLE_OBJECT_INFORMATION_TYPE.TheVariants.{MiniProcessInformation2}
-use Rattle.minidump_format.specs.declared.format.handle.MINIDUMP_HANDLE_OBJECT_INFORMATION_TYPE.TheVariants.{MiniEventInformation1}
-use Rattle.minidump_format.specs.declared.format.handle.MINIDUMP_HANDLE_OBJECT_INFORMATION_TYPE.TheVariants.{MiniSectionInformation1}
-use Rattle.minidump_format.specs.declared.format.handle.MINIDUMP_HANDLE_OBJECT_INFORMATION_TYPE.TheVariants.{MiniSemaphoreInformation1}
+use Rattle.minidump_format.specs.declared.format.handle.MINIDUMP_HANDLE_OBJECT_INFORMATION.{
+  MINIDUMP_HANDLE_OBJECT_INFORMATION,
+}
+use Rattle.minidump_format.specs.declared.format.handle.MINIDUMP_HANDLE_OBJECT_INFORMATION_TYPE.{
+  MINIDUMP_HANDLE_OBJECT_INFORMATION_TYPE,
+}
+use Rattle.minidump_format.specs.declared.format.handle.MINIDUMP_HANDLE_OBJECT_INFORMATION_TYPE.TheVariants.{
+  MiniHandleObjectInformationNone,
+  MiniThreadInformation1,
+  MiniMutantInformation1,
+  MiniMutantInformation2,
+  MiniProcessInformation1,
+  MiniProcessInformation2,
+  MiniEventInformation1,
+  MiniSectionInformation1,
+  MiniSemaphoreInformation1,
+}
 
 -- Microsoft's MINIDUMP_HANDLE_DESCRIPTOR
 abbrev pub handle_descriptor : Layout MINIDUMP_HANDLE_DESCRIPTOR

@@ -9,17 +9,19 @@ use Rattle.minidump_format.specs.declared.format.system.X86CpuInfo.{X86CpuInfo}
 use Rattle.minidump_format.specs.declared.format.system.ARMCpuInfo.{ARMCpuInfo}
 use Rattle.minidump_format.specs.declared.format.system.ProcessorArchitecture.{ProcessorArchitecture}
 use Rattle.minidump_format.specs.declared.format.system.PlatformId.{PlatformId}
-use Rattle.minidump_format.specs.declared.format.system.ProcessorArchitecture.TheVariants.{PROCESSOR_ARCHITECTURE_INTEL}
-use Rattle.minidump_format.specs.declared.format.system.ProcessorArchitecture.TheVariants.{PROCESSOR_ARCHITECTURE_MIPS}
-use Rattle.minidump_format.specs.declared.format.system.ProcessorArchitecture.TheVariants.{PROCESSOR_ARCHITECTURE_PPC}
-use Rattle.minidump_format.specs.declared.format.system.ProcessorArchitecture.TheVariants.{PROCESSOR_ARCHITECTURE_ARM}
-use Rattle.minidump_format.specs.declared.format.system.ProcessorArchitecture.TheVariants.{PROCESSOR_ARCHITECTURE_AMD64}
-use Rattle.minidump_format.specs.declared.format.system.ProcessorArchitecture.TheVariants.{PROCESSOR_ARCHITECTURE_IA32_ON_WIN64}
-use Rattle.minidump_format.specs.declared.format.system.ProcessorArchitecture.TheVariants.{PROCESSOR_ARCHITECTURE_ARM64}
-use Rattle.minidump_format.specs.declared.format.system.ProcessorArchitecture.TheVariants.{PROCESSOR_ARCHITECTURE_SPARC}
-use Rattle.minidump_format.specs.declared.format.system.ProcessorArchitecture.TheVariants.{PROCESSOR_ARCHITECTURE_PPC64}
-use Rattle.minidump_format.specs.declared.format.system.ProcessorArchitecture.TheVariants.{PROCESSOR_ARCHITECTURE_ARM64_OLD}
-use Rattle.minidump_format.specs.declared.format.system.ProcessorArchitecture.TheVariants.{PROCESSOR_ARCHITECTURE_MIPS64}
+use Rattle.minidump_format.specs.declared.format.system.ProcessorArchitecture.TheVariants.{
+  PROCESSOR_ARCHITECTURE_INTEL,
+  PROCESSOR_ARCHITECTURE_MIPS,
+  PROCESSOR_ARCHITECTURE_PPC,
+  PROCESSOR_ARCHITECTURE_ARM,
+  PROCESSOR_ARCHITECTURE_AMD64,
+  PROCESSOR_ARCHITECTURE_IA32_ON_WIN64,
+  PROCESSOR_ARCHITECTURE_ARM64,
+  PROCESSOR_ARCHITECTURE_SPARC,
+  PROCESSOR_ARCHITECTURE_PPC64,
+  PROCESSOR_ARCHITECTURE_ARM64_OLD,
+  PROCESSOR_ARCHITECTURE_MIPS64,
+}
 use Rattle.minidump_format.specs.declared.format.system.PlatformId.TheVariants.{VER_PLATFORM_WIN32_WINDOWS}
 use Rattle.minidump_format.specs.declared.format.system.PlatformId.TheVariants.{VER_PLATFORM_WIN32_NT}
 use Rattle.minidump_format.specs.declared.format.system.PlatformId.TheVariants.{MacOs, Ios, Linux}

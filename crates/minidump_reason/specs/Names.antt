@@ -1,5 +1,6 @@
 -- The names of codes, by family: the lists that a caller lends, and what is found in them.
-use Rattle.std.specs.Prelude.{◌≡◌, ◌≢◌, ℕ, ◌<◌, ◌==◌, Bool, List, [], ◌∷◌, map, take, All, AllPairs, Any, Contains, slice_get, Option, Some, None}
+use Rattle.std.specs.Prelude.{◌≡◌, ◌≢◌, ℕ, ◌<◌, ◌==◌, Bool, List, [], ◌∷◌, map, take}
+use Rattle.std.specs.Prelude.{All, AllPairs, Any, Contains, slice_get, Option, Some, None}
 use Rattle.std.specs.Prelude.{is_some, if◌then◌else◌}
 use Rattle.std.specs.Borrow.{Bor}
 use denote.Enum.Bare.{sameb}

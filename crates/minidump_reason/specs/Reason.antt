@@ -1,8 +1,8 @@
 -- The reason of a crash: a decision table over the system, the processor, the exception record and
 -- the listed codes. Windows' winnt.h and ntstatus.h, Darwin's mach/exception_types.h, Linux'
 -- asm/signal.h.
-use Rattle.std.specs.Prelude.{ℕ, ◌%◌, ◌^◌, ◌==◌, nat_le, not, ◌&&◌, Bool, true, false, List, [], ◌∷◌, bit_and, slice_index, Option, Some, None}
-use Rattle.std.specs.Prelude.{unwrap_or, if◌then◌else◌}
+use Rattle.std.specs.Prelude.{ℕ, ◌%◌, ◌^◌, ◌==◌, nat_le, not, ◌&&◌, Bool, true, false, List, [], ◌∷◌}
+use Rattle.std.specs.Prelude.{bit_and, slice_index, Option, Some, None, unwrap_or, if◌then◌else◌}
 use Rattle.minidump_format.specs.declared.format.exception.MINIDUMP_EXCEPTION.{MINIDUMP_EXCEPTION}
 use Rattle.minidump_system.specs.declared.os.Os.{Os}
 use Rattle.minidump_system.specs.declared.os.Os.TheVariants.{Windows, MacOs, Ios, Linux, Android}
@@ -49,7 +49,10 @@ windows_code names c = first_match (
 abbrev refine_windows : Lists → ℕ → ℕ → ℕ → CrashReason → CrashReason
 refine_windows names k p0 p2 (reason.WindowsGeneral c) = first_match (
     (c == 0xc0000005 && (nat_le 1 k && is_in names family.WindowsAccess p0), reason.WindowsAccessViolation p0)
-    ∷ (c == 0xc0000006 && (nat_le 3 k && is_in names family.WindowsInPageError p0), reason.WindowsInPageError p0 (p2 % 2 ^ 32))
+    ∷ (
+      c == 0xc0000006 && (nat_le 3 k && is_in names family.WindowsInPageError p0),
+      reason.WindowsInPageError p0 (p2 % 2 ^ 32),
+    )
     ∷ []) (reason.WindowsGeneral c)
 refine_windows names k p0 p2 (reason.WindowsNtStatus c) = first_match (
     (c == 0xc0000409 && nat_le 1 k, reason.WindowsStackBufferOverrun (p0 % 2 ^ 32))
