@@ -1,9 +1,13 @@
 -- Lemmas on texts that are printed in blocks: what waits in a block is printed before what comes after it.
-use Rattle.std.specs.Prelude.{◌≡◌, ℕ, List, ◌++◌, Option}
-use Rattle.std.proofs.Common.{subst, sym, append_assoc}
+use Rattle.std.specs.Prelude.{◌≡◌, ℕ, List, ◌++◌, Option, Result, IsErrAnd}
+use Rattle.std.proofs.Common.{refl, subst, sym, append_assoc}
+use Rattle.std.proofs.lemmas.Result.{err_from_is_err_and}
 use Rattle.minidump_bytes.proofs.ToldLemmas.{not_dead}
 use Rattle.minidump_bytes.specs.declared.told.Told.{Told}
 use Rattle.minidump_bytes.specs.Told.{PutsPrefix}
+use Rattle.minidump_format.specs.declared.error.Error.{Error}
+use Rattle.minidump_format.specs.declared.error.Error.TheVariants.{OutOfMemory}
+use Rattle.minidump_format.specs.Print.{Prints}
 use Rattle.minidump_format.proofs.Printing.{PutsAllBut}
 
 module _ {D : Type 0} (contents : D → Option (List ℕ)) where
@@ -21,3 +25,9 @@ module _ {D : Type 0} (contents : D → Option (List ℕ)) where
     grown = before.put.grown;
     dead = not_dead before.put.ready;
   }
+
+  -- where memory ran out, and nothing failed before
+  pub lost_of : (a b : Told D) (whole rest : List ℕ) (r : Result (Unit {0}) Error) → PutsAllBut contents a b whole rest
+      → IsErrAnd r (λ y. y ≡ OutOfMemory) → Prints contents a b whole r
+  lost_of a b whole rest r before exit =
+      let p = err_from_is_err_and r exit in rw (p.1, p.2) (but_lost a b whole rest before, rw before.put.alive refl)

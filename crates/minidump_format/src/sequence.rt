@@ -1,18 +1,22 @@
-ghost use Rattle.std.specs.Prelude.{◌≡◌, ℕ, List, [], IfErr, length};
+ghost use Rattle.std.specs.Prelude.{◌≡◌, ◌++◌, ℕ, List, [], IfErr, false, length};
 ghost use Rattle.std.specs.Iterator.{IsFinite};
 ghost use Rattle.std.specs.List.{enumerate_from, flat_map};
 ghost use Rattle.std.proofs.lemmas.Iterator.{YieldsList};
+ghost use Rattle.minidump_bytes.specs.Told.{has_failed};
 ghost use Rattle.minidump_format.specs.Numbered.{numbered_list};
 ghost use Rattle.minidump_format.specs.Print.{Prints};
 
 use crate::print::{ITEM, put_bytes};
-use crate::{Error, Pushed, print_item};
+use crate::{Error, Pushed};
 use minidump_bytes::{Piece, Told, push_pieces};
 use std::alloc::{AllocError, Global};
 use std::io::Write;
 
 // The number of bytes at which a block is written. What waits is shorter.
 const BLOCK: usize = 32768;
+
+// The room that is made for a block: for what waits, and for one item more.
+const ROOM: usize = BLOCK + ITEM;
 
 /// Prints what an iterator yields, in blocks of some 32 KiB. Stops at the first error. If there is
 /// nothing, the only error is [`Error::IoError`].
@@ -33,9 +37,29 @@ where
     if f.failed() {
         return Err(Error::IoError);
     }
-    let mut block = Vec::new(alloc);
+    print_after(Vec::new(alloc), items, f)
+}
+
+// Prints a block, and then what an iterator yields, in blocks of some 32 KiB. Stops at the first
+// error. If the iterator yields nothing, the only error is `IoError`.
+fn print_after<I: Iterator + Drop, W: Write>(
+    mut block: Vec<u8>,
+    items: I,
+    f: &mut Told<W>,
+) -> Result<(), Error>
+where
+    I::Item: Pushed + Drop,
+    requires alive { has_failed f.old ≡ false }
+    requires can { I.can_next items }
+    requires ends { IsFinite (I.remaining items) }
+    ensures prints { (texts : List (List ℕ)) → YieldsList I.next_gives I.Item.text items texts
+        → Prints W.contents f.old f.new (block.items ++ flat_map (λ t. t) texts) result }
+    ensures none { YieldsList I.next_gives I.Item.text items []
+        → IfErr result (λ e. e ≡ Error.IoError) }
+{
     for item in items {
-        block.reserve(ITEM)?;
+        // Room for all of a block at once, so that it isn't copied as it grows.
+        block.reserve(ROOM.saturating_sub(block.len()))?;
         item.push(&mut block)?;
         if block.len() >= BLOCK {
             put_bytes(f, block.as_slice())?;
@@ -79,16 +103,17 @@ pub fn print_numbered_all<T: Pushed + Drop, I: Iterator<Item = (usize, T)> + Dro
         → count ≡ length texts
         → Prints W.contents f.old f.new (numbered_list heading.now name.now (λ t. t) texts) result }
 {
-    print_item(
-        &Heading {
-            words: heading,
-            count,
-        },
-        alloc,
-        f,
-    )?;
+    if f.failed() {
+        return Err(Error::IoError);
+    }
+    let mut block = Vec::with_capacity(alloc, ROOM)?;
+    let heading = Heading {
+        words: heading,
+        count,
+    };
+    heading.push(&mut block)?;
     let lines = items.map(|(index, value)| Numbered { name, index, value });
-    print_all(lines, alloc, f)
+    print_after(block, lines, f)
 }
 
 /// A heading that ends with a count, and an empty line.
