@@ -76,7 +76,7 @@ exception_stream = record {
   value = exception_of;
   meaning = λ order file bytes system. exception_in order file bytes;
   most = λ n. 2;
-  fewest = λ order bytes exception. 2;
+  fewest = λ order bytes system exception. 2;
   memory = λ order file bytes system. ⊥;
 }
 

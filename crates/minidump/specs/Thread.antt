@@ -120,6 +120,6 @@ thread_list_stream = record {
   value = thread_list_of;
   meaning = λ order file bytes system. thread_list_in order file bytes;
   most = λ n. n + 7;
-  fewest = λ order bytes threads. 1 + length threads + sum_by thread_reads threads;
+  fewest = λ order bytes system threads. 1 + length threads + sum_by thread_reads threads;
   memory = λ order file bytes system. IsOkAnd (plain_list thread order bytes) (λ raws. 0 < length raws);
 }

@@ -1,7 +1,7 @@
 ghost use Rattle.std.specs.Prelude.{◌≡◌, ◌≢◌, ◌+◌, ◌<◌, ◌≤◌, length, IfErr, IfOk, IfSome, OnOk, OnSome};
 ghost use Rattle.minidump_bytes.specs.Steps.{after};
 ghost use Rattle.minidump_format.specs.Answer.{Gives};
-ghost use Rattle.minidump.specs.Dump.{IsFoundStream, IsStreamOf, raw_stream};
+ghost use Rattle.minidump.specs.Dump.{IsFoundStream, IsStreamOf, dump_system, raw_stream};
 ghost use Rattle.minidump.specs.DumpValue.{dump_of};
 
 use crate::Minidump;
@@ -57,8 +57,8 @@ impl<'a> Minidump<'a> {
         ensures absent { raw_stream S.spec.stream_type (dump_of self.now) ≡ Err Error.StreamNotFound
             → steps.new ≡ steps.old }
         ensures at_least { IfOk result (λ x. IfOk (raw_stream S.spec.stream_type (dump_of self.now))
-            (λ b. after steps.old (1 + S.spec.fewest (dump_of self.now).order b (S.spec.value x))
-            ≤ steps.new)) }
+            (λ b. after steps.old (1 + S.spec.fewest (dump_of self.now).order b
+            (dump_system (dump_of self.now)) (S.spec.value x)) ≤ steps.new)) }
     {
         let entries = self.entries.as_slice();
         let bytes = raw_stream(entries, S::number_of_type(), self.source, steps)?;
@@ -105,8 +105,8 @@ impl<'a> Minidump<'a> {
             → steps.new ≡ steps.old }
         ensures at_least { IfOk result (λ found. IfSome found
             (λ x. IfOk (raw_stream S.spec.stream_type (dump_of self.now))
-            (λ b. after steps.old (1 + S.spec.fewest (dump_of self.now).order b (S.spec.value x))
-            ≤ steps.new))) }
+            (λ b. after steps.old (1 + S.spec.fewest (dump_of self.now).order b
+            (dump_system (dump_of self.now)) (S.spec.value x)) ≤ steps.new))) }
     {
         match self.get_stream_counted(alloc, steps) {
             Ok(stream) => Ok(Some(stream)),

@@ -48,7 +48,7 @@ module_list_stream = record {
   value = module_list_of;
   meaning = module_list_in;
   most = λ n. n + 7;
-  fewest = λ order bytes modules. 1 + count_of order bytes + modules_read modules;
+  fewest = λ order bytes system modules. 1 + count_of order bytes + modules_read modules;
   memory = λ order file bytes system. IsOkAnd (plain_list module_entry order bytes)
       (λ raws. 0 < length raws);
 }

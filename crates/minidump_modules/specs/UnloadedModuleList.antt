@@ -29,7 +29,7 @@ unloaded_module_list_stream = record {
   value = unloaded_module_list_of;
   meaning = λ order file bytes system. unloaded_module_list_in order file bytes;
   most = λ n. n + 7;
-  fewest = λ order bytes modules. 1 + 2 * (list_header_of order bytes).number_of_entries;
+  fewest = λ order bytes system modules. 1 + 2 * (list_header_of order bytes).number_of_entries;
   memory = λ order file bytes system. IsOkAnd (extended_list unloaded_module_entry order bytes)
       (λ raws. 0 < length raws);
 }

@@ -30,7 +30,7 @@ assertion_stream = record {
   value = assertion_of;
   meaning = λ order file bytes system. assertion_in order bytes;
   most = λ n. 1;
-  fewest = λ order bytes info. 1;
+  fewest = λ order bytes system info. 1;
   memory = λ order file bytes system. ⊥;
 }
 

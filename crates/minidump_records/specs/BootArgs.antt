@@ -64,7 +64,7 @@ mac_bootargs_stream = record {
   value = mac_bootargs_of;
   meaning = λ order file bytes system. mac_bootargs_in order file bytes;
   most = λ n. 3;
-  fewest = λ order bytes args. boot_args_reads bytes;
+  fewest = λ order bytes system args. boot_args_reads bytes;
   memory =
       λ order file bytes system. IsSomeAnd (boot_args_record order bytes)
       (λ raw. TakesMemory16 order raw.bootargs file);

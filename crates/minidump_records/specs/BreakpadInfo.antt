@@ -41,7 +41,7 @@ breakpad_info_stream = record {
   value = λ info. info;
   meaning = λ order file bytes system. breakpad_info_in order bytes;
   most = λ n. 1;
-  fewest = λ order bytes info. 1;
+  fewest = λ order bytes system info. 1;
   memory = λ order file bytes system. ⊥;
 }
 

@@ -147,7 +147,7 @@ crashpad_info_stream = record {
   value = crashpad_info_of;
   meaning = λ order file bytes system. crashpad_info_in order file bytes;
   most = λ n. (n + 8) * (n + 8) - 1;
-  fewest = λ order bytes info. crashpad_reads info;
+  fewest = λ order bytes system info. crashpad_reads info;
   memory =
       λ order file bytes system. IsOkAnd (crashpad_record order bytes) (InfoTakesMemory order file);
 }

@@ -103,7 +103,7 @@ handle_data_stream = record {
   value = handle_data_of;
   meaning = λ order file bytes system. handle_data_in order file bytes;
   most = λ n. (n + 8) * (n + 8) - 1;
-  fewest = λ order bytes handles. 1 + length handles + sum_by handle_reads handles;
+  fewest = λ order bytes system handles. 1 + length handles + sum_by handle_reads handles;
   memory =
       λ order file bytes system. IsOkAnd (handle_list order bytes) (λ list. 0 < handles_in list);
 }

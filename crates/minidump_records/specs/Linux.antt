@@ -32,7 +32,7 @@ linux_text_stream stream_type = record {
   value = linux_text_of;
   meaning = λ order file bytes system. linux_text_in bytes;
   most = λ n. 0;
-  fewest = λ order bytes value. 0;
+  fewest = λ order bytes system value. 0;
   memory = λ order file bytes system. ⊥;
 }
 

@@ -97,7 +97,8 @@ mac_crash_info_stream = record {
   meaning = λ order file bytes system. mac_crash_info_in order file bytes;
   most = λ n. n + 7;
   fewest =
-      λ order bytes records. 1 + 2 * count_of_records order bytes + sum_by record_reads records;
+      λ order bytes system records. 1 + 2 * count_of_records order bytes
+      + sum_by record_reads records;
   memory =
       λ order file bytes system. IsSomeAnd (record_at mac_crash_info order 0 bytes)
       (λ info. 0 < info.record_count);

@@ -25,7 +25,7 @@ soft_errors_stream = record {
   value = soft_errors_of;
   meaning = λ order file bytes system. soft_errors_in bytes;
   most = λ n. 0;
-  fewest = λ order bytes text. 0;
+  fewest = λ order bytes system text. 0;
   memory = λ order file bytes system. ⊥;
 }
 

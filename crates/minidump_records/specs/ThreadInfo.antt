@@ -33,7 +33,7 @@ thread_info_list_stream = record {
   value = thread_info_list_of;
   meaning = λ order file bytes system. thread_info_list_in order bytes;
   most = λ n. n + 7;
-  fewest = λ order bytes infos. 1 + (list_header_of order bytes).number_of_entries;
+  fewest = λ order bytes system infos. 1 + (list_header_of order bytes).number_of_entries;
   memory =
       λ order file bytes system. IsOkAnd (extended_list thread_info order bytes)
       (λ raws. 0 < length raws);

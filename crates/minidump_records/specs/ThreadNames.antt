@@ -62,7 +62,7 @@ thread_names_stream = record {
   value = thread_names_of;
   meaning = λ order file bytes system. thread_names_in order file bytes;
   most = λ n. n + 7;
-  fewest = λ order bytes names. 1 + 2 * count_of order bytes;
+  fewest = λ order bytes system names. 1 + 2 * count_of order bytes;
   memory =
       λ order file bytes system. IsOkAnd (plain_list thread_name order bytes)
       (Any (NameTakesMemory order file));

@@ -162,6 +162,6 @@ stability_report_stream = record {
   value = stability_report_of;
   meaning = λ order file bytes system. stability_report_in bytes;
   most = λ n. n + 7;
-  fewest = λ order bytes report. fields_of_report bytes;
+  fewest = λ order bytes system report. fields_of_report bytes;
   memory = λ order file bytes system. HasField IsState bytes;
 }

@@ -54,7 +54,7 @@ build_stream = record {
   value = build_of;
   meaning = λ order file bytes system. build_in order file bytes;
   most = λ n. 2;
-  fewest = λ order bytes build. 2;
+  fewest = λ order bytes system build. 2;
   memory = λ order file bytes system. IsSomeAnd (build_record order bytes)
       (λ raw. TakesMemory16 order raw.name_rva file);
 }
