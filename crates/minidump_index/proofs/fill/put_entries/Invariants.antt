@@ -5,6 +5,6 @@ use Rattle.minidump_index.proofs.fill.put_entries.Given as goal
 
 abbrev pub invariant-loop-k : goal.invariant-loop-k
 invariant-loop-k g l = record {
-  whole : length l.tree.items ≡ length (g.E.Ranked.entries l.entries);
-  filled : Filled (map g.S.Stored.value l.tree.items) (g.E.Ranked.entries l.entries) l.total l.k l.rank;
+  whole : length l.tree.items ≡ length l.entries;
+  filled : Filled (map g.S.Stored.value l.tree.items) (map g.S.Stored.value l.entries) l.total l.k l.rank;
 }
