@@ -6,7 +6,7 @@ use Rattle.std.proofs.lemmas.Bool.{and_from, and_parts, cases_lt, eq-eqb, eqb-tr
 use Rattle.std.proofs.lemmas.Option.{slice_get-map}
 use Rattle.minidump_index.specs.declared.range.Range.{Range}
 use Rattle.minidump_index.specs.Overlap.{HasRange, IsBefore, IsKeptSet, ShareAddress}
-use Rattle.minidump_index.specs.Lookup.{IsLookedUp, KeptAt, first_at, first_to_end, has_address, last_address, looked_up, starts_at, or_next}
+use Rattle.minidump_index.specs.Lookup.{IsLookedUp, KeptAt, first_at, first_to_end, last_address, looked_up, or_next}
 use Rattle.minidump_index.proofs.AddressOrder.{one_index}
 
 some_range : (r s : Range) → Some (Some r) ≡ Some (Some s) → r ≡ s
