@@ -1,5 +1,6 @@
 -- CodeView records: Microsoft's `RSDS` and `NB10`, and Breakpad's MDCVInfoELF of minidump_format.h.
-use Rattle.std.specs.Prelude.{ℕ, ◌+◌, ◌==◌, List, length, drop, slice_range, Option, Some, None, Result, Ok, Err, nat_lt, if◌then◌else◌}
+use Rattle.std.specs.Prelude.{ℕ, ◌+◌, ◌<◌, ◌==◌, List, length, drop, slice_range, Option, Some, None, IsSomeAnd, Result}
+use Rattle.std.specs.Prelude.{Ok, Err, IsOkAnd, nat_lt, if◌then◌else◌}
 use Rattle.std.specs.List.{before_first}
 use Rattle.std.specs.Option.{ok_or}
 use Rattle.std.specs.Str.Lossy.{utf8_lossy}
@@ -73,6 +74,22 @@ code_view_at order file location =
     if location.data_size == 0 then Ok None else
     and_then (ok_or (located file location) CodeViewReadFailure)
     (λ bytes. and_then (code_view order bytes) (λ view. Ok (Some view)))
+
+-- the bytes that a record copies: a name, a build id, or all of a record of an unknown kind
+abbrev pub copied_bytes : View → List ℕ
+copied_bytes (pdb70 s g age name) = name
+copied_bytes (pdb20 s offset signature age name) = name
+copied_bytes (elf s id) = id
+copied_bytes (unknown bytes) = bytes
+
+-- the read of a record takes memory: it is well-formed, and has bytes to copy
+abbrev pub RecordTakesMemory : Result View Error → Type 0
+RecordTakesMemory read = IsOkAnd read (λ view. 0 < length (copied_bytes view))
+
+-- the read of a record at a location takes memory: there is one, with bytes to copy
+abbrev pub ViewTakesMemory : Result (Option View) Error → Type 0
+ViewTakesMemory read =
+    IsOkAnd read (λ found. IsSomeAnd found (λ view. 0 < length (copied_bytes view)))
 
 -- the reads that a record takes: one for its signature, and one for each field; a record of an
 -- unknown kind has one field, all of its bytes

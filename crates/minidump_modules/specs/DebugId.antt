@@ -1,5 +1,6 @@
 -- Debug identifiers, as Breakpad has them: a GUID, or the time stamp of a Pdb20, with an appendix.
-use Rattle.std.specs.Prelude.{ℕ, ◌-◌, ◌++◌, ◌==◌, ◌&&◌, List, [], codes, length, take, drop, replicate, true, false, Option, None, nat_le, if◌then◌else◌}
+use Rattle.std.specs.Prelude.{ℕ, ◌-◌, ◌++◌, ◌==◌, ◌&&◌, List, [], codes, length, take, drop, replicate, true, false}
+use Rattle.std.specs.Prelude.{Option, None, nat_le, if◌then◌else◌}
 use Rattle.std.specs.Fmt.{digits}
 use Rattle.std.specs.Option.{option_and_then, option_map}
 use Rattle.minidump_bytes.specs.Digits.{number_of_digits}

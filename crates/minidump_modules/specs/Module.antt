@@ -1,10 +1,11 @@
 -- Modules: Microsoft's MINIDUMP_MODULE with its name and its CodeView record.
-use Rattle.std.specs.Prelude.{ℕ, ◌+◌, Bool, List, is_some, replicate, Option, None, Result, Ok, string_bytes}
+use Rattle.std.specs.Prelude.{ℕ, ◌+◌, ◌⊎◌, Bool, List, is_some, IsSome, replicate, Option, None, Result, Ok}
+use Rattle.std.specs.Prelude.{string_bytes}
 use Rattle.std.specs.Option.{ok_or, option_map}
 use Rattle.hex.specs.Hex.{encode_lower}
 use Rattle.minidump_bytes.specs.declared.endian.Endian.{Endian}
 use Rattle.minidump_bytes.specs.declared.endian.Endian.TheVariants.{Little}
-use Rattle.minidump_bytes.specs.Text16.{text16}
+use Rattle.minidump_bytes.specs.Text16.{TakesMemory16, text16}
 use Rattle.minidump_format.specs.declared.error.Error.{Error}
 use Rattle.minidump_format.specs.declared.error.Error.TheVariants.{CodeViewReadFailure}
 use Rattle.minidump_format.specs.declared.format.module.MINIDUMP_MODULE.{MINIDUMP_MODULE}
@@ -16,7 +17,7 @@ use Rattle.minidump_modules.specs.declared.module.CodeSource.{CodeSource}
 use Rattle.minidump_modules.specs.declared.module.CodeSource.TheVariants.{Stamp, Guid, BuildId}
 use Rattle.minidump_modules.specs.declared.module.MinidumpModule.{MinidumpModule}
 use Rattle.minidump_modules.specs.CodeId.{stamp_form}
-use Rattle.minidump_modules.specs.CodeView.{View, code_view_at, view_of, view_reads}
+use Rattle.minidump_modules.specs.CodeView.{View, ViewTakesMemory, code_view_at, view_of, view_reads}
 use Rattle.minidump_modules.specs.Identity.{Identity, code_identifier, debug_file, debug_identifier}
 use Rattle.minidump_modules.specs.Version.{version_of}
 
@@ -114,6 +115,14 @@ read_module order os file raw =
     and_then (ok_or (text16 order raw.module_name_rva file) CodeViewReadFailure) (λ name.
     and_then (code_view_at order file raw.cv_record) (λ view.
     Ok (record { raw = raw; name = name; view = view; order = order; os = os })))
+
+-- the read of an entry's module takes memory: its name has a code unit, or is a text and its
+-- CodeView record has bytes to copy
+abbrev pub ModuleTakesMemory : Endian → List ℕ → MINIDUMP_MODULE → Type 0
+ModuleTakesMemory order file raw =
+    TakesMemory16 order raw.module_name_rva file
+    ⊎ (IsSome (text16 order raw.module_name_rva file)
+    × ViewTakesMemory (code_view_at order file raw.cv_record))
 
 -- the reads that a module takes: one for its name, and those of its CodeView record
 abbrev pub module_reads : ModuleValue → ℕ

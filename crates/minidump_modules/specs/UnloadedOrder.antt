@@ -1,5 +1,6 @@
 -- Unloaded modules by address. They may overlap: each that has a range is kept.
-use Rattle.std.specs.Prelude.{◌≡◌, ◌↔◌, ℕ, ◌<◌, ◌≤◌, ◌⊎◌, ◌&&◌, Bool, List, map, filter, length, Option, Some, All, AllPairs, Contains, slice_get, nat_le}
+use Rattle.std.specs.Prelude.{◌≡◌, ◌↔◌, ℕ, ◌<◌, ◌≤◌, ◌⊎◌, ◌&&◌, Bool, List, map, filter, length, Option, Some, All}
+use Rattle.std.specs.Prelude.{AllPairs, Contains, slice_get, nat_le}
 use Rattle.std.specs.List.{filter_map}
 use Rattle.minidump_index.specs.declared.range.Range.{Range}
 use Rattle.minidump_index.specs.Lookup.{HasAddress}

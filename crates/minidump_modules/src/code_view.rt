@@ -1,4 +1,5 @@
-ghost use Rattle.std.specs.Prelude.{◌≡◌, ◌↔◌, ◌+◌, ◌≤◌, ◌==◌, ⊤, Ok, IfErr, IfOk, IsOk, IsOkUnless, drop, length, string_bytes};
+ghost use Rattle.std.specs.Prelude.{◌≡◌, ◌↔◌, ◌+◌, ◌<◌, ◌≤◌, ◌==◌, Ok, IfErr, IfOk, IsOk, IsOkUnless, drop, length};
+ghost use Rattle.std.specs.Prelude.{string_bytes};
 ghost use Rattle.std.specs.List.{before_first, position};
 ghost use Rattle.std.specs.Option.{option_map};
 ghost use Rattle.minidump_bytes.specs.Number.{number_at};
@@ -6,8 +7,10 @@ ghost use Rattle.minidump_bytes.specs.Source.{bytes_of};
 ghost use Rattle.minidump_bytes.specs.Steps.{after};
 ghost use Rattle.minidump_format.specs.Answer.{Gives};
 ghost use Rattle.minidump_format.specs.declared.error.Error.TheVariants.{CodeViewReadFailure};
-ghost use Rattle.minidump_modules.specs.CodeView.{code_view, code_view_at, lossy_name, pdb20_in, pdb70_in, record_reads, view_of, view_reads};
+ghost use Rattle.minidump_modules.specs.CodeView.{RecordTakesMemory, ViewTakesMemory, code_view, code_view_at};
+ghost use Rattle.minidump_modules.specs.CodeView.{lossy_name, pdb20_in, pdb70_in, record_reads, view_of, view_reads};
 
+use crate::text::copy_bytes;
 use minidump_bytes::{Endian, Source, Steps};
 use minidump_format::Error;
 use minidump_format::format::{
@@ -63,7 +66,8 @@ pub(crate) fn code_view_at(
     endian: Endian,
     steps: &mut Steps,
 ) -> Result<Option<CodeView>, Error>
-    ensures means { Gives (option_map view_of) ⊤ result
+    ensures means { Gives (option_map view_of)
+        (ViewTakesMemory (code_view_at endian (bytes_of all.entry) location.now)) result
         (code_view_at endian (bytes_of all.entry) location.now) }
     ensures within { steps.new ≤ steps.old + 6 }
     ensures grows { steps.old ≤ steps.new }
@@ -87,7 +91,8 @@ fn read_code_view(
     endian: Endian,
     steps: &mut Steps,
 ) -> Result<CodeView, Error>
-    ensures means { Gives view_of ⊤ result (code_view endian (bytes_of bytes.entry)) }
+    ensures means { Gives view_of (RecordTakesMemory (code_view endian (bytes_of bytes.entry))) result
+        (code_view endian (bytes_of bytes.entry)) }
     ensures within { steps.new ≤ steps.old + 5 }
     ensures grows { steps.old ≤ steps.new }
     ensures steps { IfOk result (λ view. steps.new
@@ -127,7 +132,8 @@ fn read_pdb70(
     steps: &mut Steps,
 ) -> Result<CV_INFO_PDB70, Error>
     requires { cv_signature ≡ number_at endian 4 0 (bytes_of bytes) }
-    ensures means { Gives (λ r. view_of (CodeView.Pdb70 r)) ⊤ result
+    ensures means { Gives (λ r. view_of (CodeView.Pdb70 r))
+        (RecordTakesMemory (pdb70_in endian (bytes_of bytes.entry))) result
         (pdb70_in endian (bytes_of bytes.entry)) }
     ensures within { steps.new ≤ steps.old + 3 }
     ensures grows { steps.old ≤ steps.new }
@@ -156,7 +162,8 @@ fn read_pdb20(
     steps: &mut Steps,
 ) -> Result<CV_INFO_PDB20, Error>
     requires { cv_signature ≡ number_at endian 4 0 (bytes_of bytes) }
-    ensures means { Gives (λ r. view_of (CodeView.Pdb20 r)) ⊤ result
+    ensures means { Gives (λ r. view_of (CodeView.Pdb20 r))
+        (RecordTakesMemory (pdb20_in endian (bytes_of bytes.entry))) result
         (pdb20_in endian (bytes_of bytes.entry)) }
     ensures within { steps.new ≤ steps.old + 4 }
     ensures grows { steps.old ≤ steps.new }
@@ -196,13 +203,14 @@ fn bytes_from(
     steps: &mut Steps,
 ) -> Result<Vec<u8>, Error>
     requires { offset ≤ length (bytes_of bytes) }
-    ensures means { Gives (λ v. v.items) ⊤ result (Ok (drop offset (bytes_of bytes.entry))) }
+    ensures means { Gives (λ v. v.items) (0 < length (drop offset (bytes_of bytes.entry))) result
+        (Ok (drop offset (bytes_of bytes.entry))) }
     ensures step { steps.new ≡ after steps.old 1 }
 {
     let rest = bytes
         .span(offset, bytes.len() as u64 - offset, steps)
         .ok_or(Error::CodeViewReadFailure)?;
-    Ok(Vec::from_slice(alloc, rest)?)
+    Ok(copy_bytes(alloc, rest)?)
 }
 
 // Makes a text of the bytes before the first NUL, with U+FFFD for what is not UTF-8.

@@ -1,14 +1,16 @@
-ghost use Rattle.std.specs.Prelude.{◌≡◌, ◌+◌, ◌-◌, ◌<◌, ◌≤◌, ◌&&◌, [], IfOk, IsOkUnless, None, OnErr, Some, if◌then◌else◌, length, nat_le, nat_lt, string_bytes};
+ghost use Rattle.std.specs.Prelude.{◌≡◌, ◌+◌, ◌-◌, ◌<◌, ◌≤◌, ◌&&◌, [], IfOk, IsOkUnless, None, OnErr, Some};
+ghost use Rattle.std.specs.Prelude.{if◌then◌else◌, length, nat_le, nat_lt, string_bytes};
 ghost use Rattle.std.specs.Option.{ok_or, option_copied, option_map};
 ghost use Rattle.minidump_bytes.specs.declared.endian.Endian.TheVariants.{Little};
 ghost use Rattle.minidump_bytes.specs.Source.{bytes_of};
 ghost use Rattle.minidump_bytes.specs.Steps.{after};
-ghost use Rattle.minidump_bytes.specs.Text16.{HoldsText16, text16};
+ghost use Rattle.minidump_bytes.specs.Text16.{TakesMemory16, text16};
 ghost use Rattle.minidump_format.specs.Answer.{Gives};
 ghost use Rattle.minidump_format.specs.declared.error.Error.TheVariants.{CodeViewReadFailure};
 ghost use Rattle.minidump_format.specs.Guid.{guid, guid_bytes};
 ghost use Rattle.minidump_modules.specs.Identity.{is_all_zeros, pad_to_16};
-ghost use Rattle.minidump_modules.specs.Module.{identity_of, new_module, module_of, range_of_module_struct, module_reads, read_module, source_text};
+ghost use Rattle.minidump_modules.specs.Module.{ModuleTakesMemory, identity_of, new_module, module_of};
+ghost use Rattle.minidump_modules.specs.Module.{range_of_module_struct, module_reads, read_module, source_text};
 
 use crate::code_view::{code_view_at, lossy_name};
 use crate::text::copy_text;
@@ -64,7 +66,8 @@ impl MinidumpModule {
     }
 
     /// Reads the name and the CodeView record of an entry from the bytes of the file. Returns
-    /// `CodeViewReadFailure` if one of them is malformed, `OutOfMemory` if an allocation fails.
+    /// `CodeViewReadFailure` if one of them is malformed, `OutOfMemory` if an allocation fails: only if the
+    /// name has a code unit, or the record has a name, a build id or an unknown kind.
     pub fn read(
         alloc: Global,
         raw: MINIDUMP_MODULE,
@@ -72,7 +75,7 @@ impl MinidumpModule {
         endian: Endian,
         system_info: Option<&MinidumpSystemInfo>,
     ) -> Result<MinidumpModule, Error>
-        ensures { Gives module_of (HoldsText16 endian raw.module_name_rva bytes.now) result
+        ensures { Gives module_of (ModuleTakesMemory endian bytes.now raw) result
             (read_module endian (option_map (λ s. s.os)
             (option_copied system_info.entry)) bytes.now raw) }
     {
@@ -98,7 +101,7 @@ impl MinidumpModule {
         steps: &mut Steps,
     ) -> Result<MinidumpModule, Error>
         ensures means { Gives module_of
-            (HoldsText16 endian raw.now.module_name_rva (bytes_of all.entry)) result
+            (ModuleTakesMemory endian (bytes_of all.entry) raw.now) result
             (read_module endian os (bytes_of all.entry) raw.now) }
         ensures within { steps.new ≤ steps.old + 7 }
         ensures grows { steps.old ≤ steps.new }
@@ -317,7 +320,7 @@ fn name_at(
     endian: Endian,
     steps: &mut Steps,
 ) -> Result<String, Error>
-    ensures means { Gives string_bytes (HoldsText16 endian rva (bytes_of all.entry)) result
+    ensures means { Gives string_bytes (TakesMemory16 endian rva (bytes_of all.entry)) result
         (ok_or (text16 endian rva (bytes_of all.entry)) CodeViewReadFailure) }
     ensures step { steps.new ≡ after steps.old 1 }
 {

@@ -6,8 +6,10 @@ ghost use Rattle.minidump_modules.specs.CodeView.{view_of};
 ghost use Rattle.minidump_modules.specs.Module.{module_identity, module_of};
 ghost use Rattle.minidump_modules.specs.ModuleList.{module_list_of};
 ghost use Rattle.minidump_modules.specs.ModuleText.{code_text, debug_text, entry_text, module_list_text};
-ghost use Rattle.minidump_modules.specs.ModuleText.{module_text, or_empty, or_nil, pdb20_text, pdb70_text, locations_text, raw_text, unknown_text};
-ghost use Rattle.minidump_modules.specs.ModuleText.{unloaded_module_list_text, unloaded_text, version_info_text, view_text};
+ghost use Rattle.minidump_modules.specs.ModuleText.{module_text, or_empty, or_nil, pdb20_text, pdb70_text};
+ghost use Rattle.minidump_modules.specs.ModuleText.{locations_text, raw_text, unknown_text};
+ghost use Rattle.minidump_modules.specs.ModuleText.{unloaded_module_list_text, unloaded_text, version_info_text};
+ghost use Rattle.minidump_modules.specs.ModuleText.{view_text};
 ghost use Rattle.minidump_modules.specs.UnloadedModule.{unloaded_of};
 ghost use Rattle.minidump_modules.specs.UnloadedModuleList.{unloaded_module_list_of};
 
@@ -319,7 +321,12 @@ fn push_debug(out: &mut Vec<u8>, m: &MinidumpModule) -> Result<(), AllocError>
 
 #[rattlefmt::skip]
 #[tactic(auto, unfolding(crate::specs::ModuleText::debug_text))]
-fn push_debug_lines<'t>(out: &mut Vec<u8>, file: &'t str, identifier: &'t str, version: &'t str) -> Result<(), AllocError>
+fn push_debug_lines<'t>(
+    out: &mut Vec<u8>,
+    file: &'t str,
+    identifier: &'t str,
+    version: &'t str,
+) -> Result<(), AllocError>
     ensures { OnOk result (out.new.items ≡ out.old.items
         ++ debug_text file.now identifier.now version.now) }
 {

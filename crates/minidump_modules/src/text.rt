@@ -1,4 +1,4 @@
-//! Copies of texts.
+//! Copies of texts and bytes.
 ghost use Rattle.std.specs.Prelude.{◌≡◌, ◌<◌, IfOk, OnErr, length, string_bytes};
 
 use std::alloc::{AllocError, Global};
@@ -12,4 +12,15 @@ pub(crate) fn copy_text(alloc: Global, text: &str) -> Result<String, AllocError>
         return Ok(String::new(alloc));
     }
     String::from_str(alloc, text)
+}
+
+// Copies bytes. Takes no memory if there are none.
+pub(crate) fn copy_bytes(alloc: Global, bytes: &[u8]) -> Result<Vec<u8>, AllocError>
+    ensures same { IfOk result (λ copy. copy.items ≡ bytes.now) }
+    ensures some { OnErr result (0 < length bytes.now) }
+{
+    if bytes.is_empty() {
+        return Ok(Vec::new(alloc));
+    }
+    Vec::from_slice(alloc, bytes)
 }

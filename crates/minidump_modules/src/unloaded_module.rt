@@ -3,7 +3,8 @@ ghost use Rattle.minidump_bytes.specs.Source.{bytes_of};
 ghost use Rattle.minidump_bytes.specs.Steps.{after};
 ghost use Rattle.minidump_bytes.specs.Text16.{TakesMemory16};
 ghost use Rattle.minidump_format.specs.Answer.{Gives};
-ghost use Rattle.minidump_modules.specs.UnloadedModule.{new_unloaded, read_unloaded, unloaded_of, range_of_unloaded_struct};
+ghost use Rattle.minidump_modules.specs.UnloadedModule.{new_unloaded, read_unloaded, unloaded_of};
+ghost use Rattle.minidump_modules.specs.UnloadedModule.{range_of_unloaded_struct};
 
 use crate::text::copy_text;
 use crate::{CodeId, DebugId, Module};
