@@ -99,6 +99,10 @@ module_reads m = 1
     + (list_reads m.raw.annotation_objects
     + sum_by (λ e. 1 + (1 + annotation_reads e.1)) m.annotation_objects)
 
+-- the most reads of the information that a link names, by the length of the file
+abbrev pub most_of_link : ℕ → ℕ
+most_of_link n = 2 * n + 16
+
 -- the information on a process
 pub record Crashpad : Type 0 where
   pub raw : MINIDUMP_CRASHPAD_INFO

@@ -64,7 +64,8 @@
 //!   object, how many links to modules, and how many texts in the list of a module:
 //!   `laws::values_are_bounded_by_the_file`.
 //! - Each read takes at most n + 7 steps, of handles and of Crashpad's information (n + 8)² - 1:
-//!   `most` of each table.
+//!   `most` of each table. Of the latter, the information that a link names takes at most 2n + 16:
+//!   `most_of_link`.
 //! - Handles, thread information, thread names, assertions and Breakpad's information print the
 //!   text of their value, thread names ascending by the ids of the threads: `print` of each, by
 //!   `handle_data_text`, `handle_text`, `thread_info_list_text`, `thread_info_text`,

@@ -30,8 +30,10 @@ process_line e =
 -- the module at an index: what its link and its record state
 unfoldable pub module_lines : ℕ × Module → List ℕ
 module_lines m = concat (
-    codes "  module_list[" ∷ decimal m.0 ∷ codes "].minidump_module_list_index = " ∷ decimal m.1.module_index ∷ codes "\n"
-    ∷ codes "  module_list[" ∷ decimal m.0 ∷ codes "].version = " ∷ decimal m.1.raw.version ∷ codes "\n"
+    codes "  module_list[" ∷ decimal m.0 ∷ codes "].minidump_module_list_index = "
+    ∷ decimal m.1.module_index ∷ codes "\n"
+    ∷ codes "  module_list[" ∷ decimal m.0 ∷ codes "].version = "
+    ∷ decimal m.1.raw.version ∷ codes "\n"
     ∷ [])
 
 -- a text of the list of the module at an index, with its own index
@@ -56,7 +58,8 @@ annotation_text (unsupported raw) = codes "<unsupported>"
 -- a name of the module at an index, and its annotation
 unfoldable pub object_line : ℕ → List ℕ × Annotation → List ℕ
 object_line m e = concat (
-    codes "  module_list[" ∷ decimal m ∷ codes "].annotation_objects[\"" ∷ e.0 ∷ codes "\"] = " ∷ annotation_text e.1 ∷ codes "\n"
+    codes "  module_list[" ∷ decimal m ∷ codes "].annotation_objects[\"" ∷ e.0
+    ∷ codes "\"] = " ∷ annotation_text e.1 ∷ codes "\n"
     ∷ [])
 
 -- the lines of the dictionary and of the annotations of the module at an index

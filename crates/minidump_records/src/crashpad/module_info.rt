@@ -58,8 +58,7 @@ impl MinidumpModuleCrashpadInfo {
 
 /// Reads the information on a module that a link of the list names.
 impl Part<MINIDUMP_MODULE_CRASHPAD_INFO_LINK> for MinidumpModuleCrashpadInfo {
-    ghost use Rattle.std.specs.Prelude.{◌+◌, ◌*◌};
-    ghost use Rattle.minidump_records.specs.Crashpad.{ModuleTakesMemory, Module, module_in, module_of, module_reads};
+    ghost use Rattle.minidump_records.specs.Crashpad.{ModuleTakesMemory, Module, module_in, module_of, module_reads, most_of_link};
 
     ghost Value = { Module };
 
@@ -69,7 +68,7 @@ impl Part<MINIDUMP_MODULE_CRASHPAD_INFO_LINK> for MinidumpModuleCrashpadInfo {
 
     ghost memory = { ModuleTakesMemory };
 
-    ghost most = { λ n. 3 * n + 10 };
+    ghost most = { most_of_link };
 
     ghost fewest = { module_reads };
 
