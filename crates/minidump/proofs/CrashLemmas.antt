@@ -9,7 +9,7 @@ use Rattle.minidump_memory.specs.Unified.{UnifiedRegions, unified_regions}
 use Rattle.minidump_reason.specs.declared.reason.CrashReason.{CrashReason}
 use Rattle.minidump_reason.specs.Names.{Lists}
 use Rattle.minidump_system.specs.declared.cpu.Cpu.{Cpu}
-use Rattle.minidump.proofs.LookedUpLemmas.{is_looked_up}
+use Rattle.minidump_index.proofs.RegionLaws.{is_looked_up}
 use Rattle.minidump.specs.Crash.{error_in, last_with}
 use Rattle.minidump.specs.Thread.{IsErrorIn, Thread, error_at, last_error_address}
 

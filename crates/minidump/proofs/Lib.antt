@@ -3,7 +3,6 @@ pub mod DirectoryLemmas
 pub mod EntryLemmas
 pub mod LawsLemmas
 pub mod ListRules
-pub mod LookedUpLemmas
 pub mod NumberedLemmas
 pub mod StackLemmas
 pub mod ThreadLemmas

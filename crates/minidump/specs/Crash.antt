@@ -4,6 +4,7 @@ use Rattle.std.specs.List.{concat}
 use Rattle.std.specs.Option.{option_and_then}
 use Rattle.std.specs.Result.{result_ok}
 use Rattle.minidump_bytes.specs.Piece.{hex}
+use Rattle.minidump_index.specs.Lookup.{looked_up}
 use Rattle.minidump_memory.specs.Memory.{range_of_region}
 use Rattle.minidump_memory.specs.Unified.{UnifiedRegions, unified_regions}
 use Rattle.minidump_reason.specs.declared.reason.CrashReason.{CrashReason}
@@ -15,7 +16,6 @@ use Rattle.minidump_system.specs.System.{System}
 use Rattle.minidump.specs.declared.crash.CrashValues.{CrashValues}
 use Rattle.minidump.specs.Dump.{Dump, dump_system, stream_of}
 use Rattle.minidump.specs.Exception.{Exception, crash_address}
-use Rattle.minidump.specs.LookedUp.{looked_up}
 use Rattle.minidump.specs.Memory.{memories_of_dump}
 use Rattle.minidump.specs.Promise.{exception_stream, thread_list_stream}
 use Rattle.minidump.specs.Thread.{Thread, error_at, last_error_address}
@@ -23,7 +23,8 @@ use Rattle.minidump.specs.Thread.{Thread, error_at, last_error_address}
 -- the error at an address of a list of memory
 abbrev pub error_in : Lists → UnifiedRegions → Option ℕ → Option CrashReason
 error_in names memory None = None
-error_in names memory (Some address) = error_at names address (looked_up range_of_region (unified_regions memory) address)
+error_in names memory (Some address) =
+    error_at names address (looked_up range_of_region (unified_regions memory) address)
 
 -- the last thread of an id
 abbrev pub last_with : ℕ → List Thread → Option Thread
@@ -32,7 +33,8 @@ last_with id threads = find (λ t. t.raw.thread_id == id) (reverse threads)
 -- the last error of the last thread of an id, where the threads and the memory can be read
 abbrev pub last_error_of : Lists → Dump → Cpu → ℕ → Option CrashReason
 last_error_of names dump cpu id =
-    option_and_then (λ threads. option_and_then (λ thread. option_and_then (λ memory. error_in names memory (last_error_address cpu thread.raw.teb))
+    option_and_then (λ threads. option_and_then (λ thread. option_and_then
+    (λ memory. error_in names memory (last_error_address cpu thread.raw.teb))
     (memories_of_dump dump)) (last_with id threads)) (result_ok (stream_of thread_list_stream dump))
 
 -- words and a number, as a line
@@ -51,7 +53,8 @@ last_error_line names (Some reason) = reason_line (codes "last_error = ") names 
 -- the address and the reason of a crash, and the last error of its thread, where it has one
 abbrev pub values_text : Lists → ℕ → CrashReason → Option CrashReason → List ℕ
 values_text names address reason found =
-    number_line (codes "crash_address = ") address ++ (reason_line (codes "crash_reason = ") names reason ++ last_error_line names found)
+    number_line (codes "crash_address = ") address
+    ++ (reason_line (codes "crash_reason = ") names reason ++ last_error_line names found)
 
 -- the same of values that may be absent
 abbrev pub values_lines : Lists → Option CrashValues → List ℕ
@@ -62,13 +65,16 @@ values_lines names (Some v) = values_text names v.address v.reason v.last_error
 abbrev pub system_lines : Lists → Dump → Exception → Option System → List ℕ
 system_lines names dump e None = []
 system_lines names dump e (Some s) =
-    values_text names (crash_address s.os s.cpu e.raw.exception_record) (crash_reason names s.os s.cpu e.raw.exception_record)
+    values_text names (crash_address s.os s.cpu e.raw.exception_record)
+    (crash_reason names s.os s.cpu e.raw.exception_record)
     (last_error_of names dump s.cpu e.thread_id)
 
 -- the lines on the crash at the end of the report: none without an exception
 abbrev pub crash_lines : Lists → Dump → Option Exception → List ℕ
 crash_lines names dump None = []
-crash_lines names dump (Some e) = number_line (codes "crash_thread = ") e.thread_id ++ system_lines names dump e (dump_system dump)
+crash_lines names dump (Some e) =
+    number_line (codes "crash_thread = ") e.thread_id
+    ++ system_lines names dump e (dump_system dump)
 
 -- the lines of a dump's exception, where it can be read
 unfoldable pub crash_text : Lists → Dump → List ℕ

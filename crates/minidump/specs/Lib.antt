@@ -10,7 +10,6 @@ pub mod Reader
 pub mod File
 pub mod Promise
 pub mod Memory
-pub mod LookedUp
 pub mod Thread
 pub mod ThreadText
 pub mod Exception

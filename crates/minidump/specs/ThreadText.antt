@@ -10,6 +10,7 @@ use Rattle.minidump_format.specs.declared.format.memory.MINIDUMP_MEMORY_DESCRIPT
 use Rattle.minidump_format.specs.declared.format.thread.MINIDUMP_THREAD.{MINIDUMP_THREAD}
 use Rattle.minidump_format.specs.Numbered.{numbered_list}
 use Rattle.minidump_format.specs.Text.{line_end}
+use Rattle.minidump_index.specs.Lookup.{looked_up}
 use Rattle.minidump_system.specs.Cpu.{width_of}
 use Rattle.minidump_system.specs.declared.cpu.PointerWidth.{PointerWidth}
 use Rattle.minidump_system.specs.declared.cpu.PointerWidth.TheVariants.{Bits32, Bits64, Unknown}
@@ -18,7 +19,6 @@ use Rattle.minidump_context.specs.declared.raw_context.MinidumpRawContext.{Minid
 use Rattle.minidump_context.specs.Text.{context_text}
 use Rattle.minidump_memory.specs.Memory.{MemoryRegion, range_of_region}
 use Rattle.minidump_memory.specs.Unified.{Memory, UnifiedRegion, UnifiedRegions, of_kind, unified_regions}
-use Rattle.minidump.specs.LookedUp.{looked_up}
 use Rattle.minidump.specs.Thread.{Thread, known_context}
 use Rattle.minidump.specs.declared.thread.print.ThreadHead.{ThreadHead}
 use Rattle.minidump.specs.declared.thread.stack.Word.{Word}
@@ -62,7 +62,9 @@ word_bytes Unknown = 8
 
 -- the offset of a word of a stack, and the word, of so many bytes
 unfoldable pub word_line : ℕ → ℕ → ℕ → List ℕ
-word_line size offset word = concat (codes "    0x" ∷ wide_hex 8 offset ∷ codes ": 0x" ∷ wide_hex (2 * size) word ∷ codes "\n" ∷ [])
+word_line size offset word = concat (
+    codes "    0x" ∷ wide_hex 8 offset ∷ codes ": 0x" ∷ wide_hex (2 * size) word ∷ codes "\n"
+    ∷ [])
 
 -- the line of a word of four or eight bytes
 abbrev pub text_of_word : Word → List ℕ
@@ -71,7 +73,9 @@ text_of_word (kind.Bits64 offset word) = word_line 8 offset word
 
 -- the whole words of a stack; the bytes after the last one are left out
 abbrev pub word_lines : Endian → ℕ → List ℕ → List ℕ
-word_lines order size bytes = flat_map (λ i. word_line size (size * i) (number_at order size (size * i) bytes)) (range_with_len 0 (length bytes / size))
+word_lines order size bytes =
+    flat_map (λ i. word_line size (size * i) (number_at order size (size * i) bytes))
+    (range_with_len 0 (length bytes / size))
 
 -- the words of a stack, each as wide as a pointer
 unfoldable pub stack_words_text : Endian → PointerWidth → List ℕ → List ℕ
@@ -102,7 +106,8 @@ own_or None otherwise = otherwise
 
 -- the region in a list of memory that contains an address
 abbrev pub stack_in_list : Option UnifiedRegions → ℕ → Option UnifiedRegion
-stack_in_list memory address = option_and_then (λ m. looked_up range_of_region (unified_regions m) address) memory
+stack_in_list memory address =
+    option_and_then (λ m. looked_up range_of_region (unified_regions m) address) memory
 
 -- the stack of a thread: its own, else the region in a list of memory that the start of its stack
 -- lies in
@@ -120,9 +125,12 @@ thread_with t context brief width stack =
 
 -- a thread, in the memory and on the machine of a dump
 abbrev pub thread_text : Option UnifiedRegions → Option System → Bool → Thread → List ℕ
-thread_text memory system brief t = thread_with t (known_context system t.order t.context) brief (pointer_width system) (stack_of memory t)
+thread_text memory system brief t =
+    thread_with t (known_context system t.order t.context) brief (pointer_width system)
+    (stack_of memory t)
 
 -- the printed text of the list of threads
 abbrev pub thread_list_text : Option UnifiedRegions → Option System → Bool → List Thread → List ℕ
 thread_list_text memory system brief threads =
-    numbered_list (codes "MinidumpThreadList\n  thread_count = ") (codes "thread") (thread_text memory system brief) threads
+    numbered_list (codes "MinidumpThreadList\n  thread_count = ") (codes "thread")
+    (thread_text memory system brief) threads

@@ -10,7 +10,7 @@ ghost use Rattle.minidump_format.specs.Header.{located};
 ghost use Rattle.minidump_format.specs.declared.format.memory.MINIDUMP_MEMORY_DESCRIPTOR.{MINIDUMP_MEMORY_DESCRIPTOR};
 ghost use Rattle.minidump_format.specs.declared.format.memory.MINIDUMP_MEMORY_DESCRIPTOR64.{MINIDUMP_MEMORY_DESCRIPTOR64};
 ghost use Rattle.minidump_format.specs.declared.format.thread.MINIDUMP_THREAD_INFO.{MINIDUMP_THREAD_INFO};
-ghost use Rattle.minidump_index.specs.Lookup.{IsLookedUp};
+ghost use Rattle.minidump_index.specs.Lookup.{IsLookedUp, looked_up};
 ghost use Rattle.minidump_system.specs.Cpu.{cpu_name};
 ghost use Rattle.minidump_system.specs.Os.{os_name};
 ghost use Rattle.minidump_system.specs.Reads.{and_then};
@@ -41,7 +41,6 @@ ghost use Rattle.minidump_records.specs.MacCrashInfo.Record.{MacRecord, mac_reco
 ghost use Rattle.minidump.specs.declared.directory.DecidingEntry.{DecidingEntry};
 ghost use Rattle.minidump.specs.Directory.{deciding_entry, directory};
 ghost use Rattle.minidump.specs.Dump.{Dump, raw_stream, bytes_of_span, stream_memory, stream_of, streams_of, dump_system};
-ghost use Rattle.minidump.specs.LookedUp.{looked_up};
 ghost use Rattle.minidump.specs.Memory.{TakesMemory, memories_of_dump};
 ghost use Rattle.minidump.specs.Promise.{assertion_stream, breakpad_info_stream, crashpad_info_stream, exception_stream, handle_data_stream, linux_cpu_info_stream, linux_environ_stream, linux_lsb_release_stream, linux_maps_stream, linux_proc_limits_stream, linux_proc_status_stream, mac_bootargs_stream, mac_crash_info_stream, memory64_list_stream, memory_info_list_stream, memory_list_stream, misc_info_stream, module_list_stream, soft_errors_stream, stability_report_stream, system_info_stream, thread_info_list_stream, thread_list_stream, thread_names_stream, unloaded_module_list_stream};
 ghost use Rattle.minidump.specs.Streams.{unimplemented_of, unknown_of};

@@ -3,11 +3,10 @@ use Rattle.std.proofs.Common.{◌≡◌, ◌∙◌, ℕ, List, [], Option, Some,
 use Rattle.minidump.specs.declared.MinidumpContextValidity.TheVariants.{All}
 use Rattle.minidump.specs.declared.MinidumpRawContext.{MinidumpRawContext}
 use Rattle.minidump.specs.declared.format.MINIDUMP_MEMORY_DESCRIPTOR.{MINIDUMP_MEMORY_DESCRIPTOR}
-use Rattle.minidump.specs.Below.Index.Lookup.{IsLookedUp}
+use Rattle.minidump.specs.Below.Index.Lookup.{IsLookedUp, looked_up}
 use Rattle.minidump.specs.Below.MemoryLists.Memory.{MemoryRegion, range_of_region}
 use Rattle.minidump.specs.Below.MemoryLists.Unified.{Memory, UnifiedRegion, UnifiedRegions, of_kind, unified_regions}
 use Rattle.minidump.specs.Below.System.Cpu.{width_of}
-use Rattle.minidump.specs.LookedUp.{looked_up}
 use Rattle.minidump.specs.Thread.{IsStack, Thread}
 use Rattle.std.specs.Prelude.{◌↔◌}
 use Rattle.stack_walk.specs.declared.frame.StackFrame.{StackFrame}

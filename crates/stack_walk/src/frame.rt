@@ -5,7 +5,7 @@ ghost use Rattle.minidump.specs.Promise.{module_list_stream};
 ghost use Rattle.stack_walk.specs.Evidence.{evidence_address};
 ghost use Rattle.stack_walk.specs.Lookups.{lookup_address, module_at, module_offset_at};
 
-use crate::lookups::{call_site, module_at, offset_at};
+use crate::lookups::{call_site, offset_at};
 use minidump::system_info::PointerWidth;
 use minidump::{MinidumpModule, MinidumpModuleList};
 
@@ -52,7 +52,7 @@ impl StackFrame {
         ensures { option_map module_of (option_copied result)
             ≡ module_at (module_list_stream.value modules.now) (lookup_address self.now) }
     {
-        module_at(modules, self.lookup_address()?)
+        modules.module_at_address(self.lookup_address()?)
     }
 
     /// Returns the offset of the frame's lookup address in its module, or `None` if it has no

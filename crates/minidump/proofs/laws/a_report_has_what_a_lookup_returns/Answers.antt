@@ -2,7 +2,7 @@
 use Rattle.minidump_memory.specs.Memory.{range_of_region}
 use Rattle.minidump_memory.specs.UnifiedInfo.{range_of_info_region}
 use Rattle.minidump_modules.specs.Module.{range_of_module}
-use Rattle.minidump.proofs.LookedUpLemmas.{answers_alone}
+use Rattle.minidump_index.proofs.RegionLaws.{answers_alone}
 use Rattle.minidump.proofs.laws.a_report_has_what_a_lookup_returns.Goals as goal
 
 pub returns-clause-regions : goal.returns-clause-regions
