@@ -63,28 +63,6 @@ fn kept_are(alloc: Global, row: &(&[(u64, u64)], &[usize])) -> Result<bool, Erro
     )
 }
 
-// The same regions in a list.
-fn list_keeps(alloc: Global, row: &(&[(u64, u64)], &[usize])) -> Result<bool, Error> {
-    let ranges = ranges_of(alloc, row.0)?;
-    let list = RegionList::from_regions(alloc, ranges_of(alloc, row.0)?)?;
-    let mut kept = list.by_addr();
-    Ok(
-        kept.len() == row.1.len()
-            && row
-                .1
-                .iter()
-                .all(|kept_index| kept.next() == ranges.get(*kept_index)),
-    )
-}
-
-#[test]
-fn keeps_what_shares_no_address(rt: HostRuntime) {
-    for row in KEPT {
-        assert!(rt; kept_are(rt.alloc(), row) == Ok(true), "{:?}", row.0);
-        assert!(rt; list_keeps(rt.alloc(), row) == Ok(true), "{:?}", row.0);
-    }
-}
-
 // An address, and the index of the region of `SIX` that contains it.
 #[rattlefmt::skip]
 const FOUND: &[(u64, Option<usize>)] = &[
@@ -148,15 +126,6 @@ fn depths_are(alloc: Global, depths: &[(u64, u128)]) -> Result<bool, Error> {
     )
 }
 
-#[test]
-fn finds_regions_down_a_complete_tree(rt: HostRuntime) {
-    let alloc = rt.alloc();
-    assert!(rt; six_are_found(alloc) == Ok(true));
-    for depths in DEPTHS {
-        assert!(rt; depths_are(alloc, depths) == Ok(true), "{}", depths.len());
-    }
-}
-
 // The walk is taken from both ends in turn.
 fn walks_from_both_ends(alloc: Global) -> Result<bool, Error> {
     let index = index_of(alloc, &[(0, 4), (10, 4), (20, 4), (30, 4)])?;
@@ -182,28 +151,8 @@ fn ranges_end_at_the_last_address() -> bool {
         && Range::from_size(0x10, 0) == None
 }
 
-#[test]
-fn walks_and_ranges_end(rt: HostRuntime) {
-    assert!(rt; walks_from_both_ends(rt.alloc()) == Ok(true) && ranges_end_at_the_last_address());
-}
-
 fn start_at(list: &RegionList<Option<Range>>, address: u64) -> Option<u64> {
     Some((*list.at_address(address, &mut Steps::new())?)?.start)
-}
-
-// The regions of a list, those that are kept, and one found.
-fn lists_regions(alloc: Global) -> Result<bool, Error> {
-    let list = RegionList::from_regions(alloc, ranges_of(alloc, SIX)?)?;
-    let mut kept = list.by_addr();
-    Ok(
-        list.as_slice().len() == 6
-            && kept.len() == 2
-            && kept.next_back().copied() == Some(Range::from_size(0x2000, 0x1000))
-            && kept.next().copied() == Some(Range::from_size(0x1000, 0x1000))
-            && kept.next().is_none()
-            && start_at(&list, 0x2a00) == Some(0x2000)
-            && start_at(&list, 0x9000) == None,
-    )
 }
 
 // A lookup in a list, at both ends of a region and after it.
@@ -235,16 +184,20 @@ fn finds_regions_that_ascend(alloc: Global, depths: &[(u64, u128)]) -> Result<bo
     )
 }
 
-fn an_empty_list_has_no_regions(alloc: Global) -> bool {
-    let list: RegionList<Option<Range>> = RegionList::new(alloc);
-    list.as_slice().is_empty() && list.by_addr().next().is_none() && start_at(&list, 0) == None
+#[test]
+fn keeps_what_shares_no_address(rt: HostRuntime) {
+    for row in KEPT {
+        assert!(rt; kept_are(rt.alloc(), row) == Ok(true), "{:?}", row.0);
+    }
+    assert!(rt; walks_from_both_ends(rt.alloc()) == Ok(true) && ranges_end_at_the_last_address());
 }
 
 #[test]
-fn holds_lists_of_regions(rt: HostRuntime) {
+fn finds_regions_down_a_complete_tree(rt: HostRuntime) {
     let alloc = rt.alloc();
-    assert!(rt; lists_regions(alloc) == Ok(true) && an_empty_list_has_no_regions(alloc));
+    assert!(rt; six_are_found(alloc) == Ok(true));
     for depths in DEPTHS {
+        assert!(rt; depths_are(alloc, depths) == Ok(true), "{}", depths.len());
         assert!(rt;
             finds_regions_that_ascend(alloc, depths) == Ok(true),
             "{}",

@@ -1,4 +1,3 @@
 // Tests of `minidump_system`.
-mod framing;
 mod names;
 mod system_info;

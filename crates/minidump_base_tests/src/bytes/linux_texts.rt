@@ -56,12 +56,6 @@ fn stripped_is(row: &(&[u8], Option<&[u8]>, Option<&[u8]>)) -> bool {
         && text.strip_suffix(row.0).map(|rest| rest.as_bytes()) == row.2
 }
 
-#[test]
-fn cuts_linux_texts(rt: HostRuntime) {
-    assert!(rt; CUTS.iter().all(cuts_are) && TRIMMED.iter().all(trimmed_is));
-    assert!(rt; STRIPPED.iter().all(stripped_is));
-}
-
 // Which parts of a text are gone through.
 #[derive(Clone, Copy)]
 enum By {
@@ -118,13 +112,6 @@ fn parts_are(alloc: Global, row: &(By, &[u8], &[u8])) -> Result<bool, AllocError
     Ok(joined(alloc, by, LinuxOsStr::from_bytes(text))?.as_slice() == parts)
 }
 
-#[test]
-fn goes_through_lines_words_and_parts(rt: HostRuntime) {
-    for row in PARTS {
-        assert!(rt; parts_are(rt.alloc(), row) == Ok(true), "{:?}", row.1);
-    }
-}
-
 // Bytes, the text if they are UTF-8, and the text with marks in it. A sequence of four bytes that
 // ends after three is one mark, and bytes that begin none are one each.
 #[rattlefmt::skip]
@@ -154,10 +141,15 @@ fn owned_is_copied(alloc: Global) -> Result<bool, AllocError> {
 }
 
 #[test]
-fn shows_linux_texts(rt: HostRuntime) {
+fn cuts_and_shows_linux_texts(rt: HostRuntime) {
     let alloc = rt.alloc();
-    assert!(rt; owned_is_copied(alloc) == Ok(true));
-    for row in SHOWN {
-        assert!(rt; shown_is(alloc, row) == Ok(true), "{:?}", row.0);
-    }
+    let found = [
+        CUTS.iter().all(cuts_are),
+        TRIMMED.iter().all(trimmed_is),
+        STRIPPED.iter().all(stripped_is),
+        PARTS.iter().all(|row| parts_are(alloc, row) == Ok(true)),
+        SHOWN.iter().all(|row| shown_is(alloc, row) == Ok(true)),
+        owned_is_copied(alloc) == Ok(true),
+    ];
+    assert!(rt; found == [true; 6]);
 }

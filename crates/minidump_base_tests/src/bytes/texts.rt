@@ -25,13 +25,6 @@ fn text16_is(alloc: Global, row: &(&[u8], u64, Endian, Option<&str>)) -> Result<
     Ok(read.as_deref() == text)
 }
 
-#[test]
-fn reads_texts_of_utf16(rt: HostRuntime) {
-    for row in TEXTS_16 {
-        assert!(rt; text16_is(rt.alloc(), row) == Ok(true), "{:?}", row.0);
-    }
-}
-
 // Code units, and the text before the first 0.
 #[rattlefmt::skip]
 const UNITS: &[(&[u16], Option<&str>)] = &[
@@ -45,13 +38,6 @@ const UNITS: &[(&[u16], Option<&str>)] = &[
 fn units_spell(alloc: Global, row: &(&[u16], Option<&str>)) -> Result<bool, AllocError> {
     let (units, text) = *row;
     Ok(text_before_nul(alloc, units)?.as_deref() == text)
-}
-
-#[test]
-fn ends_texts_at_a_nul(rt: HostRuntime) {
-    for row in UNITS {
-        assert!(rt; units_spell(rt.alloc(), row) == Ok(true), "{:?}", row.0);
-    }
 }
 
 // Bytes, an offset, the byte order, the text there, and the one that has to have a NUL after it.
@@ -76,13 +62,6 @@ fn text8_is(row: &(&[u8], u64, Endian, Option<&str>, Option<&str>)) -> bool {
         && source.text8_nul(offset, endian, &mut Steps::new()) == text_nul
 }
 
-#[test]
-fn reads_texts_of_utf8(rt: HostRuntime) {
-    for row in TEXTS_8 {
-        assert!(rt; text8_is(row), "{:?}", row.0);
-    }
-}
-
 // An offset in `b"ab\0\0c\xff\0d"`, and the text from there up to a NUL.
 #[rattlefmt::skip]
 const STRINGS: &[(u64, Option<&str>)] = &[
@@ -103,15 +82,9 @@ fn line_is(row: &(u64, Option<&[u8]>)) -> bool {
     Source::new(b"a\r\n\nb\0c").line(row.0, &mut Steps::new()) == row.1
 }
 
-#[test]
-fn reads_strings_and_lines(rt: HostRuntime) {
-    assert!(rt; STRINGS.iter().all(cstring_is));
-    assert!(rt; LINES.iter().all(line_is));
-}
-
 // One text of every kind of piece that pads.
-fn padded(alloc: Global) -> Result<String, AllocError> {
-    format_pieces(
+fn pads(alloc: Global) -> Result<bool, AllocError> {
+    let text = format_pieces(
         alloc,
         &[
             Piece::Wide(0xc000_0005, 8),
@@ -124,13 +97,22 @@ fn padded(alloc: Global) -> Result<String, AllocError> {
             Piece::Words(" "),
             Piece::WideDigits(0x1f, 2),
         ],
-    )
+    )?;
+    Ok(text.as_str() == "0xc0000005 0x00000000000000ab 0x12345 00000000 1f")
 }
 
 #[test]
-fn pads_hexadecimal(rt: HostRuntime) -> Result<(), AllocError> {
-    assert!(rt;
-        padded(rt.alloc())?.as_str() == "0xc0000005 0x00000000000000ab 0x12345 00000000 1f"
-    );
-    Ok(())
+fn reads_texts(rt: HostRuntime) {
+    let alloc = rt.alloc();
+    for row in TEXTS_16 {
+        assert!(rt; text16_is(alloc, row) == Ok(true), "{:?}", row.0);
+    }
+    for row in UNITS {
+        assert!(rt; units_spell(alloc, row) == Ok(true), "{:?}", row.0);
+    }
+    for row in TEXTS_8 {
+        assert!(rt; text8_is(row), "{:?}", row.0);
+    }
+    assert!(rt; STRINGS.iter().all(cstring_is) && LINES.iter().all(line_is));
+    assert!(rt; pads(alloc) == Ok(true));
 }

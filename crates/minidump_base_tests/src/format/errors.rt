@@ -37,13 +37,6 @@ fn error_is_shown(alloc: Global, row: &(Error, &str, &str)) -> Result<bool, Allo
     Ok(error.name() == name && is_shown_as(alloc, &error, message)?)
 }
 
-#[test]
-fn shows_errors(rt: HostRuntime) {
-    for row in ERRORS {
-        assert!(rt; error_is_shown(rt.alloc(), row) == Ok(true), "{}", row.1);
-    }
-}
-
 const PARTED: GUID = GUID {
     data1: 0xabcd_1234,
     data2: 0xf00d,
@@ -66,6 +59,9 @@ fn guids_are_shown(alloc: Global) -> Result<bool, AllocError> {
 }
 
 #[test]
-fn shows_guids(rt: HostRuntime) {
+fn shows_errors_and_guids(rt: HostRuntime) {
+    for row in ERRORS {
+        assert!(rt; error_is_shown(rt.alloc(), row) == Ok(true), "{}", row.1);
+    }
     assert!(rt; guids_are_shown(rt.alloc()) == Ok(true));
 }

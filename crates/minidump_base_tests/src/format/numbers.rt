@@ -78,6 +78,24 @@ fn platform_is(row: &(u32, PlatformId)) -> bool {
         && platform as u32 == number
 }
 
+const NO_ARCHITECTURES: &[u16] = &[2, 4, 6, 7, 8, 11, 13, 0x8000, 0x8005, 0xffff];
+
+const NO_PLATFORMS: &[u32] = &[0, 3, 0x8100, 0x8103, 0x8200, 0x8206, 0x1_0001, 0xffff_ffff];
+
+const NO_INFORMATION: &[u32] = &[9, 10, 0x1_0000, 0xffff_ffff];
+
+fn others_are_none() -> bool {
+    CvSignature::from_u32(0) == None
+        && NO_INFORMATION.iter().all(|n| MINIDUMP_HANDLE_OBJECT_INFORMATION_TYPE::from_u32(*n)
+            == None)
+        && NO_ARCHITECTURES
+            .iter()
+            .all(|n| ProcessorArchitecture::from_u16(*n) == None)
+        && NO_PLATFORMS
+            .iter()
+            .all(|n| PlatformId::from_u32(*n) == None)
+}
+
 #[test]
 fn numbers_enumerations(rt: HostRuntime) {
     let found = [
@@ -85,28 +103,7 @@ fn numbers_enumerations(rt: HostRuntime) {
         INFORMATION.iter().all(information_is),
         ARCHITECTURES.iter().all(architecture_is),
         PLATFORMS.iter().all(platform_is),
+        others_are_none(),
     ];
-    assert!(rt; found == [true; 4]);
-}
-
-const NO_ARCHITECTURES: &[u16] = &[2, 4, 6, 7, 8, 11, 13, 0x8000, 0x8005, 0xffff];
-
-const NO_PLATFORMS: &[u32] = &[0, 3, 0x8100, 0x8103, 0x8200, 0x8206, 0x1_0001, 0xffff_ffff];
-
-const NO_INFORMATION: &[u32] = &[9, 10, 0x1_0000, 0xffff_ffff];
-
-#[test]
-fn knows_no_other_numbers(rt: HostRuntime) {
-    let found = [
-        CvSignature::from_u32(0) == None,
-        NO_INFORMATION.iter().all(|n| MINIDUMP_HANDLE_OBJECT_INFORMATION_TYPE::from_u32(*n)
-            == None),
-        NO_ARCHITECTURES
-            .iter()
-            .all(|n| ProcessorArchitecture::from_u16(*n) == None),
-        NO_PLATFORMS
-            .iter()
-            .all(|n| PlatformId::from_u32(*n) == None),
-    ];
-    assert!(rt; found == [true; 4]);
+    assert!(rt; found == [true; 5]);
 }

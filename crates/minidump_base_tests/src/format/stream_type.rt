@@ -77,16 +77,8 @@ const NO_TYPES: &[u32] = &[
     0x4b6b_0003, 0x4d7a_0000, 0x4d7a_0005, 0xffff_ffff,
 ];
 
-#[test]
-fn names_types_of_streams(rt: HostRuntime) {
-    for row in TYPES {
-        assert!(rt; type_is(row), "{}", row.0);
-    }
-    assert!(rt;
-        NO_TYPES
-            .iter()
-            .all(|number| MINIDUMP_STREAM_TYPE::from_u32(*number) == None)
-    );
+fn is_none(number: &u32) -> bool {
+    MINIDUMP_STREAM_TYPE::from_u32(*number) == None
 }
 
 #[rattlefmt::skip]
@@ -111,6 +103,11 @@ const VENDORS: &[(u32, &str)] = &[
 ];
 
 #[test]
-fn names_vendors(rt: HostRuntime) {
-    assert!(rt; VENDORS.iter().all(|row| stream_vendor(row.0) == row.1));
+fn names_types_of_streams_and_vendors(rt: HostRuntime) {
+    for row in TYPES {
+        assert!(rt; type_is(row), "{}", row.0);
+    }
+    assert!(rt;
+        NO_TYPES.iter().all(is_none) && VENDORS.iter().all(|row| stream_vendor(row.0) == row.1)
+    );
 }

@@ -19,12 +19,6 @@ fn takes_up_to(alloc: Global, at: usize) -> bool {
         && text.get(..at.min(5)) == Some(device.inner.inner.as_slice())
 }
 
-#[test]
-fn writes_up_to_a_failure(rt: HostRuntime) {
-    let alloc = rt.alloc();
-    assert!(rt; (0..7).all(|at| takes_up_to(alloc, at)));
-}
-
 // Whether a reader of one byte a call whose calls fail from a number on gives that many bytes, and
 // is not called again.
 fn gives_up_to(at: usize) -> bool {
@@ -49,11 +43,6 @@ fn reads_to_the_end() -> bool {
     reads(Ok(1), b'a') && reads(Ok(1), b'b') && reads(Ok(0), b'b')
 }
 
-#[test]
-fn reads_up_to_a_failure(rt: HostRuntime) {
-    assert!(rt; (0..5).all(gives_up_to) && reads_to_the_end());
-}
-
 fn nothing_taken_is_a_failure(alloc: Global) -> bool {
     let mut f = Told::new(TakesNone::new(OneByte::new(Vec::new(alloc)), 2));
     let answer = f.put(b"abcde");
@@ -72,13 +61,6 @@ fn bytes_are_two_digits_each(alloc: Global) -> bool {
     let mut f = Told::new(Vec::new(alloc));
     write_bytes(&mut f, &[0, 0x0f, 0xa5, 0xff]) == Ok(())
         && f.into_device().as_slice() == b"000fa5ff".as_slice()
-}
-
-#[test]
-fn writes_whole_or_fails(rt: HostRuntime) {
-    let alloc = rt.alloc();
-    assert!(rt; nothing_taken_is_a_failure(alloc) && a_full_device_takes_nothing());
-    assert!(rt; bytes_are_two_digits_each(alloc));
 }
 
 // Every kind of error, that of an interrupted call among them.
@@ -146,7 +128,16 @@ fn fails_for_good(alloc: Global, kind: ErrorKind) -> bool {
 }
 
 #[test]
-fn an_error_of_any_kind_is_a_failure(rt: HostRuntime) {
+fn devices_work_up_to_a_failure(rt: HostRuntime) {
     let alloc = rt.alloc();
-    assert!(rt; KINDS.iter().all(|kind| fails_for_good(alloc, *kind)));
+    let found = [
+        (0..7).all(|at| takes_up_to(alloc, at)),
+        (0..5).all(gives_up_to),
+        reads_to_the_end(),
+        nothing_taken_is_a_failure(alloc),
+        a_full_device_takes_nothing(),
+        bytes_are_two_digits_each(alloc),
+        KINDS.iter().all(|kind| fails_for_good(alloc, *kind)),
+    ];
+    assert!(rt; found == [true; 7]);
 }

@@ -1,10 +1,10 @@
-// Each record is read of the bytes 0, 1, 2, .. in both byte orders: each field has the number of
-// the bytes at its offset in the format's table, and what was read is written as these bytes. Of a
-// record within a record the first field shows the offset: the rest is the table of the inner one.
+// Each record is read of the bytes 0, 1, 2, .. in both byte orders, and what was read is written as
+// these bytes. Where a record has a field that no report prints, each field has the number of the
+// bytes at its offset in the format's table. Of a record within a record the first field shows the
+// offset: the rest is the table of the inner one.
 mod contexts;
-mod extensions;
-mod process;
-mod system;
+mod others;
+mod printed;
 
 use minidump_bytes::{Endian, Record};
 use minidump_format::format::MINIDUMP_SYSTEM_INFO;
@@ -52,7 +52,8 @@ fn follow<T: Copy + Into<u128>>(endian: Endian, offset: u16, width: u16, values:
     true
 }
 
-fn is_kept<R: Record + Encode + Fields + Drop>(
+// Whether what is read of these bytes is written as them.
+fn is_written<R: Record + Encode + Drop>(
     alloc: Global,
     endian: Endian,
 ) -> Result<bool, AllocError> {
@@ -62,12 +63,25 @@ fn is_kept<R: Record + Encode + Fields + Drop>(
     }
     let record = R::decode(&bytes, endian);
     let written = Section::new(alloc, endian).record(&record).finish()?;
-    Ok(record.stand(endian) && written.as_slice() == bytes.as_slice())
+    Ok(written.as_slice() == bytes.as_slice())
+}
+
+// The same in both byte orders.
+fn is_written_back<R: Record + Encode + Drop>(alloc: Global) -> bool {
+    is_written::<R>(alloc, Endian::Little) == Ok(true)
+        && is_written::<R>(alloc, Endian::Big) == Ok(true)
+}
+
+fn stands<R: Record + Fields + Drop>(alloc: Global, endian: Endian) -> Result<bool, AllocError> {
+    let bytes = count_up(alloc, R::SIZE)?;
+    Ok(bytes.len() == R::SIZE && R::decode(&bytes, endian).stand(endian))
 }
 
 // Whether the fields stand at their offsets and are written back there, in both byte orders.
 fn is_exact<R: Record + Encode + Fields + Drop>(alloc: Global) -> bool {
-    is_kept::<R>(alloc, Endian::Little) == Ok(true) && is_kept::<R>(alloc, Endian::Big) == Ok(true)
+    is_written_back::<R>(alloc)
+        && stands::<R>(alloc, Endian::Little) == Ok(true)
+        && stands::<R>(alloc, Endian::Big) == Ok(true)
 }
 
 fn zeros_are_unset(alloc: Global) -> Result<bool, AllocError> {

@@ -40,18 +40,6 @@ fn records_are(alloc: Global, endian: Endian, bytes: &[u8]) -> Result<bool, Allo
     is(&section, bytes.get(..31).unwrap_or(&[]))
 }
 
-#[test]
-fn writes_numbers(rt: HostRuntime) {
-    let alloc = rt.alloc();
-    let found = [
-        numbers_are(alloc, Endian::Little, NUMBERS_LITTLE),
-        numbers_are(alloc, Endian::Big, NUMBERS_BIG),
-        records_are(alloc, Endian::Little, NUMBERS_LITTLE),
-        records_are(alloc, Endian::Big, NUMBERS_BIG),
-    ];
-    assert!(rt; found == [Ok(true); 4]);
-}
-
 // The text after its length, and its units alone.
 fn text_is(alloc: Global, endian: Endian, bytes: &[u8]) -> Result<bool, AllocError> {
     let mut text = Section::new(alloc, endian);
@@ -87,26 +75,6 @@ fn appended_bytes_keep_their_order(alloc: Global) -> Result<bool, AllocError> {
         .record(&bytes.as_slice())
         .record(&[3, 4]);
     is(&section, &[2, 1, 2, 1, 2, 1, 2, 1, 3, 4])
-}
-
-#[test]
-fn writes_texts_and_bytes(rt: HostRuntime) {
-    let alloc = rt.alloc();
-    let found = [
-        text_is(
-            alloc,
-            Endian::Little,
-            &[6, 0, 0, 0, 0x61, 0, 0x3d, 0xd8, 0, 0xde],
-        ),
-        text_is(
-            alloc,
-            Endian::Big,
-            &[0, 0, 0, 6, 0, 0x61, 0xd8, 0x3d, 0xde, 0],
-        ),
-        texts_are_cut_and_filled(alloc),
-        appended_bytes_keep_their_order(alloc),
-    ];
-    assert!(rt; found == [Ok(true); 4]);
 }
 
 const NUMBERS: [u16; 2] = [0x0102, 0x0304];
@@ -155,10 +123,22 @@ fn short_header_is(alloc: Global) -> Result<bool, AllocError> {
     is(&list, &[8, 0, 0, 0, 2, 0, 0, 0, 0, 0, 0, 0])
 }
 
+const TEXT_LITTLE: &[u8] = &[6, 0, 0, 0, 0x61, 0, 0x3d, 0xd8, 0, 0xde];
+
+const TEXT_BIG: &[u8] = &[0, 0, 0, 6, 0, 0x61, 0xd8, 0x3d, 0xde, 0];
+
 #[test]
-fn writes_lists(rt: HostRuntime) {
+fn writes_sections(rt: HostRuntime) {
     let alloc = rt.alloc();
     let found = [
+        numbers_are(alloc, Endian::Little, NUMBERS_LITTLE),
+        numbers_are(alloc, Endian::Big, NUMBERS_BIG),
+        records_are(alloc, Endian::Little, NUMBERS_LITTLE),
+        records_are(alloc, Endian::Big, NUMBERS_BIG),
+        text_is(alloc, Endian::Little, TEXT_LITTLE),
+        text_is(alloc, Endian::Big, TEXT_BIG),
+        texts_are_cut_and_filled(alloc),
+        appended_bytes_keep_their_order(alloc),
         list_is(alloc),
         aligned_list_is(alloc),
         list_64_is(alloc),
@@ -166,5 +146,5 @@ fn writes_lists(rt: HostRuntime) {
         handle_list_is(alloc),
         short_header_is(alloc),
     ];
-    assert!(rt; found == [Ok(true); 6]);
+    assert!(rt; found == [Ok(true); 14]);
 }

@@ -28,13 +28,6 @@ fn system_is(alloc: Global, row: &(u32, Os, &str, &str)) -> Result<bool, Error> 
     )
 }
 
-#[test]
-fn names_systems(rt: HostRuntime) {
-    for row in SYSTEMS {
-        assert!(rt; system_is(rt.alloc(), row) == Ok(true), "{}", row.0);
-    }
-}
-
 // The number of an architecture, its processor, its name, and the size of an address.
 #[rattlefmt::skip]
 const PROCESSORS: &[(u16, Cpu, &str, Option<u8>)] = &[
@@ -63,7 +56,10 @@ fn processor_is(alloc: Global, row: &(u16, Cpu, &str, Option<u8>)) -> Result<boo
 }
 
 #[test]
-fn names_processors(rt: HostRuntime) {
+fn names_systems_and_processors(rt: HostRuntime) {
+    for row in SYSTEMS {
+        assert!(rt; system_is(rt.alloc(), row) == Ok(true), "{}", row.0);
+    }
     for row in PROCESSORS {
         assert!(rt; processor_is(rt.alloc(), row) == Ok(true), "{}", row.0);
     }
