@@ -3,11 +3,10 @@ use Rattle.std.proofs.Common.{rules, arith, ◌≡◌, ◌∙◌, ◌++◌, ◌�
 use Rattle.std.specs.Prelude.{Some, None}
 use Rattle.std.proofs.lemmas.List.{append-nil, length-map, map-append, take_all}
 use Rattle.minidump_index.specs.declared.index.Entry.{Entry}
-use Rattle.minidump_index.specs.Ascending.{entries_from, entries_in}
 use Rattle.minidump_index.specs.Kept.{HoldsRanged}
 use Rattle.minidump_index.proofs.index.entries_with_range.Goals as goal
 use Rattle.minidump_index.proofs.index.entries_with_range.Goals.{in-Some+else-not-holds+in_ok-push, in_default}
-use Rattle.minidump_index.proofs.RangedEntries.{at_region, entries_more, entries_none, entry, has_region, holds_ranged, index_within}
+use Rattle.minidump_index.proofs.RangedEntries.{at_region, entries_from, entries_in, entries_more, entries_none, entry, has_region, holds_ranged, index_within}
 
 pub loop-index-init : goal.loop-index-init
 loop-index-init g c = rw (entries_none (map g.R.Region.range c.args.regions.now)) (search rules)

@@ -1,6 +1,6 @@
 -- The entries are those of the indices before.
 use Rattle.std.proofs.Common.{◌≡◌, map, take}
-use Rattle.minidump_index.specs.Ascending.{entries_in}
+use Rattle.minidump_index.proofs.RangedEntries.{entries_in}
 use Rattle.minidump_index.proofs.index.entries_with_range.Given as goal
 
 abbrev pub invariant-loop-index : goal.invariant-loop-index
