@@ -13,11 +13,10 @@ impl Pushed for MINIDUMP_MEMORY_DESCRIPTOR {
     #[tactic(auto, unfolding(crate::specs::MemoryText::descriptor_text))]
     fn push(&self, out: &mut Vec<u8>) -> Result<(), AllocError> {
         push_pieces(out, &[
-            Piece::Words("MINIDUMP_MEMORY_DESCRIPTOR"),
-            Piece::Words("\n  start_of_memory_range = "), Piece::Hex(self.start_of_memory_range),
-            Piece::Words("\n  memory.data_size      = "), Piece::Hex(self.memory.data_size as u64),
-            Piece::Words("\n  memory.rva            = "), Piece::Hex(self.memory.rva as u64),
-            Piece::Words("\n"),
+            Piece::Words("MINIDUMP_MEMORY_DESCRIPTOR\n"),
+            Piece::Words("  start_of_memory_range = "), Piece::Hex(self.start_of_memory_range), Piece::Words("\n"),
+            Piece::Words("  memory.data_size      = "), Piece::Hex(self.memory.data_size as u64), Piece::Words("\n"),
+            Piece::Words("  memory.rva            = "), Piece::Hex(self.memory.rva as u64), Piece::Words("\n"),
         ])
     }
 }
@@ -29,10 +28,9 @@ impl Pushed for MINIDUMP_MEMORY_DESCRIPTOR64 {
     #[tactic(auto, unfolding(crate::specs::MemoryText::descriptor_64_text))]
     fn push(&self, out: &mut Vec<u8>) -> Result<(), AllocError> {
         push_pieces(out, &[
-            Piece::Words("MINIDUMP_MEMORY_DESCRIPTOR64"),
-            Piece::Words("\n  start_of_memory_range = "), Piece::Hex(self.start_of_memory_range),
-            Piece::Words("\n  memory.data_size      = "), Piece::Hex(self.data_size),
-            Piece::Words("\n"),
+            Piece::Words("MINIDUMP_MEMORY_DESCRIPTOR64\n"),
+            Piece::Words("  start_of_memory_range = "), Piece::Hex(self.start_of_memory_range), Piece::Words("\n"),
+            Piece::Words("  memory.data_size      = "), Piece::Hex(self.data_size), Piece::Words("\n"),
         ])
     }
 }
