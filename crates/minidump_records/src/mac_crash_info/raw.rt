@@ -3,13 +3,14 @@ ghost use Rattle.std.specs.Option.{option_copied};
 ghost use Rattle.minidump_system.specs.OsParts.{unless_empty};
 ghost use Rattle.minidump_records.specs.MacCrashInfo.Record.{HasTexts, abort_cause, dialog_mode, if_nonzero, mac_record_of, text_of, texts_4, texts_5, thread, version};
 
+use super::record::copy_texts;
 use minidump_format::Error;
 use minidump_format::format::{
     MINIDUMP_MAC_CRASH_INFO_RECORD, MINIDUMP_MAC_CRASH_INFO_RECORD_4,
     MINIDUMP_MAC_CRASH_INFO_RECORD_5, MINIDUMP_MAC_CRASH_INFO_RECORD_STRINGS,
     MINIDUMP_MAC_CRASH_INFO_RECORD_STRINGS_4, MINIDUMP_MAC_CRASH_INFO_RECORD_STRINGS_5,
 };
-use std::alloc::Global;
+use std::alloc::{AllocError, Global};
 
 /// A record of the crash information of macOS, with its texts. Before version 4 there are none.
 #[derive(Drop)]
@@ -147,32 +148,34 @@ fn unless_empty(text: &str) -> Option<&str>
 fn copy_strings_4(
     alloc: Global,
     texts: &MINIDUMP_MAC_CRASH_INFO_RECORD_STRINGS_4,
-) -> Result<MINIDUMP_MAC_CRASH_INFO_RECORD_STRINGS_4, Error>
-    ensures same { IfOk result (λ copy. texts_4 copy ≡ texts_4 texts.now) }
-    ensures memory { IsOkUnless result Error.OutOfMemory }
+) -> Result<MINIDUMP_MAC_CRASH_INFO_RECORD_STRINGS_4, AllocError>
+    ensures { IfOk result (λ copy. texts_4 copy ≡ texts_4 texts.now) }
 {
-    Ok(MINIDUMP_MAC_CRASH_INFO_RECORD_STRINGS_4 {
-        module_path: String::from_str(alloc, texts.module_path.as_str())?,
-        message: String::from_str(alloc, texts.message.as_str())?,
-        signature_string: String::from_str(alloc, texts.signature_string.as_str())?,
-        backtrace: String::from_str(alloc, texts.backtrace.as_str())?,
-        message2: String::from_str(alloc, texts.message2.as_str())?,
-    })
+    let copy = copy_texts(
+        alloc,
+        texts.module_path.as_str(),
+        texts.message.as_str(),
+        texts.signature_string.as_str(),
+        texts.backtrace.as_str(),
+        texts.message2.as_str(),
+    )?;
+    Ok(copy.strings_4())
 }
 
 // Copies the texts of a record of version 5.
 fn copy_strings_5(
     alloc: Global,
     texts: &MINIDUMP_MAC_CRASH_INFO_RECORD_STRINGS_5,
-) -> Result<MINIDUMP_MAC_CRASH_INFO_RECORD_STRINGS_5, Error>
-    ensures same { IfOk result (λ copy. texts_5 copy ≡ texts_5 texts.now) }
-    ensures memory { IsOkUnless result Error.OutOfMemory }
+) -> Result<MINIDUMP_MAC_CRASH_INFO_RECORD_STRINGS_5, AllocError>
+    ensures { IfOk result (λ copy. texts_5 copy ≡ texts_5 texts.now) }
 {
-    Ok(MINIDUMP_MAC_CRASH_INFO_RECORD_STRINGS_5 {
-        module_path: String::from_str(alloc, texts.module_path.as_str())?,
-        message: String::from_str(alloc, texts.message.as_str())?,
-        signature_string: String::from_str(alloc, texts.signature_string.as_str())?,
-        backtrace: String::from_str(alloc, texts.backtrace.as_str())?,
-        message2: String::from_str(alloc, texts.message2.as_str())?,
-    })
+    let copy = copy_texts(
+        alloc,
+        texts.module_path.as_str(),
+        texts.message.as_str(),
+        texts.signature_string.as_str(),
+        texts.backtrace.as_str(),
+        texts.message2.as_str(),
+    )?;
+    Ok(copy.strings_5())
 }

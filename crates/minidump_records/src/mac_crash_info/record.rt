@@ -13,7 +13,7 @@ use minidump_format::format::{
     MINIDUMP_MAC_CRASH_INFO_RECORD_5, MINIDUMP_MAC_CRASH_INFO_RECORD_STRINGS,
     MINIDUMP_MAC_CRASH_INFO_RECORD_STRINGS_4, MINIDUMP_MAC_CRASH_INFO_RECORD_STRINGS_5,
 };
-use std::alloc::Global;
+use std::alloc::{AllocError, Global};
 
 // The version of a record, and the record, or `None` for version 0.
 #[derive(Drop)]
@@ -24,7 +24,7 @@ pub(super) struct VersionAndRecord {
 
 // The texts of a record of version 4 and above.
 #[derive(Drop)]
-struct Texts {
+pub(super) struct Texts {
     module_path: String,
     message: String,
     signature_string: String,
@@ -33,7 +33,7 @@ struct Texts {
 }
 
 impl Texts {
-    fn strings_4(self) -> MINIDUMP_MAC_CRASH_INFO_RECORD_STRINGS_4
+    pub(super) fn strings_4(self) -> MINIDUMP_MAC_CRASH_INFO_RECORD_STRINGS_4
         ensures { texts_4 result ≡ texts_of self }
     {
         MINIDUMP_MAC_CRASH_INFO_RECORD_STRINGS_4 {
@@ -45,7 +45,7 @@ impl Texts {
         }
     }
 
-    fn strings_5(self) -> MINIDUMP_MAC_CRASH_INFO_RECORD_STRINGS_5
+    pub(super) fn strings_5(self) -> MINIDUMP_MAC_CRASH_INFO_RECORD_STRINGS_5
         ensures { texts_5 result ≡ texts_of self }
     {
         MINIDUMP_MAC_CRASH_INFO_RECORD_STRINGS_5 {
@@ -56,6 +56,32 @@ impl Texts {
             message2: self.message2,
         }
     }
+}
+
+// Copies five texts.
+pub(super) fn copy_texts<'t>(
+    alloc: Global,
+    module_path: &'t str,
+    message: &'t str,
+    signature_string: &'t str,
+    backtrace: &'t str,
+    message2: &'t str,
+) -> Result<Texts, AllocError>
+    ensures { IfOk result (λ copy. texts_of copy ≡ record {
+      module_path = module_path.now;
+      message = message.now;
+      signature_string = signature_string.now;
+      backtrace = backtrace.now;
+      message2 = message2.now;
+    }) }
+{
+    Ok(Texts {
+        module_path: String::from_str(alloc, module_path)?,
+        message: String::from_str(alloc, message)?,
+        signature_string: String::from_str(alloc, signature_string)?,
+        backtrace: String::from_str(alloc, backtrace)?,
+        message2: String::from_str(alloc, message2)?,
+    })
 }
 
 // Reads the record at a location. `before` is the version of the record before it, which it has to
