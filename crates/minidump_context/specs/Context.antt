@@ -1,5 +1,6 @@
 -- The contexts of all processors: which bytes hold one, and the values of its registers.
-use Rattle.std.specs.Prelude.{ℕ, ◌^◌, ◌%◌, drop, codes, nat_le, Bool, ◌==◌, ◌||◌, ◌&&◌, not, List, [], Option, Some, None, Result, Ok, Err, if◌then◌else◌}
+use Rattle.std.specs.Prelude.{ℕ, ◌^◌, ◌%◌, drop, codes, nat_le, Bool, ◌==◌, ◌||◌, ◌&&◌, not, List, [], Option}
+use Rattle.std.specs.Prelude.{Some, None, Result, Ok, Err, if◌then◌else◌}
 use Rattle.std.specs.List.{list_all, filter_map}
 use Rattle.std.specs.Option.{option_map, option_copied}
 use Rattle.minidump_bytes.specs.declared.endian.Endian.{Endian}
@@ -13,7 +14,8 @@ use Rattle.minidump_format.specs.ContextArm.{context_arm}
 use Rattle.minidump_format.specs.ContextArm64.{context_arm64, context_arm64_old}
 use Rattle.minidump_format.specs.System.{architecture_of}
 use Rattle.minidump_format.specs.declared.format.system.ProcessorArchitecture.{ProcessorArchitecture}
-use Rattle.minidump_format.specs.declared.format.system.ProcessorArchitecture.TheVariants.{PROCESSOR_ARCHITECTURE_INTEL, PROCESSOR_ARCHITECTURE_ARM}
+use Rattle.minidump_format.specs.declared.format.system.ProcessorArchitecture.TheVariants.{PROCESSOR_ARCHITECTURE_INTEL}
+use Rattle.minidump_format.specs.declared.format.system.ProcessorArchitecture.TheVariants.{PROCESSOR_ARCHITECTURE_ARM}
 use Rattle.minidump_format.specs.declared.format.system.ProcessorArchitecture.TheVariants.{PROCESSOR_ARCHITECTURE_AMD64}
 use Rattle.minidump_format.specs.declared.format.system.ProcessorArchitecture.TheVariants.{PROCESSOR_ARCHITECTURE_IA32_ON_WIN64}
 use Rattle.minidump_format.specs.declared.format.system.ProcessorArchitecture.TheVariants.{PROCESSOR_ARCHITECTURE_ARM64}

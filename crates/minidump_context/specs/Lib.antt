@@ -5,5 +5,4 @@ pub mod Amd64
 pub mod Arm
 pub mod Arm64
 pub mod Context
-pub mod TableLaws
 pub mod Text

@@ -1,7 +1,8 @@
 -- Registers by name. A processor has a table of canonical names, each with its offset in the
 -- record, and aliases of some of them. A context has the list of its registers' values, in the
 -- order of the table.
-use Rattle.std.specs.Prelude.{⊤, ◌≡◌, ℕ, ◌*◌, Bool, true, false, ◌||◌, ◌&&◌, List, [], ◌∷◌, ◌++◌, codes, drop, map, length, Option, Some, None}
+use Rattle.std.specs.Prelude.{⊤, ◌≡◌, ℕ, ◌*◌, Bool, true, false, ◌||◌, ◌&&◌, List, [], ◌∷◌, ◌++◌, codes, drop}
+use Rattle.std.specs.Prelude.{map, length, Option, Some, None}
 use Rattle.std.specs.Prelude.{IsSome, is_some, if◌then◌else◌, position}
 use Rattle.std.specs.HashSet.{contains_by}
 use Rattle.std.specs.List.{slice_get, slice_set, list_all, list_any, filter, range_with_len, zip}

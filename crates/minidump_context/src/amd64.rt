@@ -18,9 +18,9 @@ impl CpuRegisterNames for CONTEXT_AMD64 {
 }
 
 impl CpuContext for CONTEXT_AMD64 {
-    ghost use Rattle.std.specs.Prelude.{[], codes};
-    ghost use Rattle.minidump_context.specs.Amd64.{amd64_values, amd64_rest};
-    ghost use Rattle.minidump_context.specs.TableLaws.{amd64_as_many, amd64_at_offsets, amd64_names};
+    ghost use Rattle.std.specs.Prelude.{[], codes, refl};
+    ghost use Rattle.minidump_context.specs.Amd64.{amd64_registers, amd64_rest, amd64_values};
+    ghost use Rattle.minidump_context.specs.Register.{canonical_name, register_index};
 
     type Register = u64;
 
@@ -104,9 +104,15 @@ impl CpuContext for CONTEXT_AMD64 {
         "rip"
     }
 
-    ghost as_many = { amd64_as_many };
+    ghost as_many = { unfold amd64_registers amd64_values in λ c. refl };
 
-    ghost register_names = { amd64_names };
+    ghost register_names = { unfold amd64_registers canonical_name register_index in record {
+      canonical = refl;
+      alias = refl;
+      aliases_known = refl;
+      stack_pointer_known = refl;
+      instruction_pointer_known = refl;
+    } };
 
-    ghost at_offsets = { amd64_at_offsets };
+    ghost at_offsets = { unfold amd64_registers amd64_values in λ order bytes. refl };
 }

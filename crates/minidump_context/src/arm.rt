@@ -33,9 +33,12 @@ impl CpuRegisterNames for CONTEXT_ARM {
 }
 
 impl CpuContext for CONTEXT_ARM {
-    ghost use Rattle.std.specs.Prelude.{codes};
-    ghost use Rattle.minidump_context.specs.Arm.{arm_aliases, arm_values, arm_rest};
-    ghost use Rattle.minidump_context.specs.TableLaws.{arm_as_many, arm_at_offsets, arm_names};
+    ghost use Rattle.std.specs.Prelude.{codes, refl, map};
+    ghost use Rattle.minidump_context.specs.Arm.{arm_aliases, arm_numbers, arm_registers, arm_rest, arm_values};
+    ghost use Rattle.minidump_context.specs.Register.{canonical_name, register_index};
+    ghost use Rattle.std.proofs.Common.{ap};
+    ghost use Rattle.minidump_bytes.proofs.ArrayLemmas.{numbers_by_offset};
+    ghost use Rattle.minidump_format.specs.ContextArm.{context_arm};
 
     type Register = u32;
 
@@ -84,9 +87,18 @@ impl CpuContext for CONTEXT_ARM {
         "pc"
     }
 
-    ghost as_many = { arm_as_many };
+    ghost as_many = { unfold arm_registers arm_values arm_numbers in λ c. refl };
 
-    ghost register_names = { arm_names };
+    ghost register_names = { unfold arm_registers arm_aliases canonical_name register_index in record {
+      canonical = refl;
+      alias = refl;
+      aliases_known = refl;
+      stack_pointer_known = refl;
+      instruction_pointer_known = refl;
+    } };
 
-    ghost at_offsets = { arm_at_offsets };
+    ghost at_offsets = { unfold arm_registers arm_values arm_numbers in λ order bytes. ap
+        (λ numbers. map (λ n. n)
+        (arm_values (record (context_arm.value order bytes) { iregs = numbers })))
+        (numbers_by_offset order 4 bytes 4 16) };
 }

@@ -25,9 +25,12 @@ impl CpuRegisterNames for CONTEXT_ARM64 {
 }
 
 impl CpuContext for CONTEXT_ARM64 {
-    ghost use Rattle.std.specs.Prelude.{codes};
-    ghost use Rattle.minidump_context.specs.Arm64.{arm64_aliases, arm64_values, arm64_rest};
-    ghost use Rattle.minidump_context.specs.TableLaws.{arm64_as_many, arm64_at_offsets, arm64_names};
+    ghost use Rattle.std.specs.Prelude.{codes, refl, map};
+    ghost use Rattle.minidump_context.specs.Arm64.{arm64_aliases, arm64_registers, arm64_rest, arm64_values};
+    ghost use Rattle.minidump_context.specs.Register.{canonical_name, register_index};
+    ghost use Rattle.std.proofs.Common.{ap};
+    ghost use Rattle.minidump_bytes.proofs.ArrayLemmas.{numbers_by_offset};
+    ghost use Rattle.minidump_format.specs.ContextArm64.{context_arm64};
 
     type Register = u64;
 
@@ -84,11 +87,20 @@ impl CpuContext for CONTEXT_ARM64 {
         "pc"
     }
 
-    ghost as_many = { arm64_as_many };
+    ghost as_many = { unfold arm64_registers arm64_values in λ c. refl };
 
-    ghost register_names = { arm64_names };
+    ghost register_names = { unfold arm64_registers arm64_aliases canonical_name register_index in record {
+      canonical = refl;
+      alias = refl;
+      aliases_known = refl;
+      stack_pointer_known = refl;
+      instruction_pointer_known = refl;
+    } };
 
-    ghost at_offsets = { arm64_at_offsets };
+    ghost at_offsets = { unfold arm64_registers arm64_values in λ order bytes. ap
+        (λ numbers. map (λ n. n)
+        (arm64_values (record (context_arm64.value order bytes) { iregs = numbers })))
+        (numbers_by_offset order 8 bytes 8 31) };
 }
 
 impl CpuRegisterNames for CONTEXT_ARM64_OLD {
@@ -105,9 +117,12 @@ impl CpuRegisterNames for CONTEXT_ARM64_OLD {
 }
 
 impl CpuContext for CONTEXT_ARM64_OLD {
-    ghost use Rattle.std.specs.Prelude.{codes, ◌%◌, ◌^◌};
-    ghost use Rattle.minidump_context.specs.Arm64.{arm64_aliases, arm64_old_values, arm64_old_rest};
-    ghost use Rattle.minidump_context.specs.TableLaws.{arm64_old_as_many, arm64_old_at_offsets, arm64_names};
+    ghost use Rattle.std.specs.Prelude.{codes, ◌%◌, ◌^◌, refl, map};
+    ghost use Rattle.minidump_context.specs.Arm64.{arm64_aliases, arm64_old_rest, arm64_old_values, arm64_registers};
+    ghost use Rattle.minidump_context.specs.Register.{canonical_name, register_index};
+    ghost use Rattle.std.proofs.Common.{ap};
+    ghost use Rattle.minidump_bytes.proofs.ArrayLemmas.{numbers_by_offset};
+    ghost use Rattle.minidump_format.specs.ContextArm64.{context_arm64_old};
 
     type Register = u64;
 
@@ -164,9 +179,18 @@ impl CpuContext for CONTEXT_ARM64_OLD {
         "pc"
     }
 
-    ghost as_many = { arm64_old_as_many };
+    ghost as_many = { unfold arm64_registers arm64_old_values in λ c. refl };
 
-    ghost register_names = { arm64_names };
+    ghost register_names = { unfold arm64_registers arm64_aliases canonical_name register_index in record {
+      canonical = refl;
+      alias = refl;
+      aliases_known = refl;
+      stack_pointer_known = refl;
+      instruction_pointer_known = refl;
+    } };
 
-    ghost at_offsets = { arm64_old_at_offsets };
+    ghost at_offsets = { unfold arm64_registers arm64_old_values in λ order bytes. ap
+        (λ numbers. map (λ n. n)
+        (arm64_old_values (record (context_arm64_old.value order bytes) { iregs = numbers })))
+        (numbers_by_offset order 8 bytes 8 31) };
 }

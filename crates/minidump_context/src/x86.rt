@@ -17,9 +17,9 @@ impl CpuRegisterNames for CONTEXT_X86 {
 }
 
 impl CpuContext for CONTEXT_X86 {
-    ghost use Rattle.std.specs.Prelude.{[], codes};
-    ghost use Rattle.minidump_context.specs.X86.{x86_values, x86_rest};
-    ghost use Rattle.minidump_context.specs.TableLaws.{x86_as_many, x86_at_offsets, x86_names};
+    ghost use Rattle.std.specs.Prelude.{[], codes, refl};
+    ghost use Rattle.minidump_context.specs.X86.{x86_registers, x86_rest, x86_values};
+    ghost use Rattle.minidump_context.specs.Register.{canonical_name, register_index};
 
     type Register = u32;
 
@@ -89,9 +89,15 @@ impl CpuContext for CONTEXT_X86 {
         "eip"
     }
 
-    ghost as_many = { x86_as_many };
+    ghost as_many = { unfold x86_registers x86_values in λ c. refl };
 
-    ghost register_names = { x86_names };
+    ghost register_names = { unfold x86_registers canonical_name register_index in record {
+      canonical = refl;
+      alias = refl;
+      aliases_known = refl;
+      stack_pointer_known = refl;
+      instruction_pointer_known = refl;
+    } };
 
-    ghost at_offsets = { x86_at_offsets };
+    ghost at_offsets = { unfold x86_registers x86_values in λ order bytes. refl };
 }

@@ -1,6 +1,6 @@
 -- The lemmas of this crate.
-pub mod MergeLemmas
 pub mod RowLemmas
 pub mod ReportLemmas
 pub mod FieldLemmas
+pub mod MergeLemmas
 pub mod ExactLemmas

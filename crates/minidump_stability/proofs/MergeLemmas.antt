@@ -1,10 +1,10 @@
 -- A message is read field by field.
-use Rattle.std.proofs.Common.{◌≡◌, ℕ, zero, suc, ◌<◌, ◌≤◌, ◌+◌, true, false, List, [], ◌∷◌, ◌++◌, length, drop, slice_range, arith, refl, ap, sym, ◌∙◌}
+use Rattle.std.proofs.Common.{◌≡◌, ℕ, ◌<◌, ◌≤◌, ◌+◌, ◌-◌, List, [], ◌∷◌, ◌++◌, length, drop, slice_range, arith, refl, ap, sym, subst, ◌∙◌}
 use Rattle.std.proofs.Common.{append_assoc, append-nil}
-use Rattle.std.specs.Prelude.{unwrap_or, Option, Some, None, Result, Ok, Err, ◌==◌}
-use Rattle.std.specs.Option.{ok_or, option_and_then, option_map}
-use Rattle.std.proofs.lemmas.Bool.Decides.{nat_tests}
-use Rattle.std.proofs.lemmas.List.Sums.{sum_by-cons}
+use Rattle.std.specs.Prelude.{unwrap_or, Option, Some, None, Result, Ok, Err}
+use Rattle.std.specs.Option.{ok_or, option_map}
+use Rattle.std.proofs.lemmas.List.{drop_all, length-drop}
+use Rattle.std.proofs.lemmas.List.Sums.{sum_by-append}
 use Rattle.std.proofs.lemmas.Result.{err_from_is_err_and}
 use Rattle.std.specs.Result.{IsErrAnd}
 use Rattle.std.proofs.lemmas.List.Folds.{drop_split}
@@ -13,120 +13,114 @@ use Rattle.minidump_bytes.proofs.WireFieldLemmas.{field_there}
 use Rattle.minidump_format.specs.Answer.{Gives, GivesError}
 use Rattle.minidump_format.specs.declared.error.Error.{Error}
 use Rattle.minidump_format.specs.declared.error.Error.TheVariants.{DataError, OutOfMemory}
-use Rattle.minidump_stability.specs.Fields.{HasField, field_count, fields_from, fields_in}
+use Rattle.minidump_stability.specs.Fields.{HasField, field_count, fields_in}
 use Rattle.minidump_stability.specs.Rows.{put_bytes, put_fields, puts}
+use Rattle.minidump_stability.proofs.FieldLemmas.{after_fields, fields_are_spelled, first_field}
+use Rattle.minidump_stability.proofs.RowLemmas.{puts-append}
 
-pub fields_end : (most offset : ℕ) (bytes : List ℕ) → offset ≡ length bytes → fields_from (suc most) offset bytes ≡ Some []
-unfolding fields_from
-fields_end most offset bytes end = let yes : (offset == length bytes) ≡ true = grind (arith, nat_tests) in rw yes refl
+-- ---- the fields that were read
+-- the bytes before an offset are fields, which make the value so far
+pub record Reading {V : Type 0} (put : Field → V → Option V) (old : V) (bytes : List ℕ) (offset : ℕ) (now : V) (fields : List Field) : Type 0 where
+  pub front : List ℕ
+  pub whole : bytes ≡ front ++ drop offset bytes
+  pub spelled : SpellsFields front fields
+  pub made : puts put fields old ≡ Some now
 
-abbrev after_one : ℕ → List ℕ → Option (Field × ℕ) → Option (List Field)
-after_one most bytes o = option_and_then (λ r. option_map (λ fs. r.0 ∷ fs) (fields_from most r.1 bytes)) o
+spells_then : (front piece : List ℕ) (fs : List Field) (f : Field) → SpellsFields front fs → SpellsField piece f
+    → SpellsFields (front ++ piece) (fs ++ f ∷ [])
+spells_then front piece [] f none one = (piece, [], rw none (sym (append-nil piece)), one, refl)
+spells_then front piece (g ∷ gs) f (a, b, parts, first, more) one =
+    (a, b ++ piece, rw parts (append_assoc a b piece), first, spells_then b piece gs f more one)
 
-pub fields_more : (most offset : ℕ) (bytes : List ℕ) → offset < length bytes → fields_from (suc most) offset bytes ≡ after_one most bytes (field_at offset bytes)
-unfolding fields_from
-fields_more most offset bytes more = let no : (offset == length bytes) ≡ false = grind (arith, nat_tests) in rw no refl
+module _ {V : Type 0} (put : Field → V → Option V) (old : V) (bytes : List ℕ) where
+  pub reading_none : Reading put old bytes 0 old []
+  reading_none = record { front = []; whole = refl; spelled = refl; made = refl }
 
-module _ {V : Type 0} (put : Field → V → Option V) where
-  -- the bytes from an offset on make the whole of the value so far
-  pub record Merging (whole : Option V) (bytes : List ℕ) (offset : ℕ) (now : V) : Type 0 where
-    pub most : ℕ
-    pub enough : length bytes < offset + most
-    pub within : offset ≤ length bytes
-    pub same : put_fields put (fields_from most offset bytes) now ≡ whole
+  module _ (offset : ℕ) (now : V) (fields : List Field) (r : Reading put old bytes offset now fields) where
+    one_by : (f : Field) (new : Option V) → put f now ≡ new → puts put (fields ++ f ∷ []) old ≡ new
+    one_by f None p = puts-append put fields (f ∷ []) old ∙ rw (r.made, p) refl
+    one_by f (Some v) p = puts-append put fields (f ∷ []) old ∙ rw (r.made, p) refl
 
-  pub merging_none : (bytes : List ℕ) (v : V) → Merging (put_bytes put bytes v) bytes 0 v
-  unfolding fields_in
-  merging_none bytes v = record { most = 1 + length bytes; enough = omega arith; within = omega arith; same = refl }
+    -- ---- one field more
+    module _ (next : ℕ) (f : Field) (at : field_at offset bytes ≡ Some (f, next)) where
+      longer : bytes ≡ (r.front ++ slice_range bytes offset next) ++ drop next bytes
+      longer =
+          let there = field_there bytes offset f next at in
+          r.whole ∙ ap (λ l. r.front ++ l) (drop_split bytes offset next there.forward)
+          ∙ sym (append_assoc r.front (slice_range bytes offset next) (drop next bytes))
 
-  end_by : (whole : Option V) (bytes : List ℕ) (offset : ℕ) (now : V) (most : ℕ) → offset ≡ length bytes → length bytes < offset + most
-      → put_fields put (fields_from most offset bytes) now ≡ whole → whole ≡ Some now
-  end_by whole bytes offset now zero end enough same = absurd (omega (arith, enough))
-  end_by whole bytes offset now (suc most) end enough same = sym (rw (fields_end most offset bytes end) at same)
+      more : SpellsFields (r.front ++ slice_range bytes offset next) (fields ++ f ∷ [])
+      more = spells_then r.front (slice_range bytes offset next) fields f r.spelled (field_there bytes offset f next at).spelled
 
-  pub merging_end : (whole : Option V) (bytes : List ℕ) (offset : ℕ) (now : V) → length bytes ≤ offset → Merging whole bytes offset now → whole ≡ Some now
-  merging_end whole bytes offset now past m = end_by whole bytes offset now m.most (omega (arith, m.within)) m.enough m.same
+      pub reading_more : (new : V) → put f now ≡ Some new → Reading put old bytes next new (fields ++ f ∷ [])
+      reading_more new p =
+          record { front = r.front ++ slice_range bytes offset next; whole = longer; spelled = more; made = one_by f (Some new) p }
 
-  one_by : (fields : Option (List Field)) (f : Field) (now : V) (new : Option V) → put f now ≡ new
-      → put_fields put (option_map (λ fs. f ∷ fs) fields) now ≡ option_and_then (λ v. put_fields put fields v) new
-  one_by None f now None p = refl
-  one_by None f now (Some v) p = refl
-  one_by (Some fs) f now new p = rw p (refl_then fs new)
-    where
-      refl_then : (fs : List Field) (new : Option V) → option_and_then (puts put fs) new ≡ option_and_then (λ v. put_fields put (Some fs) v) new
-      refl_then fs None = refl
-      refl_then fs (Some v) = refl
-
-  -- one field more, which is or isn't there
-  pub one_more : (whole : Option V) (bytes : List ℕ) (offset : ℕ) (now : V) → offset < length bytes → Merging whole bytes offset now
-      → (most : ℕ) × (length bytes ≤ offset + most) × (put_fields put (after_one most bytes (field_at offset bytes)) now ≡ whole)
-  one_more whole bytes offset now more m = step m.most m.enough m.same
-    where
-      step : (most : ℕ) → length bytes < offset + most → put_fields put (fields_from most offset bytes) now ≡ whole
-          → (k : ℕ) × (length bytes ≤ offset + k) × (put_fields put (after_one k bytes (field_at offset bytes)) now ≡ whole)
-      step zero enough same = absurd (omega (arith, enough, more))
-      step (suc most) enough same = (most, omega (arith, enough), rw (fields_more most offset bytes more) at same)
-
-  pub merging_more : (whole : Option V) (bytes : List ℕ) (offset next : ℕ) (f : Field) (now new : V) → offset < next → next ≤ length bytes
-      → field_at offset bytes ≡ Some (f, next) → put f now ≡ Some new
-      → Merging whole bytes offset now → Merging whole bytes next new
-  merging_more whole bytes offset next f now new forward within at p m =
-      let s = one_more whole bytes offset now (omega (arith, forward, within)) m in
-      record {
-        most = s.0;
-        enough = omega (arith, s.1, forward);
-        within = within;
-        same = sym (one_by (fields_from s.0 next bytes) f now (Some new) p)
-            ∙ rw at at s.2;
+      -- a field that is read is among those that the bytes begin with
+      pub reading_has : (kind : Field → Type 0) → kind f → HasField kind bytes
+      reading_has kind is = record {
+        front = r.front ++ slice_range bytes offset next;
+        back = drop next bytes;
+        before = fields;
+        field = f;
+        whole = longer;
+        spelled = more;
+        is_kind = is;
       }
 
-  pub merging_stuck : (whole : Option V) (bytes : List ℕ) (offset : ℕ) (now : V) → offset < length bytes → field_at offset bytes ≡ None
-      → Merging whole bytes offset now → whole ≡ None
-  merging_stuck whole bytes offset now more none m = let s = one_more whole bytes offset now more m in sym (rw none at s.2)
+    -- ---- the end
+    all_fields : length bytes ≤ offset → fields_in bytes ≡ Some fields
+    all_fields past =
+        let front : bytes ≡ r.front = r.whole ∙ ap (λ l. r.front ++ l) (drop_all offset bytes past) ∙ append-nil r.front in
+        (fields_are_spelled bytes fields).1 (subst (λ l. SpellsFields l fields) (sym front) r.spelled)
 
-  pub merging_error : (whole : Option V) (bytes : List ℕ) (offset next : ℕ) (f : Field) (now : V) → offset < length bytes
-      → field_at offset bytes ≡ Some (f, next) → put f now ≡ None
-      → Merging whole bytes offset now → whole ≡ None
-  merging_error whole bytes offset next f now more at p m =
-      let s = one_more whole bytes offset now more m in
-      sym (sym (one_by (fields_from s.0 next bytes) f now None p) ∙ rw at at s.2)
+    pub reading_end : length bytes ≤ offset → put_bytes put bytes old ≡ Some now
+    reading_end past = rw (all_fields past) r.made
 
--- `done` fields are before an offset, of all that there are
-pub record Counting (inside : Field → ℕ) (bytes : List ℕ) (offset done : ℕ) : Type 0 where
-  pub most : ℕ
-  pub enough : length bytes < offset + most
-  pub total : (fs : List Field) → fields_from most offset bytes ≡ Some fs → field_count inside (unwrap_or (fields_in bytes) []) ≡ done + field_count inside fs
+    pub reading_count : (inside : Field → ℕ) → length bytes ≤ offset → field_count inside (unwrap_or (fields_in bytes) []) ≡ field_count inside fields
+    reading_count inside past = rw (all_fields past) refl
 
-module _ (inside : Field → ℕ) where
-  pub counting_none : (bytes : List ℕ) → Counting inside bytes 0 0
-  unfolding fields_in
-  counting_none bytes = record { most = 1 + length bytes; enough = omega arith; total = λ fs h. rw h (omega arith) }
+    -- ---- no field, or one that isn't added
+    -- all fields of the bytes, of which there are more than were read
+    later : (gs : List Field) → SpellsFields bytes gs → (hs : List Field) × (gs ≡ fields ++ hs) × SpellsFields (drop offset bytes) hs
+    later gs s = after_fields r.front (drop offset bytes) fields gs r.spelled (subst (λ l. SpellsFields l gs) r.whole s)
 
-  pub counting_end : (bytes : List ℕ) (offset done : ℕ) → offset ≡ length bytes → Counting inside bytes offset done
-      → field_count inside (unwrap_or (fields_in bytes) []) ≡ done
-  counting_end bytes offset done end c = go c.most c.enough c.total
-    where
-      go : (most : ℕ) → length bytes < offset + most
-          → ((fs : List Field) → fields_from most offset bytes ≡ Some fs → field_count inside (unwrap_or (fields_in bytes) []) ≡ done + field_count inside fs)
-          → field_count inside (unwrap_or (fields_in bytes) []) ≡ done
-      go zero enough total = absurd (omega (arith, enough, end))
-      go (suc most) enough total = let all = total [] (fields_end most offset bytes end) in omega (arith, all)
+    left : offset < length bytes → 0 < length (drop offset bytes)
+    left some = omega (arith, some, length-drop offset bytes)
 
-  pub counting_more : (bytes : List ℕ) (offset next done : ℕ) (f : Field) → offset < next → next ≤ length bytes → field_at offset bytes ≡ Some (f, next)
-      → Counting inside bytes offset done
-      → Counting inside bytes next (done + (1 + inside f))
-  counting_more bytes offset next done f forward fits at c = go c.most c.enough c.total
-    where
-      go : (most : ℕ) → length bytes < offset + most
-          → ((fs : List Field) → fields_from most offset bytes ≡ Some fs → field_count inside (unwrap_or (fields_in bytes) []) ≡ done + field_count inside fs)
-          → Counting inside bytes next (done + (1 + inside f))
-      go zero enough total = absurd (omega (arith, enough, forward, fits))
-      go (suc most) enough total = record {
-        most = most;
-        enough = omega (arith, enough, forward);
-        total = λ fs h. (let all = total (f ∷ fs) (fields_more most offset bytes (omega (arith, forward, fits)) ∙ rw (at, h) refl) in omega
-            (arith, all, sum_by-cons (λ g. 1 + inside g) f fs));
-      }
+    abbrev is_at : Field × List ℕ → Field × ℕ
+    is_at r = (r.0, length bytes - length r.1)
+
+    pub reading_stuck : offset < length bytes → field_at offset bytes ≡ None → put_bytes put bytes old ≡ None
+    reading_stuck some none = by_all (fields_in bytes) refl
+      where
+        by_all : (o : Option (List Field)) → fields_in bytes ≡ o → put_fields put o old ≡ None
+        by_all None is = refl
+        by_all (Some gs) is =
+            let m = later gs ((fields_are_spelled bytes gs).0 is) in
+            let one = first_field (drop offset bytes) m.0 (left some) m.2 in
+            let there : field_at offset bytes ≡ Some (is_at (one.0, one.2)) = ap (option_map is_at) one.4 in
+            absurd (let k : None ≡ Some (is_at (one.0, one.2)) = sym none ∙ there in cc)
+
+    pub reading_error : (next : ℕ) (f : Field) → offset < length bytes → field_at offset bytes ≡ Some (f, next) → put f now ≡ None
+        → put_bytes put bytes old ≡ None
+    reading_error next f some at p = by_all (fields_in bytes) refl
+      where
+        by_all : (o : Option (List Field)) → fields_in bytes ≡ o → put_fields put o old ≡ None
+        by_all None is = refl
+        by_all (Some gs) is =
+            let m = later gs ((fields_are_spelled bytes gs).0 is) in
+            let one = first_field (drop offset bytes) m.0 (left some) m.2 in
+            let there : field_at offset bytes ≡ Some (is_at (one.0, one.2)) = ap (option_map is_at) one.4 in
+            let both : Some (f, next) ≡ Some (is_at (one.0, one.2)) = sym at ∙ there in
+            let same : (f, next) ≡ is_at (one.0, one.2) = cc in
+            let head : one.0 ≡ f = sym (ap (λ q. q.0) same) in
+            let none : put one.0 now ≡ None = rw head p in
+            rw (m.1, one.3) (puts-append put fields (one.0 ∷ one.1) old ∙ rw (r.made, none) refl)
+
+-- what one field more counts
+pub count_more : (inside : Field → ℕ) (fs : List Field) (f : Field) → field_count inside (fs ++ f ∷ []) ≡ field_count inside fs + (1 + inside f)
+count_more inside fs f = sum_by-append (λ g. 1 + inside g) fs (f ∷ []) ∙ omega arith
 
 -- ---- how errors are passed on
 module _ {A B : Type 0} (P Q : Type 0) (weaker : P → Q) where
@@ -161,47 +155,6 @@ view_none view None o d e s h = (sym s, (let k : e ≡ d = cc in sym k))
 
 pub view_some : {A B : Type 0} (view : A → B) (r : Option A) (o : Option B) (x : A) → option_map view r ≡ o → r ≡ Some x → o ≡ Some (view x)
 view_some view r o x s h = sym (rw h at s)
-
--- ---- the fields that were read
--- the bytes before an offset are fields one after another
-pub record Reading (bytes : List ℕ) (offset : ℕ) : Type 0 where
-  pub front : List ℕ
-  pub fields : List Field
-  pub whole : bytes ≡ front ++ drop offset bytes
-  pub spelled : SpellsFields front fields
-
-pub reading_none : (bytes : List ℕ) → Reading bytes 0
-reading_none bytes = record { front = []; fields = []; whole = refl; spelled = refl }
-
-spells_then : (front piece : List ℕ) (fs : List Field) (f : Field) → SpellsFields front fs → SpellsField piece f
-    → SpellsFields (front ++ piece) (fs ++ f ∷ [])
-spells_then front piece [] f none one = (piece, [], rw none (sym (append-nil piece)), one, refl)
-spells_then front piece (g ∷ gs) f (a, b, parts, first, more) one =
-    (a, b ++ piece, rw parts (append_assoc a b piece), first, spells_then b piece gs f more one)
-
-module _ (bytes : List ℕ) (offset next : ℕ) (f : Field) (at : field_at offset bytes ≡ Some (f, next)) (r : Reading bytes offset) where
-  whole : bytes ≡ (r.front ++ slice_range bytes offset next) ++ drop next bytes
-  whole = let there = field_there bytes offset f next at in
-      r.whole ∙ ap (λ l. r.front ++ l) (drop_split bytes offset next there.forward) ∙ sym (append_assoc r.front (slice_range bytes offset next) (drop next bytes))
-
-  more : SpellsFields (r.front ++ slice_range bytes offset next) (r.fields ++ f ∷ [])
-  more = spells_then r.front (slice_range bytes offset next) r.fields f r.spelled (field_there bytes offset f next at).spelled
-
-  -- one field more was read
-  pub reading_more : Reading bytes next
-  reading_more = record { front = r.front ++ slice_range bytes offset next; fields = r.fields ++ f ∷ []; whole = whole; spelled = more }
-
-  -- a field that is read is among those that the bytes begin with
-  pub reading_has : (kind : Field → Type 0) → kind f → HasField kind bytes
-  reading_has kind is = record {
-    front = r.front ++ slice_range bytes offset next;
-    back = drop next bytes;
-    before = r.fields;
-    field = f;
-    whole = whole;
-    spelled = more;
-    is_kind = is;
-  }
 
 pub is_there : {A : Type 0} (o : Option A) (d : Error) (x : A) → ok_or o d ≡ Ok x → o ≡ Some x
 is_there (Some a) d x h = (let k : a ≡ x = cc in ap Some k)

@@ -101,7 +101,7 @@ module _ {M : Type 0} (put : Field → M → Option M) where
   append_by fs gs None more = refl
   append_by fs gs (Some m) more = more m
 
-  puts-append : (fs gs : List Field) (m : M) → puts put (fs ++ gs) m ≡ option_and_then (puts put gs) (puts put fs m)
+  pub puts-append : (fs gs : List Field) (m : M) → puts put (fs ++ gs) m ≡ option_and_then (puts put gs) (puts put fs m)
   puts-append [] gs m = refl
   puts-append (f ∷ fs) gs m = append_by fs gs (put f m) (λ n. puts-append fs gs n)
 

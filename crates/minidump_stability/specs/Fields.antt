@@ -1,9 +1,9 @@
 -- What the fields of a message mean, as the encoding guide of Protocol Buffers has it.
-use Rattle.std.specs.Prelude.{◌≡◌, ℕ, ℤ, pos, ◌-ℤ◌, zero, suc, ◌+◌, ◌%◌, ◌^◌, ◌==◌, nat_lt, List, [], ◌∷◌, ◌++◌, length, Option, Some, None, unwrap_or}
-use Rattle.std.specs.Prelude.{if◌then◌else◌}
-use Rattle.std.specs.List.{sum_by}
-use Rattle.std.specs.Option.{option_and_then, option_map}
-use Rattle.minidump_bytes.specs.Wire.{Bytes, Eight, Field, Four, Payload, SpellsFields, Varint, field_at}
+use Rattle.std.specs.Prelude.{◌≡◌, ℕ, ℤ, pos, ◌-ℤ◌, ◌+◌, ◌%◌, ◌^◌, ◌==◌, nat_lt, List, [], ◌∷◌, ◌++◌}
+use Rattle.std.specs.Prelude.{Option, Some, None, unwrap_or, if◌then◌else◌}
+use Rattle.std.specs.List.{flat_map, sum_by}
+use Rattle.std.specs.Option.{option_and_then, option_map, option_or}
+use Rattle.minidump_bytes.specs.Wire.{Bytes, Eight, Field, Four, Payload, SpellsFields, Varint, field_in}
 
 -- the values of all, or none where one has none
 abbrev pub each : {A B : Type 0} → (A → Option B) → List A → Option (List B)
@@ -14,18 +14,35 @@ each value (x ∷ xs) = option_and_then (λ y. option_map (λ ys. y ∷ ys) (eac
 abbrev pub both : {A B : Type 0} → Option A → Option B → Option (A × B)
 both a b = option_and_then (λ x. option_map (λ y. (x, y)) b) a
 
--- ---- the fields as a function. By the law `fields_are_what_bytes_spell`, bytes spell exactly these
--- the fields from an offset on, if they are fewer than `most`
-unfoldable pub fields_from : ℕ → ℕ → List ℕ → Option (List Field)
-fields_from zero offset bytes = None
-fields_from (suc most) offset bytes =
-    if offset == length bytes then Some []
-    else option_and_then (λ r. option_map (λ fs. r.0 ∷ fs) (fields_from most r.1 bytes))
-    (field_at offset bytes)
+-- the first of the values
+abbrev pub first : {A B : Type 0} → (A → Option B) → List A → Option B
+first value [] = None
+first value (x ∷ xs) = option_or (value x) (first value xs)
 
--- the fields that bytes spell
+-- ---- the fields as a function: by the law `fields_are_what_bytes_spell`, bytes spell exactly these
+-- a cut of bytes, and a byte before them: it is a piece of its own, or begins the first piece
+abbrev pub with_byte : ℕ → List (List ℕ) → List (List (List ℕ))
+with_byte b [] = ((b ∷ []) ∷ []) ∷ []
+with_byte b (piece ∷ pieces) = ((b ∷ []) ∷ piece ∷ pieces) ∷ ((b ∷ piece) ∷ pieces) ∷ []
+
+-- every cut of bytes into pieces, none of which is empty
+unfoldable pub cuts : List ℕ → List (List (List ℕ))
+cuts [] = [] ∷ []
+cuts (b ∷ bs) = flat_map (with_byte b) (cuts bs)
+
+-- a field after which no byte is left
+abbrev pub whole : Field × List ℕ → Option Field
+whole (f, []) = Some f
+whole (f, b ∷ bs) = None
+
+-- the field that a piece spells
+unfoldable pub field_of_piece : List ℕ → Option Field
+field_of_piece piece = option_and_then whole (field_in piece)
+
+-- the fields that bytes spell: those of the cut whose pieces are fields, of which there is at most
+-- one
 unfoldable pub fields_in : List ℕ → Option (List Field)
-fields_in bytes = fields_from (1 + length bytes) 0 bytes
+fields_in bytes = first (each field_of_piece) (cuts bytes)
 
 -- ---- what fields hold
 -- the bytes begin with fields, of which the last is of a kind. The bytes after it may be no fields

@@ -11,7 +11,8 @@ use Rattle.minidump_stability.specs.declared.report.ProcessState.{ProcessState}
 use Rattle.minidump_stability.specs.declared.report.SystemMemoryState.{SystemMemoryState}
 use Rattle.minidump_stability.specs.declared.system_memory_state.WindowsMemory as system
 use Rattle.minidump_stability.specs.Fields.{int64_in, uint32_in}
-use Rattle.minidump_stability.specs.StabilityReport.{Report, file_system_state_of, process_state_of, report_of, system_windows_memory_of, windows_memory_of}
+use Rattle.minidump_stability.specs.StabilityReport.{Report, file_system_state_of, process_state_of}
+use Rattle.minidump_stability.specs.StabilityReport.{report_of, system_windows_memory_of, windows_memory_of}
 use Rattle.minidump_stability.specs.Rows.{one_nested, one_repeated, only, row, scalar_row, through}
 
 -- ProcessState.MemoryState.WindowsMemory

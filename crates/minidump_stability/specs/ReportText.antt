@@ -45,12 +45,14 @@ memory_state_text i m = if_there (windows_memory_text i) m.windows_memory
 -- those of WindowsFileSystemState
 abbrev pub posix_file_system_state_text : PosixFileSystemState → List ℕ
 posix_file_system_state_text m =
-    if_there (number_line (codes "file_system_state.posix_file_system_state.open_file_descriptors")) m.open_file_descriptors
+    if_there (number_line (codes "file_system_state.posix_file_system_state.open_file_descriptors"))
+    m.open_file_descriptors
 
 -- ProcessState.FileSystemState.WindowsFileSystemState
 abbrev pub windows_file_system_state_text : WindowsFileSystemState → List ℕ
 windows_file_system_state_text m =
-    if_there (number_line (codes "file_system_state.windows_file_system_state.process_handle_count")) m.process_handle_count
+    if_there (number_line (codes "file_system_state.windows_file_system_state.process_handle_count"))
+    m.process_handle_count
 
 -- ProcessState.FileSystemState
 abbrev pub file_system_state_text : FileSystemState → List ℕ

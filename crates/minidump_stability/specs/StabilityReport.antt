@@ -17,7 +17,8 @@ use Rattle.minidump_stability.specs.declared.report.ProcessState.{ProcessState}
 use Rattle.minidump_stability.specs.declared.report.StabilityReport.{StabilityReport}
 use Rattle.minidump_stability.specs.declared.report.SystemMemoryState.{SystemMemoryState}
 use Rattle.minidump_stability.specs.declared.system_memory_state.WindowsMemory as system
-use Rattle.minidump_stability.specs.Fields.{HasField, both, field_count, fields_in, int64_in, nested, none_within, repeated, scalar, uint32_in, within}
+use Rattle.minidump_stability.specs.Fields.{HasField, both, field_count, fields_in, int64_in, nested}
+use Rattle.minidump_stability.specs.Fields.{none_within, repeated, scalar, uint32_in, within}
 
 -- ProcessState.MemoryState.WindowsMemory of the values of its fields
 abbrev pub windows_memory_of : Option ℕ × (Option ℕ × (Option ℕ × Option ℕ)) → WindowsMemory

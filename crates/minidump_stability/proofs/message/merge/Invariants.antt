@@ -1,17 +1,18 @@
 -- How far a message is read.
-use Rattle.std.proofs.Common.{◌≡◌, ℕ, ◌+◌, ◌-◌, ◌≤◌, length}
+use Rattle.std.proofs.Common.{◌≡◌, ◌+◌, ◌-◌, ◌≤◌, List, length}
 use Rattle.minidump_bytes.specs.Steps.{after}
-use Rattle.minidump_stability.specs.Rows.{put_bytes}
-use Rattle.minidump_stability.proofs.MergeLemmas.{Counting, Merging, Reading}
+use Rattle.minidump_bytes.specs.Wire.{Field}
+use Rattle.minidump_stability.specs.Fields.{field_count}
+use Rattle.minidump_stability.proofs.MergeLemmas.{Reading}
 use Rattle.minidump_stability.proofs.message.merge.Given as goal
 
 abbrev pub invariant-loop-offset : goal.invariant-loop-offset
 invariant-loop-offset g l = record {
-  merging : Merging g.M.Message.put (put_bytes g.M.Message.put l.bytes (g.M.Message.value l.fn.old)) l.bytes l.offset (g.M.Message.value l.message);
+  inside : l.offset ≤ length l.bytes;
   within : l.steps ≤ l.fn.steps + l.offset;
   grows : l.fn.steps ≤ l.steps;
-  read : Reading l.bytes l.offset;
-  count : (done : ℕ) × Counting g.M.Message.inside l.bytes l.offset done × (l.steps ≡ after l.fn.steps done);
+  read : (fields : List Field) × Reading g.M.Message.put (g.M.Message.value l.fn.old) l.bytes l.offset (g.M.Message.value l.message) fields
+      × (l.steps ≡ after l.fn.steps (field_count g.M.Message.inside fields));
 }
 
 abbrev pub decreases-loop-offset : goal.decreases-loop-offset
