@@ -1,22 +1,21 @@
 -- The kept modules that contain one of some addresses, as a set of base addresses tells them.
 use Rattle.std.proofs.Common.{◌≡◌, ℕ, zero, suc, ◌+◌, ◌<◌, ◌≤◌, arith, Bool, true, false, cond, not, ◌&&◌, List, [], ◌∷◌, drop, get_or, length, map, ap, add-one, refl, subst, sym, ◌∙◌, inl, inr}
-use Rattle.std.specs.Prelude.{◌==◌, ◌↔◌, Option, Some, None, MatchOption, filter, nat_le, slice_get}
-use Rattle.std.specs.List.{enumerate_from, list_any, range_with_len}
-use Rattle.std.specs.Option.{option_and_then, option_map, option_map_or}
+use Rattle.std.specs.Prelude.{◌==◌, ◌↔◌, Option, Some, None, MatchOption, filter, slice_get}
+use Rattle.std.specs.List.{enumerate_from, list_any}
+use Rattle.std.specs.Option.{option_map, option_map_or}
 use Rattle.std.proofs.Math.Seq.{drop-cons}
 use Rattle.std.proofs.lemmas.Bool.{cases_lt, eq-eqb, eqb-true}
 use Rattle.std.proofs.lemmas.List.{drop_all}
 use Rattle.std.proofs.lemmas.List.Folds.{Any-from_list_any, list_any_at}
 use Rattle.std.proofs.lemmas.Option.{get_or_from_slice_get, slice_get-map, slice_get_within}
+use Rattle.std.proofs.lemmas.Simd.{map-map}
 use Rattle.minidump.specs.declared.Range.{Range}
-use Rattle.minidump.specs.Below.Index.Lookup.{KeptAt}
+use Rattle.minidump.specs.Below.Index.Lookup.{KeptAt, looked_up}
 use Rattle.minidump.specs.Below.Index.Overlap.{HasRange, IsBefore, IsKeptSet, ShareAddress, range_of}
 use Rattle.minidump.specs.Below.Modules.Module.{ModuleValue, range_of_module}
-use Rattle.minidump.specs.LookedUp.{has_range, is_kept, kept_at, looked_up}
-use Rattle.minidump.proofs.LawsLemmas.{find_passes}
-use Rattle.minidump.proofs.LookedUpLemmas.{answers_alone}
 use Rattle.minidump_index.proofs.AddressOrder.{one_index}
 use Rattle.minidump_index.proofs.KeptSetExists.{a_kept_set}
+use Rattle.minidump_index.proofs.LookedUpLemmas.{looked_up_is}
 use Rattle.crash_lines.specs.Modules.{is_at}
 
 -- ---- tests
@@ -68,69 +67,56 @@ number_at n [] k p at = cc
 number_at n (x ∷ xs) zero p at = let same : (n, x) ≡ p = some_equal _ _ at in sym (ap (λ q. q.0) same) ∙ omega arith
 number_at n (x ∷ xs) (suc k) p at = let rest = number_at (n + 1) xs k p at in omega (arith, rest)
 
--- ---- the kept ranges of a list
-module _ (ranges : List (Option Range)) where
-  abbrev pub one : (kept : ℕ → Bool) × IsKeptSet ranges kept
-  one = a_kept_set ranges
+-- ---- the kept items of a list
+module _ {X : Type 0} (range : X → Option Range) (items : List X) where
+  abbrev ranges : List (Option Range)
+  ranges = map range items
 
-  -- a range is kept, and contains an address
-  abbrev pub Has : ℕ → ℕ → Type 0
-  Has address index = KeptAt ranges one.0 address index
+  abbrev pub kept_one : (kept : ℕ → Bool) × IsKeptSet ranges kept
+  kept_one = a_kept_set ranges
 
-  abbrev indexed : List (ℕ × Option Range)
-  indexed = enumerate_from 0 ranges
+  -- an item is kept, and contains an address
+  abbrev pub HasItem : ℕ → ℕ → Type 0
+  HasItem address index = KeptAt ranges kept_one.0 address index
 
-  abbrev found : ℕ → Option (ℕ × Option Range)
-  found address = option_and_then (slice_get indexed) (kept_at ranges address)
+  abbrev numbers : List (ℕ × X)
+  numbers = enumerate_from 0 items
 
-  abbrev Nowhere : ℕ → Type 0
-  Nowhere address = (index : ℕ) → ¬ (Has address index)
+  -- what a lookup finds, with its index
+  abbrev pub item_found : ℕ → Option (ℕ × X)
+  item_found address = looked_up (λ p. range p.1) numbers address
 
-  abbrev There : ℕ → ℕ × Option Range → Type 0
-  There address region = (index : ℕ) × Has address index × (slice_get indexed index ≡ Some region)
+  same_ranges : map (λ p. range p.1) numbers ≡ ranges
+  same_ranges = sym (map-map range (λ p. p.1) numbers) ∙ ap (map range) (numbered 0 items)
 
-  seen : (address : ℕ) → MatchOption (found address) (Nowhere address) (There address)
-  unfolding looked_up
-  seen address =
-      let same : map (λ p. p.1) indexed ≡ ranges = numbered 0 ranges in
-      let is = (answers_alone {R = ℕ × Option Range} (λ p. p.1) indexed address (found address)).1
-      (ap (λ rs. option_and_then (slice_get indexed) (kept_at rs address)) (sym same)) in
-      subst (λ (rs : List (Option Range)). (kept : ℕ → Bool) → IsKeptSet rs kept → MatchOption (found address)
-      ((index : ℕ) → ¬ (KeptAt rs kept address index))
-      (λ region. (index : ℕ) × KeptAt rs kept address index × (slice_get indexed index ≡ Some region))) same is one.0 one.1
+  abbrev IsSeen : Option (ℕ × X) → ℕ → Type 0
+  IsSeen o address = MatchOption o ((index : ℕ) → ¬ (HasItem address index)) (λ p. (index : ℕ) × HasItem address index × (slice_get numbers index ≡ Some p))
 
-  seen_as : (address : ℕ) (o : Option (ℕ × Option Range)) → found address ≡ o → MatchOption o (Nowhere address) (There address)
-  seen_as address o is = subst (λ (f : Option (ℕ × Option Range)). MatchOption f (Nowhere address) (There address)) is (seen address)
+  seen : (address : ℕ) (o : Option (ℕ × X)) → item_found address ≡ o → IsSeen o address
+  seen address o is = subst (λ (f : Option (ℕ × X)). IsSeen f address) is
+      (subst (λ (rs : List (Option Range)). (kept : ℕ → Bool) → IsKeptSet rs kept
+      → MatchOption (item_found address) ((index : ℕ) → ¬ (KeptAt rs kept address index))
+      (λ p. (index : ℕ) × KeptAt rs kept address index × (slice_get numbers index ≡ Some p))) same_ranges
+      (looked_up_is (λ p. range p.1) numbers address) kept_one.0 kept_one.1)
 
-  abbrev holds : ℕ → Option (Option Range) → Bool
-  holds address o = has_range (λ r. nat_le r.start address && nat_le address r.end) o
+  item_at : (index : ℕ) (p : ℕ × X) → slice_get numbers index ≡ Some p → slice_get items index ≡ Some p.1
+  item_at index p at = ap (λ xs. slice_get xs index) (sym (numbered 0 items)) ∙ slice_get-map (λ p. p.1) numbers index ∙ ap (option_map (λ p. p.1)) at
 
-  -- a lookup finds a kept range that has the address
-  pub has_found : (address index : ℕ) → kept_at ranges address ≡ Some index → Has address index
-  has_found address index is = go (slice_get indexed index) refl
-    where
-      go : (o : Option (ℕ × Option Range)) → slice_get indexed index ≡ o → Has address index
-      go (Some p) at =
-          let (other, has, at_other) = seen_as address (Some p) (ap (option_and_then (slice_get indexed)) is ∙ at) in
-          let own = number_at 0 ranges index p at in
-          let others = number_at 0 ranges other p at_other in
-          let same : other ≡ index = omega (arith, own, others) in
-          subst (Has address) same has
-      go None at =
-          let passes = find_passes (λ p. is_kept ranges (length ranges) p && holds address (slice_get ranges p)) (range_with_len 0 (length ranges)) index is in
-          let none : slice_get ranges index ≡ None =
-          ap (λ rs. slice_get rs index) (sym (numbered 0 ranges)) ∙ slice_get-map (λ p. p.1) indexed index ∙ ap (option_map (λ p. p.1)) at
-          in
-          let holds_here : holds address (slice_get ranges index) ≡ true = second_true _ _ passes in
-          let no : false ≡ true = rw none at holds_here in cc
+  -- a lookup finds a kept item that has the address
+  pub has_found : (address : ℕ) (p : ℕ × X) → item_found address ≡ Some p → HasItem address p.0 × (slice_get items p.0 ≡ Some p.1)
+  has_found address p is =
+      let (index, has, at) = seen address (Some p) is in
+      let number = number_at 0 items index p at in
+      let same : index ≡ p.0 = omega (arith, number) in
+      (subst (HasItem address) same has, subst (λ i. slice_get items i ≡ Some p.1) same (item_at index p at))
 
   -- and the one that has it
-  pub found_has : (address index : ℕ) → Has address index → kept_at ranges address ≡ Some index
-  found_has address index has = go (kept_at ranges address) refl
+  pub found_has : (address index : ℕ) → HasItem address index → (p : ℕ × X) × (item_found address ≡ Some p) × (p.0 ≡ index)
+  found_has address index has = go (item_found address) refl
     where
-      go : (o : Option ℕ) → kept_at ranges address ≡ o → kept_at ranges address ≡ Some index
-      go (Some other) is = is ∙ ap (λ p. Some p) (one_index ranges one.0 address other index one.1 (has_found address other is) has)
-      go None is = absurd (seen_as address None (ap (option_and_then (slice_get indexed)) is) index has)
+      go : (o : Option (ℕ × X)) → item_found address ≡ o → (p : ℕ × X) × (item_found address ≡ Some p) × (p.0 ≡ index)
+      go (Some p) is = (p, is, one_index ranges kept_one.0 address p.0 index kept_one.1 (has_found address p is).0 has)
+      go None is = absurd (seen address None is index has)
 
   before_first : (r s : Range) (other i p : ℕ) → i < p → IsBefore s other r i → IsBefore s other r p
   before_first r s other i p lt before = elim before [
@@ -142,11 +128,11 @@ module _ (ranges : List (Option Range)) where
   ]
 
   -- of several equal ranges the first is kept
-  pub kept_first : (address index other : ℕ) (has : Has address index) → HasRange ranges other has.range → index ≤ other
+  pub kept_first : (address index other : ℕ) (has : HasItem address index) → HasRange ranges other has.range → index ≤ other
   kept_first address index other has at = elim (cases_lt other index) [
-    | inl lt ↦ (let (own, at_own, clear) = (one.1 index).0 has.is_kept in
+    | inl lt ↦ (let (own, at_own, clear) = (kept_one.1 index).0 has.is_kept in
         let same : own ≡ has.range = (let both : Some (Some own) ≡ Some (Some has.range) = sym at_own ∙ has.has in cc) in
-        let kept : one.0 other ≡ true = (one.1 other).1 (
+        let kept : kept_one.0 other ≡ true = (kept_one.1 other).1 (
           has.range,
           at,
           λ third earlier third_kept at_third before share.
@@ -154,8 +140,8 @@ module _ (ranges : List (Option Range)) where
               (subst (λ (x : Range). IsBefore earlier third x index) (sym same) (before_first has.range earlier third other index lt before))
               (subst (λ (x : Range). ShareAddress earlier x) (sym same) share),
         ) in
-        let there : Has address other = record { range = has.range; is_kept = kept; has = at; inside = has.inside } in
-        let one_of = one_index ranges one.0 address other index one.1 there has in
+        let there : HasItem address other = record { range = has.range; is_kept = kept; has = at; inside = has.inside } in
+        let one_of = one_index ranges kept_one.0 address other index kept_one.1 there has in
         absurd (omega (arith, one_of, lt)))
     | inr le ↦ le
   ]
@@ -177,6 +163,13 @@ module _ (modules : List ModuleValue) where
   abbrev pub At : ℕ → ModuleValue → Type 0
   At index m = slice_get modules index ≡ Some m
 
+  -- a module is kept, and contains an address
+  abbrev pub Has : ℕ → ℕ → Type 0
+  Has address index = HasItem range_of_module modules address index
+
+  one_has : (address p q : ℕ) → Has address p → Has address q → p ≡ q
+  one_has address p q x y = one_index spans (kept_one range_of_module modules).0 address p q (kept_one range_of_module modules).1 x y
+
   range_is : (index : ℕ) (m : ModuleValue) (r : Range) → At index m → HasRange spans index r → range_of_module m ≡ Some r
   range_is index m r at has =
       let both : Some (range_of_module m) ≡ Some (Some r) = ap (option_map range_of_module) (sym at) ∙ sym (slice_get-map range_of_module modules index) ∙ has in
@@ -186,20 +179,24 @@ module _ (modules : List ModuleValue) where
   has_is index m r at is = slice_get-map range_of_module modules index ∙ ap (option_map range_of_module) at ∙ ap (λ o. Some o) is
 
   -- a lookup finds the module of the kept index
-  looks_up : (address index : ℕ) (m : ModuleValue) → Has spans address index → At index m → looked_up range_of_module modules address ≡ Some m
-  unfolding looked_up
-  looks_up address index m has at = ap (option_and_then (slice_get modules)) (found_has spans address index has) ∙ at
+  looked_at : (address : ℕ) (m : ModuleValue) → looked_up range_of_module modules address ≡ Some m → (index : ℕ) × Has address index × At index m
+  looked_at address m is =
+      subst (λ (o : Option ModuleValue). MatchOption o ((index : ℕ) → ¬ (Has address index)) (λ m. (index : ℕ) × Has address index × At index m)) is
+      (looked_up_is range_of_module modules address (kept_one range_of_module modules).0 (kept_one range_of_module modules).1)
 
-  looked_at : (address : ℕ) (m : ModuleValue) → looked_up range_of_module modules address ≡ Some m → (index : ℕ) × Has spans address index × At index m
-  unfolding looked_up
-  looked_at address m is = go (kept_at spans address) refl
+  looks_up : (address index : ℕ) (m : ModuleValue) → Has address index → At index m → looked_up range_of_module modules address ≡ Some m
+  looks_up address index m has at = go (looked_up range_of_module modules address) refl
     where
-      go : (o : Option ℕ) → kept_at spans address ≡ o → (index : ℕ) × Has spans address index × At index m
-      go (Some index) at = (index, has_found spans address index at, sym (ap (option_and_then (slice_get modules)) at) ∙ is)
-      go None at = (let no : None ≡ Some m = sym (ap (option_and_then (slice_get modules)) at) ∙ is in cc)
+      go : (o : Option ModuleValue) → looked_up range_of_module modules address ≡ o → looked_up range_of_module modules address ≡ Some m
+      go (Some other) is =
+          let (p, there, at_other) = looked_at address other is in
+          let same : p ≡ index = one_has address p index there has in
+          is ∙ sym at_other ∙ ap (slice_get modules) same ∙ at
+      go None is = absurd (subst (λ (o : Option ModuleValue). MatchOption o ((index : ℕ) → ¬ (Has address index)) (λ m. (index : ℕ) × Has address index × At index m)) is
+          (looked_up_is range_of_module modules address (kept_one range_of_module modules).0 (kept_one range_of_module modules).1) index has)
 
   -- a kept module contains its own base address
-  at_base : (address index : ℕ) (m : ModuleValue) → Has spans address index → At index m → Has spans m.raw.base_of_image index
+  at_base : (address index : ℕ) (m : ModuleValue) → Has address index → At index m → Has m.raw.base_of_image index
   at_base address index m has at =
       let start = start_is m has.range (range_is index m has.range at has.has) in
       record {
@@ -218,14 +215,16 @@ module _ (modules : List ModuleValue) where
     abbrev pub is_marked : ℕ → Bool
     is_marked index = list_any (is_at modules index) addresses
 
-    marked_at : (index : ℕ) → is_marked index ≡ true → (address : ℕ) × Has spans address index
+    marked_at : (index : ℕ) → is_marked index ≡ true → (address : ℕ) × Has address index
     marked_at index some =
         let (k, address, lt, at, test) = Any-from_list_any (is_at modules index) addresses some in
-        let (other, is, same) = passed (λ p. p == index) (kept_at spans address) test in
-        (address, subst (Has spans address) (eqb-true other index same) (has_found spans address other is))
+        let (p, is, same) = passed (λ p. p.0 == index) (item_found range_of_module modules address) test in
+        (address, subst (Has address) (eqb-true p.0 index same) (has_found range_of_module modules address p is).0)
 
-    at_marked : (address index : ℕ) → Has spans address index → is_at modules index address ≡ true
-    at_marked address index has = rw (found_has spans address index has) (eq-eqb index index refl)
+    at_marked : (address index : ℕ) → Has address index → is_at modules index address ≡ true
+    at_marked address index has =
+        let (p, is, same) = found_has range_of_module modules address index has in
+        rw is (eq-eqb p.0 index same)
 
     -- a module from an index of the list on has a base address, and is marked
     abbrev pub Left : ℕ → ℕ → Type 0
@@ -256,8 +255,8 @@ module _ (modules : List ModuleValue) where
       λ (index, m, low, at, base_is, some).
           any_too (is_at modules index) (λ a. option_map_or (λ m. m.raw.base_of_image == base) (looked_up range_of_module modules a) false) addresses
           (λ address test.
-          let (other, is, same) = passed (λ p. p == index) (kept_at spans address) test in
-          let has = subst (Has spans address) (eqb-true other index same) (has_found spans address other is) in
+          let (p, is, same) = passed (λ p. p.0 == index) (item_found range_of_module modules address) test in
+          let has = subst (Has address) (eqb-true p.0 index same) (has_found range_of_module modules address p is).0 in
           rw (looks_up address index m has at) (eq-eqb _ base base_is))
           some,
     )
@@ -276,7 +275,7 @@ module _ (modules : List ModuleValue) where
         let size = eqb-true other.raw.size_of_image m.raw.size_of_image long in
         let same : range_of_module m ≡ range_of_module other = ap (range_of m.raw.base_of_image) (sym size) ∙ ap (λ b. range_of b other.raw.size_of_image) (sym base) in
         let range = has_is i m there.range at (same ∙ range_is index other there.range at_other there.has) in
-        let high = kept_first spans address index i there range in
+        let high = kept_first range_of_module modules address index i there range in
         let here : index ≡ i = omega (arith, low, high) in
         subst (λ p. is_marked p ≡ true) here some)
         (λ some.
@@ -305,9 +304,8 @@ module _ (modules : List ModuleValue) where
           let here = marked_at i (sym is ∙ first_true _ _ both) in
           let there = marked_at index some in
           let own : base ≡ m.raw.base_of_image = eqb-true base m.raw.base_of_image (second_true _ _ both) in
-          let one_of : i ≡ index = some_equal _ _ (sym (found_has spans m.raw.base_of_image i (at_base here.0 i m here.1 at))
-          ∙ ap (kept_at spans) (sym own ∙ sym base_is) ∙ found_has spans other.raw.base_of_image index (at_base there.0 index other there.1 at_other))
-          in
+          let one_of : i ≡ index = one_has m.raw.base_of_image i index (at_base here.0 i m here.1 at)
+          (subst (λ (x : ℕ). Has x index) (base_is ∙ own) (at_base there.0 index other there.1 at_other)) in
           omega (arith, one_of, low))),
     )
 

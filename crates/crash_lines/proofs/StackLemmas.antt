@@ -7,7 +7,7 @@ use Rattle.minidump.specs.Below.MemoryLists.Memory.{MemoryRegion, range_of_regio
 use Rattle.minidump.specs.Below.MemoryLists.Unified.{UnifiedRegion, UnifiedRegions, unified_regions}
 use Rattle.minidump.specs.Thread.{IsStack, Thread}
 use Rattle.minidump.specs.ThreadText.{stack_of}
-use Rattle.minidump.proofs.LookedUpLemmas.{is_looked_up}
+use Rattle.minidump_index.proofs.RegionLaws.{is_looked_up}
 use Rattle.stack_walk.specs.declared.frame.StackFrame.{StackFrame}
 use Rattle.stack_walk.specs.Threads.{ProcessValue}
 use Rattle.crash_page.specs.declared.page.Page.{Page}

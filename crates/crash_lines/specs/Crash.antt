@@ -10,7 +10,7 @@ use Rattle.minidump.specs.Below.Reasons.Reason.{crash_reason}
 use Rattle.minidump.specs.Below.Reasons.ReasonText.{reason_text}
 use Rattle.minidump.specs.Below.System.System.{System}
 use Rattle.minidump.specs.Exception.{Exception, crash_address}
-use Rattle.minidump.specs.LookedUp.{looked_up}
+use Rattle.minidump.specs.Below.Index.Lookup.{looked_up}
 use Rattle.crash_lines.specs.Lookups.{module_words}
 use Rattle.crash_lines.specs.Registers.{crash_registers_part}
 use Rattle.crash_lines.specs.Streams.{StreamValues}

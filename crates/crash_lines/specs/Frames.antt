@@ -5,7 +5,7 @@ use Rattle.std.specs.Fmt.{decimal}
 use Rattle.std.specs.List.{concat, enumerate_from}
 use Rattle.minidump.specs.Below.Bytes.Piece.{hex}
 use Rattle.minidump.specs.Below.Modules.Module.{ModuleValue, range_of_module}
-use Rattle.minidump.specs.LookedUp.{looked_up}
+use Rattle.minidump.specs.Below.Index.Lookup.{looked_up}
 use Rattle.stack_walk.specs.declared.frame.FrameTrust.{FrameTrust}
 use Rattle.stack_walk.specs.declared.frame.FrameTrust.TheVariants.{Context, FramePointer, Scan}
 use Rattle.stack_walk.specs.declared.frame.StackFrame.{StackFrame}

@@ -12,7 +12,7 @@ use Rattle.minidump.specs.Below.Format.Text.{if_there}
 use Rattle.minidump.specs.Below.Modules.DebugId.{breakpad_text}
 use Rattle.minidump.specs.Below.Modules.Identity.{Identity}
 use Rattle.minidump.specs.Below.Modules.Module.{ModuleValue, identity_of, range_of_module}
-use Rattle.minidump.specs.LookedUp.{kept_at}
+use Rattle.minidump.specs.Below.Index.Lookup.{looked_up}
 use Rattle.file_names.specs.FileName.{file_name}
 use Rattle.crash_page.specs.Part.{Part, absent, each, line, parts}
 
@@ -52,8 +52,8 @@ module_part m = identity_part (identity_of m)
 
 -- the kept module that contains an address stands at this index of the list
 abbrev pub is_at : List ModuleValue → ℕ → ℕ → Bool
-is_at modules index address = option_map_or (λ p. p == index)
-    (kept_at (map range_of_module modules) address) false
+is_at modules index address = option_map_or (λ p. p.0 == index)
+    (looked_up (λ p. range_of_module p.1) (enumerate_from 0 modules) address) false
 
 -- the kept modules that contain one of these addresses, in the order of the list
 abbrev pub marked_modules : List ModuleValue → List ℕ → List ModuleValue

@@ -9,7 +9,7 @@ use Rattle.minidump.specs.Below.MemoryLists.Memory.{range_of_region}
 use Rattle.minidump.specs.Below.MemoryLists.Unified.{unified_regions}
 use Rattle.minidump.specs.Crash.{last_with}
 use Rattle.minidump.specs.Exception.{Exception}
-use Rattle.minidump.specs.LookedUp.{looked_up}
+use Rattle.minidump.specs.Below.Index.Lookup.{looked_up}
 use Rattle.minidump.specs.Thread.{Thread}
 use Rattle.minidump.specs.ThreadText.{stack_of}
 use Rattle.stack_walk.specs.declared.frame.StackFrame.{StackFrame}

@@ -8,7 +8,7 @@ use Rattle.minidump.specs.Below.MemoryLists.Memory.{range_of_region}
 use Rattle.minidump.specs.Below.MemoryLists.Unified.{unified_regions}
 use Rattle.minidump.specs.Below.System.Cpu.{width_of}
 use Rattle.minidump.specs.Exception.{Exception}
-use Rattle.minidump.specs.LookedUp.{looked_up}
+use Rattle.minidump.specs.Below.Index.Lookup.{looked_up}
 use Rattle.minidump.specs.Thread.{Thread, accepted_context}
 use Rattle.stack_walk.specs.declared.frame.StackFrame.{StackFrame}
 use Rattle.stack_walk.specs.Frames.{AreFrames}

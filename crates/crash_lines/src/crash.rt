@@ -10,7 +10,7 @@ ghost use Rattle.crash_lines.specs.Crash.{reason_row, thread_id_part, system_det
 ghost use Rattle.crash_lines.specs.Lookups.{module_words};
 ghost use Rattle.crash_lines.specs.Streams.{values_of};
 
-use crate::lookups::{module_at, module_words};
+use crate::lookups::module_words;
 use crate::registers::add_crash_registers;
 use crate::streams::Streams;
 use crash_page::Page;
@@ -148,7 +148,7 @@ fn add_address(
     ensures { Adds page.old page.new
         (address_part (module_list_stream.value modules.now) address) result }
 {
-    add_marked_address(page, address, module_at(modules, address))
+    add_marked_address(page, address, modules.module_at_address(address))
 }
 
 // Adds the address of the crash, which is marked, with the module there.

@@ -10,7 +10,7 @@ ghost use Rattle.crash_lines.specs.Frames.{marked_frame_part, each_frame_part, t
 ghost use Rattle.crash_lines.specs.Lookups.{module_words};
 
 use crate::Limits;
-use crate::lookups::{module_at, module_words};
+use crate::lookups::module_words;
 use crash_page::Page;
 use minidump::text::Piece;
 use minidump::{MinidumpModule, MinidumpModuleList};
@@ -96,7 +96,7 @@ fn add_frame(
             number,
             frame,
             address,
-            module_at(modules, address),
+            modules.module_at_address(address),
         ),
         None => add_row(page, number, frame, " in no module"),
     }

@@ -1,14 +1,11 @@
 ghost use Rattle.std.specs.Prelude.{◌≡◌, IfOk, string_bytes};
 ghost use Rattle.std.specs.Option.{option_copied, option_map};
-ghost use Rattle.minidump.specs.Below.Modules.Module.{module_of, range_of_module};
-ghost use Rattle.minidump.specs.LookedUp.{looked_up};
-ghost use Rattle.minidump.specs.Promise.{exception_stream, module_list_stream, thread_names_stream};
+ghost use Rattle.minidump.specs.Below.Modules.Module.{module_of};
+ghost use Rattle.minidump.specs.Promise.{exception_stream, thread_names_stream};
 ghost use Rattle.crash_lines.specs.Lookups.{exception_on, name_in, module_words};
 
 use minidump::text::{Piece, format_pieces};
-use minidump::{
-    MinidumpException, MinidumpModule, MinidumpModuleList, MinidumpThreadNames, Module,
-};
+use minidump::{MinidumpException, MinidumpModule, MinidumpThreadNames, Module};
 use std::alloc::{AllocError, Global};
 
 // Returns the name of a thread, or `None` if it has none.
@@ -33,14 +30,6 @@ pub(crate) fn exception_on<'l, 'a>(
     } else {
         None
     }
-}
-
-// Returns the kept module that contains an address.
-pub(crate) fn module_at(modules: &MinidumpModuleList, address: u64) -> Option<&MinidumpModule>
-    ensures { option_map module_of (option_copied result) ≡ looked_up range_of_module
-        (module_list_stream.value modules.now) address }
-{
-    modules.module_at_address(address)
 }
 
 // Makes the words for the module of an address, with the offset in it, or these words where it has

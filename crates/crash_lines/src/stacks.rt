@@ -1,9 +1,6 @@
 ghost use Rattle.std.specs.Prelude.{◌≡◌, [], IfOk, IsOkUnless, Ok, Some, map};
 ghost use Rattle.std.specs.Option.{option_copied, option_map};
-ghost use Rattle.minidump.specs.Below.MemoryLists.Memory.{range_of_region};
 ghost use Rattle.minidump.specs.Below.MemoryLists.Unified.{unified_list, unified_region};
-ghost use Rattle.minidump.specs.Below.MemoryLists.Unified.{unified_regions};
-ghost use Rattle.minidump.specs.LookedUp.{looked_up};
 ghost use Rattle.minidump.specs.Promise.{exception_stream};
 ghost use Rattle.minidump.specs.Thread.{accepted_context, thread_of};
 ghost use Rattle.minidump.specs.ThreadText.{stack_of};
@@ -339,7 +336,7 @@ fn has_stack<'a>(process: &Process<'_, 'a>, thread: &MinidumpThread<'a>, first: 
     ensures { result ≡ has_stack (process_of process.now) (thread_of thread.now) first.now }
 {
     let own = own_region(process.memory, thread);
-    let at_pointer = region_at(process.memory, first.stack_pointer);
+    let at_pointer = process.memory.memory_at_address(first.stack_pointer);
     own.is_some() || at_pointer.is_some()
 }
 
@@ -352,17 +349,6 @@ fn own_region<'l, 'a>(
         (thread_of thread.now) }
 {
     thread.stack_memory(memory)
-}
-
-// Returns the kept region that contains an address.
-fn region_at<'l, 'a>(
-    memory: &'l UnifiedMemoryList<'a>,
-    address: u64,
-) -> Option<UnifiedMemory<'l, 'a>>
-    ensures { option_map unified_region result ≡ looked_up range_of_region
-        (unified_regions (unified_list memory.now)) address }
-{
-    memory.memory_at_address(address)
 }
 
 // Tells whether a thread names bytes of a stack that are not in the file.
@@ -477,7 +463,9 @@ fn context_frames(
     ensures memory { IsOkUnless result Error.OutOfMemory }
 {
     let stack = Stack {
-        memory: region_at(process.memory, context.get_stack_pointer()),
+        memory: process
+            .memory
+            .memory_at_address(context.get_stack_pointer()),
         modules: process.modules,
         infos: process.infos,
         width: process.system.cpu.pointer_width(),

@@ -5,7 +5,7 @@ ghost use Rattle.std.specs.List.{list_any};
 ghost use Rattle.std.specs.Option.{option_copied, option_map, option_map_or};
 ghost use Rattle.std.specs.Ordering.{nat_cmp};
 ghost use Rattle.minidump.specs.Below.Modules.Module.{identity_of, module_of, range_of_module};
-ghost use Rattle.minidump.specs.LookedUp.{looked_up};
+ghost use Rattle.minidump.specs.Below.Index.Lookup.{looked_up};
 ghost use Rattle.minidump.specs.Promise.{module_list_stream};
 ghost use Rattle.crash_page.specs.Page.{Adds, marks_of};
 ghost use Rattle.crash_page.specs.Part.{line};

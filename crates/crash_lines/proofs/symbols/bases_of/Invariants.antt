@@ -6,7 +6,7 @@ use Rattle.std.specs.List.{list_any}
 use Rattle.std.specs.Option.{option_map_or}
 use Rattle.std.specs.Ordering.{nat_cmp}
 use Rattle.minidump.specs.Below.Modules.Module.{range_of_module}
-use Rattle.minidump.specs.LookedUp.{looked_up}
+use Rattle.minidump.specs.Below.Index.Lookup.{looked_up}
 use Rattle.minidump.specs.Promise.{module_list_stream}
 use Rattle.crash_lines.proofs.symbols.bases_of.Given as goal
 
