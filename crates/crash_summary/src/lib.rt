@@ -15,7 +15,8 @@
 //! `stack_walk` and the laws of `minidump`, and nothing below.
 #![tactic(auto)]
 
-ghost use Rattle.std.specs.Prelude.{◌≡◌, ◌<◌, IfErr, IfOk, IfSome, IsOkUnless, string_bytes};
+ghost use Rattle.std.specs.Prelude.{◌≡◌, ◌<◌, IfErr, IfNone, IfOk, IfSome, IsOk, IsOkUnless};
+ghost use Rattle.std.specs.Prelude.{string_bytes};
 ghost use Rattle.std.specs.Option.{option_copied, option_map};
 ghost use Rattle.minidump.specs.declared.MinidumpContextValidity.TheVariants.{All};
 ghost use Rattle.minidump.specs.Below.Format.Answer.{GivesError};
@@ -291,8 +292,8 @@ pub fn address_of(
     Some(exception.get_crash_address(system.os, system.cpu))
 }
 
-/// Returns the reason of a crash in words, or `None` without system information. The only error is
-/// [`Error::OutOfMemory`].
+/// Returns the reason of a crash in words, or `None` without system information, which takes no
+/// memory. The only error is [`Error::OutOfMemory`].
 pub fn reason_of(
     alloc: Global,
     system: Option<&MinidumpSystemInfo>,
@@ -303,6 +304,7 @@ pub fn reason_of(
         ≡ reason_in names.now (option_map system_info_stream.value (option_copied system.entry))
         (exception_stream.value exception.now)) }
     ensures memory { IsOkUnless result Error.OutOfMemory }
+    ensures absent { IfNone system.entry (IsOk result) }
 {
     match system {
         Some(s) => {

@@ -1,12 +1,12 @@
 -- Lines that are written one after another.
-use Rattle.std.specs.Prelude.{◌≡◌, ℕ, List, ◌++◌, Option, Some, None, Result, Ok, Err, IfErr, IsErrAnd}
+use Rattle.std.specs.Prelude.{◌≡◌, ℕ, List, ◌++◌, Option, Some, None, Result, Ok, Err, IsErrAnd}
 use Rattle.std.proofs.Common.{inl, inr, refl}
 use Rattle.minidump.specs.declared.Told.{Told}
 use Rattle.minidump.proofs.Blocking.{but_lost}
 use Rattle.minidump.proofs.Printing.{but_first, prints_longer, prints_then}
 use Rattle.minidump.specs.declared.Error.{Error}
 use Rattle.minidump.specs.Below.Format.Print.{out_of_memory}
-use Rattle.mdump.specs.Done.{IsOutputError, TookAll, TookPrefix, Writes}
+use Rattle.mdump.specs.Done.{TookAll, TookPrefix, Writes}
 use Rattle.minidump.specs.declared.Range.{Range}
 use Rattle.minidump.specs.Below.Index.Lookup.{HasRegionLaws}
 use Rattle.mdump.specs.Lines.{IsLookedUpIn, IsJoinOf}
@@ -38,11 +38,3 @@ a_line range None address line laws = (line None, (None, refl, refl))
 -- a line and another one
 pub both_lines : (First Rest : List ℕ → Type 0) → (text : List ℕ) × First text → (text : List ℕ) × Rest text → (text : List ℕ) × IsJoinOf First Rest text
 both_lines First Rest (xs, first) (ys, rest) = (xs ++ ys, (xs, ys, first, rest, refl))
-
--- an error after a text that went out whole
-pub error_after : {D : Type 0} (IsText : List ℕ → Type 0) (contents : D → Option (List ℕ)) (a b c : Told D) (r : Result (Unit {0}) Error)
-    → TookAll IsText contents a b
-    → IfErr r (IsOutputError b c) → IfErr r (IsOutputError a c)
-error_after IsText contents a b c (Ok u) took is = tt
-error_after IsText contents a b c (Err e) (text, is_text, all) (inl (same, is)) = inr (rw (same, is, all.alive) refl)
-error_after IsText contents a b c (Err e) took (inr is) = inr is

@@ -125,18 +125,14 @@ abbrev pub Writes : {D : Type 0} → (List ℕ → Type 0) → (D → Option (Li
 Writes IsText contents old new (Ok _) = TookAll IsText contents old new
 Writes IsText contents old new (Err _) = TookPrefix IsText contents old new
 
--- an error after the file was read: memory ran out before anything was written, or it is that of a
--- print
-abbrev pub IsOutputError : {D : Type 0} → Told D → Told D → Error → Type 0
-IsOutputError old new e = ((new ≡ old) × (e ≡ OutOfMemory)) ⊎ (e ≡ out_of_memory new)
-
 -- an error of a command on the file of a path: that of reading the file, before anything was
--- written; or its minidump was read, and the error is one after that
+-- written; or its minidump was read, and the error is IoError where the output has failed, and else
+-- OutOfMemory
 abbrev pub IsFileError : {F D : Type 0} → (List ℕ → Option F → Type 0) → (F → Option (List ℕ))
     → (F → Bool) → List ℕ → Told D → Told D → Error → Type 0
 IsFileError opens left failed path old new e =
     ((new ≡ old) × IsPathError opens left failed path e)
-    ⊎ ((dump : Dump) × IsFileDump opens left path dump × IsOutputError old new e)
+    ⊎ ((dump : Dump) × IsFileDump opens left path dump × (e ≡ out_of_memory new))
 
 -- the path of a command
 abbrev pub path_of : Command → List ℕ

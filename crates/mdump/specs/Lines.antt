@@ -22,7 +22,9 @@ memory_line None = codes "memory none\n"
 -- the module that was found, by its first address, its size and its name, or that there is none.
 -- The name is as it is, line feeds included
 abbrev pub module_line : Option ModuleValue → List ℕ
-module_line (Some m) = concat (codes "module " ∷ hex m.raw.base_of_image ∷ codes " " ∷ hex m.raw.size_of_image ∷ codes " " ∷ m.name ∷ codes "\n" ∷ [])
+module_line (Some m) = concat (
+    codes "module " ∷ hex m.raw.base_of_image ∷ codes " " ∷ hex m.raw.size_of_image ∷ codes " " ∷ m.name
+    ∷ codes "\n" ∷ [])
 module_line None = codes "module none\n"
 
 -- the first and the last address of a region that has some, or that there is none

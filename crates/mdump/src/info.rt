@@ -1,12 +1,13 @@
 ghost use Rattle.std.specs.Prelude.{◌≡◌, IfErr, IfOk};
 ghost use Rattle.std.specs.Option.{option_and_then, option_copied, option_map};
+ghost use Rattle.minidump.specs.Below.Format.Print.{out_of_memory};
 ghost use Rattle.minidump.specs.Below.MemoryLists.UnifiedInfo.{info_list, info_region};
 ghost use Rattle.minidump.specs.Below.MemoryLists.UnifiedInfo.{range_of_info_region, info_regions};
 ghost use Rattle.minidump.specs.DumpValue.{dump_of};
-ghost use Rattle.mdump.specs.Done.{IsInfoLine, IsOutputError, Writes, info_of_dump};
+ghost use Rattle.mdump.specs.Done.{IsInfoLine, Writes, info_of_dump};
 ghost use Rattle.mdump.specs.Lines.{IsLookedUpIn};
 
-use minidump::text::{Piece, Pushed, print_item, push_pieces};
+use minidump::text::{Piece, Pushed, no_memory, print_item, push_pieces};
 use minidump::{
     Error, Minidump, MinidumpLinuxMaps, MinidumpMemoryInfoList, Range, Told, UnifiedMemoryInfo,
     UnifiedMemoryInfoList,
@@ -23,9 +24,11 @@ pub(crate) fn info_line<O: Write>(
 ) -> Result<(), Error>
     ensures written { Writes (IsInfoLine (dump_of dump.now) address) O.contents
         out.old out.new result }
-    ensures error { IfErr result (IsOutputError out.old out.new) }
+    ensures error { IfErr result (λ e. e ≡ out_of_memory out.new) }
 {
-    let infos = information(dump, alloc)?;
+    let Ok(infos) = information(dump, alloc) else {
+        return Err(no_memory(out));
+    };
     let found = info_at(infos.as_ref(), address);
     print_item(&InfoLine(range_of(found)), alloc, out)
 }

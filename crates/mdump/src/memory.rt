@@ -1,13 +1,14 @@
-ghost use Rattle.std.specs.Prelude.{IfErr};
+ghost use Rattle.std.specs.Prelude.{◌≡◌, IfErr};
 ghost use Rattle.std.specs.Option.{option_copied, option_map};
+ghost use Rattle.minidump.specs.Below.Format.Print.{out_of_memory};
 ghost use Rattle.minidump.specs.Below.MemoryLists.Memory.{range_of_region};
 ghost use Rattle.minidump.specs.Below.MemoryLists.Unified.{unified_list, unified_region};
 ghost use Rattle.minidump.specs.Below.MemoryLists.Unified.{unified_regions};
 ghost use Rattle.minidump.specs.DumpValue.{dump_of};
-ghost use Rattle.mdump.specs.Done.{IsMemoryLine, IsOutputError, Writes};
+ghost use Rattle.mdump.specs.Done.{IsMemoryLine, Writes};
 ghost use Rattle.mdump.specs.Lines.{IsLookedUpIn};
 
-use minidump::text::{Piece, Pushed, print_item, push_pieces};
+use minidump::text::{Piece, Pushed, no_memory, print_item, push_pieces};
 use minidump::{Error, Minidump, Told, UnifiedMemory, UnifiedMemoryList};
 use std::alloc::{AllocError, Global};
 use std::io::Write;
@@ -21,9 +22,11 @@ pub(crate) fn memory_line<O: Write>(
 ) -> Result<(), Error>
     ensures written { Writes (IsMemoryLine (dump_of dump.now) address) O.contents
         out.old out.new result }
-    ensures error { IfErr result (IsOutputError out.old out.new) }
+    ensures error { IfErr result (λ e. e ≡ out_of_memory out.new) }
 {
-    let memory = dump.get_memory(alloc)?;
+    let Ok(memory) = dump.get_memory(alloc) else {
+        return Err(no_memory(out));
+    };
     let found = memory_at(memory.as_ref(), address);
     print_item(&MemoryLine(found), alloc, out)
 }

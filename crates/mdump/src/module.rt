@@ -1,12 +1,13 @@
-ghost use Rattle.std.specs.Prelude.{IfErr};
+ghost use Rattle.std.specs.Prelude.{◌≡◌, IfErr};
 ghost use Rattle.std.specs.Option.{option_copied, option_map};
+ghost use Rattle.minidump.specs.Below.Format.Print.{out_of_memory};
 ghost use Rattle.minidump.specs.Below.Modules.Module.{module_of, range_of_module};
 ghost use Rattle.minidump.specs.Below.Modules.ModuleList.{module_list_of};
 ghost use Rattle.minidump.specs.DumpValue.{dump_of};
-ghost use Rattle.mdump.specs.Done.{IsModuleLine, IsOutputError, Writes};
+ghost use Rattle.mdump.specs.Done.{IsModuleLine, Writes};
 ghost use Rattle.mdump.specs.Lines.{IsLookedUpIn};
 
-use minidump::text::{Piece, Pushed, print_item, push_pieces};
+use minidump::text::{Piece, Pushed, no_memory, print_item, push_pieces};
 use minidump::{Error, Minidump, MinidumpModule, MinidumpModuleList, Told};
 use std::alloc::{AllocError, Global};
 use std::io::Write;
@@ -20,9 +21,11 @@ pub(crate) fn module_line<O: Write>(
 ) -> Result<(), Error>
     ensures written { Writes (IsModuleLine (dump_of dump.now) address) O.contents
         out.old out.new result }
-    ensures error { IfErr result (IsOutputError out.old out.new) }
+    ensures error { IfErr result (λ e. e ≡ out_of_memory out.new) }
 {
-    let modules = dump.find_stream::<MinidumpModuleList>(alloc)?;
+    let Ok(modules) = dump.find_stream::<MinidumpModuleList>(alloc) else {
+        return Err(no_memory(out));
+    };
     let found = module_at(modules.as_ref(), address);
     print_item(&ModuleLine(found), alloc, out)
 }

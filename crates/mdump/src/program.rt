@@ -1,9 +1,9 @@
 ghost use Rattle.std.specs.Prelude.{◌≡◌, ◌<◌, IfErr, IfNone, IfSome, length, map, string_bytes};
-ghost use Rattle.minidump.specs.Below.Format.Print.{Prints};
+ghost use Rattle.minidump.specs.Below.Format.Print.{Prints, out_of_memory};
 ghost use Rattle.minidump.specs.DumpValue.{dump_of};
 ghost use Rattle.mdump.specs.Command.{IsCommand};
 ghost use Rattle.mdump.specs.Done.{AreLastLines, AreLines, AreLinesOf, IsAnswer, IsDirectoryText};
-ghost use Rattle.mdump.specs.Done.{IsFileError, IsOutputError, IsCommandError, IsReportText, IsRun};
+ghost use Rattle.mdump.specs.Done.{IsFileError, IsCommandError, IsReportText, IsRun};
 ghost use Rattle.mdump.specs.Done.{IsTextOf, IsTold, Writes, path_of, name_line, usage};
 
 use crate::command::Command;
@@ -151,7 +151,7 @@ fn lines<O: Write>(
 ) -> Result<(), Error>
     ensures written { Writes (AreLinesOf (dump_of dump.now) address) O.contents
         out.old out.new result }
-    ensures error { IfErr result (IsOutputError out.old out.new) }
+    ensures error { IfErr result (λ e. e ≡ out_of_memory out.new) }
 {
     laws::module_laws();
     laws::region_laws::<()>();
@@ -168,7 +168,7 @@ fn last_lines<O: Write>(
 ) -> Result<(), Error>
     ensures written { Writes (AreLastLines (dump_of dump.now) address) O.contents
         out.old out.new result }
-    ensures error { IfErr result (IsOutputError out.old out.new) }
+    ensures error { IfErr result (λ e. e ≡ out_of_memory out.new) }
 {
     laws::region_laws::<()>();
     module_line(dump, alloc, address, out)?;

@@ -144,7 +144,7 @@ pub use minidump_system::{
 /// Text that is made out of pieces, and printed.
 pub mod text {
     pub use minidump_bytes::{Piece, format_pieces, push_pieces};
-    pub use minidump_format::{Pushed, print_item, put_text};
+    pub use minidump_format::{Pushed, no_memory, print_item, put_text};
 }
 
 /// Texts of Linux, which need not be UTF-8.

@@ -11,7 +11,8 @@ AreParts bytes version build =
     (dump : Dump) × (system : System) × (dump_in bytes ≡ Ok dump)
     × (stream_of system_info_stream dump ≡ Ok system)
     × ((version, build)
-    ≡ os_parts_of system.raw.major_version system.raw.minor_version system.raw.build_number system.raw.platform_id system.csd_version)
+    ≡ os_parts_of system.raw.major_version system.raw.minor_version system.raw.build_number
+    system.raw.platform_id system.csd_version)
 
 -- the version of the system of a dump
 abbrev pub IsVersionOf : List ℕ → List ℕ → Type 0

@@ -21,24 +21,6 @@ pub(crate) fn read_in<'a, S: MinidumpStream<'a>>(
     )
 }
 
-// The bytes of a file, and of a list in it.
-#[derive(Drop)]
-pub(crate) struct ListFile {
-    pub(crate) file: Vec<u8>,
-    pub(crate) stream: Vec<u8>,
-    pub(crate) endian: Endian,
-}
-
-impl ListFile {
-    pub(crate) fn read<'a, S: MinidumpStream<'a>>(
-        &'a self,
-        alloc: Global,
-        steps: &mut Steps,
-    ) -> Result<S, Error> {
-        read_in(alloc, &self.stream, &self.file, self.endian, steps)
-    }
-}
-
 // The system of a processor's architecture and a platform, by their numbers.
 pub(crate) fn system(
     alloc: Global,

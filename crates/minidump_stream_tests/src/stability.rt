@@ -10,24 +10,6 @@ fn read(alloc: Global, bytes: &[u8]) -> Result<StabilityReport, Error> {
     read_in(alloc, bytes, bytes, Endian::Little, &mut Steps::new())
 }
 
-// A report of one process and its system, as Chromium wrote it.
-const REPORT: &[u8] = &[
-    0x12, 0x18, 0x18, 0xec, 0x76, 0x22, 0x0c, 0x0a, 0x0a, 0x08, 0x8f, 0x54, 0x10, 0xc6, 0xa0, 0x01,
-    0x18, 0x9a, 0x54, 0x3a, 0x05, 0x12, 0x03, 0x08, 0xae, 0x02, 0x3a, 0x10, 0x0a, 0x0e, 0x08, 0x9f,
-    0xde, 0x8b, 0x03, 0x10, 0xd5, 0xcb, 0xd7, 0x01, 0x18, 0xe1, 0xa1, 0x07,
-];
-
-fn copy_is_equal(alloc: Global) -> Result<bool, Error> {
-    let report = read(alloc, REPORT)?;
-    Ok(report.try_clone(alloc)? == report && StabilityReport::new(alloc) == read(alloc, &[])?)
-}
-
-#[test]
-fn a_copy_of_a_report_is_equal(rt: HostRuntime) -> Result<(), Fail> {
-    assert!(rt; copy_is_equal(rt.alloc())?);
-    Ok(())
-}
-
 // Streams, and the processes of their reports, each an id, or nothing: unknown fields, which are
 // skipped; a process for each payload; a length of more bytes than it needs; and a negative number.
 #[rattlefmt::skip]

@@ -67,7 +67,9 @@ fn takes_all(alloc: Global, file: &[u8], error: Option<Error>) -> Result<bool, F
 #[test]
 fn fills_the_vector_with_what_a_reader_gives(rt: HostRuntime) -> Result<(), Fail> {
     let bad = one_stream_with_byte(4, 0x94);
-    assert!(rt; takes_all(rt.alloc(), &ONE_STREAM, None)?);
-    assert!(rt; takes_all(rt.alloc(), &bad, Some(Error::VersionMismatch))?);
+    assert!(rt;
+        takes_all(rt.alloc(), &ONE_STREAM, None)?
+            && takes_all(rt.alloc(), &bad, Some(Error::VersionMismatch))?
+    );
     Ok(())
 }

@@ -1,6 +1,5 @@
-//! Tests of `minidump`, of `crash_summary`, of `stack_walk` and of the examples `region_at` and
-//! `own_stream`, on their public calls. They stand apart from them, since a library with a test is
-//! proved twice.
+//! Tests of `minidump` and of the examples `region_at` and `own_stream`, on their public calls. They
+//! stand apart from them, since a library with a test is proved twice.
 //!
 //! They show what no contract says: that a call succeeds where there is memory, that definitions
 //! mean the format, and what becomes of files. So each expected value is written from the format's
@@ -10,13 +9,11 @@
 #![tactic(auto)]
 
 #[cfg(test)]
+mod absent;
+#[cfg(test)]
 mod directory;
 #[cfg(test)]
-mod exception;
-#[cfg(test)]
 mod file;
-#[cfg(test)]
-mod frames;
 #[cfg(test)]
 mod given;
 #[cfg(test)]
@@ -24,14 +21,6 @@ mod memory;
 #[cfg(test)]
 mod modules;
 #[cfg(test)]
-mod names;
-#[cfg(test)]
 mod own_type;
-#[cfg(test)]
-mod summary;
-#[cfg(test)]
-mod system;
-#[cfg(test)]
-mod texts;
 #[cfg(test)]
 mod threads;

@@ -1,11 +1,12 @@
 use super::{region, region_64};
-use crate::files::ListFile;
-use minidump_bytes::{Endian, FixedRead, Steps, Told};
+use minidump_bytes::{Endian, FixedRead, Told};
 use minidump_format::Error;
 use minidump_format::format::{MINIDUMP_LOCATION_DESCRIPTOR, MINIDUMP_MEMORY_DESCRIPTOR};
-use minidump_memory::{MinidumpMemory, UnifiedMemory, UnifiedMemoryList};
+use minidump_memory::{
+    MinidumpMemory, MinidumpMemory64List, MinidumpMemoryList, UnifiedMemory, UnifiedMemoryList,
+};
 use minidump_synth::BOTH;
-use std::alloc::{AllocError, Global};
+use std::alloc::Global;
 use std::test::Fail;
 
 const FILE: &[u8] = &[0, 1, 2, 3, 4, 5, 6, 7];
@@ -37,16 +38,6 @@ fn is_an_error(row: &(u32, u32, Error)) -> bool {
     MinidumpMemory::read(&desc, FILE, Endian::Little).err() == Some(error)
 }
 
-// Tests whether a clone of the region has its values.
-fn clone_is_equal(region: &MinidumpMemory<'_>) -> Result<bool, AllocError> {
-    let copy = region.clone()?;
-    Ok(
-        copy.desc == region.desc
-            && copy.bytes == region.bytes
-            && copy.memory_range() == region.memory_range(),
-    )
-}
-
 fn is_read(endian: Endian) -> Result<bool, Error> {
     let desc = descriptor(0x1000, 5, 3);
     let region = MinidumpMemory::read(&desc, FILE, endian)?;
@@ -54,8 +45,7 @@ fn is_read(endian: Endian) -> Result<bool, Error> {
         region.desc == desc
             && (region.base_address, region.size) == (0x1000, 3)
             && region.bytes == [5, 6, 7].as_slice()
-            && region.endian == endian
-            && clone_is_equal(&region)?,
+            && region.endian == endian,
     )
 }
 
@@ -118,6 +108,12 @@ const WORDS_OF_FOUR: &[(u64, Option<u32>, Option<u32>)] = &[
 ];
 
 #[rattlefmt::skip]
+const HALVES_OF_FOUR: &[(u64, Option<u16>, Option<u16>)] = &[
+    (0x1002, Some(0x0403), Some(0x0304)),
+    (0x1003, None, None),
+];
+
+#[rattlefmt::skip]
 const LONGS: &[(u64, Option<u64>, Option<u64>)] = &[
     (0x1008, Some(0x100f_0e0d_0c0b_0a09), Some(0x090a_0b0c_0d0e_0f10)),
     (0x1009, None, None),
@@ -151,10 +147,15 @@ fn a_number_is_read_where_the_region_holds_it_whole(rt: HostRuntime) {
             "at {address}"
         );
     }
-    assert!(rt; all_hold(SIXTEEN, HALVES) && all_hold(SIXTEEN, WORDS));
-    assert!(rt;
-        all_hold(SIXTEEN, LONGS) && all_hold(SIXTEEN, LONGEST) && all_hold(FOUR, WORDS_OF_FOUR)
-    );
+    let found = [
+        all_hold(SIXTEEN, HALVES),
+        all_hold(SIXTEEN, WORDS),
+        all_hold(SIXTEEN, LONGS),
+        all_hold(SIXTEEN, LONGEST),
+        all_hold(FOUR, HALVES_OF_FOUR),
+        all_hold(FOUR, WORDS_OF_FOUR),
+    ];
+    assert!(rt; found == [true; 6]);
 }
 
 // A list of one region of 15 bytes, with them, of either kind.
@@ -190,12 +191,18 @@ fn prints(alloc: Global, list: &UnifiedMemoryList<'_>, text: &str) -> Result<boo
 }
 
 fn prints_the_bytes(alloc: Global) -> Result<bool, Error> {
-    let row: &[(u64, &[u8])] = &[(0x1000, b"memory_contents")];
-    let plain = ListFile::plain(alloc, Endian::Little, row)?;
-    let long = ListFile::long(alloc, Endian::Little, row)?;
-    let plain = UnifiedMemoryList::Memory(plain.read(alloc, &mut Steps::new())?);
-    let long = UnifiedMemoryList::Memory64(long.read(alloc, &mut Steps::new())?);
-    Ok(prints(alloc, &plain, TEXT)? && prints(alloc, &long, TEXT_64)?)
+    let bytes = b"memory_contents";
+    let mut plain = region(0x1000, bytes, Endian::Little);
+    plain.desc = descriptor(0x1000, 0x20, 15);
+    let mut long = region_64(0x1000, bytes, Endian::Little);
+    long.desc.start_of_memory_range = 0x1000;
+    long.desc.data_size = 15;
+    let plain = MinidumpMemoryList::from_regions(alloc, Vec::from_array(alloc, [plain])?)?;
+    let long = MinidumpMemory64List::from_regions(alloc, Vec::from_array(alloc, [long])?)?;
+    Ok(
+        prints(alloc, &UnifiedMemoryList::Memory(plain), TEXT)?
+            && prints(alloc, &UnifiedMemoryList::Memory64(long), TEXT_64)?,
+    )
 }
 
 #[test]

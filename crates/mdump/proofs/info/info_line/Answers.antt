@@ -12,7 +12,7 @@ use Rattle.mdump.proofs.info.info_line.Goals as goal
 pub returns-clause-written : goal.returns-clause-written
 returns-clause-written g c =
     let found = option_map info_region c.info_at-found.result in
-    let same : option_map info_list c.in_ok-infos.infos ≡ info_of_dump (dump_of c.args.dump.now) = c.in_ok-infos.ensures.list in
+    let same : option_map info_list c.in-Ok.infos ≡ info_of_dump (dump_of c.args.dump.now) = c.in-Ok.ensures.list in
     writes_text g.O.Write.contents c.args.out.now c.print_item.new.f (IsInfoLine (dump_of c.args.dump.now) c.args.address) (info_line found)
     c.print_item.result (
       found,

@@ -14,7 +14,7 @@ use Rattle.mdump.proofs.memory.memory_line.Goals as goal
 pub returns-clause-written : goal.returns-clause-written
 returns-clause-written g c =
     let found = option_map unified_region c.memory_at-found.result in
-    let same : option_map unified_list c.in_ok-memory.memory ≡ memories_of_dump (dump_of c.args.dump.now) = cc c.in_ok-memory.ensures.means in
+    let same : option_map unified_list c.in-Ok.memory ≡ memories_of_dump (dump_of c.args.dump.now) = cc c.in-Ok.ensures.means in
     writes_text g.O.Write.contents c.args.out.now c.print_item.new.f (IsMemoryLine (dump_of c.args.dump.now) c.args.address) (memory_line found)
     c.print_item.result (
       found,

@@ -13,7 +13,7 @@ use Rattle.mdump.proofs.module.module_line.Goals as goal
 pub returns-clause-written : goal.returns-clause-written
 returns-clause-written g c =
     let found = option_map module_of (option_copied c.module_at-found.result) in
-    let same : option_map module_list_of c.in_ok-modules.modules ≡ modules_of_dump (dump_of c.args.dump.now) = cc c.in_ok-modules.ensures.means in
+    let same : option_map module_list_of c.in-Ok.modules ≡ modules_of_dump (dump_of c.args.dump.now) = cc c.in-Ok.ensures.means in
     writes_text g.O.Write.contents c.args.out.now c.print_item.new.f (IsModuleLine (dump_of c.args.dump.now) c.args.address) (module_line found)
     c.print_item.result (
       found,

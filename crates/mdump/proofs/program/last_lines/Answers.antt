@@ -4,7 +4,7 @@ use Rattle.std.specs.Option.{option_map}
 use Rattle.minidump.specs.Below.MemoryLists.UnifiedInfo.{range_of_info_region, info_regions}
 use Rattle.mdump.specs.Done.{IsInfoLine, IsModuleLine, info_of_dump}
 use Rattle.mdump.specs.Lines.{info_line}
-use Rattle.mdump.proofs.JoinLemmas.{a_line, cut, join_writes, error_after}
+use Rattle.mdump.proofs.JoinLemmas.{a_line, cut, join_writes}
 use Rattle.mdump.proofs.program.last_lines.Goals as goal
 
 pub returns-in_err-module_line-clause-written : goal.returns-in_err-module_line-clause-written
@@ -20,8 +20,3 @@ returns-clause-written g c =
     let info = a_line range_of_info_region (option_map info_regions (info_of_dump dump)) c.args.address info_line c.region_laws.ensures.unified_information in
     join_writes g.O.Write.contents (IsModuleLine dump c.args.address) (IsInfoLine dump c.args.address) _ _ _ c.info_line.result
     info c.in_ok-module_line.ensures.written c.info_line.ensures.written
-
-pub returns-clause-error : goal.returns-clause-error
-returns-clause-error g c =
-    error_after (IsModuleLine (dump_of c.args.dump.now) c.args.address) g.O.Write.contents _ _ _ c.info_line.result
-    c.in_ok-module_line.ensures.written c.info_line.ensures.error

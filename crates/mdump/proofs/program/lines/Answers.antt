@@ -5,7 +5,7 @@ use Rattle.minidump.specs.Below.MemoryLists.UnifiedInfo.{range_of_info_region, i
 use Rattle.minidump.specs.Below.Modules.Module.{range_of_module}
 use Rattle.mdump.specs.Done.{AreLastLines, IsInfoLine, IsMemoryLine, IsModuleLine, info_of_dump, modules_of_dump}
 use Rattle.mdump.specs.Lines.{info_line, module_line}
-use Rattle.mdump.proofs.JoinLemmas.{a_line, both_lines, cut, join_writes, error_after}
+use Rattle.mdump.proofs.JoinLemmas.{a_line, both_lines, cut, join_writes}
 use Rattle.mdump.proofs.program.lines.Goals as goal
 
 pub returns-in_err-memory_line-clause-written : goal.returns-in_err-memory_line-clause-written
@@ -25,8 +25,3 @@ returns-clause-written g c =
     let both = both_lines (IsModuleLine dump c.args.address) (IsInfoLine dump c.args.address) a_module info in
     join_writes g.O.Write.contents (IsMemoryLine dump c.args.address) (AreLastLines dump c.args.address) _ _ _ c.last_lines.result
     both c.in_ok-memory_line.ensures.written c.last_lines.ensures.written
-
-pub returns-clause-error : goal.returns-clause-error
-returns-clause-error g c =
-    error_after (IsMemoryLine (dump_of c.args.dump.now) c.args.address) g.O.Write.contents _ _ _ c.last_lines.result
-    c.in_ok-memory_line.ensures.written c.last_lines.ensures.error

@@ -1,3 +1,0 @@
-mod crashpad;
-mod handles;
-mod mac_crash_info;
