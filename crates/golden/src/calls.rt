@@ -1,29 +1,26 @@
 use crate::frames::frames;
 use crate::lookup::push_found;
 use crate::row::{Row, number, number_32};
-use crate::spelled::bytes_of;
 use crate::streams;
+use crate::summary::push_summary;
+use crate::values::{debug_ids, push_numbers, push_raw};
 use anyhow::{Result, bail};
-use crash_summary::{CrashSummary, summarise};
-use minidump::{CodeNames, Endian, Minidump, Told, write_report};
-use minidump_synth::SynthMinidump;
+use crash_summary::summarise;
+use minidump::{CodeNames, Minidump, Told, write_report};
 use std::alloc::Global;
 use std::io::Write;
 
-/// Makes the call of a row on the dump of its bytes in a byte order.
-pub fn answer(alloc: Global, row: &Row<'_>, endian: Endian) -> Result<Vec<u8>> {
-    let types = row.words.as_slice();
-    match (row.call, types) {
-        ("report", _) => report(alloc, &dump_of(alloc, row, types, endian)?),
-        ("summary", _) => summary(alloc, &dump_of(alloc, row, types, endian)?),
-        ("at", [addresses, types @ ..]) => {
-            at(alloc, &dump_of(alloc, row, types, endian)?, addresses)
-        }
-        ("frames", [limit, types @ ..]) => {
-            let limit = number_32(limit)? as usize;
-            frames(alloc, &dump_of(alloc, row, types, endian)?, limit)
-        }
-        _ => bail!("{}: no call {}", row.name, row.call),
+/// Makes the call of a row on its dump.
+pub fn answer(alloc: Global, row: &Row<'_>, dump: &[u8]) -> Result<Vec<u8>> {
+    match row.call {
+        "report" => report(alloc, dump),
+        "summary" => summary(alloc, dump),
+        "at" => answers(alloc, dump, row.about, Each::Found),
+        "numbers" => answers(alloc, dump, row.about, Each::Numbers),
+        "raw" => answers(alloc, dump, row.about, Each::Raw),
+        "debug-id" => debug_ids(alloc, dump, row.about),
+        "frames" => frames(alloc, dump, number_32(row.about)? as usize),
+        _ => bail!("no call"),
     }
 }
 
@@ -43,76 +40,34 @@ pub fn report(alloc: Global, bytes: &[u8]) -> Result<Vec<u8>> {
 // Returns a line for each part of the summary of a crash, or its error.
 fn summary(alloc: Global, bytes: &[u8]) -> Result<Vec<u8>> {
     let mut out = Vec::new(alloc);
-    let crash = match summarise(alloc, bytes, &CodeNames::empty()) {
-        Ok(crash) => crash,
-        Err(error) => {
-            writeln!(out, "{error:?}")?;
-            return Ok(out);
-        }
-    };
-    writeln!(out, "thread {:#x}", crash.thread)?;
-    match crash.address {
-        Some(address) => writeln!(out, "address {address:#x}")?,
-        None => writeln!(out, "address none")?,
+    match summarise(alloc, bytes, &CodeNames::empty()) {
+        Ok(crash) => push_summary(&crash, &mut out)?,
+        Err(error) => writeln!(out, "{error:?}")?,
     }
-    writeln!(out, "reason {}", crash.reason.as_deref().unwrap_or("none"))?;
-    match &crash.module {
-        Some(m) => writeln!(
-            out,
-            "module {:#x} {:#x} {}",
-            m.base,
-            m.size,
-            m.name.as_str()
-        )?,
-        None => writeln!(out, "module none")?,
-    }
-    match crash.stack {
-        Some(stack) => writeln!(out, "stack {:#x} {:#x}", stack.base, stack.size)?,
-        None => writeln!(out, "stack none")?,
-    }
-    push_machine(&mut out, &crash)?;
     Ok(out)
 }
 
-// Appends a line for the pointers of the context of a crash, and one for the system.
-fn push_machine(out: &mut Vec<u8>, crash: &CrashSummary) -> Result<()> {
-    match (crash.instruction_pointer, crash.stack_pointer) {
-        (Some(instruction), Some(stack)) => writeln!(out, "pointers {instruction:#x} {stack:#x}")?,
-        _ => writeln!(out, "pointers none")?,
-    }
-    match &crash.system {
-        Some(s) => writeln!(out, "system {} {} {}", s.os, s.cpu, s.processors)?,
-        None => writeln!(out, "system none")?,
-    }
-    Ok(())
+// What is asked of a dump for each number of a list.
+#[derive(Clone, Copy)]
+enum Each {
+    // What is at the address.
+    Found,
+    // The numbers at the address.
+    Numbers,
+    // The bytes of the stream of the type.
+    Raw,
 }
 
-// Returns the lines of what is at each of the addresses.
-fn at(alloc: Global, bytes: &[u8], addresses: &str) -> Result<Vec<u8>> {
+// Returns the lines for each number of a list.
+fn answers(alloc: Global, bytes: &[u8], list: &str, what: Each) -> Result<Vec<u8>> {
     let dump = Minidump::read(alloc, bytes)?;
     let mut out = Vec::new(alloc);
-    for address in addresses.split(',') {
-        push_found(alloc, &dump, number(address)?, &mut out)?;
+    for word in list.split(',') {
+        match what {
+            Each::Found => push_found(alloc, &dump, number(word)?, &mut out)?,
+            Each::Numbers => push_numbers(alloc, &dump, number(word)?, &mut out)?,
+            Each::Raw => push_raw(&dump, number_32(word)?, &mut out)?,
+        }
     }
     Ok(out)
-}
-
-// Makes the dump of streams of these types, or the one that the bytes are.
-fn dump_of(alloc: Global, row: &Row<'_>, types: &[&str], endian: Endian) -> Result<Vec<u8>> {
-    if types.is_empty() {
-        return Ok(bytes_of(alloc, row.spelled, endian)?.finish()?);
-    }
-    let parts: Vec<&str> = row.spelled.split('|').collect(alloc)?;
-    let mut dump = SynthMinidump::new(alloc, endian);
-    match parts.get(types.len()..) {
-        Some([]) => {}
-        Some([front]) => {
-            dump.add(&bytes_of(alloc, front, endian)?);
-        }
-        _ => bail!("{}: bytes of another number of streams", row.name),
-    }
-    for (word, spelled) in types.iter().zip(parts.iter()) {
-        dump.add_stream(number_32(word)?, &bytes_of(alloc, spelled, endian)?);
-    }
-    Ok(dump.finish()?)
 }

@@ -1,59 +1,47 @@
+use crate::streams::read_all;
 use anyhow::Result;
-use minidump::{Endian, Minidump, MinidumpStream, Steps, each_stream};
+use minidump::{Endian, Minidump, Steps};
 use minidump_synth::{every_stream, handle_circle};
-use std::alloc::Global;
+use std::alloc::{AllocError, Global};
 use std::fs;
 
-// A dump of handles that share a circle of 1,000 pieces: its name, its byte order, and how many
-// handles it has.
-const CIRCLES: &[(&str, Endian, u32)] = &[
-    ("circle", Endian::Little, 1),
-    ("circle-big", Endian::Big, 1),
-    ("circle-of-two", Endian::Little, 2),
-    ("circle-of-two-big", Endian::Big, 2),
-];
-
-/// Cuts a file to each length from 0 to its own. Writes a line: how many lengths there are, how
-/// many of them are dumps, and how many streams of the whole dump are read; and a line for each
-/// length where a read takes more steps than its limit.
-pub fn print_file(rt: &HostRuntime, path: &str) -> Result<()> {
-    print_cuts(rt, path, &fs::read(rt, path)?)
+/// The cuts of some bytes, to each length from 0 to their own.
+#[derive(Clone, Copy)]
+pub struct Cuts {
+    /// How many lengths there are.
+    pub lengths: u64,
+    /// How many of them are dumps.
+    pub dumps: u64,
+    /// How many streams of the longest dump are read.
+    pub streams: usize,
+    /// The first length at which a read takes more steps than its limit.
+    pub beyond: Option<usize>,
 }
 
-/// Does the same with dumps that have their directory first.
-pub fn print_made(rt: &HostRuntime) -> Result<()> {
-    let bytes = every_stream(rt.alloc(), Endian::Little)?;
-    print_cuts(rt, "every-stream", &bytes)?;
-    let bytes = every_stream(rt.alloc(), Endian::Big)?;
-    print_cuts(rt, "every-stream-big", &bytes)?;
-    for (name, endian, handles) in CIRCLES {
-        let bytes = handle_circle(rt.alloc(), *endian, *handles, 1000)?;
-        print_cuts(rt, *name, &bytes)?;
-    }
-    Ok(())
-}
-
-fn print_cuts(rt: &HostRuntime, name: &str, bytes: &[u8]) -> Result<()> {
-    let mut lengths = 0u64;
-    let mut dumps = 0u64;
-    let mut streams = 0;
+/// Cuts bytes to each length.
+pub fn cuts_of(alloc: Global, bytes: &[u8]) -> Cuts {
+    let mut cuts = Cuts {
+        lengths: 0,
+        dumps: 0,
+        streams: 0,
+        beyond: None,
+    };
     for n in 0..=bytes.len() {
-        lengths = lengths.saturating_add(1);
-        match bytes.get(..n).map(|cut| read_cut(rt.alloc(), cut)) {
-            Some(Cut::Dump(read)) => {
-                dumps = dumps.saturating_add(1);
-                streams = read;
+        cuts.lengths = cuts.lengths.saturating_add(1);
+        match read_cut(alloc, bytes.get(..n).unwrap_or(bytes)) {
+            Cut::Dump(streams) => {
+                cuts.dumps = cuts.dumps.saturating_add(1);
+                cuts.streams = streams;
             }
-            Some(Cut::NoDump) => {}
-            Some(Cut::Beyond) | None => println!(rt; "{name}: beyond the limit at {n}")?,
+            Cut::NoDump => {}
+            Cut::Beyond => cuts.beyond = cuts.beyond.or(Some(n)),
         }
     }
-    println!(rt; "{name}: {lengths} lengths, {dumps} dumps, {streams} streams")?;
-    Ok(())
+    cuts
 }
 
 // What a cut is: a dump of so many streams that are read, no dump, or one of either that takes more
-// reads than its limit.
+// steps than its limit.
 #[derive(Clone, Copy)]
 enum Cut {
     Dump(usize),
@@ -65,49 +53,75 @@ enum Cut {
 fn read_cut(alloc: Global, bytes: &[u8]) -> Cut {
     let most = (bytes.len() as u128).saturating_add(8);
     let mut steps = Steps::new();
-    let answer = Minidump::read_counted(alloc, bytes, &mut steps);
+    let dump = Minidump::read_counted(alloc, bytes, &mut steps);
     if steps.count() > most {
         return Cut::Beyond;
     }
-    match answer {
+    match dump {
         Err(_) => Cut::NoDump,
-        Ok(dump) => match read_streams(alloc, &dump, most) {
-            Some(streams) => Cut::Dump(streams),
-            None => Cut::Beyond,
-        },
+        Ok(dump) => {
+            let reads = read_all(alloc, &dump, most);
+            if reads.iter().any(|read| read.is_beyond) {
+                Cut::Beyond
+            } else {
+                Cut::Dump(reads.iter().filter(|read| read.error.is_none()).count())
+            }
+        }
     }
 }
 
-// How many types of streams are read, if each read takes at most its limit of steps, where `most`
-// is the limit that is linear.
-fn read_streams(alloc: Global, dump: &Minidump<'_>, most: u128) -> Option<usize> {
-    macro_rules! limit {
-        (constant) => {
-            8
-        };
-        (linear) => {
-            most
-        };
-        (square) => {
-            most.saturating_mul(most)
-        };
-    }
-    macro_rules! read_each {
-        ($($name:ident: $type:ty, $reads:ident;)*) => {
-            [$(is_read::<$type>(alloc, dump, limit!($reads))?,)*]
-        };
-    }
-    let read = each_stream!(read_each);
-    Some(read.iter().filter(|ok| **ok).count())
+// A dump that is made.
+#[derive(Clone, Copy)]
+enum Made {
+    // One with a stream of each type.
+    EveryStream,
+    // One of so many handles that share a circle of 1,000 pieces.
+    Circle(u32),
 }
 
-// Whether a stream is read, if it takes at most so many steps.
-fn is_read<'a, S: MinidumpStream<'a> + Drop>(
-    alloc: Global,
-    dump: &Minidump<'a>,
-    most: u128,
-) -> Option<bool> {
-    let mut steps = Steps::new();
-    let stream = dump.get_stream_counted::<S>(alloc, &mut steps);
-    (steps.count() <= most).then_some(stream.is_ok())
+const MADE: &[(&str, Endian, Made)] = &[
+    ("every-stream", Endian::Little, Made::EveryStream),
+    ("every-stream-big", Endian::Big, Made::EveryStream),
+    ("circle", Endian::Little, Made::Circle(1)),
+    ("circle-big", Endian::Big, Made::Circle(1)),
+    ("circle-of-two", Endian::Little, Made::Circle(2)),
+    ("circle-of-two-big", Endian::Big, Made::Circle(2)),
+];
+
+fn make(alloc: Global, endian: Endian, made: Made) -> Result<Vec<u8>, AllocError> {
+    match made {
+        Made::EveryStream => every_stream(alloc, endian),
+        Made::Circle(handles) => handle_circle(alloc, endian, handles, 1000),
+    }
+}
+
+/// Writes a line for the cuts of a file: how many lengths there are, how many of them are dumps,
+/// and how many streams of the whole dump are read; and one for the first length at which a read
+/// takes more steps than its limit.
+pub fn print_file(rt: &HostRuntime, path: &str) -> Result<()> {
+    let cuts = cuts_of(rt.alloc(), &fs::read(rt, path)?);
+    print_cuts(rt, path, &cuts)
+}
+
+/// Does the same with dumps that have their directory first.
+pub fn print_made(rt: &HostRuntime) -> Result<()> {
+    for (name, endian, made) in MADE {
+        let cuts = cuts_of(rt.alloc(), &make(rt.alloc(), *endian, *made)?);
+        print_cuts(rt, *name, &cuts)?;
+    }
+    Ok(())
+}
+
+fn print_cuts(rt: &HostRuntime, name: &str, cuts: &Cuts) -> Result<()> {
+    if let Some(n) = cuts.beyond {
+        println!(rt; "{name}: beyond the limit at {n}")?;
+    }
+    let Cuts {
+        lengths,
+        dumps,
+        streams,
+        ..
+    } = *cuts;
+    println!(rt; "{name}: {lengths} lengths, {dumps} dumps, {streams} streams")?;
+    Ok(())
 }

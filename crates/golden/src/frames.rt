@@ -3,6 +3,7 @@ use crash_summary::DumpProcess;
 use minidump::{Error, Minidump, MinidumpThreadList};
 use stack_walk::{FrameTrust, Process, StackFrame, thread_frames};
 use std::alloc::Global;
+use std::io;
 use std::io::Write;
 
 /// Returns a line for each thread of a dump, and after it one for each of its frames, with at most
@@ -10,29 +11,31 @@ use std::io::Write;
 pub fn frames(alloc: Global, bytes: &[u8], limit: usize) -> Result<Vec<u8>> {
     let dump = Minidump::read(alloc, bytes)?;
     let process = DumpProcess::read(alloc, &dump)?.ok_or(Error::StreamNotFound)?;
-    push_threads(alloc, &dump, &process.as_process(), limit)
+    let threads = dump.get_stream(alloc)?;
+    let mut out = Vec::new(alloc);
+    push_threads(alloc, &threads, &process.as_process(), limit, &mut out)?;
+    Ok(out)
 }
 
-// Returns the lines of the threads.
+// Appends the lines of the threads.
 fn push_threads<'a>(
     alloc: Global,
-    dump: &Minidump<'a>,
+    threads: &MinidumpThreadList<'a>,
     process: &Process<'_, 'a>,
     limit: usize,
-) -> Result<Vec<u8>> {
-    let threads = dump.get_stream::<MinidumpThreadList>(alloc)?;
-    let mut out = Vec::new(alloc);
+    out: &mut Vec<u8>,
+) -> Result<()> {
     for thread in &threads.threads {
         writeln!(out, "thread {:#x}", thread.raw.thread_id)?;
         let frames = thread_frames(alloc, process, thread, limit)?;
-        push_frames(&mut out, frames.as_slice())?;
+        push_frames(frames.as_slice(), out)?;
     }
-    Ok(out)
+    Ok(())
 }
 
 // Appends a line for each frame: its instruction pointer, its stack pointer, and what it is known
 // by.
-fn push_frames(out: &mut Vec<u8>, frames: &[StackFrame]) -> Result<()> {
+fn push_frames(frames: &[StackFrame], out: &mut Vec<u8>) -> io::Result<()> {
     for frame in frames {
         let trust = match frame.trust {
             FrameTrust::Context => "context",

@@ -9,12 +9,13 @@
 //!
 //! After the line `== cuts` it writes a line for each sample, and for some dumps that are made for
 //! it: how many lengths it can be cut to, how many of them are dumps, and how many of its streams
-//! are read. A length at which a read takes more steps than its limit has a line of its own.
-//! Without samples there is nothing of this.
+//! are read. The first length at which a read takes more steps than its limit has a line of its
+//! own. Without samples there is nothing of this.
 //!
-//! After the line `== rows` it writes a line `FILE: N rows` for each file of rows, and in front of
-//! it what differs: the name of a row, the lines that it wants, and those of the answer. A file
-//! with a malformed row ends the program with status 1.
+//! After the line `== rows` it writes a line `FILE: N rows, N lengths, N dumps` for each file of
+//! rows, which also counts the cuts of their dumps, and in front of it what differs: a row with its
+//! call and its bytes, the dump that they make, the lines that it wants, and those of the answer. A
+//! malformed row, or one whose call returns an error, ends the program with status 1.
 //!
 //! # Rows
 //!
@@ -27,15 +28,18 @@
 //!     LINE
 //! ```
 //!
-//! - CALL is `report`, which answers as for a sample; `summary`, the summary of a crash, a line for
-//!   each part; `at`, whose first WORD is addresses with commas between them: lines of what is at
-//!   each; or `frames`, whose first WORD is the most candidates of a scan: for each thread a line,
-//!   and after it one for each frame.
+//! - CALL is `report`, which answers as for a sample, or `summary`, the summary of a crash, a line
+//!   for each part. Others take a first WORD: `frames` the most candidates of a scan, for a line
+//!   for each thread, and after it one for each frame; `debug-id` a debug identifier as Breakpad
+//!   writes it, for a line for each module; and these numbers with commas between them, for lines
+//!   for each: `at` what is at the address, `numbers` the region of memory that contains the
+//!   address, with the numbers of one, two and four bytes there, and `raw` the bytes of the stream
+//!   of the type.
 //! - `big` as a WORD makes bytes and numbers big-endian, and `both` asks for the same answer in
 //!   both byte orders.
 //! - Each further WORD is the number of a type of stream. Its bytes are those between the next two
-//!   bars; what stands after the last of them is put into the dump in front of the streams, from 32
-//!   on. Without such a WORD the bytes are the dump.
+//!   bars; what stands after the last of them is put into the dump right after the header, from 32
+//!   on, in front of the directory and the streams. Without such a WORD the bytes are the dump.
 //! - BYTES are words. `5f00` is two bytes, `5:4` the number 5 in four bytes, `00*9` nine zeros,
 //!   `"abc"` the bytes of a text, `w"abc"` its code units of UTF-16, and `u"abc"` the same after
 //!   their length. `->`, `|` and `"` can't stand in a text.
@@ -51,10 +55,13 @@ mod calls;
 mod cuts;
 mod frames;
 mod lookup;
+mod made;
 mod row;
 mod rows;
 mod spelled;
 mod streams;
+mod summary;
+mod values;
 
 use anyhow::Result;
 use std::io::Write;

@@ -1,73 +1,138 @@
 use crate::calls::answer;
+use crate::cuts::{Cuts, cuts_of};
+use crate::made::dump_of;
 use crate::row::Row;
+use crate::values::push_digits;
 use anyhow::{Result, bail};
 use minidump::Endian;
 use std::alloc::{AllocError, Global};
-use std::fs;
 use std::io::Write;
+use std::{fs, io};
 
-/// Writes each row of a file whose answer differs from its lines, and then how many rows there are.
+// How many rows there are, how many lengths their dumps can be cut to, and how many of these are
+// dumps.
+#[derive(Clone, Copy)]
+struct Count {
+    rows: u64,
+    lengths: u64,
+    dumps: u64,
+}
+
+/// Writes each row of a file whose answer differs from its lines, and then how many rows there are,
+/// how many lengths their dumps can be cut to, and how many of these are dumps.
 pub fn print_differences(rt: &HostRuntime, path: &str) -> Result<()> {
     let text = fs::read_to_string(rt, path)?;
-    let mut rows = 0u64;
-    let mut row = String::new(rt.alloc());
-    for line in text.lines() {
-        if line.starts_with(' ') {
-            row.push('\n')?;
-            row.push_str(line)?;
-        } else if !line.starts_with('#') {
-            rows = rows.saturating_add(print_row(rt, row.as_str())?);
-            row = String::from_str(rt.alloc(), line)?;
+    let mut count = Count {
+        rows: 0,
+        lengths: 0,
+        dumps: 0,
+    };
+    for row in &rows_of(rt.alloc(), text.as_str())? {
+        let mut out = Vec::new(rt.alloc());
+        if let Err(error) = push_row(rt.alloc(), row, &mut count, &mut out) {
+            bail!("{row}: {error}");
         }
+        rt.stdout().write_all(&out)?;
     }
-    rows = rows.saturating_add(print_row(rt, row.as_str())?);
-    println!(rt; "{path}: {rows} rows")?;
+    let Count {
+        rows,
+        lengths,
+        dumps,
+    } = count;
+    println!(rt; "{path}: {rows} rows, {lengths} lengths, {dumps} dumps")?;
     Ok(())
 }
 
-// Writes a row in the byte orders in which the answer isn't what it wants. Returns how many rows
-// the text is.
-fn print_row(rt: &HostRuntime, text: &str) -> Result<u64> {
-    if text.is_empty() {
-        return Ok(0);
+// Returns the rows of a text, each with the lines below it that begin with a space.
+fn rows_of<'t>(alloc: Global, text: &'t str) -> Result<Vec<&'t str>, AllocError> {
+    let mut rows = Vec::new(alloc);
+    let (mut start, mut end) = (0, 0_usize);
+    for line in text.split('\n') {
+        if !line.starts_with(' ') {
+            push_part(text, start, end, &mut rows)?;
+            start = end;
+        }
+        end = end.saturating_add(line.len()).saturating_add(1);
     }
-    let row = Row::read(rt.alloc(), text)?;
-    let wanted = lines_of(rt.alloc(), row.wanted.as_bytes())?;
+    push_part(text, start, end, &mut rows)?;
+    Ok(rows)
+}
+
+// Appends a part of a text, if it is a row.
+fn push_part<'t>(
+    text: &'t str,
+    start: usize,
+    end: usize,
+    rows: &mut Vec<&'t str>,
+) -> Result<(), AllocError> {
+    let row = text
+        .get(start..end.min(text.len()))
+        .unwrap_or("")
+        .trim_end();
+    if row.is_empty() || row.starts_with('#') {
+        return Ok(());
+    }
+    rows.push(row)?;
+    Ok(())
+}
+
+// Appends a row in the byte orders in which the answer isn't what it wants, and counts it.
+fn push_row(alloc: Global, text: &str, count: &mut Count, out: &mut Vec<u8>) -> Result<()> {
+    let row = Row::read(alloc, text)?;
+    let wanted = lines_of(alloc, row.wanted.as_bytes())?;
     if wanted.iter().all(|line| is_any(line)) {
-        bail!("{}: no line of the answer", row.name);
+        bail!("no line of the answer");
     }
+    count.rows = count.rows.saturating_add(1);
     for endian in row.orders {
-        let found = answer(rt.alloc(), &row, *endian)?;
-        if !has(&lines_of(rt.alloc(), &found)?, &wanted) {
-            print_difference(rt, &row, *endian, &found)?;
+        let dump = dump_of(alloc, &row, *endian)?;
+        push_cuts(&row, &cuts_of(alloc, &dump), count, out)?;
+        let found = answer(alloc, &row, &dump)?;
+        if !has(&lines_of(alloc, &found)?, &wanted) {
+            push_difference(&row, *endian, &dump, &found, out)?;
         }
     }
-    Ok(1)
+    Ok(())
 }
 
-fn print_difference(rt: &HostRuntime, row: &Row<'_>, endian: Endian, found: &[u8]) -> Result<()> {
-    println!(rt; "{}, {endian:?}, wanted:{}", row.name, row.wanted)?;
-    println!(rt; "got:")?;
-    rt.stdout().write_all(found)?;
-    Ok(())
+// Counts the cuts of the dump of a row. Appends a line if one takes more steps than its limit.
+fn push_cuts(row: &Row<'_>, cuts: &Cuts, count: &mut Count, out: &mut Vec<u8>) -> io::Result<()> {
+    count.lengths = count.lengths.saturating_add(cuts.lengths);
+    count.dumps = count.dumps.saturating_add(cuts.dumps);
+    match cuts.beyond {
+        Some(n) => writeln!(out, "{}: beyond the limit at {n}", row.name),
+        None => Ok(()),
+    }
+}
+
+// Appends a row with its call and its bytes, the dump that they make, and both answers.
+fn push_difference(
+    row: &Row<'_>,
+    endian: Endian,
+    dump: &[u8],
+    found: &[u8],
+    out: &mut Vec<u8>,
+) -> io::Result<()> {
+    write!(out, "{}, {endian:?}:{}\ndump: ", row.name, row.asked)?;
+    push_digits(dump, out)?;
+    writeln!(out, "\nwanted:{}\ngot:", row.wanted)?;
+    out.write_all(found)
 }
 
 // Returns the lines of a text that aren't empty, without the spaces on both sides.
-fn lines_of(alloc: Global, text: &[u8]) -> Result<Vec<Vec<u8>>, AllocError> {
+fn lines_of<'t>(alloc: Global, text: &'t [u8]) -> Result<Vec<&'t [u8]>, AllocError> {
     let mut lines = Vec::new(alloc);
     for line in text.split(|byte| *byte == b'\n') {
         let line = line.trim_ascii();
         if !line.is_empty() {
-            let mut copy = Vec::new(alloc);
-            copy.extend_from_slice(line)?;
-            lines.push(copy)?;
+            lines.push(line)?;
         }
     }
     Ok(lines)
 }
 
 // Tests whether the lines are there, one after another, but that `..` is any number of lines.
-fn has(lines: &[Vec<u8>], wanted: &[Vec<u8>]) -> bool {
+fn has(lines: &[&[u8]], wanted: &[&[u8]]) -> bool {
     let mut start = 0;
     for part in wanted.split(|line| is_any(line)) {
         match end_of_first(lines, start, part) {
@@ -79,19 +144,19 @@ fn has(lines: &[Vec<u8>], wanted: &[Vec<u8>]) -> bool {
 }
 
 // Tests whether a line stands for any number of lines.
-fn is_any(line: &Vec<u8>) -> bool {
-    line.as_slice() == b"..".as_slice()
+fn is_any(line: &[u8]) -> bool {
+    line == b"..".as_slice()
 }
 
 // Finds the first index, from `from` on, at which the lines of `part` stand. Returns the index
 // after them.
-fn end_of_first(lines: &[Vec<u8>], from: usize, part: &[Vec<u8>]) -> Option<usize> {
+fn end_of_first(lines: &[&[u8]], from: usize, part: &[&[u8]]) -> Option<usize> {
     (from..=lines.len())
         .find(|index| stand_at(lines, *index, part))
         .map(|index| index.saturating_add(part.len()))
 }
 
-fn stand_at(lines: &[Vec<u8>], index: usize, part: &[Vec<u8>]) -> bool {
+fn stand_at(lines: &[&[u8]], index: usize, part: &[&[u8]]) -> bool {
     match lines.get(index..) {
         Some(left) => left.starts_with(part),
         None => false,

@@ -1,34 +1,84 @@
-use anyhow::Result;
-use minidump::{Error, Minidump, MinidumpStream, each_stream};
+use minidump::{Error, Minidump, MinidumpStream, Steps, each_stream};
 use std::alloc::Global;
+use std::io;
 use std::io::Write;
 
-/// Appends a line for each type of stream that a dump has and that is read, which says `ok`, or
-/// names its error.
-pub fn push_all(alloc: Global, dump: &Minidump<'_>, out: &mut Vec<u8>) -> Result<()> {
-    macro_rules! push_each {
-        ($($name:ident: $type:ty, $reads:ident;)*) => {
-            $(push_answer::<$type>(alloc, dump, stringify!($name), out)?;)*
+/// How the stream of a type is read.
+#[derive(Clone, Copy)]
+pub struct Reading {
+    /// The name of the type.
+    pub name: &'static str,
+    /// The error, if there is one.
+    pub error: Option<Error>,
+    /// Whether the directory has no entry of the type's number.
+    pub is_missing: bool,
+    /// Whether it takes more steps than its limit.
+    pub is_beyond: bool,
+}
+
+macro_rules! count_each {
+    ($($name:ident: $type:ty, $reads:ident;)*) => {
+        [$(stringify!($name),)*].len()
+    };
+}
+
+// How many types of streams are read.
+const TYPES: usize = each_stream!(count_each);
+
+/// Reads the stream of each type, where `most` is the limit that is linear.
+pub fn read_all(alloc: Global, dump: &Minidump<'_>, most: u128) -> [Reading; TYPES] {
+    macro_rules! limit {
+        (constant) => {
+            8
+        };
+        (linear) => {
+            most
+        };
+        (square) => {
+            most.saturating_mul(most)
         };
     }
-    each_stream!(push_each);
+    macro_rules! read_each {
+        ($($name:ident: $type:ty, $reads:ident;)*) => {
+            [$(read::<$type>(alloc, dump, stringify!($name), limit!($reads)),)*]
+        };
+    }
+    each_stream!(read_each)
+}
+
+fn read<'a, S: MinidumpStream<'a> + Drop>(
+    alloc: Global,
+    dump: &Minidump<'a>,
+    name: &'static str,
+    most: u128,
+) -> Reading {
+    let mut steps = Steps::new();
+    let error = dump.get_stream_counted::<S>(alloc, &mut steps).err();
+    let raw = dump.get_raw_stream(S::STREAM_TYPE);
+    Reading {
+        name,
+        error,
+        is_missing: raw.err() == Some(Error::StreamNotFound),
+        is_beyond: steps.count() > most,
+    }
+}
+
+/// Appends a line for each type of stream that a dump has, which says `ok`, or names its error.
+pub fn push_all(alloc: Global, dump: &Minidump<'_>, out: &mut Vec<u8>) -> io::Result<()> {
+    for read in &read_all(alloc, dump, u128::MAX) {
+        push_answer(read, out)?;
+    }
     Ok(())
 }
 
 // Appends a line for a type of stream, but nothing where the dump has no such stream, by the type
 // and by its number.
-fn push_answer<'a, S: MinidumpStream<'a> + Drop>(
-    alloc: Global,
-    dump: &Minidump<'a>,
-    name: &str,
-    out: &mut Vec<u8>,
-) -> Result<()> {
-    let is_missing = dump.get_raw_stream(S::STREAM_TYPE).err() == Some(Error::StreamNotFound);
-    match dump.get_stream::<S>(alloc) {
-        Err(Error::StreamNotFound) if is_missing => {}
-        Ok(_) if !is_missing => writeln!(out, "{name}: ok")?,
-        Err(error) if !is_missing => writeln!(out, "{name}: {error:?}")?,
-        _ => writeln!(out, "{name}: another number")?,
+fn push_answer(read: &Reading, out: &mut Vec<u8>) -> io::Result<()> {
+    let name = read.name;
+    match read.error {
+        Some(Error::StreamNotFound) if read.is_missing => Ok(()),
+        None if !read.is_missing => writeln!(out, "{name}: ok"),
+        Some(error) if !read.is_missing => writeln!(out, "{name}: {error:?}"),
+        _ => writeln!(out, "{name}: another number"),
     }
-    Ok(())
 }

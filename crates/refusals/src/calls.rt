@@ -10,7 +10,9 @@ use crate::regions::{
     memory64_regions, unified_infos, unified_maps, wide_index,
 };
 use crate::streams::{copy, show};
-use crate::texts::{assertion_texts, contexts, linux_texts, system_texts, thread_infos};
+use crate::texts::{
+    assertion_texts, contexts, linux_texts, other_contexts, system_texts, thread_infos,
+};
 use crate::whole::{find, read, read_path, read_whole, report};
 use crate::world::World;
 use minidump::format::MINIDUMP_STREAM_TYPE::{self, *};
@@ -54,6 +56,7 @@ pub enum Call {
     LinuxTexts,
     SystemTexts,
     Contexts,
+    OtherContexts,
     ThreadInfos,
     Crash,
     ReasonText,
@@ -142,6 +145,7 @@ pub const CALLS: &[(&str, Call)] = &[
     ("linux-texts", Call::LinuxTexts),
     ("system-texts", Call::SystemTexts),
     ("contexts", Call::Contexts),
+    ("other-contexts", Call::OtherContexts),
     ("thread-infos", Call::ThreadInfos),
     ("crash", Call::Crash),
     ("reason-text", Call::ReasonText),
@@ -185,6 +189,7 @@ pub fn make(world: &World<'_>, call: Call, out: &mut Told<Device>) -> Result<(),
         Call::LinuxTexts => linux_texts(world, out),
         Call::SystemTexts => system_texts(world, out),
         Call::Contexts => contexts(world, out),
+        Call::OtherContexts => other_contexts(world, out),
         Call::ThreadInfos => thread_infos(world, out),
         Call::Crash => crash(world, out),
         Call::ReasonText => reason_text(world, out),

@@ -1,26 +1,23 @@
 use crate::device::Device;
 use crate::records::put_text;
-use crate::world::{World, put_line};
-use crash_summary::{summarise, system_of};
+use crate::world::{World, put_line, stream};
+use crash_summary::{CrashSummary, summarise, system_of};
 use minidump::{CodeNames, CrashReason, Error, MinidumpException, MinidumpThreadList, Told};
 use minidump_names::{NameTable, NamesError};
 
 /// Prints each thread, and the reason of the crash.
 pub fn crash(world: &World<'_>, out: &mut Told<Device>) -> Result<(), Error> {
-    let list = world
-        .dump
-        .get_stream::<MinidumpThreadList<'_>>(world.alloc)?;
+    let list = stream::<MinidumpThreadList<'_>>(world)?;
     for thread in &list.threads {
         let memory = Some(&world.memory);
         thread.print(world.alloc, out, memory, Some(&world.system), None, false)?;
     }
-    let names = CodeNames::empty();
-    reason_by(world, &names)?.write_to(world.alloc, &names, out)
+    put_reason(world, &CodeNames::empty(), out)
 }
 
 // Returns the reason of the crash.
 fn reason_by(world: &World<'_>, names: &CodeNames<'_>) -> Result<CrashReason, Error> {
-    let exception = world.dump.get_stream::<MinidumpException<'_>>(world.alloc)?;
+    let exception = stream::<MinidumpException<'_>>(world)?;
     Ok(exception.get_crash_reason(world.system.os, world.system.cpu, names))
 }
 
@@ -37,25 +34,38 @@ const NAMES: &[u8] =
 
 /// Reads names of codes, and writes the reason of the crash with them.
 pub fn names(world: &World<'_>, out: &mut Told<Device>) -> Result<(), Error> {
-    let table = match NameTable::read(world.alloc, NAMES) {
-        Ok(table) => table,
-        Err(NamesError::OutOfMemory) => return Err(Error::OutOfMemory),
-        Err(_) => return Err(Error::DataError),
-    };
+    match NameTable::read(world.alloc, NAMES) {
+        Ok(table) => put_named(world, &table, out),
+        Err(NamesError::OutOfMemory) => Err(Error::OutOfMemory),
+        Err(_) => Err(Error::DataError),
+    }
+}
+
+fn put_named(world: &World<'_>, table: &NameTable, out: &mut Told<Device>) -> Result<(), Error> {
     let lists = table.lists(world.alloc)?;
-    let names = lists.code_names();
-    reason_by(world, &names)?.write_to(world.alloc, &names, out)
+    put_reason(world, &lists.code_names(), out)
+}
+
+// Writes the reason of the crash.
+fn put_reason(
+    world: &World<'_>,
+    names: &CodeNames<'_>,
+    out: &mut Told<Device>,
+) -> Result<(), Error> {
+    reason_by(world, names)?.write_to(world.alloc, names, out)
 }
 
 /// Summarises the crash, and reads the system of the dump.
 pub fn summary(world: &World<'_>, out: &mut Told<Device>) -> Result<(), Error> {
     let summary = summarise(world.alloc, world.bytes, &CodeNames::empty())?;
-    put_text(out, &summary.reason)?;
-    put_line(
-        out,
-        summary.module.as_ref().map(|module| module.name.as_str()),
-    )?;
-    put_line(out, summary.stack.is_some().then_some("a stack"))?;
+    put_summary(&summary, out)?;
     let system = system_of(world.alloc, &world.dump)?;
     put_line(out, system.is_some().then_some("a system"))
+}
+
+fn put_summary(summary: &CrashSummary, out: &mut Told<Device>) -> Result<(), Error> {
+    put_text(&summary.reason, out)?;
+    let module = summary.module.as_ref();
+    put_line(out, module.map(|module| module.name.as_str()))?;
+    put_line(out, summary.stack.is_some().then_some("a stack"))
 }

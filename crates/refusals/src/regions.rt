@@ -1,9 +1,9 @@
 use crate::device::Device;
-use crate::world::{World, put_line};
+use crate::world::{World, put_line, stream};
 use minidump::{
     AddressIndex, Error, MinidumpLinuxMapInfo, MinidumpLinuxMaps, MinidumpMemory, MinidumpMemory64,
     MinidumpMemory64List, MinidumpMemoryInfo, MinidumpMemoryInfoList, MinidumpMemoryList, Range,
-    Told, UnifiedMemoryInfoList,
+    Told, UnifiedMemory, UnifiedMemoryInfoList,
 };
 use std::alloc::{AllocError, Global};
 
@@ -18,43 +18,62 @@ pub fn memory(world: &World<'_>, out: &mut Told<Device>) -> Result<(), Error> {
 /// Prints each region of memory.
 pub fn memory_texts(world: &World<'_>, out: &mut Told<Device>) -> Result<(), Error> {
     for region in world.memory.iter() {
-        region.print(world.alloc, out, false)?;
-        region.print_contents(world.alloc, out)?;
+        put_region(world, &region, out)?;
     }
     Ok(())
 }
 
+fn put_region(
+    world: &World<'_>,
+    region: &UnifiedMemory<'_, '_>,
+    out: &mut Told<Device>,
+) -> Result<(), Error> {
+    region.print(world.alloc, out, false)?;
+    region.print_contents(world.alloc, out)
+}
+
 /// Makes a list of regions of memory.
 pub fn memory_regions<'a>(world: &World<'a>, out: &mut Told<Device>) -> Result<(), Error> {
-    let list = world
-        .dump
-        .get_stream::<MinidumpMemoryList<'a>>(world.alloc)?;
-    let mut regions: Vec<MinidumpMemory<'a>> = Vec::new(world.alloc);
+    let list = stream::<MinidumpMemoryList<'a>>(world)?;
     for region in list.iter() {
         region.print(world.alloc, out, true)?;
         region.print_contents(world.alloc, out)?;
+    }
+    let regions = regions_of(world.alloc, &list)?;
+    MinidumpMemoryList::from_regions(world.alloc, regions)?.print(world.alloc, out, false)
+}
+
+fn regions_of<'a>(
+    alloc: Global,
+    list: &MinidumpMemoryList<'a>,
+) -> Result<Vec<MinidumpMemory<'a>>, AllocError> {
+    let mut regions = Vec::new(alloc);
+    for region in list.iter() {
         regions.push(region.clone()?)?;
     }
-    MinidumpMemoryList::from_regions(world.alloc, regions)?.print(world.alloc, out, false)
+    Ok(regions)
 }
 
 /// Makes a 64-bit list of regions of memory.
 pub fn memory64_regions<'a>(world: &World<'a>, out: &mut Told<Device>) -> Result<(), Error> {
-    let list = world
-        .dump
-        .get_stream::<MinidumpMemory64List<'a>>(world.alloc)?;
-    let mut regions: Vec<MinidumpMemory64<'a>> = Vec::new(world.alloc);
+    let regions = regions64_of(world.alloc, &stream(world)?)?;
+    MinidumpMemory64List::from_regions(world.alloc, regions)?.print(world.alloc, out, false)
+}
+
+fn regions64_of<'a>(
+    alloc: Global,
+    list: &MinidumpMemory64List<'a>,
+) -> Result<Vec<MinidumpMemory64<'a>>, AllocError> {
+    let mut regions = Vec::new(alloc);
     for region in list.iter() {
         regions.push(region.clone()?)?;
     }
-    MinidumpMemory64List::from_regions(world.alloc, regions)?.print(world.alloc, out, false)
+    Ok(regions)
 }
 
 /// Makes a list of information on regions.
 pub fn info_regions<'a>(world: &World<'a>, out: &mut Told<Device>) -> Result<(), Error> {
-    let list = world
-        .dump
-        .get_stream::<MinidumpMemoryInfoList<'a>>(world.alloc)?;
+    let list = stream::<MinidumpMemoryInfoList<'a>>(world)?;
     for region in list.iter() {
         region.print(world.alloc, out)?;
     }
@@ -71,26 +90,32 @@ fn infos_of<'a>(
 
 /// Makes a list of maps.
 pub fn map_regions<'a>(world: &World<'a>, out: &mut Told<Device>) -> Result<(), Error> {
-    let list = world.dump.get_stream::<MinidumpLinuxMaps<'a>>(world.alloc)?;
-    let mut regions: Vec<MinidumpLinuxMapInfo<'a>> = Vec::new(world.alloc);
+    let regions = put_maps(world, &stream(world)?, out)?;
+    MinidumpLinuxMaps::from_regions(world.alloc, regions)?.print(world.alloc, out)
+}
+
+fn put_maps<'a>(
+    world: &World<'a>,
+    list: &MinidumpLinuxMaps<'a>,
+    out: &mut Told<Device>,
+) -> Result<Vec<MinidumpLinuxMapInfo<'a>>, Error> {
+    let mut regions = Vec::new(world.alloc);
     for region in list.iter() {
         region.print(world.alloc, out)?;
         regions.push(region.try_clone(world.alloc)?)?;
     }
-    MinidumpLinuxMaps::from_regions(world.alloc, regions)?.print(world.alloc, out)
+    Ok(regions)
 }
 
 /// Copies the maps as a list of either kind, and prints it and its regions.
 pub fn unified_maps(world: &World<'_>, out: &mut Told<Device>) -> Result<(), Error> {
-    let maps = world.dump.get_stream::<MinidumpLinuxMaps<'_>>(world.alloc)?;
+    let maps = stream(world)?;
     put_copy(world, UnifiedMemoryInfoList::new(None, Some(maps)), out)
 }
 
 /// Copies the information as a list of either kind, and prints it and its regions.
 pub fn unified_infos(world: &World<'_>, out: &mut Told<Device>) -> Result<(), Error> {
-    let infos = world
-        .dump
-        .get_stream::<MinidumpMemoryInfoList<'_>>(world.alloc)?;
+    let infos = stream(world)?;
     put_copy(world, UnifiedMemoryInfoList::new(Some(infos), None), out)
 }
 
@@ -100,16 +125,21 @@ fn put_copy(
     out: &mut Told<Device>,
 ) -> Result<(), Error> {
     match list {
-        Some(list) => {
-            let list = list.try_clone(world.alloc)?;
-            list.print(world.alloc, out)?;
-            for region in list.iter() {
-                region.print(world.alloc, out)?;
-            }
-            Ok(())
-        }
+        Some(list) => put_infos(world, &list.try_clone(world.alloc)?, out),
         None => put_line(out, None),
     }
+}
+
+fn put_infos(
+    world: &World<'_>,
+    list: &UnifiedMemoryInfoList<'_>,
+    out: &mut Told<Device>,
+) -> Result<(), Error> {
+    list.print(world.alloc, out)?;
+    for region in list.iter() {
+        region.print(world.alloc, out)?;
+    }
+    Ok(())
 }
 
 /// Reads a line of maps.

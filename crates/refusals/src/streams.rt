@@ -1,16 +1,11 @@
 use crate::device::Device;
-use crate::world::World;
+use crate::world::{World, stream};
 use minidump::format::MINIDUMP_STREAM_TYPE::{self, *};
 use minidump::{
     Error, MinidumpHandleDataStream, MinidumpLinuxMaps, MinidumpMacBootargs, MinidumpMacCrashInfo,
-    MinidumpMemoryInfoList, MinidumpModuleList, MinidumpStream, MinidumpSystemInfo,
-    MinidumpThreadNames, MinidumpUnloadedModuleList, StabilityReport, Told, each_stream,
+    MinidumpMemoryInfoList, MinidumpModuleList, MinidumpSystemInfo, MinidumpThreadNames,
+    MinidumpUnloadedModuleList, StabilityReport, Told, each_stream,
 };
-
-// Reads a stream.
-fn stream<'a, S: MinidumpStream<'a>>(world: &World<'a>) -> Result<S, Error> {
-    world.dump.get_stream(world.alloc)
-}
 
 /// Reads the stream of a type, and prints it.
 pub fn show(

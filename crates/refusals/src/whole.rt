@@ -1,4 +1,5 @@
 use crate::device::Device;
+use crate::records::put_text;
 use crate::world::{World, put, put_line};
 use minidump::{
     CodeNames, Error, Minidump, MinidumpModuleList, MinidumpThreadNames, Module, Told, read_all,
@@ -9,10 +10,16 @@ use minidump::{
 pub fn read(world: &World<'_>, out: &mut Told<Device>) -> Result<(), Error> {
     let dump = Minidump::read(world.alloc, world.bytes)?;
     dump.print(world.alloc, out)?;
-    let modules = dump.get_stream::<MinidumpModuleList>(world.alloc)?;
+    put_versions(world, &dump.get_stream(world.alloc)?, out)
+}
+
+fn put_versions(
+    world: &World<'_>,
+    modules: &MinidumpModuleList,
+    out: &mut Told<Device>,
+) -> Result<(), Error> {
     for module in modules.iter() {
-        let version = module.version(world.alloc)?;
-        put_line(out, version.as_ref().map(|text| text.as_str()))?;
+        put_text(&module.version(world.alloc)?, out)?;
     }
     Ok(())
 }

@@ -1,5 +1,5 @@
 use crate::device::Device;
-use minidump::{Error, Minidump, MinidumpSystemInfo, Told, UnifiedMemoryList};
+use minidump::{Error, Minidump, MinidumpStream, MinidumpSystemInfo, Told, UnifiedMemoryList};
 use std::alloc::Global;
 
 /// The dump that the calls are made on, and what some of them are passed.
@@ -38,6 +38,11 @@ impl<'a> World<'a> {
             memory,
         })
     }
+}
+
+/// Reads a stream.
+pub fn stream<'a, S: MinidumpStream<'a>>(world: &World<'a>) -> Result<S, Error> {
+    world.dump.get_stream(world.alloc)
 }
 
 /// Writes bytes.
