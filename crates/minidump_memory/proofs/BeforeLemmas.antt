@@ -1,10 +1,9 @@
 -- What stands before the first byte of a kind: digits, and the letters of permissions.
-use Rattle.std.proofs.Common.{◌≡◌, ◌≢◌, ℕ, zero, suc, ◌+◌, ◌*◌, ◌^◌, ◌<◌, ◌≤◌, Bool, true, false, List, [], ◌∷◌, ◌++◌, length, get_or, take, drop, Option}
+use Rattle.std.proofs.Common.{◌≡◌, ◌≢◌, ℕ, zero, suc, ◌+◌, ◌*◌, ◌^◌, ◌<◌, ◌≤◌, false, List, [], ◌∷◌, ◌++◌, length, get_or, take, drop, Option}
 use Rattle.std.proofs.Common.{Some, None, ap, arith, refl, sym, subst, ◌∙◌, take-append-drop}
-use Rattle.std.specs.Prelude.{◌==◌, ◌||◌}
+use Rattle.std.specs.Prelude.{◌==◌}
 use Rattle.std.specs.Char.{digit_value}
 use Rattle.std.specs.List.{list_any}
-use Rattle.std.specs.Option.{option_map}
 use Rattle.std.specs.Str.Parse.{AllDigits, digits_value}
 use Rattle.std.proofs.lemmas.Bool.{ne_eqb}
 use Rattle.std.proofs.lemmas.List.{drop_more, take_all, take_more}
@@ -15,7 +14,7 @@ use Rattle.minidump_bytes.specs.LinuxOsStr.{cut_first}
 use Rattle.minidump_memory.proofs.OptionLemmas.{given, some_same}
 use Rattle.minidump_memory.proofs.SeparatorLemmas.{cut_is, is_cut}
 use Rattle.minidump_memory.specs.MapLine.{IsCut, Lacks, and_then}
-use Rattle.minidump_memory.specs.MapParts.{number_before, permissions_before}
+use Rattle.minidump_memory.specs.MapParts.{number_before}
 
 -- ---- bytes that are lacking
 lacks_push : (byte x : ℕ) (xs : List ℕ) → Lacks byte xs → x ≢ byte → Lacks byte (xs ++ x ∷ [])

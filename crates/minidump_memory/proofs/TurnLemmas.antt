@@ -9,7 +9,7 @@ use Rattle.minidump_memory.proofs.GrammarLemmas.{fields_spell, spelled_fields}
 use Rattle.minidump_memory.proofs.OptionLemmas.{given, some_same}
 use Rattle.minidump_memory.proofs.PathLemmas.{letters_spell, path_spells, spelled_letters, spelled_path}
 use Rattle.minidump_memory.proofs.SeparatorLemmas.{cut_is, is_cut}
-use Rattle.minidump_memory.specs.MapLine.{AreFields, AreTwo, IsCut, Lacks, MapPath, MapRegion, fields_in, path_in, permissions}
+use Rattle.minidump_memory.specs.MapLine.{AreFields, AreTwo, IsCut, Lacks, MapRegion, fields_in, path_in, permissions}
 use Rattle.minidump_memory.specs.MapParts.{fields_in_turn, number_before, permissions_before}
 
 -- ---- two numbers, and the space after them

@@ -1,5 +1,5 @@
 -- A text that doesn't begin with a bracket is a segment of shared memory, or a path.
-use Rattle.std.proofs.Common.{◌≡◌, ◌≢◌, ◌<◌, ◌∙◌, arith, get_or, length, sym}
+use Rattle.std.proofs.Common.{◌≢◌, ◌∙◌, get_or, sym}
 use Rattle.minidump_memory.proofs.PathLemmas.{nothing_is_mapped, plain_is}
 use Rattle.minidump_memory.proofs.map_line.path_in.Goals as goal
 

@@ -1,7 +1,6 @@
 -- One byte more: it ends the number, is a digit of it, or shows that there is none.
-use Rattle.std.proofs.Common.{◌≡◌, ◌≢◌, ◌<◌, ◌∙◌, arith, get_or, inl, inr, length, sym}
+use Rattle.std.proofs.Common.{◌≡◌, ◌≢◌, ◌<◌, arith, get_or, length, sym}
 use Rattle.std.specs.Char.{digit_value}
-use Rattle.std.proofs.lemmas.Bool.{cases_lt}
 use Rattle.std.proofs.lemmas.Int.Digits.{digits_more}
 use Rattle.std.proofs.lemmas.Str.{IsCharBoundary-after_ascii}
 use Rattle.minidump_bytes.proofs.DigitLemmas.{number_next}
@@ -30,46 +29,42 @@ returns-then-next-byte c =
     rw c.range_from.ensures.value (sym (before_found c.args.base c.args.byte text c.loop-at.at c.loop-at.invariant.lacks c.loop-at.value lt here
     (omega (arith, c.if-at-eq0.false)) c.loop-at.invariant.digits c.loop-at.invariant.value c.loop-at.invariant.fits))
 
-pub returns-in_err-digit : goal.returns-in_err-digit
-returns-in_err-digit c =
+pub returns-then-digit-base : goal.returns-then-digit-base
+returns-then-digit-base c =
     let text = c.args.text.now in
     let other : get_or text c.loop-at.at 0 ≢ c.args.byte = rw c.as_bytes-next-items.ensures.value at c.if-next-byte.false in
-    let no_digit = rw c.as_bytes-next-items.ensures.value at c.in_err-digit.ensures.value in
-    rw c.from_residual.ensures (sym (before_no_digit c.args.base c.args.byte text c.loop-at.at c.loop-at.invariant.lacks other
-    (elim (cases_lt (digit_value (get_or text c.loop-at.at 0)) c.args.base) [
-      | inl lt ↦ absurd (no_digit lt)
-      | inr ge ↦ ge
-    ])))
+    let digit : c.digit_of-digit.result ≡ digit_value (get_or text c.loop-at.at 0) = rw c.as_bytes-next-items.ensures.value at c.digit_of-digit.ensures in
+    sym (before_no_digit c.args.base c.args.byte text c.loop-at.at c.loop-at.invariant.lacks other (omega (arith, digit, c.if-digit-base.true)))
 
 pub returns-in_err-checked_mul : goal.returns-in_err-checked_mul
 returns-in_err-checked_mul c =
     let text = c.args.text.now in
     let other : get_or text c.loop-at.at 0 ≢ c.args.byte = rw c.as_bytes-next-items.ensures.value at c.if-next-byte.false in
-    let digit = rw c.as_bytes-next-items.ensures.value at c.in_ok-digit.ensures.value in
+    let digit : c.digit_of-digit.result ≡ digit_value (get_or text c.loop-at.at 0) = rw c.as_bytes-next-items.ensures.value at c.digit_of-digit.ensures in
     let large = c.in_err-checked_mul.ensures in
-    rw c.from_residual-in_err-checked_mul.ensures (sym (before_past c.args.base c.args.byte text c.loop-at.at c.loop-at.invariant.lacks
-    c.loop-at.value c.in_ok-digit.digit (omega (arith, c.requires.low)) other c.loop-at.invariant.value digit.1 (omega (arith, large))))
+    rw c.from_residual.ensures (sym (before_past c.args.base c.args.byte text c.loop-at.at c.loop-at.invariant.lacks
+    c.loop-at.value c.digit_of-digit.result (omega (arith, c.requires.low)) other c.loop-at.invariant.value digit (omega (arith, large))))
 
 pub returns-in_err-value : goal.returns-in_err-value
 returns-in_err-value c =
     let text = c.args.text.now in
     let other : get_or text c.loop-at.at 0 ≢ c.args.byte = rw c.as_bytes-next-items.ensures.value at c.if-next-byte.false in
-    let digit = rw c.as_bytes-next-items.ensures.value at c.in_ok-digit.ensures.value in
+    let digit : c.digit_of-digit.result ≡ digit_value (get_or text c.loop-at.at 0) = rw c.as_bytes-next-items.ensures.value at c.digit_of-digit.ensures in
     let large = c.in_err-value.ensures in
     let product = c.in_ok-checked_mul.ensures.1 in
     rw c.from_residual-in_err-value.ensures (sym (before_past c.args.base c.args.byte text c.loop-at.at c.loop-at.invariant.lacks
-    c.loop-at.value c.in_ok-digit.digit (omega (arith, c.requires.low)) other c.loop-at.invariant.value digit.1 (omega (arith, large, product))))
+    c.loop-at.value c.digit_of-digit.result (omega (arith, c.requires.low)) other c.loop-at.invariant.value digit (omega (arith, large, product))))
 
 pub loop-at-preserved : goal.loop-at-preserved
 loop-at-preserved c =
     let text = c.args.text.now in
     let lt : c.loop-at.at < length text = omega (arith, c.loop-at-test.true, c.as_bytes-next-items.ensures.len) in
     let other : get_or text c.loop-at.at 0 ≢ c.args.byte = rw c.as_bytes-next-items.ensures.value at c.if-next-byte.false in
-    let digit = rw c.as_bytes-next-items.ensures.value at c.in_ok-digit.ensures.value in
+    let digit : c.digit_of-digit.result ≡ digit_value (get_or text c.loop-at.at 0) = rw c.as_bytes-next-items.ensures.value at c.digit_of-digit.ensures in
     record {
-      value = number_next c.args.base text c.loop-at.at c.loop-at.value c.in_ok-digit.digit _ _ lt c.loop-at.invariant.value digit.1
+      value = number_next c.args.base text c.loop-at.at c.loop-at.value c.digit_of-digit.result _ _ lt c.loop-at.invariant.value digit
           c.in_ok-checked_mul.ensures.1 c.in_ok-value.ensures.1;
-      digits = digits_more c.args.base text c.loop-at.at lt c.loop-at.invariant.digits digit.0;
+      digits = digits_more c.args.base text c.loop-at.at lt c.loop-at.invariant.digits (omega (arith, digit, c.if-digit-base.false));
       fits = rw c.in_ok-value.ensures.1 c.in_ok-value.ensures.0;
       lacks = lacks_more c.args.byte text c.loop-at.at lt c.loop-at.invariant.lacks other;
     }

@@ -1,5 +1,5 @@
 -- The letters before the space are those so far, and the text goes on after it.
-use Rattle.std.proofs.Common.{◌≡◌, ◌<◌, arith, get_or, length, refl, sym}
+use Rattle.std.proofs.Common.{◌≡◌, ◌<◌, arith, get_or, length, refl}
 use Rattle.std.proofs.lemmas.Str.{IsCharBoundary-after_ascii}
 use Rattle.minidump_memory.proofs.BeforeLemmas.{cut_here, no_cut}
 use Rattle.minidump_memory.specs.MapLine.{permissions}
