@@ -292,7 +292,7 @@ pub fn address_of(
     Some(exception.get_crash_address(system.os, system.cpu))
 }
 
-/// Returns the reason of a crash in words, or `None` without system information, which takes no
+/// Returns the reason of a crash in words, or `None` without system information, and then takes no
 /// memory. The only error is [`Error::OutOfMemory`].
 pub fn reason_of(
     alloc: Global,

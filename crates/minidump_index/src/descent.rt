@@ -5,8 +5,8 @@
 //!   lines. It makes one comparison a level and no branch on its result, so it takes the same steps
 //!   whatever the address, but for the last level, where the tree may lack the slot that the search
 //!   comes to. That pays at every size.
-//! - Entries have 16 bytes where all ranges fit ([`Small`](crate::stored::Small)), so four stand in
-//!   a cache line. Entries of 24 bytes ([`Wide`](crate::stored::Wide)) take a tenth longer at 1,000
+//! - Entries have 16 bytes where all ranges of the list fit ([`Small`](crate::stored::Small)), so
+//!   four stand in a cache line. Entries of 24 bytes ([`Wide`](crate::stored::Wide)) take a tenth longer at 1,000
 //!   regions, and a third longer from 100,000 on.
 //! - Entries three levels below are read in advance (`bits_below`), so that they come from memory
 //!   while the levels between are compared. It costs up to 4 ns below 10,000 regions, and saves a

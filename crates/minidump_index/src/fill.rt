@@ -57,7 +57,8 @@ fn follows(before: Option<Range>, range: Range) -> bool
 }
 
 // Fills a tree with the ranges of regions as they stand, if each region has a range that fits and
-// that ends before the next one starts. Tells whether it did so; if not, the tree has any entries.
+// that ends before the next one starts. Tells whether it did so; if not, the entries of the tree are
+// unspecified.
 fn put_in_order<S: Stored, R: Region>(tree: &mut Vec<S>, regions: &[R]) -> bool
     requires { length tree.old.items ≡ length regions.now }
     ensures { IsTrue result

@@ -82,14 +82,17 @@ copied_bytes (pdb20 s offset signature age name) = name
 copied_bytes (elf s id) = id
 copied_bytes (unknown bytes) = bytes
 
+-- a record has bytes to copy
+abbrev pub CopiesBytes : View → Type 0
+CopiesBytes view = 0 < length (copied_bytes view)
+
 -- the read of a record takes memory: it is well-formed, and has bytes to copy
 abbrev pub RecordTakesMemory : Result View Error → Type 0
-RecordTakesMemory read = IsOkAnd read (λ view. 0 < length (copied_bytes view))
+RecordTakesMemory read = IsOkAnd read CopiesBytes
 
 -- the read of a record at a location takes memory: there is one, with bytes to copy
 abbrev pub ViewTakesMemory : Result (Option View) Error → Type 0
-ViewTakesMemory read =
-    IsOkAnd read (λ found. IsSomeAnd found (λ view. 0 < length (copied_bytes view)))
+ViewTakesMemory read = IsOkAnd read (λ found. IsSomeAnd found CopiesBytes)
 
 -- the reads that a record takes: one for its signature, and one for each field; a record of an
 -- unknown kind has one field, all of its bytes

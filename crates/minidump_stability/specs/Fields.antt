@@ -14,13 +14,15 @@ each value (x ∷ xs) = option_and_then (λ y. option_map (λ ys. y ∷ ys) (eac
 abbrev pub both : {A B : Type 0} → Option A → Option B → Option (A × B)
 both a b = option_and_then (λ x. option_map (λ y. (x, y)) b) a
 
--- the first of the values
+-- the first value that an item has
 abbrev pub first : {A B : Type 0} → (A → Option B) → List A → Option B
 first value [] = None
 first value (x ∷ xs) = option_or (value x) (first value xs)
 
 -- ---- the fields as a function: by the law `fields_are_what_bytes_spell`, bytes spell exactly these
--- a cut of bytes, and a byte before them: it is a piece of its own, or begins the first piece
+
+-- the cuts of a byte and what follows it, by a cut of what follows: the byte is a piece of its own,
+-- or begins the first piece
 abbrev pub with_byte : ℕ → List (List ℕ) → List (List (List ℕ))
 with_byte b [] = ((b ∷ []) ∷ []) ∷ []
 with_byte b (piece ∷ pieces) = ((b ∷ []) ∷ piece ∷ pieces) ∷ ((b ∷ piece) ∷ pieces) ∷ []
