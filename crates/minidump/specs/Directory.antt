@@ -16,7 +16,9 @@ directory order bytes h = entries directory_entry order bytes h.stream_directory
 -- every entry is in the file; it may lie in the header too. Where there is none, the offset of the
 -- directory may be any
 abbrev pub is_readable : List ℕ → MINIDUMP_HEADER → Bool
-is_readable bytes h = h.stream_count == 0 || nat_le (h.stream_directory_rva + directory_entry.size * h.stream_count) (length bytes)
+is_readable bytes h =
+    h.stream_count == 0
+    || nat_le (h.stream_directory_rva + directory_entry.size * h.stream_count) (length bytes)
 
 -- the entries, each with its index
 abbrev pub with_indices : List MINIDUMP_DIRECTORY → List DecidingEntry

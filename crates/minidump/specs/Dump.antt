@@ -1,10 +1,12 @@
 -- A minidump without its addresses in memory: which files are one, and what their streams are.
-use Rattle.std.specs.Prelude.{◌≡◌, ◌⊎◌, ℕ, ◌+◌, ◌^◌, ◌<◌, List, Option, Some, None, Result, Ok, Err, IsOkAnd, if◌then◌else◌}
+use Rattle.std.specs.Prelude.{◌≡◌, ◌⊎◌, ℕ, ◌+◌, ◌^◌, ◌<◌, List, Option, Some, None, Result, Ok, Err, IsOkAnd}
+use Rattle.std.specs.Prelude.{if◌then◌else◌}
 use Rattle.std.specs.Option.{option_map}
 use Rattle.std.specs.Result.{result_ok}
 use Rattle.minidump_bytes.specs.declared.endian.Endian.{Endian}
 use Rattle.minidump_format.specs.declared.error.Error.{Error}
-use Rattle.minidump_format.specs.declared.error.Error.TheVariants.{MissingDirectory, OutOfMemory, StreamNotFound, StreamReadFailure}
+use Rattle.minidump_format.specs.declared.error.Error.TheVariants.{MissingDirectory, OutOfMemory}
+use Rattle.minidump_format.specs.declared.error.Error.TheVariants.{StreamNotFound, StreamReadFailure}
 use Rattle.minidump_format.specs.declared.format.header.MINIDUMP_HEADER.{MINIDUMP_HEADER}
 use Rattle.minidump_format.specs.declared.format.stream_type.MINIDUMP_STREAM_TYPE.TheVariants.{SystemInfoStream}
 use Rattle.minidump_format.specs.Header.{located}
@@ -25,7 +27,9 @@ pub record Dump : Type 0 where
 -- the minidump of a header, where each entry of the directory lies in the file
 abbrev with_header : List ℕ → Result (Endian × MINIDUMP_HEADER) Error → Result Dump Error
 with_header file (Err e) = Err e
-with_header file (Ok h) = if is_readable file h.1 then Ok (record { file = file; order = h.0; header = h.1 }) else Err MissingDirectory
+with_header file (Ok h) =
+    if is_readable file h.1 then Ok (record { file = file; order = h.0; header = h.1 })
+    else Err MissingDirectory
 
 -- the minidump that a file is, or the first error: that of its header, or of an entry outside the
 -- file
@@ -79,7 +83,9 @@ dump_system d = result_ok (stream_with None (number_of SystemInfoStream) system_
 
 -- where reading that system information may run out of memory
 abbrev pub system_memory : Dump → Type 0
-system_memory d = IsOkAnd (raw_stream (number_of SystemInfoStream) d) (λ bytes. system_info_stream.memory d.order d.file bytes None)
+system_memory d =
+    IsOkAnd (raw_stream (number_of SystemInfoStream) d)
+    (λ bytes. system_info_stream.memory d.order d.file bytes None)
 
 -- how many of the three are read: the span of the stream, MINIDUMP_SYSTEM_INFO and the text of the
 -- service pack
@@ -117,4 +123,5 @@ IsStreamOf spec d result = Gives spec.value (stream_memory spec d) result (strea
 
 -- a result is that stream, or none where it is missing or malformed; or memory ran out where it may
 abbrev pub IsFoundStream : {S V : Type 0} → StreamSpec S V → Dump → Result (Option S) Error → Type 0
-IsFoundStream spec d result = Gives (option_map spec.value) (stream_memory spec d) result (Ok (result_ok (stream_of spec d)))
+IsFoundStream spec d result =
+    Gives (option_map spec.value) (stream_memory spec d) result (Ok (result_ok (stream_of spec d)))

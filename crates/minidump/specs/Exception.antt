@@ -1,6 +1,7 @@
 -- The exception of a minidump: Microsoft's MINIDUMP_EXCEPTION_STREAM, with the address of the
 -- crash.
-use Rattle.std.specs.Prelude.{ℕ, ◌%◌, ◌^◌, ◌==◌, ◌||◌, ◌&&◌, nat_le, Bool, false, List, [], ◌∷◌, ◌++◌, slice_index, Option, Some, None, Result, Ok}
+use Rattle.std.specs.Prelude.{ℕ, ◌%◌, ◌^◌, ◌==◌, ◌||◌, ◌&&◌, nat_le, Bool, false, List, [], ◌∷◌, ◌++◌}
+use Rattle.std.specs.Prelude.{slice_index, Option, Some, None, Result, Ok}
 use Rattle.std.specs.Prelude.{codes, if◌then◌else◌, min, take}
 use Rattle.std.specs.Fmt.{decimal}
 use Rattle.std.specs.List.{concat, enumerate_from, flat_map}
@@ -46,18 +47,26 @@ exception_of e = record { raw = e.raw; thread_id = e.thread_id; context = option
 
 -- the exception of a record: a context whose bytes are not in the file is absent
 abbrev pub exception_at : Endian → List ℕ → MINIDUMP_EXCEPTION_STREAM → Exception
-exception_at order file raw = record { raw = raw; thread_id = raw.thread_id; context = located file raw.thread_context; order = order }
+exception_at order file raw = record {
+  raw = raw;
+  thread_id = raw.thread_id;
+  context = located file raw.thread_context;
+  order = order;
+}
 
 -- Microsoft's MINIDUMP_EXCEPTION_STREAM: one record
 abbrev pub exception_in : Endian → List ℕ → List ℕ → Result Exception Error
 exception_in order file bytes =
-    and_then (ok_or (record_at exception_layout order 0 bytes) StreamReadFailure) (λ raw. Ok (exception_at order file raw))
+    and_then (ok_or (record_at exception_layout order 0 bytes) StreamReadFailure)
+    (λ raw. Ok (exception_at order file raw))
 
 -- EXCEPTION_ACCESS_VIOLATION and EXCEPTION_IN_PAGE_ERROR of winnt.h, whose second parameter is the
 -- address that was accessed. Any number of parameters from two on has a second one, also one above
 -- 15
 abbrev has_address : Os → MINIDUMP_EXCEPTION → Bool
-has_address Windows r = (r.exception_code == 0xc0000005 || r.exception_code == 0xc0000006) && nat_le 2 r.number_parameters
+has_address Windows r =
+    (r.exception_code == 0xc0000005 || r.exception_code == 0xc0000006)
+    && nat_le 2 r.number_parameters
 has_address _ r = false
 
 -- an address in as many bits as a pointer has, and whole where that is unknown
@@ -67,7 +76,9 @@ as_wide _ address = address
 
 -- the address of a crash: the one that was accessed, else the one at which the exception happened
 abbrev pub crash_address : Os → Cpu → MINIDUMP_EXCEPTION → ℕ
-crash_address os cpu r = as_wide (width_of cpu) (if has_address os r then slice_index r.exception_information 1 else r.exception_address)
+crash_address os cpu r =
+    as_wide (width_of cpu)
+    (if has_address os r then slice_index r.exception_information 1 else r.exception_address)
 
 -- the stream of type ExceptionStream
 abbrev pub exception_stream : StreamSpec MinidumpException Exception
@@ -95,11 +106,14 @@ exception_head thread_id r = concat (
 -- one of the parameters, of which there are at most 15 whatever their number says
 unfoldable pub parameter_line : ℕ → ℕ → List ℕ
 parameter_line index value =
-    concat (codes "  exception_record.exception_information[" ∷ right 2 (decimal index) ∷ codes "] = " ∷ hex value ∷ codes "\n" ∷ [])
+    concat (codes "  exception_record.exception_information[" ∷ right 2 (decimal index)
+    ∷ codes "] = " ∷ hex value ∷ codes "\n" ∷ [])
 
 -- a line for each of the exception's parameters: NumberParameters of them, at most 15
 unfoldable pub parameter_lines : MINIDUMP_EXCEPTION → List ℕ
-parameter_lines r = flat_map (λ p. parameter_line p.0 p.1) (enumerate_from 0 (take (min r.number_parameters 15) r.exception_information))
+parameter_lines r =
+    flat_map (λ p. parameter_line p.0 p.1)
+    (enumerate_from 0 (take (min r.number_parameters 15) r.exception_information))
 
 -- the location of the context
 unfoldable pub location_lines : MINIDUMP_LOCATION_DESCRIPTOR → List ℕ
@@ -122,7 +136,8 @@ exception_context_text None = no_exception_context
 abbrev pub exception_with : Exception → Option MinidumpRawContext → List ℕ
 exception_with e context =
     exception_head e.thread_id e.raw.exception_record
-    ++ (parameter_lines e.raw.exception_record ++ (location_lines e.raw.thread_context ++ exception_context_text context))
+    ++ (parameter_lines e.raw.exception_record
+    ++ (location_lines e.raw.thread_context ++ exception_context_text context))
 
 -- the printed text of an exception
 abbrev pub exception_text : Option System → Exception → List ℕ

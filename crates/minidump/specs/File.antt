@@ -47,13 +47,15 @@ abbrev pub IsLater : {F : Type 0} → (F → Option (List ℕ)) → F → F → 
 IsLater left old new = (given : List ℕ) × Consumes (left old) (left new) given
 
 -- the path was opened, and the file has failed as it was read
-abbrev pub IsUnreadable : {F : Type 0} → (List ℕ → Option F → Type 0) → (F → Option (List ℕ)) → (F → Bool) → List ℕ → Type 0
-IsUnreadable {F} opens left failed path = IsOfFile opens path (λ file. (later : F) × IsLater left file later × (failed later ≡ true))
+abbrev pub IsUnreadable : {F : Type 0} → (List ℕ → Option F → Type 0) → (F → Option (List ℕ)) → (F → Bool)
+    → List ℕ → Type 0
+IsUnreadable {F} opens left failed path =
+    IsOfFile opens path (λ file. (later : F) × IsLater left file later × (failed later ≡ true))
 
 -- What reading a file leaves in the vector. If it can't be opened, nothing is read, and the vector
 -- stays. After a read that failed, or found no memory, it is empty
-abbrev pub ReadsFile : {F : Type 0} → (List ℕ → Option F → Type 0) → (F → Option (List ℕ)) → (F → Bool) → List ℕ → List ℕ → List ℕ
-    → Result (Unit {0}) Error → Type 0
+abbrev pub ReadsFile : {F : Type 0} → (List ℕ → Option F → Type 0) → (F → Option (List ℕ)) → (F → Bool)
+    → List ℕ → List ℕ → List ℕ → Result (Unit {0}) Error → Type 0
 ReadsFile opens left failed path old new (Ok _) = IsFile opens left path new
 ReadsFile opens left failed path old new (Err FileNotFound) = opens path None × (new ≡ old)
 ReadsFile opens left failed path old new (Err IoError) = IsUnreadable opens left failed path × (new ≡ [])
@@ -62,13 +64,15 @@ ReadsFile opens left failed path old new (Err _) = ⊥
 
 -- the errors of reading a path: it can't be opened, a read failed, memory ran out, or the bytes of
 -- the file are no minidump
-abbrev pub IsPathError : {F : Type 0} → (List ℕ → Option F → Type 0) → (F → Option (List ℕ)) → (F → Bool) → List ℕ → Error → Type 0
+abbrev pub IsPathError : {F : Type 0} → (List ℕ → Option F → Type 0) → (F → Option (List ℕ)) → (F → Bool)
+    → List ℕ → Error → Type 0
 IsPathError opens left failed path FileNotFound = opens path None
 IsPathError opens left failed path IoError = IsUnreadable opens left failed path
 IsPathError opens left failed path OutOfMemory = IsOfFile opens path (λ _. ⊤)
 IsPathError opens left failed path e = IsOfFile opens path (λ file. IsReaderError left file e)
 
 -- what reading a path returns: the minidump that the file is, or why there is none
-abbrev pub ReadsPath : {F : Type 0} → (List ℕ → Option F → Type 0) → (F → Option (List ℕ)) → (F → Bool) → List ℕ → Result Minidump Error → Type 0
+abbrev pub ReadsPath : {F : Type 0} → (List ℕ → Option F → Type 0) → (F → Option (List ℕ)) → (F → Bool)
+    → List ℕ → Result Minidump Error → Type 0
 ReadsPath opens left failed path (Ok d) = IsFileDump opens left path (dump_of d)
 ReadsPath opens left failed path (Err e) = IsPathError opens left failed path e

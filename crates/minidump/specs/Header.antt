@@ -1,6 +1,7 @@
 -- Which bytes begin with the header of a minidump, in which byte order, and the errors of all
 -- others.
-use Rattle.std.specs.Prelude.{ℕ, ◌%◌, ◌^◌, List, length, slice_range, Option, Some, None, Result, Ok, Err, nat_lt, ◌==◌, if◌then◌else◌}
+use Rattle.std.specs.Prelude.{ℕ, ◌%◌, ◌^◌, List, length, slice_range, Option, Some, None, Result, Ok, Err}
+use Rattle.std.specs.Prelude.{nat_lt, ◌==◌, if◌then◌else◌}
 use Rattle.minidump_bytes.specs.declared.endian.Endian.{Endian}
 use Rattle.minidump_bytes.specs.declared.endian.Endian.TheVariants.{Little, Big}
 use Rattle.minidump_format.specs.declared.error.Error.{Error}

@@ -11,8 +11,8 @@ use Rattle.minidump.specs.Promise.{memory_list_stream, memory64_list_stream}
 
 -- the 64-bit list; the memory list where that one is missing or malformed; none where both are. A
 -- 64-bit list that was read hides the memory list also where it does not have an address
-abbrev first_found : Result (List (MemoryRegion MINIDUMP_MEMORY_DESCRIPTOR64)) Error → Result (List (MemoryRegion MINIDUMP_MEMORY_DESCRIPTOR)) Error
-    → Option UnifiedRegions
+abbrev first_found : Result (List (MemoryRegion MINIDUMP_MEMORY_DESCRIPTOR64)) Error
+    → Result (List (MemoryRegion MINIDUMP_MEMORY_DESCRIPTOR)) Error → Option UnifiedRegions
 first_found (Ok long) plain = Some (Memory64 long)
 first_found (Err _) (Ok plain) = Some (Memory plain)
 first_found (Err _) (Err _) = None
@@ -25,4 +25,6 @@ memories_of_dump d =
 
 -- the 64-bit list takes memory, or it is missing or malformed and the memory list does
 abbrev pub TakesMemory : Dump → Type 0
-TakesMemory d = stream_memory memory64_list_stream d ⊎ ((result_ok (stream_of memory64_list_stream d) ≡ None) × stream_memory memory_list_stream d)
+TakesMemory d =
+    stream_memory memory64_list_stream d
+    ⊎ ((result_ok (stream_of memory64_list_stream d) ≡ None) × stream_memory memory_list_stream d)

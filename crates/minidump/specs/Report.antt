@@ -14,11 +14,16 @@ use Rattle.minidump.specs.Memory.{memories_of_dump}
 use Rattle.minidump.specs.Text.{dump_text, stream_type_name}
 use Rattle.minidump.specs.declared.report.Section.{Section}
 use Rattle.minidump.specs.declared.report.Section.TheVariants as part
-use Rattle.minidump.specs.Promise.{assertion_stream, breakpad_info_stream, crashpad_info_stream, exception_stream, handle_data_stream, linux_cpu_info_stream}
-use Rattle.minidump.specs.Promise.{linux_environ_stream, linux_lsb_release_stream, linux_maps_stream, linux_proc_limits_stream, linux_proc_status_stream}
-use Rattle.minidump.specs.Promise.{mac_bootargs_stream, mac_crash_info_stream, memory64_list_stream, memory_info_list_stream, memory_list_stream}
-use Rattle.minidump.specs.Promise.{misc_info_stream, module_list_stream, soft_errors_stream, stability_report_stream, system_info_stream}
-use Rattle.minidump.specs.Promise.{thread_info_list_stream, thread_list_stream, thread_names_stream, unloaded_module_list_stream}
+use Rattle.minidump.specs.Promise.{assertion_stream, breakpad_info_stream, crashpad_info_stream}
+use Rattle.minidump.specs.Promise.{exception_stream, handle_data_stream, linux_cpu_info_stream}
+use Rattle.minidump.specs.Promise.{linux_environ_stream, linux_lsb_release_stream, linux_maps_stream}
+use Rattle.minidump.specs.Promise.{linux_proc_limits_stream, linux_proc_status_stream}
+use Rattle.minidump.specs.Promise.{mac_bootargs_stream, mac_crash_info_stream, memory64_list_stream}
+use Rattle.minidump.specs.Promise.{memory_info_list_stream, memory_list_stream}
+use Rattle.minidump.specs.Promise.{misc_info_stream, module_list_stream, soft_errors_stream}
+use Rattle.minidump.specs.Promise.{stability_report_stream, system_info_stream}
+use Rattle.minidump.specs.Promise.{thread_info_list_stream, thread_list_stream, thread_names_stream}
+use Rattle.minidump.specs.Promise.{unloaded_module_list_stream}
 use Rattle.minidump.specs.Exception.{exception_text}
 use Rattle.minidump.specs.ThreadText.{thread_list_text}
 use Rattle.minidump_memory.specs.InfoText.{memory_info_list_text, linux_maps_text}
@@ -29,7 +34,9 @@ use Rattle.minidump_records.specs.BootArgs.{mac_bootargs_text}
 use Rattle.minidump_records.specs.BreakpadInfo.{breakpad_info_text}
 use Rattle.minidump_records.specs.Crashpad.Text.{crashpad_info_text}
 use Rattle.minidump_records.specs.Handles.{handle_data_text}
-use Rattle.minidump_records.specs.Linux.Text.{linux_cpu_info_text, linux_proc_status_text, linux_lsb_release_text, linux_environ_text, linux_proc_limits_text}
+use Rattle.minidump_records.specs.Linux.Text.{linux_cpu_info_text, linux_proc_status_text}
+use Rattle.minidump_records.specs.Linux.Text.{linux_lsb_release_text, linux_environ_text}
+use Rattle.minidump_records.specs.Linux.Text.{linux_proc_limits_text}
 use Rattle.minidump_records.specs.MacCrashInfo.Text.{mac_crash_info_text}
 use Rattle.minidump_records.specs.SoftErrors.{soft_errors_text}
 use Rattle.minidump_records.specs.ThreadInfo.{thread_info_list_text}
@@ -69,7 +76,8 @@ abbrev pub section_text : Dump → Section → List ℕ
 section_text dump part.SystemInfoStream = section system_info_stream system_info_text dump
 section_text dump part.MiscInfoStream = section misc_info_stream misc_info_text dump
 section_text dump part.ExceptionStream = section exception_stream (exception_text (dump_system dump)) dump
-section_text dump part.ThreadListStream = section thread_list_stream (thread_list_text (memories_of_dump dump) (dump_system dump) false) dump
+section_text dump part.ThreadListStream =
+    section thread_list_stream (thread_list_text (memories_of_dump dump) (dump_system dump) false) dump
 section_text dump part.ThreadNamesStream = section thread_names_stream thread_names_text dump
 section_text dump part.ThreadInfoListStream = section thread_info_list_stream thread_info_list_text dump
 section_text dump part.ModuleListStream = section module_list_stream module_list_text dump
@@ -95,11 +103,14 @@ section_text dump part.StabilityReportStream = section stability_report_stream s
 -- the types of stream in the order of the report
 abbrev pub sections : List Section
 sections =
-    part.SystemInfoStream ∷ part.MiscInfoStream ∷ part.ExceptionStream ∷ part.ThreadListStream ∷ part.ThreadNamesStream ∷
-    part.ThreadInfoListStream ∷ part.ModuleListStream ∷ part.UnloadedModuleListStream ∷ part.Memory64ListStream ∷ part.MemoryListStream ∷
-    part.MemoryInfoListStream ∷ part.LinuxMaps ∷ part.HandleDataStream ∷ part.BreakpadInfoStream ∷ part.AssertionInfoStream ∷
-    part.CrashpadInfoStream ∷ part.MozMacosCrashInfoStream ∷ part.MozMacosBootargsStream ∷ part.LinuxCpuInfo ∷ part.LinuxProcStatus ∷
-    part.LinuxLsbRelease ∷ part.LinuxEnviron ∷ part.MozLinuxLimits ∷ part.MozSoftErrors ∷ part.StabilityReportStream ∷ []
+    part.SystemInfoStream ∷ part.MiscInfoStream ∷ part.ExceptionStream
+    ∷ part.ThreadListStream ∷ part.ThreadNamesStream ∷ part.ThreadInfoListStream
+    ∷ part.ModuleListStream ∷ part.UnloadedModuleListStream
+    ∷ part.Memory64ListStream ∷ part.MemoryListStream ∷ part.MemoryInfoListStream ∷ part.LinuxMaps
+    ∷ part.HandleDataStream ∷ part.BreakpadInfoStream ∷ part.AssertionInfoStream ∷ part.CrashpadInfoStream
+    ∷ part.MozMacosCrashInfoStream ∷ part.MozMacosBootargsStream
+    ∷ part.LinuxCpuInfo ∷ part.LinuxProcStatus ∷ part.LinuxLsbRelease ∷ part.LinuxEnviron
+    ∷ part.MozLinuxLimits ∷ part.MozSoftErrors ∷ part.StabilityReportStream ∷ []
 
 -- what they add, in that order
 unfoldable pub sections_text : Dump → List ℕ
@@ -112,11 +123,13 @@ report_text names dump = dump_text dump ++ (sections_text dump ++ crash_text nam
 
 -- the report on a dump is printed; or an error is returned, where the bytes are no dump, and the
 -- writer is left as it was
-abbrev pub ReportsOn : {D : Type 0} → (D → Option (List ℕ)) → Told D → Told D → Lists → Result (Unit {0}) Error → Result Dump Error → Type 0
+abbrev pub ReportsOn : {D : Type 0} → (D → Option (List ℕ)) → Told D → Told D → Lists
+    → Result (Unit {0}) Error → Result Dump Error → Type 0
 ReportsOn contents old new names result (Ok dump) = Prints contents old new (report_text names dump) result
 ReportsOn contents old new names result (Err e) = (new ≡ old) × (result ≡ Err e)
 
 -- What writing the report on these bytes does. They are a minidump: its report is printed. They are
 -- none: the error is theirs, and nothing is written.
-abbrev pub Reports : {D : Type 0} → (D → Option (List ℕ)) → Told D → Told D → Lists → List ℕ → Result (Unit {0}) Error → Type 0
+abbrev pub Reports : {D : Type 0} → (D → Option (List ℕ)) → Told D → Told D → Lists → List ℕ
+    → Result (Unit {0}) Error → Type 0
 Reports contents old new names bytes result = ReportsOn contents old new names result (dump_in bytes)

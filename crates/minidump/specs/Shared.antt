@@ -9,8 +9,10 @@ use Rattle.minidump.specs.Dump.{Dump, IsStreamOf, stream_of}
 use Rattle.minidump.specs.Promise.{exception_stream, memory64_list_stream, memory_list_stream, thread_list_stream}
 
 -- a result is the stream of a table, as a list of one kind of memory, or its error
-abbrev pub IsListOf : {S V : Type 0} → StreamSpec S V → (V → UnifiedRegions) → Dump → Result UnifiedMemoryList Error → Type 0
-IsListOf {S} {V} spec kind dump (Ok list) = (regions : V) × (stream_of spec dump ≡ Ok regions) × (unified_list list ≡ kind regions)
+abbrev pub IsListOf : {S V : Type 0} → StreamSpec S V → (V → UnifiedRegions) → Dump
+    → Result UnifiedMemoryList Error → Type 0
+IsListOf {S} {V} spec kind dump (Ok list) =
+    (regions : V) × (stream_of spec dump ≡ Ok regions) × (unified_list list ≡ kind regions)
 IsListOf spec kind dump (Err e) = IsStreamOf spec dump (Err e)
 
 -- they are the streams of a dump

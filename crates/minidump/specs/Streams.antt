@@ -31,7 +31,8 @@ unimplemented_of s = record { stream_type = s.stream_type; location = s.location
 
 -- the stream of an entry whose type has no name
 abbrev where_unnamed : MINIDUMP_DIRECTORY → Option MINIDUMP_STREAM_TYPE → Option (StreamInfo ℕ)
-where_unnamed e None = Some (record { stream_type = e.stream_type; location = e.location; vendor = vendor_of e.stream_type })
+where_unnamed e None =
+    Some (record { stream_type = e.stream_type; location = e.location; vendor = vendor_of e.stream_type })
 where_unnamed e (Some t) = None
 
 -- the stream of an entry, where its type has no name
@@ -42,7 +43,9 @@ as_unknown e = where_unnamed e (stream_type_of e.stream_type)
 abbrev where_unimplemented : MINIDUMP_DIRECTORY → Option MINIDUMP_STREAM_TYPE → Option (StreamInfo MINIDUMP_STREAM_TYPE)
 where_unimplemented e None = None
 where_unimplemented e (Some t) =
-    if is_unimplemented t then Some (record { stream_type = t; location = e.location; vendor = vendor_of e.stream_type }) else None
+    if is_unimplemented t
+    then Some (record { stream_type = t; location = e.location; vendor = vendor_of e.stream_type })
+    else None
 
 -- the stream of an entry, where its type has a name and is not read
 abbrev pub as_unimplemented : MINIDUMP_DIRECTORY → Option (StreamInfo MINIDUMP_STREAM_TYPE)

@@ -1,6 +1,7 @@
 -- The threads of a minidump: Microsoft's MINIDUMP_THREAD_LIST, with the context and the stack of
 -- each.
-use Rattle.std.specs.Prelude.{◌≡◌, ◌≢◌, ℕ, ◌+◌, All, List, ◌∷◌, ◌++◌, map, Option, Some, None, Result, Ok, if◌then◌else◌, nat_lt, ◌*◌, ◌^◌, IsOkAnd}
+use Rattle.std.specs.Prelude.{◌≡◌, ◌≢◌, ℕ, ◌+◌, All, List, ◌∷◌, ◌++◌, map, Option, Some, None, Result, Ok}
+use Rattle.std.specs.Prelude.{if◌then◌else◌, nat_lt, ◌*◌, ◌^◌, IsOkAnd}
 use Rattle.std.specs.Prelude.{◌<◌, length}
 use Rattle.std.specs.List.{sum_by}
 use Rattle.std.specs.Option.{option_and_then, option_copied, option_map}
@@ -23,7 +24,8 @@ use Rattle.minidump_system.specs.Framing.{plain_list}
 use Rattle.minidump_system.specs.Reads.{and_then}
 use Rattle.minidump_context.specs.declared.raw_context.MinidumpRawContext.{MinidumpRawContext}
 use Rattle.minidump_context.specs.Context.{context_in, registers_of, value_in}
-use Rattle.minidump_memory.specs.Memory.{MemoryRegion, descriptor_region, memory_of, number_in, range_of_region, spans_read}
+use Rattle.minidump_memory.specs.Memory.{MemoryRegion, descriptor_region, memory_of, number_in}
+use Rattle.minidump_memory.specs.Memory.{range_of_region, spans_read}
 use Rattle.minidump_memory.specs.Unified.{Memory, UnifiedRegion, UnifiedRegions, of_kind, unified_regions}
 use Rattle.minidump_reason.specs.declared.reason.CrashReason.{CrashReason}
 use Rattle.minidump_reason.specs.Names.{Lists}
@@ -37,7 +39,8 @@ accepted_context architecture order bytes = option_and_then (λ b. result_ok (co
 
 -- the context that bytes hold on the machine of a dump: none where that is unknown
 abbrev pub known_context : Option System → Endian → Option (List ℕ) → Option MinidumpRawContext
-known_context system order bytes = option_and_then (λ s. accepted_context s.raw.processor_architecture order bytes) system
+known_context system order bytes =
+    option_and_then (λ s. accepted_context s.raw.processor_architecture order bytes) system
 
 -- the instruction pointer of a context
 abbrev pub instruction_of : Option MinidumpRawContext → Option ℕ
@@ -52,7 +55,12 @@ pub record Thread : Type 0 where
 
 -- the thread of a `MinidumpThread`, as its fields have it
 abbrev pub thread_of : MinidumpThread → Thread
-thread_of t = record { raw = t.raw; context = option_copied t.context; stack = option_map memory_of t.stack; order = t.endian }
+thread_of t = record {
+  raw = t.raw;
+  context = option_copied t.context;
+  stack = option_map memory_of t.stack;
+  order = t.endian;
+}
 
 -- the threads of a `MinidumpThreadList`, as its entries have them
 abbrev pub thread_list_of : MinidumpThreadList → List Thread
@@ -70,14 +78,16 @@ thread_at order file raw = record {
 
 -- Microsoft's MINIDUMP_THREAD_LIST: a plain list of entries
 abbrev pub thread_list_in : Endian → List ℕ → List ℕ → Result (List Thread) Error
-thread_list_in order file bytes = and_then (plain_list thread order bytes) (λ raws. Ok (map (thread_at order file) raws))
+thread_list_in order file bytes =
+    and_then (plain_list thread order bytes) (λ raws. Ok (map (thread_at order file) raws))
 
 -- the last thread of an id: it has the id, and none after it has. There is none only where no
 -- thread has the id
 abbrev pub IsLastThread : ℕ → List Thread → Option Thread → Type 0
 IsLastThread id threads None = All (λ t. t.raw.thread_id ≢ id) threads
 IsLastThread id threads (Some last) =
-    (earlier later : List Thread) × (threads ≡ earlier ++ (last ∷ later)) × (last.raw.thread_id ≡ id) × All (λ t. t.raw.thread_id ≢ id) later
+    (earlier later : List Thread) × (threads ≡ earlier ++ (last ∷ later)) × (last.raw.thread_id ≡ id)
+    × All (λ t. t.raw.thread_id ≢ id) later
 
 -- the reads that a thread takes: one for its context, and one for its stack if that has an RVA and
 -- a size
@@ -99,7 +109,9 @@ IsStack t memory found =
 -- on every system: none without a width of pointers, or beyond the addresses of 64 bits
 abbrev pub last_error_address : Cpu → ℕ → Option ℕ
 last_error_address cpu teb =
-    option_and_then (λ width. if nat_lt (teb + 13 * width) (2 ^ 64) then Some (teb + 13 * width) else None) (pointer_bytes (width_of cpu))
+    option_and_then
+    (λ width. if nat_lt (teb + 13 * width) (2 ^ 64) then Some (teb + 13 * width) else None)
+    (pointer_bytes (width_of cpu))
 
 -- the error that a region holds at an address
 abbrev pub error_at : Lists → ℕ → Option UnifiedRegion → Option CrashReason
@@ -111,7 +123,8 @@ error_at names address region =
 abbrev pub IsErrorIn : Lists → UnifiedRegions → Option ℕ → Option CrashReason → Type 0
 IsErrorIn names memory None found = found ≡ None
 IsErrorIn names memory (Some address) found =
-    (region : Option UnifiedRegion) × IsLookedUp range_of_region (unified_regions memory) address region × (found ≡ error_at names address region)
+    (region : Option UnifiedRegion) × IsLookedUp range_of_region (unified_regions memory) address region
+    × (found ≡ error_at names address region)
 
 -- the stream of type ThreadListStream
 abbrev pub thread_list_stream : StreamSpec MinidumpThreadList (List Thread)

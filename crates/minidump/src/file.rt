@@ -21,7 +21,7 @@ pub fn read_file<R: OpenPath>(rt: &R, path: &str, into: &mut Vec<u8>) -> Result<
 }
 
 impl<'a> Minidump<'a> {
-    ghost use Rattle.minidump.specs.File.{ReadsFrom, ReadsPath};
+    ghost use Rattle.minidump.specs.File.{IsLater, ReadsFrom, ReadsPath};
 
     /// Replaces the bytes of `into` by all that the reader has left, and reads the minidump that
     /// they are, as [`Minidump::read`] does.
@@ -34,6 +34,7 @@ impl<'a> Minidump<'a> {
         into: &'a mut Vec<u8>,
     ) -> Result<Minidump<'a>, Error>
         ensures means { ReadsFrom R.left R.failed reader.old reader.new result }
+        ensures later { IsLater R.left reader.old reader.new }
         ensures dead { IsTrue (R.failed reader.old) → reader.new ≡ reader.old }
     {
         read_all(reader, into)?;
