@@ -8,7 +8,10 @@ ghost use Rattle.minidump.specs.Shared.{AreShared};
 use crate::crash::print_crash;
 use crate::section::print_unread;
 use crate::shared::SharedStreams;
-use crate::{Minidump, MinidumpThreadList, each_stream};
+use crate::{
+    Minidump, MinidumpMacBootargs, MinidumpSoftErrors, MinidumpThreadList, StabilityReport,
+    each_stream,
+};
 use minidump_bytes::Told;
 use minidump_format::{Error, no_memory};
 use minidump_reason::CodeNames;
@@ -139,6 +142,15 @@ fn print_section<W: Write>(
         (MemoryListStream, $type:ty) => {
             print_stream!($type, streams.memory, section, dump, alloc, f, true)
         };
+        (MozMacosBootargsStream, $type:ty) => {
+            print_boot_args(dump, alloc, f)
+        };
+        (MozSoftErrors, $type:ty) => {
+            print_soft_errors(dump, alloc, f)
+        };
+        (StabilityReportStream, $type:ty) => {
+            print_stability_report(dump, alloc, f)
+        };
         ($name:ident, $type:ty) => {
             print_stream!($type, dump.get_stream::<$type>(alloc), section, dump, alloc, f)
         };
@@ -172,4 +184,67 @@ fn print_threads<W: Write>(
         },
         Err(error) => print_unread::<MinidumpThreadList, W>(section, dump, *error, alloc, f),
     }
+}
+
+// Prints the boot arguments of macOS.
+#[tactic(auto, using(crate::proofs::ReportLemmas::section_unread))]
+fn print_boot_args<W: Write>(
+    dump: &Minidump<'_>,
+    alloc: Global,
+    f: &mut Told<W>,
+) -> Result<(), Error>
+    ensures { Prints W.contents f.old f.new
+        (section_text (dump_of dump.now) Section.MozMacosBootargsStream) result }
+{
+    let section = Section::MozMacosBootargsStream;
+    print_stream!(
+        MinidumpMacBootargs,
+        dump.get_stream::<MinidumpMacBootargs>(alloc),
+        section,
+        dump,
+        alloc,
+        f
+    )
+}
+
+// Prints the soft errors.
+#[tactic(auto, using(crate::proofs::ReportLemmas::section_unread))]
+fn print_soft_errors<W: Write>(
+    dump: &Minidump<'_>,
+    alloc: Global,
+    f: &mut Told<W>,
+) -> Result<(), Error>
+    ensures { Prints W.contents f.old f.new
+        (section_text (dump_of dump.now) Section.MozSoftErrors) result }
+{
+    let section = Section::MozSoftErrors;
+    print_stream!(
+        MinidumpSoftErrors,
+        dump.get_stream::<MinidumpSoftErrors>(alloc),
+        section,
+        dump,
+        alloc,
+        f
+    )
+}
+
+// Prints the stability report.
+#[tactic(auto, using(crate::proofs::ReportLemmas::section_unread))]
+fn print_stability_report<W: Write>(
+    dump: &Minidump<'_>,
+    alloc: Global,
+    f: &mut Told<W>,
+) -> Result<(), Error>
+    ensures { Prints W.contents f.old f.new
+        (section_text (dump_of dump.now) Section.StabilityReportStream) result }
+{
+    let section = Section::StabilityReportStream;
+    print_stream!(
+        StabilityReport,
+        dump.get_stream::<StabilityReport>(alloc),
+        section,
+        dump,
+        alloc,
+        f
+    )
 }
