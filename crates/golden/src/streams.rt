@@ -5,9 +5,9 @@ use std::io::Write;
 
 /// How the stream of a type is read.
 #[derive(Clone, Copy)]
-pub struct Reading {
+pub struct Reading<'n> {
     /// The name of the type.
-    pub name: &'static str,
+    pub name: &'n str,
     /// The error, if there is one.
     pub error: Option<Error>,
     /// Whether the directory has no entry of the type's number.
@@ -26,7 +26,7 @@ macro_rules! count_each {
 const TYPES: usize = each_stream!(count_each);
 
 /// Reads the stream of each type, where `most` is the limit that is linear.
-pub fn read_all(alloc: Global, dump: &Minidump<'_>, most: u128) -> [Reading; TYPES] {
+pub fn read_all(alloc: Global, dump: &Minidump<'_>, most: u128) -> [Reading<'static>; TYPES] {
     macro_rules! limit {
         (constant) => {
             8
@@ -46,12 +46,12 @@ pub fn read_all(alloc: Global, dump: &Minidump<'_>, most: u128) -> [Reading; TYP
     each_stream!(read_each)
 }
 
-fn read<'a, S: MinidumpStream<'a> + Drop>(
+fn read<'a, 'n, S: MinidumpStream<'a> + Drop>(
     alloc: Global,
     dump: &Minidump<'a>,
-    name: &'static str,
+    name: &'n str,
     most: u128,
-) -> Reading {
+) -> Reading<'n> {
     let mut steps = Steps::new();
     let error = dump.get_stream_counted::<S>(alloc, &mut steps).err();
     let raw = dump.get_raw_stream(S::STREAM_TYPE);
@@ -73,7 +73,7 @@ pub fn push_all(alloc: Global, dump: &Minidump<'_>, out: &mut Vec<u8>) -> io::Re
 
 // Appends a line for a type of stream, but nothing where the dump has no such stream, by the type
 // and by its number.
-fn push_answer(read: &Reading, out: &mut Vec<u8>) -> io::Result<()> {
+fn push_answer(read: &Reading<'_>, out: &mut Vec<u8>) -> io::Result<()> {
     let name = read.name;
     match read.error {
         Some(Error::StreamNotFound) if read.is_missing => Ok(()),
