@@ -61,8 +61,9 @@ const SECTIONS: [Section; 25] = each_stream!(all_sections);
 ///
 /// A stream adds what its type prints; an absent one adds nothing; a malformed one adds a line with
 /// the names of its type and of its error. Threads are printed with their stacks, by
-/// [`Minidump::get_memory`]; both lists of memory without their bytes. Each stream is read once;
-/// the exception, the threads and the lists of memory are kept until the end. The text is written
+/// [`Minidump::get_memory`]; both lists of memory without their bytes. Each stream is read once, but
+/// the system information twice, since [`Minidump::read`] reads it before; the exception, the
+/// threads and the lists of memory are kept until the end. The text is written
 /// piece by piece, so that at most one block and one item of the text are in memory.
 ///
 /// Returns the errors of [`Minidump::read`] before anything is written; then `IoError` if the
