@@ -2,11 +2,11 @@
 use Rattle.std.specs.Prelude.{ℕ, zero, suc, ◌+◌, ◌≤◌}
 use Prim.Native.Nat.{suc-le-suc, zero-le}
 
-at_most_itself : (n : ℕ) → n ≤ n
+pub at_most_itself : (n : ℕ) → n ≤ n
 at_most_itself zero = zero-le
 at_most_itself (suc n) = suc-le-suc (at_most_itself n)
 
-at_most_the_next : {a b : ℕ} → a ≤ b → a ≤ suc b
+pub at_most_the_next : {a b : ℕ} → a ≤ b → a ≤ suc b
 at_most_the_next zero-le = zero-le
 at_most_the_next (suc-le-suc h) = suc-le-suc (at_most_the_next h)
 
