@@ -17,6 +17,8 @@ mod file;
 #[cfg(test)]
 mod given;
 #[cfg(test)]
+mod mac;
+#[cfg(test)]
 mod memory;
 #[cfg(test)]
 mod modules;
