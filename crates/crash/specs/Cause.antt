@@ -1,0 +1,142 @@
+-- Where and why a process crashed: its exceptions, which of them counts, and what is known of the
+-- address of the crash.
+use Rattle.std.specs.Prelude.{ℕ, ◌-◌, ◌==◌, Bool, false, not, true, List, [], ◌∷◌, map, slice_get}
+use Rattle.std.specs.Prelude.{Option, Result, Ok, Err, if◌then◌else◌, string_bytes}
+use Rattle.std.specs.List.{enumerate_from}
+use Rattle.std.specs.Option.{option_and_then, option_map, option_or}
+use Rattle.std.specs.Result.{result_ok}
+use Rattle.minidump.specs.declared.Error.{Error}
+use Rattle.minidump.specs.Below.Contexts.Context.{map_ok}
+use Rattle.minidump.specs.Below.Index.Lookup.{looked_up}
+use Rattle.minidump.specs.Below.Modules.Module.{ModuleValue, range_of_module}
+use Rattle.minidump.specs.Below.Reasons.Names.{Lists}
+use Rattle.minidump.specs.Below.Reasons.Reason.{crash_reason}
+use Rattle.minidump.specs.Below.Reasons.ReasonText.{reason_text}
+use Rattle.minidump.specs.Below.System.System.{System}
+use Rattle.minidump.specs.Exception.{Exception, crash_address}
+use Rattle.missing_streams.specs.Missing.{is_missing}
+use Rattle.crash.specs.declared.cause.AddressFacts.{AddressFacts}
+use Rattle.crash.specs.declared.cause.CrashCause.{CrashCause}
+use Rattle.crash.specs.declared.cause.CrashException.{CrashException}
+use Rattle.crash.specs.declared.contexts.ContextProblem.{ContextProblem}
+use Rattle.crash.specs.Contents.{ContentsValue}
+use Rattle.crash.specs.Contexts.{problem_in, system_of}
+use Rattle.crash.specs.Last.{last_index}
+
+-- an exception: its thread, its code, where it happened, the address and the reason of the crash,
+-- where the system is known, and why its context isn't used
+pub record ExceptionValue : Type 0 where
+  pub thread : ℕ
+  pub code : ℕ
+  pub at : ℕ
+  pub address : Option ℕ
+  pub reason : Option (List ℕ)
+  pub context_problem : Option ContextProblem
+
+-- the exceptions, each or why it can't be read, the index of the one that counts, and what is known
+-- of the address
+pub record CauseValue : Type 0 where
+  pub exceptions : List (Result ExceptionValue Error)
+  pub counts : Option ℕ
+  pub address : Option AddressFacts
+
+-- ---- the value of the structs
+
+abbrev pub exception_of : CrashException → ExceptionValue
+exception_of e = record {
+  thread = e.thread;
+  code = e.code;
+  at = e.at;
+  address = e.address;
+  reason = option_map string_bytes e.reason;
+  context_problem = e.context_problem;
+}
+
+abbrev pub cause_of : CrashCause → CauseValue
+cause_of c = record {
+  exceptions = map (map_ok exception_of) c.exceptions.items;
+  counts = c.counts;
+  address = c.address;
+}
+
+-- ---- exceptions
+
+-- the address of a crash, where the system is known
+abbrev pub address_in : Option System → Exception → Option ℕ
+address_in system e = option_map (λ s. crash_address s.os s.cpu e.raw.exception_record) system
+
+-- the words for its reason, where the system is known
+abbrev pub reason_in : Lists → Option System → Exception → Option (List ℕ)
+reason_in names system e = option_map
+    (λ s. reason_text names (crash_reason names s.os s.cpu e.raw.exception_record)) system
+
+-- an exception on a system
+abbrev pub exception_in : Lists → Option System → Exception → ExceptionValue
+exception_in names system e = record {
+  thread = e.thread_id;
+  code = e.raw.exception_record.exception_code;
+  at = e.raw.exception_record.exception_address;
+  address = address_in system e;
+  reason = reason_in names system e;
+  context_problem = problem_in system e.order e.context;
+}
+
+-- a stream as a list of one, and of none where it is missing
+abbrev pub unless_missing : {V : Type 0} → Result V Error → List (Result V Error)
+unless_missing (Ok value) = Ok value ∷ []
+unless_missing (Err e) = if is_missing e then [] else Err e ∷ []
+
+-- the exceptions of a dump: that of the deciding entry, or why it can't be read
+abbrev pub exceptions_in : Lists → ContentsValue → List (Result ExceptionValue Error)
+exceptions_in names c = map (map_ok (exception_in names (system_of c)))
+    (unless_missing c.threads.exception)
+
+-- ---- which of them counts
+
+-- an exception tells of a crash: its code isn't 0
+abbrev pub has_code : Result ExceptionValue Error → Bool
+has_code (Ok e) = not (e.code == 0)
+has_code (Err _) = false
+
+-- an exception can be read
+abbrev pub is_read : Result ExceptionValue Error → Bool
+is_read (Ok _) = true
+is_read (Err _) = false
+
+-- the index of the exception that counts: the last whose code isn't 0, else the last that can be
+-- read
+abbrev pub counting : List (Result ExceptionValue Error) → Option ℕ
+counting exceptions = option_or (last_index has_code exceptions) (last_index is_read exceptions)
+
+-- the exception of an index, where it can be read
+abbrev pub counted : List (Result ExceptionValue Error) → Option ℕ → Option ExceptionValue
+counted exceptions counts =
+    option_and_then result_ok (option_and_then (slice_get exceptions) counts)
+
+-- ---- the address
+
+-- the index of the kept module that contains an address, and the offset in that
+abbrev pub module_place : List ModuleValue → ℕ → Option (ℕ × ℕ)
+module_place modules address = option_map (λ p. (p.0, address - p.1.raw.base_of_image))
+    (looked_up (λ p. range_of_module p.1) (enumerate_from 0 modules) address)
+
+-- what is known of the address of an exception
+abbrev pub address_at : ContentsValue → Option ExceptionValue → Option AddressFacts
+address_at c e = option_map (λ address. record {
+  address = address;
+  «module» = module_place c.space.modules address;
+}) (option_and_then (λ e. e.address) e)
+
+-- ---- all of it
+
+abbrev cause_by : ContentsValue → List (Result ExceptionValue Error) → Option ℕ → CauseValue
+cause_by c exceptions counts = record {
+  exceptions = exceptions;
+  counts = counts;
+  address = address_at c (counted exceptions counts);
+}
+
+-- the cause of a crash
+abbrev pub cause_in : Lists → ContentsValue → CauseValue
+cause_in names c =
+    let exceptions = exceptions_in names c in cause_by c exceptions (counting exceptions)

@@ -1,0 +1,71 @@
+-- The crash that a file holds: a value for each file that is a minidump.
+use Rattle.std.specs.Prelude.{ℕ, ◌==◌, List, length, Result, Ok, Err, if◌then◌else◌}
+use Rattle.minidump.specs.declared.Error.{Error}
+use Rattle.minidump.specs.Below.Reasons.Names.{Lists}
+use Rattle.minidump.specs.Below.System.Reads.{and_then}
+use Rattle.minidump.specs.Dump.{Dump, dump_in}
+use Rattle.crash.specs.declared.crash.Crash.{Crash}
+use Rattle.crash.specs.declared.damage.Damage.{Damage}
+use Rattle.crash.specs.Cause.{CauseValue, cause_in, cause_of, counted}
+use Rattle.crash.specs.Contents.{ContentsValue, contents_in, contents_of}
+use Rattle.crash.specs.Damage.{damage_by}
+use Rattle.crash.specs.Directory.{DirectoryValue, directory_in, directory_of}
+use Rattle.crash.specs.Modules.{ModulesValue, modules_in, modules_of}
+use Rattle.crash.specs.Process.{ProcessFacts, process_in, process_of}
+use Rattle.crash.specs.Threads.{ThreadsValue, threads_in, threads_of}
+
+-- a crash: the streams, and what is found in them
+pub record CrashValue : Type 0 where
+  pub contents : ContentsValue
+  pub directory : DirectoryValue
+  pub process : ProcessFacts
+  pub cause : CauseValue
+  pub threads : ThreadsValue
+  pub modules : ModulesValue
+  pub damage : List Damage
+
+-- the crash of a `Crash`
+abbrev pub crash_of : Crash → CrashValue
+crash_of c = record {
+  contents = contents_of c.contents;
+  directory = directory_of c.directory;
+  process = process_of c.process;
+  cause = cause_of c.cause;
+  threads = threads_of c.threads;
+  modules = modules_of c.modules;
+  damage = c.damage.items;
+}
+
+-- the threads, by the exception that counts
+abbrev pub threads_with : Lists → ContentsValue → CauseValue → ThreadsValue
+threads_with names c cause = threads_in names c (counted cause.exceptions cause.counts)
+
+-- what is there and can't be read
+abbrev pub damage_in : DirectoryValue → CauseValue → ThreadsValue → List Damage
+damage_in directory cause threads =
+    damage_by directory.entries cause.exceptions threads.threads
+
+abbrev crash_with : Dump → ContentsValue → DirectoryValue → CauseValue → ThreadsValue → CrashValue
+crash_with d c directory cause threads = record {
+  contents = c;
+  directory = directory;
+  process = process_in d.header.time_date_stamp c;
+  cause = cause;
+  threads = threads;
+  modules = modules_in c;
+  damage = damage_in directory cause threads;
+}
+
+-- the crash of a dump with these contents
+abbrev pub crash_by : Lists → Dump → ContentsValue → CrashValue
+crash_by names d c = crash_with d c (directory_in d c) (cause_in names c)
+    (threads_with names c (cause_in names c))
+
+-- the crash of a file, with the names of codes of these lists, or why the file is no minidump
+abbrev pub crash_in : List ℕ → Lists → Result CrashValue Error
+crash_in file names = and_then (dump_in file) (λ d. Ok (crash_by names d (contents_in d)))
+
+-- the status with which a dump ends a program, the same for each form of output
+abbrev pub status_of : Result CrashValue Error → ℕ
+status_of (Err _) = 1
+status_of (Ok c) = if length c.damage == 0 then 0 else 1

@@ -1,0 +1,13 @@
+-- The definitions that the contracts cite: the crash of a file is `crash_in` of Crash.antt.
+pub mod Space
+pub mod Contents
+pub mod Last
+pub mod Directory
+pub mod Process
+pub mod Contexts
+pub mod Cause
+pub mod Stacks
+pub mod Threads
+pub mod Modules
+pub mod Damage
+pub mod Crash

@@ -1,0 +1,114 @@
+-- The modules of a process: where each was, and what symbol tools ask of it.
+use Rattle.std.specs.Prelude.{ℕ, ◌+◌, ◌^◌, List, [], map, nat_lt, Option, Some, None, Result}
+use Rattle.std.specs.Prelude.{if◌then◌else◌, string_bytes, unwrap_or}
+use Rattle.std.specs.Option.{option_map}
+use Rattle.std.specs.Result.{result_ok}
+use Rattle.minidump.specs.declared.Error.{Error}
+use Rattle.minidump.specs.Below.Modules.CodeId.{stamp_form}
+use Rattle.minidump.specs.Below.Modules.DebugId.{breakpad_text}
+use Rattle.minidump.specs.Below.Modules.Identity.{Identity}
+use Rattle.minidump.specs.Below.Modules.Module.{ModuleValue, identity_of}
+use Rattle.minidump.specs.Below.Modules.UnloadedModule.{UnloadedValue}
+use Rattle.file_names.specs.FileName.{file_name}
+use Rattle.crash.specs.declared.modules.CrashModule.{CrashModule}
+use Rattle.crash.specs.declared.modules.CrashModules.{CrashModules}
+use Rattle.crash.specs.declared.modules.UnloadedModule.{UnloadedModule}
+use Rattle.crash.specs.Contents.{ContentsValue}
+
+-- a module: its addresses, its file, and its version and identifiers, where it has them
+pub record LoadedValue : Type 0 where
+  pub base : ℕ
+  pub end : Option ℕ
+  pub path : List ℕ
+  pub file : List ℕ
+  pub version : Option (List ℕ)
+  pub code_id : Option (List ℕ)
+  pub debug_file : Option (List ℕ)
+  pub debug_id : Option (List ℕ)
+
+-- a module that was unloaded
+pub record UnloadedModuleValue : Type 0 where
+  pub base : ℕ
+  pub end : Option ℕ
+  pub path : List ℕ
+  pub file : List ℕ
+  pub code_id : Option (List ℕ)
+
+-- the modules
+pub record ModulesValue : Type 0 where
+  pub loaded : List LoadedValue
+  pub unloaded : List UnloadedModuleValue
+
+-- ---- the value of the structs
+
+abbrev pub loaded_of : CrashModule → LoadedValue
+loaded_of m = record {
+  base = m.base;
+  end = m.end;
+  path = string_bytes m.path;
+  file = string_bytes m.file;
+  version = option_map string_bytes m.version;
+  code_id = option_map string_bytes m.code_id;
+  debug_file = option_map string_bytes m.debug_file;
+  debug_id = option_map string_bytes m.debug_id;
+}
+
+abbrev pub unloaded_module_of : UnloadedModule → UnloadedModuleValue
+unloaded_module_of m = record {
+  base = m.base;
+  end = m.end;
+  path = string_bytes m.path;
+  file = string_bytes m.file;
+  code_id = option_map string_bytes m.code_id;
+}
+
+abbrev pub modules_of : CrashModules → ModulesValue
+modules_of m = record {
+  loaded = map loaded_of m.loaded.items;
+  unloaded = map unloaded_module_of m.unloaded.items;
+}
+
+-- ---- the value of the streams
+
+-- the address after a range: none where it has more than 64 bits
+abbrev pub end_of : ℕ → ℕ → Option ℕ
+end_of base size = if nat_lt (base + size) (2 ^ 64) then Some (base + size) else None
+
+-- a module by what it is known by
+abbrev pub loaded_by : Identity → LoadedValue
+loaded_by i = record {
+  base = i.base;
+  end = end_of i.base i.size;
+  path = i.code_file;
+  file = file_name i.code_file;
+  version = i.version;
+  code_id = i.code_identifier;
+  debug_file = option_map file_name i.debug_file;
+  debug_id = option_map breakpad_text i.debug_identifier;
+}
+
+-- a module of the list
+abbrev pub module_in : ModuleValue → LoadedValue
+module_in m = loaded_by (identity_of m)
+
+-- a module of the list of those that were unloaded
+abbrev pub unloaded_module_in : UnloadedValue → UnloadedModuleValue
+unloaded_module_in m = record {
+  base = m.raw.base_of_image;
+  end = end_of m.raw.base_of_image m.raw.size_of_image;
+  path = m.name;
+  file = file_name m.name;
+  code_id = Some (stamp_form m.raw.time_date_stamp m.raw.size_of_image);
+}
+
+-- the modules of the list
+abbrev pub loaded_in : ContentsValue → List LoadedValue
+loaded_in c = map module_in c.space.modules
+
+-- those that were unloaded: none where their list can't be read
+abbrev pub unloaded_in : Result (List UnloadedValue) Error → List UnloadedModuleValue
+unloaded_in list = map unloaded_module_in (unwrap_or (result_ok list) [])
+
+-- all of them
+abbrev pub modules_in : ContentsValue → ModulesValue
+modules_in c = record { loaded = loaded_in c; unloaded = unloaded_in c.space.unloaded }

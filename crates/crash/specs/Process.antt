@@ -1,0 +1,94 @@
+-- What is known of a process, and of the system on which it ran.
+use Rattle.std.specs.Prelude.{ℕ, ◌-◌, ◌==◌, List, nat_le, Option, Some, None, Result}
+use Rattle.std.specs.Prelude.{if◌then◌else◌, string_bytes}
+use Rattle.std.specs.Option.{option_and_then, option_map}
+use Rattle.std.specs.Result.{result_ok}
+use Rattle.minidump.specs.declared.Error.{Error}
+use Rattle.minidump.specs.declared.RawMiscInfo.{RawMiscInfo}
+use Rattle.minidump.specs.declared.system_info.Cpu.{Cpu}
+use Rattle.minidump.specs.declared.system_info.Os.{Os}
+use Rattle.minidump.specs.Below.System.MiscInfo.{process_create_time, process_id}
+use Rattle.minidump.specs.Below.System.OsParts.{os_parts_of}
+use Rattle.minidump.specs.Below.System.System.{System}
+use Rattle.crash.specs.declared.process.CrashProcess.{CrashProcess}
+use Rattle.crash.specs.declared.process.CrashSystem.{CrashSystem}
+use Rattle.crash.specs.Contents.{ContentsValue}
+
+-- a system: its kind, that of its processors and how many there are, its version with the build,
+-- and the description of the processor
+pub record SystemValue : Type 0 where
+  pub os : Os
+  pub cpu : Cpu
+  pub processors : ℕ
+  pub version : List ℕ
+  pub build : Option (List ℕ)
+  pub cpu_model : Option (List ℕ)
+
+-- a process: its system, its id, and for how many seconds it had run
+pub record ProcessFacts : Type 0 where
+  pub system : Option SystemValue
+  pub id : Option ℕ
+  pub uptime : Option ℕ
+
+-- ---- the value of the structs
+
+abbrev pub system_of : CrashSystem → SystemValue
+system_of s = record {
+  os = s.os;
+  cpu = s.cpu;
+  processors = s.processors;
+  version = string_bytes s.version;
+  build = option_map string_bytes s.build;
+  cpu_model = option_map string_bytes s.cpu_model;
+}
+
+abbrev pub process_of : CrashProcess → ProcessFacts
+process_of p = record {
+  system = option_map system_of p.system;
+  id = p.id;
+  uptime = p.uptime;
+}
+
+-- ---- the value of the streams
+
+-- the version of a system, and its build
+abbrev version_and_build : System → List ℕ × Option (List ℕ)
+version_and_build s = os_parts_of s.raw.major_version s.raw.minor_version s.raw.build_number
+    s.raw.platform_id s.csd_version
+
+-- a system by its information
+abbrev pub system_by : System → SystemValue
+system_by s = record {
+  os = s.os;
+  cpu = s.cpu;
+  processors = s.raw.number_of_processors;
+  version = (version_and_build s).0;
+  build = (version_and_build s).1;
+  cpu_model = s.cpu_info;
+}
+
+-- the same, where the information can be read
+abbrev pub system_in : Result System Error → Option SystemValue
+system_in system = option_map system_by (result_ok system)
+
+-- the id of the process
+abbrev pub id_in : Result RawMiscInfo Error → Option ℕ
+id_in misc = option_and_then process_id (result_ok misc)
+
+-- how many seconds after the process began the dump was written, where both times are there, that
+-- of the beginning isn't 0, and they are in order
+abbrev pub uptime : ℕ → Option ℕ → Option ℕ
+uptime stamp begun = option_and_then (λ begun.
+    if begun == 0 then None else (if nat_le begun stamp then Some (stamp - begun) else None)) begun
+
+-- the same by the misc information
+abbrev pub uptime_in : ℕ → Result RawMiscInfo Error → Option ℕ
+uptime_in stamp misc = uptime stamp (option_and_then process_create_time (result_ok misc))
+
+-- the process of a dump that was written at a time
+abbrev pub process_in : ℕ → ContentsValue → ProcessFacts
+process_in stamp c = record {
+  system = system_in c.system.system;
+  id = id_in c.system.misc;
+  uptime = uptime_in stamp c.system.misc;
+}

@@ -1,0 +1,151 @@
+-- The threads of a process, and which of them crashed.
+use Rattle.std.specs.Prelude.{ℕ, ◌==◌, ◌++◌, Bool, false, true, List, [], ◌∷◌, find, map}
+use Rattle.std.specs.Prelude.{is_some, reverse, Option, None, Result, Ok, Err}
+use Rattle.std.specs.Prelude.{if◌then◌else◌, string_bytes, unwrap_or}
+use Rattle.std.specs.Option.{option_and_then, option_map}
+use Rattle.std.specs.Result.{result_ok}
+use Rattle.minidump.specs.declared.CrashReason.{CrashReason}
+use Rattle.minidump.specs.declared.Error.{Error}
+use Rattle.minidump.specs.declared.format.MINIDUMP_THREAD_INFO.{MINIDUMP_THREAD_INFO}
+use Rattle.minidump.specs.Below.Reasons.Names.{Lists}
+use Rattle.minidump.specs.Below.Reasons.ReasonText.{reason_text}
+use Rattle.minidump.specs.Below.Records.ThreadNames.{ThreadName, name_of_thread}
+use Rattle.minidump.specs.Crash.{error_in, last_with}
+use Rattle.minidump.specs.Exception.{Exception}
+use Rattle.minidump.specs.Thread.{Thread, last_error_address}
+use Rattle.crash.specs.declared.contexts.ContextProblem.{ContextProblem}
+use Rattle.crash.specs.declared.threads.CrashThread.{CrashThread}
+use Rattle.crash.specs.declared.threads.CrashThreads.{CrashThreads}
+use Rattle.crash.specs.declared.stacks.StackRange.{StackRange}
+use Rattle.crash.specs.Cause.{ExceptionValue}
+use Rattle.crash.specs.Contents.{ContentsValue}
+use Rattle.crash.specs.Contexts.{ContextValue, context_in, context_of, exception_context}
+use Rattle.crash.specs.Contexts.{first_context, problem_in, system_of}
+use Rattle.crash.specs.Last.{last_index}
+use Rattle.crash.specs.Stacks.{is_outside, named_stack, stack_memory}
+
+-- a thread: its id, whether the list has it, its name, its registers and why its own context isn't
+-- used, its stack and the memory of that, its last error, and what else is known of it
+pub record ThreadValue : Type 0 where
+  pub id : ℕ
+  pub is_listed : Bool
+  pub name : Option (List ℕ)
+  pub context : Option ContextValue
+  pub context_problem : Option ContextProblem
+  pub stack : Option StackRange
+  pub stack_memory : Option StackRange
+  pub is_stack_outside : Bool
+  pub last_error : Option (List ℕ)
+  pub info : Option MINIDUMP_THREAD_INFO
+
+-- the threads, and the index of the one that crashed
+pub record ThreadsValue : Type 0 where
+  pub threads : List ThreadValue
+  pub crashing : Option ℕ
+
+-- ---- the value of the structs
+
+abbrev pub thread_value : CrashThread → ThreadValue
+thread_value t = record {
+  id = t.id;
+  is_listed = t.is_listed;
+  name = option_map string_bytes t.name;
+  context = option_map context_of t.context;
+  context_problem = t.context_problem;
+  stack = t.stack;
+  stack_memory = t.stack_memory;
+  is_stack_outside = t.is_stack_outside;
+  last_error = option_map string_bytes t.last_error;
+  info = t.info;
+}
+
+abbrev pub threads_of : CrashThreads → ThreadsValue
+threads_of t = record { threads = map thread_value t.threads.items; crashing = t.crashing }
+
+-- ---- what is known of a thread
+
+-- the name of the thread of an id
+abbrev pub name_in : Result (List ThreadName) Error → ℕ → Option (List ℕ)
+name_in names id = option_and_then (λ names. name_of_thread names id) (result_ok names)
+
+-- the last information of an id
+abbrev pub last_info : ℕ → List MINIDUMP_THREAD_INFO → Option MINIDUMP_THREAD_INFO
+last_info id infos = find (λ i. i.thread_id == id) (reverse infos)
+
+-- the same, where the list can be read
+abbrev pub info_in : Result (List MINIDUMP_THREAD_INFO) Error → ℕ → Option MINIDUMP_THREAD_INFO
+info_in infos id = option_and_then (last_info id) (result_ok infos)
+
+-- the last error of a thread, where the system is known
+abbrev pub last_error_code : Lists → ContentsValue → Thread → Option CrashReason
+last_error_code names c t = option_and_then
+    (λ s. error_in names c.space.memory (last_error_address s.cpu t.raw.teb)) (system_of c)
+
+-- the words for it
+abbrev pub last_error_in : Lists → ContentsValue → Thread → Option (List ℕ)
+last_error_in names c t = option_map (reason_text names) (last_error_code names c t)
+
+-- a thread of the list
+abbrev pub thread_in : Lists → ContentsValue → Thread → ThreadValue
+thread_in names c t = record {
+  id = t.raw.thread_id;
+  is_listed = true;
+  name = name_in c.threads.names t.raw.thread_id;
+  context = context_in c t;
+  context_problem = problem_in (system_of c) t.order t.context;
+  stack = named_stack t.raw.stack;
+  stack_memory = stack_memory c t;
+  is_stack_outside = is_outside t;
+  last_error = last_error_in names c t;
+  info = info_in c.threads.infos t.raw.thread_id;
+}
+
+-- ---- the threads
+
+-- the threads of the list: none where it can't be read
+abbrev pub listed_in : Lists → ContentsValue → List ThreadValue
+listed_in names c = map (thread_in names c) (unwrap_or (result_ok c.threads.threads) [])
+
+-- a thread of the list has an id
+abbrev pub has_thread : ℕ → Result (List Thread) Error → Bool
+has_thread id (Ok threads) = is_some (last_with id threads)
+has_thread id (Err _) = false
+
+-- the thread of an exception, which the list lacks
+abbrev pub extra_in : ContentsValue → Exception → ThreadValue
+extra_in c e = record {
+  id = e.thread_id;
+  is_listed = false;
+  name = name_in c.threads.names e.thread_id;
+  context = first_context (exception_context c e.thread_id) None;
+  context_problem = None;
+  stack = None;
+  stack_memory = None;
+  is_stack_outside = false;
+  last_error = None;
+  info = info_in c.threads.infos e.thread_id;
+}
+
+-- that thread where there is an exception and the list lacks its thread
+abbrev pub extra_by : ContentsValue → Result Exception Error → List ThreadValue
+extra_by c (Ok e) = if has_thread e.thread_id c.threads.threads then [] else extra_in c e ∷ []
+extra_by c (Err _) = []
+
+-- the same by the contents
+abbrev pub extra_threads : ContentsValue → List ThreadValue
+extra_threads c = extra_by c c.threads.exception
+
+-- the threads of the list, and after them that of the exception where the list lacks it
+abbrev pub all_threads : Lists → ContentsValue → List ThreadValue
+all_threads names c = listed_in names c ++ extra_threads c
+
+-- the index of the thread that crashed: the last of the exception's id
+abbrev pub crashing_at : List ThreadValue → Option ExceptionValue → Option ℕ
+crashing_at threads e = option_and_then (λ e. last_index (λ t. t.id == e.thread) threads) e
+
+abbrev threads_by : List ThreadValue → Option ExceptionValue → ThreadsValue
+threads_by threads e = record { threads = threads; crashing = crashing_at threads e }
+
+-- the threads of a process, by the exception that counts
+abbrev pub threads_in : Lists → ContentsValue → Option ExceptionValue → ThreadsValue
+threads_in names c e = threads_by (all_threads names c) e

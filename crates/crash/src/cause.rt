@@ -1,0 +1,270 @@
+ghost use Rattle.std.specs.Prelude.{◌≡◌, ◌∷◌, [], IfOk, IsOkUnless, map, string_bytes};
+ghost use Rattle.std.specs.Option.{option_copied, option_map};
+ghost use Rattle.minidump.specs.Below.Contexts.Context.{map_ok};
+ghost use Rattle.minidump.specs.Promise.{exception_stream, module_list_stream, system_info_stream};
+ghost use Rattle.crash.specs.Cause.{address_at, address_in, cause_in, cause_of, counted, counting};
+ghost use Rattle.crash.specs.Cause.{exception_in, exception_of, exceptions_in, has_code, is_read};
+ghost use Rattle.crash.specs.Cause.{module_place, reason_in};
+ghost use Rattle.crash.specs.Contents.{contents_of};
+ghost use Rattle.crash.specs.Contexts.{problem_in, system_of};
+
+use crate::contents::Contents;
+use crate::contexts::{self, ContextProblem, context_at};
+use crate::last::{Choose, last_index};
+use minidump::{
+    CodeNames, Error, MinidumpException, MinidumpModuleList, MinidumpSystemInfo, Module,
+};
+use missing_streams::is_missing;
+use std::alloc::{AllocError, Global};
+
+/// Where and why a process crashed.
+#[derive(Drop)]
+pub struct CrashCause {
+    /// The exceptions of the dump, each or why it can't be read: none if there is no stream of one,
+    /// and else that of the entry of the directory that decides.
+    pub exceptions: Vec<Result<CrashException, Error>>,
+    /// The index of the exception that counts: the last that can be read and whose code isn't 0,
+    /// else the last that can be read.
+    pub counts: Option<usize>,
+    /// What is known of the address of the crash, or `None` if no exception counts, or without
+    /// system information.
+    pub address: Option<AddressFacts>,
+}
+
+/// An exception.
+#[derive(Drop)]
+pub struct CrashException {
+    /// The id of the thread on which it happened.
+    pub thread: u32,
+    /// Its code.
+    pub code: u32,
+    /// The address at which it happened.
+    pub at: u64,
+    /// The address of the crash, or `None` without system information.
+    pub address: Option<u64>,
+    /// The reason of the crash in words, or `None` without system information.
+    pub reason: Option<String>,
+    /// Why its context isn't used, or `None` if it is.
+    pub context_problem: Option<ContextProblem>,
+}
+
+/// What is known of an address.
+#[derive(Clone, Copy, Debug)]
+pub struct AddressFacts {
+    /// The address.
+    pub address: u64,
+    /// The index of the kept module that contains it, and the offset in that.
+    pub module: Option<(usize, u64)>,
+}
+
+// Returns where and why a process crashed.
+pub(crate) fn cause_of(
+    alloc: Global,
+    contents: &Contents<'_>,
+    names: &CodeNames<'_>,
+) -> Result<CrashCause, Error>
+    ensures cause { IfOk result
+        (λ cause. cause_of cause ≡ cause_in names.now (contents_of contents.now)) }
+    ensures memory { IsOkUnless result Error.OutOfMemory }
+{
+    let exceptions = exceptions_of(alloc, contents, names)?;
+    let counts = counting(exceptions.as_slice());
+    let address = address_of(contents, exceptions.as_slice(), counts);
+    Ok(CrashCause {
+        exceptions,
+        counts,
+        address,
+    })
+}
+
+// Returns the exceptions.
+fn exceptions_of(
+    alloc: Global,
+    contents: &Contents<'_>,
+    names: &CodeNames<'_>,
+) -> Result<Vec<Result<CrashException, Error>>, Error>
+    ensures exceptions { IfOk result (λ es. map (map_ok exception_of) es.items
+        ≡ exceptions_in names.now (contents_of contents.now)) }
+    ensures memory { IsOkUnless result Error.OutOfMemory }
+{
+    match &contents.threads.exception {
+        Ok(exception) => {
+            let exception = exception_of(alloc, contents, exception, names)?;
+            Ok(one(alloc, Ok(exception))?)
+        }
+        Err(error) if is_missing(*error) => Ok(Vec::new(alloc)),
+        Err(error) => Ok(one(alloc, Err(*error))?),
+    }
+}
+
+// Returns a list of one exception.
+fn one(
+    alloc: Global,
+    exception: Result<CrashException, Error>,
+) -> Result<Vec<Result<CrashException, Error>>, AllocError>
+    ensures { IfOk result (λ list. list.items ≡ exception ∷ []) }
+{
+    let mut list = Vec::new(alloc);
+    list.push(exception)?;
+    Ok(list)
+}
+
+// Returns an exception.
+fn exception_of(
+    alloc: Global,
+    contents: &Contents<'_>,
+    exception: &MinidumpException<'_>,
+    names: &CodeNames<'_>,
+) -> Result<CrashException, Error>
+    ensures exception { IfOk result (λ e. exception_of e ≡ exception_in names.now
+        (system_of (contents_of contents.now)) (exception_stream.value exception.now)) }
+    ensures memory { IsOkUnless result Error.OutOfMemory }
+{
+    let system = contents.system.system.as_ref().ok();
+    let reason = reason_of(alloc, exception, system, names)?;
+    let record = &exception.raw.exception_record;
+    Ok(CrashException {
+        thread: exception.thread_id,
+        code: record.exception_code,
+        at: record.exception_address,
+        address: crash_address(exception, system),
+        reason,
+        context_problem: problem_of(contents, exception),
+    })
+}
+
+// Returns the address of the crash.
+fn crash_address(
+    exception: &MinidumpException<'_>,
+    system: Option<&MinidumpSystemInfo>,
+) -> Option<u64>
+    ensures { result ≡ address_in (option_map system_info_stream.value (option_copied system.entry))
+        (exception_stream.value exception.now) }
+{
+    let system = system?;
+    Some(exception.get_crash_address(system.os, system.cpu))
+}
+
+// Makes the words for the reason of the crash.
+fn reason_of(
+    alloc: Global,
+    exception: &MinidumpException<'_>,
+    system: Option<&MinidumpSystemInfo>,
+    names: &CodeNames<'_>,
+) -> Result<Option<String>, Error>
+    ensures reason { IfOk result (λ reason. option_map string_bytes reason ≡ reason_in names.now
+        (option_map system_info_stream.value (option_copied system.entry))
+        (exception_stream.value exception.now)) }
+    ensures memory { IsOkUnless result Error.OutOfMemory }
+{
+    match system {
+        Some(system) => {
+            let reason = exception.get_crash_reason(system.os, system.cpu, names);
+            Ok(Some(reason.text(alloc, names)?))
+        }
+        None => Ok(None),
+    }
+}
+
+// Returns why the context of an exception isn't used.
+fn problem_of(contents: &Contents<'_>, exception: &MinidumpException<'_>) -> Option<ContextProblem>
+    ensures { result ≡ problem_in (system_of (contents_of contents.now))
+        (exception_stream.value exception.now).order
+        (exception_stream.value exception.now).context }
+{
+    let context = context_at(contents, exception);
+    contexts::problem_of(contents, exception.context_bytes(), &context)
+}
+
+// Returns the index of the exception that counts.
+fn counting(exceptions: &[Result<CrashException, Error>]) -> Option<usize>
+    ensures { result ≡ counting (map (map_ok exception_of) exceptions.now) }
+{
+    match last_index(&HasCode, exceptions) {
+        Some(index) => Some(index),
+        None => last_index(&IsRead, exceptions),
+    }
+}
+
+// The exceptions that can be read and whose code isn't 0.
+#[derive(Clone, Copy)]
+struct HasCode;
+
+impl Choose<Result<CrashException, Error>> for HasCode {
+    ghost use Rattle.std.specs.Prelude.{Result};
+    ghost use Rattle.minidump.specs.declared.Error.{Error};
+    ghost use Rattle.minidump.specs.Below.Contexts.Context.{map_ok};
+    ghost use Rattle.crash.specs.Cause.{ExceptionValue, exception_of, has_code};
+
+    ghost Value = { Result ExceptionValue Error };
+
+    ghost value_of = { map_ok exception_of };
+
+    ghost is_chosen = { λ _ e. has_code e };
+
+    fn chooses(&self, item: &Result<CrashException, Error>) -> bool {
+        match item {
+            Ok(exception) => exception.code != 0,
+            Err(_) => false,
+        }
+    }
+}
+
+// The exceptions that can be read.
+#[derive(Clone, Copy)]
+struct IsRead;
+
+impl Choose<Result<CrashException, Error>> for IsRead {
+    ghost use Rattle.std.specs.Prelude.{Result};
+    ghost use Rattle.minidump.specs.declared.Error.{Error};
+    ghost use Rattle.minidump.specs.Below.Contexts.Context.{map_ok};
+    ghost use Rattle.crash.specs.Cause.{ExceptionValue, exception_of, is_read};
+
+    ghost Value = { Result ExceptionValue Error };
+
+    ghost value_of = { map_ok exception_of };
+
+    ghost is_chosen = { λ _ e. is_read e };
+
+    fn chooses(&self, item: &Result<CrashException, Error>) -> bool {
+        item.is_ok()
+    }
+}
+
+// Returns what is known of the address of the crash.
+fn address_of(
+    contents: &Contents<'_>,
+    exceptions: &[Result<CrashException, Error>],
+    counts: Option<usize>,
+) -> Option<AddressFacts>
+    ensures { result ≡ address_at (contents_of contents.now)
+        (counted (map (map_ok exception_of) exceptions.now) counts) }
+{
+    let address = counted(exceptions, counts)?.address?;
+    Some(AddressFacts {
+        address,
+        module: module_place(&contents.space.modules, address),
+    })
+}
+
+// Returns the exception of an index, if it can be read.
+pub(crate) fn counted(
+    exceptions: &[Result<CrashException, Error>],
+    counts: Option<usize>,
+) -> Option<&CrashException>
+    ensures { option_map exception_of (option_copied result)
+        ≡ counted (map (map_ok exception_of) exceptions.now) counts }
+{
+    match exceptions.get(counts?)? {
+        Ok(exception) => Some(exception),
+        Err(_) => None,
+    }
+}
+
+// Returns the index of the kept module that contains an address, and the offset in that.
+pub(crate) fn module_place(modules: &MinidumpModuleList, address: u64) -> Option<(usize, u64)>
+    ensures { result ≡ module_place (module_list_stream.value modules.now) address }
+{
+    let (index, module) = modules.numbered_module_at_address(address)?;
+    Some((index, address.saturating_sub(module.base_address())))
+}

@@ -1,0 +1,206 @@
+ghost use Rattle.std.specs.Prelude.{◌≡◌, IfOk, IsOkUnless};
+ghost use Rattle.minidump.specs.Below.Contexts.Context.{map_ok};
+ghost use Rattle.minidump.specs.Dump.{stream_of};
+ghost use Rattle.minidump.specs.DumpValue.{dump_of};
+ghost use Rattle.crash.specs.Contents.{contents_in, contents_of};
+ghost use Rattle.crash.specs.Contents.{message_streams_in, message_streams_of};
+ghost use Rattle.crash.specs.Contents.{process_streams_in, process_streams_of};
+ghost use Rattle.crash.specs.Contents.{system_streams_in, system_streams_of};
+ghost use Rattle.crash.specs.Contents.{thread_streams_in, thread_streams_of};
+
+use crate::space::{SpaceStreams, space_streams};
+use minidump::{
+    Error, Minidump, MinidumpAssertion, MinidumpBreakpadInfo, MinidumpCrashpadInfo,
+    MinidumpException, MinidumpHandleDataStream, MinidumpLinuxCpuInfo, MinidumpLinuxEnviron,
+    MinidumpLinuxLsbRelease, MinidumpLinuxProcLimits, MinidumpLinuxProcStatus, MinidumpMacBootargs,
+    MinidumpMacCrashInfo, MinidumpMiscInfo, MinidumpSoftErrors, MinidumpStream, MinidumpSystemInfo,
+    MinidumpThreadInfoList, MinidumpThreadList, MinidumpThreadNames, StabilityReport,
+};
+use std::alloc::Global;
+
+/// The streams of the system, each as the format has it: the stream,
+/// or the error for which there is none.
+#[derive(Drop)]
+pub struct SystemStreams<'a> {
+    /// The system information.
+    pub system: Result<MinidumpSystemInfo, Error>,
+    /// The misc information.
+    pub misc: Result<MinidumpMiscInfo, Error>,
+    /// Breakpad's information.
+    pub breakpad: Result<MinidumpBreakpadInfo, Error>,
+    /// Linux's `/proc/cpuinfo`.
+    pub cpu_info: Result<MinidumpLinuxCpuInfo<'a>, Error>,
+    /// Linux's `/etc/lsb-release`.
+    pub lsb_release: Result<MinidumpLinuxLsbRelease<'a>, Error>,
+}
+
+/// The streams of the crash and its threads, each as the format has it: the stream,
+/// or the error for which there is none.
+#[derive(Drop)]
+pub struct ThreadStreams<'a> {
+    /// The exception.
+    pub exception: Result<MinidumpException<'a>, Error>,
+    /// The threads.
+    pub threads: Result<MinidumpThreadList<'a>, Error>,
+    /// The names of threads.
+    pub names: Result<MinidumpThreadNames, Error>,
+    /// What is known of the threads.
+    pub infos: Result<MinidumpThreadInfoList, Error>,
+}
+
+/// The streams of what the process itself said, each as the format has it: the stream,
+/// or the error for which there is none.
+#[derive(Drop)]
+pub struct MessageStreams<'a> {
+    /// The assertion that failed.
+    pub assertion: Result<MinidumpAssertion, Error>,
+    /// Crashpad's information.
+    pub crashpad: Result<MinidumpCrashpadInfo, Error>,
+    /// What macOS says of the crash.
+    pub mac_crash_info: Result<MinidumpMacCrashInfo, Error>,
+    /// The arguments with which macOS was booted.
+    pub mac_boot_args: Result<MinidumpMacBootargs, Error>,
+    /// Mozilla's soft errors.
+    pub soft_errors: Result<MinidumpSoftErrors<'a>, Error>,
+    /// The stability report.
+    pub stability: Result<StabilityReport, Error>,
+}
+
+/// The streams of the process, each as the format has it: the stream,
+/// or the error for which there is none.
+#[derive(Drop)]
+pub struct ProcessStreams<'a> {
+    /// The handles.
+    pub handles: Result<MinidumpHandleDataStream, Error>,
+    /// Linux's `/proc/self/status`.
+    pub status: Result<MinidumpLinuxProcStatus<'a>, Error>,
+    /// Linux's environment.
+    pub environ: Result<MinidumpLinuxEnviron<'a>, Error>,
+    /// Linux's `/proc/self/limits`.
+    pub limits: Result<MinidumpLinuxProcLimits<'a>, Error>,
+}
+
+/// The streams of a minidump.
+#[derive(Drop)]
+pub struct Contents<'a> {
+    /// The streams of the system.
+    pub system: SystemStreams<'a>,
+    /// The streams of the crash and its threads.
+    pub threads: ThreadStreams<'a>,
+    /// The streams of the address space.
+    pub space: SpaceStreams<'a>,
+    /// The streams of what the process itself said.
+    pub messages: MessageStreams<'a>,
+    /// The streams of the process.
+    pub process: ProcessStreams<'a>,
+}
+
+/// Reads the streams of a dump, each once. The only error is [`Error::OutOfMemory`].
+pub(crate) fn read_contents<'a>(alloc: Global, dump: &Minidump<'a>) -> Result<Contents<'a>, Error>
+    ensures contents { IfOk result (λ c. contents_of c ≡ contents_in (dump_of dump.now)) }
+    ensures memory { IsOkUnless result Error.OutOfMemory }
+{
+    let system = system_streams(alloc, dump)?;
+    let threads = thread_streams(alloc, dump)?;
+    let space = space_streams(alloc, dump)?;
+    let messages = message_streams(alloc, dump)?;
+    let process = process_streams(alloc, dump)?;
+    Ok(Contents {
+        system,
+        threads,
+        space,
+        messages,
+        process,
+    })
+}
+
+// Reads the streams of the system.
+fn system_streams<'a>(alloc: Global, dump: &Minidump<'a>) -> Result<SystemStreams<'a>, Error>
+    ensures streams { IfOk result (λ s. system_streams_of s ≡ system_streams_in (dump_of dump.now)) }
+    ensures memory { IsOkUnless result Error.OutOfMemory }
+{
+    let system = try_stream(alloc, dump)?;
+    let misc = try_stream(alloc, dump)?;
+    let breakpad = try_stream(alloc, dump)?;
+    let cpu_info = try_stream(alloc, dump)?;
+    let lsb_release = try_stream(alloc, dump)?;
+    Ok(SystemStreams {
+        system,
+        misc,
+        breakpad,
+        cpu_info,
+        lsb_release,
+    })
+}
+
+// Reads the streams of the crash and its threads.
+fn thread_streams<'a>(alloc: Global, dump: &Minidump<'a>) -> Result<ThreadStreams<'a>, Error>
+    ensures streams { IfOk result (λ s. thread_streams_of s ≡ thread_streams_in (dump_of dump.now)) }
+    ensures memory { IsOkUnless result Error.OutOfMemory }
+{
+    let exception = try_stream(alloc, dump)?;
+    let threads = try_stream(alloc, dump)?;
+    let names = try_stream(alloc, dump)?;
+    let infos = try_stream(alloc, dump)?;
+    Ok(ThreadStreams {
+        exception,
+        threads,
+        names,
+        infos,
+    })
+}
+
+// Reads the streams of what the process itself said.
+fn message_streams<'a>(alloc: Global, dump: &Minidump<'a>) -> Result<MessageStreams<'a>, Error>
+    ensures streams { IfOk result (λ s. message_streams_of s ≡ message_streams_in (dump_of dump.now)) }
+    ensures memory { IsOkUnless result Error.OutOfMemory }
+{
+    let assertion = try_stream(alloc, dump)?;
+    let crashpad = try_stream(alloc, dump)?;
+    let mac_crash_info = try_stream(alloc, dump)?;
+    let mac_boot_args = try_stream(alloc, dump)?;
+    let soft_errors = try_stream(alloc, dump)?;
+    let stability = try_stream(alloc, dump)?;
+    Ok(MessageStreams {
+        assertion,
+        crashpad,
+        mac_crash_info,
+        mac_boot_args,
+        soft_errors,
+        stability,
+    })
+}
+
+// Reads the streams of the process.
+fn process_streams<'a>(alloc: Global, dump: &Minidump<'a>) -> Result<ProcessStreams<'a>, Error>
+    ensures streams { IfOk result (λ s. process_streams_of s ≡ process_streams_in (dump_of dump.now)) }
+    ensures memory { IsOkUnless result Error.OutOfMemory }
+{
+    let handles = try_stream(alloc, dump)?;
+    let status = try_stream(alloc, dump)?;
+    let environ = try_stream(alloc, dump)?;
+    let limits = try_stream(alloc, dump)?;
+    Ok(ProcessStreams {
+        handles,
+        status,
+        environ,
+        limits,
+    })
+}
+
+/// Reads a stream, or returns the error for which the dump has none. The only other error is
+/// [`Error::OutOfMemory`].
+pub(crate) fn try_stream<'a, S: MinidumpStream<'a>>(
+    alloc: Global,
+    dump: &Minidump<'a>,
+) -> Result<Result<S, Error>, Error>
+    ensures stream { IfOk result
+        (λ found. map_ok S.spec.value found ≡ stream_of S.spec (dump_of dump.now)) }
+    ensures memory { IsOkUnless result Error.OutOfMemory }
+{
+    match dump.get_stream(alloc) {
+        Ok(stream) => Ok(Ok(stream)),
+        Err(Error::OutOfMemory) => Err(Error::OutOfMemory),
+        Err(error) => Ok(Err(error)),
+    }
+}

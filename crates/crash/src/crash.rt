@@ -1,0 +1,131 @@
+ghost use Rattle.std.specs.Prelude.{◌≡◌, ⊤, IfOk, IsOkUnless, Ok, map};
+ghost use Rattle.std.specs.Option.{option_copied, option_map};
+ghost use Rattle.minidump.specs.Below.Contexts.Context.{map_ok};
+ghost use Rattle.minidump.specs.Below.Format.Answer.{Gives};
+ghost use Rattle.minidump.specs.Dump.{dump_in};
+ghost use Rattle.minidump.specs.DumpValue.{dump_of};
+ghost use Rattle.crash.specs.Cause.{cause_of, counted, exception_of};
+ghost use Rattle.crash.specs.Contents.{contents_in, contents_of};
+ghost use Rattle.crash.specs.Crash.{crash_by, crash_in, crash_of, damage_in, status_of};
+ghost use Rattle.crash.specs.Crash.{threads_with};
+ghost use Rattle.crash.specs.Directory.{directory_of};
+ghost use Rattle.crash.specs.Threads.{threads_of};
+
+use crate::cause::{CrashCause, cause_of, counted};
+use crate::contents::{Contents, read_contents};
+use crate::damage::{Damage, damage_of};
+use crate::directory::{CrashDirectory, directory_of};
+use crate::modules::{CrashModules, modules_of};
+use crate::process::{CrashProcess, process_of};
+use crate::threads::{CrashThreads, threads_of};
+use minidump::{CodeNames, Error, Minidump};
+use std::alloc::{AllocError, Global};
+
+/// What a minidump says of a crash.
+#[derive(Drop)]
+pub struct Crash<'a> {
+    /// The streams.
+    pub contents: Contents<'a>,
+    /// What the header and the directory say.
+    pub directory: CrashDirectory,
+    /// What is known of the process, and of the system on which it ran.
+    pub process: CrashProcess,
+    /// Where and why it crashed.
+    pub cause: CrashCause,
+    /// Its threads.
+    pub threads: CrashThreads,
+    /// Its modules.
+    pub modules: CrashModules,
+    /// What is there and can't be read.
+    pub damage: Vec<Damage>,
+}
+
+impl<'a> Crash<'a> {
+    /// Reads the crash of a minidump, whose bytes are `bytes`. The names of codes are those of
+    /// `names`.
+    ///
+    /// Returns the error of [`Minidump::read`], else `OutOfMemory` if an allocation fails.
+    pub fn read(alloc: Global, bytes: &'a [u8], names: &CodeNames<'_>) -> Result<Crash<'a>, Error>
+        ensures { Gives crash_of ⊤ result (crash_in bytes.now names.now) }
+    {
+        let dump = Minidump::read(alloc, bytes)?;
+        crash_of_dump(alloc, bytes, &dump, names)
+    }
+
+    /// Lets the crash go, so that a caller's crate need not prove how.
+    pub fn close(self) {}
+}
+
+/// Returns the status with which a dump ends a program: 0, or 1 if it is no minidump, or if
+/// something of it is there and can't be read.
+pub fn status_of(crash: &Result<Crash<'_>, Error>) -> u8
+    ensures { result ≡ status_of (map_ok crash_of crash.now) }
+{
+    match crash {
+        Ok(crash) if crash.damage.is_empty() => 0,
+        _ => 1,
+    }
+}
+
+// Reads the crash of a dump.
+fn crash_of_dump<'a>(
+    alloc: Global,
+    file: &[u8],
+    dump: &Minidump<'a>,
+    names: &CodeNames<'_>,
+) -> Result<Crash<'a>, Error>
+    requires { dump_in file.now ≡ Ok (dump_of dump.now) }
+    ensures crash { IfOk result (λ c. crash_of c
+        ≡ crash_by names.now (dump_of dump.now) (contents_in (dump_of dump.now))) }
+    ensures memory { IsOkUnless result Error.OutOfMemory }
+{
+    let contents = read_contents(alloc, dump)?;
+    let directory = directory_of(alloc, file, dump, &contents)?;
+    let process = process_of(alloc, directory.written, &contents)?;
+    let cause = cause_of(alloc, &contents, names)?;
+    let threads = threads_by(alloc, &contents, names, &cause)?;
+    let modules = modules_of(alloc, &contents)?;
+    let damage = damage_in(alloc, &directory, &cause, &threads)?;
+    Ok(Crash {
+        contents,
+        directory,
+        process,
+        cause,
+        threads,
+        modules,
+        damage,
+    })
+}
+
+// Returns the threads, by the exception that counts.
+fn threads_by(
+    alloc: Global,
+    contents: &Contents<'_>,
+    names: &CodeNames<'_>,
+    cause: &CrashCause,
+) -> Result<CrashThreads, Error>
+    ensures threads { IfOk result (λ threads. threads_of threads
+        ≡ threads_with names.now (contents_of contents.now) (cause_of cause.now)) }
+    ensures memory { IsOkUnless result Error.OutOfMemory }
+{
+    let exception = counted(cause.exceptions.as_slice(), cause.counts);
+    threads_of(alloc, contents, names, exception)
+}
+
+// Returns what is there and can't be read.
+fn damage_in(
+    alloc: Global,
+    directory: &CrashDirectory,
+    cause: &CrashCause,
+    threads: &CrashThreads,
+) -> Result<Vec<Damage>, AllocError>
+    ensures { IfOk result (λ damage. damage.items ≡ damage_in (directory_of directory.now)
+        (cause_of cause.now) (threads_of threads.now)) }
+{
+    damage_of(
+        alloc,
+        directory.entries.as_slice(),
+        cause.exceptions.as_slice(),
+        threads.threads.as_slice(),
+    )
+}

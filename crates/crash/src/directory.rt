@@ -1,0 +1,204 @@
+ghost use Rattle.std.specs.Prelude.{◌≡◌, ◌^◌, ◌<◌, IfOk, IsOkUnless, Ok, if◌then◌else◌, is_none, length};
+ghost use Rattle.std.specs.Result.{result_err};
+ghost use Rattle.minidump.specs.Below.Contexts.Context.{map_ok};
+ghost use Rattle.minidump.specs.Below.Format.Header.{located};
+ghost use Rattle.minidump.specs.Dump.{dump_in};
+ghost use Rattle.minidump.specs.DumpValue.{dump_of};
+ghost use Rattle.crash.specs.Contents.{contents_of};
+ghost use Rattle.crash.specs.Directory.{all_entries, directory_in, directory_of, entries_in};
+ghost use Rattle.crash.specs.Directory.{entry_in, error_of_number, error_of_type, outside_in};
+ghost use Rattle.crash.specs.Directory.{raw_error};
+
+use crate::contents::Contents;
+use minidump::format::{MINIDUMP_DIRECTORY, MINIDUMP_STREAM_TYPE};
+use minidump::own_streams::Entries;
+use minidump::{Error, Minidump, MinidumpStream, Source, Steps};
+use std::alloc::{AllocError, Global};
+
+/// What the header and the directory of a dump say.
+#[derive(Drop)]
+pub struct CrashDirectory {
+    /// When the dump was written, in seconds since 1970, as the time stamp of its header has it; 0
+    /// says nothing.
+    pub written: u32,
+    /// The streams, ascending by type.
+    pub entries: Vec<StreamEntry>,
+    /// How many entries of the directory have bytes that are not all in the file: of all its
+    /// entries, also those that don't decide.
+    pub entries_outside: u64,
+}
+
+/// A stream, by the entry of the directory that decides it.
+#[derive(Clone, Copy, Debug)]
+pub struct StreamEntry {
+    /// The number of its type.
+    pub number: u32,
+    /// How many bytes it has.
+    pub size: u32,
+    /// Where its bytes begin in the file.
+    pub rva: u32,
+    /// The error if the stream can't be read; for a type that is never read, the error if its bytes
+    /// can't be.
+    pub error: Option<Error>,
+}
+
+// Returns what the header and the directory of a dump say.
+pub(crate) fn directory_of(
+    alloc: Global,
+    file: &[u8],
+    dump: &Minidump<'_>,
+    contents: &Contents<'_>,
+) -> Result<CrashDirectory, AllocError>
+    requires { dump_in file.now ≡ Ok (dump_of dump.now) }
+    ensures { IfOk result (λ directory. directory_of directory
+        ≡ directory_in (dump_of dump.now) (contents_of contents.now)) }
+{
+    let entries = entries_of(alloc, dump, contents)?;
+    Ok(CrashDirectory {
+        written: dump.header.time_date_stamp,
+        entries,
+        entries_outside: outside_of(dump, file),
+    })
+}
+
+// Returns the streams of a dump, ascending by type.
+fn entries_of(
+    alloc: Global,
+    dump: &Minidump<'_>,
+    contents: &Contents<'_>,
+) -> Result<Vec<StreamEntry>, AllocError>
+    ensures { IfOk result (λ entries. entries.items
+        ≡ entries_in (dump_of dump.now) (contents_of contents.now)) }
+{
+    let mut entries = Vec::new(alloc);
+    for entry in dump.all_streams() {
+        entries.push(entry_of(dump, contents, entry))?;
+    }
+    Ok(entries)
+}
+
+// Returns the stream of an entry.
+fn entry_of(dump: &Minidump<'_>, contents: &Contents<'_>, entry: &MINIDUMP_DIRECTORY) -> StreamEntry
+    ensures { result ≡ entry_in (dump_of dump.now) (contents_of contents.now) entry.now }
+{
+    StreamEntry {
+        number: entry.stream_type,
+        size: entry.location.data_size,
+        rva: entry.location.rva,
+        error: error_of_number(dump, contents, entry.stream_type),
+    }
+}
+
+// Returns the error for which the stream of a type can't be read. Of a type that is never read that
+// is the error of its bytes.
+fn error_of_number(dump: &Minidump<'_>, contents: &Contents<'_>, number: u32) -> Option<Error>
+    ensures { result ≡ error_of_number (dump_of dump.now) (contents_of contents.now) number }
+{
+    match MINIDUMP_STREAM_TYPE::from_u32(number) {
+        Some(known_type) => error_of_type(dump, contents, number, known_type),
+        None => raw_error(dump, number),
+    }
+}
+
+// Returns the same by the number of a type that has a name, and the named type.
+fn error_of_type(
+    dump: &Minidump<'_>,
+    contents: &Contents<'_>,
+    number: u32,
+    known_type: MINIDUMP_STREAM_TYPE,
+) -> Option<Error>
+    ensures { result ≡ error_of_type (dump_of dump.now) (contents_of contents.now) number
+        known_type }
+{
+    let system = &contents.system;
+    let threads = &contents.threads;
+    let space = &contents.space;
+    let messages = &contents.messages;
+    let process = &contents.process;
+    match known_type {
+        MINIDUMP_STREAM_TYPE::SystemInfoStream => error_of(&system.system),
+        MINIDUMP_STREAM_TYPE::MiscInfoStream => error_of(&system.misc),
+        MINIDUMP_STREAM_TYPE::BreakpadInfoStream => error_of(&system.breakpad),
+        MINIDUMP_STREAM_TYPE::LinuxCpuInfo => error_of(&system.cpu_info),
+        MINIDUMP_STREAM_TYPE::LinuxLsbRelease => error_of(&system.lsb_release),
+        MINIDUMP_STREAM_TYPE::ExceptionStream => error_of(&threads.exception),
+        MINIDUMP_STREAM_TYPE::ThreadListStream => error_of(&threads.threads),
+        MINIDUMP_STREAM_TYPE::ThreadNamesStream => error_of(&threads.names),
+        MINIDUMP_STREAM_TYPE::ThreadInfoListStream => error_of(&threads.infos),
+        MINIDUMP_STREAM_TYPE::ModuleListStream => space.modules_error,
+        MINIDUMP_STREAM_TYPE::UnloadedModuleListStream => error_of(&space.unloaded),
+        MINIDUMP_STREAM_TYPE::Memory64ListStream => space.memory_errors.0,
+        MINIDUMP_STREAM_TYPE::MemoryListStream => space.memory_errors.1,
+        MINIDUMP_STREAM_TYPE::MemoryInfoListStream => space.infos_errors.0,
+        MINIDUMP_STREAM_TYPE::LinuxMaps => space.infos_errors.1,
+        MINIDUMP_STREAM_TYPE::AssertionInfoStream => error_of(&messages.assertion),
+        MINIDUMP_STREAM_TYPE::CrashpadInfoStream => error_of(&messages.crashpad),
+        MINIDUMP_STREAM_TYPE::MozMacosCrashInfoStream => error_of(&messages.mac_crash_info),
+        MINIDUMP_STREAM_TYPE::MozMacosBootargsStream => error_of(&messages.mac_boot_args),
+        MINIDUMP_STREAM_TYPE::MozSoftErrors => error_of(&messages.soft_errors),
+        MINIDUMP_STREAM_TYPE::StabilityReportStream => error_of(&messages.stability),
+        MINIDUMP_STREAM_TYPE::HandleDataStream => error_of(&process.handles),
+        MINIDUMP_STREAM_TYPE::LinuxProcStatus => error_of(&process.status),
+        MINIDUMP_STREAM_TYPE::LinuxEnviron => error_of(&process.environ),
+        MINIDUMP_STREAM_TYPE::MozLinuxLimits => error_of(&process.limits),
+        _ => raw_error(dump, number),
+    }
+}
+
+// Returns the error for which a stream can't be read.
+fn error_of<'a, S: MinidumpStream<'a>>(found: &Result<S, Error>) -> Option<Error>
+    ensures { result ≡ result_err (map_ok S.spec.value found.now) }
+{
+    match found {
+        Ok(_) => None,
+        Err(error) => Some(*error),
+    }
+}
+
+// Returns the error for which the bytes of a stream can't be had.
+fn raw_error(dump: &Minidump<'_>, number: u32) -> Option<Error>
+    ensures { result ≡ raw_error (dump_of dump.now) number }
+{
+    match dump.get_raw_stream(number) {
+        Ok(_) | Err(Error::OutOfMemory) => None,
+        Err(error) => Some(error),
+    }
+}
+
+// Returns the number of entries whose bytes are not all in the file.
+fn outside_of(dump: &Minidump<'_>, file: &[u8]) -> u64
+    requires { dump_in file.now ≡ Ok (dump_of dump.now) }
+    ensures { result ≡ outside_in (dump_of dump.now) }
+{
+    let mut count = 0;
+    let entries = all_entries(dump, file);
+    for index in 0..entries.len() {
+        count += is_outside(entries.read(index, &mut Steps::new()), file);
+    }
+    count
+}
+
+// Returns 1 for an entry whose bytes are not all in the file, and 0 for any other.
+fn is_outside(entry: MINIDUMP_DIRECTORY, file: &[u8]) -> u64
+    ensures { result ≡ (if is_none (located file.now entry.location) then 1 else 0) }
+{
+    let bytes = entry
+        .location
+        .bytes_in(Source::new(file), &mut Steps::new());
+    u64::from(bytes.is_none())
+}
+
+// Returns all entries of the directory, which a file that is a dump holds.
+fn all_entries<'a>(dump: &Minidump<'_>, file: &'a [u8]) -> Entries<'a, MINIDUMP_DIRECTORY>
+    requires { dump_in file.now ≡ Ok (dump_of dump.now) }
+    ensures entries { result ≡ all_entries (dump_of dump.now) }
+    ensures few { length result < 2 ^ 32 }
+{
+    let count = dump.header.stream_count as u64;
+    let start = if count == 0 {
+        0
+    } else {
+        dump.header.stream_directory_rva as u64
+    };
+    Source::new(file).entries(start, count, dump.endian)
+}

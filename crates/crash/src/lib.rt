@@ -1,0 +1,56 @@
+//! What a minidump says of a crash, as one value: [`Crash`].
+//!
+//! [`Crash::read`] reads each stream once, and finds in the streams which exception counts, where
+//! and why the process crashed, its threads, its modules, and what of the dump can't be read. Text,
+//! JSON and tables are to be made of this value alone: no name of a code is looked up then, no
+//! address, and no stream is read again.
+//!
+//! - [`Contents`] has the streams, each as the format has it: the stream, or the error for which
+//!   there is none. [`SpaceStreams`] chooses between the lists of memory, and between the lists of
+//!   what is known of its regions.
+//! - [`CrashDirectory`] has the entries that decide, each with the error of its stream.
+//! - [`CrashProcess`] has the process and the system on which it ran, [`CrashCause`] the exceptions
+//!   and the address of the crash, [`CrashThreads`] the threads, [`CrashModules`] the modules.
+//! - [`Damage`] is something that is there and can't be read. [`status_of`] is the status with which
+//!   a dump ends a program.
+//!
+//! A place in a module is the index of the module in its list, and the offset in it.
+//!
+//! # Errors
+//!
+//! The error of [`minidump::Minidump::read`], else `OutOfMemory`. A stream that is missing or
+//! malformed is no error: its own error stands in its place.
+//!
+//! # What is proved
+//!
+//! The crash is the one that the definition `crash_in` assigns to the bytes and to the names of
+//! codes, and so is each error, but for `OutOfMemory`: [`Crash::read`]. The status is that of the
+//! definition of its name: [`status_of`].
+#![tactic(auto)]
+
+mod cause;
+mod contents;
+mod contexts;
+mod crash;
+mod damage;
+mod directory;
+mod each;
+mod last;
+mod modules;
+mod process;
+mod space;
+mod stacks;
+mod thread_facts;
+mod threads;
+
+pub use cause::{AddressFacts, CrashCause, CrashException};
+pub use contents::{Contents, MessageStreams, ProcessStreams, SystemStreams, ThreadStreams};
+pub use contexts::{ContextOrigin, ContextProblem, CrashContext};
+pub use crash::{Crash, status_of};
+pub use damage::Damage;
+pub use directory::{CrashDirectory, StreamEntry};
+pub use modules::{CrashModule, CrashModules, UnloadedModule};
+pub use process::{CrashProcess, CrashSystem};
+pub use space::SpaceStreams;
+pub use stacks::StackRange;
+pub use threads::{CrashThread, CrashThreads};

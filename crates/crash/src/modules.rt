@@ -1,0 +1,233 @@
+ghost use Rattle.std.specs.Prelude.{◌≡◌, IfOk, IsOkUnless, Ok, map, string_bytes};
+ghost use Rattle.std.specs.Option.{option_copied, option_map};
+ghost use Rattle.minidump.specs.Below.Contexts.Context.{map_ok};
+ghost use Rattle.minidump.specs.Below.Modules.CodeId.{text_of};
+ghost use Rattle.minidump.specs.Below.Modules.DebugId.{breakpad_text};
+ghost use Rattle.minidump.specs.Below.Modules.Module.{module_of};
+ghost use Rattle.minidump.specs.Below.Modules.UnloadedModule.{unloaded_of};
+ghost use Rattle.minidump.specs.Promise.{module_list_stream, unloaded_module_list_stream};
+ghost use Rattle.file_names.specs.FileName.{file_name};
+ghost use Rattle.crash.specs.Contents.{contents_of};
+ghost use Rattle.crash.specs.Modules.{loaded_in, loaded_of, module_in, modules_in, modules_of};
+ghost use Rattle.crash.specs.Modules.{unloaded_in, unloaded_module_in, unloaded_module_of};
+
+use crate::contents::Contents;
+use crate::each::{MakeItem, make_items};
+use file_names::file_name;
+use minidump::{
+    CodeId, DebugId, Error, MinidumpModule, MinidumpUnloadedModule, MinidumpUnloadedModuleList,
+    Module,
+};
+use std::alloc::{AllocError, Global};
+
+/// The modules of a process.
+#[derive(Drop)]
+pub struct CrashModules {
+    /// The modules that were loaded, in the order of their list; none if it can't be read.
+    pub loaded: Vec<CrashModule>,
+    /// The modules that were unloaded before, in the order of their list; none if it can't be read.
+    pub unloaded: Vec<UnloadedModule>,
+}
+
+/// A module, with what symbol tools ask of it.
+#[derive(Drop)]
+pub struct CrashModule {
+    /// The base address.
+    pub base: u64,
+    /// The address after the module, or `None` if it has more than 64 bits.
+    pub end: Option<u64>,
+    /// The path of its file.
+    pub path: String,
+    /// The last part of that path.
+    pub file: String,
+    /// The version.
+    pub version: Option<String>,
+    /// The identifier of its code.
+    pub code_id: Option<String>,
+    /// The last part of the path of its debug file.
+    pub debug_file: Option<String>,
+    /// The identifier of its debug file, as Breakpad writes it.
+    pub debug_id: Option<String>,
+}
+
+/// A module that was unloaded.
+#[derive(Drop)]
+pub struct UnloadedModule {
+    /// The base address.
+    pub base: u64,
+    /// The address after the module, or `None` if it has more than 64 bits.
+    pub end: Option<u64>,
+    /// The path of its file.
+    pub path: String,
+    /// The last part of that path.
+    pub file: String,
+    /// The identifier of its code.
+    pub code_id: Option<String>,
+}
+
+// Returns the modules of a process.
+pub(crate) fn modules_of(alloc: Global, contents: &Contents<'_>) -> Result<CrashModules, Error>
+    ensures modules { IfOk result (λ modules. modules_of modules
+        ≡ modules_in (contents_of contents.now)) }
+    ensures memory { IsOkUnless result Error.OutOfMemory }
+{
+    let loaded = loaded_of(alloc, contents)?;
+    let unloaded = unloaded_of(alloc, &contents.space.unloaded)?;
+    Ok(CrashModules { loaded, unloaded })
+}
+
+// Returns the modules that were loaded.
+fn loaded_of(alloc: Global, contents: &Contents<'_>) -> Result<Vec<CrashModule>, Error>
+    ensures modules { IfOk result (λ modules. map loaded_of modules.items
+        ≡ loaded_in (contents_of contents.now)) }
+    ensures memory { IsOkUnless result Error.OutOfMemory }
+{
+    make_items(alloc, &EachModule, contents.space.modules.as_slice())
+}
+
+// Returns the modules that were unloaded.
+fn unloaded_of(
+    alloc: Global,
+    list: &Result<MinidumpUnloadedModuleList, Error>,
+) -> Result<Vec<UnloadedModule>, Error>
+    ensures modules { IfOk result (λ modules. map unloaded_module_of modules.items
+        ≡ unloaded_in (map_ok unloaded_module_list_stream.value list.now)) }
+    ensures memory { IsOkUnless result Error.OutOfMemory }
+{
+    match list {
+        Ok(list) => make_items(alloc, &EachUnloadedModule, list.iter().as_slice()),
+        Err(_) => Ok(Vec::new(alloc)),
+    }
+}
+
+// A module of the list.
+#[derive(Clone, Copy)]
+struct EachModule;
+
+impl MakeItem<MinidumpModule> for EachModule {
+    ghost use Rattle.minidump.specs.Below.Modules.Module.{ModuleValue, module_of};
+    ghost use Rattle.crash.specs.Modules.{LoadedValue, loaded_of, module_in};
+
+    type Made = CrashModule;
+
+    ghost Given = { ModuleValue };
+
+    ghost given_of = { module_of };
+
+    ghost Value = { LoadedValue };
+
+    ghost value_of = { loaded_of };
+
+    ghost made_of = { λ _ m. module_in m };
+
+    fn make_item(&self, alloc: Global, item: &MinidumpModule) -> Result<CrashModule, Error> {
+        module_of(alloc, item)
+    }
+}
+
+// Returns a module.
+fn module_of(alloc: Global, loaded: &MinidumpModule) -> Result<CrashModule, Error>
+    ensures item { IfOk result (λ m. loaded_of m ≡ module_in (module_of loaded.now)) }
+    ensures memory { IsOkUnless result Error.OutOfMemory }
+{
+    let path = String::from_str(alloc, loaded.code_file())?;
+    let file = String::from_str(alloc, file_name(loaded.code_file()))?;
+    let version = loaded.version(alloc)?;
+    let code_id = code_id_text(alloc, loaded.code_identifier(alloc)?)?;
+    let debug_file = file_name_of(alloc, loaded.debug_file(alloc)?)?;
+    let debug_id = debug_id_text(alloc, loaded.debug_identifier())?;
+    Ok(CrashModule {
+        base: loaded.base_address(),
+        end: loaded.base_address().checked_add(loaded.size()),
+        path,
+        file,
+        version,
+        code_id,
+        debug_file,
+        debug_id,
+    })
+}
+
+// A module of the list of those that were unloaded.
+#[derive(Clone, Copy)]
+struct EachUnloadedModule;
+
+impl MakeItem<MinidumpUnloadedModule> for EachUnloadedModule {
+    ghost use Rattle.minidump.specs.Below.Modules.UnloadedModule.{UnloadedValue, unloaded_of};
+    ghost use Rattle.crash.specs.Modules.{UnloadedModuleValue, unloaded_module_in};
+    ghost use Rattle.crash.specs.Modules.{unloaded_module_of};
+
+    type Made = UnloadedModule;
+
+    ghost Given = { UnloadedValue };
+
+    ghost given_of = { unloaded_of };
+
+    ghost Value = { UnloadedModuleValue };
+
+    ghost value_of = { unloaded_module_of };
+
+    ghost made_of = { λ _ m. unloaded_module_in m };
+
+    fn make_item(
+        &self,
+        alloc: Global,
+        item: &MinidumpUnloadedModule,
+    ) -> Result<UnloadedModule, Error> {
+        unloaded_module_of(alloc, item)
+    }
+}
+
+// Returns a module that was unloaded.
+fn unloaded_module_of(
+    alloc: Global,
+    unloaded: &MinidumpUnloadedModule,
+) -> Result<UnloadedModule, Error>
+    ensures item { IfOk result
+        (λ m. unloaded_module_of m ≡ unloaded_module_in (unloaded_of unloaded.now)) }
+    ensures memory { IsOkUnless result Error.OutOfMemory }
+{
+    let path = String::from_str(alloc, unloaded.code_file())?;
+    let file = String::from_str(alloc, file_name(unloaded.code_file()))?;
+    let code_id = code_id_text(alloc, unloaded.code_identifier(alloc)?)?;
+    Ok(UnloadedModule {
+        base: unloaded.base_address(),
+        end: unloaded.base_address().checked_add(unloaded.size()),
+        path,
+        file,
+        code_id,
+    })
+}
+
+// Copies the digits of an identifier that may be absent.
+fn code_id_text(alloc: Global, id: Option<CodeId>) -> Result<Option<String>, AllocError>
+    ensures { IfOk result (λ text. option_map string_bytes text ≡ option_map text_of id) }
+{
+    match id {
+        Some(id) => Ok(Some(String::from_str(alloc, id.as_str())?)),
+        None => Ok(None),
+    }
+}
+
+// Copies the last part of a path that may be absent.
+fn file_name_of(alloc: Global, path: Option<String>) -> Result<Option<String>, AllocError>
+    ensures { IfOk result (λ name. option_map string_bytes name
+        ≡ option_map (λ p. file_name (string_bytes p)) path) }
+{
+    match path {
+        Some(path) => Ok(Some(String::from_str(alloc, file_name(path.as_str()))?)),
+        None => Ok(None),
+    }
+}
+
+// Makes Breakpad's text of an identifier that may be absent.
+fn debug_id_text(alloc: Global, id: Option<DebugId>) -> Result<Option<String>, Error>
+    ensures text { IfOk result
+        (λ text. option_map string_bytes text ≡ option_map breakpad_text id) }
+    ensures memory { IsOkUnless result Error.OutOfMemory }
+{
+    match id {
+        Some(id) => Ok(Some(format!(in alloc; "{}", id.breakpad())?)),
+        None => Ok(None),
+    }
+}

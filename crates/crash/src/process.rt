@@ -1,0 +1,133 @@
+ghost use Rattle.std.specs.Prelude.{◌≡◌, IfOk, IsOkUnless, string_bytes};
+ghost use Rattle.std.specs.Option.{option_copied, option_map};
+ghost use Rattle.minidump.specs.Below.Contexts.Context.{map_ok};
+ghost use Rattle.minidump.specs.Promise.{misc_info_stream, system_info_stream};
+ghost use Rattle.crash.specs.Contents.{contents_of};
+ghost use Rattle.crash.specs.Process.{id_in, process_in, process_of, system_by, system_in};
+ghost use Rattle.crash.specs.Process.{system_of, uptime, uptime_in};
+
+use crate::contents::Contents;
+use minidump::system_info::{Cpu, Os};
+use minidump::{Error, MinidumpMiscInfo, MinidumpSystemInfo};
+use std::alloc::{AllocError, Global};
+
+/// What is known of a process, and of the system on which it ran.
+#[derive(Drop)]
+pub struct CrashProcess {
+    /// The system, or `None` if its information can't be read.
+    pub system: Option<CrashSystem>,
+    /// The id.
+    pub id: Option<u32>,
+    /// For how many seconds it had run when the dump was written, or `None` if one of the times
+    /// isn't there, is 0, or they are not in order.
+    pub uptime: Option<u64>,
+}
+
+/// The system on which a process ran.
+#[derive(Drop)]
+pub struct CrashSystem {
+    /// The operating system.
+    pub os: Os,
+    /// The architecture of the processors.
+    pub cpu: Cpu,
+    /// The number of processors.
+    pub processors: u8,
+    /// The version of the operating system.
+    pub version: String,
+    /// The build of that version.
+    pub build: Option<String>,
+    /// The description of the processor.
+    pub cpu_model: Option<String>,
+}
+
+// Returns what is known of the process of a dump that was written at `stamp`.
+pub(crate) fn process_of(
+    alloc: Global,
+    stamp: u32,
+    contents: &Contents<'_>,
+) -> Result<CrashProcess, Error>
+    ensures process { IfOk result
+        (λ process. process_of process ≡ process_in stamp (contents_of contents.now)) }
+    ensures memory { IsOkUnless result Error.OutOfMemory }
+{
+    let system = system_of(alloc, &contents.system.system)?;
+    Ok(CrashProcess {
+        system,
+        id: id_of(&contents.system.misc),
+        uptime: uptime_of(stamp, &contents.system.misc),
+    })
+}
+
+// Returns the system.
+fn system_of(
+    alloc: Global,
+    system: &Result<MinidumpSystemInfo, Error>,
+) -> Result<Option<CrashSystem>, Error>
+    ensures system { IfOk result (λ found. option_map system_of found
+        ≡ system_in (map_ok system_info_stream.value system.now)) }
+    ensures memory { IsOkUnless result Error.OutOfMemory }
+{
+    match system {
+        Ok(system) => Ok(Some(system_by(alloc, system)?)),
+        Err(_) => Ok(None),
+    }
+}
+
+// Returns a system by its information.
+fn system_by(alloc: Global, system: &MinidumpSystemInfo) -> Result<CrashSystem, Error>
+    ensures system { IfOk result
+        (λ s. system_of s ≡ system_by (system_info_stream.value system.now)) }
+    ensures memory { IsOkUnless result Error.OutOfMemory }
+{
+    let (version, build) = system.os_parts(alloc)?;
+    let cpu_model = copy(alloc, system.cpu_info())?;
+    Ok(CrashSystem {
+        os: system.os,
+        cpu: system.cpu,
+        processors: system.raw.number_of_processors,
+        version,
+        build,
+        cpu_model,
+    })
+}
+
+// Copies a text that may be absent.
+pub(crate) fn copy(alloc: Global, text: Option<&str>) -> Result<Option<String>, AllocError>
+    ensures { IfOk result (λ copy. option_map string_bytes copy ≡ option_copied text.entry) }
+{
+    match text {
+        Some(text) => Ok(Some(String::from_str(alloc, text)?)),
+        None => Ok(None),
+    }
+}
+
+// Returns the id of the process.
+fn id_of(misc: &Result<MinidumpMiscInfo, Error>) -> Option<u32>
+    ensures { result ≡ id_in (map_ok misc_info_stream.value misc.now) }
+{
+    match misc {
+        Ok(misc) => misc.raw.process_id().copied(),
+        Err(_) => None,
+    }
+}
+
+// Returns for how many seconds the process had run.
+fn uptime_of(stamp: u32, misc: &Result<MinidumpMiscInfo, Error>) -> Option<u64>
+    ensures { result ≡ uptime_in stamp (map_ok misc_info_stream.value misc.now) }
+{
+    match misc {
+        Ok(misc) => uptime(stamp, misc.process_create_time()),
+        Err(_) => None,
+    }
+}
+
+// Returns for how many seconds a process had run that began at a time.
+fn uptime(stamp: u32, begun: Option<u64>) -> Option<u64>
+    ensures { result ≡ uptime stamp begun }
+{
+    let begun = begun?;
+    if begun == 0 {
+        return None;
+    }
+    (stamp as u64).checked_sub(begun)
+}

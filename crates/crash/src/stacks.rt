@@ -1,0 +1,67 @@
+ghost use Rattle.std.specs.Prelude.{◌≡◌, Some, is_none};
+ghost use Rattle.std.specs.Option.{option_map};
+ghost use Rattle.minidump.specs.Below.MemoryLists.Unified.{unified_list, unified_region};
+ghost use Rattle.minidump.specs.Thread.{thread_of};
+ghost use Rattle.minidump.specs.ThreadText.{stack_of};
+ghost use Rattle.crash.specs.Contents.{contents_of};
+ghost use Rattle.crash.specs.Stacks.{is_outside, named_stack, stack_memory};
+
+use crate::contents::Contents;
+use minidump::format::MINIDUMP_MEMORY_DESCRIPTOR;
+use minidump::{MinidumpThread, UnifiedMemory, UnifiedMemoryList, laws};
+
+/// A range of addresses.
+#[derive(Clone, Copy, Debug, PartialEq, Eq)]
+pub struct StackRange {
+    /// The first address.
+    pub base: u64,
+    /// The number of bytes.
+    pub size: u64,
+}
+
+// Returns where a stack is, as an entry names it.
+pub(crate) fn named_stack(stack: &MINIDUMP_MEMORY_DESCRIPTOR) -> Option<StackRange>
+    ensures { result ≡ named_stack stack.now }
+{
+    if stack.memory.data_size == 0 {
+        return None;
+    }
+    Some(StackRange {
+        base: stack.start_of_memory_range,
+        size: stack.memory.data_size as u64,
+    })
+}
+
+// Returns the memory of a stack.
+pub(crate) fn stack_memory<'a>(
+    contents: &Contents<'a>,
+    thread: &MinidumpThread<'a>,
+) -> Option<StackRange>
+    ensures { result ≡ stack_memory (contents_of contents.now) (thread_of thread.now) }
+{
+    let region = region_of(&contents.space.memory, thread)?;
+    Some(StackRange {
+        base: region.base_address(),
+        size: region.size(),
+    })
+}
+
+// Returns the region of memory that has a stack.
+fn region_of<'l, 'a>(
+    memory: &'l UnifiedMemoryList<'a>,
+    thread: &'l MinidumpThread<'a>,
+) -> Option<UnifiedMemory<'l, 'a>>
+    ensures { option_map unified_region result
+        ≡ stack_of (Some (unified_list memory.now)) (thread_of thread.now) }
+{
+    laws::a_report_has_what_a_lookup_returns();
+    thread.stack_memory(memory)
+}
+
+// Tells whether a thread names bytes of a stack that are not in the file.
+pub(crate) fn is_outside(thread: &MinidumpThread<'_>) -> bool
+    ensures { result ≡ is_outside (thread_of thread.now) }
+{
+    let location = &thread.raw.stack.memory;
+    location.rva != 0 && location.data_size != 0 && thread.own_stack().is_none()
+}

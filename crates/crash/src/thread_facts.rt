@@ -1,0 +1,101 @@
+//! What is known of a thread by its id, and its last error.
+ghost use Rattle.std.specs.Prelude.{◌≡◌, IfOk, IsOkUnless, string_bytes};
+ghost use Rattle.std.specs.Option.{option_copied, option_map};
+ghost use Rattle.minidump.specs.Below.Contexts.Context.{map_ok};
+ghost use Rattle.minidump.specs.Promise.{thread_info_list_stream, thread_names_stream};
+ghost use Rattle.minidump.specs.Below.MemoryLists.Unified.{unified_list};
+ghost use Rattle.minidump.specs.Crash.{error_in};
+ghost use Rattle.minidump.specs.Thread.{last_error_address, thread_of};
+ghost use Rattle.crash.specs.Contents.{contents_of};
+ghost use Rattle.crash.specs.Threads.{info_in, last_error_code, last_error_in, last_info, name_in};
+
+use crate::contents::Contents;
+use minidump::format::MINIDUMP_THREAD_INFO;
+use minidump::system_info::Cpu;
+use minidump::{
+    CodeNames, CrashReason, Error, MinidumpThread, MinidumpThreadInfo, MinidumpThreadInfoList,
+    MinidumpThreadNames, UnifiedMemoryList, laws,
+};
+use std::alloc::Global;
+
+// Returns the name of a thread.
+pub(crate) fn name_of(names: &Result<MinidumpThreadNames, Error>, id: u32) -> Option<&str>
+    ensures { option_copied result ≡ name_in (map_ok thread_names_stream.value names.now) id }
+{
+    match names {
+        Ok(names) => names.get_name(id),
+        Err(_) => None,
+    }
+}
+
+// Returns what else is known of a thread.
+pub(crate) fn info_of(
+    infos: &Result<MinidumpThreadInfoList, Error>,
+    id: u32,
+) -> Option<MINIDUMP_THREAD_INFO>
+    ensures { result ≡ info_in (map_ok thread_info_list_stream.value infos.now) id }
+{
+    match infos {
+        Ok(infos) => info_among(infos, id),
+        Err(_) => None,
+    }
+}
+
+// Returns the last information of an id.
+fn info_among(infos: &MinidumpThreadInfoList, id: u32) -> Option<MINIDUMP_THREAD_INFO>
+    ensures { result ≡ last_info id (thread_info_list_stream.value infos.now) }
+{
+    Some(last_info(infos, id)?.raw)
+}
+
+// Returns the last entry of an id.
+fn last_info(infos: &MinidumpThreadInfoList, id: u32) -> Option<&MinidumpThreadInfo>
+    ensures { option_map (λ i. i.raw) (option_copied result)
+        ≡ last_info id (thread_info_list_stream.value infos.now) }
+{
+    infos.get_thread_info(id)
+}
+
+// Makes the words for the last error of a thread.
+pub(crate) fn last_error_of<'a>(
+    alloc: Global,
+    contents: &Contents<'a>,
+    names: &CodeNames<'_>,
+    thread: &MinidumpThread<'a>,
+) -> Result<Option<String>, Error>
+    ensures error { IfOk result (λ error. option_map string_bytes error
+        ≡ last_error_in names.now (contents_of contents.now) (thread_of thread.now)) }
+    ensures memory { IsOkUnless result Error.OutOfMemory }
+{
+    match last_error(contents, names, thread) {
+        Some(error) => Ok(Some(error.text(alloc, names)?)),
+        None => Ok(None),
+    }
+}
+
+// Returns the last error of a thread.
+fn last_error<'a>(
+    contents: &Contents<'a>,
+    names: &CodeNames<'_>,
+    thread: &MinidumpThread<'a>,
+) -> Option<CrashReason>
+    ensures { result ≡ last_error_code names.now (contents_of contents.now)
+        (thread_of thread.now) }
+{
+    let system = contents.system.system.as_ref().ok()?;
+    error_on(system.cpu, &contents.space.memory, names, thread)
+}
+
+// Returns the last error of a thread in a process of such processors, with this memory.
+fn error_on<'a>(
+    cpu: Cpu,
+    memory: &UnifiedMemoryList<'a>,
+    names: &CodeNames<'_>,
+    thread: &MinidumpThread<'a>,
+) -> Option<CrashReason>
+    ensures { result ≡ error_in names.now (unified_list memory.now)
+        (last_error_address cpu (thread_of thread.now).raw.teb) }
+{
+    laws::a_report_has_what_a_lookup_returns();
+    thread.last_error(cpu, memory, names)
+}

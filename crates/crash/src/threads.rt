@@ -1,0 +1,286 @@
+ghost use Rattle.std.specs.Prelude.{◌≡◌, ◌++◌, IfOk, IsOkUnless, OnOk, is_some, map};
+ghost use Rattle.std.specs.Option.{option_copied, option_map};
+ghost use Rattle.minidump.specs.Below.Contexts.Context.{map_ok};
+ghost use Rattle.minidump.specs.Crash.{last_with};
+ghost use Rattle.minidump.specs.Promise.{exception_stream, thread_list_stream};
+ghost use Rattle.minidump.specs.Thread.{thread_of};
+ghost use Rattle.crash.specs.Cause.{exception_of};
+ghost use Rattle.crash.specs.Contents.{contents_of};
+ghost use Rattle.crash.specs.Contexts.{context_in, context_of, problem_in, system_of};
+ghost use Rattle.crash.specs.Threads.{all_threads, crashing_at, extra_in, extra_threads};
+ghost use Rattle.crash.specs.Threads.{has_thread, listed_in, thread_in, thread_value, threads_in};
+ghost use Rattle.crash.specs.Threads.{threads_of};
+
+use crate::cause::CrashException;
+use crate::contents::Contents;
+use crate::contexts::{
+    self, ContextProblem, CrashContext, exception_context, first_context, own_context,
+};
+use crate::each::{MakeItem, make_items};
+use crate::last::{Choose, last_index};
+use crate::process::copy;
+use crate::stacks::{StackRange, is_outside, named_stack, stack_memory};
+use crate::thread_facts::{info_of, last_error_of, name_of};
+use minidump::format::MINIDUMP_THREAD_INFO;
+use minidump::{CodeNames, Error, MinidumpException, MinidumpThread, MinidumpThreadList};
+use std::alloc::Global;
+
+/// The threads of a process.
+#[derive(Drop)]
+pub struct CrashThreads {
+    /// The threads, in the order of their list, and after them that of the exception if the list
+    /// lacks it.
+    pub threads: Vec<CrashThread>,
+    /// The index of the thread that crashed, the last of the id of the exception that counts.
+    pub crashing: Option<usize>,
+}
+
+/// A thread.
+#[derive(Drop)]
+pub struct CrashThread {
+    /// Its id.
+    pub id: u32,
+    /// Whether it is in the list of threads.
+    pub is_listed: bool,
+    /// Its name.
+    pub name: Option<String>,
+    /// Its registers: of the exception's context if it happened on this thread and is accepted,
+    /// else of the thread's own.
+    pub context: Option<CrashContext>,
+    /// Why its own context isn't used where it would be, or `None` if it could be.
+    pub context_problem: Option<ContextProblem>,
+    /// Where its stack is, as its entry names it.
+    pub stack: Option<StackRange>,
+    /// The memory of its stack: its own, else the kept region of the memory in which it begins.
+    pub stack_memory: Option<StackRange>,
+    /// Whether its entry names bytes of a stack that are not in the file.
+    pub is_stack_outside: bool,
+    /// Its last error in words, as Windows keeps it.
+    pub last_error: Option<String>,
+    /// What else is known of it.
+    pub info: Option<MINIDUMP_THREAD_INFO>,
+}
+
+// Returns the threads of a process, by the exception that counts.
+pub(crate) fn threads_of(
+    alloc: Global,
+    contents: &Contents<'_>,
+    names: &CodeNames<'_>,
+    exception: Option<&CrashException>,
+) -> Result<CrashThreads, Error>
+    ensures threads { IfOk result (λ threads. threads_of threads
+        ≡ threads_in names.now (contents_of contents.now)
+        (option_map exception_of (option_copied exception.entry))) }
+    ensures memory { IsOkUnless result Error.OutOfMemory }
+{
+    let threads = all_threads(alloc, contents, names)?;
+    let crashing = crashing_at(threads.as_slice(), exception);
+    Ok(CrashThreads { threads, crashing })
+}
+
+// Returns the index of the thread that crashed.
+fn crashing_at(threads: &[CrashThread], exception: Option<&CrashException>) -> Option<usize>
+    ensures { result ≡ crashing_at (map thread_value threads.now)
+        (option_map exception_of (option_copied exception.entry)) }
+{
+    last_index(&HasId(exception?.thread), threads)
+}
+
+// The threads of an id.
+#[derive(Clone, Copy)]
+struct HasId(u32);
+
+impl Choose<CrashThread> for HasId {
+    ghost use Rattle.std.specs.Prelude.{◌==◌};
+    ghost use Rattle.crash.specs.Threads.{ThreadValue, thread_value};
+
+    ghost Value = { ThreadValue };
+
+    ghost value_of = { thread_value };
+
+    ghost is_chosen = { λ id t. t.id == id.0 };
+
+    fn chooses(&self, item: &CrashThread) -> bool {
+        item.id == self.0
+    }
+}
+
+// Returns the threads of the list, and after them that of the exception if the list lacks it.
+fn all_threads(
+    alloc: Global,
+    contents: &Contents<'_>,
+    names: &CodeNames<'_>,
+) -> Result<Vec<CrashThread>, Error>
+    ensures threads { IfOk result (λ ts. map thread_value ts.items
+        ≡ all_threads names.now (contents_of contents.now)) }
+    ensures memory { IsOkUnless result Error.OutOfMemory }
+{
+    let mut threads = listed(alloc, contents, names)?;
+    push_extra(alloc, &mut threads, contents)?;
+    Ok(threads)
+}
+
+// Returns the threads of the list.
+fn listed<'a>(
+    alloc: Global,
+    contents: &Contents<'a>,
+    names: &CodeNames<'_>,
+) -> Result<Vec<CrashThread>, Error>
+    ensures threads { IfOk result (λ ts. map thread_value ts.items
+        ≡ listed_in names.now (contents_of contents.now)) }
+    ensures memory { IsOkUnless result Error.OutOfMemory }
+{
+    match &contents.threads.threads {
+        Ok(list) => make_items(alloc, &EachThread { contents, names }, &list.threads),
+        Err(_) => Ok(Vec::new(alloc)),
+    }
+}
+
+// Appends the thread of the exception if the list lacks it.
+fn push_extra(
+    alloc: Global,
+    threads: &mut Vec<CrashThread>,
+    contents: &Contents<'_>,
+) -> Result<(), Error>
+    ensures threads { OnOk result (map thread_value threads.new.items
+        ≡ map thread_value threads.old.items ++ extra_threads (contents_of contents.now)) }
+    ensures memory { IsOkUnless result Error.OutOfMemory }
+{
+    let Ok(exception) = &contents.threads.exception else {
+        return Ok(());
+    };
+    if has_thread(&contents.threads.threads, exception.thread_id) {
+        return Ok(());
+    }
+    threads.push(extra(alloc, contents, exception)?)?;
+    Ok(())
+}
+
+// Tells whether a thread of the list has an id.
+fn has_thread(threads: &Result<MinidumpThreadList<'_>, Error>, id: u32) -> bool
+    ensures { result ≡ has_thread id (map_ok thread_list_stream.value threads.now) }
+{
+    match threads {
+        Ok(list) => match last_with(list, id) {
+            Some(_) => true,
+            None => false,
+        },
+        Err(_) => false,
+    }
+}
+
+// Returns the last thread of an id.
+fn last_with<'l, 'a>(list: &'l MinidumpThreadList<'a>, id: u32) -> Option<&'l MinidumpThread<'a>>
+    ensures { option_map thread_of (option_copied result)
+        ≡ last_with id (thread_list_stream.value list.now) }
+{
+    list.get_thread(id)
+}
+
+// Returns the thread of an exception, which the list lacks.
+fn extra(
+    alloc: Global,
+    contents: &Contents<'_>,
+    exception: &MinidumpException<'_>,
+) -> Result<CrashThread, Error>
+    ensures thread { IfOk result (λ t. thread_value t
+        ≡ extra_in (contents_of contents.now) (exception_stream.value exception.now)) }
+    ensures memory { IsOkUnless result Error.OutOfMemory }
+{
+    let id = exception.thread_id;
+    let name = copy(alloc, name_of(&contents.threads.names, id))?;
+    let context = first_context(alloc, exception_context(contents, id), None)?;
+    Ok(CrashThread {
+        id,
+        is_listed: false,
+        name,
+        context,
+        context_problem: None,
+        stack: None,
+        stack_memory: None,
+        is_stack_outside: false,
+        last_error: None,
+        info: info_of(&contents.threads.infos, id),
+    })
+}
+
+// A thread of the list.
+#[derive(Clone, Copy)]
+struct EachThread<'l, 'a, 'n> {
+    contents: &'l Contents<'a>,
+    names: &'l CodeNames<'n>,
+}
+
+impl<'a> MakeItem<MinidumpThread<'a>> for EachThread<'_, 'a, '_> {
+    ghost use Rattle.minidump.specs.Thread.{Thread, thread_of};
+    ghost use Rattle.crash.specs.Contents.{contents_of};
+    ghost use Rattle.crash.specs.Threads.{ThreadValue, thread_in, thread_value};
+
+    type Made = CrashThread;
+
+    ghost Given = { Thread };
+
+    ghost given_of = { thread_of };
+
+    ghost Value = { ThreadValue };
+
+    ghost value_of = { thread_value };
+
+    ghost made_of = { λ e t. thread_in e.names.now (contents_of e.contents.now) t };
+
+    fn make_item(&self, alloc: Global, item: &MinidumpThread<'a>) -> Result<CrashThread, Error> {
+        thread_of(alloc, self.contents, self.names, item)
+    }
+}
+
+// Returns a thread of the list.
+fn thread_of<'a>(
+    alloc: Global,
+    contents: &Contents<'a>,
+    names: &CodeNames<'_>,
+    thread: &MinidumpThread<'a>,
+) -> Result<CrashThread, Error>
+    ensures item { IfOk result (λ t. thread_value t
+        ≡ thread_in names.now (contents_of contents.now) (thread_of thread.now)) }
+    ensures memory { IsOkUnless result Error.OutOfMemory }
+{
+    let id = thread.raw.thread_id;
+    let name = copy(alloc, name_of(&contents.threads.names, id))?;
+    let context = context_of(alloc, contents, thread)?;
+    let last_error = last_error_of(alloc, contents, names, thread)?;
+    Ok(CrashThread {
+        id,
+        is_listed: true,
+        name,
+        context,
+        context_problem: problem_of(contents, thread),
+        stack: named_stack(&thread.raw.stack),
+        stack_memory: stack_memory(contents, thread),
+        is_stack_outside: is_outside(thread),
+        last_error,
+        info: info_of(&contents.threads.infos, id),
+    })
+}
+
+// Returns the registers of a thread.
+fn context_of(
+    alloc: Global,
+    contents: &Contents<'_>,
+    thread: &MinidumpThread<'_>,
+) -> Result<Option<CrashContext>, Error>
+    ensures context { IfOk result (λ context. option_map context_of context
+        ≡ context_in (contents_of contents.now) (thread_of thread.now)) }
+    ensures memory { IsOkUnless result Error.OutOfMemory }
+{
+    let exception = exception_context(contents, thread.raw.thread_id);
+    Ok(first_context(alloc, exception, own_context(contents, thread))?)
+}
+
+// Returns why the own context of a thread can't be used.
+fn problem_of(contents: &Contents<'_>, thread: &MinidumpThread<'_>) -> Option<ContextProblem>
+    ensures { result ≡ problem_in (system_of (contents_of contents.now)) (thread_of thread.now).order
+        (thread_of thread.now).context }
+{
+    let context = own_context(contents, thread);
+    contexts::problem_of(contents, thread.context_bytes(), &context)
+}
