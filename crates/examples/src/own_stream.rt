@@ -1,5 +1,5 @@
-//! Reads a stream whose type is a vendor's own and has no name: an example of a type of stream in a
-//! crate on `minidump` alone.
+//! Reads a stream whose type is a vendor's own and has no name: an example of a type of stream on
+//! `minidump` alone.
 //!
 //! # Errors
 //!

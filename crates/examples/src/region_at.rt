@@ -1,4 +1,4 @@
-//! Finds the region of a minidump's memory that contains an address: an example of a crate on
+//! Finds the region of a minidump's memory that contains an address: an example of a call on
 //! `minidump` alone, which the README quotes.
 //!
 //! # Errors

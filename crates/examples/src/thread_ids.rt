@@ -1,4 +1,4 @@
-//! Lists the ids of a minidump's threads: an example of a crate on `minidump` alone, over a list.
+//! Lists the ids of a minidump's threads: an example of a call on `minidump` alone, over a list.
 //!
 //! # Errors
 //!
