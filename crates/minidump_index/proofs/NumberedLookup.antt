@@ -57,7 +57,7 @@ module _ {R V : Type 0} (view : R → V) where
   numbered_views n (r ∷ rs) = ap (λ (xs : List (ℕ × V)). (n, view r) ∷ xs) (numbered_views (n + 1) rs)
 
   seen : {P : Type 0} (f : P → ℕ × R) (found : Option P)
-      → option_map (λ p. ((f p).0, view (f p).1)) found ≡ option_map (λ (p : ℕ × R). (p.0, view p.1)) (option_map f found)
+      → option_map {U = ℕ × V} (λ p. ((f p).0, view (f p).1)) found ≡ option_map {U = ℕ × V} (λ (p : ℕ × R). (p.0, view p.1)) (option_map {U = ℕ × R} f found)
   seen f None = refl
   seen f (Some p) = refl
 
@@ -71,5 +71,5 @@ module _ {R V : Type 0} (view : R → V) where
       (enumerate_from 0 regions) address (option_map f found) (alone.1 is) in
       seen f found
       ∙ is_looked_up (λ (p : ℕ × V). shown p.1) (map (λ p. (p.0, view p.1)) (enumerate_from 0 regions)) address
-          (option_map (λ p. (p.0, view p.1)) (option_map f found)) there
+      (option_map (λ p. (p.0, view p.1)) (option_map f found)) there
       ∙ ap (λ (xs : List (ℕ × V)). looked_up (λ p. shown p.1) xs address) (sym (numbered_views 0 regions))

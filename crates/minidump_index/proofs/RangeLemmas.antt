@@ -4,7 +4,7 @@ use Rattle.std.specs.Prelude.{Some, None, if◌then◌else◌, ◌&&◌}
 use Rattle.std.proofs.Math.Bridge.{le_prop}
 use Rattle.std.proofs.lemmas.Bool.Decides.{nat_tests}
 use Rattle.minidump_index.specs.declared.range.Range.{Range}
-use Rattle.minidump_index.specs.Order.{at_most_more}
+use native.Mathlib.Nat.{le-add_right}
 use Rattle.minidump_index.specs.Overlap.{from_to, range_of}
 
 -- a proof of the order has one value, so two ranges with the same ends are one
@@ -18,7 +18,7 @@ pub same_range : (r s : Range) → r.start ≡ s.start → r.end ≡ s.end → r
 same_range r s p q = same_ends r.start r.end s.start s.end r.ordered s.ordered p q
 
 abbrev pub whole : ℕ → ℕ → Range
-whole base size = record { start = base; end = base + (size - 1); ordered = at_most_more base (size - 1) }
+whole base size = record { start = base; end = base + (size - 1); ordered = le-add_right base (size - 1) }
 
 pub tested : (base size : ℕ) (b : Bool) → (nat_lt 0 size && nat_le (base + size) (2 ^ 64)) ≡ b
     → range_of base size ≡ (if b then Some (whole base size) else None)

@@ -27,8 +27,8 @@
 //!   `breakpad_text`; `from_breakpad` reads that of a GUID back: `laws::breakpad_texts_are_read_back`.
 //! - A lookup returns the kept module, by the rule of [`minidump_index`], that contains the address:
 //!   `module_at_address`, and `module_at_address_counted`, which compares it with at most as many modules as
-//!   the number of kept ones has binary digits. The kept ones by address, from both ends: `by_addr`. How these
-//!   fit together: `laws::region_laws`.
+//!   the number of kept ones has binary digits; with its index in the list: `numbered_module_at_address`. The
+//!   kept ones by address, from both ends: `by_addr`. How these fit together: `laws::region_laws`.
 //! - Of unloaded modules all that contain an address are returned, by start, then by end, then by index:
 //!   `modules_at_address`, by `AreAt`; all that have a range: `by_addr`, by `IsByStart`. There is one such
 //!   order and one such answer, each with exactly these modules, ascending: `laws::unloaded_laws`.
