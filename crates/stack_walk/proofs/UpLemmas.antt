@@ -9,7 +9,7 @@ use Rattle.std.proofs.lemmas.Bool.Decides.{nat_tests}
 use Rattle.minidump.specs.Below.MemoryLists.Unified.{UnifiedRegion}
 use Rattle.stack_walk.specs.declared.frame.StackFrame.{StackFrame}
 use Rattle.stack_walk.specs.Frames.{AreCallers, IsWalk, StackValue, caller_of, stack_bytes}
-use Rattle.stack_walk.specs.Walk.{addresses_of, caller_here, callers_at, callers_in, outermost, points_to, stack_addresses}
+use Rattle.stack_walk.specs.Walk.{addresses_of, caller_here, callers_at, callers_in, outermost, points_to}
 use Rattle.stack_walk.proofs.CallerLemmas.{base_of, end_of, has_record, in_stack, passed, wide}
 use Rattle.stack_walk.proofs.WalkLemmas.{same_walk}
 

@@ -18,7 +18,6 @@ use Rattle.minidump.specs.Below.MemoryLists.UnifiedInfo.{InfoRegion, info_list, 
 use Rattle.minidump.specs.Below.Modules.Module.{ModuleValue}
 use Rattle.minidump.specs.Below.System.Cpu.{pointer_bytes}
 use Rattle.minidump.specs.Promise.{module_list_stream}
-use Rattle.stack_walk.specs.declared.frame.FrameTrust.{FrameTrust}
 use Rattle.stack_walk.specs.declared.frame.FrameTrust.TheVariants.{Context, FramePointer, Scan}
 use Rattle.stack_walk.specs.declared.frame.StackFrame.{StackFrame}
 use Rattle.stack_walk.specs.declared.stack.Stack.{Stack}

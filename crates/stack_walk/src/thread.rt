@@ -117,7 +117,7 @@ fn own_stack<'l, 'a>(
 
 // Tells whether a region holds the byte at an address.
 fn holds(region: Option<UnifiedMemory<'_, '_>>, address: u64) -> bool
-    ensures { result ≡ holds address (option_map unified_region region) }
+    ensures { result ≡ holds address (option_map unified_region region.entry) }
 {
     let Some(region) = region else {
         return false;
