@@ -37,8 +37,8 @@ crash_of c = record {
 }
 
 -- the threads, by the exception that counts
-abbrev pub threads_with : Lists → ContentsValue → CauseValue → ThreadsValue
-threads_with names c cause = threads_in names c (counted cause.exceptions cause.counts)
+abbrev pub threads_with : Lists → ℕ → ContentsValue → CauseValue → ThreadsValue
+threads_with names scan c cause = threads_in names scan c (counted cause.exceptions cause.counts)
 
 -- what is there and can't be read
 abbrev pub damage_in : DirectoryValue → CauseValue → ThreadsValue → List Damage
@@ -57,13 +57,15 @@ crash_with d c directory cause threads = record {
 }
 
 -- the crash of a dump with these contents
-abbrev pub crash_by : Lists → Dump → ContentsValue → CrashValue
-crash_by names d c = crash_with d c (directory_in d c) (cause_in names c)
-    (threads_with names c (cause_in names c))
+abbrev pub crash_by : Lists → ℕ → Dump → ContentsValue → CrashValue
+crash_by names scan d c = crash_with d c (directory_in d c) (cause_in names c)
+    (threads_with names scan c (cause_in names c))
 
--- the crash of a file, with the names of codes of these lists, or why the file is no minidump
-abbrev pub crash_in : List ℕ → Lists → Result CrashValue Error
-crash_in file names = and_then (dump_in file) (λ d. Ok (crash_by names d (contents_in d)))
+-- the crash of a file, with the names of codes of these lists and at most so many candidates a
+-- thread, or why the file is no minidump
+abbrev pub crash_in : List ℕ → Lists → ℕ → Result CrashValue Error
+crash_in file names scan =
+    and_then (dump_in file) (λ d. Ok (crash_by names scan d (contents_in d)))
 
 -- the status with which a dump ends a program, the same for each form of output
 abbrev pub status_of : Result CrashValue Error → ℕ

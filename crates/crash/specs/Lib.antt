@@ -6,6 +6,7 @@ pub mod Directory
 pub mod Process
 pub mod Contexts
 pub mod Cause
+pub mod Frames
 pub mod Stacks
 pub mod Threads
 pub mod Modules

@@ -21,11 +21,13 @@ use Rattle.crash.specs.Cause.{ExceptionValue}
 use Rattle.crash.specs.Contents.{ContentsValue}
 use Rattle.crash.specs.Contexts.{ContextValue, context_in, context_of, exception_context}
 use Rattle.crash.specs.Contexts.{first_context, problem_in, system_of}
+use Rattle.crash.specs.Frames.{CrashWalkValue, crash_walk_of, exception_walk, thread_walk}
 use Rattle.crash.specs.Last.{last_index}
 use Rattle.crash.specs.Stacks.{is_outside, named_stack, stack_memory}
 
 -- a thread: its id, whether the list has it, its name, its registers and why its own context isn't
--- used, its stack and the memory of that, its last error, and what else is known of it
+-- used, its stack, the memory of that and what is found in it, its last error, and what else is
+-- known of it
 pub record ThreadValue : Type 0 where
   pub id : ℕ
   pub is_listed : Bool
@@ -35,6 +37,7 @@ pub record ThreadValue : Type 0 where
   pub stack : Option StackRange
   pub stack_memory : Option StackRange
   pub is_stack_outside : Bool
+  pub walk : Option CrashWalkValue
   pub last_error : Option (List ℕ)
   pub info : Option MINIDUMP_THREAD_INFO
 
@@ -55,6 +58,7 @@ thread_value t = record {
   stack = t.stack;
   stack_memory = t.stack_memory;
   is_stack_outside = t.is_stack_outside;
+  walk = option_map crash_walk_of t.walk;
   last_error = option_map string_bytes t.last_error;
   info = t.info;
 }
@@ -86,8 +90,8 @@ abbrev pub last_error_in : Lists → ContentsValue → Thread → Option (List �
 last_error_in names c t = option_map (reason_text names) (last_error_code names c t)
 
 -- a thread of the list
-abbrev pub thread_in : Lists → ContentsValue → Thread → ThreadValue
-thread_in names c t = record {
+abbrev pub thread_in : Lists → ℕ → ContentsValue → Thread → ThreadValue
+thread_in names scan c t = record {
   id = t.raw.thread_id;
   is_listed = true;
   name = name_in c.threads.names t.raw.thread_id;
@@ -96,6 +100,7 @@ thread_in names c t = record {
   stack = named_stack t.raw.stack;
   stack_memory = stack_memory c t;
   is_stack_outside = is_outside t;
+  walk = thread_walk c scan t;
   last_error = last_error_in names c t;
   info = info_in c.threads.infos t.raw.thread_id;
 }
@@ -103,8 +108,8 @@ thread_in names c t = record {
 -- ---- the threads
 
 -- the threads of the list: none where it can't be read
-abbrev pub listed_in : Lists → ContentsValue → List ThreadValue
-listed_in names c = map (thread_in names c) (unwrap_or (result_ok c.threads.threads) [])
+abbrev pub listed_in : Lists → ℕ → ContentsValue → List ThreadValue
+listed_in names scan c = map (thread_in names scan c) (unwrap_or (result_ok c.threads.threads) [])
 
 -- a thread of the list has an id
 abbrev pub has_thread : ℕ → Result (List Thread) Error → Bool
@@ -112,8 +117,8 @@ has_thread id (Ok threads) = is_some (last_with id threads)
 has_thread id (Err _) = false
 
 -- the thread of an exception, which the list lacks
-abbrev pub extra_in : ContentsValue → Exception → ThreadValue
-extra_in c e = record {
+abbrev pub extra_in : ℕ → ContentsValue → Exception → ThreadValue
+extra_in scan c e = record {
   id = e.thread_id;
   is_listed = false;
   name = name_in c.threads.names e.thread_id;
@@ -122,22 +127,24 @@ extra_in c e = record {
   stack = None;
   stack_memory = None;
   is_stack_outside = false;
+  walk = exception_walk c scan e.thread_id;
   last_error = None;
   info = info_in c.threads.infos e.thread_id;
 }
 
 -- that thread where there is an exception and the list lacks its thread
-abbrev pub extra_by : ContentsValue → Result Exception Error → List ThreadValue
-extra_by c (Ok e) = if has_thread e.thread_id c.threads.threads then [] else extra_in c e ∷ []
-extra_by c (Err _) = []
+abbrev pub extra_by : ℕ → ContentsValue → Result Exception Error → List ThreadValue
+extra_by scan c (Ok e) =
+    if has_thread e.thread_id c.threads.threads then [] else extra_in scan c e ∷ []
+extra_by scan c (Err _) = []
 
 -- the same by the contents
-abbrev pub extra_threads : ContentsValue → List ThreadValue
-extra_threads c = extra_by c c.threads.exception
+abbrev pub extra_threads : ℕ → ContentsValue → List ThreadValue
+extra_threads scan c = extra_by scan c c.threads.exception
 
 -- the threads of the list, and after them that of the exception where the list lacks it
-abbrev pub all_threads : Lists → ContentsValue → List ThreadValue
-all_threads names c = listed_in names c ++ extra_threads c
+abbrev pub all_threads : Lists → ℕ → ContentsValue → List ThreadValue
+all_threads names scan c = listed_in names scan c ++ extra_threads scan c
 
 -- the index of the thread that crashed: the last of the exception's id
 abbrev pub crashing_at : List ThreadValue → Option ExceptionValue → Option ℕ
@@ -146,6 +153,6 @@ crashing_at threads e = option_and_then (λ e. last_index (λ t. t.id == e.threa
 abbrev threads_by : List ThreadValue → Option ExceptionValue → ThreadsValue
 threads_by threads e = record { threads = threads; crashing = crashing_at threads e }
 
--- the threads of a process, by the exception that counts
-abbrev pub threads_in : Lists → ContentsValue → Option ExceptionValue → ThreadsValue
-threads_in names c e = threads_by (all_threads names c) e
+-- the threads of a process, with so many candidates each at most, by the exception that counts
+abbrev pub threads_in : Lists → ℕ → ContentsValue → Option ExceptionValue → ThreadsValue
+threads_in names scan c e = threads_by (all_threads names scan c) e

@@ -42,14 +42,19 @@ pub struct Crash<'a> {
 
 impl<'a> Crash<'a> {
     /// Reads the crash of a minidump, whose bytes are `bytes`. The names of codes are those of
-    /// `names`.
+    /// `names`. At most `scan` words of each stack are taken for candidates.
     ///
     /// Returns the error of [`Minidump::read`], else `OutOfMemory` if an allocation fails.
-    pub fn read(alloc: Global, bytes: &'a [u8], names: &CodeNames<'_>) -> Result<Crash<'a>, Error>
-        ensures { Gives crash_of ⊤ result (crash_in bytes.now names.now) }
+    pub fn read(
+        alloc: Global,
+        bytes: &'a [u8],
+        names: &CodeNames<'_>,
+        scan: usize,
+    ) -> Result<Crash<'a>, Error>
+        ensures { Gives crash_of ⊤ result (crash_in bytes.now names.now scan) }
     {
         let dump = Minidump::read(alloc, bytes)?;
-        crash_of_dump(alloc, bytes, &dump, names)
+        crash_of_dump(alloc, bytes, &dump, names, scan)
     }
 
     /// Lets the crash go, so that a caller's crate need not prove how.
@@ -73,17 +78,18 @@ fn crash_of_dump<'a>(
     file: &[u8],
     dump: &Minidump<'a>,
     names: &CodeNames<'_>,
+    scan: usize,
 ) -> Result<Crash<'a>, Error>
     requires { dump_in file.now ≡ Ok (dump_of dump.now) }
     ensures crash { IfOk result (λ c. crash_of c
-        ≡ crash_by names.now (dump_of dump.now) (contents_in (dump_of dump.now))) }
+        ≡ crash_by names.now scan (dump_of dump.now) (contents_in (dump_of dump.now))) }
     ensures memory { IsOkUnless result Error.OutOfMemory }
 {
     let contents = read_contents(alloc, dump)?;
     let directory = directory_of(alloc, file, dump, &contents)?;
     let process = process_of(alloc, directory.written, &contents)?;
     let cause = cause_of(alloc, &contents, names)?;
-    let threads = threads_by(alloc, &contents, names, &cause)?;
+    let threads = threads_by(alloc, &contents, names, scan, &cause)?;
     let modules = modules_of(alloc, &contents)?;
     let damage = damage_in(alloc, &directory, &cause, &threads)?;
     Ok(Crash {
@@ -102,14 +108,15 @@ fn threads_by(
     alloc: Global,
     contents: &Contents<'_>,
     names: &CodeNames<'_>,
+    scan: usize,
     cause: &CrashCause,
 ) -> Result<CrashThreads, Error>
     ensures threads { IfOk result (λ threads. threads_of threads
-        ≡ threads_with names.now (contents_of contents.now) (cause_of cause.now)) }
+        ≡ threads_with names.now scan (contents_of contents.now) (cause_of cause.now)) }
     ensures memory { IsOkUnless result Error.OutOfMemory }
 {
     let exception = counted(cause.exceptions.as_slice(), cause.counts);
-    threads_of(alloc, contents, names, exception)
+    threads_of(alloc, contents, names, scan, exception)
 }
 
 // Returns what is there and can't be read.

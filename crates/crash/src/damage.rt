@@ -1,6 +1,7 @@
-ghost use Rattle.std.specs.Prelude.{◌≡◌, IfOk, map};
-ghost use Rattle.std.specs.List.{filter_map};
+ghost use Rattle.std.specs.Prelude.{◌≡◌, ◌++◌, [], IfOk, List, OnOk, Option, map};
+ghost use Rattle.std.specs.List.{cons_option, filter_map};
 ghost use Rattle.minidump.specs.Below.Contexts.Context.{map_ok};
+ghost use Rattle.crash.specs.declared.damage.Damage.{Damage};
 ghost use Rattle.crash.specs.Cause.{exception_of};
 ghost use Rattle.crash.specs.Damage.{context_damage, damage_by, exception_damage, is_outside};
 ghost use Rattle.crash.specs.Damage.{stack_damage, stream_damage};
@@ -50,60 +51,134 @@ pub(crate) fn damage_of(
     ensures { IfOk result (λ damage. damage.items ≡ damage_by entries.now
         (map (map_ok exception_of) exceptions.now) (map thread_value threads.now)) }
 {
-    let mut damage = streams_damage(alloc, entries)?;
-    let contexts = exceptions_damage(alloc, exceptions)?;
+    let mut damage = find_all(alloc, &EachStream, entries)?;
+    let contexts = find_all(alloc, &EachException, exceptions)?;
     damage.extend_from_slice(contexts.as_slice())?;
-    let contexts = contexts_damage(alloc, threads)?;
+    let contexts = find_all(alloc, &EachContext, threads)?;
     damage.extend_from_slice(contexts.as_slice())?;
-    let stacks = stacks_damage(alloc, threads)?;
+    let stacks = find_all(alloc, &EachStack, threads)?;
     damage.extend_from_slice(stacks.as_slice())?;
     Ok(damage)
 }
 
-// Returns the streams that can't be read.
-fn streams_damage(alloc: Global, entries: &[StreamEntry]) -> Result<Vec<Damage>, AllocError>
-    ensures { IfOk result (λ damage. damage.items ≡ filter_map stream_damage entries.now) }
-{
-    entries
-        .iter()
-        .filter_map(|e| stream_damage(e))
-        .collect(alloc)
+// Finds what of an item of a list can't be read.
+trait FindDamage<X> {
+    // the value of an item
+    ghost Value: { Type 0 };
+
+    ghost value_of: { X → Value };
+
+    // what of the item of a value can't be read
+    ghost damage_of: { Value → Option Damage };
+
+    // Returns what of an item can't be read.
+    fn find(&self, item: &X) -> Option<Damage>
+        ensures { result ≡ damage_of (value_of item.now) };
 }
 
-// Returns the contexts of exceptions that are outside the file.
-fn exceptions_damage(
+// Returns what of the items of a list can't be read.
+fn find_all<X, F: FindDamage<X>>(
     alloc: Global,
-    exceptions: &[Result<CrashException, Error>],
+    by: &F,
+    items: &[X],
 ) -> Result<Vec<Damage>, AllocError>
     ensures { IfOk result (λ damage. damage.items
-        ≡ filter_map (λ e. exception_damage (map_ok exception_of e)) exceptions.now) }
+        ≡ filter_map F.damage_of (map F.value_of items.now)) }
 {
-    exceptions
-        .iter()
-        .filter_map(|e| exception_damage(e))
-        .collect(alloc)
+    let mut damage = Vec::new(alloc);
+    for item in items {
+        push_found(&mut damage, by.find(item))?;
+    }
+    Ok(damage)
 }
 
-// Returns the contexts of threads that are outside the file.
-fn contexts_damage(alloc: Global, threads: &[CrashThread]) -> Result<Vec<Damage>, AllocError>
-    ensures { IfOk result (λ damage. damage.items
-        ≡ filter_map (λ t. context_damage (thread_value t)) threads.now) }
+// Appends what was found.
+fn push_found(damage: &mut Vec<Damage>, found: Option<Damage>) -> Result<(), AllocError>
+    ensures { OnOk result (damage.new.items ≡ damage.old.items ++ cons_option found []) }
 {
-    threads
-        .iter()
-        .filter_map(|t| context_damage(t))
-        .collect(alloc)
+    match found {
+        Some(found) => Ok(damage.push(found)?),
+        None => Ok(()),
+    }
 }
 
-// Returns the stacks that are outside the file.
-fn stacks_damage(alloc: Global, threads: &[CrashThread]) -> Result<Vec<Damage>, AllocError>
-    ensures { IfOk result (λ damage. damage.items
-        ≡ filter_map (λ t. stack_damage (thread_value t)) threads.now) }
-{
-    threads
-        .iter()
-        .filter_map(|t| stack_damage(t))
-        .collect(alloc)
+// The streams.
+#[derive(Clone, Copy)]
+struct EachStream;
+
+impl FindDamage<StreamEntry> for EachStream {
+    ghost use Rattle.crash.specs.declared.directory.StreamEntry.{StreamEntry};
+    ghost use Rattle.crash.specs.Damage.{stream_damage};
+
+    ghost Value = { StreamEntry };
+
+    ghost value_of = { λ e. e };
+
+    ghost damage_of = { stream_damage };
+
+    fn find(&self, item: &StreamEntry) -> Option<Damage> {
+        stream_damage(item)
+    }
+}
+
+// The contexts of exceptions.
+#[derive(Clone, Copy)]
+struct EachException;
+
+impl FindDamage<Result<CrashException, Error>> for EachException {
+    ghost use Rattle.std.specs.Prelude.{Result};
+    ghost use Rattle.minidump.specs.declared.Error.{Error};
+    ghost use Rattle.minidump.specs.Below.Contexts.Context.{map_ok};
+    ghost use Rattle.crash.specs.Cause.{ExceptionValue, exception_of};
+    ghost use Rattle.crash.specs.Damage.{exception_damage};
+
+    ghost Value = { Result ExceptionValue Error };
+
+    ghost value_of = { map_ok exception_of };
+
+    ghost damage_of = { exception_damage };
+
+    fn find(&self, item: &Result<CrashException, Error>) -> Option<Damage> {
+        exception_damage(item)
+    }
+}
+
+// The own contexts of threads.
+#[derive(Clone, Copy)]
+struct EachContext;
+
+impl FindDamage<CrashThread> for EachContext {
+    ghost use Rattle.crash.specs.Damage.{context_damage};
+    ghost use Rattle.crash.specs.Threads.{ThreadValue, thread_value};
+
+    ghost Value = { ThreadValue };
+
+    ghost value_of = { thread_value };
+
+    ghost damage_of = { context_damage };
+
+    fn find(&self, item: &CrashThread) -> Option<Damage> {
+        context_damage(item)
+    }
+}
+
+// The stacks of threads.
+#[derive(Clone, Copy)]
+struct EachStack;
+
+impl FindDamage<CrashThread> for EachStack {
+    ghost use Rattle.crash.specs.Damage.{stack_damage};
+    ghost use Rattle.crash.specs.Threads.{ThreadValue, thread_value};
+
+    ghost Value = { ThreadValue };
+
+    ghost value_of = { thread_value };
+
+    ghost damage_of = { stack_damage };
+
+    fn find(&self, item: &CrashThread) -> Option<Damage> {
+        stack_damage(item)
+    }
 }
 
 // Returns a stream that can't be read.

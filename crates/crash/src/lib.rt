@@ -10,11 +10,13 @@
 //!   what is known of its regions.
 //! - [`CrashDirectory`] has the entries that decide, each with the error of its stream.
 //! - [`CrashProcess`] has the process and the system on which it ran, [`CrashCause`] the exceptions
-//!   and the address of the crash, [`CrashThreads`] the threads, [`CrashModules`] the modules.
+//!   and the address of the crash, [`CrashThreads`] the threads with their registers and frames,
+//!   [`CrashModules`] the modules.
 //! - [`Damage`] is something that is there and can't be read. [`status_of`] is the status with which
 //!   a dump ends a program.
 //!
-//! A place in a module is the index of the module in its list, and the offset in it.
+//! A frame's place in a module is the index of the module in its list, and the offset in it. The
+//! frames by frame pointers stand apart from the words of the stack that may be return addresses.
 //!
 //! # Errors
 //!
@@ -35,6 +37,7 @@ mod crash;
 mod damage;
 mod directory;
 mod each;
+mod frames;
 mod last;
 mod modules;
 mod process;
@@ -49,6 +52,7 @@ pub use contexts::{ContextOrigin, ContextProblem, CrashContext};
 pub use crash::{Crash, status_of};
 pub use damage::Damage;
 pub use directory::{CrashDirectory, StreamEntry};
+pub use frames::{CrashFrame, CrashWalk};
 pub use modules::{CrashModule, CrashModules, UnloadedModule};
 pub use process::{CrashProcess, CrashSystem};
 pub use space::SpaceStreams;

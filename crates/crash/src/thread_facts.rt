@@ -1,4 +1,4 @@
-//! What is known of a thread by its id, and its last error.
+//! What is known of a thread by its id, its last error, and its registers.
 ghost use Rattle.std.specs.Prelude.{◌≡◌, IfOk, IsOkUnless, string_bytes};
 ghost use Rattle.std.specs.Option.{option_copied, option_map};
 ghost use Rattle.minidump.specs.Below.Contexts.Context.{map_ok};
@@ -7,9 +7,13 @@ ghost use Rattle.minidump.specs.Below.MemoryLists.Unified.{unified_list};
 ghost use Rattle.minidump.specs.Crash.{error_in};
 ghost use Rattle.minidump.specs.Thread.{last_error_address, thread_of};
 ghost use Rattle.crash.specs.Contents.{contents_of};
+ghost use Rattle.crash.specs.Contexts.{context_in, context_of, problem_in, system_of};
 ghost use Rattle.crash.specs.Threads.{info_in, last_error_code, last_error_in, last_info, name_in};
 
 use crate::contents::Contents;
+use crate::contexts::{
+    self, ContextProblem, CrashContext, exception_context, first_context, own_context,
+};
 use minidump::format::MINIDUMP_THREAD_INFO;
 use minidump::system_info::Cpu;
 use minidump::{
@@ -98,4 +102,30 @@ fn error_on<'a>(
 {
     laws::a_report_has_what_a_lookup_returns();
     thread.last_error(cpu, memory, names)
+}
+
+// Returns the registers of a thread.
+pub(crate) fn context_of(
+    alloc: Global,
+    contents: &Contents<'_>,
+    thread: &MinidumpThread<'_>,
+) -> Result<Option<CrashContext>, Error>
+    ensures context { IfOk result (λ context. option_map context_of context
+        ≡ context_in (contents_of contents.now) (thread_of thread.now)) }
+    ensures memory { IsOkUnless result Error.OutOfMemory }
+{
+    let exception = exception_context(contents, thread.raw.thread_id);
+    Ok(first_context(alloc, exception, own_context(contents, thread))?)
+}
+
+// Returns why the own context of a thread can't be used.
+pub(crate) fn problem_of(
+    contents: &Contents<'_>,
+    thread: &MinidumpThread<'_>,
+) -> Option<ContextProblem>
+    ensures { result ≡ problem_in (system_of (contents_of contents.now)) (thread_of thread.now).order
+        (thread_of thread.now).context }
+{
+    let context = own_context(contents, thread);
+    contexts::problem_of(contents, thread.context_bytes(), &context)
 }

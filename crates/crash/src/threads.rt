@@ -6,21 +6,19 @@ ghost use Rattle.minidump.specs.Promise.{exception_stream, thread_list_stream};
 ghost use Rattle.minidump.specs.Thread.{thread_of};
 ghost use Rattle.crash.specs.Cause.{exception_of};
 ghost use Rattle.crash.specs.Contents.{contents_of};
-ghost use Rattle.crash.specs.Contexts.{context_in, context_of, problem_in, system_of};
 ghost use Rattle.crash.specs.Threads.{all_threads, crashing_at, extra_in, extra_threads};
 ghost use Rattle.crash.specs.Threads.{has_thread, listed_in, thread_in, thread_value, threads_in};
 ghost use Rattle.crash.specs.Threads.{threads_of};
 
 use crate::cause::CrashException;
 use crate::contents::Contents;
-use crate::contexts::{
-    self, ContextProblem, CrashContext, exception_context, first_context, own_context,
-};
+use crate::contexts::{ContextProblem, CrashContext, exception_context, first_context};
 use crate::each::{MakeItem, make_items};
+use crate::frames::{CrashWalk, walk_of_exception, walk_of_thread};
 use crate::last::{Choose, last_index};
 use crate::process::copy;
 use crate::stacks::{StackRange, is_outside, named_stack, stack_memory};
-use crate::thread_facts::{info_of, last_error_of, name_of};
+use crate::thread_facts::{context_of, info_of, last_error_of, name_of, problem_of};
 use minidump::format::MINIDUMP_THREAD_INFO;
 use minidump::{CodeNames, Error, MinidumpException, MinidumpThread, MinidumpThreadList};
 use std::alloc::Global;
@@ -55,6 +53,8 @@ pub struct CrashThread {
     pub stack_memory: Option<StackRange>,
     /// Whether its entry names bytes of a stack that are not in the file.
     pub is_stack_outside: bool,
+    /// What is found in its stack, or `None` without system information or a context.
+    pub walk: Option<CrashWalk>,
     /// Its last error in words, as Windows keeps it.
     pub last_error: Option<String>,
     /// What else is known of it.
@@ -66,14 +66,15 @@ pub(crate) fn threads_of(
     alloc: Global,
     contents: &Contents<'_>,
     names: &CodeNames<'_>,
+    scan: usize,
     exception: Option<&CrashException>,
 ) -> Result<CrashThreads, Error>
     ensures threads { IfOk result (λ threads. threads_of threads
-        ≡ threads_in names.now (contents_of contents.now)
+        ≡ threads_in names.now scan (contents_of contents.now)
         (option_map exception_of (option_copied exception.entry))) }
     ensures memory { IsOkUnless result Error.OutOfMemory }
 {
-    let threads = all_threads(alloc, contents, names)?;
+    let threads = all_threads(alloc, contents, names, scan)?;
     let crashing = crashing_at(threads.as_slice(), exception);
     Ok(CrashThreads { threads, crashing })
 }
@@ -110,13 +111,14 @@ fn all_threads(
     alloc: Global,
     contents: &Contents<'_>,
     names: &CodeNames<'_>,
+    scan: usize,
 ) -> Result<Vec<CrashThread>, Error>
     ensures threads { IfOk result (λ ts. map thread_value ts.items
-        ≡ all_threads names.now (contents_of contents.now)) }
+        ≡ all_threads names.now scan (contents_of contents.now)) }
     ensures memory { IsOkUnless result Error.OutOfMemory }
 {
-    let mut threads = listed(alloc, contents, names)?;
-    push_extra(alloc, &mut threads, contents)?;
+    let mut threads = listed(alloc, contents, names, scan)?;
+    push_extra(alloc, &mut threads, contents, scan)?;
     Ok(threads)
 }
 
@@ -125,13 +127,19 @@ fn listed<'a>(
     alloc: Global,
     contents: &Contents<'a>,
     names: &CodeNames<'_>,
+    scan: usize,
 ) -> Result<Vec<CrashThread>, Error>
     ensures threads { IfOk result (λ ts. map thread_value ts.items
-        ≡ listed_in names.now (contents_of contents.now)) }
+        ≡ listed_in names.now scan (contents_of contents.now)) }
     ensures memory { IsOkUnless result Error.OutOfMemory }
 {
+    let each = EachThread {
+        contents,
+        names,
+        scan,
+    };
     match &contents.threads.threads {
-        Ok(list) => make_items(alloc, &EachThread { contents, names }, &list.threads),
+        Ok(list) => make_items(alloc, &each, &list.threads),
         Err(_) => Ok(Vec::new(alloc)),
     }
 }
@@ -141,9 +149,10 @@ fn push_extra(
     alloc: Global,
     threads: &mut Vec<CrashThread>,
     contents: &Contents<'_>,
+    scan: usize,
 ) -> Result<(), Error>
     ensures threads { OnOk result (map thread_value threads.new.items
-        ≡ map thread_value threads.old.items ++ extra_threads (contents_of contents.now)) }
+        ≡ map thread_value threads.old.items ++ extra_threads scan (contents_of contents.now)) }
     ensures memory { IsOkUnless result Error.OutOfMemory }
 {
     let Ok(exception) = &contents.threads.exception else {
@@ -152,7 +161,7 @@ fn push_extra(
     if has_thread(&contents.threads.threads, exception.thread_id) {
         return Ok(());
     }
-    threads.push(extra(alloc, contents, exception)?)?;
+    threads.push(extra(alloc, contents, exception, scan)?)?;
     Ok(())
 }
 
@@ -182,14 +191,16 @@ fn extra(
     alloc: Global,
     contents: &Contents<'_>,
     exception: &MinidumpException<'_>,
+    scan: usize,
 ) -> Result<CrashThread, Error>
     ensures thread { IfOk result (λ t. thread_value t
-        ≡ extra_in (contents_of contents.now) (exception_stream.value exception.now)) }
+        ≡ extra_in scan (contents_of contents.now) (exception_stream.value exception.now)) }
     ensures memory { IsOkUnless result Error.OutOfMemory }
 {
     let id = exception.thread_id;
     let name = copy(alloc, name_of(&contents.threads.names, id))?;
     let context = first_context(alloc, exception_context(contents, id), None)?;
+    let walk = walk_of_exception(alloc, contents, id, scan)?;
     Ok(CrashThread {
         id,
         is_listed: false,
@@ -199,6 +210,7 @@ fn extra(
         stack: None,
         stack_memory: None,
         is_stack_outside: false,
+        walk,
         last_error: None,
         info: info_of(&contents.threads.infos, id),
     })
@@ -209,6 +221,7 @@ fn extra(
 struct EachThread<'l, 'a, 'n> {
     contents: &'l Contents<'a>,
     names: &'l CodeNames<'n>,
+    scan: usize,
 }
 
 impl<'a> MakeItem<MinidumpThread<'a>> for EachThread<'_, 'a, '_> {
@@ -226,10 +239,10 @@ impl<'a> MakeItem<MinidumpThread<'a>> for EachThread<'_, 'a, '_> {
 
     ghost value_of = { thread_value };
 
-    ghost made_of = { λ e t. thread_in e.names.now (contents_of e.contents.now) t };
+    ghost made_of = { λ e t. thread_in e.names.now e.scan (contents_of e.contents.now) t };
 
     fn make_item(&self, alloc: Global, item: &MinidumpThread<'a>) -> Result<CrashThread, Error> {
-        thread_of(alloc, self.contents, self.names, item)
+        thread_of(alloc, self.contents, self.names, self.scan, item)
     }
 }
 
@@ -238,15 +251,17 @@ fn thread_of<'a>(
     alloc: Global,
     contents: &Contents<'a>,
     names: &CodeNames<'_>,
+    scan: usize,
     thread: &MinidumpThread<'a>,
 ) -> Result<CrashThread, Error>
     ensures item { IfOk result (λ t. thread_value t
-        ≡ thread_in names.now (contents_of contents.now) (thread_of thread.now)) }
+        ≡ thread_in names.now scan (contents_of contents.now) (thread_of thread.now)) }
     ensures memory { IsOkUnless result Error.OutOfMemory }
 {
     let id = thread.raw.thread_id;
     let name = copy(alloc, name_of(&contents.threads.names, id))?;
     let context = context_of(alloc, contents, thread)?;
+    let walk = walk_of_thread(alloc, contents, thread, scan)?;
     let last_error = last_error_of(alloc, contents, names, thread)?;
     Ok(CrashThread {
         id,
@@ -257,30 +272,8 @@ fn thread_of<'a>(
         stack: named_stack(&thread.raw.stack),
         stack_memory: stack_memory(contents, thread),
         is_stack_outside: is_outside(thread),
+        walk,
         last_error,
         info: info_of(&contents.threads.infos, id),
     })
-}
-
-// Returns the registers of a thread.
-fn context_of(
-    alloc: Global,
-    contents: &Contents<'_>,
-    thread: &MinidumpThread<'_>,
-) -> Result<Option<CrashContext>, Error>
-    ensures context { IfOk result (λ context. option_map context_of context
-        ≡ context_in (contents_of contents.now) (thread_of thread.now)) }
-    ensures memory { IsOkUnless result Error.OutOfMemory }
-{
-    let exception = exception_context(contents, thread.raw.thread_id);
-    Ok(first_context(alloc, exception, own_context(contents, thread))?)
-}
-
-// Returns why the own context of a thread can't be used.
-fn problem_of(contents: &Contents<'_>, thread: &MinidumpThread<'_>) -> Option<ContextProblem>
-    ensures { result ≡ problem_in (system_of (contents_of contents.now)) (thread_of thread.now).order
-        (thread_of thread.now).context }
-{
-    let context = own_context(contents, thread);
-    contexts::problem_of(contents, thread.context_bytes(), &context)
 }
