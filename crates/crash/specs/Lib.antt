@@ -3,6 +3,7 @@ pub mod Space
 pub mod Contents
 pub mod Last
 pub mod Directory
+pub mod Release
 pub mod Process
 pub mod Contexts
 pub mod Cause

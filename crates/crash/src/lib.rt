@@ -41,6 +41,7 @@ mod frames;
 mod last;
 mod modules;
 mod process;
+mod release;
 mod space;
 mod stacks;
 mod thread_facts;
