@@ -15,7 +15,8 @@ module _ {X V D : Type 0} (value : X → V) (find : V → Option D) where
       → after ≡ filter_map find (map value (take (i + 1) xs))
   next_found xs i x before after o within at found given step =
       let values : map value (take (i + 1) xs) ≡ map value (take i xs) ++ (value x ∷ []) =
-      ap (map value) (take_more xs i x within) ∙ map-append value (take i xs) (get_or xs i x ∷ []) ∙ ap (λ y. map value (take i xs) ++ (value y ∷ [])) (sym at) in
+      ap (map value) (take_more xs i x within) ∙ map-append value (take i xs) (get_or xs i x ∷ [])
+      ∙ ap (λ y. map value (take i xs) ++ (value y ∷ [])) (sym at) in
       step ∙ ap (λ l. l ++ cons_option o []) found ∙ ap (λ y. filter_map find (map value (take i xs)) ++ cons_option y []) given
       ∙ sym (filter_map-append find (map value (take i xs)) (value x ∷ [])) ∙ ap (filter_map find) (sym values)
 

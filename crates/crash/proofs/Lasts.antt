@@ -2,7 +2,8 @@
 use Rattle.std.specs.List.{enumerate_from}
 use Rattle.std.specs.Option.{option_map}
 use Rattle.std.specs.Prelude.{if◌then◌else◌}
-use Rattle.std.proofs.Common.{◌≡◌, ◌∙◌, ◌<◌, ◌≤◌, ◌+◌, ◌++◌, ◌∷◌, [], ℕ, suc, Bool, true, false, List, Option, Some, ap, arith, find, get_or, length, map, refl, reverse, sym, take}
+use Rattle.std.proofs.Common.{◌≡◌, ◌∙◌, ◌<◌, ◌≤◌, ◌+◌, ◌++◌, ◌∷◌, [], ℕ, suc, Bool, true, false, List, Option, Some, ap, arith, find, get_or}
+use Rattle.std.proofs.Common.{length, map, refl, reverse, sym, take}
 use Rattle.std.proofs.lemmas.List.{length-map, length-take-le, map-append, reverse-append, take_all, take_more}
 use Rattle.crash.specs.Last.{last_index}
 
@@ -36,9 +37,11 @@ module _ {X V : Type 0} (value : X → V) (is : V → Bool) where
       let next = get_or xs i x in
       let values : map value (take (i + 1) xs) ≡ map value (take i xs) ++ (value next ∷ []) =
       ap (map value) (take_more xs i x within) ∙ map-append value (take i xs) (next ∷ []) in
-      let more : last_index is (map value (take (i + 1) xs)) ≡ (if is (value next) then Some (length (map value (take i xs))) else last_index is (map value (take i xs))) =
+      let more : last_index is (map value (take (i + 1) xs)) ≡ (if is (value next) then Some (length (map value (take i xs)))
+      else last_index is (map value (take i xs))) =
       ap (last_index is) values ∙ one_more is (map value (take i xs)) (value next) in
-      step ∙ ap (λ o. if b then Some i else o) found ∙ ap (λ t. if t then Some i else last_index is (map value (take i xs))) (chosen ∙ ap (λ y. is (value y)) at)
+      step ∙ ap (λ o. if b then Some i else o) found
+      ∙ ap (λ t. if t then Some i else last_index is (map value (take i xs))) (chosen ∙ ap (λ y. is (value y)) at)
       ∙ ap (λ k. if is (value next) then Some k else last_index is (map value (take i xs))) (sym many) ∙ sym more
 
   -- all

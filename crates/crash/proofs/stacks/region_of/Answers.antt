@@ -5,4 +5,5 @@ use Rattle.crash.proofs.ThreadLemmas.{is_stack}
 use Rattle.crash.proofs.stacks.region_of.Goals as goal
 
 pub returns : goal.returns
-returns c = is_stack c.a_report_has_what_a_lookup_returns.ensures.regions (thread_of c.args.thread.now) (unified_list c.args.memory.now) _ c.stack_memory.ensures
+returns c =
+    is_stack c.a_report_has_what_a_lookup_returns.ensures.regions (thread_of c.args.thread.now) (unified_list c.args.memory.now) _ c.stack_memory.ensures

@@ -6,4 +6,5 @@ use Rattle.crash.proofs.thread_facts.error_on.Goals as goal
 
 pub returns : goal.returns
 returns c =
-    is_error c.a_report_has_what_a_lookup_returns.ensures.regions c.args.names.now (unified_list c.args.memory.now) (last_error_address c.args.cpu c.args.thread.now.raw.teb) _ c.last_error.ensures
+    is_error c.a_report_has_what_a_lookup_returns.ensures.regions c.args.names.now (unified_list c.args.memory.now)
+    (last_error_address c.args.cpu c.args.thread.now.raw.teb) _ c.last_error.ensures
