@@ -9,6 +9,7 @@ pub mod ThreadLemmas
 pub mod PrintLemmas
 pub mod ReportLemmas
 pub mod SharedLemmas
+pub mod SystemLemmas
 pub mod CrashLemmas
 -- for the crates above
 pub use Rattle.minidump_format.proofs.Blocking

@@ -76,10 +76,13 @@ meaning_of_bytes meaning d system (Err e) = Err e
 abbrev pub stream_with : {V : Type 0} → Option System → ℕ → Meaning V → Dump → Result V Error
 stream_with system stream_type meaning d = meaning_of_bytes meaning d system (raw_stream stream_type d)
 
--- the system information, where its stream parses with none handed in. Else it is absent, and the
--- dump is still read
+-- the system information by its own stream, with none handed in, or the error
+abbrev pub own_system : Dump → Result System Error
+own_system d = stream_with None (number_of SystemInfoStream) system_info_in d
+
+-- the system information, where its stream parses. Else it is absent, and the dump is still read
 abbrev pub dump_system : Dump → Option System
-dump_system d = result_ok (stream_with None (number_of SystemInfoStream) system_info_in d)
+dump_system d = result_ok (own_system d)
 
 -- where reading that system information may run out of memory
 abbrev pub system_memory : Dump → Type 0

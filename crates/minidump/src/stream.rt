@@ -67,7 +67,7 @@ impl<'a> Minidump<'a> {
             Source::new(bytes),
             self.source,
             self.endian,
-            self.system_info.as_ref(),
+            self.system_info(),
             steps,
         )
     }
