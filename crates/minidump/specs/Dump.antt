@@ -12,6 +12,7 @@ use Rattle.minidump_format.specs.declared.format.stream_type.MINIDUMP_STREAM_TYP
 use Rattle.minidump_format.specs.Header.{located}
 use Rattle.minidump_format.specs.StreamType.{number_of}
 use Rattle.minidump_format.specs.Answer.{Gives}
+use Rattle.minidump_context.specs.Context.{map_ok}
 use Rattle.minidump_system.specs.StreamSpec.{Meaning, StreamSpec}
 use Rattle.minidump_system.specs.SystemInfo.{System, system_info_in, system_info_stream}
 use Rattle.minidump.specs.declared.directory.DecidingEntry.{DecidingEntry}
@@ -123,6 +124,12 @@ stream_memory spec d = IsOkAnd (raw_stream spec.stream_type d) (λ b. spec.memor
 -- a result is the stream of a table or its error; or memory ran out where it may
 abbrev pub IsStreamOf : {S V : Type 0} → StreamSpec S V → Dump → Result S Error → Type 0
 IsStreamOf spec d result = Gives spec.value (stream_memory spec d) result (stream_of spec d)
+
+-- a result holds that stream or its error; or memory ran out where it may
+abbrev pub IsTriedStream : {S V : Type 0} → StreamSpec S V → Dump
+    → Result (Result S Error) Error → Type 0
+IsTriedStream spec d (Ok tried) = map_ok spec.value tried ≡ stream_of spec d
+IsTriedStream spec d (Err e) = (e ≡ OutOfMemory) × stream_memory spec d
 
 -- a result is that stream, or none where it is missing or malformed; or memory ran out where it may
 abbrev pub IsFoundStream : {S V : Type 0} → StreamSpec S V → Dump → Result (Option S) Error → Type 0
