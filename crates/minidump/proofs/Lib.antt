@@ -1,6 +1,7 @@
 -- The lemmas of this crate.
 pub mod DirectoryLemmas
 pub mod EntryLemmas
+pub mod ExceptionLemmas
 pub mod LawsLemmas
 pub mod ListRules
 pub mod NumberedLemmas

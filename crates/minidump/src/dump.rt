@@ -1,9 +1,9 @@
-ghost use Rattle.std.specs.Prelude.{◌≡◌};
+ghost use Rattle.std.specs.Prelude.{◌≡◌, true};
 ghost use Rattle.std.proofs.Props.{props};
 ghost use Rattle.minidump_bytes.specs.Source.{bytes_of};
 ghost use Rattle.minidump_context.specs.Context.{map_ok};
 ghost use Rattle.minidump_system.specs.SystemInfo.{system_info_of};
-ghost use Rattle.minidump.specs.Directory.{directory};
+ghost use Rattle.minidump.specs.Directory.{directory, is_readable};
 ghost use Rattle.minidump.specs.Deciding.{Decides};
 ghost use Rattle.minidump.specs.Dump.{own_system};
 
@@ -31,6 +31,7 @@ pub struct Minidump<'a> {
     pub(crate) system: Result<MinidumpSystemInfo, Error>,
     ghost decides: { Decides entries.items
         (directory endian (bytes_of source) header) } by { Prim.hlevel props },
+    ghost readable: { is_readable (bytes_of source) header ≡ true },
     ghost knows: { map_ok system_info_of system
         ≡ own_system (record { file = bytes_of source; order = endian; header = header }) },
 }

@@ -39,6 +39,8 @@
 //!   `laws::streams_are_read_as_promised`. What contexts, modules and `Display` state of themselves
 //!   is as defined: `laws::contexts_are_as_defined`, `modules_are_identified_as_defined`,
 //!   `texts_are_as_defined`.
+//! - The exceptions of all entries of their type, each read or its error: `exceptions`, by
+//!   `exceptions_in`. The last is the stream: `laws::last_exception_is_the_stream`.
 //! - The memory is the 64-bit list, else, where that is missing or malformed, the memory list:
 //!   `get_memory`, by `memories_of_dump`. `OutOfMemory` is no reason to take the other list.
 //! - A directory without entries has no stream and no memory, so that no read of either is
@@ -76,6 +78,7 @@ mod directory;
 mod dump;
 mod each_stream;
 mod exception;
+mod exceptions;
 mod file;
 mod header;
 pub mod laws;
