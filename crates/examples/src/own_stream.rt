@@ -1,5 +1,5 @@
-//! Reads a stream whose type is a vendor's own and has no name: an example of a type of stream in a
-//! crate on `minidump` alone.
+//! Reads a stream whose type is a vendor's own and has no name: an example of a type of stream on
+//! `minidump` alone.
 //!
 //! # Errors
 //!
@@ -13,12 +13,11 @@
 //! - The build is the one that the table assigns to the stream of type 0x11223344 in these bytes,
 //!   or the error is the one that is assigned to them: `read_build`, by `build_of_file`. The proof
 //!   uses the contracts of `minidump`, and nothing below.
-#![tactic(auto)]
 
 ghost use Rattle.std.proofs.Common.{rules};
 ghost use Rattle.minidump.specs.Below.Format.Answer.{Gives};
 ghost use Rattle.minidump.specs.Dump.{HasEntries};
-ghost use Rattle.own_stream.specs.Build.{build_of, build_of_file};
+ghost use Rattle.examples.specs.OwnStream.{build_of, build_of_file};
 
 use minidump::{
     Endian, Error, Minidump, MinidumpStream, MinidumpSystemInfo, Record, Source, Steps,
@@ -45,7 +44,7 @@ struct RawBuild {
 }
 
 impl Record for RawBuild {
-    ghost use Rattle.own_stream.specs.Build.{raw_build};
+    ghost use Rattle.examples.specs.OwnStream.{raw_build};
 
     ghost SIZE = { 12 };
 
@@ -67,7 +66,7 @@ impl Record for RawBuild {
 /// Reads the stream. Returns `StreamReadFailure` if it is shorter than 12 bytes, `DataError` if no
 /// text is at the RVA of the name.
 impl<'a> MinidumpStream<'a> for Build {
-    ghost use Rattle.own_stream.specs.Build.{BuildValue, build_stream};
+    ghost use Rattle.examples.specs.OwnStream.{BuildValue, build_stream};
 
     ghost Value = { BuildValue };
 

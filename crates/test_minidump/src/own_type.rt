@@ -1,9 +1,9 @@
-//! A stream of a caller's own type, which has no name: that of the example `own_stream`.
+//! A stream of a caller's own type, which has no name: that of `examples::own_stream`.
 
 use crate::given::dump_of;
+use examples::own_stream::{Build, read_build};
 use minidump::{Endian, Error};
 use minidump_synth::{BOTH, SynthMinidump};
-use own_stream::{Build, read_build};
 use std::alloc::Global;
 
 const BUILD: u32 = 0x1122_3344;

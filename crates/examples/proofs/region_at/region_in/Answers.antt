@@ -2,7 +2,7 @@
 use Rattle.std.proofs.Common.{refl}
 use Rattle.std.specs.Prelude.{None, Some}
 use Rattle.minidump.specs.Below.MemoryLists.Unified.{unified_region}
-use Rattle.region_at.proofs.region_in.Goals as goal
+use Rattle.examples.proofs.region_at.region_in.Goals as goal
 
 pub returns-in_err-region : goal.returns-in_err-region
 returns-in_err-region c = rw c.from_residual.ensures (None, c.in_err-region.ensures.found, refl)

@@ -5,8 +5,8 @@ use Rattle.std.specs.Option.{option_map}
 use Rattle.minidump.specs.Memory.{memories_of_dump}
 use Rattle.minidump.specs.Below.MemoryLists.Unified.{UnifiedRegions, unified_list}
 use Rattle.minidump.specs.DumpValue.{dump_of}
-use Rattle.region_at.specs.RegionAt.{IsInMemory}
-use Rattle.region_at.proofs.region_at.Goals as goal
+use Rattle.examples.specs.RegionAt.{IsInMemory}
+use Rattle.examples.proofs.region_at.region_at.Goals as goal
 
 pub returns-in_err-memory-clause-error : goal.returns-in_err-memory-clause-error
 returns-in_err-memory-clause-error c =

@@ -18,7 +18,7 @@ const VERSION_4: &[u8] = &[
 // A dump of one record, of which so many bytes lie in front of its texts.
 fn dump_of(alloc: Global, record: &[u8], start: u8) -> Result<Vec<u8>, AllocError> {
     let mut dump = SynthMinidump::new(alloc, Endian::Little);
-    dump.add(record);
+    dump.add(dump.section().bytes(record));
     let mut stream = [0; 172];
     stream[4] = 1;
     stream[8] = start;

@@ -1,5 +1,5 @@
-//! Tests of `minidump` and of the examples `region_at` and `own_stream`, on their public calls. They
-//! stand apart from them, since a library with a test is proved twice.
+//! Tests of `minidump` and of the modules `region_at` and `own_stream` of `examples`, on their public
+//! calls. They stand apart from them, since a library with a test is proved twice.
 //!
 //! They show what no contract says: that a call succeeds where there is memory, that definitions
 //! mean the format, and what becomes of files. So each expected value is written from the format's

@@ -8,8 +8,8 @@ use Rattle.minidump.specs.Below.Format.Answer.{GivesError}
 use Rattle.minidump.specs.Dump.{Dump, HasEntries, dump_in, stream_memory, stream_of}
 use Rattle.minidump.specs.DumpValue.{dump_of}
 use Rattle.minidump.specs.Promise.{thread_list_stream}
-use Rattle.thread_ids.specs.ThreadIds.{ids_in}
-use Rattle.thread_ids.proofs.thread_ids.Goals as goal
+use Rattle.examples.specs.ThreadIds.{ids_in}
+use Rattle.examples.proofs.thread_ids.thread_ids.Goals as goal
 
 -- the error of the list of threads
 error_of_stream : (bytes : List ℕ) (d : Dump) (e : Error) → dump_in bytes ≡ Ok d → (e ≡ OutOfMemory → 0 < d.header.stream_count)

@@ -1,4 +1,4 @@
-//! Lists the ids of a minidump's threads: an example of a crate on `minidump` alone, over a list.
+//! Lists the ids of a minidump's threads: an example of a call on `minidump` alone, over a list.
 //!
 //! # Errors
 //!
@@ -12,13 +12,12 @@
 //! Of a file, its bytes are in the vector whether they are a dump or not; it stays where the file
 //! can't be opened, and is empty where a read fails or finds no memory: `thread_ids_of_file`. The
 //! proofs use the contracts and a law of `minidump`, and nothing below.
-#![tactic(auto)]
 
 ghost use Rattle.std.specs.Prelude.{◌≡◌, IfOk, map};
 ghost use Rattle.minidump.specs.Below.Format.Answer.{Gives};
 ghost use Rattle.minidump.specs.Dump.{HasEntries};
 ghost use Rattle.minidump.specs.Promise.{thread_list_stream};
-ghost use Rattle.thread_ids.specs.ThreadIds.{ids_in, ids_of};
+ghost use Rattle.examples.specs.ThreadIds.{ids_in, ids_of};
 
 mod file;
 

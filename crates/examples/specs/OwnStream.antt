@@ -12,8 +12,8 @@ use Rattle.minidump.specs.Below.Bytes.Text16.{TakesMemory16, text16}
 use Rattle.minidump.specs.Below.System.Reads.{and_then}
 use Rattle.minidump.specs.Below.System.StreamSpec.{StreamSpec}
 use Rattle.minidump.specs.Dump.{dump_in, stream_of}
-use Rattle.own_stream.specs.declared.Build.{Build}
-use Rattle.own_stream.specs.declared.RawBuild.{RawBuild}
+use Rattle.examples.specs.declared.own_stream.Build.{Build}
+use Rattle.examples.specs.declared.own_stream.RawBuild.{RawBuild}
 
 -- a build as a value: its name in UTF-8
 pub record BuildValue : Type 0 where

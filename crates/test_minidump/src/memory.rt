@@ -1,7 +1,7 @@
-//! The region at an address, by the example `region_at`.
+//! The region at an address, by `examples::region_at`.
 
+use examples::region_at::region_at;
 use minidump::Error;
-use region_at::region_at;
 
 // A header, one entry of the directory, a memory list of one region, and its four bytes, at 0x1000.
 const ONE_REGION: [u8; 68] = [

@@ -6,9 +6,9 @@ use Rattle.minidump.specs.declared.Error.TheVariants.{OutOfMemory}
 use Rattle.minidump.specs.Below.Format.Answer.{Gives, GivesError}
 use Rattle.minidump.specs.Dump.{Dump, HasEntries, IsStreamOf, dump_in, stream_memory, stream_of}
 use Rattle.minidump.specs.DumpValue.{dump_of}
-use Rattle.own_stream.specs.declared.Build.{Build}
-use Rattle.own_stream.specs.Build.{build_of, build_of_file, build_stream}
-use Rattle.own_stream.proofs.read_build.Goals as goal
+use Rattle.examples.specs.declared.own_stream.Build.{Build}
+use Rattle.examples.specs.OwnStream.{build_of, build_of_file, build_stream}
+use Rattle.examples.proofs.own_stream.read_build.Goals as goal
 
 -- the error of the stream
 error_of_stream : (bytes : List ℕ) (d : Dump) (e : Error) → dump_in bytes ≡ Ok d → (e ≡ OutOfMemory → 0 < d.header.stream_count)

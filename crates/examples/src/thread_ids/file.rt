@@ -2,9 +2,9 @@ ghost use Rattle.std.specs.Prelude.{Err, IfErr, IfOk, OnOk};
 ghost use Rattle.minidump.specs.Below.Format.Answer.{Gives};
 ghost use Rattle.minidump.specs.Dump.{HasEntries};
 ghost use Rattle.minidump.specs.File.{IsFile, ReadsFile};
-ghost use Rattle.thread_ids.specs.ThreadIds.{ids_in};
+ghost use Rattle.examples.specs.ThreadIds.{ids_in};
 
-use crate::thread_ids;
+use super::thread_ids;
 use minidump::{Error, OpenPath, read_file};
 use std::alloc::Global;
 

@@ -1,4 +1,4 @@
-//! Finds the region of a minidump's memory that contains an address: an example of a crate on
+//! Finds the region of a minidump's memory that contains an address: an example of a call on
 //! `minidump` alone, which the README quotes.
 //!
 //! # Errors
@@ -11,13 +11,12 @@
 //! The region is the kept one that contains the address, of those that the format assigns to these
 //! bytes, and it is `None` where no kept region contains it: `region_at`, by `IsRegionAt` and
 //! `IsDumpError`. The proof uses the contracts of `minidump`, and nothing below.
-#![tactic(auto)]
 
 ghost use Rattle.std.specs.Prelude.{IfErr, IfOk};
 ghost use Rattle.std.specs.Option.{option_map};
 ghost use Rattle.minidump.specs.Below.MemoryLists.Unified.{unified_list, unified_regions};
 ghost use Rattle.minidump.specs.Dump.{IsDumpError};
-ghost use Rattle.region_at.specs.RegionAt.{IsRegionAt, IsRegionIn};
+ghost use Rattle.examples.specs.RegionAt.{IsRegionAt, IsRegionIn};
 
 use minidump::{Error, Minidump, UnifiedMemoryList};
 use std::alloc::Global;

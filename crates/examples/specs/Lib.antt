@@ -1,0 +1,4 @@
+-- The definitions that the contracts cite.
+pub mod OwnStream
+pub mod RegionAt
+pub mod ThreadIds

@@ -1,2 +1,0 @@
--- The definitions that the contract cites.
-pub mod RegionAt
