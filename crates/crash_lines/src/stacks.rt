@@ -4,7 +4,8 @@ ghost use Rattle.minidump.specs.Below.MemoryLists.Unified.{unified_list, unified
 ghost use Rattle.minidump.specs.Promise.{exception_stream};
 ghost use Rattle.minidump.specs.Thread.{accepted_context, thread_of};
 ghost use Rattle.minidump.specs.ThreadText.{stack_of};
-ghost use Rattle.stack_walk.specs.Threads.{process_of};
+ghost use Rattle.stack_walk.specs.Threads.{process_of, stack_in};
+ghost use Rattle.stack_walk.specs.Walk.{frames_in};
 ghost use Rattle.crash_page.specs.Page.{Adds};
 ghost use Rattle.crash_page.specs.Part.{each};
 ghost use Rattle.crash_lines.specs.Contents.{contents_of, process_in};
@@ -15,7 +16,7 @@ ghost use Rattle.crash_lines.specs.Stacks.{no_stack_part, no_system_part, others
 ghost use Rattle.crash_lines.specs.Stacks.{exception_frames_part, exception_stack_part, exception_thread_part};
 ghost use Rattle.crash_lines.specs.Stacks.{stack_part, thread_line, extra_thread_part};
 ghost use Rattle.crash_lines.specs.Stacks.{thread_frames_part};
-ghost use Rattle.crash_lines.specs.Walks.{AreExceptionFrames, AreWalks, AreWalksIn, HasExceptionFrames, Walks};
+ghost use Rattle.crash_lines.specs.Walks.{AreWalks, AreWalksIn, Walks, exception_frames_in, region_at_pointer};
 
 use crate::Limits;
 use crate::contents::{Contents, process_of};
@@ -439,10 +440,11 @@ fn exception_frames(
     exception: &MinidumpException<'_>,
     limit: usize,
 ) -> Result<Vec<StackFrame>, Error>
-    ensures frames { IfOk result (λ frames. AreExceptionFrames (process_of process.now)
+    ensures frames { IfOk result (λ frames. frames.items ≡ exception_frames_in
+        (process_of process.now)
         (accepted_context (process_of process.now).system.raw.processor_architecture
         (exception_stream.value exception.now).order (exception_stream.value exception.now).context)
-        limit frames.items) }
+        limit) }
     ensures memory { IsOkUnless result Error.OutOfMemory }
 {
     match exception.context(process.system, None) {
@@ -458,17 +460,29 @@ fn context_frames(
     context: &MinidumpContext,
     limit: usize,
 ) -> Result<Vec<StackFrame>, Error>
-    ensures frames { IfOk result
-        (λ frames. HasExceptionFrames (process_of process.now) context.now limit frames.items) }
+    ensures frames { IfOk result (λ frames. frames.items ≡ frames_in (stack_in
+        (process_of process.now) (region_at_pointer (process_of process.now) context.now.raw))
+        context.now limit) }
     ensures memory { IsOkUnless result Error.OutOfMemory }
 {
     let stack = Stack {
-        memory: process
-            .memory
-            .memory_at_address(context.get_stack_pointer()),
+        memory: memory_at_pointer(process, context),
         modules: process.modules,
         infos: process.infos,
         width: process.system.cpu.pointer_width(),
     };
     frames(alloc, &stack, context, limit)
+}
+
+// Returns the region of the memory at the stack pointer of a context.
+fn memory_at_pointer<'l, 'a>(
+    process: &Process<'l, 'a>,
+    context: &MinidumpContext,
+) -> Option<UnifiedMemory<'l, 'a>>
+    ensures { option_map unified_region result
+        ≡ region_at_pointer (process_of process.now) context.now.raw }
+{
+    process
+        .memory
+        .memory_at_address(context.get_stack_pointer())
 }

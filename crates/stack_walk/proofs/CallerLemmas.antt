@@ -1,5 +1,5 @@
--- A caller stands on the stack: its frame's record lies in the region, at or above the lowest
--- address, and its own stack pointer after it.
+-- A caller stands on the stack: its frame's record lies in the region, at or above the stack
+-- pointer, and its own stack pointer after it.
 use Rattle.std.proofs.Common.{◌≡◌, ◌∙◌, ℕ, ◌+◌, ◌-◌, ◌*◌, ◌<◌, ◌≤◌, ◌^◌, length, Bool, true, false, Option, Some, None, refl, ap, sym, arith}
 use Rattle.std.specs.Prelude.{nat_lt, nat_le, slice_range, if◌then◌else◌}
 use Rattle.std.specs.Option.{option_and_then, option_map_or}
@@ -13,7 +13,7 @@ use Rattle.minidump.specs.Below.MemoryLists.Unified.{UnifiedRegion}
 use Rattle.minidump.specs.Below.System.Cpu.{pointer_bytes}
 use Rattle.stack_walk.specs.declared.frame.FrameTrust.TheVariants.{FramePointer}
 use Rattle.stack_walk.specs.declared.frame.StackFrame.{StackFrame}
-use Rattle.stack_walk.specs.Frames.{StackValue, caller_at, caller_by, caller_of, lowest_record, pointer_at, pointer_in, stack_bytes}
+use Rattle.stack_walk.specs.Frames.{StackValue, caller_at, caller_by, caller_of, pointer_at, pointer_in, stack_bytes}
 use Rattle.stack_walk.specs.Lookups.{call_site, is_code}
 
 -- what a step that succeeds is made of
@@ -79,7 +79,8 @@ pub record Record (s : StackValue) (f g : StackFrame) : Type 0 where
   pub address : ℕ
   pub saved : ℕ
   pub is_size : pointer_bytes s.width ≡ Some size
-  pub above : lowest_record f ≤ address
+  pub points : f.frame_pointer ≡ Some address
+  pub above : f.stack_pointer ≤ address
   pub low : address + 2 * size < 2 ^ 64
   pub first : pointer_at s address ≡ Some saved
   pub second : pointer_at s (address + size) ≡ Some g.instruction
@@ -138,17 +139,18 @@ at s size address g e =
 pub has_record : (s : StackValue) (f g : StackFrame) → caller_of s f ≡ Some g → Record s f g
 has_record s f g e =
     let size =
-    step (λ size. option_and_then (λ address. if nat_lt address (lowest_record f) then None else caller_at s size address) f.frame_pointer)
+    step (λ size. option_and_then (λ address. if nat_lt address f.stack_pointer then None else caller_at s size address) f.frame_pointer)
     (pointer_bytes s.width) g e
     in
-    let address = step (λ address. if nat_lt address (lowest_record f) then None else caller_at s size.0 address) f.frame_pointer g size.2 in
-    let above = failed (nat_lt address.0 (lowest_record f)) (caller_at s size.0 address.0) g address.2 in
+    let address = step (λ address. if nat_lt address f.stack_pointer then None else caller_at s size.0 address) f.frame_pointer g size.2 in
+    let above = failed (nat_lt address.0 f.stack_pointer) (caller_at s size.0 address.0) g address.2 in
     let r = at s size.0 address.0 g above.1 in
     record {
       size = size.0;
       address = address.0;
       saved = r.saved;
       is_size = size.1;
+      points = address.1;
       above = grind (arith, nat_tests, above.0);
       low = r.low;
       first = r.first;
@@ -157,16 +159,12 @@ has_record s f g e =
       trust = r.trust;
     }
 
--- the lowest record of a caller stands after that of its frame
-pub lowest_of_caller : (s : StackValue) (f g : StackFrame) → (r : Record s f g) → lowest_record g ≡ r.address + 2 * r.size
-lowest_of_caller s f g r = rw r.trust r.after
-
 -- a caller lies higher than its frame, and in the region
 pub climbs : (s : StackValue) (f g : StackFrame) → caller_of s f ≡ Some g
-    → (lowest_record f + 8 ≤ lowest_record g) × (base_of s + 8 ≤ lowest_record g) × (lowest_record g ≤ end_of s)
+    → (f.stack_pointer + 8 ≤ g.stack_pointer) × (base_of s + 8 ≤ g.stack_pointer) × (g.stack_pointer ≤ end_of s)
 climbs s f g e =
     let r = has_record s f g e in
-    let lowest = lowest_of_caller s f g r in
+    let after = r.after in
     let some = wide s.width r.size r.is_size in
     let first = in_stack s r.address r.saved r.size r.is_size r.first in
     let second = in_stack s (r.address + r.size) g.instruction r.size r.is_size r.second in

@@ -10,7 +10,7 @@ use Rattle.minidump.specs.Below.System.Cpu.{pointer_bytes}
 use Rattle.stack_walk.specs.declared.frame.FrameTrust.TheVariants.{Scan}
 use Rattle.stack_walk.specs.declared.frame.StackFrame.{StackFrame}
 use Rattle.stack_walk.specs.Evidence.{HasEvidence}
-use Rattle.stack_walk.specs.Frames.{AreCallers, AreFrames, StackValue, candidate_at, candidate_by, pointer_at, scan, word_candidate, words_from}
+use Rattle.stack_walk.specs.Frames.{AreCallers, AreFrames, StackValue, candidate_at, candidate_by, context_frame, pointer_at, scan, word_candidate, words_from}
 use Rattle.stack_walk.specs.Lookups.{call_site, is_code, may_be_run}
 use Rattle.stack_walk.proofs.CallerLemmas.{Record, has_record, passed, step}
 
@@ -92,10 +92,10 @@ all_candidates s from limit =
 pub all_evidence : (s : StackValue) (c : MinidumpContext) (limit : ℕ) (first : StackFrame) (rest : List StackFrame)
     → AreFrames s c limit (first ∷ rest) → All (HasEvidence s) rest
 all_evidence s c limit first rest x =
-    let whole : first ∷ rest ≡ x.first ∷ (x.is_walk.callers ++ scan s x.last.stack_pointer limit) =
+    let whole : first ∷ rest ≡ context_frame c ∷ (x.is_walk.callers ++ scan s x.last.stack_pointer limit) =
     x.whole ∙ ap (λ w. w ++ scan s x.last.stack_pointer limit) x.is_walk.whole
     in
     let same : x.is_walk.callers ++ scan s x.last.stack_pointer limit ≡ rest = cc in
     rw (sym same)
     (All-append (HasEvidence s) x.is_walk.callers (scan s x.last.stack_pointer limit)
-    (all_callers s x.first x.is_walk.callers x.last x.is_walk.are_callers) (all_candidates s x.last.stack_pointer limit))
+    (all_callers s (context_frame c) x.is_walk.callers x.last x.is_walk.are_callers) (all_candidates s x.last.stack_pointer limit))

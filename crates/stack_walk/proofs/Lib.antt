@@ -1,8 +1,8 @@
 -- The lemmas of this crate.
 pub mod CallerLemmas
 pub mod WalkLemmas
-pub mod ContextLemmas
 pub mod FramesLemmas
+pub mod UpLemmas
 pub mod EvidenceLemmas
 pub mod ScanLemmas
-pub mod ThreadLemmas
+pub mod StackLemmas

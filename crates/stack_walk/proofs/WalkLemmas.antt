@@ -1,8 +1,8 @@
--- A walk, a caller at a time; from each frame there is exactly one.
-use Rattle.std.proofs.Common.{◌≡◌, ◌∙◌, ℕ, suc, zero, ◌<◌, ◌≤◌, ◌+◌, ◌*◌, List, [], ◌∷◌, ◌++◌, length, Option, Some, None}
+-- A walk, a caller at a time; from each frame there is one at most.
+use Rattle.std.proofs.Common.{◌≡◌, ◌∙◌, ◌≤◌, ◌+◌, ◌*◌, List, [], ◌∷◌, ◌++◌, length, Some, None}
 use Rattle.std.proofs.Common.{refl, ap, sym, subst, arith, append_assoc, append-nil}
 use Rattle.stack_walk.specs.declared.frame.StackFrame.{StackFrame}
-use Rattle.stack_walk.specs.Frames.{AreCallers, IsWalk, StackValue, caller_of, lowest_record, stack_bytes}
+use Rattle.stack_walk.specs.Frames.{AreCallers, IsWalk, StackValue, caller_of, stack_bytes}
 use Rattle.stack_walk.proofs.CallerLemmas.{climbs, end_of}
 
 -- the frames so far, before the callers of the last one, are a walk from the first
@@ -26,7 +26,7 @@ pub walking_end : (s : StackValue) (first last : StackFrame) (done : List StackF
     → IsWalk s first done last
 walking_end s first last done none w = subst (λ (d : List StackFrame). IsWalk s first d last) (append-nil done) (w.whole [] last (none, refl))
 
--- ---- exactly one
+-- ---- one at most
 
 same_callers : (s : StackValue) (f : StackFrame) (xs ys : List StackFrame) (l m : StackFrame) → AreCallers s f xs l → AreCallers s f ys m
     → (ys ≡ xs) × (m ≡ l)
@@ -46,31 +46,10 @@ same_walk s first xs ys l m x y =
     let same = same_callers s first x.callers y.callers l m x.are_callers y.are_callers in
     (y.whole ∙ ap (λ d. first ∷ d) same.0 ∙ sym x.whole, same.1)
 
-record SomeCallers (s : StackValue) (f : StackFrame) : Type 0 where
-  callers : List StackFrame
-  last : StackFrame
-  are_callers : AreCallers s f callers last
-
-by_caller : (s : StackValue) (f : StackFrame) (o : Option StackFrame) → caller_of s f ≡ o
-    → ((g : StackFrame) → caller_of s f ≡ Some g → SomeCallers s g) → SomeCallers s f
-by_caller s f None is more = record { callers = []; last = f; are_callers = (is, refl) }
-by_caller s f (Some g) is more = (let rest = more g is in record { callers = g ∷ rest.callers; last = rest.last; are_callers = (is, rest.are_callers) })
-
-some_callers : (s : StackValue) (room : ℕ) (f : StackFrame) → end_of s < room + lowest_record f → SomeCallers s f
-some_callers s zero f few = by_caller s f (caller_of s f) refl (λ g is. absurd (let up = climbs s f g is in omega (arith, up.0, up.2, few)))
-some_callers s (suc room) f few =
-    by_caller s f (caller_of s f) refl (λ g is. some_callers s room g (let up = climbs s f g is in omega (arith, up.0, up.2, few)))
-
--- and one
-pub a_walk : (s : StackValue) (first : StackFrame) → (walked : List StackFrame) × (last : StackFrame) × IsWalk s first walked last
-a_walk s first =
-    let some = some_callers s (end_of s + 1) first (omega arith) in
-    (first ∷ some.callers, some.last, record { callers = some.callers; whole = refl; are_callers = some.are_callers })
-
 -- ---- few
 
-callers_fit : (s : StackValue) (f : StackFrame) (gs : List StackFrame) (last : StackFrame) → lowest_record f ≤ end_of s → AreCallers s f gs last
-    → 8 * length gs + lowest_record f ≤ end_of s
+callers_fit : (s : StackValue) (f : StackFrame) (gs : List StackFrame) (last : StackFrame) → f.stack_pointer ≤ end_of s → AreCallers s f gs last
+    → 8 * length gs + f.stack_pointer ≤ end_of s
 callers_fit s f [] last within callers = omega (arith, within)
 callers_fit s f (g ∷ gs) last within callers =
     let up = climbs s f g callers.0 in omega (arith, up.0, callers_fit s g gs last up.2 callers.1)

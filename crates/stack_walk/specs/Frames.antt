@@ -1,7 +1,7 @@
 -- The frames of a thread: that of its context, its callers by the frame records that the stack
 -- holds, and the words of the stack that may be return addresses.
 use Rattle.std.specs.Prelude.{◌≡◌, ℕ, ◌+◌, ◌*◌, ◌/◌, ◌^◌, max, nat_lt, ◌&&◌, List, [], ◌∷◌, ◌++◌}
-use Rattle.std.specs.Prelude.{codes, length, take, Option, Some, None, if◌then◌else◌}
+use Rattle.std.specs.Prelude.{codes, length, take, Option, Some, None, if◌then◌else◌, unwrap_or}
 use Rattle.std.specs.Int.{div_ceil}
 use Rattle.std.specs.List.{filter_map, range_with_len}
 use Rattle.std.specs.Option.{option_and_then, option_map, option_map_or}
@@ -18,7 +18,6 @@ use Rattle.minidump.specs.Below.MemoryLists.UnifiedInfo.{InfoRegion, info_list, 
 use Rattle.minidump.specs.Below.Modules.Module.{ModuleValue}
 use Rattle.minidump.specs.Below.System.Cpu.{pointer_bytes}
 use Rattle.minidump.specs.Promise.{module_list_stream}
-use Rattle.stack_walk.specs.declared.frame.FrameTrust.{FrameTrust}
 use Rattle.stack_walk.specs.declared.frame.FrameTrust.TheVariants.{Context, FramePointer, Scan}
 use Rattle.stack_walk.specs.declared.frame.StackFrame.{StackFrame}
 use Rattle.stack_walk.specs.declared.stack.Stack.{Stack}
@@ -65,15 +64,22 @@ frame_register (Arm c) = codes "fp"
 frame_register (Arm64 c) = codes "fp"
 frame_register (OldArm64 c) = codes "fp"
 
--- a frame is that of a context: its registers are the context's
-pub record IsContextFrame (c : MinidumpContext) (f : StackFrame) : Type 0 where
-  pub instruction : value_in (registers_of c.raw) (registers_of c.raw).instruction_pointer
-      ≡ Some f.instruction
-  pub stack_pointer : value_in (registers_of c.raw) (registers_of c.raw).stack_pointer
-      ≡ Some f.stack_pointer
-  pub frame_pointer : f.frame_pointer ≡ valid_value_in c.valid (registers_of c.raw)
-      (frame_register c.raw)
-  pub trust : f.trust ≡ Context
+-- the instruction pointer and the stack pointer of a context, which each has
+abbrev pub instruction_pointer_in : MinidumpRawContext → ℕ
+instruction_pointer_in raw =
+    unwrap_or (value_in (registers_of raw) (registers_of raw).instruction_pointer) 0
+
+abbrev pub stack_pointer_in : MinidumpRawContext → ℕ
+stack_pointer_in raw = unwrap_or (value_in (registers_of raw) (registers_of raw).stack_pointer) 0
+
+-- the frame of a context, by its registers
+abbrev pub context_frame : MinidumpContext → StackFrame
+context_frame c = record {
+  instruction = instruction_pointer_in c.raw;
+  stack_pointer = stack_pointer_in c.raw;
+  frame_pointer = valid_value_in c.valid (registers_of c.raw) (frame_register c.raw);
+  trust = Context;
+}
 
 -- ---- callers, by frame pointers
 
@@ -98,21 +104,15 @@ caller_at s size address =
     (pointer_at s (address + size))) (pointer_at s address)
     else None
 
--- the lowest address at which the record of a frame may stand: that of a context anywhere, that of
--- a caller after its own record, so that records neither overlap nor stand in a circle
-abbrev lowest_by : FrameTrust → ℕ → ℕ
-lowest_by Context stack_pointer = 0
-lowest_by FramePointer stack_pointer = stack_pointer
-lowest_by Scan stack_pointer = stack_pointer
-
--- the same of a frame
-abbrev pub lowest_record : StackFrame → ℕ
-lowest_record f = lowest_by f.trust f.stack_pointer
-
--- the caller of a frame: that of the record at its frame pointer
+-- the caller of a frame: that of the record at its frame pointer, which lies at or above its stack
+-- pointer. What lies below is no frame's: on x86 and x86-64 a function pushes the frame pointer and
+-- points it there, so that both are equal, and then the stack only grows downwards; on ARM and
+-- ARM64 the record lies in the function's own frame, at the stack pointer or above it. The stack
+-- pointer of a caller is the address after its frame's record, so that records neither overlap nor
+-- stand in a circle
 abbrev pub caller_of : StackValue → StackFrame → Option StackFrame
 caller_of s f = option_and_then (λ size. option_and_then (λ address.
-    if nat_lt address (lowest_record f) then None else caller_at s size address) f.frame_pointer)
+    if nat_lt address f.stack_pointer then None else caller_at s size address) f.frame_pointer)
     (pointer_bytes s.width)
 
 -- the callers of a frame, the innermost first: each is the caller of the one before it, and the
@@ -178,9 +178,7 @@ scan s from limit =
 -- pointer on, at most so many
 pub record AreFrames (s : StackValue) (c : MinidumpContext) (limit : ℕ)
     (frames : List StackFrame) : Type 0 where
-  pub first : StackFrame
-  pub is_first : IsContextFrame c first
   pub walk : List StackFrame
   pub last : StackFrame
-  pub is_walk : IsWalk s first walk last
+  pub is_walk : IsWalk s (context_frame c) walk last
   pub whole : frames ≡ walk ++ scan s last.stack_pointer limit

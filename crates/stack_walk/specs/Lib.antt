@@ -1,5 +1,7 @@
 -- The definitions that the contracts cite.
 pub mod Lookups
 pub mod Frames
+pub mod WalkEnd
+pub mod Walk
 pub mod Evidence
 pub mod Threads

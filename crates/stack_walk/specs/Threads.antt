@@ -1,11 +1,10 @@
 -- The frames of a thread, by what a dump has of its process.
-use Rattle.std.specs.Prelude.{◌≡◌, ℕ, ◌==◌, List, [], Option, Some, None, if◌then◌else◌}
-use Rattle.std.specs.Option.{option_and_then, option_copied, option_map, option_or}
-use Rattle.minidump.specs.declared.MinidumpContext.{MinidumpContext}
+use Rattle.std.specs.Prelude.{◌≡◌, ℕ, ◌+◌, ◌==◌, ◌&&◌, Bool, false, List, [], length, nat_le, nat_lt}
+use Rattle.std.specs.Prelude.{Option, Some, None, if◌then◌else◌}
+use Rattle.std.specs.Option.{option_and_then, option_copied, option_map, option_map_or, option_or}
 use Rattle.minidump.specs.declared.MinidumpContextValidity.TheVariants.{All}
 use Rattle.minidump.specs.declared.MinidumpRawContext.{MinidumpRawContext}
-use Rattle.minidump.specs.Below.Contexts.Context.{registers_of, value_in}
-use Rattle.minidump.specs.Below.Index.Lookup.{IsLookedUp}
+use Rattle.minidump.specs.Below.Index.Lookup.{looked_up}
 use Rattle.minidump.specs.Below.MemoryLists.Memory.{range_of_region}
 use Rattle.minidump.specs.Below.MemoryLists.Unified.{UnifiedRegion, UnifiedRegions, unified_list}
 use Rattle.minidump.specs.Below.MemoryLists.Unified.{unified_regions}
@@ -15,10 +14,12 @@ use Rattle.minidump.specs.Below.System.Cpu.{width_of}
 use Rattle.minidump.specs.Below.System.System.{System}
 use Rattle.minidump.specs.Exception.{Exception}
 use Rattle.minidump.specs.Promise.{exception_stream, module_list_stream, system_info_stream}
-use Rattle.minidump.specs.Thread.{IsStack, Thread, accepted_context}
+use Rattle.minidump.specs.Thread.{Thread, accepted_context}
+use Rattle.minidump.specs.ThreadText.{stack_of}
 use Rattle.stack_walk.specs.declared.frame.StackFrame.{StackFrame}
 use Rattle.stack_walk.specs.declared.thread.Process.{Process}
-use Rattle.stack_walk.specs.Frames.{AreFrames}
+use Rattle.stack_walk.specs.Frames.{StackValue, stack_pointer_in}
+use Rattle.stack_walk.specs.Walk.{WalkValue, all_frames, walk_in}
 
 -- a process: its system, the exception, the modules, the memory, and what is known of its regions
 pub record ProcessValue : Type 0 where
@@ -50,41 +51,41 @@ thread_context p t =
     option_or (exception_context p t.raw.thread_id)
     (accepted_context p.system.raw.processor_architecture t.order t.context)
 
--- the region of a stack: the one that is found; where none is, the one for which `otherwise` holds
-abbrev pub IsFoundOr : Option UnifiedRegion → Type 0 → Option UnifiedRegion → Type 0
-IsFoundOr (Some found) otherwise region = region ≡ Some found
-IsFoundOr None otherwise region = otherwise
+-- whether a region holds the byte at an address
+abbrev pub holds : ℕ → Option UnifiedRegion → Bool
+holds address region = option_map_or (λ r. nat_le r.base_address address
+    && nat_lt address (r.base_address + length r.bytes)) region false
 
--- the region of a thread's stack: that of `IsStack`, else the kept one that contains the stack
--- pointer
-abbrev pub IsThreadStack : UnifiedRegions → Thread → ℕ → Option UnifiedRegion → Type 0
-IsThreadStack memory t stack_pointer region =
-    (found : Option UnifiedRegion) × IsStack t memory found
-    × IsFoundOr found (IsLookedUp range_of_region (unified_regions memory) stack_pointer region)
-    region
+-- the region of a thread's stack, by its stack pointer: the thread's own, if it holds that, else
+-- the kept region of the memory that does, as that of a handler, else the thread's own
+abbrev pub thread_stack : UnifiedRegions → Thread → ℕ → Option UnifiedRegion
+thread_stack memory t stack_pointer =
+    let own = stack_of (Some memory) t in
+    if holds stack_pointer own then own
+    else option_or (looked_up range_of_region (unified_regions memory) stack_pointer) own
 
--- the frames of a thread with a context
-pub record HasFrames (p : ProcessValue) (t : Thread) (c : MinidumpContext) (limit : ℕ)
-    (frames : List StackFrame) : Type 0 where
-  pub stack_pointer : ℕ
-  pub is_stack_pointer : value_in (registers_of c.raw) (registers_of c.raw).stack_pointer
-      ≡ Some stack_pointer
-  pub region : Option UnifiedRegion
-  pub is_region : IsThreadStack p.memory t stack_pointer region
-  pub are_frames : AreFrames (record {
-    region = region;
-    modules = p.modules;
-    infos = p.infos;
-    width = width_of p.system.cpu;
-  }) c limit frames
+-- a stack in a process, by its region
+abbrev pub stack_in : ProcessValue → Option UnifiedRegion → StackValue
+stack_in p region = record {
+  region = region;
+  modules = p.modules;
+  infos = p.infos;
+  width = width_of p.system.cpu;
+}
 
--- the frames of a thread by its context, all of whose registers are valid: none without a context
-abbrev pub AreFramesBy : ProcessValue → Thread → Option MinidumpRawContext → ℕ → List StackFrame
-    → Type 0
-AreFramesBy p t (Some raw) limit frames = HasFrames p t (record { raw = raw; valid = All }) limit
-    frames
-AreFramesBy p t None limit frames = frames ≡ []
+-- the walk of a context of a thread, all of whose registers are valid
+abbrev pub walk_by : ProcessValue → Thread → ℕ → MinidumpRawContext → WalkValue
+walk_by p t limit raw = walk_in (stack_in p (thread_stack p.memory t (stack_pointer_in raw)))
+    (record { raw = raw; valid = All }) limit
 
--- the same by the dump's streams
+-- the walk of a thread: none without a context
+abbrev pub thread_walk_in : ProcessValue → Thread → ℕ → Option WalkValue
+thread_walk_in p t limit = option_map (walk_by p t limit) (thread_context p t)
+
+-- the frames of a thread, and then the candidates: none without a context
+abbrev pub thread_frames_in : ProcessValue → Thread → ℕ → List StackFrame
+thread_frames_in p t limit = option_map_or all_frames (thread_walk_in p t limit) []
+
+-- the same as a relation
 abbrev pub AreThreadFrames : ProcessValue → Thread → ℕ → List StackFrame → Type 0
-AreThreadFrames p t limit frames = AreFramesBy p t (thread_context p t) limit frames
+AreThreadFrames p t limit frames = frames ≡ thread_frames_in p t limit

@@ -1,35 +1,21 @@
 //! Laws of frames, over the definitions that the contract of [`crate::frames`] names.
-ghost use Rattle.std.specs.Prelude.{◌≡◌, ◌≤◌, ◌+◌, ◌*◌, ℕ, All, Contains, List, ◌∷◌, Some, length};
+ghost use Rattle.std.specs.Prelude.{◌≡◌, ◌↔◌, ◌≤◌, ◌+◌, ◌*◌, ℕ, All, Contains, List, ◌∷◌, Some, length};
 ghost use Rattle.minidump.specs.declared.MinidumpContext.{MinidumpContext};
 ghost use Rattle.minidump.specs.Below.Bytes.Exact.{IsExact};
 ghost use Rattle.minidump.specs.Below.System.Cpu.{pointer_bytes};
-ghost use Rattle.minidump.specs.Thread.{Thread};
 ghost use Rattle.stack_walk.specs.Evidence.{HasEvidence};
 ghost use Rattle.stack_walk.specs.Frames.{AreFrames, StackValue, scan, stack_bytes, word_candidate};
-ghost use Rattle.stack_walk.specs.Threads.{AreThreadFrames, ProcessValue};
+ghost use Rattle.stack_walk.specs.Walk.{frames_in};
 ghost use Rattle.stack_walk.specs.declared.frame.StackFrame.{StackFrame};
 
-use crate::{FrameTrust, StackFrame};
+use crate::{FrameTrust, StackFrame, WalkEnd};
 
-/// A context has exactly one list of frames on a stack.
+/// A context has exactly one list of frames on a stack: the frame of the context, each caller of
+/// the one before it until one has none, and the candidates. It is what [`crate::frames`] returns.
 pub fn one_list_of_frames()
-    ensures one { (s : StackValue) (c : MinidumpContext) (limit : ℕ)
-        (frames other : List StackFrame) → AreFrames s c limit frames
-        → AreFrames s c limit other → other ≡ frames }
-    ensures exists { (s : StackValue) (c : MinidumpContext) (limit : ℕ)
-        → (frames : List StackFrame) × AreFrames s c limit frames }
+    ensures { (s : StackValue) (c : MinidumpContext) (limit : ℕ) (frames : List StackFrame)
+        → AreFrames s c limit frames ↔ (frames ≡ frames_in s c limit) }
 {}
-
-/// A thread has exactly one list of frames in a process.
-pub fn one_list_of_thread_frames()
-    ensures one { (p : ProcessValue) (t : Thread) (limit : ℕ) (frames other : List StackFrame)
-        → AreThreadFrames p t limit frames
-        → AreThreadFrames p t limit other → other ≡ frames }
-    ensures exists { (p : ProcessValue) (t : Thread) (limit : ℕ)
-        → (frames : List StackFrame) × AreThreadFrames p t limit frames }
-{
-    minidump::laws::a_report_has_what_a_lookup_returns();
-}
 
 /// Each frame but the first has its evidence.
 pub fn each_caller_has_its_evidence()
@@ -56,8 +42,9 @@ pub fn each_aligned_word_is_scanned()
 {}
 
 /// A frame equals the same frame alone, and a clone of it is the same frame. The same holds of how
-/// a frame was found.
+/// a frame was found, and of why a walk ended.
 pub fn frames_compare_and_copy_exactly()
     ensures frame { IsExact ⟦<StackFrame as PartialEq>⟧.eq ⟦<StackFrame as Clone>⟧.is_clone }
     ensures trust { IsExact ⟦<FrameTrust as PartialEq>⟧.eq ⟦<FrameTrust as Clone>⟧.is_clone }
+    ensures end { IsExact ⟦<WalkEnd as PartialEq>⟧.eq ⟦<WalkEnd as Clone>⟧.is_clone }
 {}

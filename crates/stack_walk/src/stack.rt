@@ -1,6 +1,6 @@
 ghost use Rattle.std.specs.Prelude.{◌≡◌, ◌+◌, IfOk};
-ghost use Rattle.stack_walk.specs.Frames.{caller_at, caller_of, candidate_at, lowest_record};
-ghost use Rattle.stack_walk.specs.Frames.{pointer_at, scan, stack_of, word_candidate, words_from};
+ghost use Rattle.stack_walk.specs.Frames.{caller_at, caller_of, candidate_at, pointer_at};
+ghost use Rattle.stack_walk.specs.Frames.{scan, stack_of, word_candidate, words_from};
 
 use crate::lookups::{call_site, is_code, may_be_run};
 use crate::{FrameTrust, StackFrame};
@@ -22,7 +22,7 @@ pub struct Stack<'l, 'a> {
 }
 
 // Returns the word that the stack holds at an address, as wide as an address.
-fn pointer_at(stack: &Stack<'_, '_>, address: u64) -> Option<u64>
+pub(crate) fn pointer_at(stack: &Stack<'_, '_>, address: u64) -> Option<u64>
     ensures { result ≡ pointer_at (stack_of stack.now) address }
 {
     let memory = stack.memory?;
@@ -36,23 +36,13 @@ fn pointer_at(stack: &Stack<'_, '_>, address: u64) -> Option<u64>
     }
 }
 
-// Returns the lowest address at which the frame record of a frame may stand.
-fn lowest_record(frame: &StackFrame) -> u64
-    ensures { result ≡ lowest_record frame.now }
-{
-    match frame.trust {
-        FrameTrust::Context => 0,
-        FrameTrust::FramePointer | FrameTrust::Scan => frame.stack_pointer,
-    }
-}
-
 // Returns the caller of a frame, by its frame pointer.
 pub(crate) fn caller_of(stack: &Stack<'_, '_>, frame: &StackFrame) -> Option<StackFrame>
     ensures { result ≡ caller_of (stack_of stack.now) frame.now }
 {
     let size = stack.width.size_in_bytes()?;
     let address = frame.frame_pointer?;
-    if address < lowest_record(frame) {
+    if address < frame.stack_pointer {
         return None;
     }
     caller_at(stack, size as u64, address)

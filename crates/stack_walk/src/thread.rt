@@ -1,12 +1,16 @@
-ghost use Rattle.std.specs.Prelude.{◌≡◌, IfOk, IfSome, IsOkUnless, IsSome, OnErr};
+ghost use Rattle.std.specs.Prelude.{◌≡◌, IfOk, IfSome, IsOkUnless, IsSome, OnErr, Some};
 ghost use Rattle.std.specs.Option.{option_map};
 ghost use Rattle.minidump.specs.declared.MinidumpContextValidity.TheVariants.{All};
 ghost use Rattle.minidump.specs.Below.MemoryLists.Unified.{unified_list, unified_region};
 ghost use Rattle.minidump.specs.Thread.{thread_of};
-ghost use Rattle.stack_walk.specs.Threads.{AreThreadFrames, HasFrames, IsThreadStack};
-ghost use Rattle.stack_walk.specs.Threads.{exception_context, process_of, thread_context};
+ghost use Rattle.minidump.specs.ThreadText.{stack_of};
+ghost use Rattle.stack_walk.specs.Frames.{stack_pointer_in};
+ghost use Rattle.stack_walk.specs.Threads.{exception_context, holds, process_of, stack_in};
+ghost use Rattle.stack_walk.specs.Threads.{thread_context, thread_frames_in, thread_stack};
+ghost use Rattle.stack_walk.specs.Threads.{thread_walk_in};
+ghost use Rattle.stack_walk.specs.Walk.{walk_in, walk_of};
 
-use crate::{Stack, StackFrame, frames};
+use crate::{Stack, StackFrame, Walk, walk_stack};
 use minidump::{
     Error, MinidumpContext, MinidumpException, MinidumpModuleList, MinidumpSystemInfo,
     MinidumpThread, UnifiedMemory, UnifiedMemoryInfoList, UnifiedMemoryList,
@@ -28,27 +32,48 @@ pub struct Process<'l, 'a> {
     pub infos: &'l UnifiedMemoryInfoList<'a>,
 }
 
-/// Returns the frames of a thread, as [`frames`] does of its context and its stack; none if it has
-/// no context.
+/// Walks the stack of a thread, as [`walk_stack`] does with its context and its stack. Returns
+/// `None` if it has no context.
 ///
 /// The context is the exception's, if that happened on the thread and its context is accepted, and
-/// else the thread's own. The stack is [`MinidumpThread::stack_memory`], and without one the kept
-/// region of the memory that contains the context's stack pointer. The only error is `OutOfMemory`,
-/// which comes only if there is a context.
+/// else the thread's own. The stack is [`MinidumpThread::stack_memory`], if it holds the byte at the
+/// context's stack pointer, else the kept region of the memory that contains the stack pointer, as
+/// that of a handler or of a coroutine, and without one again the first. The only error is
+/// `OutOfMemory`, which comes only if there is a context.
+pub fn walk_thread<'a>(
+    alloc: Global,
+    process: &Process<'_, 'a>,
+    thread: &MinidumpThread<'a>,
+    limit: usize,
+) -> Result<Option<Walk>, Error>
+    ensures walk { IfOk result (λ walk. option_map walk_of walk
+        ≡ thread_walk_in (process_of process.now) (thread_of thread.now) limit) }
+    ensures memory { IsOkUnless result Error.OutOfMemory }
+    ensures some { OnErr result (IsSome (thread_context (process_of process.now)
+        (thread_of thread.now))) }
+{
+    match thread_context(process, thread) {
+        Some(context) => Ok(Some(walk_context(alloc, process, thread, &context, limit)?)),
+        None => Ok(None),
+    }
+}
+
+/// Returns the frames of a thread and after them the candidates, as [`walk_thread`] finds them;
+/// none if it has no context.
 pub fn thread_frames<'a>(
     alloc: Global,
     process: &Process<'_, 'a>,
     thread: &MinidumpThread<'a>,
     limit: usize,
 ) -> Result<Vec<StackFrame>, Error>
-    ensures frames { IfOk result (λ frames. AreThreadFrames (process_of process.now)
-        (thread_of thread.now) limit frames.items) }
+    ensures frames { IfOk result (λ frames. frames.items
+        ≡ thread_frames_in (process_of process.now) (thread_of thread.now) limit) }
     ensures memory { IsOkUnless result Error.OutOfMemory }
     ensures some { OnErr result (IsSome (thread_context (process_of process.now)
         (thread_of thread.now))) }
 {
-    match thread_context(process, thread) {
-        Some(context) => frames_of(alloc, process, thread, &context, limit),
+    match walk_thread(alloc, process, thread, limit)? {
+        Some(walk) => Ok(walk.into_frames()?),
         None => Ok(Vec::new(alloc)),
     }
 }
@@ -78,38 +103,75 @@ fn exception_context(process: &Process<'_, '_>, id: u32) -> Option<MinidumpConte
     }
 }
 
+// Returns the stack of a thread: its own, or what the memory has at its start.
+fn own_stack<'l, 'a>(
+    memory: &'l UnifiedMemoryList<'a>,
+    thread: &'l MinidumpThread<'a>,
+) -> Option<UnifiedMemory<'l, 'a>>
+    ensures { option_map unified_region result ≡ stack_of (Some (unified_list memory.now))
+        (thread_of thread.now) }
+{
+    minidump::laws::a_report_has_what_a_lookup_returns();
+    thread.stack_memory(memory)
+}
+
+// Tells whether a region holds the byte at an address.
+fn holds(region: Option<UnifiedMemory<'_, '_>>, address: u64) -> bool
+    ensures { result ≡ holds address (option_map unified_region region.entry) }
+{
+    let Some(region) = region else {
+        return false;
+    };
+    match address.checked_sub(region.base_address()) {
+        Some(offset) => offset < region.bytes().len() as u64,
+        None => false,
+    }
+}
+
 // Returns the memory of the stack of a thread whose context has this stack pointer.
 fn stack_memory<'l, 'a>(
     memory: &'l UnifiedMemoryList<'a>,
     thread: &'l MinidumpThread<'a>,
     stack_pointer: u64,
 ) -> Option<UnifiedMemory<'l, 'a>>
-    ensures { IsThreadStack (unified_list memory.now) (thread_of thread.now) stack_pointer
-        (option_map unified_region result) }
+    ensures { option_map unified_region result ≡ thread_stack (unified_list memory.now)
+        (thread_of thread.now) stack_pointer }
 {
-    match thread.stack_memory(memory) {
+    let own = own_stack(memory, thread);
+    if holds(own, stack_pointer) {
+        return own;
+    }
+    match memory.memory_at_address(stack_pointer) {
         Some(found) => Some(found),
-        None => memory.memory_at_address(stack_pointer),
+        None => own,
     }
 }
 
-// Returns the frames of a thread that has a context.
-fn frames_of<'a>(
+// Returns the stack pointer of a context.
+fn stack_pointer_of(context: &MinidumpContext) -> u64
+    ensures { result ≡ stack_pointer_in context.now.raw }
+{
+    context.get_stack_pointer()
+}
+
+// Walks the stack of a thread that has a context.
+fn walk_context<'a>(
     alloc: Global,
     process: &Process<'_, 'a>,
     thread: &MinidumpThread<'a>,
     context: &MinidumpContext,
     limit: usize,
-) -> Result<Vec<StackFrame>, Error>
-    ensures frames { IfOk result (λ frames. HasFrames (process_of process.now)
-        (thread_of thread.now) context.now limit frames.items) }
+) -> Result<Walk, Error>
+    ensures walk { IfOk result (λ walk. walk_of walk ≡ walk_in
+        (stack_in (process_of process.now) (thread_stack (process_of process.now).memory
+        (thread_of thread.now) (stack_pointer_in context.now.raw))) context.now limit) }
     ensures memory { IsOkUnless result Error.OutOfMemory }
 {
     let stack = Stack {
-        memory: stack_memory(process.memory, thread, context.get_stack_pointer()),
+        memory: stack_memory(process.memory, thread, stack_pointer_of(context)),
         modules: process.modules,
         infos: process.infos,
         width: process.system.cpu.pointer_width(),
     };
-    frames(alloc, &stack, context, limit)
+    walk_stack(alloc, &stack, context, limit)
 }

@@ -2,8 +2,9 @@
 use Rattle.std.proofs.Common.{◌≡◌, Some, arith, sym}
 use Rattle.stack_walk.specs.Frames.{caller_of, stack_of}
 use Rattle.stack_walk.proofs.CallerLemmas.{climbs}
+use Rattle.stack_walk.proofs.UpLemmas.{walk_is}
 use Rattle.stack_walk.proofs.WalkLemmas.{walking_end}
-use Rattle.stack_walk.proofs.walk.Goals as goal
+use Rattle.stack_walk.proofs.walk.climb.Goals as goal
 
 pub loop-caller-smaller : goal.loop-caller-smaller
 loop-caller-smaller c =
@@ -13,4 +14,8 @@ loop-caller-smaller c =
     omega (arith, up.0, up.2)
 
 pub returns : goal.returns
-returns c = walking_end (stack_of c.args.stack.now) _ _ _ (rw c.in_default.is at (sym c.caller_of.ensures)) c.loop-caller.invariant
+returns c =
+    let s = stack_of c.args.stack.now in
+    let is =
+    walk_is s _ _ _ (walking_end s _ _ _ (rw c.in_default.is at (sym c.caller_of.ensures)) c.loop-caller.invariant)
+    in record { frames = is.0; last = is.1 }

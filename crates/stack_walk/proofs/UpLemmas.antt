@@ -1,0 +1,143 @@
+-- The callers of the function are those of the relation: going up the stack, each caller is met.
+use Rattle.std.proofs.Common.{◌≡◌, ◌∙◌, ℕ, zero, suc, ◌+◌, ◌<◌, ◌≤◌, List, [], ◌∷◌, length, Bool, true, false, Option, Some, None}
+use Rattle.std.proofs.Common.{refl, ap, sym, subst, arith, ◌⊎◌, inl, inr}
+use Rattle.std.specs.Prelude.{◌==◌, if◌then◌else◌}
+use Rattle.std.specs.List.{range_with_len}
+use Rattle.std.specs.Option.{option_map_or}
+use Rattle.std.proofs.lemmas.Bool.{cases_lt}
+use Rattle.std.proofs.lemmas.Bool.Decides.{nat_tests}
+use Rattle.minidump.specs.Below.MemoryLists.Unified.{UnifiedRegion}
+use Rattle.stack_walk.specs.declared.frame.StackFrame.{StackFrame}
+use Rattle.stack_walk.specs.Frames.{AreCallers, IsWalk, StackValue, caller_of, stack_bytes}
+use Rattle.stack_walk.specs.Walk.{addresses_of, caller_here, callers_at, callers_in, outermost, points_to}
+use Rattle.stack_walk.proofs.CallerLemmas.{base_of, end_of, has_record, in_stack, passed, wide}
+use Rattle.stack_walk.proofs.WalkLemmas.{same_walk}
+
+-- where the record of a frame that has a caller stands
+record Stands (s : StackValue) (f g : StackFrame) : Type 0 where
+  address : ℕ
+  points : f.frame_pointer ≡ Some address
+  above : f.stack_pointer ≤ address
+  from : base_of s ≤ address
+  within : address < end_of s
+  below : address < g.stack_pointer
+
+stands : (s : StackValue) (f g : StackFrame) → caller_of s f ≡ Some g → Stands s f g
+stands s f g e =
+    let r = has_record s f g e in
+    let first = in_stack s r.address r.saved r.size r.is_size r.first in
+    let some = wide s.width r.size r.is_size in
+    let after = r.after in record {
+      address = r.address;
+      points = r.points;
+      above = r.above;
+      from = first.0;
+      within = omega (arith, first.1, some);
+      below = omega (arith, after, some);
+    }
+
+-- no record of a frame that has a caller stands below an address
+abbrev IsAhead : StackValue → StackFrame → ℕ → Type 0
+IsAhead s f p = (g : StackFrame) (a : ℕ) → caller_of s f ≡ Some g → f.frame_pointer ≡ Some a → p ≤ a
+
+-- the record stands at the address to which the frame points
+at_pointer : (s : StackValue) (f g : StackFrame) (a : ℕ) (st : Stands s f g) → f.frame_pointer ≡ Some a → st.address ≡ a
+at_pointer s f g a st is = (let k : Some st.address ≡ Some a = sym st.points ∙ is in cc)
+
+-- ---- a step
+
+callers_some : (s : StackValue) (f g : StackFrame) (a : ℕ) (above : List ℕ) → caller_here s f a ≡ Some g
+    → callers_at s f (a ∷ above) ≡ g ∷ callers_at s g above
+unfolding callers_at
+callers_some s f g a above is =
+    ap (λ (o : Option StackFrame). option_map_or (λ caller. caller ∷ callers_at s caller above) o (callers_at s f above)) is
+
+callers_none : (s : StackValue) (f : StackFrame) (a : ℕ) (above : List ℕ) → caller_here s f a ≡ None
+    → callers_at s f (a ∷ above) ≡ callers_at s f above
+unfolding callers_at
+callers_none s f a above is =
+    ap (λ (o : Option StackFrame). option_map_or (λ caller. caller ∷ callers_at s caller above) o (callers_at s f above)) is
+
+callers_end : (s : StackValue) (f : StackFrame) → callers_at s f [] ≡ []
+unfolding callers_at
+callers_end s f = refl
+
+-- a frame that points to an address has its caller there
+here : (s : StackValue) (f : StackFrame) (a : ℕ) → f.frame_pointer ≡ Some a → caller_here s f a ≡ caller_of s f
+here s f a is =
+    let same : (a == a) ≡ true = grind (arith, nat_tests) in
+    let points : points_to f a ≡ true = ap (λ (o : Option ℕ). option_map_or (λ pointer. pointer == a) o false) is ∙ same in
+    ap (λ (b : Bool). if b then caller_of s f else None) points
+
+-- what is met at an address is the caller, and the frame points there
+met : (s : StackValue) (f g : StackFrame) (a : ℕ) → caller_here s f a ≡ Some g → (caller_of s f ≡ Some g) × (f.frame_pointer ≡ Some a)
+met s f g a e =
+    let both = passed (points_to f a) (caller_of s f) g e in
+    (both.1, pointer f.frame_pointer both.0)
+  where
+    pointer : (o : Option ℕ) → option_map_or (λ pointer. pointer == a) o false ≡ true → o ≡ Some a
+    pointer None is = cc
+    pointer (Some b) is = (let same : b ≡ a = grind (arith, nat_tests, is) in ap Some same)
+
+-- past an address at which none is met, no record stands below the next one
+past : (s : StackValue) (f : StackFrame) (p : ℕ) → IsAhead s f p → caller_here s f p ≡ None → IsAhead s f (p + 1)
+past s f p ahead none g a is points = go (cases_lt p a)
+  where
+    go : (p < a) ⊎ (a ≤ p) → p + 1 ≤ a
+    go (inl more) = omega (arith, more)
+    go (inr few) =
+        let same : a ≡ p = omega (arith, few, ahead g a is points) in
+        let k : None ≡ Some g = sym none ∙ (here s f p (points ∙ ap Some same) ∙ is) in cc
+
+-- ---- the whole way up
+
+by_caller : (s : StackValue) (f : StackFrame) (p : ℕ) (above : List ℕ) (o : Option StackFrame) → caller_here s f p ≡ o → IsAhead s f p
+    → ((g : StackFrame) → IsAhead s g (p + 1) → AreCallers s g (callers_at s g above) (outermost g (callers_at s g above)))
+    → AreCallers s f (callers_at s f (p ∷ above)) (outermost f (callers_at s f (p ∷ above)))
+by_caller s f p above None is ahead rest =
+    subst (λ (callers : List StackFrame). AreCallers s f callers (outermost f callers)) (sym (callers_none s f p above is)) (rest f (past s f p ahead is))
+by_caller s f p above (Some g) is ahead rest =
+    let both = met s f g p is in
+    let st = stands s f g both.0 in
+    let here = at_pointer s f g p st both.1 in
+    let next : IsAhead s g (p + 1) = λ h a caller points.
+    let up = stands s g h caller in
+    omega (arith, here, st.below, up.above, at_pointer s g h a up points)
+    in
+    subst (λ (callers : List StackFrame). AreCallers s f callers (outermost f callers)) (sym (callers_some s f g p above is)) (both.0, rest g next)
+
+no_caller : (s : StackValue) (f : StackFrame) (o : Option StackFrame) → caller_of s f ≡ o → IsAhead s f (end_of s) → caller_of s f ≡ None
+no_caller s f None is ahead = is
+no_caller s f (Some g) is ahead =
+    let st = stands s f g is in absurd (let a = ahead g st.address is st.points in omega (arith, a, st.within))
+
+up : (s : StackValue) (n p : ℕ) (f : StackFrame) → p + n ≡ end_of s → IsAhead s f p
+    → AreCallers s f (callers_at s f (range_with_len p n)) (outermost f (callers_at s f (range_with_len p n)))
+up s zero p f is ahead =
+    let end : p ≡ end_of s = omega (arith, is) in
+    subst (λ (callers : List StackFrame). AreCallers s f callers (outermost f callers)) (sym (callers_end s f))
+    (no_caller s f (caller_of s f) refl (subst (λ (q : ℕ). IsAhead s f q) end ahead), refl)
+up s (suc n) p f is ahead =
+    by_caller s f p (range_with_len (p + 1) n) (caller_here s f p) refl ahead (λ g next. up s n (p + 1) g (omega (arith, is)) next)
+
+-- the addresses of a stack
+addresses : (region : Option UnifiedRegion) → option_map_or addresses_of region []
+    ≡ range_with_len (option_map_or (λ r. r.base_address) region 0) (length (option_map_or (λ r. r.bytes) region []))
+addresses None = refl
+addresses (Some r) = refl
+
+-- the callers of the function are those of the relation
+pub are_callers : (s : StackValue) (f : StackFrame) → AreCallers s f (callers_in s f) (outermost f (callers_in s f))
+are_callers s f =
+    let ahead : IsAhead s f (base_of s) = λ g a caller points.
+    let st = stands s f g caller in omega (arith, st.from, at_pointer s f g a st points)
+    in
+    subst (λ (list : List ℕ). AreCallers s f (callers_at s f list) (outermost f (callers_at s f list))) (sym (addresses s.region))
+    (up s (length (stack_bytes s)) (base_of s) f refl ahead)
+
+-- and the only ones
+pub walk_is : (s : StackValue) (f : StackFrame) (frames : List StackFrame) (last : StackFrame) → IsWalk s f frames last
+    → (frames ≡ f ∷ callers_in s f) × (last ≡ outermost f (callers_in s f))
+walk_is s f frames last walk =
+    let callers = callers_in s f in
+    same_walk s f (f ∷ callers) frames (outermost f callers) last (record { callers = callers; whole = refl; are_callers = are_callers s f }) walk

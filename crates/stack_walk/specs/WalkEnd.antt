@@ -1,0 +1,31 @@
+-- Why the last frame of a walk has no caller.
+use Rattle.std.specs.Prelude.{ℕ, ◌+◌, ◌*◌, ◌^◌, ◌==◌, ◌&&◌, Bool, is_none, is_some, nat_lt}
+use Rattle.std.specs.Prelude.{if◌then◌else◌}
+use Rattle.std.specs.Option.{option_map_or}
+use Rattle.minidump.specs.Below.System.Cpu.{pointer_bytes}
+use Rattle.stack_walk.specs.declared.end.WalkEnd.{WalkEnd}
+use Rattle.stack_walk.specs.declared.end.WalkEnd.TheVariants.{UnknownWidth, NoMemory, NoFramePointer}
+use Rattle.stack_walk.specs.declared.end.WalkEnd.TheVariants.{ZeroFramePointer, Falls, EndOfMemory, NoCode}
+use Rattle.stack_walk.specs.declared.frame.StackFrame.{StackFrame}
+use Rattle.stack_walk.specs.Frames.{StackValue, pointer_at}
+
+-- whether a stack holds both words of a record at an address, which ends below 2^64
+abbrev pub has_record : StackValue → ℕ → ℕ → Bool
+has_record s size address = nat_lt (address + 2 * size) (2 ^ 64)
+    && (is_some (pointer_at s address) && is_some (pointer_at s (address + size)))
+
+-- the end by a frame pointer
+abbrev end_at : StackValue → StackFrame → ℕ → ℕ → WalkEnd
+end_at s f size address =
+    if address == 0 then ZeroFramePointer
+    else (if nat_lt address f.stack_pointer then Falls
+    else (if has_record s size address then NoCode else EndOfMemory))
+
+-- the end by the width of an address
+abbrev end_by : StackValue → StackFrame → ℕ → WalkEnd
+end_by s f size = option_map_or (end_at s f size) f.frame_pointer NoFramePointer
+
+-- why a frame has no caller: the first of these reasons that holds
+abbrev pub walk_end : StackValue → StackFrame → WalkEnd
+walk_end s f = if is_none s.region then NoMemory
+    else option_map_or (end_by s f) (pointer_bytes s.width) UnknownWidth

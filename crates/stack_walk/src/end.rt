@@ -1,0 +1,63 @@
+ghost use Rattle.std.specs.Prelude.{◌≡◌};
+ghost use Rattle.stack_walk.specs.Frames.{stack_of};
+ghost use Rattle.stack_walk.specs.WalkEnd.{has_record, walk_end};
+
+use crate::stack::pointer_at;
+use crate::{Stack, StackFrame};
+
+/// Why the last frame of a walk has no caller by its frame pointer.
+#[derive(Clone, Copy, Debug, PartialEq, Eq)]
+pub enum WalkEnd {
+    /// The dump has no memory of the stack.
+    NoMemory,
+    /// The width of an address is unknown.
+    UnknownWidth,
+    /// The frame pointer isn't known.
+    NoFramePointer,
+    /// The frame pointer is 0, as a thread's first function finds it.
+    ZeroFramePointer,
+    /// The frame pointer lies below the stack pointer, in memory that no frame uses.
+    Falls,
+    /// The memory of the stack doesn't hold the whole frame record, or that ends at 2^64.
+    EndOfMemory,
+    /// No kept module contains the call of the return address.
+    NoCode,
+}
+
+// Returns why a frame has no caller.
+pub(crate) fn walk_end(stack: &Stack<'_, '_>, frame: &StackFrame) -> WalkEnd
+    ensures { result ≡ walk_end (stack_of stack.now) frame.now }
+{
+    if stack.memory.is_none() {
+        return WalkEnd::NoMemory;
+    }
+    let Some(size) = stack.width.size_in_bytes() else {
+        return WalkEnd::UnknownWidth;
+    };
+    let Some(address) = frame.frame_pointer else {
+        return WalkEnd::NoFramePointer;
+    };
+    if address == 0 {
+        WalkEnd::ZeroFramePointer
+    } else if address < frame.stack_pointer {
+        WalkEnd::Falls
+    } else if has_record(stack, size as u64, address) {
+        WalkEnd::NoCode
+    } else {
+        WalkEnd::EndOfMemory
+    }
+}
+
+// Tells whether the stack holds both words of a record at an address, which ends below 2^64.
+fn has_record(stack: &Stack<'_, '_>, size: u64, address: u64) -> bool
+    ensures { result ≡ has_record (stack_of stack.now) size address }
+{
+    match size.checked_mul(2) {
+        Some(both) => {
+            address.checked_add(both).is_some()
+                && pointer_at(stack, address).is_some()
+                && pointer_at(stack, address + size).is_some()
+        }
+        None => false,
+    }
+}
