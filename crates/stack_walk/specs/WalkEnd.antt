@@ -4,8 +4,9 @@ use Rattle.std.specs.Prelude.{if◌then◌else◌}
 use Rattle.std.specs.Option.{option_map_or}
 use Rattle.minidump.specs.Below.System.Cpu.{pointer_bytes}
 use Rattle.stack_walk.specs.declared.end.WalkEnd.{WalkEnd}
-use Rattle.stack_walk.specs.declared.end.WalkEnd.TheVariants.{UnknownWidth, NoMemory, NoFramePointer}
-use Rattle.stack_walk.specs.declared.end.WalkEnd.TheVariants.{ZeroFramePointer, Falls, EndOfMemory, NoCode}
+use Rattle.stack_walk.specs.declared.end.WalkEnd.TheVariants.{NoMemory, UnknownWidth}
+use Rattle.stack_walk.specs.declared.end.WalkEnd.TheVariants.{NoFramePointer, ZeroFramePointer}
+use Rattle.stack_walk.specs.declared.end.WalkEnd.TheVariants.{Falls, EndOfMemory, NoCode}
 use Rattle.stack_walk.specs.declared.frame.StackFrame.{StackFrame}
 use Rattle.stack_walk.specs.Frames.{StackValue, pointer_at}
 

@@ -1,5 +1,6 @@
 //! Laws of frames, over the definitions that the contract of [`crate::frames`] names.
-ghost use Rattle.std.specs.Prelude.{◌≡◌, ◌↔◌, ◌≤◌, ◌+◌, ◌*◌, ℕ, All, Contains, List, ◌∷◌, Some, length};
+ghost use Rattle.std.specs.Prelude.{◌≡◌, ◌↔◌, ◌≤◌, ◌+◌, ◌*◌, ℕ, All, Contains, List, ◌∷◌, Some};
+ghost use Rattle.std.specs.Prelude.{length};
 ghost use Rattle.minidump.specs.declared.MinidumpContext.{MinidumpContext};
 ghost use Rattle.minidump.specs.Below.Bytes.Exact.{IsExact};
 ghost use Rattle.minidump.specs.Below.System.Cpu.{pointer_bytes};

@@ -56,9 +56,9 @@ pub use walk::{Walk, walk_stack};
 ///
 /// - The frame pointer is `ebp`, `rbp`, or ARM's `fp`. It points to the frame record, two words of
 ///   the stack: the saved frame pointer, and the return address, which a kept module contains. A
-///   record lies at or above the stack pointer of its frame, which for a caller is the address after
-///   the record before it. The last caller is the one whose saved frame pointer leads to no record.
-///   Bits by which ARM64 authenticates a return address are kept.
+///   record lies at or above the stack pointer of its frame, which for a caller is the address
+///   after the record before it. The last caller is the one whose saved frame pointer leads to no
+///   record. Bits by which ARM64 authenticates a return address are kept.
 /// - A candidate is an aligned word from the last caller's stack pointer on that a kept module
 ///   contains, unless what is known of the memory says that it can't be run.
 ///
