@@ -62,7 +62,8 @@ pub struct CrashSummary {
     /// The module that contains the instruction pointer, or `None` if there is no context or no
     /// kept module contains it.
     pub module: Option<ModuleHit>,
-    /// The stack of the thread, or `None` if there is no such thread or no memory of its stack.
+    /// The stack of the thread, or `None` if there is no such thread or no memory of its stack. Where
+    /// the stack pointer lies elsewhere, `stack_walk` walks another one.
     pub stack: Option<StackHit>,
     /// The system on which the process ran, or `None` without system information.
     pub system: Option<CrashSystem>,

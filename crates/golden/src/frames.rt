@@ -1,13 +1,13 @@
 use anyhow::Result;
 use crash_summary::DumpProcess;
 use minidump::{Error, Minidump, MinidumpThreadList};
-use stack_walk::{FrameTrust, Process, StackFrame, thread_frames};
+use stack_walk::{FrameTrust, Process, StackFrame, Walk, walk_thread};
 use std::alloc::Global;
 use std::io;
 use std::io::Write;
 
-/// Returns a line for each thread of a dump, and after it one for each of its frames, with at most
-/// `limit` candidates.
+/// Returns a line for each thread of a dump, and after it one for each of its frames, one for why
+/// the last has no caller, and one for each candidate, at most `limit`.
 pub fn frames(alloc: Global, bytes: &[u8], limit: usize) -> Result<Vec<u8>> {
     let dump = Minidump::read(alloc, bytes)?;
     let process = DumpProcess::read(alloc, &dump)?.ok_or(Error::StreamNotFound)?;
@@ -27,10 +27,18 @@ fn push_threads<'a>(
 ) -> Result<()> {
     for thread in &threads.threads {
         writeln!(out, "thread {:#x}", thread.raw.thread_id)?;
-        let frames = thread_frames(alloc, process, thread, limit)?;
-        push_frames(frames.as_slice(), out)?;
+        if let Some(walk) = walk_thread(alloc, process, thread, limit)? {
+            push_walk(&walk, out)?;
+        }
     }
     Ok(())
+}
+
+// Appends the lines of a walk.
+fn push_walk(walk: &Walk, out: &mut Vec<u8>) -> io::Result<()> {
+    push_frames(walk.frames.as_slice(), out)?;
+    writeln!(out, "end {:?}", walk.end)?;
+    push_frames(walk.candidates.as_slice(), out)
 }
 
 // Appends a line for each frame: its instruction pointer, its stack pointer, and what it is known

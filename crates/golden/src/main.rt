@@ -30,11 +30,11 @@
 //!
 //! - CALL is `report`, which answers as for a sample, or `summary`, the summary of a crash, a line
 //!   for each part. Others take a first WORD: `frames` the most candidates of a scan, for a line
-//!   for each thread, and after it one for each frame; `debug-id` a debug identifier as Breakpad
-//!   writes it, for a line for each module; and these numbers with commas between them, for lines
-//!   for each: `at` what is at the address, `numbers` the region of memory that contains the
-//!   address, with the numbers of one, two and four bytes there, and `raw` the bytes of the stream
-//!   of the type.
+//!   for each thread, and after it one for each frame, one for why the last of them has no caller,
+//!   and one for each candidate; `debug-id` a debug identifier as Breakpad writes it, for a line for
+//!   each module; and these numbers with commas between them, for lines for each: `at` what is at
+//!   the address, `numbers` the region of memory that contains the address, with the numbers of
+//!   one, two and four bytes there, and `raw` the bytes of the stream of the type.
 //! - `big` as a WORD makes bytes and numbers big-endian, and `both` asks for the same answer in
 //!   both byte orders.
 //! - Each further WORD is the number of a type of stream. Its bytes are those between the next two

@@ -1,6 +1,8 @@
 -- A directory in which a stream is found has an entry.
-use Rattle.std.proofs.Common.{◌≡◌, ℕ, ◌<◌, List, Some, None, length, refl, inl, inr}
+use Rattle.std.proofs.Common.{◌≡◌, ℕ, ◌<◌, List, Some, None, length, refl, ap, inl, inr}
 use Rattle.std.proofs.lemmas.Bool.{false≢true}
+use Rattle.std.specs.Option.{option_map}
+use Rattle.std.specs.Result.{result_ok}
 use Rattle.std.specs.Prelude.{◌↔◌, Option, Result, Ok, Err, IfErr, IsOk, IsOkAnd, IsSome, OnOk}
 use Rattle.minidump_bytes.proofs.EntryLemmas.{length-entries}
 use Rattle.minidump_format.specs.declared.error.Error.{Error}
@@ -11,6 +13,7 @@ use Rattle.minidump_format.specs.Header.{directory_entry}
 use Rattle.minidump_system.specs.Reads.{and_then}
 use Rattle.minidump_system.specs.StreamSpec.{StreamSpec}
 use Rattle.minidump_memory.specs.Memory.{MemoryRegion}
+use Rattle.minidump_memory.specs.Unified.{Memory}
 use Rattle.minidump.specs.declared.directory.DecidingEntry.{DecidingEntry}
 use Rattle.minidump.specs.Directory.{deciding_entry, directory}
 use Rattle.minidump.specs.Dump.{Dump, dump_system, raw_stream, stream_memory, stream_of}
@@ -76,6 +79,18 @@ regions_have_entry d some = by_lists (stream_of memory64_list_stream d) (stream_
     by_lists (Ok l) plain is_long is_plain k = stream_has_entry memory64_list_stream d (rw is_long refl)
     by_lists (Err e) (Ok p) is_long is_plain k = stream_has_entry memory_list_stream d (rw is_plain refl)
     by_lists (Err e) (Err f) is_long is_plain k = absurd (false≢true (rw (is_long, is_plain) at k))
+
+-- the memory of a dump whose 64-bit list isn't found
+pub plain_memory : (d : Dump) (found : Option (List (MemoryRegion MINIDUMP_MEMORY_DESCRIPTOR))) → result_ok (stream_of memory64_list_stream d) ≡ None
+    → result_ok (stream_of memory_list_stream d) ≡ found → memories_of_dump d ≡ option_map Memory found
+plain_memory d found none is = by_lists (stream_of memory64_list_stream d) (stream_of memory_list_stream d) refl refl none is
+  where
+    by_lists : (long : Result (List (MemoryRegion MINIDUMP_MEMORY_DESCRIPTOR64)) Error) (plain : Result (List (MemoryRegion MINIDUMP_MEMORY_DESCRIPTOR)) Error)
+        → stream_of memory64_list_stream d ≡ long → stream_of memory_list_stream d ≡ plain → result_ok (stream_of memory64_list_stream d) ≡ None
+        → result_ok (stream_of memory_list_stream d) ≡ found → memories_of_dump d ≡ option_map Memory found
+    by_lists (Ok l) plain is_long is_plain none is = let never : Some l ≡ None = rw is_long at none in cc
+    by_lists (Err e) (Ok p) is_long is_plain none is = rw (is_long, is_plain) (ap (option_map Memory) (rw is_plain at is))
+    by_lists (Err e) (Err f) is_long is_plain none is = rw (is_long, is_plain) (ap (option_map Memory) (rw is_plain at is))
 
 -- ---- what a call returns
 

@@ -1,6 +1,7 @@
 -- The lemmas of this crate.
 pub mod DirectoryLemmas
 pub mod EntryLemmas
+pub mod ExceptionLemmas
 pub mod LawsLemmas
 pub mod ListRules
 pub mod NumberedLemmas
@@ -9,6 +10,7 @@ pub mod ThreadLemmas
 pub mod PrintLemmas
 pub mod ReportLemmas
 pub mod SharedLemmas
+pub mod SystemLemmas
 pub mod CrashLemmas
 -- for the crates above
 pub use Rattle.minidump_format.proofs.Blocking

@@ -12,6 +12,7 @@ use Rattle.minidump_format.specs.declared.format.stream_type.MINIDUMP_STREAM_TYP
 use Rattle.minidump_format.specs.Header.{located}
 use Rattle.minidump_format.specs.StreamType.{number_of}
 use Rattle.minidump_format.specs.Answer.{Gives}
+use Rattle.minidump_context.specs.Context.{map_ok}
 use Rattle.minidump_system.specs.StreamSpec.{Meaning, StreamSpec}
 use Rattle.minidump_system.specs.SystemInfo.{System, system_info_in, system_info_stream}
 use Rattle.minidump.specs.declared.directory.DecidingEntry.{DecidingEntry}
@@ -76,10 +77,13 @@ meaning_of_bytes meaning d system (Err e) = Err e
 abbrev pub stream_with : {V : Type 0} → Option System → ℕ → Meaning V → Dump → Result V Error
 stream_with system stream_type meaning d = meaning_of_bytes meaning d system (raw_stream stream_type d)
 
--- the system information, where its stream parses with none handed in. Else it is absent, and the
--- dump is still read
+-- the system information by its own stream, with none handed in, or the error
+abbrev pub own_system : Dump → Result System Error
+own_system d = stream_with None (number_of SystemInfoStream) system_info_in d
+
+-- the system information, where its stream parses. Else it is absent, and the dump is still read
 abbrev pub dump_system : Dump → Option System
-dump_system d = result_ok (stream_with None (number_of SystemInfoStream) system_info_in d)
+dump_system d = result_ok (own_system d)
 
 -- where reading that system information may run out of memory
 abbrev pub system_memory : Dump → Type 0
@@ -120,6 +124,12 @@ stream_memory spec d = IsOkAnd (raw_stream spec.stream_type d) (λ b. spec.memor
 -- a result is the stream of a table or its error; or memory ran out where it may
 abbrev pub IsStreamOf : {S V : Type 0} → StreamSpec S V → Dump → Result S Error → Type 0
 IsStreamOf spec d result = Gives spec.value (stream_memory spec d) result (stream_of spec d)
+
+-- a result holds that stream or its error; or memory ran out where it may
+abbrev pub IsTriedStream : {S V : Type 0} → StreamSpec S V → Dump
+    → Result (Result S Error) Error → Type 0
+IsTriedStream spec d (Ok tried) = map_ok spec.value tried ≡ stream_of spec d
+IsTriedStream spec d (Err e) = (e ≡ OutOfMemory) × stream_memory spec d
 
 -- a result is that stream, or none where it is missing or malformed; or memory ran out where it may
 abbrev pub IsFoundStream : {S V : Type 0} → StreamSpec S V → Dump → Result (Option S) Error → Type 0

@@ -13,6 +13,7 @@ pub mod Memory
 pub mod Thread
 pub mod ThreadText
 pub mod Exception
+pub mod Exceptions
 pub mod Shared
 pub mod Crash
 pub mod Report

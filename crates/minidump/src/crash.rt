@@ -73,7 +73,7 @@ fn crash_values(
         ≡ system_lines names.now (dump_of dump.now) (exception_of exception.now)
         (dump_system (dump_of dump.now))) }
 {
-    let Some(system) = &dump.system_info else {
+    let Some(system) = dump.system_info() else {
         return Ok(None);
     };
     let last_error = last_error(dump, streams, system.cpu, exception.thread_id, names)?;

@@ -52,7 +52,7 @@ pub(crate) fn read_directory(
 }
 
 // Reads the entries of the directory, in the order of the file.
-fn read_entries(
+pub(crate) fn read_entries(
     alloc: Global,
     source: Source<'_>,
     endian: Endian,

@@ -1,11 +1,11 @@
-ghost use Rattle.std.specs.Prelude.{◌≡◌};
-ghost use Rattle.std.specs.Option.{option_map};
+ghost use Rattle.std.specs.Prelude.{◌≡◌, true};
 ghost use Rattle.std.proofs.Props.{props};
 ghost use Rattle.minidump_bytes.specs.Source.{bytes_of};
+ghost use Rattle.minidump_context.specs.Context.{map_ok};
 ghost use Rattle.minidump_system.specs.SystemInfo.{system_info_of};
-ghost use Rattle.minidump.specs.Directory.{directory};
+ghost use Rattle.minidump.specs.Directory.{directory, is_readable};
 ghost use Rattle.minidump.specs.Deciding.{Decides};
-ghost use Rattle.minidump.specs.Dump.{dump_system};
+ghost use Rattle.minidump.specs.Dump.{own_system};
 
 use crate::directory::{DecidingEntry, read_directory};
 use crate::header::read_header;
@@ -27,20 +27,22 @@ pub struct Minidump<'a> {
     pub endian: Endian,
     pub(crate) source: Source<'a>,
     pub(crate) entries: Vec<DecidingEntry>,
-    // set exactly where the SystemInfo stream parses
-    pub(crate) system_info: Option<MinidumpSystemInfo>,
+    // the system information, or the error of its stream
+    pub(crate) system: Result<MinidumpSystemInfo, Error>,
     ghost decides: { Decides entries.items
         (directory endian (bytes_of source) header) } by { Prim.hlevel props },
-    ghost knows: { option_map system_info_of system_info
-        ≡ dump_system (record { file = bytes_of source; order = endian; header = header }) },
+    ghost readable: { is_readable (bytes_of source) header ≡ true },
+    ghost knows: { map_ok system_info_of system
+        ≡ own_system (record { file = bytes_of source; order = endian; header = header }) },
 }
 
 impl<'a> Minidump<'a> {
     ghost use Rattle.std.specs.Prelude.{◌+◌, ◌≤◌, length, IfOk};
     ghost use Rattle.std.specs.List.{filter_map};
+    ghost use Rattle.std.specs.Option.{option_copied, option_map};
     ghost use Rattle.minidump_bytes.specs.Steps.{after};
     ghost use Rattle.minidump_format.specs.Answer.{Gives};
-    ghost use Rattle.minidump.specs.Dump.{HasEntries, dump_in, least_reads, streams_of};
+    ghost use Rattle.minidump.specs.Dump.{HasEntries, dump_in, dump_system, least_reads, streams_of};
     ghost use Rattle.minidump.specs.DumpValue.{dump_of};
     ghost use Rattle.minidump.specs.Streams.{as_unknown, as_unimplemented, entries_of, streams_left, unknown_left, unimplemented_left};
 
@@ -75,20 +77,13 @@ impl<'a> Minidump<'a> {
         let source = Source::new(bytes);
         let (endian, header) = read_header(source, steps)?;
         let entries = read_directory(alloc, source, endian, &header, steps)?;
-        let system_info = read_system_info(
-            alloc,
-            source,
-            endian,
-            &header,
-            entries.as_slice(),
-            steps,
-        )?;
+        let system = read_system_info(alloc, source, endian, &header, entries.as_slice(), steps)?;
         Ok(Minidump {
             header,
             endian,
             source,
             entries,
-            system_info,
+            system,
         })
     }
 
@@ -99,6 +94,17 @@ impl<'a> Minidump<'a> {
     {
         Streams {
             entries: self.deciding_entries().iter(),
+        }
+    }
+
+    // Returns the system information, or `None` if its stream is missing or malformed.
+    pub(crate) fn system_info(&self) -> Option<&MinidumpSystemInfo>
+        ensures { option_map system_info_of (option_copied result)
+            ≡ dump_system (dump_of self.now) }
+    {
+        match &self.system {
+            Ok(system) => Some(system),
+            Err(_) => None,
         }
     }
 

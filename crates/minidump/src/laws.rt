@@ -2,6 +2,7 @@
 //! contracts of this crate name. Each is a call that does nothing; its contract says what holds.
 //! Those of reading are in `reading`, those of the records of the format in `records`.
 ghost use Rattle.std.specs.Prelude.{◌≡◌, ◌≢◌, ◌↔◌, ◌<◌, ◌^◌, ◌+◌, ℕ, ◌++◌, ◌∷◌, All, Contains, IsOk, IsOkAnd, IsSome, List, length, map, Option, Some};
+ghost use Rattle.std.specs.List.{last_or};
 ghost use Rattle.std.specs.List.Sorted.{IsStrictlyIncreasing};
 ghost use Rattle.std.specs.Result.{result_ok};
 ghost use Rattle.minidump_format.specs.declared.format.header.MINIDUMP_DIRECTORY.{MINIDUMP_DIRECTORY};
@@ -41,6 +42,7 @@ ghost use Rattle.minidump_records.specs.MacCrashInfo.Record.{MacRecord, mac_reco
 ghost use Rattle.minidump.specs.declared.directory.DecidingEntry.{DecidingEntry};
 ghost use Rattle.minidump.specs.Directory.{deciding_entry, directory};
 ghost use Rattle.minidump.specs.Dump.{Dump, raw_stream, bytes_of_span, stream_memory, stream_of, streams_of, dump_system};
+ghost use Rattle.minidump.specs.Exceptions.{exceptions_in};
 ghost use Rattle.minidump.specs.Memory.{TakesMemory, memories_of_dump};
 ghost use Rattle.minidump.specs.Promise.{assertion_stream, breakpad_info_stream, crashpad_info_stream, exception_stream, handle_data_stream, linux_cpu_info_stream, linux_environ_stream, linux_lsb_release_stream, linux_maps_stream, linux_proc_limits_stream, linux_proc_status_stream, mac_bootargs_stream, mac_crash_info_stream, memory64_list_stream, memory_info_list_stream, memory_list_stream, misc_info_stream, module_list_stream, soft_errors_stream, stability_report_stream, system_info_stream, thread_info_list_stream, thread_list_stream, thread_names_stream, unloaded_module_list_stream};
 ghost use Rattle.minidump.specs.Streams.{unimplemented_of, unknown_of};
@@ -201,6 +203,13 @@ pub fn a_report_has_what_a_lookup_returns()
     ensures infos { (infos : List InfoRegion) (address : ℕ) (found : Option InfoRegion)
         → IsLookedUp range_of_info_region infos address found
         ↔ (found ≡ looked_up range_of_info_region infos address) }
+{}
+
+/// The last of a dump's exceptions is its exception stream. Where it has none, that stream is
+/// `StreamNotFound`.
+pub fn last_exception_is_the_stream()
+    ensures { (d : Dump) → last_or (Some (Err Error.StreamNotFound)) (exceptions_in d)
+        ≡ Some (stream_of exception_stream d) }
 {}
 
 /// The system information of a dump is the value of its stream, if that parses.

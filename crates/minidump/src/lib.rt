@@ -33,11 +33,14 @@
 //!   `laws::last_entry_decides`, `last_entry_decides_the_bytes`, `last_entry_decides_the_stream`.
 //! - A stream is what its type assigns to its bytes, the file, the byte order and the dump's system
 //!   information, which is present exactly where its own stream parses; at most one read more than
-//!   the type takes: `get_stream`, `get_stream_counted`. The same, with `None` for a stream that is
+//!   the type takes: `get_stream`, `get_stream_counted`. The same, with `OutOfMemory` apart from
+//!   the errors of the stream: `try_stream`, `try_stream_counted`; with `None` for a stream that is
 //!   missing or malformed: `find_stream`, `find_stream_counted`. Each type that is read:
 //!   `laws::streams_are_read_as_promised`. What contexts, modules and `Display` state of themselves
 //!   is as defined: `laws::contexts_are_as_defined`, `modules_are_identified_as_defined`,
 //!   `texts_are_as_defined`.
+//! - The exceptions of all entries of their type, each read or its error: `exceptions`, by
+//!   `exceptions_in`. The last is the stream: `laws::last_exception_is_the_stream`.
 //! - The memory is the 64-bit list, else, where that is missing or malformed, the memory list:
 //!   `get_memory`, by `memories_of_dump`. `OutOfMemory` is no reason to take the other list.
 //! - A directory without entries has no stream and no memory, so that no read of either is
@@ -75,6 +78,7 @@ mod directory;
 mod dump;
 mod each_stream;
 mod exception;
+mod exceptions;
 mod file;
 mod header;
 pub mod laws;

@@ -6,7 +6,7 @@ ghost use Rattle.minidump.specs.Report.{Reports, report_text, section_text, sect
 ghost use Rattle.minidump.specs.Shared.{AreShared};
 
 use crate::crash::print_crash;
-use crate::section::print_unread;
+use crate::section::{print_error, print_unread};
 use crate::shared::SharedStreams;
 use crate::{
     Minidump, MinidumpMacBootargs, MinidumpSoftErrors, MinidumpThreadList, StabilityReport,
@@ -15,6 +15,7 @@ use crate::{
 use minidump_bytes::Told;
 use minidump_format::{Error, no_memory};
 use minidump_reason::CodeNames;
+use minidump_system::{MinidumpStream, MinidumpSystemInfo};
 use std::alloc::Global;
 use std::io::Write;
 
@@ -61,10 +62,10 @@ const SECTIONS: [Section; 25] = each_stream!(all_sections);
 ///
 /// A stream adds what its type prints; an absent one adds nothing; a malformed one adds a line with
 /// the names of its type and of its error. Threads are printed with their stacks, by
-/// [`Minidump::get_memory`]; both lists of memory without their bytes. Each stream is read once, but
-/// the system information twice, since [`Minidump::read`] reads it before; the exception, the
-/// threads and the lists of memory are kept until the end. The text is written
-/// piece by piece, so that at most one block and one item of the text are in memory.
+/// [`Minidump::get_memory`]; both lists of memory without their bytes. Each stream is read once;
+/// the system information, the exception, the threads and the lists of memory are kept until the
+/// end. The text is written piece by piece, so that at most one block and one item of the text are
+/// in memory.
 ///
 /// Returns the errors of [`Minidump::read`] before anything is written; then `IoError` if the
 /// writer fails, and `OutOfMemory`, after which the writer took a prefix of the report.
@@ -119,6 +120,14 @@ macro_rules! print_stream {
     };
 }
 
+// Reads the stream of a section, and prints it.
+macro_rules! read_and_print {
+    ($section:ident, $type:ty, $dump:ident, $alloc:ident, $f:ident) => {{
+        let section = Section::$section;
+        print_stream!($type, $dump.get_stream::<$type>($alloc), section, $dump, $alloc, $f)
+    }};
+}
+
 #[tactic(auto, using(crate::proofs::ReportLemmas::section_unread))]
 fn print_section<W: Write>(
     section: Section,
@@ -131,8 +140,11 @@ fn print_section<W: Write>(
     ensures { Prints W.contents f.old f.new (section_text (dump_of dump.now) section) result }
 {
     macro_rules! print_arm {
+        (SystemInfoStream, $type:ty) => {
+            print_system_info(dump, alloc, f)
+        };
         (ExceptionStream, $type:ty) => {
-            print_stream!($type, streams.exception, section, dump, alloc, f, dump.system_info.as_ref(), None)
+            print_stream!($type, streams.exception, section, dump, alloc, f, dump.system_info(), None)
         };
         (ThreadListStream, $type:ty) => {
             print_threads(dump, streams, alloc, f)
@@ -166,6 +178,21 @@ fn print_section<W: Write>(
     each_stream!(print_arms)
 }
 
+// Prints the system information as the dump has it: it was read with the dump.
+fn print_system_info<W: Write>(
+    dump: &Minidump<'_>,
+    alloc: Global,
+    f: &mut Told<W>,
+) -> Result<(), Error>
+    ensures { Prints W.contents f.old f.new
+        (section_text (dump_of dump.now) Section.SystemInfoStream) result }
+{
+    match &dump.system {
+        Ok(system) => system.print(alloc, f),
+        Err(error) => print_error(MinidumpSystemInfo::STREAM_TYPE, *error, alloc, f),
+    }
+}
+
 #[tactic(auto, using(crate::proofs::ReportLemmas::section_unread))]
 fn print_threads<W: Write>(
     dump: &Minidump<'_>,
@@ -180,7 +207,7 @@ fn print_threads<W: Write>(
     let section = Section::ThreadListStream;
     match &streams.threads {
         Ok(threads) => match streams.get_memory() {
-            Ok(memory) => threads.print(alloc, f, memory, dump.system_info.as_ref(), None, false),
+            Ok(memory) => threads.print(alloc, f, memory, dump.system_info(), None, false),
             Err(_) => Err(no_memory(f)),
         },
         Err(error) => print_unread::<MinidumpThreadList, W>(section, dump, *error, alloc, f),
@@ -197,15 +224,7 @@ fn print_boot_args<W: Write>(
     ensures { Prints W.contents f.old f.new
         (section_text (dump_of dump.now) Section.MozMacosBootargsStream) result }
 {
-    let section = Section::MozMacosBootargsStream;
-    print_stream!(
-        MinidumpMacBootargs,
-        dump.get_stream::<MinidumpMacBootargs>(alloc),
-        section,
-        dump,
-        alloc,
-        f
-    )
+    read_and_print!(MozMacosBootargsStream, MinidumpMacBootargs, dump, alloc, f)
 }
 
 // Prints the soft errors.
@@ -218,15 +237,7 @@ fn print_soft_errors<W: Write>(
     ensures { Prints W.contents f.old f.new
         (section_text (dump_of dump.now) Section.MozSoftErrors) result }
 {
-    let section = Section::MozSoftErrors;
-    print_stream!(
-        MinidumpSoftErrors,
-        dump.get_stream::<MinidumpSoftErrors>(alloc),
-        section,
-        dump,
-        alloc,
-        f
-    )
+    read_and_print!(MozSoftErrors, MinidumpSoftErrors, dump, alloc, f)
 }
 
 // Prints the stability report.
@@ -239,13 +250,5 @@ fn print_stability_report<W: Write>(
     ensures { Prints W.contents f.old f.new
         (section_text (dump_of dump.now) Section.StabilityReportStream) result }
 {
-    let section = Section::StabilityReportStream;
-    print_stream!(
-        StabilityReport,
-        dump.get_stream::<StabilityReport>(alloc),
-        section,
-        dump,
-        alloc,
-        f
-    )
+    read_and_print!(StabilityReportStream, StabilityReport, dump, alloc, f)
 }

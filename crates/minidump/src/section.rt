@@ -34,7 +34,7 @@ pub(crate) fn print_unread<'a, S: MinidumpStream<'a>, W: Write>(
 
 // Prints the line of a stream's error, or nothing for `StreamNotFound`. `OutOfMemory` has no line:
 // it ends the report.
-fn print_error<W: Write>(
+pub(crate) fn print_error<W: Write>(
     stream_type: u32,
     error: Error,
     alloc: Global,

@@ -1,7 +1,7 @@
 ghost use Rattle.std.specs.Prelude.{◌≡◌, ◌≢◌, ◌+◌, ◌<◌, ◌≤◌, length, IfErr, IfOk, IfSome, OnOk, OnSome};
 ghost use Rattle.minidump_bytes.specs.Steps.{after};
 ghost use Rattle.minidump_format.specs.Answer.{Gives};
-ghost use Rattle.minidump.specs.Dump.{IsFoundStream, IsStreamOf, dump_system, raw_stream};
+ghost use Rattle.minidump.specs.Dump.{IsFoundStream, IsStreamOf, IsTriedStream, dump_system, raw_stream};
 ghost use Rattle.minidump.specs.DumpValue.{dump_of};
 
 use crate::Minidump;
@@ -67,9 +67,55 @@ impl<'a> Minidump<'a> {
             Source::new(bytes),
             self.source,
             self.endian,
-            self.system_info.as_ref(),
+            self.system_info(),
             steps,
         )
+    }
+
+    /// Reads the stream of the type `S`, or returns the error for which the dump has none. The
+    /// outer error is [`Error::OutOfMemory`] alone. A directory without entries takes no memory.
+    pub fn try_stream<S: MinidumpStream<'a>>(
+        &self,
+        alloc: Global,
+    ) -> Result<Result<S, Error>, Error>
+        ensures means { IsTriedStream S.spec (dump_of self.now) result }
+        ensures entry { IfOk result
+            (λ tried. OnOk tried (0 < (dump_of self.now).header.stream_count)) }
+        ensures memory { IfErr result
+            (λ e. (e ≡ Error.OutOfMemory) × (0 < (dump_of self.now).header.stream_count)) }
+    {
+        self.try_stream_counted(alloc, &mut Steps::new())
+    }
+
+    /// Reads as [`Minidump::try_stream`] does, and counts the reads, within the limit of
+    /// [`Minidump::get_stream_counted`].
+    pub fn try_stream_counted<S: MinidumpStream<'a>>(
+        &self,
+        alloc: Global,
+        steps: &mut Steps,
+    ) -> Result<Result<S, Error>, Error>
+        ensures means { IsTriedStream S.spec (dump_of self.now) result }
+        ensures entry { IfOk result
+            (λ tried. OnOk tried (0 < (dump_of self.now).header.stream_count)) }
+        ensures memory { IfErr result
+            (λ e. (e ≡ Error.OutOfMemory) × (0 < (dump_of self.now).header.stream_count)) }
+        ensures within { steps.new ≤ steps.old + S.spec.most (length (dump_of self.now).file) + 1 }
+        ensures grows { steps.old ≤ steps.new }
+        ensures counted { raw_stream S.spec.stream_type (dump_of self.now)
+            ≢ Err Error.StreamNotFound
+            → after steps.old 1 ≤ steps.new }
+        ensures absent { raw_stream S.spec.stream_type (dump_of self.now) ≡ Err Error.StreamNotFound
+            → steps.new ≡ steps.old }
+        ensures at_least { IfOk result (λ tried. IfOk tried
+            (λ x. IfOk (raw_stream S.spec.stream_type (dump_of self.now))
+            (λ b. after steps.old (1 + S.spec.fewest (dump_of self.now).order b
+            (dump_system (dump_of self.now)) (S.spec.value x)) ≤ steps.new))) }
+    {
+        match self.get_stream_counted(alloc, steps) {
+            Ok(stream) => Ok(Ok(stream)),
+            Err(Error::OutOfMemory) => Err(Error::OutOfMemory),
+            Err(error) => Ok(Err(error)),
+        }
     }
 
     /// Reads the stream of the type `S`, or returns `None` if it is missing or malformed. The only
@@ -108,9 +154,8 @@ impl<'a> Minidump<'a> {
             (λ b. after steps.old (1 + S.spec.fewest (dump_of self.now).order b
             (dump_system (dump_of self.now)) (S.spec.value x)) ≤ steps.new))) }
     {
-        match self.get_stream_counted(alloc, steps) {
+        match self.try_stream_counted(alloc, steps)? {
             Ok(stream) => Ok(Some(stream)),
-            Err(Error::OutOfMemory) => Err(Error::OutOfMemory),
             Err(_) => Ok(None),
         }
     }

@@ -1,11 +1,11 @@
 ghost use Rattle.std.specs.Prelude.{◌≡◌, ◌+◌, ◌≤◌, ◌<◌, IfOk, IfErr, OnErr, OnOk};
-ghost use Rattle.std.specs.Option.{option_map};
 ghost use Rattle.minidump_bytes.specs.Source.{bytes_of};
 ghost use Rattle.minidump_bytes.specs.Steps.{after};
+ghost use Rattle.minidump_context.specs.Context.{map_ok};
 ghost use Rattle.minidump_system.specs.SystemInfo.{system_info_of};
 ghost use Rattle.minidump.specs.Deciding.{Decides};
 ghost use Rattle.minidump.specs.Directory.{directory};
-ghost use Rattle.minidump.specs.Dump.{dump_system, system_memory, system_reads};
+ghost use Rattle.minidump.specs.Dump.{own_system, system_memory, system_reads};
 
 use crate::directory::{DecidingEntry, raw_stream};
 use minidump_bytes::{Endian, Source, Steps};
@@ -14,8 +14,8 @@ use minidump_format::format::MINIDUMP_HEADER;
 use minidump_system::{MinidumpStream, MinidumpSystemInfo};
 use std::alloc::Global;
 
-// Reads the system information. It is absent if its stream is missing or malformed; the only error
-// is `OutOfMemory`, where its table says that memory may run out.
+// Reads the system information, or returns the error of its stream. The outer error is
+// `OutOfMemory` alone, where the stream's table says that memory may run out.
 pub(crate) fn read_system_info(
     alloc: Global,
     source: Source<'_>,
@@ -23,9 +23,9 @@ pub(crate) fn read_system_info(
     header: &MINIDUMP_HEADER,
     entries: &[DecidingEntry],
     steps: &mut Steps,
-) -> Result<Option<MinidumpSystemInfo>, Error>
+) -> Result<Result<MinidumpSystemInfo, Error>, Error>
     requires { Decides entries.now (directory endian (bytes_of source) header.now) }
-    ensures value { IfOk result (λ s. option_map system_info_of s ≡ dump_system
+    ensures value { IfOk result (λ s. map_ok system_info_of s ≡ own_system
         (record { file = bytes_of source.entry; order = endian; header = header.now })) }
     ensures memory { IfErr result (λ e. (e ≡ Error.OutOfMemory) × (0 < header.now.stream_count)) }
     ensures taken { OnErr result (system_memory
@@ -36,12 +36,13 @@ pub(crate) fn read_system_info(
         (record { file = bytes_of source.entry; order = endian; header = header.now }))
         ≤ steps.new) }
 {
-    let Ok(bytes) = raw_stream(entries, MinidumpSystemInfo::STREAM_TYPE, source, steps) else {
-        return Ok(None);
+    let bytes = match raw_stream(entries, MinidumpSystemInfo::STREAM_TYPE, source, steps) {
+        Ok(bytes) => bytes,
+        Err(error) => return Ok(Err(error)),
     };
     match MinidumpSystemInfo::read_record(alloc, Source::new(bytes), source, endian, steps) {
-        Ok(system_info) => Ok(Some(system_info)),
+        Ok(system_info) => Ok(Ok(system_info)),
         Err(Error::OutOfMemory) => Err(Error::OutOfMemory),
-        Err(_) => Ok(None),
+        Err(error) => Ok(Err(error)),
     }
 }

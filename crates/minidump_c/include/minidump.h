@@ -121,7 +121,7 @@ struct minidump_crash {
     uint64_t stack_pointer;
     uint64_t module_base; /* of the module with the instruction pointer */
     uint64_t module_size;
-    uint64_t stack_base; /* of the memory that holds the start of the thread's stack; minidump_frames also looks at the stack pointer */
+    uint64_t stack_base; /* of the memory that holds the start of the thread's stack; minidump_frames walks the region that holds the stack pointer */
     uint64_t stack_size;
     size_t reason_len; /* the sizes of the whole texts */
     size_t module_len;
@@ -239,8 +239,9 @@ struct minidump_frame {
 /* Writes the frames of the thread with an id, the innermost first, to the front of frames, as far as they fit, and their
  * number to *count: 0 without system information, for an id that no thread of the list has, and for a thread without a
  * context. The last thread of an id counts. For the thread of the crash, which minidump_crash has, the context is the
- * exception's, if it can be read. The callers follow by frame pointers, and after the last of them at most limit candidates. A
- * dump without a list of threads has MINIDUMP_STREAM_NOT_FOUND. */
+ * exception's, if it can be read. The stack is the region of the dump that holds the stack pointer, and where none does the
+ * thread's own. The callers follow by frame pointers, and after the last of them at most limit candidates. A dump without a
+ * list of threads has MINIDUMP_STREAM_NOT_FOUND. */
 uint32_t minidump_frames(const uint8_t *bytes, size_t len, uint32_t id, size_t limit, struct minidump_frame *frames,
                          size_t frames_len, size_t *count);
 

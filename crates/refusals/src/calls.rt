@@ -13,7 +13,7 @@ use crate::streams::{copy, show};
 use crate::texts::{
     assertion_texts, contexts, linux_texts, other_contexts, system_texts, thread_infos,
 };
-use crate::whole::{find, read, read_path, read_whole, report};
+use crate::whole::{exceptions, find, read, read_path, read_whole, report, try_names};
 use crate::world::World;
 use minidump::format::MINIDUMP_STREAM_TYPE::{self, *};
 use minidump::{Error, Told};
@@ -29,6 +29,8 @@ pub enum Call {
     Copy(MINIDUMP_STREAM_TYPE),
     Read,
     Find,
+    Try,
+    Exceptions,
     ReadAll,
     ReadPath,
     Report,
@@ -118,6 +120,8 @@ pub const CALLS: &[(&str, Call)] = &[
     ("copy-StabilityReport", Call::Copy(StabilityReportStream)),
     ("read", Call::Read),
     ("find", Call::Find),
+    ("try", Call::Try),
+    ("exceptions", Call::Exceptions),
     ("read-all", Call::ReadAll),
     ("read-path", Call::ReadPath),
     ("report", Call::Report),
@@ -162,6 +166,8 @@ pub fn make(world: &World<'_>, call: Call, out: &mut Told<Device>) -> Result<(),
         Call::Copy(stream) => copy(world, stream, out),
         Call::Read => read(world, out),
         Call::Find => find(world, out),
+        Call::Try => try_names(world, out),
+        Call::Exceptions => exceptions(world, out),
         Call::ReadAll => read_whole(world, out),
         Call::ReadPath => read_path(world, out),
         Call::Report => report(world, out),

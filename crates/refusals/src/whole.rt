@@ -32,6 +32,22 @@ pub fn find(world: &World<'_>, out: &mut Told<Device>) -> Result<(), Error> {
     }
 }
 
+/// Tries a stream, which is there or not.
+pub fn try_names(world: &World<'_>, out: &mut Told<Device>) -> Result<(), Error> {
+    match world.dump.try_stream::<MinidumpThreadNames>(world.alloc)? {
+        Ok(names) => names.print(world.alloc, out),
+        Err(_) => put_line(out, None),
+    }
+}
+
+/// Reads the exceptions of all entries.
+pub fn exceptions(world: &World<'_>, out: &mut Told<Device>) -> Result<(), Error> {
+    for exception in &world.dump.exceptions(world.alloc)? {
+        put_line(out, exception.is_ok().then_some("an exception"))?;
+    }
+    Ok(())
+}
+
 /// Reads a reader to its end. An error leaves nothing in the vector.
 pub fn read_whole(world: &World<'_>, out: &mut Told<Device>) -> Result<(), Error> {
     let mut into = Vec::from_slice(world.alloc, &[1])?;

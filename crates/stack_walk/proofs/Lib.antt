@@ -1,5 +1,6 @@
 -- The lemmas of this crate.
 pub mod CallerLemmas
+pub mod ContextLemmas
 pub mod WalkLemmas
 pub mod FramesLemmas
 pub mod UpLemmas

@@ -105,11 +105,11 @@ caller_at s size address =
     else None
 
 -- the caller of a frame: that of the record at its frame pointer, which lies at or above its stack
--- pointer. What lies below is no frame's: on x86 and x86-64 a function pushes the frame pointer and
--- points it there, so that both are equal, and then the stack only grows downwards; on ARM and
--- ARM64 the record lies in the function's own frame, at the stack pointer or above it. The stack
--- pointer of a caller is the address after its frame's record, so that records neither overlap nor
--- stand in a circle
+-- pointer. On x86 and x86-64 a function pushes the frame pointer and points it to what it pushed,
+-- where the stack pointer is then; on ARM and ARM64 the record lies in the function's own frame.
+-- Later the stack pointer only falls. The stack pointer of a caller is the address after the record
+-- that leads to it (on ARM64 the lowest that it can be), so that records neither overlap nor stand in
+-- a circle
 abbrev pub caller_of : StackValue → StackFrame → Option StackFrame
 caller_of s f = option_and_then (λ size. option_and_then (λ address.
     if nat_lt address f.stack_pointer then None else caller_at s size address) f.frame_pointer)

@@ -1,6 +1,6 @@
 -- The frames of a thread, by what a dump has of its process.
-use Rattle.std.specs.Prelude.{◌≡◌, ℕ, ◌+◌, ◌==◌, ◌&&◌, Bool, false, List, [], length, nat_le, nat_lt}
-use Rattle.std.specs.Prelude.{Option, Some, None, if◌then◌else◌}
+use Rattle.std.specs.Prelude.{◌≡◌, ℕ, ◌+◌, ◌==◌, ◌&&◌, Bool, false, List, [], length, nat_le}
+use Rattle.std.specs.Prelude.{nat_lt, Option, Some, None, if◌then◌else◌}
 use Rattle.std.specs.Option.{option_and_then, option_copied, option_map, option_map_or, option_or}
 use Rattle.minidump.specs.declared.MinidumpContextValidity.TheVariants.{All}
 use Rattle.minidump.specs.declared.MinidumpRawContext.{MinidumpRawContext}

@@ -1,4 +1,4 @@
--- The walk of a context as a function of its stack: going up the stack, each caller is met.
+-- The walk of a context as a function of its stack.
 use Rattle.std.specs.Prelude.{ℕ, ◌==◌, Bool, false, List, [], ◌∷◌, ◌++◌, Option, None, length}
 use Rattle.std.specs.Prelude.{if◌then◌else◌}
 use Rattle.std.specs.List.{range_with_len}
@@ -15,12 +15,13 @@ use Rattle.stack_walk.specs.WalkEnd.{walk_end}
 abbrev pub points_to : StackFrame → ℕ → Bool
 points_to f address = option_map_or (λ pointer. pointer == address) f.frame_pointer false
 
--- the caller of a frame whose record stands at an address
+-- the caller of a frame, where the record at an address leads to it
 abbrev pub caller_here : StackValue → StackFrame → ℕ → Option StackFrame
 caller_here s f address = if points_to f address then caller_of s f else None
 
--- the callers of a frame whose records stand at ascending addresses: at each address, the caller of
--- the last frame so far, if its record stands there
+-- the callers of a frame, of those to which records at these ascending addresses lead: the caller
+-- to which the record at the first leads, and its callers by the addresses above; where there is
+-- none, those by the addresses above
 unfoldable pub callers_at : StackValue → StackFrame → List ℕ → List StackFrame
 callers_at s f [] = []
 callers_at s f (address ∷ above) =

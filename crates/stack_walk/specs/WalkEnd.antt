@@ -4,8 +4,9 @@ use Rattle.std.specs.Prelude.{if◌then◌else◌}
 use Rattle.std.specs.Option.{option_map_or}
 use Rattle.minidump.specs.Below.System.Cpu.{pointer_bytes}
 use Rattle.stack_walk.specs.declared.end.WalkEnd.{WalkEnd}
-use Rattle.stack_walk.specs.declared.end.WalkEnd.TheVariants.{UnknownWidth, NoMemory, NoFramePointer}
-use Rattle.stack_walk.specs.declared.end.WalkEnd.TheVariants.{ZeroFramePointer, Falls, EndOfMemory, NoCode}
+use Rattle.stack_walk.specs.declared.end.WalkEnd.TheVariants.{NoMemory, UnknownWidth}
+use Rattle.stack_walk.specs.declared.end.WalkEnd.TheVariants.{NoFramePointer, ZeroFramePointer}
+use Rattle.stack_walk.specs.declared.end.WalkEnd.TheVariants.{BelowStackPointer, NoRecord, NoCode}
 use Rattle.stack_walk.specs.declared.frame.StackFrame.{StackFrame}
 use Rattle.stack_walk.specs.Frames.{StackValue, pointer_at}
 
@@ -14,14 +15,14 @@ abbrev pub has_record : StackValue → ℕ → ℕ → Bool
 has_record s size address = nat_lt (address + 2 * size) (2 ^ 64)
     && (is_some (pointer_at s address) && is_some (pointer_at s (address + size)))
 
--- the end by a frame pointer
+-- why a frame with this frame pointer has no caller
 abbrev end_at : StackValue → StackFrame → ℕ → ℕ → WalkEnd
 end_at s f size address =
     if address == 0 then ZeroFramePointer
-    else (if nat_lt address f.stack_pointer then Falls
-    else (if has_record s size address then NoCode else EndOfMemory))
+    else (if nat_lt address f.stack_pointer then BelowStackPointer
+    else (if has_record s size address then NoCode else NoRecord))
 
--- the end by the width of an address
+-- why a frame has none, where an address has so many bytes
 abbrev end_by : StackValue → StackFrame → ℕ → WalkEnd
 end_by s f size = option_map_or (end_at s f size) f.frame_pointer NoFramePointer
 

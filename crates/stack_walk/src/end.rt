@@ -16,11 +16,13 @@ pub enum WalkEnd {
     NoFramePointer,
     /// The frame pointer is 0, as a thread's first function finds it.
     ZeroFramePointer,
-    /// The frame pointer lies below the stack pointer, in memory that no frame uses.
-    Falls,
-    /// The memory of the stack doesn't hold the whole frame record, or that ends at 2^64.
-    EndOfMemory,
-    /// No kept module contains the call of the return address.
+    /// The frame pointer lies below the stack pointer, where the stack has no frame record: it is
+    /// none, or leads to another stack, as from that of a handler to the interrupted one.
+    BelowStackPointer,
+    /// The memory of the stack doesn't hold both words of the frame record, or the record ends at
+    /// 2^64 or beyond.
+    NoRecord,
+    /// The return address is 0, or no kept module contains the address below it.
     NoCode,
 }
 
@@ -40,11 +42,11 @@ pub(crate) fn walk_end(stack: &Stack<'_, '_>, frame: &StackFrame) -> WalkEnd
     if address == 0 {
         WalkEnd::ZeroFramePointer
     } else if address < frame.stack_pointer {
-        WalkEnd::Falls
+        WalkEnd::BelowStackPointer
     } else if has_record(stack, size as u64, address) {
         WalkEnd::NoCode
     } else {
-        WalkEnd::EndOfMemory
+        WalkEnd::NoRecord
     }
 }
 

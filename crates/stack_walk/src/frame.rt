@@ -25,7 +25,8 @@ pub enum FrameTrust {
 pub struct StackFrame {
     /// The instruction pointer of the context, or else the return address of the frame before.
     pub instruction: u64,
-    /// The stack pointer: of a caller or a candidate, the address after its return address.
+    /// The stack pointer: of a caller or a candidate, the address after its return address, which is
+    /// the lowest that its stack pointer can be.
     pub stack_pointer: u64,
     /// The frame pointer, as the context or the frame record has it, or `None` if it isn't known.
     pub frame_pointer: Option<u64>,

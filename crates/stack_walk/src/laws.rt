@@ -1,10 +1,14 @@
 //! Laws of frames, over the definitions that the contract of [`crate::frames`] names.
-ghost use Rattle.std.specs.Prelude.{◌≡◌, ◌↔◌, ◌≤◌, ◌+◌, ◌*◌, ℕ, All, Contains, List, ◌∷◌, Some, length};
+ghost use Rattle.std.specs.Prelude.{◌≡◌, ◌↔◌, ◌≤◌, ◌+◌, ◌*◌, ℕ, All, Contains, List, ◌∷◌, Some};
+ghost use Rattle.std.specs.Prelude.{length};
 ghost use Rattle.minidump.specs.declared.MinidumpContext.{MinidumpContext};
 ghost use Rattle.minidump.specs.Below.Bytes.Exact.{IsExact};
 ghost use Rattle.minidump.specs.Below.System.Cpu.{pointer_bytes};
 ghost use Rattle.stack_walk.specs.Evidence.{HasEvidence};
-ghost use Rattle.stack_walk.specs.Frames.{AreFrames, StackValue, scan, stack_bytes, word_candidate};
+ghost use Rattle.minidump.specs.Below.Contexts.Context.{registers_of, value_in};
+ghost use Rattle.minidump.specs.declared.MinidumpRawContext.{MinidumpRawContext};
+ghost use Rattle.stack_walk.specs.Frames.{AreFrames, StackValue, instruction_pointer_in, scan, stack_bytes};
+ghost use Rattle.stack_walk.specs.Frames.{stack_pointer_in, word_candidate};
 ghost use Rattle.stack_walk.specs.Walk.{frames_in};
 ghost use Rattle.stack_walk.specs.declared.frame.StackFrame.{StackFrame};
 
@@ -15,6 +19,16 @@ use crate::{FrameTrust, StackFrame, WalkEnd};
 pub fn one_list_of_frames()
     ensures { (s : StackValue) (c : MinidumpContext) (limit : ℕ) (frames : List StackFrame)
         → AreFrames s c limit frames ↔ (frames ≡ frames_in s c limit) }
+{}
+
+/// Each context has an instruction pointer and a stack pointer.
+pub fn a_context_has_both_pointers()
+    ensures instruction { (raw : MinidumpRawContext)
+        → value_in (registers_of raw) (registers_of raw).instruction_pointer
+        ≡ Some (instruction_pointer_in raw) }
+    ensures stack { (raw : MinidumpRawContext)
+        → value_in (registers_of raw) (registers_of raw).stack_pointer
+        ≡ Some (stack_pointer_in raw) }
 {}
 
 /// Each frame but the first has its evidence.

@@ -5,8 +5,9 @@
 //! - After the last of them, the words of the stack that may be return addresses are candidates:
 //!   [`FrameTrust::Scan`].
 //!
-//! [`frames`] returns them by a context and a [`Stack`], [`thread_frames`] those of a thread, by
-//! what a dump has of its [`Process`].
+//! [`walk_stack`] finds them by a context and a [`Stack`], [`walk_thread`] those of a thread, by what
+//! a dump has of its [`Process`]; [`frames`] and [`thread_frames`] return them in one list. A walk
+//! stays on one stack: it ends where the frames of a handler lead back to the interrupted stack.
 //!
 //! # What is proved
 //!
@@ -18,6 +19,7 @@
 //! - These frames are those of `AreFrames`, and the only ones: each caller is that of the frame
 //!   before it, and the last frame has none: [`laws::one_list_of_frames`]. Out of memory is an
 //!   error, never a shorter list.
+//! - Each context has both pointers: [`laws::a_context_has_both_pointers`].
 //! - Each frame but the first has a return address that stands in the stack right below its stack
 //!   pointer: [`laws::each_caller_has_its_evidence`].
 //! - The walk ends on every stack, and its length is bounded by that of the stack:
@@ -56,10 +58,10 @@ pub use walk::{Walk, walk_stack};
 ///
 /// - The frame pointer is `ebp`, `rbp`, or ARM's `fp`. It points to the frame record, two words of
 ///   the stack: the saved frame pointer, and the return address, which a kept module contains. A
-///   record lies at or above the stack pointer of its frame, which for a caller is the address after
-///   the record before it. The last caller is the one whose saved frame pointer leads to no record.
-///   Bits by which ARM64 authenticates a return address are kept.
-/// - A candidate is an aligned word from the last caller's stack pointer on that a kept module
+///   record lies at or above the stack pointer of its frame, which for a caller is the address
+///   after the record that leads to it. The last frame is the one whose frame pointer leads to no
+///   record. Bits by which ARM64 authenticates a return address are kept.
+/// - A candidate is an aligned word from the last frame's stack pointer on that a kept module
 ///   contains, unless what is known of the memory says that it can't be run.
 ///
 /// A module contains a return address if it contains the address before it, which lies in the call.

@@ -36,10 +36,10 @@ pub struct Process<'l, 'a> {
 /// `None` if it has no context.
 ///
 /// The context is the exception's, if that happened on the thread and its context is accepted, and
-/// else the thread's own. The stack is [`MinidumpThread::stack_memory`], if it holds the byte at the
-/// context's stack pointer, else the kept region of the memory that contains the stack pointer, as
-/// that of a handler or of a coroutine, and without one again the first. The only error is
-/// `OutOfMemory`, which comes only if there is a context.
+/// else the thread's own. The stack is the region that holds the byte at the context's stack
+/// pointer: [`MinidumpThread::stack_memory`], if it does, else the kept region of the memory, as for
+/// a handler or a coroutine. Where neither does, it is `stack_memory` all the same. The only error
+/// is `OutOfMemory`, which comes only if there is a context.
 pub fn walk_thread<'a>(
     alloc: Global,
     process: &Process<'_, 'a>,
@@ -59,7 +59,7 @@ pub fn walk_thread<'a>(
 }
 
 /// Returns the frames of a thread and after them the candidates, as [`walk_thread`] finds them;
-/// none if it has no context.
+/// none if it has no context. The only error is that of [`walk_thread`].
 pub fn thread_frames<'a>(
     alloc: Global,
     process: &Process<'_, 'a>,

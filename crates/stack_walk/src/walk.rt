@@ -8,7 +8,7 @@ use crate::{FrameTrust, Stack, StackFrame, WalkEnd};
 use minidump::{Error, MinidumpContext, MinidumpRawContext};
 use std::alloc::{AllocError, Global};
 
-/// The frames of a context, the candidates, and why there are no more frames.
+/// The frames of a context, the candidates, and why there are no more callers.
 #[derive(Debug, Drop)]
 pub struct Walk {
     /// The frame of the context and its callers by frame pointers, the innermost first.
@@ -20,7 +20,7 @@ pub struct Walk {
 }
 
 impl Walk {
-    /// Returns the frames and after them the candidates.
+    /// Returns the frames and after them the candidates. The only error is that no memory is left.
     pub fn into_frames(self) -> Result<Vec<StackFrame>, AllocError>
         ensures { IfOk result (λ frames. frames.items ≡ all_frames (walk_of self)) }
     {

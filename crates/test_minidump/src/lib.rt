@@ -13,6 +13,8 @@ mod absent;
 #[cfg(test)]
 mod directory;
 #[cfg(test)]
+mod exceptions;
+#[cfg(test)]
 mod file;
 #[cfg(test)]
 mod given;

@@ -22,7 +22,7 @@ fn dump_of(alloc: Global, record: &[u8], start: u8) -> Result<Vec<u8>, AllocErro
     let mut stream = [0; 172];
     stream[4] = 1;
     stream[8] = start;
-    stream[12] = record.len() as u8;
+    stream[12] = u8::try_from(record.len()).unwrap_or(0);
     stream[16] = 32;
     dump.add_stream(0x4d7a_0001, &stream);
     dump.finish()

@@ -58,6 +58,13 @@ fn is_identified(alloc: Global, bytes: &[u8], text: &str, code: &str) -> Result<
     let Some(module) = modules.main_module() else {
         return Ok(false);
     };
+    if modules
+        .numbered_module_at_address(0x4fff)
+        .map(|found| found.0)
+        != Some(0)
+    {
+        return Ok(false);
+    }
     let id = module.debug_identifier();
     let of_code = module.code_identifier(alloc)?;
     Ok(

@@ -1,7 +1,7 @@
 -- What the binary search says.
-use Rattle.std.proofs.Common.{◌≡◌, rules, get_or, find, Some, None, sym, Ok, Err}
+use Rattle.std.proofs.Common.{rules, Ok, Err}
 use Rattle.std.proofs.lemmas.List.Sorted.{answers_always}
-use Rattle.minidump.specs.Deciding.{is_of_type, type_of}
+use Rattle.minidump.specs.Deciding.{type_of}
 use Rattle.minidump.proofs.DirectoryLemmas.{of_that_type, search_finds}
 use Rattle.minidump.proofs.directory.raw_stream.Goals as goal
 
