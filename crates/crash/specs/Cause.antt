@@ -1,10 +1,8 @@
 -- Where and why a process crashed: its exceptions, which of them counts, and what is known of the
 -- address of the crash.
-use Rattle.std.specs.Prelude.{ℕ, ◌-◌, ◌==◌, Bool, false, not, true, List, [], ◌∷◌, map, slice_get}
-use Rattle.std.specs.Prelude.{Option, Result, Ok, Err, if◌then◌else◌, string_bytes}
+use Rattle.std.specs.Prelude.{ℕ, ◌-◌, List, map, Option, Result, string_bytes}
 use Rattle.std.specs.List.{enumerate_from}
-use Rattle.std.specs.Option.{option_and_then, option_map, option_or}
-use Rattle.std.specs.Result.{result_ok}
+use Rattle.std.specs.Option.{option_and_then, option_map}
 use Rattle.minidump.specs.declared.Error.{Error}
 use Rattle.minidump.specs.Below.Contexts.Context.{map_ok}
 use Rattle.minidump.specs.Below.Index.Lookup.{looked_up}
@@ -14,14 +12,13 @@ use Rattle.minidump.specs.Below.Reasons.Reason.{crash_reason}
 use Rattle.minidump.specs.Below.Reasons.ReasonText.{reason_text}
 use Rattle.minidump.specs.Below.System.System.{System}
 use Rattle.minidump.specs.Exception.{Exception, crash_address}
-use Rattle.missing_streams.specs.Missing.{is_missing}
 use Rattle.crash.specs.declared.cause.AddressFacts.{AddressFacts}
 use Rattle.crash.specs.declared.cause.CrashCause.{CrashCause}
 use Rattle.crash.specs.declared.cause.CrashException.{CrashException}
 use Rattle.crash.specs.declared.contexts.ContextProblem.{ContextProblem}
 use Rattle.crash.specs.Contents.{ContentsValue}
 use Rattle.crash.specs.Contexts.{problem_in, system_of}
-use Rattle.crash.specs.Last.{last_index}
+use Rattle.crash.specs.Counting.{counted, counting}
 
 -- an exception: its thread, its code, where it happened, the address and the reason of the crash,
 -- where the system is known, and why its context isn't used
@@ -81,37 +78,9 @@ exception_in names system e = record {
   context_problem = problem_in system e.order e.context;
 }
 
--- a stream as a list of one, and of none where it is missing
-abbrev pub unless_missing : {V : Type 0} → Result V Error → List (Result V Error)
-unless_missing (Ok value) = Ok value ∷ []
-unless_missing (Err e) = if is_missing e then [] else Err e ∷ []
-
--- the exceptions of a dump: that of the deciding entry, or why it can't be read
+-- the exceptions of a dump, each or why it can't be read
 abbrev pub exceptions_in : Lists → ContentsValue → List (Result ExceptionValue Error)
-exceptions_in names c = map (map_ok (exception_in names (system_of c)))
-    (unless_missing c.threads.exception)
-
--- ---- which of them counts
-
--- an exception tells of a crash: its code isn't 0
-abbrev pub has_code : Result ExceptionValue Error → Bool
-has_code (Ok e) = not (e.code == 0)
-has_code (Err _) = false
-
--- an exception can be read
-abbrev pub is_read : Result ExceptionValue Error → Bool
-is_read (Ok _) = true
-is_read (Err _) = false
-
--- the index of the exception that counts: the last whose code isn't 0, else the last that can be
--- read
-abbrev pub counting : List (Result ExceptionValue Error) → Option ℕ
-counting exceptions = option_or (last_index has_code exceptions) (last_index is_read exceptions)
-
--- the exception of an index, where it can be read
-abbrev pub counted : List (Result ExceptionValue Error) → Option ℕ → Option ExceptionValue
-counted exceptions counts =
-    option_and_then result_ok (option_and_then (slice_get exceptions) counts)
+exceptions_in names c = map (map_ok (exception_in names (system_of c))) c.threads.exceptions
 
 -- ---- the address
 
@@ -138,5 +107,4 @@ cause_by c exceptions counts = record {
 
 -- the cause of a crash
 abbrev pub cause_in : Lists → ContentsValue → CauseValue
-cause_in names c =
-    let exceptions = exceptions_in names c in cause_by c exceptions (counting exceptions)
+cause_in names c = cause_by c (exceptions_in names c) (counting c.threads.exceptions)

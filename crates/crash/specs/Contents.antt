@@ -1,5 +1,5 @@
 -- The contents of a minidump: the value of each stream, or the error for which there is none.
-use Rattle.std.specs.Prelude.{ℕ, List, [], length, Option, Result, unwrap_or}
+use Rattle.std.specs.Prelude.{ℕ, List, [], length, map, Option, Result, unwrap_or}
 use Rattle.std.specs.Option.{option_map}
 use Rattle.std.specs.Result.{result_err, result_ok}
 use Rattle.minidump.specs.declared.Error.{Error}
@@ -21,6 +21,7 @@ use Rattle.minidump.specs.Below.Stability.StabilityReport.{Report}
 use Rattle.minidump.specs.Below.System.System.{System}
 use Rattle.minidump.specs.Dump.{Dump, stream_of}
 use Rattle.minidump.specs.Exception.{Exception}
+use Rattle.minidump.specs.Exceptions.{exceptions_in}
 use Rattle.minidump.specs.Thread.{Thread}
 use Rattle.minidump.specs.Promise.{system_info_stream, misc_info_stream, breakpad_info_stream}
 use Rattle.minidump.specs.Promise.{linux_cpu_info_stream, linux_lsb_release_stream, exception_stream}
@@ -67,9 +68,10 @@ system_streams_of s = record {
   lsb_release = map_ok linux_lsb_release_stream.value s.lsb_release;
 }
 
--- the streams of the crash and its threads: each its value, or the error for which there is none
+-- the streams of the crash and its threads: each its value, or the error for which there is none,
+-- and the exceptions of all entries of the directory
 pub record ThreadStreamValues : Type 0 where
-  pub exception : Result Exception Error
+  pub exceptions : List (Result Exception Error)
   pub threads : Result (List Thread) Error
   pub names : Result (List ThreadName) Error
   pub infos : Result (List MINIDUMP_THREAD_INFO) Error
@@ -77,7 +79,7 @@ pub record ThreadStreamValues : Type 0 where
 -- those of a dump
 abbrev pub thread_streams_in : Dump → ThreadStreamValues
 thread_streams_in d = record {
-  exception = stream_of exception_stream d;
+  exceptions = exceptions_in d;
   threads = stream_of thread_list_stream d;
   names = stream_of thread_names_stream d;
   infos = stream_of thread_info_list_stream d;
@@ -86,7 +88,7 @@ thread_streams_in d = record {
 -- those of a `ThreadStreams`
 abbrev pub thread_streams_of : ThreadStreams → ThreadStreamValues
 thread_streams_of s = record {
-  exception = map_ok exception_stream.value s.exception;
+  exceptions = map (map_ok exception_stream.value) s.exceptions.items;
   threads = map_ok thread_list_stream.value s.threads;
   names = map_ok thread_names_stream.value s.names;
   infos = map_ok thread_info_list_stream.value s.infos;

@@ -8,6 +8,7 @@ use Rattle.minidump.specs.declared.MinidumpContextValidity.TheVariants.{All}
 use Rattle.minidump.specs.declared.MinidumpRawContext.{MinidumpRawContext}
 use Rattle.minidump.specs.Below.Contexts.Context.{registers_of, valid_registers_from}
 use Rattle.minidump.specs.Below.System.System.{System}
+use Rattle.minidump.specs.Exception.{Exception}
 use Rattle.minidump.specs.Thread.{Thread, known_context}
 use Rattle.crash.specs.declared.contexts.ContextOrigin.{ContextOrigin}
 use Rattle.crash.specs.declared.contexts.ContextOrigin.TheVariants.{OfException, OfThread}
@@ -36,11 +37,14 @@ context_of c = record {
 abbrev pub system_of : ContentsValue → Option System
 system_of c = result_ok c.system.system
 
--- the context of the exception, where it happened on the thread with an id
-abbrev pub exception_context : ContentsValue → ℕ → Option MinidumpRawContext
-exception_context c id = option_and_then (λ e.
-    if e.thread_id == id then known_context (system_of c) e.order e.context else None)
-    (result_ok c.threads.exception)
+-- the context of an exception, where the system accepts it
+abbrev pub context_at : ContentsValue → Exception → Option MinidumpRawContext
+context_at c e = known_context (system_of c) e.order e.context
+
+-- the same, where the exception happened on the thread with an id
+abbrev pub exception_context : ContentsValue → Option Exception → ℕ → Option MinidumpRawContext
+exception_context c e id =
+    option_and_then (λ e. if e.thread_id == id then context_at c e else None) e
 
 -- the registers of a context
 abbrev pub context_by : ContextOrigin → MinidumpRawContext → ContextValue
@@ -56,9 +60,9 @@ abbrev pub first_context : Option MinidumpRawContext → Option MinidumpRawConte
 first_context (Some raw) own = Some (context_by OfException raw)
 first_context None own = option_map (context_by OfThread) own
 
--- the same of a thread of the list
-abbrev pub context_in : ContentsValue → Thread → Option ContextValue
-context_in c t = first_context (exception_context c t.raw.thread_id)
+-- the same of a thread of the list, by the exception that counts
+abbrev pub context_in : ContentsValue → Option Exception → Thread → Option ContextValue
+context_in c e t = first_context (exception_context c e t.raw.thread_id)
     (known_context (system_of c) t.order t.context)
 
 -- ---- why there are none

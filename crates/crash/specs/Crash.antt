@@ -6,7 +6,7 @@ use Rattle.minidump.specs.Below.System.Reads.{and_then}
 use Rattle.minidump.specs.Dump.{Dump, dump_in}
 use Rattle.crash.specs.declared.crash.Crash.{Crash}
 use Rattle.crash.specs.declared.damage.Damage.{Damage}
-use Rattle.crash.specs.Cause.{CauseValue, cause_in, cause_of, counted}
+use Rattle.crash.specs.Cause.{CauseValue, cause_in, cause_of}
 use Rattle.crash.specs.Contents.{ContentsValue, contents_in, contents_of}
 use Rattle.crash.specs.Damage.{damage_by}
 use Rattle.crash.specs.Directory.{DirectoryValue, directory_in, directory_of}
@@ -36,10 +36,6 @@ crash_of c = record {
   damage = c.damage.items;
 }
 
--- the threads, by the exception that counts
-abbrev pub threads_with : Lists → ℕ → ContentsValue → CauseValue → ThreadsValue
-threads_with names scan c cause = threads_in names scan c (counted cause.exceptions cause.counts)
-
 -- what is there and can't be read
 abbrev pub damage_in : DirectoryValue → CauseValue → ThreadsValue → List Damage
 damage_in directory cause threads =
@@ -58,8 +54,8 @@ crash_with d c directory cause threads = record {
 
 -- the crash of a dump with these contents
 abbrev pub crash_by : Lists → ℕ → Dump → ContentsValue → CrashValue
-crash_by names scan d c = crash_with d c (directory_in d c) (cause_in names c)
-    (threads_with names scan c (cause_in names c))
+crash_by names scan d c =
+    crash_with d c (directory_in d c) (cause_in names c) (threads_in names scan c)
 
 -- the crash of a file, with the names of codes of these lists and at most so many candidates a
 -- thread, or why the file is no minidump

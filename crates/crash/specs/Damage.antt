@@ -1,4 +1,4 @@
--- What is there in a dump and can't be read.
+-- What is there in a dump and can't be read, whether anything else stands in for it or not.
 use Rattle.std.specs.Prelude.{◌++◌, Bool, false, true, List, Option, Some, None, Result, Ok, Err}
 use Rattle.std.specs.Prelude.{if◌then◌else◌}
 use Rattle.std.specs.List.{filter_map}

@@ -1,15 +1,20 @@
 -- What the header and the directory of a dump say: when it was written, which streams it has, each
 -- with the error for which it can't be read, and how many entries lie outside the file.
-use Rattle.std.specs.Prelude.{ℕ, List, count_by, is_none, map, Option, Some, None}
+use Rattle.std.specs.Prelude.{◌≡◌, ℕ, List, count_by, is_none, map, Option, Some, None, Result, Err}
+use Rattle.std.specs.List.{last_or}
+use Rattle.std.specs.Option.{option_and_then}
 use Rattle.std.specs.Result.{result_err}
 use Rattle.minidump.specs.declared.Error.{Error}
+use Rattle.minidump.specs.declared.Error.TheVariants.{StreamNotFound}
 use Rattle.minidump.specs.declared.format.MINIDUMP_DIRECTORY.{MINIDUMP_DIRECTORY}
 use Rattle.minidump.specs.declared.format.MINIDUMP_STREAM_TYPE.{MINIDUMP_STREAM_TYPE}
 use Rattle.minidump.specs.declared.format.MINIDUMP_STREAM_TYPE.TheVariants as stream
 use Rattle.minidump.specs.Below.Format.Header.{located}
 use Rattle.minidump.specs.Below.Format.StreamType.{stream_type_of}
 use Rattle.minidump.specs.Directory.{directory}
-use Rattle.minidump.specs.Dump.{Dump, raw_stream, streams_of}
+use Rattle.minidump.specs.Dump.{Dump, raw_stream, stream_of, streams_of}
+use Rattle.minidump.specs.Exception.{Exception, exception_stream}
+use Rattle.minidump.specs.Exceptions.{exceptions_in}
 use Rattle.minidump.specs.Streams.{entries_of}
 use Rattle.crash.specs.declared.directory.CrashDirectory.{CrashDirectory}
 use Rattle.crash.specs.declared.directory.StreamEntry.{StreamEntry}
@@ -33,6 +38,16 @@ directory_of d = record {
 abbrev pub raw_error : Dump → ℕ → Option Error
 raw_error d number = result_err (raw_stream number d)
 
+-- the error for which the exception stream can't be read, which is the last of the exceptions:
+-- `StreamNotFound` where there are none
+abbrev pub last_error : List (Result Exception Error) → Option Error
+last_error exceptions =
+    option_and_then result_err (last_or (Some (Err StreamNotFound)) exceptions)
+
+-- that is the error of the stream of a dump
+abbrev pub HasErrorOfStream : Dump → Type 0
+HasErrorOfStream d = last_error (exceptions_in d) ≡ result_err (stream_of exception_stream d)
+
 -- the error for which the stream of a type can't be read; where the type is never read, that of its
 -- bytes
 abbrev pub error_of_type : Dump → ContentsValue → ℕ → MINIDUMP_STREAM_TYPE → Option Error
@@ -41,7 +56,7 @@ error_of_type d c n stream.MiscInfoStream = result_err c.system.misc
 error_of_type d c n stream.BreakpadInfoStream = result_err c.system.breakpad
 error_of_type d c n stream.LinuxCpuInfo = result_err c.system.cpu_info
 error_of_type d c n stream.LinuxLsbRelease = result_err c.system.lsb_release
-error_of_type d c n stream.ExceptionStream = result_err c.threads.exception
+error_of_type d c n stream.ExceptionStream = last_error c.threads.exceptions
 error_of_type d c n stream.ThreadListStream = result_err c.threads.threads
 error_of_type d c n stream.ThreadNamesStream = result_err c.threads.names
 error_of_type d c n stream.ThreadInfoListStream = result_err c.threads.infos

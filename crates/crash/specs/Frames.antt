@@ -1,6 +1,6 @@
 -- What is found in the stack of a thread: its frames, each with its module, the candidates after
 -- them, and why there is no further caller.
-use Rattle.std.specs.Prelude.{ℕ, List, map, Option}
+use Rattle.std.specs.Prelude.{ℕ, List, map, Option, Some}
 use Rattle.std.specs.Option.{option_and_then, option_map}
 use Rattle.std.specs.Result.{result_ok}
 use Rattle.minidump.specs.declared.MinidumpContext.{MinidumpContext}
@@ -10,6 +10,7 @@ use Rattle.minidump.specs.Below.MemoryLists.Memory.{range_of_region}
 use Rattle.minidump.specs.Below.MemoryLists.Unified.{UnifiedRegion, UnifiedRegions, unified_regions}
 use Rattle.minidump.specs.Below.MemoryLists.UnifiedInfo.{info_regions}
 use Rattle.minidump.specs.Below.Modules.Module.{ModuleValue}
+use Rattle.minidump.specs.Exception.{Exception}
 use Rattle.minidump.specs.Thread.{Thread}
 use Rattle.stack_walk.specs.declared.end.WalkEnd.{WalkEnd}
 use Rattle.stack_walk.specs.declared.frame.StackFrame.{StackFrame}
@@ -22,7 +23,7 @@ use Rattle.crash.specs.declared.frames.CrashFrame.{CrashFrame}
 use Rattle.crash.specs.declared.frames.CrashWalk.{CrashWalk}
 use Rattle.crash.specs.Cause.{module_place}
 use Rattle.crash.specs.Contents.{ContentsValue}
-use Rattle.crash.specs.Contexts.{exception_context}
+use Rattle.crash.specs.Contexts.{context_at}
 
 -- the frames, the candidates, and why the last of the frames has no caller
 pub record CrashWalkValue : Type 0 where
@@ -65,11 +66,11 @@ walk_by modules w = record {
 
 -- ---- walks
 
--- the process, where the system is known
-abbrev pub process_in : ContentsValue → Option ProcessValue
-process_in c = option_map (λ system. record {
+-- the process with such an exception, where the system is known
+abbrev pub process_in : ContentsValue → Option Exception → Option ProcessValue
+process_in c e = option_map (λ system. record {
   system = system;
-  exception = result_ok c.threads.exception;
+  exception = e;
   modules = c.space.modules;
   memory = c.space.memory;
   infos = info_regions c.space.infos;
@@ -79,9 +80,9 @@ process_in c = option_map (λ system. record {
 abbrev pub walk_in : ℕ → Thread → ProcessValue → Option CrashWalkValue
 walk_in scan t p = option_map (walk_by p.modules) (thread_walk_in p t scan)
 
--- the same by the contents
-abbrev pub thread_walk : ContentsValue → ℕ → Thread → Option CrashWalkValue
-thread_walk c scan t = option_and_then (walk_in scan t) (process_in c)
+-- the same by the contents and the exception that counts
+abbrev pub thread_walk : ContentsValue → Option Exception → ℕ → Thread → Option CrashWalkValue
+thread_walk c e scan t = option_and_then (walk_in scan t) (process_in c e)
 
 -- the kept region of the memory that contains an address
 abbrev pub memory_at : UnifiedRegions → ℕ → Option UnifiedRegion
@@ -92,8 +93,8 @@ abbrev pub walk_at : ProcessValue → ℕ → MinidumpContext → CrashWalkValue
 walk_at p scan context = walk_by p.modules
     (stack.walk_in (stack_in p (memory_at p.memory (stack_pointer_in context.raw))) context scan)
 
--- the walk of the exception's context, where the exception happened on the thread with an id
-abbrev pub exception_walk : ContentsValue → ℕ → ℕ → Option CrashWalkValue
-exception_walk c scan id = option_and_then (λ p. option_map
-    (λ raw. walk_at p scan (record { raw = raw; valid = All })) (exception_context c id))
-    (process_in c)
+-- the walk of an exception's context, all of whose registers are valid
+abbrev pub exception_walk : ContentsValue → ℕ → Exception → Option CrashWalkValue
+exception_walk c scan e = option_and_then (λ p. option_map
+    (λ raw. walk_at p scan (record { raw = raw; valid = All })) (context_at c e))
+    (process_in c (Some e))

@@ -1,4 +1,6 @@
 -- The definitions that the contracts cite: the crash of a file is `crash_in` of Crash.antt.
+pub mod FileName
+pub mod Missing
 pub mod Space
 pub mod Contents
 pub mod Last
@@ -6,6 +8,7 @@ pub mod Directory
 pub mod Release
 pub mod Process
 pub mod Contexts
+pub mod Counting
 pub mod Cause
 pub mod Frames
 pub mod Stacks

@@ -9,7 +9,7 @@ use Rattle.minidump.specs.Below.Modules.DebugId.{breakpad_text}
 use Rattle.minidump.specs.Below.Modules.Identity.{Identity}
 use Rattle.minidump.specs.Below.Modules.Module.{ModuleValue, identity_of}
 use Rattle.minidump.specs.Below.Modules.UnloadedModule.{UnloadedValue}
-use Rattle.file_names.specs.FileName.{file_name}
+use Rattle.crash.specs.FileName.{file_name}
 use Rattle.crash.specs.declared.modules.CrashModule.{CrashModule}
 use Rattle.crash.specs.declared.modules.CrashModules.{CrashModules}
 use Rattle.crash.specs.declared.modules.UnloadedModule.{UnloadedModule}

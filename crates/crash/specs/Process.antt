@@ -1,5 +1,5 @@
 -- What is known of a process, and of the system on which it ran.
-use Rattle.std.specs.Prelude.{ℕ, ◌-◌, ◌==◌, List, map, nat_le, Option, Some, None, Result}
+use Rattle.std.specs.Prelude.{ℕ, ◌-◌, ◌==◌, List, nat_le, Option, Some, None, Result}
 use Rattle.std.specs.Prelude.{if◌then◌else◌, string_bytes}
 use Rattle.std.specs.Option.{option_and_then, option_map}
 use Rattle.std.specs.Result.{result_ok}
@@ -13,7 +13,7 @@ use Rattle.minidump.specs.Below.System.System.{System}
 use Rattle.crash.specs.declared.process.CrashProcess.{CrashProcess}
 use Rattle.crash.specs.declared.process.CrashSystem.{CrashSystem}
 use Rattle.crash.specs.Contents.{ContentsValue}
-use Rattle.crash.specs.Release.{pair_value, release_in}
+use Rattle.crash.specs.Release.{ReleaseValue, release_in, release_of}
 
 -- a system: its kind, that of its processors and how many there are, its version with the build,
 -- and the description of the processor
@@ -25,12 +25,12 @@ pub record SystemValue : Type 0 where
   pub build : Option (List ℕ)
   pub cpu_model : Option (List ℕ)
 
--- a process: its system, its id, for how many seconds it had run, and the pairs of lsb-release
+-- a process: its system, its id, for how many seconds it had run, and the release of its Linux
 pub record ProcessFacts : Type 0 where
   pub system : Option SystemValue
   pub id : Option ℕ
   pub uptime : Option ℕ
-  pub lsb : List (List ℕ × List ℕ)
+  pub release : Option ReleaseValue
 
 -- ---- the value of the structs
 
@@ -49,7 +49,7 @@ process_of p = record {
   system = option_map system_of p.system;
   id = p.id;
   uptime = p.uptime;
-  lsb = map pair_value p.lsb.items;
+  release = option_map release_of p.release;
 }
 
 -- ---- the value of the streams
@@ -94,5 +94,5 @@ process_in stamp c = record {
   system = system_in c.system.system;
   id = id_in c.system.misc;
   uptime = uptime_in stamp c.system.misc;
-  lsb = release_in c.system.lsb_release;
+  release = release_in c.system.lsb_release;
 }

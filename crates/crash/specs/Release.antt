@@ -1,24 +1,50 @@
--- The pairs of Linux's lsb-release.
-use Rattle.std.specs.Prelude.{ℕ, List, [], map, Result, String, string_bytes, unwrap_or}
-use Rattle.std.specs.Global.{Global}
+-- The release of a Linux system, by the keys of lsb-release or of os-release.
+use Rattle.std.specs.Prelude.{ℕ, ◌||◌, List, bytes_eq, codes, find, Option, Result, string_bytes}
 use Rattle.std.specs.Option.{option_map}
 use Rattle.std.specs.Result.{result_ok}
 use Rattle.std.specs.Str.Lossy.{utf8_lossy}
 use Rattle.minidump.specs.declared.Error.{Error}
 use Rattle.minidump.specs.Below.Records.Pairs.{pairs_of}
+use Rattle.crash.specs.declared.release.LsbRelease.{LsbRelease}
 
--- a pair of texts, as the call returns it
-abbrev pub pair_value : String Global × String Global → List ℕ × List ℕ
-pair_value p = (string_bytes p.0, string_bytes p.1)
+-- a release: its distribution, its number, its codename and its description, where it says them
+pub record ReleaseValue : Type 0 where
+  pub id : Option (List ℕ)
+  pub release : Option (List ℕ)
+  pub codename : Option (List ℕ)
+  pub description : Option (List ℕ)
 
--- a pair, with U+FFFD for what isn't UTF-8
-abbrev pub lossy_pair : List ℕ × List ℕ → List ℕ × List ℕ
-lossy_pair p = (utf8_lossy p.0, utf8_lossy p.1)
+-- the same of an `LsbRelease`
+abbrev pub release_of : LsbRelease → ReleaseValue
+release_of r = record {
+  id = option_map string_bytes r.id;
+  release = option_map string_bytes r.release;
+  codename = option_map string_bytes r.codename;
+  description = option_map string_bytes r.description;
+}
 
--- the pairs of a text, in the order of its lines
-abbrev pub pairs_in : List ℕ → List (List ℕ × List ℕ)
-pairs_in text = map lossy_pair (pairs_of 0x3d text)
+-- the value of the first pair that has one of two keys
+abbrev pub first_value_in : List (List ℕ × List ℕ) → List ℕ → List ℕ → Option (List ℕ)
+first_value_in pairs key other = option_map (λ p. p.1)
+    (find (λ p. bytes_eq p.0 key || bytes_eq p.0 other) pairs)
+
+-- that of the pairs of a text
+abbrev pub first_value : List ℕ → List ℕ → List ℕ → Option (List ℕ)
+first_value text key other = first_value_in (pairs_of 0x3d text) key other
+
+-- the same as a text, with U+FFFD for what isn't UTF-8
+abbrev pub text_value : List ℕ → List ℕ → List ℕ → Option (List ℕ)
+text_value text key other = option_map utf8_lossy (first_value text key other)
+
+-- the release of a text: each value by its key in lsb-release, or by that in os-release
+abbrev pub release_by : List ℕ → ReleaseValue
+release_by text = record {
+  id = text_value text (codes "DISTRIB_ID") (codes "ID");
+  release = text_value text (codes "DISTRIB_RELEASE") (codes "VERSION_ID");
+  codename = text_value text (codes "DISTRIB_CODENAME") (codes "VERSION_CODENAME");
+  description = text_value text (codes "DISTRIB_DESCRIPTION") (codes "PRETTY_NAME");
+}
 
 -- the same of the stream: none where it can't be read
-abbrev pub release_in : Result (List ℕ) Error → List (List ℕ × List ℕ)
-release_in text = unwrap_or (option_map pairs_in (result_ok text)) []
+abbrev pub release_in : Result (List ℕ) Error → Option ReleaseValue
+release_in text = option_map release_by (result_ok text)

@@ -1,12 +1,11 @@
 -- The threads of a process, and which of them crashed.
-use Rattle.std.specs.Prelude.{ℕ, ◌==◌, ◌++◌, Bool, false, true, List, [], ◌∷◌, find, map}
-use Rattle.std.specs.Prelude.{is_some, reverse, Option, None, Result, Ok, Err}
+use Rattle.std.specs.Prelude.{ℕ, ◌==◌, ◌++◌, Bool, false, true, List, [], ◌∷◌, map}
+use Rattle.std.specs.Prelude.{is_some, Option, Some, None, Result, Ok, Err}
 use Rattle.std.specs.Prelude.{if◌then◌else◌, string_bytes, unwrap_or}
 use Rattle.std.specs.Option.{option_and_then, option_map}
 use Rattle.std.specs.Result.{result_ok}
 use Rattle.minidump.specs.declared.CrashReason.{CrashReason}
 use Rattle.minidump.specs.declared.Error.{Error}
-use Rattle.minidump.specs.declared.format.MINIDUMP_THREAD_INFO.{MINIDUMP_THREAD_INFO}
 use Rattle.minidump.specs.Below.Reasons.Names.{Lists}
 use Rattle.minidump.specs.Below.Reasons.ReasonText.{reason_text}
 use Rattle.minidump.specs.Below.Records.ThreadNames.{ThreadName, name_of_thread}
@@ -17,17 +16,16 @@ use Rattle.crash.specs.declared.contexts.ContextProblem.{ContextProblem}
 use Rattle.crash.specs.declared.threads.CrashThread.{CrashThread}
 use Rattle.crash.specs.declared.threads.CrashThreads.{CrashThreads}
 use Rattle.crash.specs.declared.stacks.StackRange.{StackRange}
-use Rattle.crash.specs.Cause.{ExceptionValue}
 use Rattle.crash.specs.Contents.{ContentsValue}
-use Rattle.crash.specs.Contexts.{ContextValue, context_in, context_of, exception_context}
+use Rattle.crash.specs.Contexts.{ContextValue, context_at, context_in, context_of}
 use Rattle.crash.specs.Contexts.{first_context, problem_in, system_of}
+use Rattle.crash.specs.Counting.{counting_exception}
 use Rattle.crash.specs.Frames.{CrashWalkValue, crash_walk_of, exception_walk, thread_walk}
 use Rattle.crash.specs.Last.{last_index}
 use Rattle.crash.specs.Stacks.{is_outside, named_stack, stack_memory}
 
 -- a thread: its id, whether the list has it, its name, its registers and why its own context isn't
--- used, its stack, the memory of that and what is found in it, its last error, and what else is
--- known of it
+-- used, its stack, the memory of that and what is found in it, and its last error
 pub record ThreadValue : Type 0 where
   pub id : ℕ
   pub is_listed : Bool
@@ -39,7 +37,6 @@ pub record ThreadValue : Type 0 where
   pub is_stack_outside : Bool
   pub walk : Option CrashWalkValue
   pub last_error : Option (List ℕ)
-  pub info : Option MINIDUMP_THREAD_INFO
 
 -- the threads, and the index of the one that crashed
 pub record ThreadsValue : Type 0 where
@@ -60,7 +57,6 @@ thread_value t = record {
   is_stack_outside = t.is_stack_outside;
   walk = option_map crash_walk_of t.walk;
   last_error = option_map string_bytes t.last_error;
-  info = t.info;
 }
 
 abbrev pub threads_of : CrashThreads → ThreadsValue
@@ -72,14 +68,6 @@ threads_of t = record { threads = map thread_value t.threads.items; crashing = t
 abbrev pub name_in : Result (List ThreadName) Error → ℕ → Option (List ℕ)
 name_in names id = option_and_then (λ names. name_of_thread names id) (result_ok names)
 
--- the last information of an id
-abbrev pub last_info : ℕ → List MINIDUMP_THREAD_INFO → Option MINIDUMP_THREAD_INFO
-last_info id infos = find (λ i. i.thread_id == id) (reverse infos)
-
--- the same, where the list can be read
-abbrev pub info_in : Result (List MINIDUMP_THREAD_INFO) Error → ℕ → Option MINIDUMP_THREAD_INFO
-info_in infos id = option_and_then (last_info id) (result_ok infos)
-
 -- the last error of a thread, where the system is known
 abbrev pub last_error_code : Lists → ContentsValue → Thread → Option CrashReason
 last_error_code names c t = option_and_then
@@ -89,27 +77,27 @@ last_error_code names c t = option_and_then
 abbrev pub last_error_in : Lists → ContentsValue → Thread → Option (List ℕ)
 last_error_in names c t = option_map (reason_text names) (last_error_code names c t)
 
--- a thread of the list
-abbrev pub thread_in : Lists → ℕ → ContentsValue → Thread → ThreadValue
-thread_in names scan c t = record {
+-- a thread of the list, by the exception that counts
+abbrev pub thread_in : Lists → ℕ → ContentsValue → Option Exception → Thread → ThreadValue
+thread_in names scan c e t = record {
   id = t.raw.thread_id;
   is_listed = true;
   name = name_in c.threads.names t.raw.thread_id;
-  context = context_in c t;
+  context = context_in c e t;
   context_problem = problem_in (system_of c) t.order t.context;
   stack = named_stack t.raw.stack;
   stack_memory = stack_memory c t;
   is_stack_outside = is_outside t;
-  walk = thread_walk c scan t;
+  walk = thread_walk c e scan t;
   last_error = last_error_in names c t;
-  info = info_in c.threads.infos t.raw.thread_id;
 }
 
 -- ---- the threads
 
 -- the threads of the list: none where it can't be read
-abbrev pub listed_in : Lists → ℕ → ContentsValue → List ThreadValue
-listed_in names scan c = map (thread_in names scan c) (unwrap_or (result_ok c.threads.threads) [])
+abbrev pub listed_in : Lists → ℕ → ContentsValue → Option Exception → List ThreadValue
+listed_in names scan c e =
+    map (thread_in names scan c e) (unwrap_or (result_ok c.threads.threads) [])
 
 -- a thread of the list has an id
 abbrev pub has_thread : ℕ → Result (List Thread) Error → Bool
@@ -122,37 +110,36 @@ extra_in scan c e = record {
   id = e.thread_id;
   is_listed = false;
   name = name_in c.threads.names e.thread_id;
-  context = first_context (exception_context c e.thread_id) None;
+  context = first_context (context_at c e) None;
   context_problem = None;
   stack = None;
   stack_memory = None;
   is_stack_outside = false;
-  walk = exception_walk c scan e.thread_id;
+  walk = exception_walk c scan e;
   last_error = None;
-  info = info_in c.threads.infos e.thread_id;
 }
 
 -- that thread where there is an exception and the list lacks its thread
-abbrev pub extra_by : ℕ → ContentsValue → Result Exception Error → List ThreadValue
-extra_by scan c (Ok e) =
+abbrev pub extra_threads : ℕ → ContentsValue → Option Exception → List ThreadValue
+extra_threads scan c (Some e) =
     if has_thread e.thread_id c.threads.threads then [] else extra_in scan c e ∷ []
-extra_by scan c (Err _) = []
-
--- the same by the contents
-abbrev pub extra_threads : ℕ → ContentsValue → List ThreadValue
-extra_threads scan c = extra_by scan c c.threads.exception
+extra_threads scan c None = []
 
 -- the threads of the list, and after them that of the exception where the list lacks it
-abbrev pub all_threads : Lists → ℕ → ContentsValue → List ThreadValue
-all_threads names scan c = listed_in names scan c ++ extra_threads scan c
+abbrev pub all_threads : Lists → ℕ → ContentsValue → Option Exception → List ThreadValue
+all_threads names scan c e = listed_in names scan c e ++ extra_threads scan c e
 
 -- the index of the thread that crashed: the last of the exception's id
-abbrev pub crashing_at : List ThreadValue → Option ExceptionValue → Option ℕ
-crashing_at threads e = option_and_then (λ e. last_index (λ t. t.id == e.thread) threads) e
+abbrev pub crashing_at : List ThreadValue → Option Exception → Option ℕ
+crashing_at threads e = option_and_then (λ e. last_index (λ t. t.id == e.thread_id) threads) e
 
-abbrev threads_by : List ThreadValue → Option ExceptionValue → ThreadsValue
-threads_by threads e = record { threads = threads; crashing = crashing_at threads e }
+-- the threads of a process, with at most so many candidates each, by such an exception
+abbrev pub threads_by : Lists → ℕ → ContentsValue → Option Exception → ThreadsValue
+threads_by names scan c e = record {
+  threads = all_threads names scan c e;
+  crashing = crashing_at (all_threads names scan c e) e;
+}
 
--- the threads of a process, with so many candidates each at most, by the exception that counts
-abbrev pub threads_in : Lists → ℕ → ContentsValue → Option ExceptionValue → ThreadsValue
-threads_in names scan c e = threads_by (all_threads names scan c) e
+-- the same by the exception that counts
+abbrev pub threads_in : Lists → ℕ → ContentsValue → ThreadsValue
+threads_in names scan c = threads_by names scan c (counting_exception c)

@@ -1,30 +1,30 @@
-ghost use Rattle.std.specs.Prelude.{◌≡◌, ◌∷◌, [], IfOk, IsOkUnless, map, string_bytes};
+ghost use Rattle.std.specs.Prelude.{◌≡◌, IfOk, IsOkUnless, map, string_bytes};
 ghost use Rattle.std.specs.Option.{option_copied, option_map};
 ghost use Rattle.minidump.specs.Below.Contexts.Context.{map_ok};
 ghost use Rattle.minidump.specs.Promise.{exception_stream, module_list_stream, system_info_stream};
-ghost use Rattle.crash.specs.Cause.{address_at, address_in, cause_in, cause_of, counted, counting};
-ghost use Rattle.crash.specs.Cause.{exception_in, exception_of, exceptions_in, has_code, is_read};
-ghost use Rattle.crash.specs.Cause.{module_place, reason_in};
+ghost use Rattle.crash.specs.Cause.{address_at, address_in, cause_in, cause_of, exception_in};
+ghost use Rattle.crash.specs.Cause.{exception_of, exceptions_in, module_place, reason_in};
 ghost use Rattle.crash.specs.Contents.{contents_of};
 ghost use Rattle.crash.specs.Contexts.{problem_in, system_of};
+ghost use Rattle.crash.specs.Counting.{counted};
 
 use crate::contents::Contents;
 use crate::contexts::{self, ContextProblem, context_at};
-use crate::last::{Choose, last_index};
+use crate::counting::counting;
+use crate::each::{MakeItem, make_items};
 use minidump::{
     CodeNames, Error, MinidumpException, MinidumpModuleList, MinidumpSystemInfo, Module,
 };
-use missing_streams::is_missing;
-use std::alloc::{AllocError, Global};
+use std::alloc::Global;
 
 /// Where and why a process crashed.
 #[derive(Drop)]
 pub struct CrashCause {
-    /// The exceptions of the dump, each or why it can't be read: none if there is no stream of one,
-    /// and else that of the entry of the directory that decides.
+    /// The exceptions of all entries of the directory that have their type, in its order, each or
+    /// why it can't be read. The last is that of the entry that decides.
     pub exceptions: Vec<Result<CrashException, Error>>,
-    /// The index of the exception that counts: the last that can be read and whose code isn't 0,
-    /// else the last that can be read.
+    /// The index in `exceptions` of the one that counts: the last that can be read and whose code
+    /// isn't 0, else the last that can be read, and `None` if none can be.
     pub counts: Option<usize>,
     /// What is known of the address of the crash, or `None` if no exception counts, or without
     /// system information.
@@ -34,13 +34,14 @@ pub struct CrashCause {
 /// An exception.
 #[derive(Drop)]
 pub struct CrashException {
-    /// The id of the thread on which it happened.
+    /// The id of the thread on which it happened, as its stream has it.
     pub thread: u32,
-    /// Its code.
+    /// The code of its record.
     pub code: u32,
-    /// The address at which it happened.
+    /// The address of its record, at which it happened.
     pub at: u64,
-    /// The address of the crash, or `None` without system information.
+    /// The address of the crash: the one that was accessed where the record has it, else that of
+    /// the record, in as many bits as a pointer has. `None` without system information.
     pub address: Option<u64>,
     /// The reason of the crash in words, or `None` without system information.
     pub reason: Option<String>,
@@ -53,7 +54,7 @@ pub struct CrashException {
 pub struct AddressFacts {
     /// The address.
     pub address: u64,
-    /// The index of the kept module that contains it, and the offset in that.
+    /// The index in the list of modules of the kept one that contains it, and the offset in that.
     pub module: Option<(usize, u64)>,
 }
 
@@ -68,7 +69,7 @@ pub(crate) fn cause_of(
     ensures memory { IsOkUnless result Error.OutOfMemory }
 {
     let exceptions = exceptions_of(alloc, contents, names)?;
-    let counts = counting(exceptions.as_slice());
+    let counts = counting(contents.threads.exceptions.as_slice());
     let address = address_of(contents, exceptions.as_slice(), counts);
     Ok(CrashCause {
         exceptions,
@@ -87,26 +88,50 @@ fn exceptions_of(
         ≡ exceptions_in names.now (contents_of contents.now)) }
     ensures memory { IsOkUnless result Error.OutOfMemory }
 {
-    match &contents.threads.exception {
-        Ok(exception) => {
-            let exception = exception_of(alloc, contents, exception, names)?;
-            Ok(one(alloc, Ok(exception))?)
-        }
-        Err(error) if is_missing(*error) => Ok(Vec::new(alloc)),
-        Err(error) => Ok(one(alloc, Err(*error))?),
-    }
+    let each = EachException { contents, names };
+    make_items(alloc, &each, contents.threads.exceptions.as_slice())
 }
 
-// Returns a list of one exception.
-fn one(
-    alloc: Global,
-    exception: Result<CrashException, Error>,
-) -> Result<Vec<Result<CrashException, Error>>, AllocError>
-    ensures { IfOk result (λ list. list.items ≡ exception ∷ []) }
-{
-    let mut list = Vec::new(alloc);
-    list.push(exception)?;
-    Ok(list)
+// An exception of the list, or why it can't be read.
+#[derive(Clone, Copy)]
+struct EachException<'l, 'a, 'n> {
+    contents: &'l Contents<'a>,
+    names: &'l CodeNames<'n>,
+}
+
+impl<'a> MakeItem<Result<MinidumpException<'a>, Error>> for EachException<'_, 'a, '_> {
+    ghost use Rattle.std.specs.Prelude.{Result};
+    ghost use Rattle.minidump.specs.declared.Error.{Error};
+    ghost use Rattle.minidump.specs.Below.Contexts.Context.{map_ok};
+    ghost use Rattle.minidump.specs.Exception.{Exception};
+    ghost use Rattle.minidump.specs.Promise.{exception_stream};
+    ghost use Rattle.crash.specs.Cause.{ExceptionValue, exception_in, exception_of};
+    ghost use Rattle.crash.specs.Contents.{contents_of};
+    ghost use Rattle.crash.specs.Contexts.{system_of};
+
+    type Made = Result<CrashException, Error>;
+
+    ghost Given = { Result Exception Error };
+
+    ghost given_of = { map_ok exception_stream.value };
+
+    ghost Value = { Result ExceptionValue Error };
+
+    ghost value_of = { map_ok exception_of };
+
+    ghost made_of = { λ e. map_ok
+        (exception_in e.names.now (system_of (contents_of e.contents.now))) };
+
+    fn make_item(
+        &self,
+        alloc: Global,
+        item: &Result<MinidumpException<'a>, Error>,
+    ) -> Result<Result<CrashException, Error>, Error> {
+        match item {
+            Ok(exception) => Ok(Ok(exception_of(alloc, self.contents, exception, self.names)?)),
+            Err(error) => Ok(Err(*error)),
+        }
+    }
 }
 
 // Returns an exception.
@@ -176,61 +201,6 @@ fn problem_of(contents: &Contents<'_>, exception: &MinidumpException<'_>) -> Opt
     contexts::problem_of(contents, exception.context_bytes(), &context)
 }
 
-// Returns the index of the exception that counts.
-fn counting(exceptions: &[Result<CrashException, Error>]) -> Option<usize>
-    ensures { result ≡ counting (map (map_ok exception_of) exceptions.now) }
-{
-    match last_index(&HasCode, exceptions) {
-        Some(index) => Some(index),
-        None => last_index(&IsRead, exceptions),
-    }
-}
-
-// The exceptions that can be read and whose code isn't 0.
-#[derive(Clone, Copy)]
-struct HasCode;
-
-impl Choose<Result<CrashException, Error>> for HasCode {
-    ghost use Rattle.std.specs.Prelude.{Result};
-    ghost use Rattle.minidump.specs.declared.Error.{Error};
-    ghost use Rattle.minidump.specs.Below.Contexts.Context.{map_ok};
-    ghost use Rattle.crash.specs.Cause.{ExceptionValue, exception_of, has_code};
-
-    ghost Value = { Result ExceptionValue Error };
-
-    ghost value_of = { map_ok exception_of };
-
-    ghost is_chosen = { λ _ e. has_code e };
-
-    fn chooses(&self, item: &Result<CrashException, Error>) -> bool {
-        match item {
-            Ok(exception) => exception.code != 0,
-            Err(_) => false,
-        }
-    }
-}
-
-// The exceptions that can be read.
-#[derive(Clone, Copy)]
-struct IsRead;
-
-impl Choose<Result<CrashException, Error>> for IsRead {
-    ghost use Rattle.std.specs.Prelude.{Result};
-    ghost use Rattle.minidump.specs.declared.Error.{Error};
-    ghost use Rattle.minidump.specs.Below.Contexts.Context.{map_ok};
-    ghost use Rattle.crash.specs.Cause.{ExceptionValue, exception_of, is_read};
-
-    ghost Value = { Result ExceptionValue Error };
-
-    ghost value_of = { map_ok exception_of };
-
-    ghost is_chosen = { λ _ e. is_read e };
-
-    fn chooses(&self, item: &Result<CrashException, Error>) -> bool {
-        item.is_ok()
-    }
-}
-
 // Returns what is known of the address of the crash.
 fn address_of(
     contents: &Contents<'_>,
@@ -248,7 +218,7 @@ fn address_of(
 }
 
 // Returns the exception of an index, if it can be read.
-pub(crate) fn counted(
+fn counted(
     exceptions: &[Result<CrashException, Error>],
     counts: Option<usize>,
 ) -> Option<&CrashException>

@@ -1,6 +1,4 @@
 ghost use Rattle.std.specs.Prelude.{◌≡◌, IfOk, IsOkUnless};
-ghost use Rattle.minidump.specs.Below.Contexts.Context.{map_ok};
-ghost use Rattle.minidump.specs.Dump.{stream_of};
 ghost use Rattle.minidump.specs.DumpValue.{dump_of};
 ghost use Rattle.crash.specs.Contents.{contents_in, contents_of};
 ghost use Rattle.crash.specs.Contents.{message_streams_in, message_streams_of};
@@ -13,7 +11,7 @@ use minidump::{
     Error, Minidump, MinidumpAssertion, MinidumpBreakpadInfo, MinidumpCrashpadInfo,
     MinidumpException, MinidumpHandleDataStream, MinidumpLinuxCpuInfo, MinidumpLinuxEnviron,
     MinidumpLinuxLsbRelease, MinidumpLinuxProcLimits, MinidumpLinuxProcStatus, MinidumpMacBootargs,
-    MinidumpMacCrashInfo, MinidumpMiscInfo, MinidumpSoftErrors, MinidumpStream, MinidumpSystemInfo,
+    MinidumpMacCrashInfo, MinidumpMiscInfo, MinidumpSoftErrors, MinidumpSystemInfo,
     MinidumpThreadInfoList, MinidumpThreadList, MinidumpThreadNames, StabilityReport,
 };
 use std::alloc::Global;
@@ -38,8 +36,9 @@ pub struct SystemStreams<'a> {
 /// or the error for which there is none.
 #[derive(Drop)]
 pub struct ThreadStreams<'a> {
-    /// The exception.
-    pub exception: Result<MinidumpException<'a>, Error>,
+    /// The exceptions of all entries of the directory that have their type, in its order, each or
+    /// why it can't be read. The last is the stream.
+    pub exceptions: Vec<Result<MinidumpException<'a>, Error>>,
     /// The threads.
     pub threads: Result<MinidumpThreadList<'a>, Error>,
     /// The names of threads.
@@ -119,11 +118,11 @@ fn system_streams<'a>(alloc: Global, dump: &Minidump<'a>) -> Result<SystemStream
     ensures streams { IfOk result (λ s. system_streams_of s ≡ system_streams_in (dump_of dump.now)) }
     ensures memory { IsOkUnless result Error.OutOfMemory }
 {
-    let system = try_stream(alloc, dump)?;
-    let misc = try_stream(alloc, dump)?;
-    let breakpad = try_stream(alloc, dump)?;
-    let cpu_info = try_stream(alloc, dump)?;
-    let lsb_release = try_stream(alloc, dump)?;
+    let system = dump.try_stream(alloc)?;
+    let misc = dump.try_stream(alloc)?;
+    let breakpad = dump.try_stream(alloc)?;
+    let cpu_info = dump.try_stream(alloc)?;
+    let lsb_release = dump.try_stream(alloc)?;
     Ok(SystemStreams {
         system,
         misc,
@@ -138,12 +137,12 @@ fn thread_streams<'a>(alloc: Global, dump: &Minidump<'a>) -> Result<ThreadStream
     ensures streams { IfOk result (λ s. thread_streams_of s ≡ thread_streams_in (dump_of dump.now)) }
     ensures memory { IsOkUnless result Error.OutOfMemory }
 {
-    let exception = try_stream(alloc, dump)?;
-    let threads = try_stream(alloc, dump)?;
-    let names = try_stream(alloc, dump)?;
-    let infos = try_stream(alloc, dump)?;
+    let exceptions = dump.exceptions(alloc)?;
+    let threads = dump.try_stream(alloc)?;
+    let names = dump.try_stream(alloc)?;
+    let infos = dump.try_stream(alloc)?;
     Ok(ThreadStreams {
-        exception,
+        exceptions,
         threads,
         names,
         infos,
@@ -155,12 +154,12 @@ fn message_streams<'a>(alloc: Global, dump: &Minidump<'a>) -> Result<MessageStre
     ensures streams { IfOk result (λ s. message_streams_of s ≡ message_streams_in (dump_of dump.now)) }
     ensures memory { IsOkUnless result Error.OutOfMemory }
 {
-    let assertion = try_stream(alloc, dump)?;
-    let crashpad = try_stream(alloc, dump)?;
-    let mac_crash_info = try_stream(alloc, dump)?;
-    let mac_boot_args = try_stream(alloc, dump)?;
-    let soft_errors = try_stream(alloc, dump)?;
-    let stability = try_stream(alloc, dump)?;
+    let assertion = dump.try_stream(alloc)?;
+    let crashpad = dump.try_stream(alloc)?;
+    let mac_crash_info = dump.try_stream(alloc)?;
+    let mac_boot_args = dump.try_stream(alloc)?;
+    let soft_errors = dump.try_stream(alloc)?;
+    let stability = dump.try_stream(alloc)?;
     Ok(MessageStreams {
         assertion,
         crashpad,
@@ -176,31 +175,14 @@ fn process_streams<'a>(alloc: Global, dump: &Minidump<'a>) -> Result<ProcessStre
     ensures streams { IfOk result (λ s. process_streams_of s ≡ process_streams_in (dump_of dump.now)) }
     ensures memory { IsOkUnless result Error.OutOfMemory }
 {
-    let handles = try_stream(alloc, dump)?;
-    let status = try_stream(alloc, dump)?;
-    let environ = try_stream(alloc, dump)?;
-    let limits = try_stream(alloc, dump)?;
+    let handles = dump.try_stream(alloc)?;
+    let status = dump.try_stream(alloc)?;
+    let environ = dump.try_stream(alloc)?;
+    let limits = dump.try_stream(alloc)?;
     Ok(ProcessStreams {
         handles,
         status,
         environ,
         limits,
     })
-}
-
-/// Reads a stream, or returns the error for which the dump has none. The only other error is
-/// [`Error::OutOfMemory`].
-pub(crate) fn try_stream<'a, S: MinidumpStream<'a>>(
-    alloc: Global,
-    dump: &Minidump<'a>,
-) -> Result<Result<S, Error>, Error>
-    ensures stream { IfOk result
-        (λ found. map_ok S.spec.value found ≡ stream_of S.spec (dump_of dump.now)) }
-    ensures memory { IsOkUnless result Error.OutOfMemory }
-{
-    match dump.get_stream(alloc) {
-        Ok(stream) => Ok(Ok(stream)),
-        Err(Error::OutOfMemory) => Err(Error::OutOfMemory),
-        Err(error) => Ok(Err(error)),
-    }
 }

@@ -4,8 +4,8 @@ ghost use Rattle.minidump.specs.declared.MinidumpContextValidity.TheVariants.{Al
 ghost use Rattle.minidump.specs.Promise.{exception_stream};
 ghost use Rattle.minidump.specs.Thread.{known_context, thread_of};
 ghost use Rattle.crash.specs.Contents.{contents_of};
-ghost use Rattle.crash.specs.Contexts.{context_by, context_in, context_of, exception_context};
-ghost use Rattle.crash.specs.Contexts.{first_context, problem_by, system_of};
+ghost use Rattle.crash.specs.Contexts.{context_at, context_by, context_in, context_of};
+ghost use Rattle.crash.specs.Contexts.{exception_context, first_context, problem_by, system_of};
 
 use crate::contents::Contents;
 use minidump::{MinidumpContext, MinidumpException, MinidumpThread};
@@ -14,7 +14,7 @@ use std::alloc::{AllocError, Global};
 /// The registers of a thread, as its context has them.
 #[derive(Drop)]
 pub struct CrashContext {
-    /// The registers with their names, in the order of the processor.
+    /// The registers, each its name and its value, in the order of the processor.
     pub registers: Vec<(&'static str, u64)>,
     /// How many bytes a register has.
     pub size: usize,
@@ -45,12 +45,17 @@ pub enum ContextProblem {
     },
 }
 
-// Returns the context of the exception, if it happened on the thread with an id.
-pub(crate) fn exception_context(contents: &Contents<'_>, id: u32) -> Option<MinidumpContext>
-    ensures raw { option_map (λ c. c.raw) result ≡ exception_context (contents_of contents.now) id }
+// Returns the context of an exception, if it happened on the thread with an id.
+pub(crate) fn exception_context(
+    contents: &Contents<'_>,
+    exception: Option<&MinidumpException<'_>>,
+    id: u32,
+) -> Option<MinidumpContext>
+    ensures raw { option_map (λ c. c.raw) result ≡ exception_context (contents_of contents.now)
+        (option_map exception_stream.value (option_copied exception.entry)) id }
     ensures valid { IfSome result (λ c. c.valid ≡ All) }
 {
-    let exception = contents.threads.exception.as_ref().ok()?;
+    let exception = exception?;
     if exception.thread_id == id {
         context_at(contents, exception)
     } else {
@@ -64,9 +69,7 @@ pub(crate) fn context_at(
     exception: &MinidumpException<'_>,
 ) -> Option<MinidumpContext>
     ensures raw { option_map (λ c. c.raw) result
-        ≡ known_context (system_of (contents_of contents.now))
-        (exception_stream.value exception.now).order
-        (exception_stream.value exception.now).context }
+        ≡ context_at (contents_of contents.now) (exception_stream.value exception.now) }
     ensures valid { IfSome result (λ c. c.valid ≡ All) }
 {
     let system = contents.system.system.as_ref().ok()?;

@@ -1,17 +1,15 @@
-ghost use Rattle.std.specs.Prelude.{◌≡◌, ⊤, IfOk, IsOkUnless, Ok, map};
-ghost use Rattle.std.specs.Option.{option_copied, option_map};
+ghost use Rattle.std.specs.Prelude.{◌≡◌, ⊤, IfOk, IsOkUnless, Ok};
 ghost use Rattle.minidump.specs.Below.Contexts.Context.{map_ok};
 ghost use Rattle.minidump.specs.Below.Format.Answer.{Gives};
 ghost use Rattle.minidump.specs.Dump.{dump_in};
 ghost use Rattle.minidump.specs.DumpValue.{dump_of};
-ghost use Rattle.crash.specs.Cause.{cause_of, counted, exception_of};
+ghost use Rattle.crash.specs.Cause.{cause_of};
 ghost use Rattle.crash.specs.Contents.{contents_in, contents_of};
 ghost use Rattle.crash.specs.Crash.{crash_by, crash_in, crash_of, damage_in, status_of};
-ghost use Rattle.crash.specs.Crash.{threads_with};
 ghost use Rattle.crash.specs.Directory.{directory_of};
 ghost use Rattle.crash.specs.Threads.{threads_of};
 
-use crate::cause::{CrashCause, cause_of, counted};
+use crate::cause::{CrashCause, cause_of};
 use crate::contents::{Contents, read_contents};
 use crate::damage::{Damage, damage_of};
 use crate::directory::{CrashDirectory, directory_of};
@@ -36,7 +34,8 @@ pub struct Crash<'a> {
     pub threads: CrashThreads,
     /// Its modules.
     pub modules: CrashModules,
-    /// What is there and can't be read.
+    /// What is there and can't be read: streams, ascending by type, then contexts of exceptions, own
+    /// contexts of threads, and stacks, each in the order of its list.
     pub damage: Vec<Damage>,
 }
 
@@ -89,7 +88,7 @@ fn crash_of_dump<'a>(
     let directory = directory_of(alloc, file, dump, &contents)?;
     let process = process_of(alloc, directory.written, &contents)?;
     let cause = cause_of(alloc, &contents, names)?;
-    let threads = threads_by(alloc, &contents, names, scan, &cause)?;
+    let threads = threads_of(alloc, &contents, names, scan)?;
     let modules = modules_of(alloc, &contents)?;
     let damage = damage_in(alloc, &directory, &cause, &threads)?;
     Ok(Crash {
@@ -101,22 +100,6 @@ fn crash_of_dump<'a>(
         modules,
         damage,
     })
-}
-
-// Returns the threads, by the exception that counts.
-fn threads_by(
-    alloc: Global,
-    contents: &Contents<'_>,
-    names: &CodeNames<'_>,
-    scan: usize,
-    cause: &CrashCause,
-) -> Result<CrashThreads, Error>
-    ensures threads { IfOk result (λ threads. threads_of threads
-        ≡ threads_with names.now scan (contents_of contents.now) (cause_of cause.now)) }
-    ensures memory { IsOkUnless result Error.OutOfMemory }
-{
-    let exception = counted(cause.exceptions.as_slice(), cause.counts);
-    threads_of(alloc, contents, names, scan, exception)
 }
 
 // Returns what is there and can't be read.

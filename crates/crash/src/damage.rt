@@ -14,27 +14,30 @@ use crate::threads::CrashThread;
 use minidump::Error;
 use std::alloc::{AllocError, Global};
 
-/// Something of a dump that is there and can't be read.
+/// Something of a dump that is there and can't be read, whether anything else stands in for it or
+/// not: a list of memory that can't be read is damage also where the other list can be, and a stack
+/// outside the file also where a list of memory holds it.
 #[derive(Clone, Copy, Debug)]
 pub enum Damage {
-    /// A stream.
+    /// A stream, by the entry of the directory that decides its type.
     Stream {
-        /// The number of its type.
+        /// The number of its type, as the directory has it.
         number: u32,
-        /// Why.
+        /// Why it can't be read.
         error: Error,
     },
-    /// The context of the exception on a thread, whose bytes are not in the file.
+    /// The context of an exception on a thread, whose bytes are not all in the file. Each exception
+    /// that can be read counts, also one that tells of no crash.
     ExceptionContext {
         /// The id of the thread.
         thread: u32,
     },
-    /// The own context of a thread, whose bytes are not in the file.
+    /// The own context of a thread of the list, whose bytes are not all in the file.
     ThreadContext {
         /// The id of the thread.
         thread: u32,
     },
-    /// The stack of a thread, whose bytes are not in the file.
+    /// The stack that the entry of a thread names, whose bytes are not all in the file.
     Stack {
         /// The id of the thread.
         thread: u32,

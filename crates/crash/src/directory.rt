@@ -1,18 +1,19 @@
-ghost use Rattle.std.specs.Prelude.{◌≡◌, ◌^◌, ◌<◌, IfOk, IsOkUnless, Ok, if◌then◌else◌, is_none, length};
+ghost use Rattle.std.specs.Prelude.{◌≡◌, ◌^◌, ◌<◌, IfOk, IsOkUnless, Ok, if◌then◌else◌, is_none, length, map};
 ghost use Rattle.std.specs.Result.{result_err};
 ghost use Rattle.minidump.specs.Below.Contexts.Context.{map_ok};
 ghost use Rattle.minidump.specs.Below.Format.Header.{located};
 ghost use Rattle.minidump.specs.Dump.{dump_in};
 ghost use Rattle.minidump.specs.DumpValue.{dump_of};
+ghost use Rattle.minidump.specs.Promise.{exception_stream};
 ghost use Rattle.crash.specs.Contents.{contents_of};
 ghost use Rattle.crash.specs.Directory.{all_entries, directory_in, directory_of, entries_in};
-ghost use Rattle.crash.specs.Directory.{entry_in, error_of_number, error_of_type, outside_in};
-ghost use Rattle.crash.specs.Directory.{raw_error};
+ghost use Rattle.crash.specs.Directory.{entry_in, error_of_number, error_of_type, last_error};
+ghost use Rattle.crash.specs.Directory.{outside_in, raw_error};
 
 use crate::contents::Contents;
 use minidump::format::{MINIDUMP_DIRECTORY, MINIDUMP_STREAM_TYPE};
 use minidump::own_streams::Entries;
-use minidump::{Error, Minidump, MinidumpStream, Source, Steps};
+use minidump::{Error, Minidump, MinidumpException, MinidumpStream, Source, Steps};
 use std::alloc::{AllocError, Global};
 
 /// What the header and the directory of a dump say.
@@ -121,7 +122,7 @@ fn error_of_type(
         MINIDUMP_STREAM_TYPE::BreakpadInfoStream => error_of(&system.breakpad),
         MINIDUMP_STREAM_TYPE::LinuxCpuInfo => error_of(&system.cpu_info),
         MINIDUMP_STREAM_TYPE::LinuxLsbRelease => error_of(&system.lsb_release),
-        MINIDUMP_STREAM_TYPE::ExceptionStream => error_of(&threads.exception),
+        MINIDUMP_STREAM_TYPE::ExceptionStream => last_error(threads.exceptions.as_slice()),
         MINIDUMP_STREAM_TYPE::ThreadListStream => error_of(&threads.threads),
         MINIDUMP_STREAM_TYPE::ThreadNamesStream => error_of(&threads.names),
         MINIDUMP_STREAM_TYPE::ThreadInfoListStream => error_of(&threads.infos),
@@ -152,6 +153,16 @@ fn error_of<'a, S: MinidumpStream<'a>>(found: &Result<S, Error>) -> Option<Error
     match found {
         Ok(_) => None,
         Err(error) => Some(*error),
+    }
+}
+
+// Returns the error for which the exception stream can't be read, which is the last exception.
+fn last_error(exceptions: &[Result<MinidumpException<'_>, Error>]) -> Option<Error>
+    ensures { result ≡ last_error (map (map_ok exception_stream.value) exceptions.now) }
+{
+    match exceptions.last() {
+        Some(exception) => error_of(exception),
+        None => Some(Error::StreamNotFound),
     }
 }
 

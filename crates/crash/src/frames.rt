@@ -1,5 +1,5 @@
-ghost use Rattle.std.specs.Prelude.{◌≡◌, IfOk, IsOkUnless, map};
-ghost use Rattle.std.specs.Option.{option_map};
+ghost use Rattle.std.specs.Prelude.{◌≡◌, IfOk, IsOkUnless, Some, map};
+ghost use Rattle.std.specs.Option.{option_copied, option_map};
 ghost use Rattle.minidump.specs.Below.MemoryLists.Unified.{unified_list, unified_region};
 ghost use Rattle.minidump.specs.Promise.{exception_stream, module_list_stream};
 ghost use Rattle.minidump.specs.Thread.{thread_of};
@@ -7,15 +7,16 @@ ghost use Rattle.stack_walk.specs.Frames.{stack_pointer_in};
 ghost use Rattle.stack_walk.specs.Threads.{process_of};
 ghost use Rattle.stack_walk.specs.Walk.{walk_of};
 ghost use Rattle.crash.specs.Contents.{contents_of};
-ghost use Rattle.crash.specs.Contexts.{exception_context};
+ghost use Rattle.crash.specs.Contexts.{context_at};
 ghost use Rattle.crash.specs.Frames.{crash_walk_of, exception_walk, frame_in, memory_at, place_of};
 ghost use Rattle.crash.specs.Frames.{process_in, thread_walk, walk_at, walk_by, walk_in};
 
 use crate::cause::module_place;
 use crate::contents::Contents;
-use crate::contexts::exception_context;
+use crate::contexts::context_at;
 use minidump::{
-    Error, MinidumpContext, MinidumpModuleList, MinidumpThread, UnifiedMemory, UnifiedMemoryList,
+    Error, MinidumpContext, MinidumpException, MinidumpModuleList, MinidumpThread, UnifiedMemory,
+    UnifiedMemoryList,
 };
 use stack_walk::{FrameTrust, Process, Stack, StackFrame, Walk, WalkEnd, walk_stack, walk_thread};
 use std::alloc::{AllocError, Global};
@@ -45,23 +46,27 @@ pub struct CrashFrame {
     pub frame_pointer: Option<u64>,
     /// How the frame was found.
     pub trust: FrameTrust,
-    /// The index of the kept module that contains the address, and the offset in that.
+    /// The index in the list of modules of the kept one that contains the address, and the offset in
+    /// that.
     pub module: Option<(usize, u64)>,
 }
 
 // Returns what is found in the stack of a thread, with at most `scan` candidates: nothing without
 // system information or a context.
-pub(crate) fn walk_of_thread<'a>(
+pub(crate) fn walk_of_thread<'l, 'a>(
     alloc: Global,
-    contents: &Contents<'a>,
+    contents: &'l Contents<'a>,
+    exception: Option<&'l MinidumpException<'a>>,
     thread: &MinidumpThread<'a>,
     scan: usize,
 ) -> Result<Option<CrashWalk>, Error>
     ensures walk { IfOk result (λ walk. option_map crash_walk_of walk
-        ≡ thread_walk (contents_of contents.now) scan (thread_of thread.now)) }
+        ≡ thread_walk (contents_of contents.now)
+        (option_map exception_stream.value (option_copied exception.entry)) scan
+        (thread_of thread.now)) }
     ensures memory { IsOkUnless result Error.OutOfMemory }
 {
-    match process_of(contents) {
+    match process_of(contents, exception) {
         Some(process) => walk_in(alloc, &process, thread, scan),
         None => Ok(None),
     }
@@ -84,22 +89,21 @@ fn walk_in<'a>(
     }
 }
 
-// Returns what is found on the memory at the stack pointer of the exception's context, if the
-// exception happened on the thread with an id.
-pub(crate) fn walk_of_exception(
+// Returns what is found on the memory at the stack pointer of an exception's context.
+pub(crate) fn walk_of_exception<'l, 'a>(
     alloc: Global,
-    contents: &Contents<'_>,
-    id: u32,
+    contents: &'l Contents<'a>,
+    exception: &'l MinidumpException<'a>,
     scan: usize,
 ) -> Result<Option<CrashWalk>, Error>
     ensures walk { IfOk result (λ walk. option_map crash_walk_of walk
-        ≡ exception_walk (contents_of contents.now) scan id) }
+        ≡ exception_walk (contents_of contents.now) scan (exception_stream.value exception.now)) }
     ensures memory { IsOkUnless result Error.OutOfMemory }
 {
-    let Some(process) = process_of(contents) else {
+    let Some(process) = process_of(contents, Some(exception)) else {
         return Ok(None);
     };
-    match exception_context(contents, id) {
+    match context_at(contents, exception) {
         Some(context) => Ok(Some(walk_at(alloc, &process, &context, scan)?)),
         None => Ok(None),
     }
@@ -192,13 +196,16 @@ fn place_of(modules: &MinidumpModuleList, address: Option<u64>) -> Option<(usize
     module_place(modules, address?)
 }
 
-// Returns the process, or `None` without system information.
-fn process_of<'l, 'a>(contents: &'l Contents<'a>) -> Option<Process<'l, 'a>>
-    ensures { option_map process_of result ≡ process_in (contents_of contents.now) }
+// Returns the process with such an exception, or `None` without system information.
+fn process_of<'l, 'a>(
+    contents: &'l Contents<'a>,
+    exception: Option<&'l MinidumpException<'a>>,
+) -> Option<Process<'l, 'a>>
+    ensures { option_map process_of result ≡ process_in (contents_of contents.now)
+        (option_map exception_stream.value (option_copied exception.entry)) }
 {
     let space = &contents.space;
     let system = contents.system.system.as_ref().ok()?;
-    let exception = contents.threads.exception.as_ref().ok();
     let modules = &space.modules;
     let memory = &space.memory;
     let infos = &space.infos;

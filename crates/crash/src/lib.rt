@@ -6,14 +6,20 @@
 //! address, and no stream is read again.
 //!
 //! - [`Contents`] has the streams, each as the format has it: the stream, or the error for which
-//!   there is none. [`SpaceStreams`] chooses between the lists of memory, and between the lists of
-//!   what is known of its regions.
+//!   there is none. Of the exceptions it has those of all entries of the directory.
+//!   [`SpaceStreams`] chooses between the lists of memory, and between the lists of what is known of
+//!   its regions.
 //! - [`CrashDirectory`] has the entries that decide, each with the error of its stream.
 //! - [`CrashProcess`] has the process and the system on which it ran, [`CrashCause`] the exceptions
 //!   and the address of the crash, [`CrashThreads`] the threads with their registers and frames,
 //!   [`CrashModules`] the modules.
 //! - [`Damage`] is something that is there and can't be read. [`status_of`] is the status with which
 //!   a dump ends a program.
+//!
+//! The exception that counts is the last that can be read and whose code isn't 0, else the last that
+//! can be read. The address of the crash is its address. The thread that crashed is the last of its
+//! id, and its context takes the place of that thread's own. If the list of threads lacks it, a
+//! thread of this context alone follows the others.
 //!
 //! A frame's place in a module is the index of the module in its list, and the offset in it. The
 //! frames by frame pointers stand apart from the words of the stack that may be return addresses.
@@ -27,18 +33,23 @@
 //!
 //! The crash is the one that the definition `crash_in` assigns to the bytes and to the names of
 //! codes, and so is each error, but for `OutOfMemory`: [`Crash::read`]. The status is that of the
-//! definition of its name: [`status_of`].
+//! definition of its name: [`status_of`]. That the entry of the exception has the error of its
+//! stream, though all exceptions are read at once, is a law of the definitions: [`laws`].
 #![tactic(auto)]
 
 mod cause;
 mod contents;
 mod contexts;
+mod counting;
 mod crash;
 mod damage;
 mod directory;
 mod each;
+mod file_names;
 mod frames;
 mod last;
+pub mod laws;
+mod missing;
 mod modules;
 mod process;
 mod release;
@@ -53,9 +64,12 @@ pub use contexts::{ContextOrigin, ContextProblem, CrashContext};
 pub use crash::{Crash, status_of};
 pub use damage::Damage;
 pub use directory::{CrashDirectory, StreamEntry};
+pub use file_names::file_name;
 pub use frames::{CrashFrame, CrashWalk};
+pub use missing::is_missing;
 pub use modules::{CrashModule, CrashModules, UnloadedModule};
 pub use process::{CrashProcess, CrashSystem};
+pub use release::LsbRelease;
 pub use space::SpaceStreams;
 pub use stacks::StackRange;
 pub use threads::{CrashThread, CrashThreads};

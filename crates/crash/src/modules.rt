@@ -6,14 +6,14 @@ ghost use Rattle.minidump.specs.Below.Modules.DebugId.{breakpad_text};
 ghost use Rattle.minidump.specs.Below.Modules.Module.{module_of};
 ghost use Rattle.minidump.specs.Below.Modules.UnloadedModule.{unloaded_of};
 ghost use Rattle.minidump.specs.Promise.{module_list_stream, unloaded_module_list_stream};
-ghost use Rattle.file_names.specs.FileName.{file_name};
+ghost use Rattle.crash.specs.FileName.{file_name};
 ghost use Rattle.crash.specs.Contents.{contents_of};
 ghost use Rattle.crash.specs.Modules.{loaded_in, loaded_of, module_in, modules_in, modules_of};
 ghost use Rattle.crash.specs.Modules.{unloaded_in, unloaded_module_in, unloaded_module_of};
 
 use crate::contents::Contents;
 use crate::each::{MakeItem, make_items};
-use file_names::file_name;
+use crate::file_names::file_name;
 use minidump::{
     CodeId, DebugId, Error, MinidumpModule, MinidumpUnloadedModule, MinidumpUnloadedModuleList,
     Module,

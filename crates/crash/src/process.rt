@@ -7,7 +7,7 @@ ghost use Rattle.crash.specs.Process.{id_in, process_in, process_of, system_by, 
 ghost use Rattle.crash.specs.Process.{system_of, uptime, uptime_in};
 
 use crate::contents::Contents;
-use crate::release::release_of;
+use crate::release::{LsbRelease, release_of};
 use minidump::system_info::{Cpu, Os};
 use minidump::{Error, MinidumpMiscInfo, MinidumpSystemInfo};
 use std::alloc::{AllocError, Global};
@@ -22,8 +22,8 @@ pub struct CrashProcess {
     /// For how many seconds it had run when the dump was written, or `None` if one of the times
     /// isn't there, is 0, or they are not in order.
     pub uptime: Option<u64>,
-    /// The pairs of Linux's `/etc/lsb-release`, keys and values.
-    pub lsb: Vec<(String, String)>,
+    /// The release of Linux, or `None` if its stream can't be read.
+    pub release: Option<LsbRelease>,
 }
 
 /// The system on which a process ran.
@@ -54,12 +54,12 @@ pub(crate) fn process_of(
     ensures memory { IsOkUnless result Error.OutOfMemory }
 {
     let system = system_of(alloc, &contents.system.system)?;
-    let lsb = release_of(alloc, &contents.system.lsb_release)?;
+    let release = release_of(alloc, &contents.system.lsb_release)?;
     Ok(CrashProcess {
         system,
         id: id_of(&contents.system.misc),
         uptime: uptime_of(stamp, &contents.system.misc),
-        lsb,
+        release,
     })
 }
 

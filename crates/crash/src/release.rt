@@ -1,53 +1,90 @@
-//! The pairs of Linux's `/etc/lsb-release`.
-ghost use Rattle.std.specs.Prelude.{◌≡◌, IfOk, map};
-ghost use Rattle.std.specs.Str.Lossy.{utf8_lossy};
-ghost use Rattle.minidump.specs.Below.Bytes.LinuxOsStr.{parts_of};
+//! The release of a Linux system.
+ghost use Rattle.std.specs.Prelude.{◌≡◌, IfOk, string_bytes};
+ghost use Rattle.std.specs.Option.{option_map};
+ghost use Rattle.minidump.specs.Below.Bytes.LinuxOsStr.{text_of};
 ghost use Rattle.minidump.specs.Below.Contexts.Context.{map_ok};
 ghost use Rattle.minidump.specs.Promise.{linux_lsb_release_stream};
-ghost use Rattle.crash.specs.Release.{lossy_pair, pair_value, pairs_in, release_in};
+ghost use Rattle.crash.specs.Release.{first_value, release_by, release_in, release_of, text_value};
 
 use minidump::strings::LinuxOsStr;
 use minidump::{Error, MinidumpLinuxLsbRelease};
 use std::alloc::{AllocError, Global};
 
-// Returns the pairs of the release, none if it can't be read.
+/// The release of a Linux system, as the copy of its `/etc/lsb-release` has it, or of its
+/// `/etc/os-release`, whose keys are others. Each is the value of the first line that has one of
+/// its two keys, with U+FFFD for what isn't UTF-8, and `None` if no line has one.
+#[derive(Drop)]
+pub struct LsbRelease {
+    /// The distribution: `DISTRIB_ID` or `ID`.
+    pub id: Option<String>,
+    /// The number of the release: `DISTRIB_RELEASE` or `VERSION_ID`.
+    pub release: Option<String>,
+    /// The codename of the release: `DISTRIB_CODENAME` or `VERSION_CODENAME`.
+    pub codename: Option<String>,
+    /// The description: `DISTRIB_DESCRIPTION` or `PRETTY_NAME`.
+    pub description: Option<String>,
+}
+
+// Returns the release, or `None` if its stream can't be read.
 pub(crate) fn release_of(
     alloc: Global,
     release: &Result<MinidumpLinuxLsbRelease<'_>, Error>,
-) -> Result<Vec<(String, String)>, AllocError>
-    ensures { IfOk result (λ pairs. map pair_value pairs.items
+) -> Result<Option<LsbRelease>, AllocError>
+    ensures { IfOk result (λ found. option_map release_of found
         ≡ release_in (map_ok linux_lsb_release_stream.value release.now)) }
 {
     match release {
-        Ok(release) => pairs_of(alloc, release),
-        Err(_) => Ok(Vec::new(alloc)),
+        Ok(release) => Ok(Some(release_by(alloc, release)?)),
+        Err(_) => Ok(None),
     }
 }
 
-// Copies the pairs of a release, in the order of its lines.
-fn pairs_of(
-    alloc: Global,
-    release: &MinidumpLinuxLsbRelease<'_>,
-) -> Result<Vec<(String, String)>, AllocError>
-    ensures { IfOk result (λ pairs. map pair_value pairs.items
-        ≡ pairs_in (linux_lsb_release_stream.value release.now)) }
+// Returns the release of a stream.
+fn release_by(alloc: Global, stream: &MinidumpLinuxLsbRelease<'_>) -> Result<LsbRelease, AllocError>
+    ensures { IfOk result (λ release. release_of release
+        ≡ release_by (linux_lsb_release_stream.value stream.now)) }
 {
-    let mut pairs = Vec::new(alloc);
-    for (key, value) in release.iter() {
-        pairs.push(copied(alloc, key, value)?)?;
-    }
-    Ok(pairs)
+    let id = text_value(alloc, stream, b"DISTRIB_ID", b"ID")?;
+    let release = text_value(alloc, stream, b"DISTRIB_RELEASE", b"VERSION_ID")?;
+    let codename = text_value(alloc, stream, b"DISTRIB_CODENAME", b"VERSION_CODENAME")?;
+    let description = text_value(alloc, stream, b"DISTRIB_DESCRIPTION", b"PRETTY_NAME")?;
+    Ok(LsbRelease {
+        id,
+        release,
+        codename,
+        description,
+    })
 }
 
-// Copies a pair.
-fn copied(
+// Copies the value of the first pair that has one of two keys.
+fn text_value(
     alloc: Global,
-    key: LinuxOsStr<'_>,
-    value: LinuxOsStr<'_>,
-) -> Result<(String, String), AllocError>
-    ensures { IfOk result (λ pair. pair_value pair ≡ lossy_pair (parts_of (key.entry, value.entry))) }
+    stream: &MinidumpLinuxLsbRelease<'_>,
+    key: &[u8],
+    other: &[u8],
+) -> Result<Option<String>, AllocError>
+    ensures { IfOk result (λ text. option_map string_bytes text
+        ≡ text_value (linux_lsb_release_stream.value stream.now) key.now other.now) }
 {
-    let key = key.to_string_lossy(alloc)?;
-    let value = value.to_string_lossy(alloc)?;
-    Ok((key, value))
+    match first_value(stream, key, other) {
+        Some(value) => Ok(Some(value.to_string_lossy(alloc)?)),
+        None => Ok(None),
+    }
+}
+
+// Returns the value of the first pair that has one of two keys.
+fn first_value<'a>(
+    stream: &MinidumpLinuxLsbRelease<'a>,
+    key: &[u8],
+    other: &[u8],
+) -> Option<LinuxOsStr<'a>>
+    ensures { option_map text_of result
+        ≡ first_value (linux_lsb_release_stream.value stream.now) key.now other.now }
+{
+    for (name, value) in stream.iter() {
+        if name.as_bytes() == key || name.as_bytes() == other {
+            return Some(value);
+        }
+    }
+    None
 }

@@ -11,7 +11,6 @@ ghost use Rattle.minidump.specs.Promise.{module_list_stream};
 ghost use Rattle.crash.specs.Contents.{space_streams_in, space_streams_of};
 ghost use Rattle.crash.specs.Space.{first_infos, first_memory};
 
-use crate::contents::try_stream;
 use minidump::{
     Error, Minidump, MinidumpLinuxMaps, MinidumpMemory64List, MinidumpMemoryInfoList,
     MinidumpMemoryList, MinidumpModuleList, MinidumpUnloadedModuleList, UnifiedMemoryInfoList,
@@ -26,17 +25,19 @@ use std::alloc::Global;
 pub struct SpaceStreams<'a> {
     /// The modules.
     pub modules: MinidumpModuleList,
-    /// Why there are none.
+    /// Why their list can't be read.
     pub modules_error: Option<Error>,
     /// The unloaded modules.
     pub unloaded: Result<MinidumpUnloadedModuleList, Error>,
     /// The memory.
     pub memory: UnifiedMemoryList<'a>,
-    /// Why the 64-bit list and the plain list can't be read.
+    /// Why the 64-bit list (Memory64ListStream) and the plain list (MemoryListStream) can't be read,
+    /// each `None` if it can be.
     pub memory_errors: (Option<Error>, Option<Error>),
     /// What is known of the regions of memory.
     pub infos: UnifiedMemoryInfoList<'a>,
-    /// Why the memory information and the maps can't be read.
+    /// Why the memory information (MemoryInfoListStream) and the maps (LinuxMaps) can't be read, each
+    /// `None` if it can be.
     pub infos_errors: (Option<Error>, Option<Error>),
     /// How many lines the maps have, or `None` if they can't be read.
     pub map_count: Option<usize>,
@@ -50,12 +51,12 @@ pub(crate) fn space_streams<'a>(
     ensures streams { IfOk result (λ s. space_streams_of s ≡ space_streams_in (dump_of dump.now)) }
     ensures memory { IsOkUnless result Error.OutOfMemory }
 {
-    let (modules, modules_error) = modules_or_none(alloc, try_stream(alloc, dump)?);
-    let unloaded = try_stream(alloc, dump)?;
-    let memory64 = try_stream(alloc, dump)?;
-    let (memory, memory_errors) = first_memory(alloc, memory64, try_stream(alloc, dump)?);
-    let infos = try_stream(alloc, dump)?;
-    let maps = try_stream(alloc, dump)?;
+    let (modules, modules_error) = modules_or_none(alloc, dump.try_stream(alloc)?);
+    let unloaded = dump.try_stream(alloc)?;
+    let memory64 = dump.try_stream(alloc)?;
+    let (memory, memory_errors) = first_memory(alloc, memory64, dump.try_stream(alloc)?);
+    let infos = dump.try_stream(alloc)?;
+    let maps = dump.try_stream(alloc)?;
     let map_count = count_of(&maps);
     let (infos, infos_errors) = first_infos(alloc, infos, maps);
     Ok(SpaceStreams {

@@ -13,9 +13,9 @@ use minidump::{MinidumpThread, UnifiedMemory, UnifiedMemoryList, laws};
 /// A range of addresses.
 #[derive(Clone, Copy, Debug, PartialEq, Eq)]
 pub struct StackRange {
-    /// The first address.
+    /// The first address, which is the lowest.
     pub base: u64,
-    /// The number of bytes.
+    /// How many bytes it has.
     pub size: u64,
 }
 

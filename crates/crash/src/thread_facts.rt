@@ -2,23 +2,22 @@
 ghost use Rattle.std.specs.Prelude.{◌≡◌, IfOk, IsOkUnless, string_bytes};
 ghost use Rattle.std.specs.Option.{option_copied, option_map};
 ghost use Rattle.minidump.specs.Below.Contexts.Context.{map_ok};
-ghost use Rattle.minidump.specs.Promise.{thread_info_list_stream, thread_names_stream};
+ghost use Rattle.minidump.specs.Promise.{exception_stream, thread_names_stream};
 ghost use Rattle.minidump.specs.Below.MemoryLists.Unified.{unified_list};
 ghost use Rattle.minidump.specs.Crash.{error_in};
 ghost use Rattle.minidump.specs.Thread.{last_error_address, thread_of};
 ghost use Rattle.crash.specs.Contents.{contents_of};
 ghost use Rattle.crash.specs.Contexts.{context_in, context_of, problem_in, system_of};
-ghost use Rattle.crash.specs.Threads.{info_in, last_error_code, last_error_in, last_info, name_in};
+ghost use Rattle.crash.specs.Threads.{last_error_code, last_error_in, name_in};
 
 use crate::contents::Contents;
 use crate::contexts::{
     self, ContextProblem, CrashContext, exception_context, first_context, own_context,
 };
-use minidump::format::MINIDUMP_THREAD_INFO;
 use minidump::system_info::Cpu;
 use minidump::{
-    CodeNames, CrashReason, Error, MinidumpThread, MinidumpThreadInfo, MinidumpThreadInfoList,
-    MinidumpThreadNames, UnifiedMemoryList, laws,
+    CodeNames, CrashReason, Error, MinidumpException, MinidumpThread, MinidumpThreadNames,
+    UnifiedMemoryList, laws,
 };
 use std::alloc::Global;
 
@@ -30,34 +29,6 @@ pub(crate) fn name_of(names: &Result<MinidumpThreadNames, Error>, id: u32) -> Op
         Ok(names) => names.get_name(id),
         Err(_) => None,
     }
-}
-
-// Returns what else is known of a thread.
-pub(crate) fn info_of(
-    infos: &Result<MinidumpThreadInfoList, Error>,
-    id: u32,
-) -> Option<MINIDUMP_THREAD_INFO>
-    ensures { result ≡ info_in (map_ok thread_info_list_stream.value infos.now) id }
-{
-    match infos {
-        Ok(infos) => info_among(infos, id),
-        Err(_) => None,
-    }
-}
-
-// Returns the last information of an id.
-fn info_among(infos: &MinidumpThreadInfoList, id: u32) -> Option<MINIDUMP_THREAD_INFO>
-    ensures { result ≡ last_info id (thread_info_list_stream.value infos.now) }
-{
-    Some(last_info(infos, id)?.raw)
-}
-
-// Returns the last entry of an id.
-fn last_info(infos: &MinidumpThreadInfoList, id: u32) -> Option<&MinidumpThreadInfo>
-    ensures { option_map (λ i. i.raw) (option_copied result)
-        ≡ last_info id (thread_info_list_stream.value infos.now) }
-{
-    infos.get_thread_info(id)
 }
 
 // Makes the words for the last error of a thread.
@@ -104,18 +75,21 @@ fn error_on<'a>(
     thread.last_error(cpu, memory, names)
 }
 
-// Returns the registers of a thread.
+// Returns the registers of a thread, by the exception that counts.
 pub(crate) fn context_of(
     alloc: Global,
     contents: &Contents<'_>,
+    exception: Option<&MinidumpException<'_>>,
     thread: &MinidumpThread<'_>,
 ) -> Result<Option<CrashContext>, Error>
     ensures context { IfOk result (λ context. option_map context_of context
-        ≡ context_in (contents_of contents.now) (thread_of thread.now)) }
+        ≡ context_in (contents_of contents.now)
+        (option_map exception_stream.value (option_copied exception.entry))
+        (thread_of thread.now)) }
     ensures memory { IsOkUnless result Error.OutOfMemory }
 {
-    let exception = exception_context(contents, thread.raw.thread_id);
-    Ok(first_context(alloc, exception, own_context(contents, thread))?)
+    let excepted = exception_context(contents, exception, thread.raw.thread_id);
+    Ok(first_context(alloc, excepted, own_context(contents, thread))?)
 }
 
 // Returns why the own context of a thread can't be used.

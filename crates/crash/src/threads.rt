@@ -4,32 +4,31 @@ ghost use Rattle.minidump.specs.Below.Contexts.Context.{map_ok};
 ghost use Rattle.minidump.specs.Crash.{last_with};
 ghost use Rattle.minidump.specs.Promise.{exception_stream, thread_list_stream};
 ghost use Rattle.minidump.specs.Thread.{thread_of};
-ghost use Rattle.crash.specs.Cause.{exception_of};
 ghost use Rattle.crash.specs.Contents.{contents_of};
 ghost use Rattle.crash.specs.Threads.{all_threads, crashing_at, extra_in, extra_threads};
-ghost use Rattle.crash.specs.Threads.{has_thread, listed_in, thread_in, thread_value, threads_in};
-ghost use Rattle.crash.specs.Threads.{threads_of};
+ghost use Rattle.crash.specs.Threads.{has_thread, listed_in, thread_in, thread_value, threads_by};
+ghost use Rattle.crash.specs.Threads.{threads_in, threads_of};
 
-use crate::cause::CrashException;
 use crate::contents::Contents;
-use crate::contexts::{ContextProblem, CrashContext, exception_context, first_context};
+use crate::contexts::{ContextProblem, CrashContext, context_at, first_context};
+use crate::counting::counting_exception;
 use crate::each::{MakeItem, make_items};
 use crate::frames::{CrashWalk, walk_of_exception, walk_of_thread};
 use crate::last::{Choose, last_index};
 use crate::process::copy;
 use crate::stacks::{StackRange, is_outside, named_stack, stack_memory};
-use crate::thread_facts::{context_of, info_of, last_error_of, name_of, problem_of};
-use minidump::format::MINIDUMP_THREAD_INFO;
+use crate::thread_facts::{context_of, last_error_of, name_of, problem_of};
 use minidump::{CodeNames, Error, MinidumpException, MinidumpThread, MinidumpThreadList};
 use std::alloc::Global;
 
 /// The threads of a process.
 #[derive(Drop)]
 pub struct CrashThreads {
-    /// The threads, in the order of their list, and after them that of the exception if the list
-    /// lacks it.
+    /// The threads, in the order of their list, and after them that of the exception that counts if
+    /// the list lacks it.
     pub threads: Vec<CrashThread>,
-    /// The index of the thread that crashed, the last of the id of the exception that counts.
+    /// The index in `threads` of the thread that crashed: the last of the id of the exception that
+    /// counts, or `None` if none counts.
     pub crashing: Option<usize>,
 }
 
@@ -38,53 +37,68 @@ pub struct CrashThreads {
 pub struct CrashThread {
     /// Its id.
     pub id: u32,
-    /// Whether it is in the list of threads.
+    /// Whether it is in the list of threads. What isn't is the thread of the exception that counts,
+    /// of which only the exception's context and a name are known.
     pub is_listed: bool,
-    /// Its name.
+    /// Its name, by its id in the names of threads.
     pub name: Option<String>,
-    /// Its registers: of the exception's context if it happened on this thread and is accepted,
-    /// else of the thread's own.
+    /// Its registers: of the context of the exception that counts, if that happened on this thread
+    /// and is accepted, else of the thread's own.
     pub context: Option<CrashContext>,
-    /// Why its own context isn't used where it would be, or `None` if it could be.
+    /// Why its own context isn't used where it would be, or `None` if it could be, and for a thread
+    /// that the list lacks.
     pub context_problem: Option<ContextProblem>,
-    /// Where its stack is, as its entry names it.
+    /// Where its stack is, as its entry names it; `None` if that has no bytes.
     pub stack: Option<StackRange>,
-    /// The memory of its stack: its own, else the kept region of the memory in which it begins.
+    /// The memory of its stack: its own, else the kept region of the memory in which it begins, and
+    /// `None` if neither is in the file.
     pub stack_memory: Option<StackRange>,
-    /// Whether its entry names bytes of a stack that are not in the file.
+    /// Whether its entry names bytes of a stack that are not all in the file.
     pub is_stack_outside: bool,
     /// What is found in its stack, or `None` without system information or a context.
     pub walk: Option<CrashWalk>,
     /// Its last error in words, as Windows keeps it.
     pub last_error: Option<String>,
-    /// What else is known of it.
-    pub info: Option<MINIDUMP_THREAD_INFO>,
 }
 
-// Returns the threads of a process, by the exception that counts.
+// Returns the threads of a process.
 pub(crate) fn threads_of(
     alloc: Global,
     contents: &Contents<'_>,
     names: &CodeNames<'_>,
     scan: usize,
-    exception: Option<&CrashException>,
 ) -> Result<CrashThreads, Error>
     ensures threads { IfOk result (λ threads. threads_of threads
-        ≡ threads_in names.now scan (contents_of contents.now)
-        (option_map exception_of (option_copied exception.entry))) }
+        ≡ threads_in names.now scan (contents_of contents.now)) }
     ensures memory { IsOkUnless result Error.OutOfMemory }
 {
-    let threads = all_threads(alloc, contents, names, scan)?;
+    threads_by(alloc, contents, names, scan, counting_exception(contents))
+}
+
+// Returns the same by the exception that counts.
+fn threads_by<'l, 'a>(
+    alloc: Global,
+    contents: &'l Contents<'a>,
+    names: &CodeNames<'_>,
+    scan: usize,
+    exception: Option<&'l MinidumpException<'a>>,
+) -> Result<CrashThreads, Error>
+    ensures threads { IfOk result (λ threads. threads_of threads
+        ≡ threads_by names.now scan (contents_of contents.now)
+        (option_map exception_stream.value (option_copied exception.entry))) }
+    ensures memory { IsOkUnless result Error.OutOfMemory }
+{
+    let threads = all_threads(alloc, contents, names, scan, exception)?;
     let crashing = crashing_at(threads.as_slice(), exception);
     Ok(CrashThreads { threads, crashing })
 }
 
 // Returns the index of the thread that crashed.
-fn crashing_at(threads: &[CrashThread], exception: Option<&CrashException>) -> Option<usize>
+fn crashing_at(threads: &[CrashThread], exception: Option<&MinidumpException<'_>>) -> Option<usize>
     ensures { result ≡ crashing_at (map thread_value threads.now)
-        (option_map exception_of (option_copied exception.entry)) }
+        (option_map exception_stream.value (option_copied exception.entry)) }
 {
-    last_index(&HasId(exception?.thread), threads)
+    last_index(&HasId(exception?.thread_id), threads)
 }
 
 // The threads of an id.
@@ -107,36 +121,41 @@ impl Choose<CrashThread> for HasId {
 }
 
 // Returns the threads of the list, and after them that of the exception if the list lacks it.
-fn all_threads(
+fn all_threads<'l, 'a>(
     alloc: Global,
-    contents: &Contents<'_>,
+    contents: &'l Contents<'a>,
     names: &CodeNames<'_>,
     scan: usize,
+    exception: Option<&'l MinidumpException<'a>>,
 ) -> Result<Vec<CrashThread>, Error>
     ensures threads { IfOk result (λ ts. map thread_value ts.items
-        ≡ all_threads names.now scan (contents_of contents.now)) }
+        ≡ all_threads names.now scan (contents_of contents.now)
+        (option_map exception_stream.value (option_copied exception.entry))) }
     ensures memory { IsOkUnless result Error.OutOfMemory }
 {
-    let mut threads = listed(alloc, contents, names, scan)?;
-    push_extra(alloc, &mut threads, contents, scan)?;
+    let mut threads = listed(alloc, contents, names, scan, exception)?;
+    push_extra(alloc, &mut threads, contents, scan, exception)?;
     Ok(threads)
 }
 
 // Returns the threads of the list.
-fn listed<'a>(
+fn listed<'l, 'a>(
     alloc: Global,
-    contents: &Contents<'a>,
+    contents: &'l Contents<'a>,
     names: &CodeNames<'_>,
     scan: usize,
+    exception: Option<&'l MinidumpException<'a>>,
 ) -> Result<Vec<CrashThread>, Error>
     ensures threads { IfOk result (λ ts. map thread_value ts.items
-        ≡ listed_in names.now scan (contents_of contents.now)) }
+        ≡ listed_in names.now scan (contents_of contents.now)
+        (option_map exception_stream.value (option_copied exception.entry))) }
     ensures memory { IsOkUnless result Error.OutOfMemory }
 {
     let each = EachThread {
         contents,
         names,
         scan,
+        exception,
     };
     match &contents.threads.threads {
         Ok(list) => make_items(alloc, &each, &list.threads),
@@ -145,17 +164,19 @@ fn listed<'a>(
 }
 
 // Appends the thread of the exception if the list lacks it.
-fn push_extra(
+fn push_extra<'l, 'a>(
     alloc: Global,
     threads: &mut Vec<CrashThread>,
-    contents: &Contents<'_>,
+    contents: &'l Contents<'a>,
     scan: usize,
+    exception: Option<&'l MinidumpException<'a>>,
 ) -> Result<(), Error>
     ensures threads { OnOk result (map thread_value threads.new.items
-        ≡ map thread_value threads.old.items ++ extra_threads scan (contents_of contents.now)) }
+        ≡ map thread_value threads.old.items ++ extra_threads scan (contents_of contents.now)
+        (option_map exception_stream.value (option_copied exception.entry))) }
     ensures memory { IsOkUnless result Error.OutOfMemory }
 {
-    let Ok(exception) = &contents.threads.exception else {
+    let Some(exception) = exception else {
         return Ok(());
     };
     if has_thread(&contents.threads.threads, exception.thread_id) {
@@ -187,10 +208,10 @@ fn last_with<'l, 'a>(list: &'l MinidumpThreadList<'a>, id: u32) -> Option<&'l Mi
 }
 
 // Returns the thread of an exception, which the list lacks.
-fn extra(
+fn extra<'l, 'a>(
     alloc: Global,
-    contents: &Contents<'_>,
-    exception: &MinidumpException<'_>,
+    contents: &'l Contents<'a>,
+    exception: &'l MinidumpException<'a>,
     scan: usize,
 ) -> Result<CrashThread, Error>
     ensures thread { IfOk result (λ t. thread_value t
@@ -199,8 +220,8 @@ fn extra(
 {
     let id = exception.thread_id;
     let name = copy(alloc, name_of(&contents.threads.names, id))?;
-    let context = first_context(alloc, exception_context(contents, id), None)?;
-    let walk = walk_of_exception(alloc, contents, id, scan)?;
+    let context = first_context(alloc, context_at(contents, exception), None)?;
+    let walk = walk_of_exception(alloc, contents, exception, scan)?;
     Ok(CrashThread {
         id,
         is_listed: false,
@@ -212,7 +233,6 @@ fn extra(
         is_stack_outside: false,
         walk,
         last_error: None,
-        info: info_of(&contents.threads.infos, id),
     })
 }
 
@@ -222,9 +242,12 @@ struct EachThread<'l, 'a, 'n> {
     contents: &'l Contents<'a>,
     names: &'l CodeNames<'n>,
     scan: usize,
+    exception: Option<&'l MinidumpException<'a>>,
 }
 
 impl<'a> MakeItem<MinidumpThread<'a>> for EachThread<'_, 'a, '_> {
+    ghost use Rattle.std.specs.Option.{option_copied, option_map};
+    ghost use Rattle.minidump.specs.Promise.{exception_stream};
     ghost use Rattle.minidump.specs.Thread.{Thread, thread_of};
     ghost use Rattle.crash.specs.Contents.{contents_of};
     ghost use Rattle.crash.specs.Threads.{ThreadValue, thread_in, thread_value};
@@ -239,29 +262,34 @@ impl<'a> MakeItem<MinidumpThread<'a>> for EachThread<'_, 'a, '_> {
 
     ghost value_of = { thread_value };
 
-    ghost made_of = { λ e t. thread_in e.names.now e.scan (contents_of e.contents.now) t };
+    ghost made_of = { λ e t. thread_in e.names.now e.scan (contents_of e.contents.now)
+        (option_map exception_stream.value (option_copied e.exception)) t };
 
     fn make_item(&self, alloc: Global, item: &MinidumpThread<'a>) -> Result<CrashThread, Error> {
-        thread_of(alloc, self.contents, self.names, self.scan, item)
+        let contents = self.contents;
+        thread_of(alloc, contents, self.names, self.scan, self.exception, item)
     }
 }
 
 // Returns a thread of the list.
-fn thread_of<'a>(
+fn thread_of<'l, 'a>(
     alloc: Global,
-    contents: &Contents<'a>,
+    contents: &'l Contents<'a>,
     names: &CodeNames<'_>,
     scan: usize,
+    exception: Option<&'l MinidumpException<'a>>,
     thread: &MinidumpThread<'a>,
 ) -> Result<CrashThread, Error>
     ensures item { IfOk result (λ t. thread_value t
-        ≡ thread_in names.now scan (contents_of contents.now) (thread_of thread.now)) }
+        ≡ thread_in names.now scan (contents_of contents.now)
+        (option_map exception_stream.value (option_copied exception.entry))
+        (thread_of thread.now)) }
     ensures memory { IsOkUnless result Error.OutOfMemory }
 {
     let id = thread.raw.thread_id;
     let name = copy(alloc, name_of(&contents.threads.names, id))?;
-    let context = context_of(alloc, contents, thread)?;
-    let walk = walk_of_thread(alloc, contents, thread, scan)?;
+    let context = context_of(alloc, contents, exception, thread)?;
+    let walk = walk_of_thread(alloc, contents, exception, thread, scan)?;
     let last_error = last_error_of(alloc, contents, names, thread)?;
     Ok(CrashThread {
         id,
@@ -274,6 +302,5 @@ fn thread_of<'a>(
         is_stack_outside: is_outside(thread),
         walk,
         last_error,
-        info: info_of(&contents.threads.infos, id),
     })
 }

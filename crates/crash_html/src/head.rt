@@ -7,7 +7,7 @@ pub(crate) const HEAD: &str = r##"<!DOCTYPE html>
 <head>
 <meta charset="utf-8">
 <meta http-equiv="Content-Security-Policy" content="default-src 'none'; base-uri 'none'; form-action 'none';
- script-src 'sha256-mLwItcGqEepJSivsQUB/UDxlSgUu6Iv1nXNrFO0bPZY=';
+ script-src 'sha256-ydH8WpeMjIQhy9xVtMk9dUTZqlIX6YyZElrF59/t5B4=';
  style-src 'sha256-n6RianowlLPo6k+7drOX/1aXltKM2fjvRvjzX1Fk0/U='">
 <meta name="viewport" content="width=device-width, initial-scale=1">
 <title>Crash</title>
@@ -60,6 +60,8 @@ binary digits, so only within a stretch are widths in proportion. The list of ra
 <div id="threads"></div>
 <h2>Modules</h2>
 <div id="modules" class="scroll"></div>
+<h2>Lists</h2>
+<div id="more" class="scroll"></div>
 <h2>Ranges</h2>
 <div id="ranges" class="scroll"></div>
 <script type="application/json" id="crash">"##;

@@ -191,6 +191,7 @@ function addressAt(stretches, place) {
 // ---- The drawing
 
 const thread = part(crash, "crashing_thread");
+const minidump = part(crash, "minidump");
 const ranges = rangesOf(crash);
 const marks = marksOf(crash, thread);
 const stretches = stretchesOf(ranges, marks);
@@ -343,23 +344,89 @@ space.addEventListener("keydown", (event) => {
 
 // ---- The lists
 
+function streamName(number) {
+  const stream = list(part(minidump, "streams")).find((one) => part(one, "type") === number);
+  return part(stream ?? null, "name") ?? number;
+}
+
+// Returns words for something that is there and can't be read.
+function damageWords(damage) {
+  const thread = part(damage, "thread_id");
+  switch (part(damage, "what")) {
+    case "stream": return "can't be read: " + streamName(part(damage, "number")) + ": " + part(damage, "error");
+    case "exception_context": return "outside the file: the context of the exception on thread " + thread;
+    case "thread_context": return "outside the file: the context of thread " + thread;
+    default: return "outside the file: the stack of thread " + thread;
+  }
+}
+
+// Returns words that are not absent, one after another.
+function joined(words, between) {
+  return words.filter((word) => word !== null && word !== undefined && word !== "").join(between);
+}
+
+function labelled(label, value) {
+  return value === null || value === "" ? null : label + value;
+}
+
+// Returns an address of the crash, and where it lies.
+function addressWords() {
+  const at = part(minidump, "address");
+  const module = list(part(crash, "modules"))[part(at, "module")] ?? null;
+  const place = module === null ? null : "in " + last(part(module, "filename")) + "+" + part(at, "module_offset");
+  return joined([part(part(crash, "crash_info"), "address"), place], " ");
+}
+
+function assertionWords() {
+  const assertion = part(minidump, "assertion");
+  if (assertion === null) return null;
+  const kind = part(assertion, "kind");
+  return joined([
+    joined([kind === null ? null : "(" + kind + ")", part(assertion, "expression")], " "),
+    labelled("function ", part(assertion, "function")),
+    labelled("file ", part(assertion, "file")),
+    labelled("line ", part(assertion, "line")),
+  ], ", ");
+}
+
+// Returns the time of a count of seconds since 1970.
+function timeWords(seconds) {
+  return seconds === null ? null : new Date(seconds * 1000).toISOString().replace(".000", "");
+}
+
+function namesOf(value, names) {
+  return joined(names.map((name) => part(value, name)), " ");
+}
+
 function facts() {
   const system = part(crash, "system_info");
   const info = part(crash, "crash_info");
-  const words = [
+  const counting = list(part(minidump, "exceptions"))[part(minidump, "exception")] ?? null;
+  const problem = part(counting, "context_problem");
+  const outside = part(minidump, "entries_outside");
+  const words = list(part(minidump, "damage")).map((damage) => ["Damage", damageWords(damage)]);
+  words.push(
     ["Status", part(crash, "status")],
+    ["Exit status", part(minidump, "status")],
     ["Reason", part(info, "type")],
-    ["Address", part(info, "address")],
-    ["Assertion", part(info, "assertion")],
+    ["Address", addressWords()],
+    ["Code", counting === null ? null : part(counting, "code") + " at " + part(counting, "exception_address")],
+    ["Assertion", assertionWords()],
     ["Thread", thread === null ? null : threadName(thread)],
-    ["System", ["os", "os_ver", "cpu_arch"].map((name) => part(system, name)).filter((word) => word !== null).join(" ")],
+    ["Registers", labelled("of the context of the ", part(minidump, "registers_of"))],
+    ["Exception\u2019s context", labelled("not used: ", problem)],
+    ["System", namesOf(system, ["os", "os_ver", "cpu_arch"])],
+    ["Processor", part(system, "cpu_info")],
     ["Processors", part(system, "cpu_count")],
+    ["Release", namesOf(part(crash, "lsb_release"), ["id", "release", "codename", "description"])],
+    ["Dumped", timeWords(part(minidump, "written"))],
     ["Process", part(crash, "pid")],
-  ];
-  for (const stream of list(part(part(crash, "minidump"), "streams"))) {
-    const error = part(stream, "error");
-    if (error !== null) words.push(["Can't be read", (part(stream, "name") ?? part(stream, "type")) + ": " + error]);
-  }
+    ["Uptime", part(minidump, "uptime") === null ? null : part(minidump, "uptime") + " s"],
+    ["Boot arguments", part(crash, "mac_boot_args")],
+    ["Soft errors", part(crash, "soft_errors")],
+    ["Maps", part(crash, "linux_memory_map_count")],
+    ["Entries outside", outside === 0 ? null : outside],
+  );
   const place = document.getElementById("facts");
   for (const [name, value] of words) {
     if (value === null || value === "") continue;
@@ -373,7 +440,29 @@ function facts() {
   }
 }
 
+function rangeWords(range) {
+  const base = part(range, "base_addr");
+  return base === null ? null : base + ", " + part(range, "size") + " bytes";
+}
+
+// Adds what is known of a thread besides its frames.
+function addThreadFacts(place, of) {
+  const end = part(of, "end");
+  const stack = rangeWords(part(of, "stack"));
+  const memory = rangeWords(part(of, "stack_memory"));
+  const words = joined([
+    part(of, "is_listed") === false ? "not in the list of threads" : null,
+    labelled("last error ", part(of, "last_error_value")),
+    labelled("its own context: ", part(of, "context_problem")),
+    labelled("stack ", stack),
+    memory === stack ? null : labelled("stack memory ", memory),
+    end === null ? null : "end: " + end.replaceAll("_", " "),
+  ], "; ");
+  if (words !== "") place.appendChild(element("p", words));
+}
+
 function addFrames(place, of) {
+  addThreadFacts(place, of);
   const frames = list(part(of, "frames"));
   if (frames.length === 0) {
     place.appendChild(element("p", "No frames."));
@@ -383,9 +472,11 @@ function addFrames(place, of) {
     const module = part(frame, "module") ?? "no module";
     const offset = part(frame, "module_offset");
     const place = module + (offset === null ? "" : "+" + offset);
-    return ["#" + i, part(frame, "offset"), place, part(frame, "trust")];
+    const pointers = ["instruction", "stack_pointer", "frame_pointer"].map((name) => part(frame, name));
+    return ["#" + i, part(frame, "offset"), place, part(frame, "trust"), ...pointers];
   });
-  table(place, ["Frame", "Address", "Module", "Known by"], rows, ["code", "code", "", ""]);
+  const heads = ["Frame", "Address", "Module", "Known by", "Instruction", "Stack", "Frame pointer"];
+  table(place, heads, rows, ["code", "code", "", "", "code", "code", "code"]);
 }
 
 function addThreads() {
@@ -424,6 +515,51 @@ function addModules() {
     ["code", "code", "", "", "", ""]);
 }
 
+// Adds a table under a heading that opens it, if it has rows.
+function addMore(name, heads, rows, kinds) {
+  if (rows.length === 0) return;
+  const made = document.createElement("details");
+  made.appendChild(element("summary", name + ": " + rows.length));
+  table(made, heads, rows, kinds);
+  document.getElementById("more").appendChild(made);
+}
+
+// Returns rows of the members of the objects of a list.
+function rowsOf(value, names) {
+  return list(value).map((one) => names.map((name) => part(one, name)));
+}
+
+// Returns the annotations of Crashpad, each with its name and whose it is.
+function annotationsOf() {
+  const crashpad = part(minidump, "crashpad");
+  const rows = rowsOf(part(crashpad, "annotations"), ["name", "value"]).map((row) => ["process", ...row]);
+  list(part(crashpad, "modules")).forEach((module, i) => {
+    const own = [...list(part(module, "annotations")), ...list(part(module, "objects"))];
+    for (const text of list(part(module, "list"))) rows.push(["module " + i, "", text]);
+    for (const row of rowsOf(own, ["name", "value"])) rows.push(["module " + i, ...row]);
+  });
+  return rows;
+}
+
+function addLists() {
+  const exceptions = ["thread_id", "code", "exception_address", "address", "type", "context_problem", "error"];
+  const rows = rowsOf(part(minidump, "exceptions"), exceptions);
+  addMore("Exceptions", ["", "Thread", "Code", "At", "Address", "Reason", "Context", "Error"],
+    rows.map((row, i) => [i === part(minidump, "exception") ? "counts" : "", ...row]),
+    ["", "", "code", "code", "code", "", "", ""]);
+  addMore("Annotations", ["Of", "Name", "Value"], annotationsOf(), ["", "", ""]);
+  const mac = ["module", "message", "message2", "signature_string", "backtrace", "thread", "dialog_mode", "abort_cause"];
+  addMore("macOS\u2019s crash information",
+    ["Module", "Message", "Second message", "Signature", "Backtrace", "Thread", "Dialog mode", "Abort cause"],
+    rowsOf(part(part(crash, "mac_crash_info"), "records"), mac), mac.map(() => ""));
+  addMore("Handles", ["Handle", "Type", "Name"],
+    rowsOf(part(crash, "handles"), ["handle", "type_name", "object_name"]), ["code", "", ""]);
+  addMore("Unloaded modules", ["Base", "End", "File", "Code"],
+    rowsOf(part(crash, "unloaded_modules"), ["base_addr", "end_addr", "filename", "code_id"]), ["code", "code", "", ""]);
+  addMore("Streams", ["Type", "Name", "Bytes", "At", "Error"],
+    rowsOf(part(minidump, "streams"), ["type", "name", "size", "rva", "error"]), ["code", "", "", "code", ""]);
+}
+
 function addRanges() {
   const rows = ranges.map((range) => [
     button("Show", () => {
@@ -448,6 +584,7 @@ addFrames(document.getElementById("crashed"), thread);
 addRegisters();
 addThreads();
 addModules();
+addLists();
 addRanges();
 </script>
 </body>

@@ -1,92 +1,319 @@
--- A report nests five levels deep at most.
-use Rattle.std.proofs.Common.{◌≤◌, ◌++◌, ℕ, List, [], ◌∷◌, Option, arith, codes}
+-- A line nests seven levels deep at most.
+use Rattle.std.proofs.Common.{◌≤◌, ◌++◌, ℕ, List, [], ◌∷◌, Option, Some, None, Result, Ok, Err, arith, length, map, string_bytes, take}
 use Rattle.std.specs.Option.{option_and_then, option_map}
-use Rattle.json.specs.Json.{Json, max_depth}
+use Rattle.std.specs.Result.{result_ok}
+use Rattle.json.specs.Json.{Json, max_depth, string}
 use Rattle.json.specs.Tree.{depth, members_depth}
+use Rattle.minidump.specs.declared.Error.{Error}
 use Rattle.minidump.specs.declared.format.MINIDUMP_ASSERTION_INFO.{MINIDUMP_ASSERTION_INFO}
-use Rattle.minidump.specs.Below.MemoryLists.Unified.{UnifiedRegion}
-use Rattle.minidump.specs.Below.Reasons.Names.{Lists}
-use Rattle.minidump.specs.Below.System.MiscInfo.{process_id}
-use Rattle.minidump.specs.Below.System.System.{System}
-use Rattle.minidump.specs.Exception.{Exception}
-use Rattle.json_tree.specs.Tree.{array_of, members_of, object_of}
-use Rattle.directory_json.specs.Directory.{Stream, stream_json}
-use Rattle.directory_json.proofs.Depth.{stream_depth}
-use Rattle.json_tree.proofs.Depth.{array_within, flat_count, flat_hex, flat_text, or_null_within}
-use Rattle.streams_json.specs.Memory.{region_json}
-use Rattle.modules_json.specs.Modules.{module_json, unloaded_json}
-use Rattle.streams_json.specs.Records.{handle_json, lsb_json, mac_crash_json}
-use Rattle.streams_json.specs.System.{system_json}
-use Rattle.modules_json.proofs.Depth.{module_depth, unloaded_depth}
-use Rattle.streams_json.proofs.Depth.{handle_depth, lsb_depth, mac_crash_depth, region_depth, system_depth}
-use Rattle.threads_json.specs.Threads.{thread_json}
-use Rattle.threads_json.proofs.Depth.{crashing_depth, thread_depth}
-use Rattle.crash_json.specs.Crash.{crash_json, crash_object}
-use Rattle.crash_json.specs.Report.{Parts, crash_members, crashing_json_of, crashing_thread, dump_members, main_module, module_members, record_members, error_json, report_json, scope_in, thread_members}
+use Rattle.minidump.specs.Below.MemoryLists.Unified.{UnifiedRegion, unified_regions}
+use Rattle.minidump.specs.Below.Records.Annotations.{Annotation}
+use Rattle.minidump.specs.Below.Records.Crashpad.{Crashpad, Module}
+use Rattle.minidump.specs.Below.Records.CrashpadText.{annotation_text}
+use Rattle.minidump.specs.Below.Records.Handles.{Handle}
+use Rattle.minidump.specs.Below.Records.Record.{MacRecord}
+use Rattle.crash.specs.declared.cause.AddressFacts.{AddressFacts}
+use Rattle.crash.specs.declared.damage.Damage.{Damage}
+use Rattle.crash.specs.declared.damage.Damage.TheVariants.{ExceptionContext, Stack, Stream, ThreadContext}
+use Rattle.crash.specs.declared.directory.StreamEntry.{StreamEntry}
+use Rattle.crash.specs.declared.frames.CrashFrame.{CrashFrame}
+use Rattle.crash.specs.declared.stacks.StackRange.{StackRange}
+use Rattle.crash.specs.Cause.{ExceptionValue}
+use Rattle.crash.specs.Contexts.{ContextValue}
+use Rattle.crash.specs.Crash.{CrashValue}
+use Rattle.crash.specs.Modules.{LoadedValue, UnloadedModuleValue}
+use Rattle.crash.specs.Process.{SystemValue}
+use Rattle.crash.specs.Release.{ReleaseValue}
+use Rattle.crash.specs.Threads.{ThreadValue, ThreadsValue}
+use Rattle.json_tree.specs.Tree.{array_of, count, hex_string, members_of, object_of, or_null}
+use Rattle.json_tree.proofs.Depth.{array_within, flat_count, flat_hex, flat_text, numbered_array_within, or_null_within}
+use Rattle.crash_json.specs.declared.JsonLimits.{JsonLimits}
+use Rattle.crash_json.specs.Cause.{address_json, address_object, crash_info_json, crash_object, exception_json, exception_object, exceptions_json}
+use Rattle.crash_json.specs.Crashpad.{annotation_json, annotations_json, crashpad_json, crashpad_module_json, crashpad_modules_json, objects_json, texts_json}
+use Rattle.crash_json.specs.Frames.{frame_json, frame_object, register_members, registers_json}
+use Rattle.crash_json.specs.Minidump.{all_damage_json, damage_json, damage_object, minidump_json, minidump_object, region_object, region_json, regions_json, stream_json, stream_object, streams_json}
+use Rattle.crash_json.specs.Modules.{all_unloaded_json, main_module, module_json, modules_json, unloaded_json}
+use Rattle.crash_json.specs.Records.{assertion_json, assertion_object, handle_json, handle_object, handles_json, mac_crash_json, mac_members, mac_object, mac_record_json}
+use Rattle.crash_json.specs.Report.{all_members, crash_members, error_json, json_of, path_members, process_members, process_object, record_members, record_object}
+use Rattle.crash_json.specs.Report as report
+use Rattle.crash_json.specs.System.{release_json, system_json, system_object}
+use Rattle.crash_json.specs.Threads.{crashing_json, indexed_crashed, indexed_json, range_json, thread_json, thread_members, thread_object, threads_json}
+
+-- ---- the system, the crash and the modules
+
+system_object_depth : (os version cpu : List ℕ) (cpu_model : Option (List ℕ)) (processors : ℕ) → depth (system_object os version cpu cpu_model processors) ≤ 1
+unfolding system_object
+system_object_depth os version cpu cpu_model processors = omega (arith, flat_text cpu_model)
+
+system_depth : (s : SystemValue) → depth (system_json s) ≤ 1
+system_depth s = system_object_depth _ _ _ _ _
+
+release_depth : (r : ReleaseValue) → depth (release_json r) ≤ 1
+unfolding release_json
+release_depth r = omega (arith, flat_text r.id, flat_text r.release, flat_text r.codename, flat_text r.description)
 
 crash_object_depth : (reason : Option (List ℕ)) (address thread : Option ℕ) (assertion : Option (List ℕ)) → depth (crash_object reason address thread assertion) ≤ 1
 unfolding crash_object
 crash_object_depth reason address thread assertion = omega (arith, flat_text reason, flat_hex address, flat_count thread, flat_text assertion)
 
-crash_depth : (names : Lists) (system : Option System) (exception : Option Exception) (assertion : Option MINIDUMP_ASSERTION_INFO) (thread : Option ℕ)
-    → depth (crash_json names system exception assertion thread) ≤ 1
-crash_depth names system exception assertion thread = crash_object_depth _ _ _ _
+crash_info_depth : (c : CrashValue) → depth (crash_info_json c) ≤ 1
+crash_info_depth c = crash_object_depth _ _ _ _
 
-crash_within : (path : List ℕ) (names : Lists) (p : Parts) → members_depth (members_of (crash_members path names p)) ≤ 1
-crash_within path names p = omega (
-  arith,
-  or_null_within system_json 1 p.system system_depth,
-  crash_depth names p.system p.exception p.assertion (option_map (λ t. t.0) (crashing_thread p.exception p.threads)),
-)
+module_depth : (m : LoadedValue) → depth (module_json m) ≤ 1
+unfolding module_json
+module_depth m = omega (arith, flat_hex m.end, flat_text m.code_id, flat_text m.debug_file, flat_text m.debug_id, flat_text m.version)
 
-module_within : (p : Parts) → members_depth (members_of (module_members p)) ≤ 2
-module_within p =
-    omega (arith, flat_count (main_module p.modules), array_within module_json 1 p.modules module_depth, array_within unloaded_json 1 p.unloaded unloaded_depth)
+modules_depth : (ms : List LoadedValue) → depth (modules_json ms) ≤ 2
+unfolding modules_json
+modules_depth ms = array_within module_json 1 ms module_depth
 
-thread_within : (names : Lists) (frames : ℕ) (p : Parts) → members_depth (members_of (thread_members names frames p)) ≤ 5
-thread_within names frames p =
+unloaded_depth : (m : UnloadedModuleValue) → depth (unloaded_json m) ≤ 1
+unfolding unloaded_json
+unloaded_depth m = omega (arith, flat_hex m.end, flat_text m.code_id)
+
+all_unloaded_depth : (ms : List UnloadedModuleValue) → depth (all_unloaded_json ms) ≤ 2
+unfolding all_unloaded_json
+all_unloaded_depth ms = array_within unloaded_json 1 ms unloaded_depth
+
+-- ---- threads
+
+fields_within : (registers : List (List ℕ × ℕ)) → members_depth (members_of (register_members registers)) ≤ 0
+fields_within [] = omega arith
+fields_within (r ∷ registers) = omega (arith, fields_within registers)
+
+registers_depth : (c : ContextValue) → depth (registers_json c) ≤ 1
+registers_depth c = omega (arith, fields_within c.registers)
+
+frame_object_depth : (number : ℕ) (trust : List ℕ) (file : Option (List ℕ)) (offset : Option ℕ) (f : CrashFrame) (context : Option ContextValue)
+    → depth (frame_object number trust file offset f context) ≤ 2
+unfolding frame_object
+frame_object_depth number trust file offset f context =
+    omega (arith, flat_text file, flat_hex offset, flat_hex f.address, flat_hex f.frame_pointer, or_null_within registers_json 1 context registers_depth)
+
+frame_depth : (modules : List LoadedValue) (context : Option ContextValue) (number : ℕ) (f : CrashFrame) → depth (frame_json modules context number f) ≤ 2
+frame_depth modules context number f = frame_object_depth _ _ _ _ _ _
+
+range_depth : (r : StackRange) → depth (range_json r) ≤ 1
+unfolding range_json
+range_depth r = omega arith
+
+thread_object_depth : (t : ThreadValue) (problem ended : Option (List ℕ)) (frame_count : ℕ) (modules : List LoadedValue) (context : Option ContextValue)
+    (frames : List CrashFrame) → members_depth (members_of (thread_object t problem ended frame_count modules context frames)) ≤ 3
+unfolding thread_object
+thread_object_depth t problem ended frame_count modules context frames =
     omega (
       arith,
-      flat_count (option_and_then process_id p.misc),
-      array_within (thread_json (scope_in names frames p)) 4 p.threads (thread_depth (scope_in names frames p)),
-      or_null_within (crashing_json_of names frames p) 4 (crashing_thread p.exception p.threads) (λ t. crashing_depth (scope_in names frames p) t.0 _ t.1),
+      flat_text t.name,
+      flat_text t.last_error,
+      or_null_within range_json 1 t.stack range_depth,
+      or_null_within range_json 1 t.stack_memory range_depth,
+      flat_text problem,
+      flat_text ended,
+      numbered_array_within (frame_json modules context) 2 frames (frame_depth modules context),
     )
 
-record_within : (p : Parts) → members_depth (members_of (record_members p)) ≤ 3
-record_within p =
+thread_members_depth : (limit : ℕ) (modules : List LoadedValue) (context : Option ContextValue) (t : ThreadValue)
+    → members_depth (members_of (thread_members limit modules context t)) ≤ 3
+thread_members_depth limit modules context t = thread_object_depth t _ _ _ modules context _
+
+thread_depth : (limit : ℕ) (modules : List LoadedValue) (t : ThreadValue) → depth (thread_json limit modules t) ≤ 4
+thread_depth limit modules t = omega (arith, thread_members_depth limit modules None t)
+
+threads_depth : (limit : ℕ) (modules : List LoadedValue) (ts : List ThreadValue) → depth (threads_json limit modules ts) ≤ 5
+unfolding threads_json
+threads_depth limit modules ts = array_within (thread_json limit modules) 4 ts (thread_depth limit modules)
+
+indexed_depth : (limit : ℕ) (modules : List LoadedValue) (index : ℕ) (t : ThreadValue) → depth (indexed_json limit modules index t) ≤ 4
+indexed_depth limit modules index t = omega (arith, thread_members_depth limit modules t.context t)
+
+crashing_depth : (limit : ℕ) (modules : List LoadedValue) (t : ThreadsValue) → depth (crashing_json limit modules t) ≤ 4
+crashing_depth limit modules t =
+    or_null_within (λ p. indexed_json limit modules p.0 p.1) 4 (indexed_crashed t) (λ p. indexed_depth limit modules p.0 p.1)
+
+-- ---- records
+
+handle_object_depth : (value : Option ℕ) (type_name object_name : Option (List ℕ)) → depth (handle_object value type_name object_name) ≤ 1
+unfolding handle_object
+handle_object_depth value type_name object_name = omega (arith, flat_hex value, flat_text type_name, flat_text object_name)
+
+handles_depth : (hs : List Handle) → depth (handles_json hs) ≤ 2
+unfolding handles_json
+handles_depth hs = array_within handle_json 1 hs (λ h. handle_object_depth _ _ _)
+
+mac_object_depth : (thread dialog_mode abort_cause : Option ℕ) (module_path message signature backtrace message2 : Option (List ℕ))
+    → depth (mac_object thread dialog_mode abort_cause module_path message signature backtrace message2) ≤ 1
+unfolding mac_object
+mac_object_depth thread dialog_mode abort_cause module_path message signature backtrace message2 =
     omega (
       arith,
-      or_null_within lsb_json 1 p.lsb_release lsb_depth,
-      or_null_within mac_crash_json 3 p.mac_crash_info mac_crash_depth,
-      flat_text (option_and_then (λ b. b.text) p.mac_boot_args),
-      or_null_within (array_of handle_json) 2 p.handles (λ handles. array_within handle_json 1 handles handle_depth),
-      flat_text p.soft_errors,
-      flat_count p.maps,
+      flat_hex thread,
+      flat_hex dialog_mode,
+      flat_hex abort_cause,
+      flat_text module_path,
+      flat_text message,
+      flat_text signature,
+      flat_text backtrace,
+      flat_text message2,
     )
 
-dump_within : (streams : List Stream) (memory : List UnifiedRegion) → members_depth (members_of (dump_members streams memory)) ≤ 2
-dump_within streams memory = omega (arith, array_within stream_json 1 streams stream_depth, array_within region_json 1 memory region_depth)
+mac_depth : (n : ℕ) (rs : List MacRecord) → depth (mac_members n rs) ≤ 3
+unfolding mac_members
+mac_depth n rs = omega (arith, array_within mac_record_json 1 rs (λ r. mac_object_depth _ _ _ _ _ _ _ _))
+
+assertion_object_depth : (kind expression function file : Option (List ℕ)) (line : ℕ) → depth (assertion_object kind expression function file line) ≤ 1
+unfolding assertion_object
+assertion_object_depth kind expression function file line =
+    omega (arith, flat_text kind, flat_text expression, flat_text function, flat_text file)
+
+annotation_depth : (e : List ℕ × List ℕ) → depth (annotation_json e) ≤ 1
+unfolding annotation_json
+annotation_depth e = omega arith
+
+annotations_depth : (es : List (List ℕ × List ℕ)) → depth (annotations_json es) ≤ 2
+unfolding annotations_json
+annotations_depth es = array_within annotation_json 1 es annotation_depth
+
+objects_depth : (es : List (List ℕ × Annotation)) → depth (objects_json es) ≤ 2
+unfolding objects_json
+objects_depth es = array_within (λ e. annotation_json (e.0, annotation_text e.1)) 1 es (λ e. annotation_depth _)
+
+texts_depth : (ts : List (List ℕ)) → depth (texts_json ts) ≤ 2
+unfolding texts_json
+texts_depth ts = array_within string 1 ts (λ t. omega arith)
+
+crashpad_module_depth : (m : Module) → depth (crashpad_module_json m) ≤ 3
+unfolding crashpad_module_json
+crashpad_module_depth m =
+    omega (arith, texts_depth m.list_annotations, annotations_depth m.simple_annotations, objects_depth m.annotation_objects)
+
+crashpad_modules_depth : (ms : List Module) → depth (crashpad_modules_json ms) ≤ 4
+unfolding crashpad_modules_json
+crashpad_modules_depth ms = array_within crashpad_module_json 3 ms crashpad_module_depth
+
+crashpad_depth : (c : Crashpad) → depth (crashpad_json c) ≤ 5
+unfolding crashpad_json
+crashpad_depth c = omega (arith, annotations_depth c.simple_annotations, crashpad_modules_depth c.module_list)
+
+-- ---- what the schema has no member for
+
+exception_object_depth : (thread code at address : Option ℕ) (reason problem error : Option (List ℕ))
+    → depth (exception_object thread code at address reason problem error) ≤ 1
+unfolding exception_object
+exception_object_depth thread code at address reason problem error =
+    omega (arith, flat_count thread, flat_hex code, flat_hex at, flat_hex address, flat_text reason, flat_text problem, flat_text error)
+
+exception_depth : (e : Result ExceptionValue Error) → depth (exception_json e) ≤ 1
+exception_depth (Ok e) = exception_object_depth _ _ _ _ _ _ _
+exception_depth (Err e) = exception_object_depth _ _ _ _ _ _ _
+
+exceptions_depth : (es : List (Result ExceptionValue Error)) → depth (exceptions_json es) ≤ 2
+unfolding exceptions_json
+exceptions_depth es = array_within exception_json 1 es exception_depth
+
+address_object_depth : (address : ℕ) (index offset : Option ℕ) → depth (address_object address index offset) ≤ 1
+unfolding address_object
+address_object_depth address index offset = omega (arith, flat_count index, flat_hex offset)
+
+stream_object_depth : (number : ℕ) (name : Option (List ℕ)) (size rva : ℕ) (error : Option (List ℕ)) → depth (stream_object number name size rva error) ≤ 1
+unfolding stream_object
+stream_object_depth number name size rva error = omega (arith, flat_text name, flat_text error)
+
+streams_depth : (es : List StreamEntry) → depth (streams_json es) ≤ 2
+unfolding streams_json
+streams_depth es = array_within stream_json 1 es (λ e. stream_object_depth _ _ _ _ _)
+
+region_object_depth : (base size : ℕ) → depth (region_object base size) ≤ 1
+unfolding region_object
+region_object_depth base size = omega arith
+
+regions_depth : (rs : List UnifiedRegion) → depth (regions_json rs) ≤ 2
+unfolding regions_json
+regions_depth rs = array_within region_json 1 rs (λ r. region_object_depth _ _)
+
+damage_object_depth : (what : List ℕ) (number thread : Option ℕ) (error : Option (List ℕ)) → depth (damage_object what number thread error) ≤ 1
+unfolding damage_object
+damage_object_depth what number thread error = omega (arith, flat_hex number, flat_count thread, flat_text error)
+
+damage_depth : (d : Damage) → depth (damage_json d) ≤ 1
+damage_depth (Stream number error) = damage_object_depth _ _ _ _
+damage_depth (ExceptionContext id) = damage_object_depth _ _ _ _
+damage_depth (ThreadContext id) = damage_object_depth _ _ _ _
+damage_depth (Stack id) = damage_object_depth _ _ _ _
+
+all_damage_depth : (ds : List Damage) → depth (all_damage_json ds) ≤ 2
+unfolding all_damage_json
+all_damage_depth ds = array_within damage_json 1 ds damage_depth
+
+minidump_object_depth : (c : CrashValue) (written : Option ℕ) (status : ℕ) (origin : Option (List ℕ)) → depth (minidump_object c written status origin) ≤ 6
+unfolding minidump_object
+minidump_object_depth c written status origin =
+    omega (
+      arith,
+      flat_count written,
+      flat_count c.process.uptime,
+      streams_depth c.directory.entries,
+      regions_depth (unified_regions c.contents.space.memory),
+      all_damage_depth c.damage,
+      or_null_within address_json 1 c.cause.address (λ a. address_object_depth _ _ _),
+      exceptions_depth c.cause.exceptions,
+      flat_count c.cause.counts,
+      flat_text origin,
+      or_null_within assertion_json 1 (result_ok c.contents.messages.assertion) (λ a. assertion_object_depth _ _ _ _ _),
+      or_null_within crashpad_json 5 (result_ok c.contents.messages.crashpad) crashpad_depth,
+    )
+
+minidump_depth : (c : CrashValue) → depth (minidump_json c) ≤ 6
+minidump_depth c = minidump_object_depth c _ _ _
+
+-- ---- all of it
+
+crash_within : (c : CrashValue) (main : Option ℕ) → members_depth (members_of (report.crash_object c main)) ≤ 6
+unfolding report.crash_object
+crash_within c main =
+    omega (
+      arith,
+      or_null_within system_json 1 c.process.system system_depth,
+      crash_info_depth c,
+      flat_count main,
+      modules_depth c.modules.loaded,
+      all_unloaded_depth c.modules.unloaded,
+    )
+
+process_within : (limit : ℕ) (c : CrashValue) (id : Option ℕ) (threads : ℕ) → members_depth (members_of (process_object limit c id threads)) ≤ 6
+unfolding process_object
+process_within limit c id threads =
+    omega (arith, flat_count id, threads_depth limit c.modules.loaded c.threads.threads, crashing_depth limit c.modules.loaded c.threads)
+
+record_within : (c : CrashValue) (boot_args soft_errors : Option (List ℕ)) → members_depth (members_of (record_object c boot_args soft_errors)) ≤ 6
+unfolding record_object
+record_within c boot_args soft_errors =
+    omega (
+      arith,
+      or_null_within release_json 1 c.process.release release_depth,
+      or_null_within mac_crash_json 3 (result_ok c.contents.messages.mac_crash_info) (λ rs. mac_depth _ rs),
+      flat_text boot_args,
+      or_null_within handles_json 2 (result_ok c.contents.process.handles) handles_depth,
+      flat_text soft_errors,
+      flat_count c.contents.space.map_count,
+      minidump_depth c,
+    )
+
+path_within : (path : Option (List ℕ)) → members_depth (members_of (path_members path)) ≤ 6
+path_within None = omega arith
+path_within (Some path) = omega arith
 
 -- members after others
 both_within : (a b : List (List ℕ × Json)) (bound : ℕ) → members_depth (members_of a) ≤ bound → members_depth (members_of b) ≤ bound
     → members_depth (members_of (a ++ b)) ≤ bound
 both_within [] b bound first second = second
-both_within (m ∷ a) b bound first second =
-    omega (arith, both_within a b bound (omega arith) second)
+both_within (m ∷ a) b bound first second = omega (arith, both_within a b bound (omega arith) second)
 
-pub report_depth : (path : List ℕ) (names : Lists) (frames : ℕ) (p : Parts) → depth (report_json path names frames p) ≤ max_depth
-report_depth path names frames p =
-    let dump : List (List ℕ × Json) = (codes "minidump", object_of (dump_members p.streams p.memory)) ∷ [] in
-    let low : members_depth (members_of dump) ≤ 5 = omega (arith, dump_within p.streams p.memory) in
-    let records : List (List ℕ × Json) = record_members p ++ dump in
-    let threads : List (List ℕ × Json) = thread_members names frames p ++ records in
-    let modules : List (List ℕ × Json) = module_members p ++ threads in
-    let first : members_depth (members_of (crash_members path names p)) ≤ 5 = omega (arith, crash_within path names p) in
-    let second : members_depth (members_of (module_members p)) ≤ 5 = omega (arith, module_within p) in
-    let fourth : members_depth (members_of (record_members p)) ≤ 5 = omega (arith, record_within p) in
-    let all = both_within (crash_members path names p) modules 5 first
-    (both_within (module_members p) threads 5 second
-    (both_within (thread_members names frames p) records 5 (thread_within names frames p) (both_within (record_members p) dump 5 fourth low))) in
+pub line_depth : (limits : JsonLimits) (path : Option (List ℕ)) (c : CrashValue) → depth (json_of limits path c) ≤ max_depth
+line_depth limits path c =
+    let records : members_depth (members_of (record_members c)) ≤ 6 = record_within c _ _ in
+    let all = both_within (path_members path) _ 6 (path_within path)
+    (both_within (crash_members c) _ 6 (crash_within c _)
+    (both_within (process_members limits.frames c) (record_members c) 6 (process_within limits.frames c _ _) records)) in
     omega (arith, all)
 
 pub error_depth : (path status : List ℕ) → depth (error_json path status) ≤ max_depth

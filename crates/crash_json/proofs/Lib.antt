@@ -1,5 +1,2 @@
--- How deep a report nests, what it is made of, a member, and two statements on a result.
-pub mod BothOk
+-- How deep the values nest.
 pub mod Depth
-pub mod SameParts
-pub mod Member

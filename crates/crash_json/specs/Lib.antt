@@ -1,4 +1,11 @@
--- The definitions that the contracts cite.
-pub mod Crash
+-- The definitions that the contracts cite: the value of a crash is `json_of` of Report.antt.
+pub mod System
+pub mod Cause
+pub mod Modules
+pub mod Frames
+pub mod Threads
+pub mod Records
+pub mod Crashpad
+pub mod Minidump
+pub mod Members
 pub mod Report
-pub mod Parts

@@ -1,128 +1,139 @@
-//! Writes the report on a minidump as one line of JSON, in the schema of `minidump-stackwalk
-//! --json` of rust-minidump.
+//! Writes a crash as one line of JSON, in the schema of `minidump-stackwalk --json` of
+//! rust-minidump.
 //!
-//! [`crash_json`] makes the text of a dump, [`error_json`] that of a file that is none, so that
-//! every file has a line. No line feed follows.
+//! [`json_of`] makes the line of a [`Crash`], [`crash_json`] that of the bytes of a minidump, and
+//! [`error_json`] that of a file that is none, so that every file has a line. No line feed follows.
 //!
 //! # The members
 //!
 //! `path`, `status`, `system_info`, `crash_info`, `main_module`, `modules`, `unloaded_modules`,
 //! `pid`, `thread_count`, `threads`, `crashing_thread`, `lsb_release`, `mac_crash_info`,
 //! `mac_boot_args`, `handles`, `soft_errors`, `linux_memory_map_count` and `minidump`, in that
-//! order. Other members of the schema, such as all that need symbols, are left out.
+//! order. Other members of the schema, such as all that need symbols, are left out, and so is
+//! `path` if the caller has none.
 //!
 //! - A member is `null` if the dump lacks what it says; the lists of modules and of threads are
 //!   empty then. Addresses are texts in hexadecimal without leading zeros, as `"0x7ff6"`, on each
 //!   system.
 //! - `crash_info` has the `type` (the reason in words), the `address`, the index of the
-//!   `crashing_thread` in `threads`, and the expression of an `assertion`. The thread is the last
-//!   one of the exception's id.
-//! - A thread's `frames` are at most as many as [`Limits::frames`]; `frame_count` says how many
-//!   there are. `registers` are those of the first frame of `crashing_thread`.
+//!   `crashing_thread` in `threads`, and the expression of an `assertion`. The exception is the one
+//!   that counts, the thread the last one of its id.
+//! - `threads` has the threads of the list, and after them that of the exception if the list lacks
+//!   it, which `is_listed` tells. `stack` is the range that the entry of a thread names,
+//!   `stack_memory` the memory of its stack. `end` is the word for why the last frame has no
+//!   caller.
+//! - A thread's `frames` are at most as many as [`JsonLimits::frames`]; `frame_count` says how many
+//!   there are, the candidates among them, whose `trust` is `scan`. `offset` is the address by
+//!   which a frame is looked up, of a caller the return address less one, and `module_offset` is
+//!   the offset of that address in the module. `registers` are those of the first frame of
+//!   `crashing_thread`, and `null` elsewhere.
 //! - `soft_errors` is the text of the stream, `handles` a list, `mac_boot_args` the arguments
 //!   alone.
-//! - `minidump`, which the schema doesn't have, has the `streams`, the deciding ones by type, each
-//!   with the name of its `error` if it can't be read, or if its type is never read and its bytes
-//!   are outside the file; and the regions of `memory` that the dump holds. So a malformed stream
-//!   is told from one that is missing.
-//! - `crashing_thread` is `null` if the list of threads lacks the thread of the exception, whose
-//!   own context is then not written. Without system information `type` and `address` are `null`.
+//! - `minidump`, which the schema doesn't have, has when the dump was `written`, in seconds since
+//!   1970, and the `uptime` of the process in seconds; the `status` with which the dump ends a
+//!   program; the `streams`, the deciding ones by type, each with the name of its `error` if it
+//!   can't be read, or if its type is never read and its bytes are outside the file; how many
+//!   `entries_outside` the file the directory has; the regions of `memory` that the dump holds; the
+//!   `damage`; the `address` of the crash with its module; all `exceptions`, and the index of the
+//!   `exception` that counts; whose context `registers_of` the crashing thread are; the `assertion`
+//!   with its place; and the annotations of `crashpad`.
 //!
 //! # What is proved
 //!
-//! - The text, read by the grammar of `json`, is the value that the definition `report_json` has
-//!   for the dump that the bytes are, with the names of codes and the frames of its threads, and it
-//!   has the tokens of that value and nothing between them: [`crash_json`], by `IsReportOn`. It is
-//!   UTF-8, whatever the bytes are.
-//! - The error is the one of [`minidump::Minidump::read`], or `OutOfMemory`: [`crash_json`].
+//! - The text is the tokens of the value that the definition `json_of` has for the crash, with
+//!   nothing between them. Read by the grammar of `json` it is that value, and it is UTF-8, whatever
+//!   the dump says: [`json_of`].
+//! - The same of the bytes of a file, by the definition `crash_in` of the crash, and the error is
+//!   that of [`minidump::Minidump::read`], or `OutOfMemory`: [`crash_json`].
 //! - The line of a file that is no dump reads as its path and its status: [`error_json`].
 //!
 //! What isn't: that no byte of the text is a line feed, which holds since the kit's writer escapes
 //! control characters.
 //!
-//! The text is whole in memory, and so are the frames of all threads while it is made.
+//! The text is whole in memory.
 #![tactic(auto)]
 
-ghost use Rattle.std.specs.Prelude.{⊤, IfErr, IfOk, IsOkUnless};
+ghost use Rattle.std.specs.Prelude.{◌≡◌, ⊤, IfOk, Some};
+ghost use Rattle.std.specs.Option.{option_copied};
 ghost use Rattle.std.specs.Str.{IsUtf8};
-ghost use Rattle.minidump.specs.Dump.{IsDumpErrorOr};
-ghost use Rattle.minidump.specs.DumpValue.{dump_of};
-ghost use Rattle.crash_json.specs.Report.{IsReport, IsReportOn};
+ghost use Rattle.json.specs.Json.{document};
+ghost use Rattle.minidump.specs.Below.Contexts.Context.{map_ok};
+ghost use Rattle.minidump.specs.Below.Format.Answer.{Gives};
+ghost use Rattle.crash.specs.Crash.{crash_in, crash_of};
+ghost use Rattle.crash_json.specs.Report.{json_of, text_of};
 
-mod contents;
-mod crash;
+mod cause;
+mod crashpad;
+mod dump;
 mod error_line;
+mod frames;
+mod modules;
+mod records;
 mod report;
+mod system;
+mod threads;
 
-use contents::{Contents, process_of};
-use directory_json::streams_of;
+use crash::Crash;
 pub use error_line::error_json;
 use json_tree::text_of;
-use minidump::{CodeNames, Error, Minidump};
+use minidump::{CodeNames, Error};
 use report::Report;
-use std::alloc::Global;
-use threads_json::walk_threads;
+use std::alloc::{AllocError, Global};
 
-/// How many candidates are looked for in each thread's stack, and how many frames are written.
+/// How much of a crash is written.
 #[derive(Clone, Copy, Debug, PartialEq, Eq)]
-pub struct Limits {
+pub struct JsonLimits {
     /// How many frames of a thread are written at most.
     pub frames: usize,
-    /// The most words of a stack that are taken for candidates: the `limit` of
-    /// [`stack_walk::frames`].
-    pub scan: usize,
 }
 
-/// Makes the JSON text of the report on a minidump, whose bytes are `bytes`. The names of codes are
-/// those of `names`; `path` is written as it is.
+/// Makes the JSON text of the crash of a minidump, whose bytes are `bytes`. The names of codes are
+/// those of `names`, and at most `scan` words of each stack are taken for candidates. `path` is
+/// written as it is.
 ///
-/// Returns the error of [`Minidump::read`], else `OutOfMemory` if an allocation fails.
+/// Returns the error of [`minidump::Minidump::read`], else `OutOfMemory` if an allocation fails.
 pub fn crash_json(
     alloc: Global,
-    path: &str,
+    path: Option<&str>,
     bytes: &[u8],
     names: &CodeNames<'_>,
-    limits: &Limits,
+    scan: usize,
+    limits: &JsonLimits,
 ) -> Result<Vec<u8>, Error>
-    ensures text { IfOk result
-        (λ text. IsReportOn path.now bytes.now names.now limits.now text.items) }
+    ensures text { Gives (λ text. text.items) ⊤ result
+        (map_ok (text_of limits.now (option_copied path.entry))
+        (crash_in bytes.now names.now scan)) }
     ensures utf8 { IfOk result (λ text. IsUtf8 text.items) }
-    ensures error { IfErr result (IsDumpErrorOr ⊤ bytes.now) }
 {
-    let dump = Minidump::read(alloc, bytes)?;
-    report_on(alloc, path, &dump, names, limits)
+    let crash = Crash::read(alloc, bytes, names, scan)?;
+    let text = json_of(alloc, path, &crash, limits);
+    crash.close();
+    match text {
+        Ok(text) => Ok(text),
+        Err(_) => Err(Error::OutOfMemory),
+    }
 }
 
-// Makes the text of the report on a dump.
-fn report_on<'a>(
+/// Makes the JSON text of a crash. `path` is written as it is.
+pub fn json_of(
     alloc: Global,
-    path: &str,
-    dump: &Minidump<'a>,
-    names: &CodeNames<'_>,
-    limits: &Limits,
-) -> Result<Vec<u8>, Error>
-    ensures text { IfOk result
-        (λ text. IsReport path.now (dump_of dump.now) names.now limits.now text.items) }
+    path: Option<&str>,
+    crash: &Crash<'_>,
+    limits: &JsonLimits,
+) -> Result<Vec<u8>, AllocError>
+    ensures text { IfOk result (λ text. text.items
+        ≡ text_of limits.now (option_copied path.entry) (crash_of crash.now)) }
+    ensures reads { IfOk result (λ text. document text.items
+        ≡ Some (json_of limits.now (option_copied path.entry) (crash_of crash.now))) }
     ensures utf8 { IfOk result (λ text. IsUtf8 text.items) }
-    ensures memory { IsOkUnless result Error.OutOfMemory }
 {
-    let contents = Contents::read(alloc, dump)?;
-    let process = process_of(&contents);
-    let threads = walk_threads(
-        alloc,
-        process.as_ref(),
-        &contents.threads,
-        names,
-        limits.scan,
-    )?;
-    let streams = streams_of(alloc, dump)?;
     let report = Report {
         path,
-        contents: &contents,
-        threads: threads.as_slice(),
-        streams: streams.as_slice(),
-        names,
-        frames: limits.frames,
+        crash,
+        limits: *limits,
     };
-    text_of(alloc, &report)
+    match text_of(alloc, &report) {
+        Ok(text) => Ok(text),
+        Err(_) => Err(AllocError),
+    }
 }

@@ -1,2 +1,2 @@
--- Lemmas of the one summary.
-pub mod OneSummary
+-- What the proofs of several functions need.
+pub mod Threads

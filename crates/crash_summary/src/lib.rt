@@ -1,5 +1,4 @@
-//! Summarises a crash: which thread, where, why, in which module and on which stack, and on which
-//! system. Reads what a dump has of its process, too.
+//! Summarises a crash: which thread, where, why, in which module and on which stack.
 //!
 //! # Errors
 //!
@@ -8,41 +7,34 @@
 //!
 //! # What is proved
 //!
-//! The summary is the one that the format assigns to the bytes and the names: [`summarise`], by
-//! `IsSummaryOf`; an error is the format's, or `OutOfMemory` at a directory with entries. A file
-//! has exactly one summary, if it has a crash: [`laws::one_summary`]. The process is that of the
-//! dump: [`DumpProcess::read`], by `process_in`. The proofs use the contracts of `minidump` and
-//! `stack_walk` and the laws of `minidump`, and nothing below.
+//! The summary is the one that the definition `summary_in` assigns to the bytes and the names, and
+//! so is each error, but for `OutOfMemory`, which comes only at a directory with entries:
+//! [`summarise`]. The proofs use the contracts and the laws of `minidump`, and nothing below.
 #![tactic(auto)]
 
-ghost use Rattle.std.specs.Prelude.{◌≡◌, ◌<◌, IfErr, IfNone, IfOk, IfSome, IsOk, IsOkUnless};
-ghost use Rattle.std.specs.Prelude.{string_bytes};
+ghost use Rattle.std.specs.Prelude.{◌≡◌, IfOk, IsOkUnless, Some, string_bytes};
 ghost use Rattle.std.specs.Option.{option_copied, option_map};
-ghost use Rattle.minidump.specs.declared.MinidumpContextValidity.TheVariants.{All};
-ghost use Rattle.minidump.specs.Below.Format.Answer.{GivesError};
-ghost use Rattle.minidump.specs.Below.MemoryLists.Unified.{unified_list};
-ghost use Rattle.minidump.specs.Below.Modules.Module.{module_of};
-ghost use Rattle.minidump.specs.Dump.{HasEntries, IsFoundStream, dump_system};
+ghost use Rattle.minidump.specs.Below.Format.Answer.{Gives};
+ghost use Rattle.minidump.specs.Below.MemoryLists.Unified.{unified_list, unified_region};
+ghost use Rattle.minidump.specs.Below.Reasons.ReasonText.{reason_text};
+ghost use Rattle.minidump.specs.Crash.{last_with};
+ghost use Rattle.minidump.specs.Dump.{HasEntries, dump_system};
 ghost use Rattle.minidump.specs.DumpValue.{dump_of};
 ghost use Rattle.minidump.specs.Promise.{exception_stream, module_list_stream, system_info_stream};
 ghost use Rattle.minidump.specs.Promise.{thread_list_stream};
-ghost use Rattle.minidump.specs.Thread.{IsLastThread, instruction_of, thread_of};
-ghost use Rattle.crash_summary.specs.Summary.{IsModuleAt, IsStackOf, IsSummary, IsSummaryOf};
-ghost use Rattle.crash_summary.specs.Summary.{address_in, crash_context, crash_in, crash_pointer};
-ghost use Rattle.crash_summary.specs.Summary.{loaded_at, loaded_of, memory_in, modules_in};
-ghost use Rattle.crash_summary.specs.Summary.{reason_in, stack_pointer_of, summary_of, system_in};
-ghost use Rattle.crash_summary.specs.Summary.{threads_in};
+ghost use Rattle.minidump.specs.Thread.{thread_of};
+ghost use Rattle.minidump.specs.ThreadText.{stack_of};
+ghost use Rattle.crash_summary.specs.Summary.{address_in, crash_context, crash_pointer, loaded_of};
+ghost use Rattle.crash_summary.specs.Summary.{memory_in, module_at, modules_in, reason_in, stack_in};
+ghost use Rattle.crash_summary.specs.Summary.{summary_at, summary_in, summary_of, threads_in};
 
 pub mod laws;
-mod process;
 
-use minidump::system_info::{Cpu, Os};
 use minidump::{
-    CodeNames, Error, Minidump, MinidumpContext, MinidumpException, MinidumpModule,
-    MinidumpModuleList, MinidumpSystemInfo, MinidumpThread, MinidumpThreadList, Module,
-    UnifiedMemoryList,
+    CodeNames, CrashReason, Error, Minidump, MinidumpContext, MinidumpException,
+    MinidumpModuleList, MinidumpSystemInfo, MinidumpThread, MinidumpThreadList, Module, Told,
+    UnifiedMemory, UnifiedMemoryList,
 };
-pub use process::{DumpProcess, first_infos, infos_of};
 use std::alloc::Global;
 
 /// The summary of a crash.
@@ -54,19 +46,12 @@ pub struct CrashSummary {
     pub address: Option<u64>,
     /// The reason of the crash in words, or `None` without system information.
     pub reason: Option<String>,
-    /// The instruction pointer of the context of the crash, as [`crash_context`] returns it, or
-    /// `None` without one.
-    pub instruction_pointer: Option<u64>,
-    /// The stack pointer of that context.
-    pub stack_pointer: Option<u64>,
-    /// The module that contains the instruction pointer, or `None` if there is no context or no
-    /// kept module contains it.
+    /// The module that contains the instruction pointer of the exception's context, or of the
+    /// thread's if there is no such context that can be decoded, or `None` if there is neither or
+    /// no kept module contains it.
     pub module: Option<ModuleHit>,
-    /// The stack of the thread, or `None` if there is no such thread or no memory of its stack. Where
-    /// the stack pointer lies elsewhere, `stack_walk` walks another one.
+    /// The stack of the thread, or `None` if there is no such thread or no memory of its stack.
     pub stack: Option<StackHit>,
-    /// The system on which the process ran, or `None` without system information.
-    pub system: Option<CrashSystem>,
 }
 
 /// A module, by its addresses and its name.
@@ -89,17 +74,6 @@ pub struct StackHit {
     pub size: u64,
 }
 
-/// The system on which a process ran.
-#[derive(Clone, Copy, Debug)]
-pub struct CrashSystem {
-    /// The operating system.
-    pub os: Os,
-    /// The architecture of the processors.
-    pub cpu: Cpu,
-    /// The number of processors.
-    pub processors: u8,
-}
-
 /// Summarises the crash of a minidump, whose bytes are `bytes`. The names of codes are those of
 /// `names`.
 ///
@@ -107,65 +81,55 @@ pub struct CrashSystem {
 /// exception is missing or malformed, else `OutOfMemory` if an allocation fails. A directory
 /// without entries takes no memory.
 pub fn summarise(alloc: Global, bytes: &[u8], names: &CodeNames<'_>) -> Result<CrashSummary, Error>
-    ensures summary { IfOk result (λ s. IsSummaryOf bytes.now names.now (summary_of s)) }
-    ensures error { IfErr result (λ e. GivesError (HasEntries bytes.now) e (crash_in bytes.now)) }
+    ensures { Gives summary_of (HasEntries bytes.now) result (summary_in bytes.now names.now) }
 {
     let dump = Minidump::read(alloc, bytes)?;
     let exception = dump.get_stream::<MinidumpException>(alloc)?;
-    summary_in(alloc, &dump, &exception, names)
+    summary_at(alloc, &dump, &exception, names)
 }
 
 // Summarises the crash of an exception.
-fn summary_in<'a>(
+fn summary_at<'a>(
     alloc: Global,
     dump: &Minidump<'a>,
     exception: &MinidumpException<'a>,
     names: &CodeNames<'_>,
 ) -> Result<CrashSummary, Error>
-    ensures value { IfOk result (λ s. IsSummary names.now (dump_of dump.now)
-        (exception_stream.value exception.now) (summary_of s)) }
+    ensures value { IfOk result (λ s. summary_of s ≡ summary_at names.now (dump_of dump.now)
+        (exception_stream.value exception.now)) }
     ensures memory { IsOkUnless result Error.OutOfMemory }
 {
     let system = system_of(alloc, dump)?;
     let system = system.as_ref();
     let threads = threads_of(alloc, dump)?;
-    let thread = crashed_thread(&threads, exception);
+    let thread = last_with(&threads, exception.thread_id);
     let modules = modules_of(alloc, dump)?;
-    let context = crash_context(system, Some(exception), thread);
-    let (instruction_pointer, stack_pointer) = pointers(&context);
+    let pointer = crash_pointer(system, exception, thread);
     let memory = memory_of(alloc, dump)?;
     Ok(CrashSummary {
         thread: exception.thread_id,
         address: address_of(system, exception),
         reason: reason_of(alloc, system, exception, names)?,
-        instruction_pointer,
-        stack_pointer,
-        module: module_at(alloc, &modules, instruction_pointer)?,
+        module: module_at(alloc, &modules, pointer)?,
         stack: stack_of(thread, &memory),
-        system: crash_system(system),
     })
 }
 
-/// Returns the system information of a dump, or `None` if it is missing or malformed. The only
-/// error is [`Error::OutOfMemory`]. A directory without entries takes no memory.
-pub fn system_of(alloc: Global, dump: &Minidump<'_>) -> Result<Option<MinidumpSystemInfo>, Error>
+// Returns the system information, or `None` if it is missing or malformed.
+fn system_of(alloc: Global, dump: &Minidump<'_>) -> Result<Option<MinidumpSystemInfo>, Error>
     ensures value { IfOk result (λ system. option_map system_info_stream.value system
         ≡ dump_system (dump_of dump.now)) }
-    ensures found { IsFoundStream system_info_stream (dump_of dump.now) result }
-    ensures memory { IfErr result (λ e. (e ≡ Error.OutOfMemory)
-        × (0 < (dump_of dump.now).header.stream_count)) }
+    ensures memory { IsOkUnless result Error.OutOfMemory }
 {
     minidump::laws::system_information_is_the_dumps();
     dump.find_stream(alloc)
 }
 
-/// Returns the threads of a dump, an empty list if its list is missing or malformed. The only error
-/// is [`Error::OutOfMemory`]. A directory without entries takes no memory.
-pub fn threads_of<'a>(alloc: Global, dump: &Minidump<'a>) -> Result<MinidumpThreadList<'a>, Error>
+// Returns the threads, an empty list if they are missing or malformed.
+fn threads_of<'a>(alloc: Global, dump: &Minidump<'a>) -> Result<MinidumpThreadList<'a>, Error>
     ensures value { IfOk result (λ threads. thread_list_stream.value threads
         ≡ threads_in (dump_of dump.now)) }
-    ensures memory { IfErr result (λ e. (e ≡ Error.OutOfMemory)
-        × (0 < (dump_of dump.now).header.stream_count)) }
+    ensures memory { IsOkUnless result Error.OutOfMemory }
 {
     match dump.find_stream(alloc)? {
         Some(threads) => Ok(threads),
@@ -175,13 +139,11 @@ pub fn threads_of<'a>(alloc: Global, dump: &Minidump<'a>) -> Result<MinidumpThre
     }
 }
 
-/// Returns the modules of a dump, an empty list if its list is missing or malformed. The only error
-/// is [`Error::OutOfMemory`]. A directory without entries takes no memory.
-pub fn modules_of(alloc: Global, dump: &Minidump<'_>) -> Result<MinidumpModuleList, Error>
+// Returns the modules, an empty list if they are missing or malformed.
+fn modules_of(alloc: Global, dump: &Minidump<'_>) -> Result<MinidumpModuleList, Error>
     ensures value { IfOk result (λ modules. module_list_stream.value modules
         ≡ modules_in (dump_of dump.now)) }
-    ensures memory { IfErr result (λ e. (e ≡ Error.OutOfMemory)
-        × (0 < (dump_of dump.now).header.stream_count)) }
+    ensures memory { IsOkUnless result Error.OutOfMemory }
 {
     match dump.find_stream(alloc)? {
         Some(modules) => Ok(modules),
@@ -189,12 +151,10 @@ pub fn modules_of(alloc: Global, dump: &Minidump<'_>) -> Result<MinidumpModuleLi
     }
 }
 
-/// Returns the memory of a dump, an empty list if its lists are missing or malformed. The only
-/// error is [`Error::OutOfMemory`]. A directory without entries takes no memory.
-pub fn memory_of<'a>(alloc: Global, dump: &Minidump<'a>) -> Result<UnifiedMemoryList<'a>, Error>
+// Returns the memory, an empty list if both lists are missing or malformed.
+fn memory_of<'a>(alloc: Global, dump: &Minidump<'a>) -> Result<UnifiedMemoryList<'a>, Error>
     ensures value { IfOk result (λ memory. unified_list memory ≡ memory_in (dump_of dump.now)) }
-    ensures memory { IfErr result (λ e. (e ≡ Error.OutOfMemory)
-        × (0 < (dump_of dump.now).header.stream_count)) }
+    ensures memory { IsOkUnless result Error.OutOfMemory }
 {
     match dump.get_memory(alloc)? {
         Some(memory) => Ok(memory),
@@ -202,90 +162,46 @@ pub fn memory_of<'a>(alloc: Global, dump: &Minidump<'a>) -> Result<UnifiedMemory
     }
 }
 
-// Returns the thread of an exception.
-fn crashed_thread<'l, 'a>(
-    threads: &'l MinidumpThreadList<'a>,
-    exception: &MinidumpException<'_>,
-) -> Option<&'l MinidumpThread<'a>>
-    ensures { IsLastThread exception.now.thread_id (thread_list_stream.value threads.now)
-        (option_map thread_of (option_copied result)) }
+// Returns the last thread with an id.
+fn last_with<'l, 'a>(list: &'l MinidumpThreadList<'a>, id: u32) -> Option<&'l MinidumpThread<'a>>
+    ensures { option_map thread_of (option_copied result)
+        ≡ last_with id (thread_list_stream.value list.now) }
 {
-    threads.get_thread(exception.thread_id)
+    list.get_thread(id)
 }
 
-/// Returns the context of a thread: the exception's, if there is an exception and its context is
-/// accepted, else the thread's own. Pass the exception only together with the thread on which it
-/// happened.
-///
-/// Returns `None` without system information, or if neither context is there and accepted.
-pub fn crash_context(
+// Returns the context of a crash: the exception's, if it is accepted, else that of the thread.
+fn crash_context(
     system: Option<&MinidumpSystemInfo>,
-    exception: Option<&MinidumpException<'_>>,
+    exception: &MinidumpException<'_>,
     thread: Option<&MinidumpThread<'_>>,
 ) -> Option<MinidumpContext>
-    ensures raw { option_map (λ c. c.raw) result
+    ensures { option_map (λ c. c.raw) result
         ≡ crash_context (option_map system_info_stream.value (option_copied system.entry))
-        (option_map exception_stream.value (option_copied exception.entry))
-        (option_map thread_of (option_copied thread.entry)) }
-    ensures valid { IfSome result (λ c. c.valid ≡ All) }
+        (exception_stream.value exception.now) (option_map thread_of (option_copied thread.entry)) }
 {
     let system = system?;
-    let own = match exception {
-        Some(exception) => exception.context(system, None),
-        None => None,
-    };
-    match own {
+    match exception.context(system, None) {
         Some(context) => Some(context),
         None => thread?.context(system, None),
     }
 }
 
-/// Returns the instruction pointer of a thread: that of its [`crash_context`].
-pub fn instruction_pointer(
+// Returns the instruction pointer of that context.
+fn crash_pointer(
     system: Option<&MinidumpSystemInfo>,
-    exception: Option<&MinidumpException<'_>>,
+    exception: &MinidumpException<'_>,
     thread: Option<&MinidumpThread<'_>>,
 ) -> Option<u64>
-    ensures { result ≡ crash_pointer (option_map system_info_stream.value
-        (option_copied system.entry))
-        (option_map exception_stream.value (option_copied exception.entry))
-        (option_map thread_of (option_copied thread.entry)) }
+    ensures { result
+        ≡ crash_pointer (option_map system_info_stream.value (option_copied system.entry))
+        (exception_stream.value exception.now) (option_map thread_of (option_copied thread.entry)) }
 {
     Some(crash_context(system, exception, thread)?.get_instruction_pointer())
 }
 
-// Returns the instruction pointer and the stack pointer of a context.
-fn pointers(context: &Option<MinidumpContext>) -> (Option<u64>, Option<u64>)
-    ensures instruction { result.0 ≡ instruction_of (option_map (λ c. c.raw) context.now) }
-    ensures stack { result.1 ≡ stack_pointer_of (option_map (λ c. c.raw) context.now) }
-{
-    match context {
-        Some(context) => (
-            Some(context.get_instruction_pointer()),
-            Some(context.get_stack_pointer()),
-        ),
-        None => (None, None),
-    }
-}
-
-// Returns the system of a system information.
-fn crash_system(system: Option<&MinidumpSystemInfo>) -> Option<CrashSystem>
-    ensures { result ≡ system_in (option_map system_info_stream.value
-        (option_copied system.entry)) }
-{
-    let system = system?;
-    Some(CrashSystem {
-        os: system.os,
-        cpu: system.cpu,
-        processors: system.raw.number_of_processors,
-    })
-}
-
-/// Returns the address of a crash, or `None` without system information.
-pub fn address_of(
-    system: Option<&MinidumpSystemInfo>,
-    exception: &MinidumpException<'_>,
-) -> Option<u64>
+// Returns the address of a crash, or `None` without system information.
+fn address_of(system: Option<&MinidumpSystemInfo>, exception: &MinidumpException<'_>) -> Option<u64>
     ensures { result ≡ address_in (option_map system_info_stream.value (option_copied system.entry))
         (exception_stream.value exception.now) }
 {
@@ -293,9 +209,8 @@ pub fn address_of(
     Some(exception.get_crash_address(system.os, system.cpu))
 }
 
-/// Returns the reason of a crash in words, or `None` without system information, and then takes no
-/// memory. The only error is [`Error::OutOfMemory`].
-pub fn reason_of(
+// Returns the reason of a crash in words, or `None` without system information.
+fn reason_of(
     alloc: Global,
     system: Option<&MinidumpSystemInfo>,
     exception: &MinidumpException<'_>,
@@ -305,14 +220,26 @@ pub fn reason_of(
         ≡ reason_in names.now (option_map system_info_stream.value (option_copied system.entry))
         (exception_stream.value exception.now)) }
     ensures memory { IsOkUnless result Error.OutOfMemory }
-    ensures absent { IfNone system.entry (IsOk result) }
 {
-    match system {
-        Some(s) => {
-            let reason = exception.get_crash_reason(s.os, s.cpu, names);
-            Ok(Some(reason.text(alloc, names)?))
-        }
-        None => Ok(None),
+    let Some(system) = system else {
+        return Ok(None);
+    };
+    let reason = exception.get_crash_reason(system.os, system.cpu, names);
+    Ok(Some(text_of(alloc, &reason, names)?))
+}
+
+// Writes the text of a reason into memory. A vector takes all bytes unless memory runs out.
+fn text_of(alloc: Global, reason: &CrashReason, names: &CodeNames<'_>) -> Result<String, Error>
+    ensures value { IfOk result (λ text. string_bytes text ≡ reason_text names.now reason.now) }
+    ensures memory { IsOkUnless result Error.OutOfMemory }
+{
+    let mut out = Told::new(Vec::new(alloc));
+    if reason.write_to(alloc, names, &mut out).is_err() {
+        return Err(Error::OutOfMemory);
+    }
+    match String::from_utf8(out.into_device()) {
+        Ok(text) => Ok(text),
+        Err(_) => unreachable!(),
     }
 }
 
@@ -322,42 +249,47 @@ fn module_at(
     modules: &MinidumpModuleList,
     address: Option<u64>,
 ) -> Result<Option<ModuleHit>, Error>
-    ensures value { IfOk result (λ hit. IsModuleAt (module_list_stream.value modules.now) address
-        (option_map loaded_of hit)) }
+    ensures value { IfOk result (λ hit. option_map loaded_of hit
+        ≡ module_at (module_list_stream.value modules.now) address) }
     ensures memory { IsOkUnless result Error.OutOfMemory }
 {
     let Some(address) = address else {
         return Ok(None);
     };
-    match modules.module_at_address(address) {
-        Some(module) => Ok(Some(hit_of(alloc, module)?)),
-        None => Ok(None),
-    }
-}
-
-// Copies the addresses and the name of a module.
-fn hit_of(alloc: Global, found: &MinidumpModule) -> Result<ModuleHit, Error>
-    ensures value { IfOk result (λ hit. loaded_of hit ≡ loaded_at (module_of found.now)) }
-    ensures memory { IsOkUnless result Error.OutOfMemory }
-{
-    Ok(ModuleHit {
+    let Some(found) = modules.module_at_address(address) else {
+        return Ok(None);
+    };
+    Ok(Some(ModuleHit {
         base: found.base_address(),
         size: found.size(),
         name: String::from_str(alloc, found.code_file())?,
-    })
+    }))
 }
 
-// Returns the stack of a thread: its own, else the region of the memory in which it begins.
+// Returns the stack of a thread.
 fn stack_of<'a>(
     thread: Option<&MinidumpThread<'a>>,
     memory: &UnifiedMemoryList<'a>,
 ) -> Option<StackHit>
-    ensures { IsStackOf (unified_list memory.now)
-        (option_map thread_of (option_copied thread.entry)) result }
+    ensures { result ≡ stack_in (unified_list memory.now)
+        (option_map thread_of (option_copied thread.entry)) }
 {
-    let region = thread?.stack_memory(memory)?;
+    let region = region_of(thread?, memory)?;
     Some(StackHit {
         base: region.base_address(),
         size: region.size(),
     })
+}
+
+// Returns the region of memory that has the stack of a thread: its own, else the one in which it
+// begins.
+fn region_of<'l, 'a>(
+    thread: &'l MinidumpThread<'a>,
+    memory: &'l UnifiedMemoryList<'a>,
+) -> Option<UnifiedMemory<'l, 'a>>
+    ensures { option_map unified_region result
+        ≡ stack_of (Some (unified_list memory.now)) (thread_of thread.now) }
+{
+    minidump::laws::a_report_has_what_a_lookup_returns();
+    thread.stack_memory(memory)
 }

@@ -1,60 +1,66 @@
-use anyhow::Result;
-use crash_summary::DumpProcess;
-use minidump::{Error, Minidump, MinidumpThreadList};
-use stack_walk::{FrameTrust, Process, StackFrame, Walk, walk_thread};
-use std::alloc::Global;
+use crash::{Crash, CrashWalk};
+use stack_walk::FrameTrust;
 use std::io;
 use std::io::Write;
 
-/// Returns a line for each thread of a dump, and after it one for each of its frames, one for why
-/// the last has no caller, and one for each candidate, at most `limit`.
-pub fn frames(alloc: Global, bytes: &[u8], limit: usize) -> Result<Vec<u8>> {
-    let dump = Minidump::read(alloc, bytes)?;
-    let process = DumpProcess::read(alloc, &dump)?.ok_or(Error::StreamNotFound)?;
-    let threads = dump.get_stream(alloc)?;
-    let mut out = Vec::new(alloc);
-    push_threads(alloc, &threads, &process.as_process(), limit, &mut out)?;
-    Ok(out)
-}
-
-// Appends the lines of the threads.
-fn push_threads<'a>(
-    alloc: Global,
-    threads: &MinidumpThreadList<'a>,
-    process: &Process<'_, 'a>,
-    limit: usize,
-    out: &mut Vec<u8>,
-) -> Result<()> {
-    for thread in &threads.threads {
-        writeln!(out, "thread {:#x}", thread.raw.thread_id)?;
-        if let Some(walk) = walk_thread(alloc, process, thread, limit)? {
-            push_walk(&walk, out)?;
+/// Appends a line for each thread of the list, and after it one for each of its frames, one for why
+/// the last has no caller, and one for each candidate.
+pub fn push_frames(crash: &Crash<'_>, out: &mut Vec<u8>) -> io::Result<()> {
+    for thread in &crash.threads.threads {
+        if thread.is_listed {
+            writeln!(out, "thread {:#x}", thread.id)?;
+            push_walk(&thread.walk, out)?;
         }
     }
     Ok(())
 }
 
-// Appends the lines of a walk.
-fn push_walk(walk: &Walk, out: &mut Vec<u8>) -> io::Result<()> {
-    push_frames(walk.frames.as_slice(), out)?;
+// Appends the lines of a walk, if there is one.
+fn push_walk(walk: &Option<CrashWalk>, out: &mut Vec<u8>) -> io::Result<()> {
+    let Some(walk) = walk else {
+        return Ok(());
+    };
+    for frame in &walk.frames {
+        push_frame(frame.instruction, frame.stack_pointer, frame.trust, out)?;
+    }
     writeln!(out, "end {:?}", walk.end)?;
-    push_frames(walk.candidates.as_slice(), out)
-}
-
-// Appends a line for each frame: its instruction pointer, its stack pointer, and what it is known
-// by.
-fn push_frames(frames: &[StackFrame], out: &mut Vec<u8>) -> io::Result<()> {
-    for frame in frames {
-        let trust = match frame.trust {
-            FrameTrust::Context => "context",
-            FrameTrust::FramePointer => "frame pointer",
-            FrameTrust::Scan => "scan",
-        };
-        writeln!(
-            out,
-            "{:#x} {:#x} {trust}",
-            frame.instruction, frame.stack_pointer
-        )?;
+    for frame in &walk.candidates {
+        push_frame(frame.instruction, frame.stack_pointer, frame.trust, out)?;
     }
     Ok(())
+}
+
+// Appends a line for a frame: its instruction pointer, its stack pointer, and what it is known by.
+fn push_frame(
+    instruction: u64,
+    stack_pointer: u64,
+    trust: FrameTrust,
+    out: &mut Vec<u8>,
+) -> io::Result<()> {
+    let trust = match trust {
+        FrameTrust::Context => "context",
+        FrameTrust::FramePointer => "frame pointer",
+        FrameTrust::Scan => "scan",
+    };
+    writeln!(out, "{instruction:#x} {stack_pointer:#x} {trust}")
+}
+
+/// Appends a line for the pointers of the context of the thread that crashed, and one for the
+/// system.
+pub fn push_machine(crash: &Crash<'_>, out: &mut Vec<u8>) -> io::Result<()> {
+    match pointers(crash) {
+        Some((instruction, stack)) => writeln!(out, "pointers {instruction:#x} {stack:#x}")?,
+        None => writeln!(out, "pointers none")?,
+    }
+    match &crash.process.system {
+        Some(s) => writeln!(out, "system {} {} {}", s.os, s.cpu, s.processors),
+        None => writeln!(out, "system none"),
+    }
+}
+
+// Returns the instruction pointer and the stack pointer of the thread that crashed.
+fn pointers(crash: &Crash<'_>) -> Option<(u64, u64)> {
+    let thread = crash.threads.threads.get(crash.threads.crashing?)?;
+    let frame = thread.walk.as_ref()?.frames.first()?;
+    Some((frame.instruction, frame.stack_pointer))
 }

@@ -29,9 +29,11 @@
 //! ```
 //!
 //! - CALL is `report`, which answers as for a sample, or `summary`, the summary of a crash, a line
-//!   for each part. Others take a first WORD: `frames` the most candidates of a scan, for a line
-//!   for each thread, and after it one for each frame, one for why the last of them has no caller,
-//!   and one for each candidate; `debug-id` a debug identifier as Breakpad writes it, for a line for
+//!   for each part, and then the pointers of its context and its system. Others take a first WORD:
+//!   `frames` the most candidates of a scan, for a line for each thread, and after it one for each
+//!   frame, one for why the last of them has no caller, and one for each candidate; `crash` the same
+//!   for what `Crash` has of the directory, the process, the exceptions, the threads and the damage,
+//!   and the status; `debug-id` a debug identifier as Breakpad writes it, for a line for
 //!   each module; and these numbers with commas between them, for lines for each: `at` what is at
 //!   the address, `numbers` the region of memory that contains the address, with the numbers of
 //!   one, two and four bytes there, and `raw` the bytes of the stream of the type.
@@ -52,6 +54,7 @@
 #![tactic(auto)]
 
 mod calls;
+mod crash_lines;
 mod cuts;
 mod frames;
 mod lookup;

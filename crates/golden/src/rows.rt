@@ -27,13 +27,8 @@ pub fn print_differences(rt: &HostRuntime, path: &str) -> Result<()> {
         lengths: 0,
         dumps: 0,
     };
-    for row in &rows_of(rt.alloc(), text.as_str())? {
-        let mut out = Vec::new(rt.alloc());
-        if let Err(error) = push_row(rt.alloc(), row, &mut count, &mut out) {
-            bail!("{row}: {error}");
-        }
-        rt.stdout().write_all(&out)?;
-    }
+    let differences = differences(rt.alloc(), text.as_str(), &mut count)?;
+    rt.stdout().write_all(&differences)?;
     let Count {
         rows,
         lengths,
@@ -41,6 +36,17 @@ pub fn print_differences(rt: &HostRuntime, path: &str) -> Result<()> {
     } = count;
     println!(rt; "{path}: {rows} rows, {lengths} lengths, {dumps} dumps")?;
     Ok(())
+}
+
+// Returns the rows of a text whose answer differs from their lines, and counts all of them.
+fn differences(alloc: Global, text: &str, count: &mut Count) -> Result<Vec<u8>> {
+    let mut out = Vec::new(alloc);
+    for row in &rows_of(alloc, text)? {
+        if let Err(error) = push_row(alloc, row, count, &mut out) {
+            bail!("{row}: {error}");
+        }
+    }
+    Ok(out)
 }
 
 // Returns the rows of a text, each with the lines below it that begin with a space.
@@ -79,20 +85,48 @@ fn push_part<'t>(
 // Appends a row in the byte orders in which the answer isn't what it wants, and counts it.
 fn push_row(alloc: Global, text: &str, count: &mut Count, out: &mut Vec<u8>) -> Result<()> {
     let row = Row::read(alloc, text)?;
-    let wanted = lines_of(alloc, row.wanted.as_bytes())?;
+    count.rows = count.rows.saturating_add(1);
+    for endian in row.orders {
+        push_order(alloc, &row, *endian, count, out)?;
+    }
+    Ok(())
+}
+
+// Does the same in one byte order.
+fn push_order(
+    alloc: Global,
+    row: &Row<'_>,
+    endian: Endian,
+    count: &mut Count,
+    out: &mut Vec<u8>,
+) -> Result<()> {
+    let dump = dump_of(alloc, row, endian)?;
+    push_cuts(row, &cuts_of(alloc, &dump), count, out)?;
+    push_answer(alloc, row, endian, &dump, out)
+}
+
+// Appends a row if its answer isn't what it wants.
+fn push_answer(
+    alloc: Global,
+    row: &Row<'_>,
+    endian: Endian,
+    dump: &[u8],
+    out: &mut Vec<u8>,
+) -> Result<()> {
+    let found = answer(alloc, row, dump)?;
+    if !is_wanted(alloc, &found, row.wanted)? {
+        push_difference(row, endian, dump, &found, out)?;
+    }
+    Ok(())
+}
+
+// Tests whether an answer has the lines that are wanted.
+fn is_wanted(alloc: Global, found: &[u8], wanted: &str) -> Result<bool> {
+    let wanted = lines_of(alloc, wanted.as_bytes())?;
     if wanted.iter().all(|line| is_any(line)) {
         bail!("no line of the answer");
     }
-    count.rows = count.rows.saturating_add(1);
-    for endian in row.orders {
-        let dump = dump_of(alloc, &row, *endian)?;
-        push_cuts(&row, &cuts_of(alloc, &dump), count, out)?;
-        let found = answer(alloc, &row, &dump)?;
-        if !has(&lines_of(alloc, &found)?, &wanted) {
-            push_difference(&row, *endian, &dump, &found, out)?;
-        }
-    }
-    Ok(())
+    Ok(has(&lines_of(alloc, found)?, &wanted))
 }
 
 // Counts the cuts of the dump of a row. Appends a line if one takes more steps than its limit.

@@ -53,14 +53,30 @@ fn read<'a, 'n, S: MinidumpStream<'a> + Drop>(
     most: u128,
 ) -> Reading<'n> {
     let mut steps = Steps::new();
-    let error = dump.get_stream_counted::<S>(alloc, &mut steps).err();
-    let raw = dump.get_raw_stream(S::STREAM_TYPE);
+    let error = error_of::<S>(alloc, dump, &mut steps);
     Reading {
         name,
         error,
-        is_missing: raw.err() == Some(Error::StreamNotFound),
+        is_missing: is_missing(dump, S::STREAM_TYPE),
         is_beyond: steps.count() > most,
     }
+}
+
+// Reads a stream, and returns its error.
+fn error_of<'a, S: MinidumpStream<'a> + Drop>(
+    alloc: Global,
+    dump: &Minidump<'a>,
+    steps: &mut Steps,
+) -> Option<Error> {
+    match dump.get_stream_counted::<S>(alloc, steps) {
+        Ok(_) => None,
+        Err(error) => Some(error),
+    }
+}
+
+// Tells whether the directory has no entry of a number.
+fn is_missing(dump: &Minidump<'_>, stream_type: u32) -> bool {
+    dump.get_raw_stream(stream_type).err() == Some(Error::StreamNotFound)
 }
 
 /// Appends a line for each type of stream that a dump has, which says `ok`, or names its error.

@@ -10,8 +10,7 @@ pub fn push_summary(crash: &CrashSummary, out: &mut Vec<u8>) -> io::Result<()> {
         None => writeln!(out, "address none")?,
     }
     writeln!(out, "reason {}", crash.reason.as_deref().unwrap_or("none"))?;
-    push_spans(crash, out)?;
-    push_machine(crash, out)
+    push_spans(crash, out)
 }
 
 // Appends a line for the module of a crash, and one for the stack.
@@ -29,17 +28,5 @@ fn push_spans(crash: &CrashSummary, out: &mut Vec<u8>) -> io::Result<()> {
     match crash.stack {
         Some(stack) => writeln!(out, "stack {:#x} {:#x}", stack.base, stack.size),
         None => writeln!(out, "stack none"),
-    }
-}
-
-// Appends a line for the pointers of the context of a crash, and one for the system.
-fn push_machine(crash: &CrashSummary, out: &mut Vec<u8>) -> io::Result<()> {
-    match (crash.instruction_pointer, crash.stack_pointer) {
-        (Some(instruction), Some(stack)) => writeln!(out, "pointers {instruction:#x} {stack:#x}")?,
-        _ => writeln!(out, "pointers none")?,
-    }
-    match &crash.system {
-        Some(s) => writeln!(out, "system {} {} {}", s.os, s.cpu, s.processors),
-        None => writeln!(out, "system none"),
     }
 }

@@ -1,10 +1,14 @@
 //! Writes JSON values, an object or an array at a time, over the writer of `json`.
 //!
-//! - A type has a JSON value by [`ToJson`]; the items of a list have theirs by [`ItemJson`], or by
-//!   [`NumberedJson`] where an item's value has its number in it.
-//! - [`put_fields`] adds members whose values have no parts, [`put_member`] one of any value,
-//!   [`put_list`] and [`put_numbered_list`] one whose value is an array, [`put_optional`] one that
-//!   may be `null`. [`put_object`] puts a whole object of values without parts.
+//! - A type has a JSON value by [`ToJson`]; the items of a list have theirs by [`ItemJson`], by
+//!   [`NumberedJson`] where an item's value has its number in it, or by [`ValueJson`] where items
+//!   stand for values, by which the JSON values are told.
+//! - [`put_object_of`] puts an object of members whose values are of one type, [`put_members`] adds
+//!   such members; [`put_object`] and [`put_fields`] are the same for values without parts.
+//! - [`put_array`], [`put_numbered_array`] and [`put_values`] put an array of the items of a list,
+//!   [`put_item_or_null`] and [`put_value_or_null`] a value that may be absent.
+//! - [`put_member`] adds one member of any value, [`put_list`], [`put_numbered_list`] and
+//!   [`put_optional`] one whose value is an array, or may be `null`.
 //! - [`as_text`] borrows a text that may be absent, as a scalar takes it.
 //! - [`text_of`] makes the text of a value.
 //!
@@ -22,5 +26,11 @@
 mod list;
 mod tree;
 
-pub use list::{ItemJson, NumberedJson, put_list, put_numbered_list, put_optional};
-pub use tree::{Scalar, ToJson, as_text, put_fields, put_member, put_object, text_of};
+pub use list::{
+    ItemJson, NumberedJson, ValueJson, put_array, put_item_or_null, put_list, put_numbered_array,
+    put_numbered_list, put_optional, put_value_or_null, put_values,
+};
+pub use tree::{
+    Scalar, ToJson, as_text, put_fields, put_member, put_members, put_object, put_object_of,
+    text_of,
+};

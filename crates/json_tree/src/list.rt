@@ -1,4 +1,5 @@
-ghost use Rattle.std.specs.Prelude.{◌≡◌, ◌++◌, ◌∷◌, ℕ, [], IsOkUnless, OnOk};
+ghost use Rattle.std.specs.Prelude.{◌≡◌, ◌++◌, ◌∷◌, ℕ, [], IsOkUnless, OnOk, map};
+ghost use Rattle.std.specs.Option.{option_map};
 ghost use Rattle.json.specs.Json.{Json};
 ghost use Rattle.json_tree.specs.Tree.{Adds, Puts, array_of, item_tokens, numbered_array_of};
 ghost use Rattle.json_tree.specs.Tree.{numbered_tokens, or_null};
@@ -31,6 +32,62 @@ pub trait NumberedJson<X> {
         ensures { Puts result out.old out.new (json_at self.now number item.now) };
 }
 
+/// Gives items, each of which stands for a value, their JSON values.
+pub trait ValueJson<X> {
+    // the value that an item stands for
+    ghost Value: { Type 0 };
+
+    ghost value_of: { X → Value };
+
+    ghost json_of: { Self → Value → Json };
+
+    /// Puts the value of an item. The only error is `OutOfMemory`.
+    fn put_value(&self, item: &X, out: &mut Writer, alloc: Global) -> Result<(), Error>
+        ensures { Puts result out.old out.new (json_of self.now (value_of item.now)) };
+}
+
+// Items by what they stand for.
+#[derive(Clone, Copy)]
+struct ByValue<'l, F>(&'l F);
+
+impl<X, F: ValueJson<X>> ItemJson<X> for ByValue<'_, F> {
+    ghost json_of = { λ b x. F.json_of b.0.now (F.value_of x) };
+
+    fn put_item(&self, item: &X, out: &mut Writer, alloc: Global) -> Result<(), Error> {
+        self.0.put_value(item, out, alloc)
+    }
+}
+
+/// Puts an array of the values of items, by what each stands for. The only error is `OutOfMemory`.
+pub fn put_values<X, F: ValueJson<X>>(
+    out: &mut Writer,
+    alloc: Global,
+    items: &[X],
+    by: &F,
+) -> Result<(), Error>
+    ensures { Puts result out.old out.new
+        (array_of (F.json_of by.now) (map F.value_of items.now)) }
+{
+    put_array(out, alloc, items, &ByValue(by))
+}
+
+/// Puts the value of an item by what it stands for, or `null`. The only error is `OutOfMemory`.
+pub fn put_value_or_null<X, F: ValueJson<X>>(
+    out: &mut Writer,
+    alloc: Global,
+    item: &Option<X>,
+    by: &F,
+) -> Result<(), Error>
+    ensures { Puts result out.old out.new
+        (or_null (F.json_of by.now) (option_map F.value_of item.now)) }
+{
+    match item {
+        Some(item) => by.put_value(item, out, alloc)?,
+        None => out.null()?,
+    }
+    Ok(())
+}
+
 /// Adds a member with the value of an item, or with `null` if there is none. The only error is
 /// `OutOfMemory`.
 #[tactic(auto, unfolding(crate::specs::Tree::member_list_tokens))]
@@ -49,8 +106,8 @@ pub fn put_optional<X, F: ItemJson<X>>(
     Ok(())
 }
 
-// Puts the value of an item, or `null`.
-fn put_item_or_null<X, F: ItemJson<X>>(
+/// Puts the value of an item, or `null`. The only error is `OutOfMemory`.
+pub fn put_item_or_null<X, F: ItemJson<X>>(
     out: &mut Writer,
     alloc: Global,
     item: &Option<X>,
@@ -100,8 +157,9 @@ pub fn put_numbered_list<X, F: NumberedJson<X>>(
     Ok(())
 }
 
+/// Puts an array of the values of items. The only error is `OutOfMemory`.
 #[tactic(auto, using(crate::proofs::Tokens::array_of_items))]
-fn put_array<X, F: ItemJson<X>>(
+pub fn put_array<X, F: ItemJson<X>>(
     out: &mut Writer,
     alloc: Global,
     items: &[X],
@@ -115,8 +173,10 @@ fn put_array<X, F: ItemJson<X>>(
     Ok(())
 }
 
+/// Puts an array of the values of items, which may depend on their numbers. The only error is
+/// `OutOfMemory`.
 #[tactic(auto, using(crate::proofs::Tokens::array_of_numbered))]
-fn put_numbered_array<X, F: NumberedJson<X>>(
+pub fn put_numbered_array<X, F: NumberedJson<X>>(
     out: &mut Writer,
     alloc: Global,
     items: &[X],

@@ -1,10 +1,11 @@
 ghost use Rattle.std.specs.Prelude.{◌≡◌, ◌≤◌, [], ◌∷◌, IfOk, IsOkUnless, Some, map, string_bytes};
 ghost use Rattle.std.specs.Option.{option_copied, option_map};
 ghost use Rattle.std.specs.Str.{IsUtf8};
-ghost use Rattle.json.specs.Json.{Json, document, max_depth};
+ghost use Rattle.json.specs.Json.{Json, document, max_depth, string};
 ghost use Rattle.json.specs.Print.{print};
 ghost use Rattle.json.specs.Tree.{depth, json_tokens};
-ghost use Rattle.json_tree.specs.Tree.{Adds, Puts, field_of, hex_text, object_of, scalar_json};
+ghost use Rattle.json_tree.specs.Tree.{Adds, Puts, field_of, hex_text, member_of, object_of, or_null};
+ghost use Rattle.json_tree.specs.Tree.{scalar_json};
 
 use json::Writer;
 use minidump_bytes::{Piece, format_pieces};
@@ -18,10 +19,18 @@ pub enum Scalar<'a> {
     Null,
     /// A text, or `null`.
     Text(Option<&'a str>),
+    /// A text that is owned.
+    Owned(&'a String),
+    /// A text that is owned, or `null`.
+    Optional(&'a Option<String>),
     /// A number in decimal, or `null`.
     Number(Option<u64>),
+    /// A count or an index in decimal, or `null`.
+    Count(Option<usize>),
     /// A number in hexadecimal, as the text `"0x1f"`, or `null`.
     Hex(Option<u64>),
+    /// `true` or `false`.
+    Flag(bool),
 }
 
 /// Borrows a text that may be absent.
@@ -44,7 +53,6 @@ pub trait ToJson {
 }
 
 /// Puts an object whose members have no parts. The only error is `OutOfMemory`.
-#[tactic(auto, using(crate::proofs::Tokens::object_of_members))]
 pub fn put_object(
     out: &mut Writer,
     alloc: Global,
@@ -52,14 +60,25 @@ pub fn put_object(
 ) -> Result<(), Error>
     ensures { Puts result out.old out.new (object_of (map field_of fields.now)) }
 {
+    put_object_of(out, alloc, fields)
+}
+
+/// Puts an object of members, whose values are of one type. The only error is `OutOfMemory`.
+#[tactic(auto, using(crate::proofs::Tokens::object_of_members))]
+pub fn put_object_of<T: ToJson>(
+    out: &mut Writer,
+    alloc: Global,
+    members: &[(&str, T)],
+) -> Result<(), Error>
+    ensures { Puts result out.old out.new (object_of (map (member_of T.json) members.now)) }
+{
     out.begin_object()?;
-    put_fields(out, alloc, fields)?;
+    put_members(out, alloc, members)?;
     out.end_object()?;
     Ok(())
 }
 
 /// Adds members without parts to an object. The only error is `OutOfMemory`.
-#[tactic(auto, unfolding(crate::specs::Tree::member_list_tokens))]
 pub fn put_fields(
     out: &mut Writer,
     alloc: Global,
@@ -67,9 +86,21 @@ pub fn put_fields(
 ) -> Result<(), Error>
     ensures { Adds result out.old out.new (map field_of fields.now) }
 {
-    for (name, scalar) in fields {
+    put_members(out, alloc, fields)
+}
+
+/// Adds members to an object, whose values are of one type. The only error is `OutOfMemory`.
+#[tactic(auto, unfolding(crate::specs::Tree::member_list_tokens))]
+pub fn put_members<T: ToJson>(
+    out: &mut Writer,
+    alloc: Global,
+    members: &[(&str, T)],
+) -> Result<(), Error>
+    ensures { Adds result out.old out.new (map (member_of T.json) members.now) }
+{
+    for (name, value) in members {
         out.key(name)?;
-        put_scalar(out, alloc, *scalar)?;
+        value.put(out, alloc)?;
     }
     Ok(())
 }
@@ -89,20 +120,45 @@ pub fn put_member<T: ToJson>(
     Ok(())
 }
 
+impl ToJson for Scalar<'_> {
+    ghost use Rattle.json_tree.specs.Tree.{scalar_json};
+
+    ghost json = { scalar_json };
+
+    fn put(&self, out: &mut Writer, alloc: Global) -> Result<(), Error> {
+        put_scalar(out, alloc, *self)
+    }
+}
+
 // Puts a value without parts.
 fn put_scalar(out: &mut Writer, alloc: Global, scalar: Scalar<'_>) -> Result<(), Error>
     ensures { Puts result out.old out.new (scalar_json scalar.entry) }
 {
     match scalar {
-        Scalar::Text(Some(text)) => out.string(text)?,
+        Scalar::Text(text) => put_text(out, text)?,
+        Scalar::Owned(text) => out.string(text.as_str())?,
+        Scalar::Optional(text) => put_text(out, as_text(text))?,
         Scalar::Number(Some(number)) => out.u64(number)?,
+        Scalar::Count(Some(number)) => out.u64(number as u64)?,
         Scalar::Hex(Some(number)) => {
             let text = hex_text(alloc, number)?;
             out.string(text.as_str())?
         }
-        Scalar::Null | Scalar::Text(None) | Scalar::Number(None) | Scalar::Hex(None) => {
+        Scalar::Flag(flag) => out.boolean(flag)?,
+        Scalar::Null | Scalar::Number(None) | Scalar::Count(None) | Scalar::Hex(None) => {
             out.null()?
         }
+    }
+    Ok(())
+}
+
+// Puts a text that may be absent.
+fn put_text(out: &mut Writer, text: Option<&str>) -> Result<(), Error>
+    ensures { Puts result out.old out.new (or_null string (option_copied text.entry)) }
+{
+    match text {
+        Some(text) => out.string(text)?,
+        None => out.null()?,
     }
     Ok(())
 }

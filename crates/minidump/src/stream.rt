@@ -72,8 +72,9 @@ impl<'a> Minidump<'a> {
         )
     }
 
-    /// Reads the stream of the type `S`, or returns the error for which the dump has none. The
-    /// outer error is [`Error::OutOfMemory`] alone. A directory without entries takes no memory.
+    /// Reads the stream of the type `S`. The inner result is that of [`Minidump::get_stream`], but
+    /// for [`Error::OutOfMemory`], which is the only outer error. A directory without entries takes
+    /// no memory.
     pub fn try_stream<S: MinidumpStream<'a>>(
         &self,
         alloc: Global,

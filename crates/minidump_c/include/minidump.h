@@ -9,17 +9,15 @@
  *
  * A call about a dump returns MINIDUMP_OK or an error, but never MINIDUMP_FILE_NOT_FOUND or MINIDUMP_IO_ERROR. After an
  * error every buffer, number and struct is as it was, but for the line of a malformed text of names. A missing or malformed
- * stream is an error of a call in four cases: the list of modules of minidump_module_table and minidump_module_name, the
- * list of threads of minidump_thread_table and minidump_frames, the exception of minidump_summary and
- * minidump_summary_named, and the system information of minidump_os_version and minidump_os_build. Any other one counts as
- * none; in a report a malformed one is a line.
+ * stream is no error of a call: it counts as none; in a report a malformed one is a line, and minidump_crash has 1 as its
+ * status.
  *
  * Names and reasons are UTF-8; a report also has bytes of the dump as they are. A text that is cut may end within a
  * character. No zero is written after a text, and a name may hold zeros.
  *
  * Codes have no names of their own, so most reasons are numbers, as "unknown 0xc0000005". minidump_report_named and
- * minidump_summary_named take names from a text, such as a file of the folder names, or several of them one after another:
- * with these it is "EXCEPTION_ACCESS_VIOLATION_READ".
+ * minidump_crash take names from a text, such as a file of the folder names, or several of them one after another: with
+ * these it is "EXCEPTION_ACCESS_VIOLATION_READ".
  *
  * An end may be 2^64, which is 0 as a number: test `address - base < size`, not `address < base + size`.
  *
@@ -38,7 +36,7 @@
 #include <stdint.h>
 
 /* The version of what this header declares. It changes with a struct or a call. */
-#define MINIDUMP_VERSION 3
+#define MINIDUMP_VERSION 4
 
 #ifdef __cplusplus
 extern "C" {
@@ -87,6 +85,27 @@ uint32_t minidump_report(const uint8_t *bytes, size_t len, uint8_t *out, size_t 
 uint32_t minidump_report_named(const uint8_t *bytes, size_t len, const uint8_t *names, size_t names_len, uint8_t *out,
                                size_t out_len, size_t *size, uint64_t *line);
 
+/* A region of memory, or none, where the size is 0. */
+struct minidump_region {
+    uint64_t base;
+    uint64_t size;
+};
+
+/* Writes the region of memory that contains the address to *region, zeros if there is none. */
+uint32_t minidump_memory_at(const uint8_t *bytes, size_t len, uint64_t address, struct minidump_region *region);
+
+/* Copies the memory from the address on to the front of out, as far as it fits, and writes the number of bytes that
+ * its region has from there on to *count: 0 where no region contains the address. */
+uint32_t minidump_read_memory(const uint8_t *bytes, size_t len, uint64_t address, uint8_t *out, size_t out_len,
+                              size_t *count);
+
+/* Writes the regions of memory that minidump_memory_at finds, ascending by address, to the front of regions, as far as they
+ * fit, and their number to *count. Regions are taken in the order of their first addresses, of two with the same one the shorter
+ * first, and each is found that overlaps none found before; one without a size, or that would go on beyond the last
+ * address, isn't. A program that asks often keeps this table and searches it by itself. */
+uint32_t minidump_memory_table(const uint8_t *bytes, size_t len, struct minidump_region *regions, size_t regions_len,
+                               size_t *count);
+
 /* An operating system. */
 enum minidump_os {
     MINIDUMP_OS_UNKNOWN = 0,
@@ -114,108 +133,11 @@ enum minidump_cpu {
     MINIDUMP_CPU_MIPS64 = 9
 };
 
-/* The summary of a crash. What is absent has 0 in has_.., and 0 for its numbers. */
-struct minidump_crash {
-    uint64_t address;             /* that the crash is about */
-    uint64_t instruction_pointer; /* of the exception's context, else of the thread's own */
-    uint64_t stack_pointer;
-    uint64_t module_base; /* of the module with the instruction pointer */
-    uint64_t module_size;
-    uint64_t stack_base; /* of the memory that holds the start of the thread's stack; minidump_frames walks the region that holds the stack pointer */
-    uint64_t stack_size;
-    size_t reason_len; /* the sizes of the whole texts */
-    size_t module_len;
-    uint32_t thread; /* the id of the thread */
-    uint8_t has_address;
-    uint8_t has_reason;
-    uint8_t has_module;
-    uint8_t has_stack;
-    uint8_t has_context; /* both pointers */
-    uint8_t has_system;  /* the three numbers below */
-    uint16_t os;         /* enum minidump_os */
-    uint16_t cpu;        /* enum minidump_cpu */
-    uint16_t processors; /* how many */
+/* Whose context the registers are of. */
+enum minidump_context {
+    MINIDUMP_CONTEXT_OF_EXCEPTION = 1, /* the exception's, which happened on the thread */
+    MINIDUMP_CONTEXT_OF_THREAD = 2     /* the thread's own, from when the dump was written */
 };
-
-/* Writes the numbers of a crash to *crash, its reason in words to the front of reason and the name of its module to
- * that of name, each as far as it fits. A dump without an exception has MINIDUMP_STREAM_NOT_FOUND. */
-uint32_t minidump_summary(const uint8_t *bytes, size_t len, struct minidump_crash *crash, uint8_t *reason,
-                          size_t reason_len, uint8_t *name, size_t name_len);
-
-/* The same with the names of codes of a text, as in minidump_report_named. */
-uint32_t minidump_summary_named(const uint8_t *bytes, size_t len, const uint8_t *names, size_t names_len,
-                                struct minidump_crash *crash, uint8_t *reason, size_t reason_len, uint8_t *name,
-                                size_t name_len, uint64_t *line);
-
-/* Writes the version of the operating system, such as 10.0.19041, to the front of out, as far as it fits, and the size of
- * the whole text to *size. A dump without system information has MINIDUMP_STREAM_NOT_FOUND. */
-uint32_t minidump_os_version(const uint8_t *bytes, size_t len, uint8_t *out, size_t out_len, size_t *size);
-
-/* The same for its build: on Windows the service pack, on Linux what the kernel says of itself after its version; a size
- * of 0 if there is none. */
-uint32_t minidump_os_build(const uint8_t *bytes, size_t len, uint8_t *out, size_t out_len, size_t *size);
-
-/* A region of memory, or none, where the size is 0. */
-struct minidump_region {
-    uint64_t base;
-    uint64_t size;
-};
-
-/* Writes the region of memory that contains the address to *region, zeros if there is none. */
-uint32_t minidump_memory_at(const uint8_t *bytes, size_t len, uint64_t address, struct minidump_region *region);
-
-/* Copies the memory from the address on to the front of out, as far as it fits, and writes the number of bytes that
- * its region has from there on to *count: 0 where no region contains the address. */
-uint32_t minidump_read_memory(const uint8_t *bytes, size_t len, uint64_t address, uint8_t *out, size_t out_len,
-                              size_t *count);
-
-/* Writes the regions of memory that minidump_memory_at finds, ascending by address, to the front of regions, as far as they
- * fit, and their number to *count. Regions are taken in the order of their first addresses, of two with the same one the shorter
- * first, and each is found that overlaps none found before; one without a size, or that would go on beyond the last
- * address, isn't. A program that asks often keeps this table and searches it by itself. */
-uint32_t minidump_memory_table(const uint8_t *bytes, size_t len, struct minidump_region *regions, size_t regions_len,
-                               size_t *count);
-
-/* A module: its addresses, and where its name lies in the dump. */
-struct minidump_module {
-    uint64_t base;
-    uint64_t size;
-    /* where the size of the name in bytes stands, in 4 bytes, with the name in UTF-16 after it, both in the byte order
-     * of the dump: little if it begins with MDMP */
-    uint64_t name_rva;
-};
-
-/* Writes the modules, in the order of the dump's list, to the front of modules, as far as they fit, and their number to
- * *count. An entry without addresses is left out. A dump without a list has MINIDUMP_STREAM_NOT_FOUND. */
-uint32_t minidump_module_table(const uint8_t *bytes, size_t len, struct minidump_module *modules, size_t modules_len,
-                               size_t *count);
-
-/* Writes the name of the module with an index in that table, in UTF-8, to the front of out, as far as it fits, and the
- * size of the whole name to *size: 0 for an index past the end of the table. */
-uint32_t minidump_module_name(const uint8_t *bytes, size_t len, size_t index, uint8_t *out, size_t out_len,
-                              size_t *size);
-
-/* A thread. Its stack is where the dump's list says, whether its bytes are in the dump or not. Its pointers are those of the
- * context in the list, which the writer of the dump took: for the thread that crashed that is often within the handler, and
- * minidump_crash has those of the crash. */
-struct minidump_thread {
-    uint64_t instruction_pointer; /* 0 without a context */
-    uint64_t stack_pointer;
-    uint64_t stack_base;
-    uint64_t stack_size;
-    uint32_t id;
-    uint32_t has_context; /* 1 where the registers of the thread can be read, else 0 */
-};
-
-/* Writes the threads, in the order of the dump's list, to the front of threads, as far as they fit, and their number to
- * *count. A dump without a list has MINIDUMP_STREAM_NOT_FOUND. */
-uint32_t minidump_thread_table(const uint8_t *bytes, size_t len, struct minidump_thread *threads, size_t threads_len,
-                               size_t *count);
-
-/* Writes the name of the thread with an id, in UTF-8, to the front of out, as far as it fits, and the size of the whole
- * name to *size: 0 for a thread without a name. */
-uint32_t minidump_thread_name(const uint8_t *bytes, size_t len, uint32_t id, uint8_t *out, size_t out_len,
-                              size_t *size);
 
 /* What a frame is known by. */
 enum minidump_trust {
@@ -224,26 +146,127 @@ enum minidump_trust {
     MINIDUMP_TRUST_SCAN = 3           /* a word of the stack that may be a return address: a candidate */
 };
 
+/* Why the last frame has no caller. */
+enum minidump_end {
+    MINIDUMP_END_NO_MEMORY = 1,           /* the dump has no memory of the stack */
+    MINIDUMP_END_UNKNOWN_WIDTH = 2,       /* nor is the width of an address known */
+    MINIDUMP_END_NO_FRAME_POINTER = 3,    /* the frame pointer isn't known */
+    MINIDUMP_END_ZERO_FRAME_POINTER = 4,  /* it is 0, as a thread's first function finds it */
+    MINIDUMP_END_BELOW_STACK_POINTER = 5, /* it lies below the stack pointer */
+    MINIDUMP_END_NO_RECORD = 6,           /* the memory of the stack doesn't hold both words at it */
+    MINIDUMP_END_NO_CODE = 7              /* the return address is 0, or lies in no module */
+};
+
+/* Where a text lies in the buffer of texts: how many bytes stand before it, and how many it has. That of an absent text has
+ * a len of 0. It may lie past the end of a buffer that is too small: compare both numbers with the buffer's size. */
+struct minidump_span {
+    size_t offset;
+    size_t len;
+};
+
+/* What a dump says of a crash. What is absent has 0 in has_.., and 0 for its numbers. */
+struct minidump_crash {
+    uint64_t address;           /* that the crash is about */
+    uint64_t module_offset;     /* of the address in its module */
+    uint64_t exception_address; /* where the exception happened */
+    uint64_t uptime;            /* for how many seconds the process had run when the dump was written */
+    size_t thread_index;        /* of the thread that crashed, in the table of threads */
+    size_t module;              /* the index of the module that contains the address, in the table of modules */
+    size_t register_size;       /* how many bytes a register has */
+    size_t frame_count;         /* the sizes of the whole tables, and of all texts */
+    size_t register_count;
+    size_t thread_count;
+    size_t module_count;
+    size_t texts_len;
+    struct minidump_span reason;    /* in words */
+    struct minidump_span version;   /* of the operating system, such as 10.0.19041 */
+    struct minidump_span build;     /* of that version: on Windows the service pack, on Linux what the kernel says of itself after it */
+    struct minidump_span cpu_model; /* the description of the processor */
+    uint32_t thread;                /* the id of the thread that crashed */
+    uint32_t code;                  /* of the exception */
+    uint32_t process_id;
+    uint32_t written; /* when, in seconds since 1970; 0 says nothing */
+    uint16_t os;      /* enum minidump_os */
+    uint16_t cpu;     /* enum minidump_cpu */
+    uint16_t processors; /* how many */
+    uint8_t has_exception; /* an exception counts: the last whose code isn't 0, else the last that can be read */
+    uint8_t has_address;
+    uint8_t has_module;
+    uint8_t has_thread;
+    uint8_t has_system; /* the three numbers of the system, and its texts */
+    uint8_t has_process_id;
+    uint8_t has_uptime;
+    uint8_t context;  /* enum minidump_context; 0 without registers */
+    uint8_t walk_end; /* enum minidump_end; 0 without frames */
+    uint8_t status;   /* 1 where something of the dump is there and can't be read, else 0 */
+};
+
 /* A frame of a stack. */
 struct minidump_frame {
+    uint64_t address;           /* by which it is looked up: a return address less one, which lies in the call */
     uint64_t instruction;       /* of the context, or else the return address of the frame before */
     uint64_t stack_pointer;     /* where no context has it, the address after the return address */
     uint64_t frame_pointer;     /* 0 if it isn't known */
-    uint64_t module_base;       /* of the module of the frame, 0 if there is none: a return address is looked up less one */
-    uint64_t module_offset;     /* of the same address in it */
+    size_t module;              /* the index of the module that contains the address, 0 if there is none */
+    uint64_t module_offset;     /* of the address in it */
     uint32_t trust;             /* enum minidump_trust */
     uint16_t has_frame_pointer; /* 1 or 0 */
     uint16_t has_module;        /* 1 or 0 */
 };
 
-/* Writes the frames of the thread with an id, the innermost first, to the front of frames, as far as they fit, and their
- * number to *count: 0 without system information, for an id that no thread of the list has, and for a thread without a
- * context. The last thread of an id counts. For the thread of the crash, which minidump_crash has, the context is the
- * exception's, if it can be read. The stack is the region of the dump that holds the stack pointer, and where none does the
- * thread's own. The callers follow by frame pointers, and after the last of them at most limit candidates. A dump without a
- * list of threads has MINIDUMP_STREAM_NOT_FOUND. */
-uint32_t minidump_frames(const uint8_t *bytes, size_t len, uint32_t id, size_t limit, struct minidump_frame *frames,
-                         size_t frames_len, size_t *count);
+/* A register. */
+struct minidump_register {
+    uint64_t value;
+    struct minidump_span name;
+};
+
+/* A thread. Its stack is where the dump's list says, whether its bytes are in the dump or not. */
+struct minidump_thread {
+    uint64_t stack_base;
+    uint64_t stack_size; /* 0 for none */
+    struct minidump_span name;
+    struct minidump_span last_error; /* in words, as Windows keeps it */
+    size_t frame_count;              /* how many frames it has, without candidates */
+    uint32_t id;
+    uint16_t has_context; /* 1 where there are registers of the thread, else 0 */
+    uint16_t is_listed;   /* 1 for a thread of the dump's list, 0 for that of the exception where the list lacks it */
+};
+
+/* A module. */
+struct minidump_module {
+    uint64_t base;
+    uint64_t end; /* the address after it, 0 if that has more than 64 bits */
+    struct minidump_span path;
+    struct minidump_span version;
+    struct minidump_span code_id;
+    struct minidump_span debug_file; /* the last part of its path */
+    struct minidump_span debug_id;   /* as Breakpad writes it */
+};
+
+/* Reads the crash of a dump, with the names of codes of a text, as in minidump_report_named, and writes its numbers to
+ * *crash. To the fronts of the other buffers go, as far as they fit:
+ * - to frames, those of the thread that crashed, the innermost first, and after them the candidates, at most scan of them;
+ * - to registers, those of that thread;
+ * - to threads, those of the dump's list in its order, and after them that of the exception, where the list lacks it;
+ * - to modules, those of the dump's list in its order;
+ * - to texts, all texts, in which the spans lie.
+ * The numbers of *crash say how large the whole tables and texts are: to ask for these alone, pass lengths of 0. The dump
+ * is read anew at each call, so begin with buffers of a guess, and call again where one was too small.
+ *
+ * The registers are those of the exception's context on its thread, if it can be read, and else of the thread's own. The
+ * stack is the region of the dump that holds the stack pointer, and where none does the thread's own; callers follow by
+ * frame pointers. Frames, registers and the address are those that whocrashed prints. */
+uint32_t minidump_crash(const uint8_t *bytes, size_t len, const uint8_t *names, size_t names_len, size_t scan,
+                        struct minidump_crash *crash, struct minidump_frame *frames, size_t frames_len,
+                        struct minidump_register *registers, size_t registers_len, struct minidump_thread *threads,
+                        size_t threads_len, struct minidump_module *modules, size_t modules_len, uint8_t *texts,
+                        size_t texts_len, uint64_t *line);
+
+/* Reads the crash of a dump, as minidump_crash does, and writes its JSON text to the front of out, as far as it fits, and the
+ * size of the whole text to *size: the line of `whocrashed --json` without the path of a file, with at most frames frames
+ * of a thread. */
+uint32_t minidump_crash_json(const uint8_t *bytes, size_t len, const uint8_t *names, size_t names_len, size_t scan,
+                             size_t frames, uint8_t *out, size_t out_len, size_t *size, uint64_t *line);
 
 #ifdef __cplusplus
 }

@@ -1,3 +1,4 @@
--- Lemmas of the report and of errors.
+-- Lemmas of the report, of errors and of rows.
 pub mod ErrorLemmas
 pub mod ReportLemmas
+pub mod RowLemmas

@@ -1,18 +1,16 @@
 -- The frames of a thread, as rows.
-use Rattle.std.specs.Prelude.{◌≡◌, ℕ, List, [], map, Option, Some, None, Ok, unwrap_or}
+use Rattle.std.specs.Prelude.{ℕ, ◌++◌, List, map, unwrap_or}
 use Rattle.std.specs.Option.{option_map}
-use Rattle.minidump.specs.Below.Modules.Module.{ModuleValue}
-use Rattle.minidump.specs.Dump.{Dump, dump_in, stream_of}
-use Rattle.minidump.specs.Promise.{thread_list_stream}
-use Rattle.minidump.specs.Thread.{IsLastThread, Thread}
-use Rattle.crash_summary.specs.Process.{process_in}
-use Rattle.stack_walk.specs.Lookups.{lookup_address, module_at, module_offset_at}
-use Rattle.stack_walk.specs.Threads.{AreThreadFrames, ProcessValue}
+use Rattle.crash.specs.Frames.{CrashWalkValue}
+use Rattle.crash.specs.declared.frames.CrashFrame.{CrashFrame}
+use Rattle.stack_walk.specs.declared.end.WalkEnd.{WalkEnd}
+use Rattle.stack_walk.specs.declared.end.WalkEnd.TheVariants.{NoMemory, UnknownWidth}
+use Rattle.stack_walk.specs.declared.end.WalkEnd.TheVariants.{NoFramePointer, ZeroFramePointer}
+use Rattle.stack_walk.specs.declared.end.WalkEnd.TheVariants.{BelowStackPointer, NoRecord, NoCode}
 use Rattle.stack_walk.specs.declared.frame.FrameTrust.{FrameTrust}
 use Rattle.stack_walk.specs.declared.frame.FrameTrust.TheVariants.{Context, FramePointer, Scan}
-use Rattle.stack_walk.specs.declared.frame.StackFrame.{StackFrame}
-use Rattle.minidump_c.specs.Summary.{flag}
 use Rattle.minidump_c.specs.declared.frames.FrameRow.{FrameRow}
+use Rattle.minidump_c.specs.Spans.{flag}
 
 -- the numbers of what a frame is known by
 abbrev pub trust_number : FrameTrust → ℕ
@@ -20,36 +18,30 @@ trust_number Context = 1
 trust_number FramePointer = 2
 trust_number Scan = 3
 
--- a frame's numbers: 0 for what it lacks. Its module is the kept one that contains its lookup
--- address
-abbrev pub row_of : List ModuleValue → StackFrame → FrameRow
-row_of modules f = record {
+-- the numbers of why the last frame has no caller
+abbrev pub end_number : WalkEnd → ℕ
+end_number NoMemory = 1
+end_number UnknownWidth = 2
+end_number NoFramePointer = 3
+end_number ZeroFramePointer = 4
+end_number BelowStackPointer = 5
+end_number NoRecord = 6
+end_number NoCode = 7
+
+-- a frame's numbers: 0 for what it lacks, and its instruction where it has no address
+abbrev pub frame_row : CrashFrame → FrameRow
+frame_row f = record {
+  address = unwrap_or f.address f.instruction;
   instruction = f.instruction;
   stack_pointer = f.stack_pointer;
   frame_pointer = unwrap_or f.frame_pointer 0;
-  module_base = unwrap_or (option_map (λ m. m.raw.base_of_image)
-      (module_at modules (lookup_address f))) 0;
-  module_offset = unwrap_or (module_offset_at modules (lookup_address f)) 0;
+  «module» = unwrap_or (option_map (λ p. p.0) f.module) 0;
+  module_offset = unwrap_or (option_map (λ p. p.1) f.module) 0;
   trust = trust_number f.trust;
   has_frame_pointer = flag f.frame_pointer;
-  has_module = flag (module_at modules (lookup_address f));
+  has_module = flag f.module;
 }
 
--- the rows of the frames of a thread of a process
-abbrev pub AreThreadFrameRows : ProcessValue → Thread → ℕ → List FrameRow → Type 0
-AreThreadFrameRows process thread limit rows =
-    (frames : List StackFrame) × AreThreadFrames process thread limit frames
-    × (rows ≡ map (row_of process.modules) frames)
-
--- the same: none without the process or the thread
-abbrev pub AreRowsIn : Option ProcessValue → Option Thread → ℕ → List FrameRow → Type 0
-AreRowsIn (Some process) (Some thread) limit rows = AreThreadFrameRows process thread limit rows
-AreRowsIn (Some process) None limit rows = rows ≡ []
-AreRowsIn None thread limit rows = rows ≡ []
-
--- the rows of the last thread with an id
-abbrev pub AreFrameRows : List ℕ → ℕ → ℕ → List FrameRow → Type 0
-AreFrameRows bytes id limit rows =
-    (dump : Dump) × (threads : List Thread) × (thread : Option Thread) × (dump_in bytes ≡ Ok dump)
-    × (stream_of thread_list_stream dump ≡ Ok threads)
-    × IsLastThread id threads thread × AreRowsIn (process_in dump) thread limit rows
+-- the frames of a walk, and then its candidates
+abbrev pub frame_rows : CrashWalkValue → List FrameRow
+frame_rows w = map frame_row w.frames ++ map frame_row w.candidates

@@ -3,9 +3,10 @@ pub mod Status
 pub mod Names
 pub mod Text
 pub mod Memory
-pub mod Summary
-pub mod System
 pub mod Table
-pub mod Modules
-pub mod Threads
+pub mod Spans
 pub mod Frames
+pub mod Tables
+pub mod Numbers
+pub mod Rows
+pub mod Json

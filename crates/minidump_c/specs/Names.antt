@@ -36,20 +36,22 @@ call_line (OfDump e) old = old
 -- how a call with a text of names ends, which it reads first: by an error of that text, whose line
 -- is told; or the names are those of the text, and it ends as a call with these names does, and
 -- tells no line
-abbrev pub EndsNamed : ℕ → List ℕ → ℕ → ℕ → (Lists → Type 0) → (Error → Type 0) → Type 0 → Type 0
+abbrev pub EndsNamed : ℕ → List ℕ → ℕ → ℕ → (Lists → Type 0) → (Lists → Error → Type 0) → Type 0
+    → Type 0
 EndsNamed status text old new done errors kept =
     ((e : NamesError) × IsNamesTextError text e × (status ≡ names_status e) × (new ≡ line_of e old)
     × kept)
-    ⊎ ((names : Lists) × IsNames text names × Ends status (done names) errors kept × (new ≡ old))
+    ⊎ ((names : Lists) × IsNames text names × Ends status (done names) (errors names) kept
+    × (new ≡ old))
 
 -- what a call with a text of names returns, by the names of the text
 abbrev pub IsNamed : {A : Type 0} → List ℕ → (Lists → A → Type 0) → A → Type 0
 IsNamed text Is x = (names : Lists) × IsNames text names × Is names x
 
 -- the error of such a call: one of the text; or the text has names, and it is one of the call
-abbrev pub IsNamedError : List ℕ → (Error → Type 0) → CallError → Type 0
+abbrev pub IsNamedError : List ℕ → (Lists → Error → Type 0) → CallError → Type 0
 IsNamedError text errors (OfNames e) = IsNamesTextError text e
-IsNamedError text errors (OfDump e) = (names : Lists) × IsNames text names × errors e
+IsNamedError text errors (OfDump e) = (names : Lists) × IsNames text names × errors names e
 
 -- ---- the names of statuses
 

@@ -1,5 +1,5 @@
 -- The status of a call: 0, or the number of an error.
-use Rattle.std.specs.Prelude.{◌≡◌, ◌⊎◌, ℕ, List, Err, Ok, IsOk}
+use Rattle.std.specs.Prelude.{◌≡◌, ◌⊎◌, ℕ, List, IsOk}
 use Rattle.minidump.specs.declared.Error.{Error}
 use Rattle.minidump.specs.declared.Error.TheVariants.{FileNotFound, IoError, MissingHeader}
 use Rattle.minidump.specs.declared.Error.TheVariants.{HeaderMismatch, VersionMismatch}
@@ -8,8 +8,7 @@ use Rattle.minidump.specs.declared.Error.TheVariants.{StreamSizeMismatch, Stream
 use Rattle.minidump.specs.declared.Error.TheVariants.{ModuleReadFailure, MemoryReadFailure}
 use Rattle.minidump.specs.declared.Error.TheVariants.{DataError, CodeViewReadFailure}
 use Rattle.minidump.specs.declared.Error.TheVariants.{UknownElementType, OutOfMemory}
-use Rattle.minidump.specs.Below.System.StreamSpec.{StreamSpec}
-use Rattle.minidump.specs.Dump.{Dump, IsDumpError, IsDumpErrorOr, dump_in, stream_of}
+use Rattle.minidump.specs.Dump.{IsDumpErrorOr, dump_in}
 
 -- the numbers of the errors
 abbrev pub status_of : Error → ℕ
@@ -38,10 +37,3 @@ Ends status done errors kept =
 -- the bytes are no minidump, or memory ran out for the text, which every minidump has
 abbrev pub IsTextError : List ℕ → Error → Type 0
 IsTextError bytes e = IsDumpErrorOr (IsOk (dump_in bytes)) bytes e
-
--- the bytes are no minidump, or memory ran out at a directory with entries, or it is the error of a
--- stream of the dump
-abbrev pub IsStreamError : {S V : Type 0} → StreamSpec S V → List ℕ → Error → Type 0
-IsStreamError spec bytes e =
-    IsDumpError bytes e ⊎ ((dump : Dump) × (dump_in bytes ≡ Ok dump)
-    × (stream_of spec dump ≡ Err e))

@@ -1,39 +1,30 @@
-ghost use Rattle.std.specs.Prelude.{◌≡◌, IfErr, IfOk, IsOkUnless, map, unwrap_or};
-ghost use Rattle.std.specs.Option.{option_copied, option_map};
-ghost use Rattle.minidump.specs.Below.Modules.Module.{module_of};
-ghost use Rattle.minidump.specs.DumpValue.{dump_of};
-ghost use Rattle.minidump.specs.Promise.{module_list_stream, thread_list_stream};
-ghost use Rattle.minidump.specs.Thread.{thread_of};
-ghost use Rattle.crash_summary.specs.Process.{dump_process_of, process_in};
-ghost use Rattle.minidump_c.specs.Frames.{AreFrameRows, AreRowsIn, AreThreadFrameRows, row_of};
-ghost use Rattle.minidump_c.specs.Frames.{trust_number};
-ghost use Rattle.minidump_c.specs.Status.{Ends, IsStreamError};
-ghost use Rattle.minidump_c.specs.Text.{IsFilled};
+ghost use Rattle.std.specs.Prelude.{◌≡◌, [], IfOk, map};
+ghost use Rattle.std.specs.Option.{option_copied, option_map, option_map_or};
+ghost use Rattle.crash.specs.Frames.{crash_walk_of};
+ghost use Rattle.minidump_c.specs.Frames.{end_number, frame_row, frame_rows, trust_number};
 
-use crate::status::status_of;
-use crate::summary::flag;
-use crate::text::fill;
-use crash_summary::DumpProcess;
-use minidump::{
-    Error, Minidump, MinidumpModule, MinidumpModuleList, MinidumpThread, MinidumpThreadList,
-};
-use stack_walk::{FrameTrust, StackFrame, thread_frames};
+use crate::spans::flag;
+use crash::{CrashFrame, CrashWalk};
+use stack_walk::{FrameTrust, WalkEnd};
 use std::alloc::{AllocError, Global};
 
 /// A frame of a stack. A number that is absent is 0.
 #[repr(C)]
 #[derive(Clone, Copy)]
 pub struct FrameRow {
+    /// The address by which it is looked up: of the context the instruction pointer, of a caller or
+    /// a candidate its return address less one, which lies in the call; a return address of 0 as it
+    /// is.
+    pub address: u64,
     /// The instruction pointer of the context, or else the return address of the frame before.
     pub instruction: u64,
     /// The stack pointer: of a caller or a candidate, the address after its return address.
     pub stack_pointer: u64,
     /// The frame pointer.
     pub frame_pointer: u64,
-    /// The first address of the module of the frame.
-    pub module_base: u64,
-    /// The offset in that module: of a caller or a candidate, that of its return address less one,
-    /// which lies in the call.
+    /// The index of the module that contains the address.
+    pub module: usize,
+    /// The offset of the address in that module.
     pub module_offset: u64,
     /// How the frame was found, as a number.
     pub trust: u32,
@@ -43,128 +34,49 @@ pub struct FrameRow {
     pub has_module: u16,
 }
 
-/// Writes the frames of the last thread with an id, the innermost first, to the front of `frames`,
-/// as far as they fit, and their number to `count`: 0 if no thread has the id. At most `limit` of
-/// them are candidates.
-#[unsafe(no_mangle)]
-pub extern "C" fn minidump_frames(
+// Returns the rows of the frames of a walk, and then those of its candidates; none without a walk.
+pub(crate) fn frames_of(
     alloc: Global,
-    bytes: &[u8],
-    id: u32,
-    limit: usize,
-    frames: &mut [FrameRow],
-    count: &mut usize,
-) -> u32
-    ensures { Ends result
-        (IsFilled (AreFrameRows bytes.now id limit) frames.old frames.new count.new)
-        (IsStreamError thread_list_stream bytes.now)
-        ((frames.new ≡ frames.old) × (count.new ≡ count.old)) }
-{
-    match frame_rows(alloc, bytes, id, limit) {
-        Ok(rows) => {
-            *count = fill(rows.as_slice(), frames);
-            0
-        }
-        Err(error) => status_of(error),
-    }
-}
-
-fn frame_rows(alloc: Global, bytes: &[u8], id: u32, limit: usize) -> Result<Vec<FrameRow>, Error>
-    ensures rows { IfOk result (λ rows. AreFrameRows bytes.now id limit rows.items) }
-    ensures error { IfErr result (IsStreamError thread_list_stream bytes.now) }
-{
-    let dump = Minidump::read(alloc, bytes)?;
-    let threads = dump.get_stream::<MinidumpThreadList>(alloc)?;
-    rows_in(alloc, &dump, threads.get_thread(id), limit)
-}
-
-// Returns the rows of the frames of a thread of a dump.
-fn rows_in<'a>(
-    alloc: Global,
-    dump: &Minidump<'a>,
-    thread: Option<&MinidumpThread<'a>>,
-    limit: usize,
-) -> Result<Vec<FrameRow>, Error>
-    ensures rows { IfOk result (λ rows. AreRowsIn (process_in (dump_of dump.now))
-        (option_map thread_of (option_copied thread.entry)) limit rows.items) }
-    ensures memory { IsOkUnless result Error.OutOfMemory }
-{
-    let process = DumpProcess::read(alloc, dump)?;
-    rows_of(alloc, process.as_ref(), thread, limit)
-}
-
-// Returns the rows of the frames of a thread of a process, none without the process or the thread.
-fn rows_of<'a>(
-    alloc: Global,
-    process: Option<&DumpProcess<'a>>,
-    thread: Option<&MinidumpThread<'a>>,
-    limit: usize,
-) -> Result<Vec<FrameRow>, Error>
-    ensures rows { IfOk result (λ rows. AreRowsIn
-        (option_map dump_process_of (option_copied process.entry))
-        (option_map thread_of (option_copied thread.entry)) limit rows.items) }
-    ensures memory { IsOkUnless result Error.OutOfMemory }
-{
-    match (process, thread) {
-        (Some(process), Some(thread)) => thread_frame_rows(alloc, process, thread, limit),
-        _ => Ok(Vec::new(alloc)),
-    }
-}
-
-fn thread_frame_rows<'a>(
-    alloc: Global,
-    process: &DumpProcess<'a>,
-    thread: &MinidumpThread<'a>,
-    limit: usize,
-) -> Result<Vec<FrameRow>, Error>
-    ensures rows { IfOk result (λ rows. AreThreadFrameRows (dump_process_of process.now)
-        (thread_of thread.now) limit rows.items) }
-    ensures memory { IsOkUnless result Error.OutOfMemory }
-{
-    let frames = thread_frames(alloc, &process.as_process(), thread, limit)?;
-    match rows(alloc, &process.modules, frames.as_slice()) {
-        Ok(rows) => Ok(rows),
-        Err(_) => Err(Error::OutOfMemory),
-    }
-}
-
-fn rows(
-    alloc: Global,
-    modules: &MinidumpModuleList,
-    frames: &[StackFrame],
+    walk: Option<&CrashWalk>,
 ) -> Result<Vec<FrameRow>, AllocError>
     ensures { IfOk result (λ rows. rows.items
-        ≡ map (row_of (module_list_stream.value modules.now)) frames.now) }
+        ≡ option_map_or frame_rows (option_map crash_walk_of (option_copied walk.entry)) []) }
 {
-    frames
-        .iter()
-        .map(|frame| row_of(modules, frame))
-        .collect(alloc)
+    match walk {
+        Some(walk) => frame_rows(alloc, walk),
+        None => Ok(Vec::new(alloc)),
+    }
 }
 
-fn row_of(modules: &MinidumpModuleList, frame: &StackFrame) -> FrameRow
-    ensures { result ≡ row_of (module_list_stream.value modules.now) frame.now }
+fn frame_rows(alloc: Global, walk: &CrashWalk) -> Result<Vec<FrameRow>, AllocError>
+    ensures { IfOk result (λ rows. rows.items ≡ frame_rows (crash_walk_of walk.now)) }
 {
-    let module = frame.module(modules);
+    let mut frames = rows(alloc, walk.frames.as_slice())?;
+    let candidates = rows(alloc, walk.candidates.as_slice())?;
+    frames.extend_from_slice(candidates.as_slice())?;
+    Ok(frames)
+}
+
+fn rows(alloc: Global, frames: &[CrashFrame]) -> Result<Vec<FrameRow>, AllocError>
+    ensures { IfOk result (λ rows. rows.items ≡ map frame_row frames.now) }
+{
+    frames.iter().map(|frame| frame_row(frame)).collect(alloc)
+}
+
+fn frame_row(frame: &CrashFrame) -> FrameRow
+    ensures { result ≡ frame_row frame.now }
+{
+    let (module, module_offset) = frame.module.unwrap_or((0, 0));
     FrameRow {
+        address: frame.address.unwrap_or(frame.instruction),
         instruction: frame.instruction,
         stack_pointer: frame.stack_pointer,
         frame_pointer: frame.frame_pointer.unwrap_or(0),
-        module_base: base_of(module),
-        module_offset: frame.module_offset(modules).unwrap_or(0),
+        module,
+        module_offset,
         trust: trust_number(frame.trust),
         has_frame_pointer: flag(&frame.frame_pointer) as u16,
-        has_module: flag(&module) as u16,
-    }
-}
-
-fn base_of(found: Option<&MinidumpModule>) -> u64
-    ensures { result ≡ unwrap_or (option_map (λ m. m.raw.base_of_image)
-        (option_map module_of (option_copied found.entry))) 0 }
-{
-    match found {
-        Some(found) => found.raw.base_of_image,
-        None => 0,
+        has_module: flag(&frame.module) as u16,
     }
 }
 
@@ -176,5 +88,20 @@ fn trust_number(trust: FrameTrust) -> u32
         FrameTrust::Context => 1,
         FrameTrust::FramePointer => 2,
         FrameTrust::Scan => 3,
+    }
+}
+
+// Returns the number of why the last frame has no caller.
+pub(crate) fn end_number(end: WalkEnd) -> u8
+    ensures { result ≡ end_number end }
+{
+    match end {
+        WalkEnd::NoMemory => 1,
+        WalkEnd::UnknownWidth => 2,
+        WalkEnd::NoFramePointer => 3,
+        WalkEnd::ZeroFramePointer => 4,
+        WalkEnd::BelowStackPointer => 5,
+        WalkEnd::NoRecord => 6,
+        WalkEnd::NoCode => 7,
     }
 }

@@ -12,24 +12,21 @@
 //! Of each call, by the bytes of the dump: the status, and what the caller's memory holds after it.
 //!
 //! - The text of the directory and the report, with the size of the whole text: `minidump_dir`,
-//!   `minidump_report`, by `IsDirectoryOf` and `IsReportOf`. The summary of a crash, with the
-//!   system: `minidump_summary`, by `IsSummarised`.
-//! - The same with the names of codes of a text, or the error of that text and the number of its
-//!   line: `minidump_report_named`, `minidump_summary_named`, by `EndsNamed`.
-//! - The version and the build of the operating system: `minidump_os_version`, `minidump_os_build`,
-//!   by `IsVersionOf` and `IsBuildOf`.
+//!   `minidump_report`, by `IsDirectoryOf` and `IsReportOf`. The report with the names of codes of a
+//!   text, or the error of that text and the number of its line: `minidump_report_named`, by
+//!   `EndsNamed`.
+//! - The crash, in numbers, tables and texts, by one read of the dump: `minidump_crash`, by
+//!   `EndsNamed` and `IsTold`. They are the rows that `rows_of` makes of the crash that the crate
+//!   `crash` defines, and each span is where its text lies in the buffer of texts.
+//! - The JSON text of the crash, which is the one that the crate `crash_json` defines:
+//!   `minidump_crash_json`, by `EndsNamed` and `json_in`.
 //! - The memory at an address: `minidump_memory_at`, `minidump_read_memory`, by `IsRegionAt` and
 //!   `IsReadAt`. The regions that lookups find, ascending by address: `minidump_memory_table`, by
 //!   `IsTableOf`.
-//! - The modules and the threads, in the order of the dump's lists, and their names:
-//!   `minidump_module_table`, `minidump_module_name`, by `AreModuleRows` and `IsModuleName`,
-//!   `minidump_thread_table`, `minidump_thread_name`, by `AreThreadRows` and `IsThreadName`.
-//! - The frames of a thread: `minidump_frames`, by `AreFrameRows`, which are those that
-//!   `stack_walk` defines.
 //! - The name of an error: `minidump_error_name`, by `IsNameOf`.
 //!
-//! The proofs use the contracts of `minidump`, `crash_summary`, `stack_walk` and `minidump_names`,
-//! and nothing below.
+//! The proofs use the contracts of `minidump`, `crash`, `crash_json` and `minidump_names`, and nothing
+//! below.
 //!
 //! What isn't: that the header says what these functions are, that an empty slice may come as a
 //! null pointer, which the compiler sees to and a test shows, and that a caller passes true
@@ -38,13 +35,14 @@
 #![tactic(auto)]
 
 mod frames;
+mod json;
 mod memory;
-mod modules;
 mod name;
 mod names;
+mod numbers;
+mod rows;
+mod spans;
 mod status;
-mod summary;
-mod system;
 mod table;
+mod tables;
 mod text;
-mod threads;

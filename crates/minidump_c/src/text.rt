@@ -59,7 +59,7 @@ pub extern "C" fn minidump_report_named(
 ) -> u32
     ensures { EndsNamed result names.now line.old line.new
         (λ lists. IsFilled (IsReportOf bytes.now lists) out.old out.new size.new)
-        (IsTextError bytes.now) ((out.new ≡ out.old) × (size.new ≡ size.old)) }
+        (λ _. IsTextError bytes.now) ((out.new ≡ out.old) × (size.new ≡ size.old)) }
 {
     match named_report(alloc, bytes, names) {
         Ok(text) => {
@@ -86,7 +86,7 @@ fn dir_text(alloc: Global, bytes: &[u8]) -> Result<Vec<u8>, Error>
 // Makes the report with the names of a text.
 fn named_report(alloc: Global, bytes: &[u8], names: &[u8]) -> Result<Vec<u8>, CallError>
     ensures text { IfOk result (λ text. IsNamed names.now (IsReportOf bytes.now) text.items) }
-    ensures error { IfErr result (IsNamedError names.now (IsTextError bytes.now)) }
+    ensures error { IfErr result (IsNamedError names.now (λ _. IsTextError bytes.now)) }
 {
     let table = NameTable::read(alloc, names)?;
     let lists = table.lists(alloc)?;

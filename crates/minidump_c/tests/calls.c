@@ -1,5 +1,6 @@
-/* Calls each function of minidump.h, with arguments whose order shows, and prints what it tells of three dumps: one with
- * regions of memory, one of a crash, and one with the frames of a stack; the last argument is a text of names. */
+/* Calls each function of minidump.h, with arguments whose order shows, and prints what it tells of five dumps: one with
+ * regions of memory, one of a crash, one with the frames of a stack, one that can't be read in part, and one of a crash on a
+ * thread that its list lacks; the last argument is a text of names. */
 #include "minidump.h"
 
 #include <stdio.h>
@@ -64,22 +65,94 @@ static void table(const uint8_t *bytes, size_t len, size_t room) {
     printf("\n");
 }
 
-static void summary(const uint8_t *bytes, size_t len, size_t reason_room, size_t module_room) {
-    struct minidump_crash c = {1, 2, 3, 4, 5, 6, 7, 8, 9, 10, 11, 12, 13, 14, 15, 16, 17, 18, 19};
-    char reason[65] = {0}, module[65] = {0};
-    memset(reason, '#', 64);
-    memset(module, '+', 64);
-    tell("summary", minidump_summary(bytes, len, &c, (uint8_t *)reason, reason_room, (uint8_t *)module, module_room));
-    printf("thread %u; address %u 0x%llx; context %u 0x%llx 0x%llx; reason %u %zu; module %u 0x%llx 0x%llx %zu; stack %u 0x%llx 0x%llx; "
-           "system %u %u %u %u\n%s\n%s\n",
-           c.thread, c.has_address, (unsigned long long)c.address, c.has_context,
-           (unsigned long long)c.instruction_pointer, (unsigned long long)c.stack_pointer, c.has_reason, c.reason_len, c.has_module,
-           (unsigned long long)c.module_base, (unsigned long long)c.module_size, c.module_len, c.has_stack,
-           (unsigned long long)c.stack_base, (unsigned long long)c.stack_size, c.has_system, c.os, c.cpu, c.processors,
-           reason, module);
+/* All that minidump_crash writes, filled with numbers that show what it left as it was. */
+static struct rows {
+    struct minidump_crash crash;
+    struct minidump_frame frames[6];
+    struct minidump_register registers[3];
+    struct minidump_thread threads[3];
+    struct minidump_module modules[3];
+    uint8_t texts[4096];
+    uint64_t line;
+} rows;
+
+/* Calls minidump_crash with room for so many items of each table, at most 3, and so many bytes of texts. */
+static void read_crash(const uint8_t *bytes, size_t len, const char *names, size_t names_len, size_t scan, size_t room, size_t texts) {
+    memset(&rows, '#', sizeof rows);
+    tell("crash", minidump_crash(bytes, len, (const uint8_t *)names, names_len, scan, &rows.crash, rows.frames, 2 * room,
+                                 rows.registers, room, rows.threads, room, rows.modules, room, rows.texts, texts, &rows.line));
 }
 
-/* The reason in the report and in the summary, by a text of names. */
+/* A text with ? for each control character, where the buffer has it. */
+static void print_text(const char *name, struct minidump_span span) {
+    printf(" %s %zu+%zu ", name, span.offset, span.len);
+    if (span.offset < sizeof rows.texts && span.len <= sizeof rows.texts - span.offset)
+        for (size_t i = 0; i < span.len; i++) putchar(rows.texts[span.offset + i] < ' ' ? '?' : rows.texts[span.offset + i]);
+    printf(";");
+}
+
+typedef unsigned long long number;
+
+/* Tells whether a call left a row as it was, and prints its name if so. */
+static int is_left(const char *name, const void *row, size_t size) {
+    for (size_t i = 0; i < size; i++)
+        if (((const char *)row)[i] != '#') return 0;
+    printf("  %s as it was\n", name);
+    return 1;
+}
+
+static void crash(const uint8_t *bytes, size_t len, const char *names, size_t names_len, size_t scan, size_t room, size_t texts) {
+    read_crash(bytes, len, names, names_len, scan, room, texts);
+    struct minidump_crash *c = &rows.crash;
+    if (is_left("crash", &rows, sizeof rows)) return;
+    printf("exception %u 0x%x 0x%llx; address %u 0x%llx; module %u %zu 0x%llx; thread %u %zu %u; context %u %zu; end %u; status %u\n",
+           c->has_exception, c->code, (number)c->exception_address, c->has_address, (number)c->address, c->has_module, c->module,
+           (number)c->module_offset, c->has_thread, c->thread_index, c->thread, c->context, c->register_size, c->walk_end, c->status);
+    printf("system %u %u %u %u; process %u %u; uptime %u %llu; written %u; frames %zu registers %zu threads %zu modules %zu texts %zu\n",
+           c->has_system, c->os, c->cpu, c->processors, c->has_process_id, c->process_id, c->has_uptime, (number)c->uptime,
+           c->written, c->frame_count, c->register_count, c->thread_count, c->module_count, c->texts_len);
+    print_text("reason", c->reason);
+    print_text("version", c->version);
+    print_text("build", c->build);
+    print_text("cpu_model", c->cpu_model);
+    printf("\n");
+    for (int i = 0; i < 6; i++) {
+        struct minidump_frame *f = &rows.frames[i];
+        if (is_left("frame", f, sizeof *f)) continue;
+        printf("  frame 0x%llx 0x%llx 0x%llx %u 0x%llx %u %zu 0x%llx %u\n", (number)f->address, (number)f->instruction,
+               (number)f->stack_pointer, f->has_frame_pointer, (number)f->frame_pointer, f->has_module, f->module,
+               (number)f->module_offset, f->trust);
+    }
+    for (int i = 0; i < 3; i++) {
+        if (is_left("register", &rows.registers[i], sizeof rows.registers[i])) continue;
+        printf("  register 0x%llx", (number)rows.registers[i].value);
+        print_text("name", rows.registers[i].name);
+        printf("\n");
+    }
+    for (int i = 0; i < 3; i++) {
+        struct minidump_thread *t = &rows.threads[i];
+        if (is_left("thread", t, sizeof *t)) continue;
+        printf("  thread %u %u %u 0x%llx 0x%llx %zu", t->id, t->has_context, t->is_listed, (number)t->stack_base, (number)t->stack_size,
+               t->frame_count);
+        print_text("name", t->name);
+        print_text("last_error", t->last_error);
+        printf("\n");
+    }
+    for (int i = 0; i < 3; i++) {
+        struct minidump_module *m = &rows.modules[i];
+        if (is_left("module", m, sizeof *m)) continue;
+        printf("  module 0x%llx 0x%llx", (number)m->base, (number)m->end);
+        print_text("path", m->path);
+        print_text("version", m->version);
+        print_text("code_id", m->code_id);
+        print_text("debug_file", m->debug_file);
+        print_text("debug_id", m->debug_id);
+        printf("\n");
+    }
+    printf("%llx %.8s\n", (number)rows.line, (char *)rows.texts);
+}
+
+/* The reason in the report and in the crash, by a text of names. */
 static void named(const uint8_t *bytes, size_t len, const char *names, size_t names_len) {
     static char report[1 << 17];
     size_t size = 77;
@@ -91,33 +164,26 @@ static void named(const uint8_t *bytes, size_t len, const char *names, size_t na
     const char *reason = strstr(report, "crash_reason");
     printf("%llu %.8s %.*s\n", (unsigned long long)line, report, reason ? (int)strcspn(reason, "\n") : 0, reason);
 
-    struct minidump_crash c = {1, 2, 3, 4, 5, 6, 7, 8, 9, 10, 11, 12, 13, 14, 15, 16, 17, 18, 19};
-    char words[65] = {0}, module[17] = {0};
-    memset(words, '#', 64);
-    memset(module, '+', 16);
-    line = 79;
-    tell("summary_named", minidump_summary_named(bytes, len, (const uint8_t *)names, names_len, &c, (uint8_t *)words, 64,
-                                                 (uint8_t *)module, 16, &line));
-    printf("%llu thread %u; reason %u %zu; module %zu; processors %u\n%s\n%s\n", (unsigned long long)line, c.thread,
-           c.has_reason, c.reason_len, c.module_len, c.processors, words, module);
+    read_crash(bytes, len, names, names_len, 8, 3, sizeof rows.texts);
+    printf("%llx", (number)rows.line);
+    print_text("reason", rows.crash.reason);
+    printf("\n");
 }
 
-static void frames(const uint8_t *bytes, size_t len, uint32_t id, size_t limit, size_t room) {
-    struct minidump_frame rows[6];
-    size_t count = 77;
-    for (int i = 0; i < 6; i++) rows[i] = (struct minidump_frame){71, 72, 73, 74, 75, 76, 77, 78};
-    tell("frames", minidump_frames(bytes, len, id, limit, rows, room, &count));
-    printf("%zu:\n", count);
-    for (int i = 0; i < 6; i++)
-        printf("  0x%llx 0x%llx %u 0x%llx %u 0x%llx 0x%llx %u\n", (unsigned long long)rows[i].instruction,
-               (unsigned long long)rows[i].stack_pointer, rows[i].has_frame_pointer, (unsigned long long)rows[i].frame_pointer,
-               rows[i].has_module, (unsigned long long)rows[i].module_base, (unsigned long long)rows[i].module_offset,
-               rows[i].trust);
+/* The beginning of the JSON text, and what stands at its end, and after it or after the room for it. */
+static void json(const uint8_t *bytes, size_t len, const char *names, size_t names_len, size_t room) {
+    static char text[1 << 16];
+    size_t size = 77;
+    uint64_t line = 78;
+    memset(text, '#', sizeof text - 1);
+    tell("crash_json", minidump_crash_json(bytes, len, (const uint8_t *)names, names_len, 8, 10, (uint8_t *)text, room, &size, &line));
+    size_t end = size < room ? size : room;
+    printf("%llu %d %.30s .. %.3s\n", (number)line, size < room, text, text + (end < 3 ? 0 : end - 2));
 }
 
 /* NULL is taken where the number after it is 0. */
 static void nulls(const uint8_t *bytes, size_t len) {
-    size_t size[9] = {77, 77, 77, 77, 77, 77, 77, 77, 77};
+    size_t size[6] = {77, 77, 77, 77, 77, 77};
     uint64_t line = 78;
     struct minidump_crash c;
     struct minidump_region region;
@@ -125,59 +191,25 @@ static void nulls(const uint8_t *bytes, size_t len) {
     printf(" %u", minidump_dir(bytes, len, NULL, 0, &size[0]));
     printf(" %u", minidump_report(bytes, len, NULL, 0, &size[1]));
     printf(" %u", minidump_report_named(bytes, len, NULL, 0, NULL, 0, &size[2], &line));
-    printf(" %u", minidump_os_version(bytes, len, NULL, 0, &size[3]));
-    printf(" %u", minidump_read_memory(bytes, len, 0x12f000, NULL, 0, &size[4]));
-    printf(" %u", minidump_memory_table(bytes, len, NULL, 0, &size[5]));
-    printf(" %u", minidump_module_table(bytes, len, NULL, 0, &size[6]));
-    printf(" %u", minidump_thread_table(bytes, len, NULL, 0, &size[7]));
-    printf(" %u", minidump_frames(bytes, len, 0x1234, 0, NULL, 0, &size[8]));
-    printf(" %u", minidump_summary(bytes, len, &c, NULL, 0, NULL, 0));
-    printf(" %u:", minidump_summary_named(bytes, len, NULL, 0, &c, NULL, 0, NULL, 0, &line));
-    for (int i = 0; i < 9; i++) printf(" %zu", size[i]);
-    printf(" %zu %zu %llu\n", c.reason_len, c.module_len, (unsigned long long)line);
+    printf(" %u", minidump_read_memory(bytes, len, 0x12f000, NULL, 0, &size[3]));
+    printf(" %u", minidump_memory_table(bytes, len, NULL, 0, &size[4]));
+    printf(" %u", minidump_crash_json(bytes, len, NULL, 0, 8, 10, NULL, 0, &size[5], &line));
+    printf(" %u:", minidump_crash(bytes, len, NULL, 0, 8, &c, NULL, 0, NULL, 0, NULL, 0, NULL, 0, NULL, 0, &line));
+    for (int i = 0; i < 5; i++) printf(" %zu", size[i]);
+    printf(" %d", size[5] > 1000);
+    printf(" %zu %zu %zu %llu\n", c.frame_count, c.module_count, c.texts_len, (number)line);
     printf("%u", minidump_dir(NULL, 0, NULL, 0, &size[0]));
     printf(" %u", minidump_report(NULL, 0, NULL, 0, &size[1]));
-    printf(" %u", minidump_summary(NULL, 0, &c, NULL, 0, NULL, 0));
-    printf(" %u", minidump_memory_at(NULL, 0, 0, &region));
-    printf(" %u\n", minidump_frames(NULL, 0, 0, 0, NULL, 0, &size[8]));
-}
-
-static void modules(const uint8_t *bytes, size_t len, size_t room, size_t index) {
-    struct minidump_module rows[2] = {{71, 72, 73}, {74, 75, 76}};
-    size_t count = 77, size = 77;
-    char name[33] = {0};
-    memset(name, '#', 32);
-    tell("module_table", minidump_module_table(bytes, len, rows, room, &count));
-    printf("%zu:", count);
-    for (int i = 0; i < 2; i++)
-        printf(" 0x%llx 0x%llx 0x%llx", (unsigned long long)rows[i].base, (unsigned long long)rows[i].size,
-               (unsigned long long)rows[i].name_rva);
-    printf("\n");
-    tell("module_name", minidump_module_name(bytes, len, index, (uint8_t *)name, 31, &size));
-    printf("%zu %s\n", size, name);
-}
-
-static void threads(const uint8_t *bytes, size_t len, size_t room, uint32_t id) {
-    struct minidump_thread rows[2] = {{71, 72, 73, 74, 75, 76}, {81, 82, 83, 84, 85, 86}};
-    size_t count = 77, size = 77;
-    char name[17] = {0};
-    memset(name, '#', 16);
-    tell("thread_table", minidump_thread_table(bytes, len, rows, room, &count));
-    printf("%zu:", count);
-    for (int i = 0; i < 2; i++)
-        printf(" %u %u 0x%llx 0x%llx 0x%llx 0x%llx", rows[i].id, rows[i].has_context,
-               (unsigned long long)rows[i].instruction_pointer, (unsigned long long)rows[i].stack_pointer,
-               (unsigned long long)rows[i].stack_base, (unsigned long long)rows[i].stack_size);
-    printf("\n");
-    tell("thread_name", minidump_thread_name(bytes, len, id, (uint8_t *)name, 15, &size));
-    printf("%zu %s\n", size, name);
+    printf(" %u", minidump_crash(NULL, 0, NULL, 0, 0, &c, NULL, 0, NULL, 0, NULL, 0, NULL, 0, NULL, 0, &line));
+    printf(" %u\n", minidump_memory_at(NULL, 0, 0, &region));
 }
 
 int main(int argc, char **argv) {
-    if (argc != 5) return 2;
-    size_t len = 0, crash_len = 0, trace_len = 0, names_len = 0;
-    uint8_t *regions = load(argv[1], &len), *crash = load(argv[2], &crash_len), *trace = load(argv[3], &trace_len);
-    char *names = (char *)load(argv[4], &names_len);
+    if (argc != 7) return 2;
+    size_t len = 0, dump_len = 0, trace_len = 0, damaged_len = 0, unlisted_len = 0, names_len = 0;
+    uint8_t *regions = load(argv[1], &len), *dump = load(argv[2], &dump_len), *trace = load(argv[3], &trace_len);
+    uint8_t *damaged = load(argv[4], &damaged_len), *unlisted = load(argv[5], &unlisted_len);
+    char *names = (char *)load(argv[6], &names_len);
 
     for (uint32_t status = 0; status <= 18; status++) tell("error_name", status);
     text("dir", minidump_dir, regions, len);
@@ -188,39 +220,31 @@ int main(int argc, char **argv) {
     table(regions, len, 3);
     table(regions, len, 1);
     table(regions, 31, 3);
-    summary(crash, crash_len, 64, 64);
-    summary(crash, crash_len, 7, 11);
-    summary(regions, len, 64, 64);
-    summary(crash, 31, 64, 64);
-    modules(crash, crash_len, 2, 0);
-    modules(crash, crash_len, 1, 1);
-    modules(regions, len, 2, 0);
-    modules(crash, 31, 2, 0);
-    threads(crash, crash_len, 2, 0x11);
-    threads(crash, crash_len, 1, 1);
-    threads(regions, len, 2, 1);
-    threads(crash, 31, 2, 0x11);
-    text("os_version", minidump_os_version, crash, crash_len);
-    text("os_build", minidump_os_build, crash, crash_len);
-    text("os_build", minidump_os_build, regions, len);
-    frames(trace, trace_len, 0x50, 8, 6);
-    frames(trace, trace_len, 0x50, 0, 2);
-    frames(trace, trace_len, 0x51, 8, 6);
-    frames(trace, trace_len, 1, 8, 6);
-    frames(crash, crash_len, 0x1234, 8, 6);
-    frames(regions, len, 1, 8, 6);
-    frames(trace, 31, 0x50, 8, 6);
-    named(crash, crash_len, names, names_len);
+    crash(dump, dump_len, "", 0, 8, 3, sizeof rows.texts);
+    crash(dump, dump_len, names, names_len, 8, 1, 7);
+    crash(trace, trace_len, "", 0, 8, 3, sizeof rows.texts);
+    crash(trace, trace_len, names, names_len, 0, 2, sizeof rows.texts);
+    crash(damaged, damaged_len, "", 0, 8, 3, sizeof rows.texts);
+    crash(unlisted, unlisted_len, "", 0, 8, 3, sizeof rows.texts);
+    crash(regions, len, "", 0, 8, 3, sizeof rows.texts);
+    crash(dump, 31, "", 0, 8, 3, sizeof rows.texts);
+    json(dump, dump_len, names, names_len, 1 << 15);
+    json(dump, dump_len, "", 0, 40);
+    json(dump, 31, "", 0, 40);
+    json(dump, dump_len, "Linux\n", 6, 40);
+    named(dump, dump_len, names, names_len);
     named(trace, trace_len, names, names_len);
-    named(crash, crash_len, "", 0);
-    named(crash, crash_len, "# none\n\nWindows 0xc0000005\n", 27);
-    named(crash, 31, "Linux 11 SIGSEGV\nLinux 11 SIGSEGV\n", 34);
-    named(crash, 31, names, names_len);
+    named(dump, dump_len, "", 0);
+    named(dump, dump_len, "# none\n\nWindows 0xc0000005\n", 27);
+    named(dump, 31, "Linux 11 SIGSEGV\nLinux 11 SIGSEGV\n", 34);
+    named(dump, 31, names, names_len);
     named(regions, len, names, names_len);
-    nulls(crash, crash_len);
+    nulls(dump, dump_len);
     free(regions);
-    free(crash);
+    free(dump);
     free(trace);
+    free(damaged);
+    free(unlisted);
     free(names);
     return 0;
 }

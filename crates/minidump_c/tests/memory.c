@@ -37,13 +37,14 @@ static size_t len;
 
 /* All that a call may write. */
 static struct written {
-    uint8_t text[1 << 16], other[64];
+    uint8_t text[1 << 16];
     size_t size;
     struct minidump_region region, regions[64];
     struct minidump_crash crash;
-    struct minidump_module modules[8];
-    struct minidump_thread threads[8];
     struct minidump_frame frames[8];
+    struct minidump_register registers[32];
+    struct minidump_thread threads[8];
+    struct minidump_module modules[8];
     uint64_t line;
 } written, whole, before;
 
@@ -53,19 +54,12 @@ static uint32_t call(int which) {
     switch (which) {
     case 0: return minidump_dir(bytes, len, w->text, sizeof w->text, &w->size);
     case 1: return minidump_report(bytes, len, w->text, sizeof w->text, &w->size);
-    case 2: return minidump_summary(bytes, len, &w->crash, w->other, sizeof w->other, w->text, sizeof w->text);
-    case 3: return minidump_memory_at(bytes, len, 0x12f000, &w->region);
-    case 4: return minidump_memory_table(bytes, len, w->regions, 64, &w->size);
-    case 5: return minidump_module_table(bytes, len, w->modules, 8, &w->size);
-    case 6: return minidump_module_name(bytes, len, 0, w->text, sizeof w->text, &w->size);
-    case 7: return minidump_thread_table(bytes, len, w->threads, 8, &w->size);
-    case 8: return minidump_thread_name(bytes, len, 0x11, w->text, sizeof w->text, &w->size);
-    case 9: return minidump_frames(bytes, len, 0x1234, 8, w->frames, 8, &w->size);
-    case 10: return minidump_os_version(bytes, len, w->text, sizeof w->text, &w->size);
-    case 11: return minidump_os_build(bytes, len, w->text, sizeof w->text, &w->size);
-    case 12: return minidump_report_named(bytes, len, names, sizeof names - 1, w->text, sizeof w->text, &w->size, &w->line);
-    case 13: return minidump_summary_named(bytes, len, names, sizeof names - 1, &w->crash, w->other, sizeof w->other, w->text,
-                                           sizeof w->text, &w->line);
+    case 2: return minidump_memory_at(bytes, len, 0x12f000, &w->region);
+    case 3: return minidump_memory_table(bytes, len, w->regions, 64, &w->size);
+    case 4: return minidump_report_named(bytes, len, names, sizeof names - 1, w->text, sizeof w->text, &w->size, &w->line);
+    case 5: return minidump_crash(bytes, len, names, sizeof names - 1, 8, &w->crash, w->frames, 8, w->registers, 32, w->threads, 8,
+                                  w->modules, 8, w->text, sizeof w->text, &w->line);
+    case 6: return minidump_crash_json(bytes, len, names, sizeof names - 1, 8, 10, w->text, sizeof w->text, &w->size, &w->line);
     default: return minidump_read_memory(bytes, len, 0x12f000, w->text, sizeof w->text, &w->size);
     }
 }
@@ -77,7 +71,7 @@ int main(int argc, char **argv) {
     fclose(file);
     memset(&before, '#', sizeof before);
     int bad = 0;
-    for (int which = 0; which < 15; which++) {
+    for (int which = 0; which < 8; which++) {
         long held = live, told = 0;
         uint32_t wanted = call(which);
         memcpy(&whole, &written, sizeof whole);

@@ -1,6 +1,5 @@
-use crate::crash::{crash, names, reason_text, summary};
+use crate::crashes::{crash, names, reason_text, summary};
 use crate::device::Device;
-use crate::frames::walk;
 use crate::records::{
     annotations, code_ids, crashpad_module, handles, identities, mac_records, module_list,
     new_modules, unloaded_list,
@@ -13,6 +12,7 @@ use crate::streams::{copy, show};
 use crate::texts::{
     assertion_texts, contexts, linux_texts, other_contexts, system_texts, thread_infos,
 };
+use crate::value::value;
 use crate::whole::{exceptions, find, read, read_path, read_whole, report, try_names};
 use crate::world::World;
 use minidump::format::MINIDUMP_STREAM_TYPE::{self, *};
@@ -64,7 +64,7 @@ pub enum Call {
     ReasonText,
     Names,
     Summary,
-    Frames,
+    CrashValue,
 }
 
 impl Call {
@@ -155,7 +155,7 @@ pub const CALLS: &[(&str, Call)] = &[
     ("reason-text", Call::ReasonText),
     ("names", Call::Names),
     ("summary", Call::Summary),
-    ("frames", Call::Frames),
+    ("crash-value", Call::CrashValue),
 ];
 
 /// Makes a call.
@@ -201,6 +201,6 @@ pub fn make(world: &World<'_>, call: Call, out: &mut Told<Device>) -> Result<(),
         Call::ReasonText => reason_text(world, out),
         Call::Names => names(world, out),
         Call::Summary => summary(world, out),
-        Call::Frames => walk(world, out),
+        Call::CrashValue => value(world, out),
     }
 }

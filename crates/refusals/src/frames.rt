@@ -1,23 +1,10 @@
-use crate::device::Device;
-use crate::world::{World, put_line};
-use minidump::format::CONTEXT_AMD64;
-use minidump::system_info::PointerWidth;
-use minidump::{
-    Endian, Error, MinidumpContext, MinidumpMemory, MinidumpModule, MinidumpModuleList,
-    MinidumpRawContext, Told, UnifiedMemory, UnifiedMemoryInfoList,
+use minidump::Endian;
+use minidump::format::{
+    CONTEXT_AMD64, MINIDUMP_MEMORY_DESCRIPTOR, MINIDUMP_MODULE, MINIDUMP_STREAM_TYPE as Type,
+    MINIDUMP_SYSTEM_INFO, MINIDUMP_THREAD,
 };
-use minidump_synth::zeroed;
-use stack_walk::{Stack, StackFrame, frames};
+use minidump_synth::{SynthMinidump, zeroed};
 use std::alloc::{AllocError, Global};
-
-/// Walks a stack with callers and candidates.
-pub fn walk(world: &World<'_>, out: &mut Told<Device>) -> Result<(), Error> {
-    for frame in &walked(world.alloc)? {
-        let text = format!(in world.alloc; "{:#x} {:#x}", frame.instruction, frame.stack_pointer)?;
-        put_line(out, Some(text.as_str()))?;
-    }
-    Ok(())
-}
 
 // Six records, each of which leads to the one after it, and six words, all in a module.
 const WORDS: &[u64] = &[
@@ -25,43 +12,52 @@ const WORDS: &[u64] = &[
     0x4007, 0x4008, 0x4009, 0x400a, 0x400b, 0x400c,
 ];
 
-fn words(alloc: Global) -> Result<Vec<u8>, AllocError> {
-    let mut bytes = Vec::new(alloc);
-    for word in WORDS {
-        bytes.extend_from_slice(&word.to_le_bytes())?;
-    }
-    Ok(bytes)
-}
-
-fn modules(alloc: Global) -> Result<MinidumpModuleList, Error> {
-    let mut modules = Vec::new(alloc);
-    modules.push(MinidumpModule::new(alloc, 0x4000, 0x100, "a")?)?;
-    MinidumpModuleList::from_modules(alloc, modules)
-}
-
-fn context() -> MinidumpContext {
-    MinidumpContext::from_raw(MinidumpRawContext::Amd64(CONTEXT_AMD64 {
-        rbp: 0x1000,
+/// Makes a dump of a thread whose stack has callers and candidates.
+pub fn with_frames(alloc: Global) -> Result<Vec<u8>, AllocError> {
+    let mut dump = SynthMinidump::new(alloc, Endian::Little);
+    let system = MINIDUMP_SYSTEM_INFO {
+        processor_architecture: 9,
+        platform_id: 2,
         ..zeroed()
-    }))
+    };
+    dump.add_stream(Type::SystemInfoStream as u32, &system);
+    let module = MINIDUMP_MODULE {
+        base_of_image: 0x4000,
+        size_of_image: 0x100,
+        module_name_rva: dump.add_text16("a"),
+        ..zeroed()
+    };
+    dump.add_stream(
+        Type::ModuleListStream as u32,
+        dump.section().list(&[module]),
+    );
+    add_thread(&mut dump);
+    dump.finish()
 }
 
-fn walked(alloc: Global) -> Result<Vec<StackFrame>, Error> {
-    let bytes = words(alloc)?;
-    let memory = MinidumpMemory {
-        desc: zeroed(),
-        base_address: 0x1000,
-        size: bytes.len() as u64,
-        bytes: bytes.as_slice(),
-        endian: Endian::Little,
+fn add_thread(dump: &mut SynthMinidump) {
+    let mut words = dump.section();
+    for word in WORDS {
+        words.u64(*word);
+    }
+    let stack = MINIDUMP_MEMORY_DESCRIPTOR {
+        start_of_memory_range: 0x1000,
+        memory: dump.add_located(&words),
     };
-    let modules = modules(alloc)?;
-    let infos = UnifiedMemoryInfoList::empty(alloc);
-    let stack = Stack {
-        memory: Some(UnifiedMemory::Memory(&memory)),
-        modules: &modules,
-        infos: &infos,
-        width: PointerWidth::Bits64,
+    let thread = MINIDUMP_THREAD {
+        thread_id: 1,
+        stack,
+        thread_context: dump.add_located(&CONTEXT_AMD64 {
+            context_flags: 0x10_000b,
+            rsp: 0x1000,
+            rbp: 0x1000,
+            rip: 0x4010,
+            ..zeroed()
+        }),
+        ..zeroed()
     };
-    frames(alloc, &stack, &context(), 8)
+    dump.add_stream(
+        Type::ThreadListStream as u32,
+        dump.section().list(&[thread]),
+    );
 }

@@ -18,18 +18,20 @@
 
 mod calls;
 mod check;
-mod crash;
+mod crashes;
 mod device;
 mod frames;
 mod records;
 mod regions;
 mod streams;
 mod texts;
+mod value;
 mod whole;
 mod world;
 
 use crate::calls::{CALLS, Call};
 use crate::check::{Answer, call_twice, is_read, is_told};
+use crate::frames::with_frames;
 use crate::world::World;
 use minidump::Endian;
 use minidump_synth::every_stream;
@@ -48,8 +50,14 @@ fn run(rt: &HostRuntime) -> io::Result<bool> {
     let words: Vec<String> = env::args(rt)?.collect(rt.alloc())?;
     let path = words.get(1).map_or("", |word| word.as_str());
     let how = words.get(2).map_or("", |word| word.as_str());
+    run_on(rt, path, how)
+}
+
+// Makes them on a dump with a stream of each type, and on one with frames.
+fn run_on(rt: &HostRuntime, path: &str, how: &str) -> io::Result<bool> {
     let bytes = every_stream(rt.alloc(), Endian::Little)?;
-    match World::read(rt, path, &bytes) {
+    let frames = with_frames(rt.alloc())?;
+    match World::read(rt, path, &bytes, &frames) {
         Ok(world) => make_all(rt, &world, how),
         Err(_) => Ok(false),
     }

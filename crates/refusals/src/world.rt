@@ -13,6 +13,8 @@ pub struct World<'a> {
     pub path: &'a str,
     /// The bytes of the dump.
     pub bytes: &'a [u8],
+    /// The bytes of a dump with frames and candidates.
+    pub frames: &'a [u8],
     /// The dump.
     pub dump: Minidump<'a>,
     /// The system information of the dump.
@@ -23,7 +25,12 @@ pub struct World<'a> {
 
 impl<'a> World<'a> {
     /// Reads the dump.
-    pub fn read(rt: &'a HostRuntime, path: &'a str, bytes: &'a [u8]) -> Result<World<'a>, Error> {
+    pub fn read(
+        rt: &'a HostRuntime,
+        path: &'a str,
+        bytes: &'a [u8],
+        frames: &'a [u8],
+    ) -> Result<World<'a>, Error> {
         let alloc = rt.alloc();
         let dump = Minidump::read(alloc, bytes)?;
         let system = dump.get_stream::<MinidumpSystemInfo>(alloc)?;
@@ -33,6 +40,7 @@ impl<'a> World<'a> {
             rt,
             path,
             bytes,
+            frames,
             dump,
             system,
             memory,

@@ -1,7 +1,4 @@
 // Tests of `minidump_format`. The records are those of `synth`, which writes them too.
 mod errors;
 mod flags;
-mod numbers;
-mod print;
 mod stream_type;
-mod xstate;

@@ -3,19 +3,19 @@ use minidump_bytes::Steps;
 use minidump_format::Error;
 use minidump_index::{AddressIndex, Range, RegionList};
 use std::alloc::{AllocError, Global};
+use std::test::Fail;
 
 // The ranges of regions, by their bases and sizes.
 fn ranges_of(alloc: Global, regions: &[(u64, u64)]) -> Result<Vec<Option<Range>>, AllocError> {
     let mut ranges = Vec::new(alloc);
-    for &(base, size) in regions {
-        ranges.push(Range::from_size(base, size))?;
+    for (base, size) in regions {
+        ranges.push(Range::from_size(*base, *size))?;
     }
     Ok(ranges)
 }
 
 fn index_of(alloc: Global, regions: &[(u64, u64)]) -> Result<AddressIndex, Error> {
-    let ranges = ranges_of(alloc, regions)?;
-    AddressIndex::build(alloc, &ranges)
+    AddressIndex::build(alloc, ranges_of(alloc, regions)?.as_slice())
 }
 
 // The second has the addresses of the first, the third and the fourth share some with it, the fifth
@@ -45,22 +45,18 @@ const KEPT: &[(&[(u64, u64)], &[usize])] = &[
     (&[], &[]),
 ];
 
-fn kept_are(alloc: Global, row: &(&[(u64, u64)], &[usize])) -> Result<bool, Error> {
-    let index = index_of(alloc, row.0)?;
+// Whether those are kept, from both ends.
+fn kept_are(index: &AddressIndex, kept: &[usize]) -> bool {
     let mut ascending = index.by_addr();
+    let mut holds = index.len() == kept.len();
+    for kept_index in kept {
+        holds = holds && ascending.next() == Some(*kept_index);
+    }
     let mut descending = index.by_addr();
-    Ok(
-        index.len() == row.1.len()
-            && row
-                .1
-                .iter()
-                .all(|kept_index| ascending.next() == Some(*kept_index))
-            && row
-                .1
-                .iter()
-                .rev()
-                .all(|kept_index| descending.next_back() == Some(*kept_index)),
-    )
+    for kept_index in kept.iter().rev() {
+        holds = holds && descending.next_back() == Some(*kept_index);
+    }
+    holds
 }
 
 // An address, and the index of the region of `SIX` that contains it.
@@ -70,13 +66,22 @@ const FOUND: &[(u64, Option<usize>)] = &[
     (0x2fff, Some(5)), (0x3000, None), (u64::MAX, None),
 ];
 
-fn six_are_found(alloc: Global) -> Result<bool, Error> {
-    let index = index_of(alloc, SIX)?;
-    Ok(
-        FOUND
-            .iter()
-            .all(|row| index.find(row.0, &mut Steps::new()) == row.1),
-    )
+#[test]
+fn keeps_what_shares_no_address(rt: HostRuntime) -> Result<(), Fail> {
+    for (regions, kept) in KEPT {
+        assert!(rt;
+            kept_are(&index_of(rt.alloc(), *regions)?, *kept),
+            "{regions:?}"
+        );
+    }
+    let index = index_of(rt.alloc(), SIX)?;
+    for (address, found) in FOUND {
+        assert!(rt;
+            index.find(*address, &mut Steps::new()) == *found,
+            "{address}"
+        );
+    }
+    Ok(())
 }
 
 // Eight regions of four addresses, ascending.
@@ -90,118 +95,46 @@ const DOWN: &[(u64, u64)] = &[(70, 4), (60, 4), (50, 4), (40, 4), (30, 4), (20, 
 // With how many regions a lookup, of the base of each of the first regions of `UP`, compares: one a
 // level of the complete tree whose last level is filled from the left, and none of that level where
 // it has no region below the others.
-#[rattlefmt::skip]
-const DEPTHS: &[&[(u64, u128)]] = &[
+const DEPTHS: &[&[u128]] = &[
     &[],
-    &[(0, 1)],
-    &[(0, 2), (10, 1)],
-    &[(0, 2), (10, 2), (20, 2)],
-    &[(0, 3), (10, 2), (20, 2), (30, 2)],
-    &[(0, 3), (10, 3), (20, 3), (30, 2), (40, 2)],
-    &[(0, 3), (10, 3), (20, 3), (30, 3), (40, 3), (50, 2)],
-    &[(0, 3), (10, 3), (20, 3), (30, 3), (40, 3), (50, 3), (60, 3)],
-    &[(0, 4), (10, 3), (20, 3), (30, 3), (40, 3), (50, 3), (60, 3), (70, 3)],
+    &[1],
+    &[2, 1],
+    &[2, 2, 2],
+    &[3, 2, 2, 2],
+    &[3, 3, 3, 2, 2],
+    &[3, 3, 3, 3, 3, 2],
+    &[3, 3, 3, 3, 3, 3, 3],
+    &[4, 3, 3, 3, 3, 3, 3, 3],
 ];
 
-fn comparisons(index: &AddressIndex, address: u64) -> u128 {
-    let mut steps = Steps::new();
-    index.find(address, &mut steps);
-    steps.count()
-}
-
-fn is_as_deep(
-    alloc: Global,
-    regions: Option<&[(u64, u64)]>,
-    depths: &[(u64, u128)],
-) -> Result<bool, Error> {
-    let index = index_of(alloc, regions.unwrap_or(&[]))?;
-    Ok(depths.iter().all(|row| comparisons(&index, row.0) == row.1))
-}
-
-fn depths_are(alloc: Global, depths: &[(u64, u128)]) -> Result<bool, Error> {
-    let count = depths.len();
-    Ok(
-        is_as_deep(alloc, UP.get(..count), depths)?
-            && is_as_deep(alloc, DOWN.get(8_usize.saturating_sub(count)..), depths)?,
-    )
-}
-
-// The walk is taken from both ends in turn.
-fn walks_from_both_ends(alloc: Global) -> Result<bool, Error> {
-    let index = index_of(alloc, &[(0, 4), (10, 4), (20, 4), (30, 4)])?;
-    let mut indices = index.by_addr();
-    Ok(
-        [
-            indices.next(),
-            indices.next_back(),
-            indices.next(),
-            indices.next_back(),
-            indices.next(),
-        ] == [Some(0), Some(3), Some(1), Some(2), None],
-    )
-}
-
-// A region may end at the last address, and none goes on beyond it.
-fn ranges_end_at_the_last_address() -> bool {
-    let last = u64::MAX;
-    Range::from_size(last, 1) == Some(Range::new(last, last))
-        && Range::from_size(last, 2) == None
-        && Range::from_size(1, last) == Some(Range::new(1, last))
-        && Range::from_size(2, last) == None
-        && Range::from_size(0x10, 0) == None
-}
-
-fn start_at(list: &RegionList<Option<Range>>, address: u64) -> Option<u64> {
-    Some((*list.at_address(address, &mut Steps::new())?)?.start)
-}
-
-// A lookup in a list, at both ends of a region and after it.
-fn is_found_in(list: &RegionList<Option<Range>>, base: u64, compared: u128) -> bool {
-    let mut steps = Steps::new();
-    list.at_address(base, &mut steps);
-    steps.count() == compared
-        && start_at(list, base) == Some(base)
-        && start_at(list, base.wrapping_add(3)) == Some(base)
-        && start_at(list, base.wrapping_add(4)) == None
-}
-
-// A list that ascends is its own order by address, and its lookups go down the same tree.
-fn finds_regions_that_ascend(alloc: Global, depths: &[(u64, u128)]) -> Result<bool, Error> {
-    let regions = UP.get(..depths.len()).unwrap_or(&[]);
+// Whether lookups compare with so many of these regions. A list that ascends is its own order by
+// address, and its lookups go down the same tree.
+fn depths_are(alloc: Global, regions: &[(u64, u64)], depths: &[u128]) -> Result<bool, Error> {
+    let index = index_of(alloc, regions)?;
     let list = RegionList::from_regions(alloc, ranges_of(alloc, regions)?)?;
-    let mut ascending = list.by_addr();
-    let mut descending = list.by_addr();
-    Ok(
-        ascending.len() == regions.len()
-            && depths
-                .iter()
-                .all(|&(base, compared)| is_found_in(&list, base, compared))
-            && regions.iter().all(|&(base, size)| ascending.next().copied()
-                == Some(Range::from_size(base, size)))
-            && regions.iter().rev().all(|&(base, size)| descending.next_back().copied()
-                == Some(Range::from_size(base, size)))
-            && start_at(&list, u64::MAX) == None,
-    )
-}
-
-#[test]
-fn keeps_what_shares_no_address(rt: HostRuntime) {
-    for row in KEPT {
-        assert!(rt; kept_are(rt.alloc(), row) == Ok(true), "{:?}", row.0);
+    let mut holds = index.len() == depths.len();
+    for ((base, _), depth) in UP.iter().zip(depths) {
+        let mut steps = Steps::new();
+        index.find(*base, &mut steps);
+        let mut of_list = Steps::new();
+        let found = list.at_address(*base, &mut of_list).copied().flatten();
+        holds = holds
+            && steps.count() == *depth
+            && of_list.count() == *depth
+            && found == Range::from_size(*base, 4);
     }
-    assert!(rt; walks_from_both_ends(rt.alloc()) == Ok(true) && ranges_end_at_the_last_address());
+    Ok(holds)
 }
 
 #[test]
-fn finds_regions_down_a_complete_tree(rt: HostRuntime) {
-    let alloc = rt.alloc();
-    assert!(rt; six_are_found(alloc) == Ok(true));
+fn finds_regions_down_a_complete_tree(rt: HostRuntime) -> Result<(), Fail> {
     for depths in DEPTHS {
-        assert!(rt; depths_are(alloc, depths) == Ok(true), "{}", depths.len());
-        assert!(rt;
-            finds_regions_that_ascend(alloc, depths) == Ok(true),
-            "{}",
-            depths.len()
-        );
+        let up = UP.get(..depths.len()).unwrap_or(&[]);
+        let down = DOWN
+            .get(8_usize.saturating_sub(depths.len())..)
+            .unwrap_or(&[]);
+        assert!(rt; depths_are(rt.alloc(), up, *depths)?, "{}", depths.len());
+        assert!(rt; depths_are(rt.alloc(), down, *depths)?, "{}", depths.len());
     }
+    Ok(())
 }

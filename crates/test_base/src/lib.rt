@@ -8,6 +8,9 @@
 #![tactic(auto)]
 
 #[cfg(test)]
+use std::process::Abort;
+
+#[cfg(test)]
 mod bytes;
 #[cfg(test)]
 mod format;
@@ -17,3 +20,9 @@ mod index;
 mod synth;
 #[cfg(test)]
 mod system;
+
+// Stops a test whose text is another one, and shows both. A text is also short where memory ran out.
+#[cfg(test)]
+fn assert_text(rt: &impl Abort, found: &str, want: &str) {
+    assert_eq!(rt; found, want);
+}

@@ -1,12 +1,15 @@
-use crash_page::Page;
+use crash_text::push_line;
 use minidump::text::Piece;
 use std::io;
 
 /// Prints a line on a path to standard error.
 pub(crate) fn complain<'w>(rt: &HostRuntime, path: &'w str, words: &'w str) -> io::Result<()> {
-    let mut page = Page::new(rt.alloc());
-    page.line(&[Piece::Words(path), Piece::Words(": "), Piece::Words(words)])?;
-    eprint!(rt; "{}", page.text())
+    let mut text = String::new(rt.alloc());
+    push_line(
+        &mut text,
+        &[Piece::Words(path), Piece::Words(": "), Piece::Words(words)],
+    )?;
+    eprint!(rt; "{text}")
 }
 
 /// Prints a line on a path and an error to standard error.

@@ -4,24 +4,26 @@
 //!
 //! Of each dump, in the order of the arguments, it prints
 //!
-//! - the lines of [`crash_lines::add_dump`], under the dump's path if there are several;
-//! - with `--json` the line of JSON of [`crash_json::crash_json`]. A file that can't be read, or is
+//! - the lines of [`crash_text::text_of`], under the dump's path if there are several;
+//! - with `--json` the line of JSON of [`crash_json::json_of`]. A file that can't be read, or is
 //!   no dump, has a line too, whose `status` says why, so that there are as many lines as dumps;
 //! - with `--html`, which takes one dump, the page of [`crash_html::page`].
 //!
-//! Codes have the names of [`known_names::text`], or instead those of the file of `--names`.
+//! A dump is read once, into a [`crash::Crash`], and all three are made of that. Codes have the names of [`known_names::text`], or instead those of the file of `--names`.
 //!
 //! # Errors
 //!
 //! Status 1: a file can't be read or is no dump, which is said on standard error, or in its line of
-//! JSON; or, among lines of text, a stream, a context or a stack can't be read. The other dumps are
-//! printed all the same. Status 2: the arguments are malformed, or one isn't UTF-8. A closed pipe
-//! ends the program quietly, with status 0.
+//! JSON; or a stream, a context or a stack can't be read, in each of the three forms. The other
+//! dumps are printed all the same. Status 2: the arguments are malformed, or one isn't UTF-8. A
+//! closed pipe ends the program quietly, with status 0.
 //!
 //! # What is proved
 //!
-//! The dumps are the values of the argument `DUMP`, in their order: `dumps_of`. No status is above
-//! 2: `run`. What is printed of a dump is proved in the crates below.
+//! The dumps are the values of the argument `DUMP`, in their order: `dumps_of`. The status of a dump
+//! is that of the crash that its bytes hold, whatever the form: `report_bytes`. No status is above
+//! 2: `run`. What is made of a crash is proved in the crates below; that it is what is printed is
+//! not.
 #![tactic(auto)]
 
 mod complain;

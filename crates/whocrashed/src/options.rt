@@ -4,14 +4,14 @@ ghost use Rattle.whocrashed.specs.Options.{IsFlag, IsNumber, form_by};
 
 use clap::error::ErrorKind;
 use clap::{Arg, ArgAction, ArgMatches, Command, Error, value_parser};
-use crash_lines::Limits;
+use crash_text::TextLimits;
 use std::alloc::{AllocError, Global};
 
 const ABOUT: &str =
     "Prints who crashed, where, why and by whom called: for each minidump the system and the process; the thread, the
-address, the reason and the registers of the crash, and the frames of that thread; an assertion, Crashpad's
-annotations and macOS's messages; the first frame of each other thread; and the modules that these lines name,
-with what a symbol server is asked by.";
+address, the reason and the registers of the crash; what of the dump can't be read; the frames of that thread; an
+assertion, Crashpad's annotations and macOS's messages; the first frame of each other thread; and the modules that
+these lines name, with what a symbol server is asked by.";
 
 const EXAMPLES: &str = "Examples:
   whocrashed crash.dmp
@@ -19,8 +19,8 @@ const EXAMPLES: &str = "Examples:
   whocrashed --html crash.dmp > crash.html
   find dumps -name '*.dmp' -print0 | xargs -0 -n 64 whocrashed --json > crashes.jsonl
 
-The exit status is 0; 1 if a file can't be read or is no minidump, or, with lines of text, if a stream that is wanted
-can't be read or the bytes of a context or a stack are outside the file; 2 if the arguments are refused.";
+The exit status is 0; 1 if a file can't be read or is no minidump, if a stream of it is there and can't be read, or if
+the bytes of a context or a stack are outside the file; 2 if the arguments are refused.";
 
 // The defaults of --frames and --scan.
 const FRAMES: &str = "64";
@@ -42,7 +42,8 @@ pub(crate) enum Form {
 #[derive(Drop)]
 pub(crate) struct Options<'w> {
     pub(crate) form: Form,
-    pub(crate) limits: Limits,
+    pub(crate) limits: TextLimits,
+    pub(crate) scan: usize,
     pub(crate) names: Option<&'w str>,
     pub(crate) shows_progress: bool,
     pub(crate) dumps: Vec<&'w str>,
@@ -80,6 +81,7 @@ fn options_of<'w>(alloc: Global, matches: &ArgMatches<'w>) -> Result<Options<'w>
     Ok(Options {
         form: form_of(matches),
         limits: limits_of(matches),
+        scan: scan_of(matches),
         names: matches.get_str("names"),
         shows_progress: matches.get_flag("progress"),
         dumps: dumps_of(alloc, matches)?,
@@ -106,17 +108,22 @@ fn form_by(json: bool, html: bool) -> Form
     }
 }
 
-fn limits_of(matches: &ArgMatches<'_>) -> Limits
+fn limits_of(matches: &ArgMatches<'_>) -> TextLimits
     ensures frames { IsNumber (found_of matches.now) (codes "frames") result.frames }
-    ensures scan { IsNumber (found_of matches.now) (codes "scan") result.scan }
     ensures all_threads { IsFlag (found_of matches.now) (codes "all-threads") result.all_threads }
+    ensures lists { IsFlag (found_of matches.now) (codes "lists") result.lists }
 {
-    Limits {
+    TextLimits {
         frames: number_of(matches, "frames"),
-        scan: number_of(matches, "scan"),
         all_threads: matches.get_flag("all-threads"),
-        says_more: true,
+        lists: matches.get_flag("lists"),
     }
+}
+
+fn scan_of(matches: &ArgMatches<'_>) -> usize
+    ensures { IsNumber (found_of matches.now) (codes "scan") result }
+{
+    number_of(matches, "scan")
 }
 
 // Returns the number of an option. clap has a default for each, and returns an error for a text
@@ -163,6 +170,11 @@ fn args<'w>(alloc: Global) -> Result<Vec<Arg<'w>>, AllocError> {
             alloc,
             "all-threads",
             "Print all frames of each thread in the lines of text",
+        ),
+        flag(
+            alloc,
+            "lists",
+            "Print all streams, modules, regions of memory and handles in the lines of text",
         ),
         number(
             alloc,

@@ -1,11 +1,11 @@
-ghost use Rattle.std.specs.Prelude.{◌≡◌, ◌<◌, ◌≤◌, IfOk, if◌then◌else◌};
+ghost use Rattle.std.specs.Prelude.{◌≡◌, ◌<◌, ◌≤◌, IfOk};
 
 use crate::complain::{complain, complain_at_end, complain_of};
 use crate::options::{Form, Options};
 use crate::report::Reporter;
 use clap::Error;
 use clap::error::ErrorKind;
-use crash_page::Page;
+use crash_text::push_line;
 use minidump::text::Piece;
 use minidump_names::NameTable;
 use std::{fs, io};
@@ -48,16 +48,15 @@ pub(crate) fn complain_of_arguments(rt: &HostRuntime, error: &io::Error) -> u8
 fn answer(rt: &HostRuntime, error: &Error) -> io::Result<u8>
     ensures { IfOk result (λ status. status ≤ 2) }
 {
-    let mut page = Page::new(rt.alloc());
-    let text = format!(in rt.alloc(); "{error}")?;
-    for line in text.lines() {
-        page.line(&[Piece::Words(line)])?;
+    let mut text = String::new(rt.alloc());
+    for line in format!(in rt.alloc(); "{error}")?.lines() {
+        push_line(&mut text, &[Piece::Words(line)])?;
     }
     if !error.use_stderr() {
-        print!(rt; "{}", page.text())?;
+        print!(rt; "{text}")?;
         return Ok(0);
     }
-    eprint!(rt; "{}", page.text())?;
+    eprint!(rt; "{text}")?;
     Ok(if error.kind() == ErrorKind::OutOfMemory {
         1
     } else {
@@ -100,33 +99,25 @@ fn report_all(rt: &HostRuntime, options: &Options<'_>, path: &str, text: &[u8]) 
         rt,
         names: &names,
         limits: options.limits,
+        scan: options.scan,
         form: options.form,
         is_one: options.dumps.len() == 1,
     };
     report_each(&reporter, options)
 }
 
-// Reports on each dump, and returns the status.
+// Reports on each dump, and returns the greatest of their statuses.
 fn report_each(reporter: &Reporter<'_, '_>, options: &Options<'_>) -> io::Result<u8>
     ensures { IfOk result (λ status. status < 2) }
 {
-    let mut is_whole = true;
+    let mut worst = 0;
     for (i, path) in options.dumps.iter().enumerate() {
-        if !reporter.report(*path)? {
-            is_whole = false;
-        }
+        worst = reporter.report(*path)?.max(worst);
         if options.shows_progress {
             show_progress(reporter.rt, i, options.dumps.len())?;
         }
     }
-    Ok(status_of(is_whole))
-}
-
-// Returns the status of a run, by whether all that was wanted could be read.
-fn status_of(is_whole: bool) -> u8
-    ensures { result ≡ if is_whole then 0 else 1 }
-{
-    if is_whole { 0 } else { 1 }
+    Ok(worst)
 }
 
 // Prints how many dumps are done of how many, after each hundredth part of them and the last one.

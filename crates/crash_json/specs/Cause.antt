@@ -1,0 +1,90 @@
+-- Where and why a process crashed, as JSON.
+use Rattle.std.specs.Prelude.{ℕ, List, [], ◌∷◌, codes, Option, Some, None, Result, Ok, Err}
+use Rattle.std.specs.Option.{option_and_then, option_map}
+use Rattle.std.specs.Result.{result_ok}
+use Rattle.json.specs.Json.{Json, string}
+use Rattle.minidump.specs.declared.Error.{Error}
+use Rattle.minidump.specs.declared.format.MINIDUMP_ASSERTION_INFO.{MINIDUMP_ASSERTION_INFO}
+use Rattle.minidump.specs.Below.Bytes.Text16.{text_before_nul}
+use Rattle.minidump.specs.Below.Format.Error.{name_of_error}
+use Rattle.crash.specs.declared.cause.AddressFacts.{AddressFacts}
+use Rattle.crash.specs.declared.contexts.ContextProblem.{ContextProblem}
+use Rattle.crash.specs.declared.contexts.ContextProblem.TheVariants.{NoSystem, NotAccepted, Outside}
+use Rattle.crash.specs.Cause.{CauseValue, ExceptionValue}
+use Rattle.crash.specs.Counting.{counted}
+use Rattle.crash.specs.Crash.{CrashValue}
+use Rattle.json_tree.specs.Tree.{array_of, count, hex_string, object_of, or_null}
+
+-- ---- the crash
+
+-- the exception that counts, where there is one
+abbrev pub counting_in : CauseValue → Option ExceptionValue
+counting_in c = counted c.exceptions c.counts
+
+-- the expression of an assertion
+abbrev pub expression_in : Result MINIDUMP_ASSERTION_INFO Error → Option (List ℕ)
+expression_in a = option_and_then (λ a. text_before_nul a.expression) (result_ok a)
+
+-- a crash by the words for its reason, its address, the index of its thread, and the expression of
+-- an assertion
+unfoldable pub crash_object : Option (List ℕ) → Option ℕ → Option ℕ → Option (List ℕ) → Json
+crash_object reason address thread assertion = object_of (
+    (codes "type", or_null string reason)
+    ∷ (codes "address", or_null hex_string address)
+    ∷ (codes "crashing_thread", or_null count thread)
+    ∷ (codes "assertion", or_null string assertion)
+    ∷ [])
+
+-- the crash: by the exception that counts
+abbrev pub crash_info_json : CrashValue → Json
+crash_info_json c = crash_object (option_and_then (λ e. e.reason) (counting_in c.cause))
+    (option_and_then (λ e. e.address) (counting_in c.cause)) c.threads.crashing
+    (expression_in c.contents.messages.assertion)
+
+-- ---- exceptions
+
+-- the words for why a context isn't used
+abbrev pub problem_name : ContextProblem → List ℕ
+problem_name Outside = codes "outside"
+problem_name NoSystem = codes "no system"
+problem_name (NotAccepted size) = codes "not accepted"
+
+-- an exception by its thread, its code, where it happened, the address and the reason of the crash,
+-- why its context isn't used, and the name of the error for which it can't be read
+unfoldable pub exception_object : Option ℕ → Option ℕ → Option ℕ → Option ℕ → Option (List ℕ)
+    → Option (List ℕ) → Option (List ℕ) → Json
+exception_object thread code at address reason problem error = object_of (
+    (codes "thread_id", or_null count thread)
+    ∷ (codes "code", or_null hex_string code)
+    ∷ (codes "exception_address", or_null hex_string at)
+    ∷ (codes "address", or_null hex_string address)
+    ∷ (codes "type", or_null string reason)
+    ∷ (codes "context_problem", or_null string problem)
+    ∷ (codes "error", or_null string error)
+    ∷ [])
+
+-- an exception, or why it can't be read
+abbrev pub exception_json : Result ExceptionValue Error → Json
+exception_json (Ok e) = exception_object (Some e.thread) (Some e.code) (Some e.at) e.address
+    e.reason (option_map problem_name e.context_problem) None
+exception_json (Err error) =
+    exception_object None None None None None None (Some (name_of_error error))
+
+-- the exceptions
+unfoldable pub exceptions_json : List (Result ExceptionValue Error) → Json
+exceptions_json exceptions = array_of exception_json exceptions
+
+-- ---- the address
+
+-- an address by the index of its module and the offset in that
+unfoldable pub address_object : ℕ → Option ℕ → Option ℕ → Json
+address_object address index offset = object_of (
+    (codes "address", hex_string address)
+    ∷ (codes "module", or_null count index)
+    ∷ (codes "module_offset", or_null hex_string offset)
+    ∷ [])
+
+-- what is known of an address
+abbrev pub address_json : AddressFacts → Json
+address_json a =
+    address_object a.address (option_map (λ p. p.0) a.module) (option_map (λ p. p.1) a.module)

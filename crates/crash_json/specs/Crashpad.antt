@@ -1,0 +1,42 @@
+-- Crashpad's annotations as JSON.
+use Rattle.std.specs.Prelude.{ℕ, List, [], ◌∷◌, codes}
+use Rattle.json.specs.Json.{Json, string}
+use Rattle.minidump.specs.Below.Records.Annotations.{Annotation}
+use Rattle.minidump.specs.Below.Records.Crashpad.{Crashpad, Module}
+use Rattle.minidump.specs.Below.Records.CrashpadText.{annotation_text}
+use Rattle.json_tree.specs.Tree.{array_of, object_of}
+
+-- an annotation by its name and its text
+unfoldable pub annotation_json : List ℕ × List ℕ → Json
+annotation_json e = object_of ((codes "name", string e.0) ∷ (codes "value", string e.1) ∷ [])
+
+-- the annotations of a dictionary
+unfoldable pub annotations_json : List (List ℕ × List ℕ) → Json
+annotations_json entries = array_of annotation_json entries
+
+-- the annotations that have a type: a text as it is, and the kind of any other
+unfoldable pub objects_json : List (List ℕ × Annotation) → Json
+objects_json entries = array_of (λ e. annotation_json (e.0, annotation_text e.1)) entries
+
+-- the texts of a list
+unfoldable pub texts_json : List (List ℕ) → Json
+texts_json texts = array_of string texts
+
+-- the annotations of a module: its list of texts, its dictionary, and those that have a type
+unfoldable pub crashpad_module_json : Module → Json
+crashpad_module_json m = object_of (
+    (codes "list", texts_json m.list_annotations)
+    ∷ (codes "annotations", annotations_json m.simple_annotations)
+    ∷ (codes "objects", objects_json m.annotation_objects)
+    ∷ [])
+
+-- those of modules
+unfoldable pub crashpad_modules_json : List Module → Json
+crashpad_modules_json modules = array_of crashpad_module_json modules
+
+-- Crashpad's annotations: those of the process, and those of its modules
+unfoldable pub crashpad_json : Crashpad → Json
+crashpad_json c = object_of (
+    (codes "annotations", annotations_json c.simple_annotations)
+    ∷ (codes "modules", crashpad_modules_json c.module_list)
+    ∷ [])

@@ -1,0 +1,101 @@
+-- The values of members, as the code has them.
+use Rattle.std.specs.Prelude.{map, string_bytes}
+use Rattle.std.specs.Option.{option_copied, option_map}
+use Rattle.std.specs.Result.{result_ok}
+use Rattle.json.specs.Json.{Json}
+use Rattle.minidump.specs.Below.MemoryLists.Unified.{unified_regions}
+use Rattle.minidump.specs.Below.Records.Annotations.{annotation_of}
+use Rattle.minidump.specs.Below.Records.Crashpad.{module_of}
+use Rattle.minidump.specs.Below.Records.Dictionary.{entries_of}
+use Rattle.minidump.specs.Below.Records.Record.{mac_record_of}
+use Rattle.crash.specs.Contexts.{context_of}
+use Rattle.crash.specs.Crash.{crash_of}
+use Rattle.crash.specs.Modules.{loaded_of}
+use Rattle.json_tree.specs.Tree.{array_of, numbered_array_of, or_null, scalar_json}
+use Rattle.crash_json.specs.declared.crashpad.CrashpadMember.{CrashpadMember}
+use Rattle.crash_json.specs.declared.crashpad.CrashpadMember.TheVariants as crashpad
+use Rattle.crash_json.specs.declared.crashpad.ModuleMember.{ModuleMember}
+use Rattle.crash_json.specs.declared.crashpad.ModuleMember.TheVariants as annotations
+use Rattle.crash_json.specs.declared.frames.FrameMember.{FrameMember}
+use Rattle.crash_json.specs.declared.frames.FrameMember.TheVariants as frame
+use Rattle.crash_json.specs.declared.dump.Member.{Member}
+use Rattle.crash_json.specs.declared.dump.Member.TheVariants as dump
+use Rattle.crash_json.specs.declared.records.MacMember.{MacMember}
+use Rattle.crash_json.specs.declared.records.MacMember.TheVariants as mac
+use Rattle.crash_json.specs.declared.report.ReportMember.{ReportMember}
+use Rattle.crash_json.specs.declared.report.ReportMember.TheVariants as report
+use Rattle.crash_json.specs.declared.threads.ThreadMember.{ThreadMember}
+use Rattle.crash_json.specs.declared.threads.ThreadMember.TheVariants as thread
+use Rattle.crash_json.specs.Cause.{address_json, crash_info_json, exceptions_json}
+use Rattle.crash_json.specs.Crashpad.{annotations_json, crashpad_json, crashpad_modules_json}
+use Rattle.crash_json.specs.Crashpad.{objects_json, texts_json}
+use Rattle.crash_json.specs.Frames.{frame_json, registers_json}
+use Rattle.crash_json.specs.Minidump.{all_damage_json, minidump_json, regions_json, streams_json}
+use Rattle.crash_json.specs.Modules.{all_unloaded_json, modules_json}
+use Rattle.crash_json.specs.Records.{assertion_json, handles_json, mac_crash_json, mac_record_json}
+use Rattle.crash_json.specs.System.{release_json, system_json}
+use Rattle.crash_json.specs.Threads.{crashing_json, range_json, threads_json}
+
+-- a member of a frame
+abbrev pub frame_member : FrameMember → Json
+frame_member (frame.Scalar s) = scalar_json s
+frame_member (frame.Registers c) = or_null registers_json (option_map context_of (option_copied c))
+
+-- a member of a thread
+abbrev pub thread_member : ThreadMember → Json
+thread_member (thread.Scalar s) = scalar_json s
+thread_member (thread.Range r) = or_null range_json r
+thread_member (thread.Frames e frames) = numbered_array_of (frame_json (map loaded_of e.modules.now)
+    (option_map context_of (option_copied e.context))) frames.now
+
+-- a member of macOS's crash information
+abbrev pub mac_member : MacMember → Json
+mac_member (mac.Scalar s) = scalar_json s
+mac_member (mac.Records records) = array_of mac_record_json (map mac_record_of records.now)
+
+-- a member of Crashpad's annotations
+abbrev pub crashpad_member : CrashpadMember → Json
+crashpad_member (crashpad.Texts texts) =
+    annotations_json (entries_of string_bytes texts.now.entries)
+crashpad_member (crashpad.Modules modules) =
+    crashpad_modules_json (map module_of modules.now.items)
+
+-- a member of those of a module
+abbrev pub module_member : ModuleMember → Json
+module_member (annotations.List texts) = texts_json (map string_bytes texts.now.items)
+module_member (annotations.Texts texts) =
+    annotations_json (entries_of string_bytes texts.now.entries)
+module_member (annotations.Objects objects) =
+    objects_json (entries_of annotation_of objects.now.entries)
+
+-- a member that the schema doesn't have
+abbrev pub minidump_member : Member → Json
+minidump_member (dump.Scalar s) = scalar_json s
+minidump_member (dump.Streams c) = streams_json (crash_of c.now).directory.entries
+minidump_member (dump.Memory c) =
+    regions_json (unified_regions (crash_of c.now).contents.space.memory)
+minidump_member (dump.Damage c) = all_damage_json (crash_of c.now).damage
+minidump_member (dump.Address c) = or_null address_json (crash_of c.now).cause.address
+minidump_member (dump.Exceptions c) = exceptions_json (crash_of c.now).cause.exceptions
+minidump_member (dump.Assertion c) =
+    or_null assertion_json (result_ok (crash_of c.now).contents.messages.assertion)
+minidump_member (dump.Crashpad c) =
+    or_null crashpad_json (result_ok (crash_of c.now).contents.messages.crashpad)
+
+-- a member of the whole
+abbrev pub report_member : ReportMember → Json
+report_member (report.Scalar s) = scalar_json s
+report_member (report.System c) = or_null system_json (crash_of c.now).process.system
+report_member (report.CrashInfo c) = crash_info_json (crash_of c.now)
+report_member (report.Modules c) = modules_json (crash_of c.now).modules.loaded
+report_member (report.Unloaded c) = all_unloaded_json (crash_of c.now).modules.unloaded
+report_member (report.Threads limit c) =
+    threads_json limit (crash_of c.now).modules.loaded (crash_of c.now).threads.threads
+report_member (report.Crashing limit c) =
+    crashing_json limit (crash_of c.now).modules.loaded (crash_of c.now).threads
+report_member (report.Release c) = or_null release_json (crash_of c.now).process.release
+report_member (report.MacCrash c) =
+    or_null mac_crash_json (result_ok (crash_of c.now).contents.messages.mac_crash_info)
+report_member (report.Handles c) =
+    or_null handles_json (result_ok (crash_of c.now).contents.process.handles)
+report_member (report.Minidump c) = minidump_json (crash_of c.now)

@@ -1,0 +1,88 @@
+-- Handles, the records of macOS's crash information, and an assertion as JSON.
+use Rattle.std.specs.Prelude.{ℕ, ◌==◌, List, [], ◌∷◌, codes, length, Option, Some, None}
+use Rattle.std.specs.Prelude.{if◌then◌else◌}
+use Rattle.json.specs.Json.{Json, string}
+use Rattle.minidump.specs.declared.format.MINIDUMP_ASSERTION_INFO.{MINIDUMP_ASSERTION_INFO}
+use Rattle.minidump.specs.Below.Bytes.Text16.{text_before_nul}
+use Rattle.minidump.specs.Below.Records.Descriptor.{handle}
+use Rattle.minidump.specs.Below.Records.Handles.{Handle}
+use Rattle.minidump.specs.Below.Records.Record as mac
+use Rattle.minidump.specs.Below.Records.Record.{MacRecord, text_of}
+use Rattle.json_tree.specs.Tree.{array_of, count, hex_string, object_of, or_null}
+
+-- ---- handles
+
+-- a handle by its value and its names
+unfoldable pub handle_object : Option ℕ → Option (List ℕ) → Option (List ℕ) → Json
+handle_object value type_name object_name = object_of (
+    (codes "handle", or_null hex_string value)
+    ∷ (codes "type_name", or_null string type_name)
+    ∷ (codes "object_name", or_null string object_name)
+    ∷ [])
+
+-- a handle
+abbrev pub handle_json : Handle → Json
+handle_json h = handle_object (handle h.raw) h.type_name h.object_name
+
+-- the handles
+unfoldable pub handles_json : List Handle → Json
+handles_json handles = array_of handle_json handles
+
+-- ---- macOS's crash information
+
+-- a record of macOS's crash information by its numbers and its texts
+unfoldable pub mac_object : Option ℕ → Option ℕ → Option ℕ → Option (List ℕ) → Option (List ℕ)
+    → Option (List ℕ) → Option (List ℕ) → Option (List ℕ) → Json
+mac_object thread dialog_mode abort_cause module_path message signature backtrace message2 =
+    object_of (
+    (codes "thread", or_null hex_string thread)
+    ∷ (codes "dialog_mode", or_null hex_string dialog_mode)
+    ∷ (codes "abort_cause", or_null hex_string abort_cause)
+    ∷ (codes "module", or_null string module_path)
+    ∷ (codes "message", or_null string message)
+    ∷ (codes "signature_string", or_null string signature)
+    ∷ (codes "backtrace", or_null string backtrace)
+    ∷ (codes "message2", or_null string message2)
+    ∷ [])
+
+-- a record of macOS's crash information
+abbrev pub mac_record_json : MacRecord → Json
+mac_record_json r = mac_object (mac.thread r) (mac.dialog_mode r) (mac.abort_cause r)
+    (text_of (λ t. t.module_path) r) (text_of (λ t. t.message) r)
+    (text_of (λ t. t.signature_string) r) (text_of (λ t. t.backtrace) r)
+    (text_of (λ t. t.message2) r)
+
+-- so many records, and the records
+unfoldable pub mac_members : ℕ → List MacRecord → Json
+mac_members how_many records = object_of (
+    (codes "num_records", count how_many)
+    ∷ (codes "records", array_of mac_record_json records)
+    ∷ [])
+
+-- the crash information of macOS
+abbrev pub mac_crash_json : List MacRecord → Json
+mac_crash_json records = mac_members (length records) records
+
+-- ---- an assertion
+
+-- the words for the kind of an assertion, of those that Breakpad has
+abbrev pub assertion_kind : ℕ → Option (List ℕ)
+assertion_kind kind = if kind == 1 then Some (codes "invalid parameter")
+    else (if kind == 2 then Some (codes "pure virtual call") else None)
+
+-- an assertion by the words for its kind, its expression, and the function, the file and the line
+-- that it stands in
+unfoldable pub assertion_object : Option (List ℕ) → Option (List ℕ) → Option (List ℕ)
+    → Option (List ℕ) → ℕ → Json
+assertion_object kind expression function file line = object_of (
+    (codes "kind", or_null string kind)
+    ∷ (codes "expression", or_null string expression)
+    ∷ (codes "function", or_null string function)
+    ∷ (codes "file", or_null string file)
+    ∷ (codes "line", count line)
+    ∷ [])
+
+-- an assertion
+abbrev pub assertion_json : MINIDUMP_ASSERTION_INFO → Json
+assertion_json a = assertion_object (assertion_kind a._type) (text_before_nul a.expression)
+    (text_before_nul a.function) (text_before_nul a.file) a.line

@@ -1,0 +1,97 @@
+-- Threads as JSON.
+use Rattle.std.specs.Prelude.{ℕ, List, [], ◌∷◌, ◌++◌, codes, length, take, slice_get}
+use Rattle.std.specs.Prelude.{Option, Some, None}
+use Rattle.std.specs.Option.{option_and_then, option_map}
+use Rattle.json.specs.Json.{Json, boolean, string}
+use Rattle.stack_walk.specs.declared.end.WalkEnd.{WalkEnd}
+use Rattle.stack_walk.specs.declared.end.WalkEnd.TheVariants as ending
+use Rattle.crash.specs.declared.contexts.ContextOrigin.{ContextOrigin}
+use Rattle.crash.specs.declared.contexts.ContextOrigin.TheVariants.{OfException, OfThread}
+use Rattle.crash.specs.declared.frames.CrashFrame.{CrashFrame}
+use Rattle.crash.specs.declared.stacks.StackRange.{StackRange}
+use Rattle.crash.specs.Contexts.{ContextValue}
+use Rattle.crash.specs.Frames.{CrashWalkValue}
+use Rattle.crash.specs.Modules.{LoadedValue}
+use Rattle.crash.specs.Threads.{ThreadValue, ThreadsValue}
+use Rattle.json_tree.specs.Tree.{array_of, count, hex_string, numbered_array_of, object_of, or_null}
+use Rattle.crash_json.specs.Cause.{problem_name}
+use Rattle.crash_json.specs.Frames.{frame_json}
+
+-- a range of addresses, by the first one and how many there are
+unfoldable pub range_json : StackRange → Json
+range_json r = object_of ((codes "base_addr", hex_string r.base) ∷ (codes "size", count r.size) ∷ [])
+
+-- the word for why the last frame has no caller
+abbrev pub end_name : WalkEnd → List ℕ
+end_name ending.NoMemory = codes "no_memory"
+end_name ending.UnknownWidth = codes "unknown_width"
+end_name ending.NoFramePointer = codes "no_frame_pointer"
+end_name ending.ZeroFramePointer = codes "zero_frame_pointer"
+end_name ending.BelowStackPointer = codes "below_stack_pointer"
+end_name ending.NoRecord = codes "no_record"
+end_name ending.NoCode = codes "no_code"
+
+-- what is found in a stack: the frames, and after them the candidates
+abbrev pub all_frames : Option CrashWalkValue → List CrashFrame
+all_frames None = []
+all_frames (Some w) = w.frames ++ w.candidates
+
+-- the members of a thread: why its context isn't used and why its last frame has no caller in
+-- words, how many frames there are, those that are written, by their modules, and the registers of
+-- the first one, where these are shown
+unfoldable pub thread_object : ThreadValue → Option (List ℕ) → Option (List ℕ) → ℕ
+    → List LoadedValue → Option ContextValue → List CrashFrame → List (List ℕ × Json)
+thread_object t problem ended frame_count modules context frames =
+    (codes "thread_id", count t.id)
+    ∷ (codes "thread_name", or_null string t.name)
+    ∷ (codes "is_listed", boolean t.is_listed)
+    ∷ (codes "last_error_value", or_null string t.last_error)
+    ∷ (codes "frame_count", count frame_count)
+    ∷ (codes "stack", or_null range_json t.stack)
+    ∷ (codes "stack_memory", or_null range_json t.stack_memory)
+    ∷ (codes "context_problem", or_null string problem)
+    ∷ (codes "end", or_null string ended)
+    ∷ (codes "frames", numbered_array_of (frame_json modules context) frames)
+    ∷ []
+
+-- the members of a thread, with so many frames at most
+abbrev pub thread_members : ℕ → List LoadedValue → Option ContextValue → ThreadValue
+    → List (List ℕ × Json)
+thread_members limit modules context t = thread_object t (option_map problem_name t.context_problem)
+    (option_map (λ w. end_name w.end) t.walk) (length (all_frames t.walk)) modules context
+    (take limit (all_frames t.walk))
+
+-- a thread
+abbrev pub thread_json : ℕ → List LoadedValue → ThreadValue → Json
+thread_json limit modules t = object_of (thread_members limit modules None t)
+
+-- the threads
+unfoldable pub threads_json : ℕ → List LoadedValue → List ThreadValue → Json
+threads_json limit modules threads = array_of (thread_json limit modules) threads
+
+-- ---- the thread that crashed
+
+-- the thread that crashed with its index, where it is known
+abbrev pub indexed_crashed : ThreadsValue → Option (ℕ × ThreadValue)
+indexed_crashed t = option_and_then
+    (λ index. option_map (λ thread. (index, thread)) (slice_get t.threads index)) t.crashing
+
+-- the word for whose context the registers are of
+abbrev pub origin_name : ContextOrigin → List ℕ
+origin_name OfException = codes "exception"
+origin_name OfThread = codes "thread"
+
+-- whose context the registers of the thread that crashed are of
+abbrev pub registers_of : ThreadsValue → Option (List ℕ)
+registers_of t = option_map (λ c. origin_name c.origin)
+    (option_and_then (λ p. p.1.context) (indexed_crashed t))
+
+-- a thread at an index, with its registers in its first frame
+abbrev pub indexed_json : ℕ → List LoadedValue → ℕ → ThreadValue → Json
+indexed_json limit modules index t = object_of
+    ((codes "threads_index", count index) ∷ thread_members limit modules t.context t)
+
+-- the thread that crashed, with its index
+abbrev pub crashing_json : ℕ → List LoadedValue → ThreadsValue → Json
+crashing_json limit modules t =
+    or_null (λ p. indexed_json limit modules p.0 p.1) (indexed_crashed t)

@@ -1,0 +1,268 @@
+//! Where and why a process crashed: the crash, the exceptions, and the address.
+ghost use Rattle.std.specs.Prelude.{◌≡◌, IfOk, IsOkUnless, map, string_bytes};
+ghost use Rattle.std.specs.Option.{option_and_then, option_copied, option_map};
+ghost use Rattle.minidump.specs.Below.Contexts.Context.{map_ok};
+ghost use Rattle.minidump.specs.Below.Format.Error.{name_of_error};
+ghost use Rattle.minidump.specs.Promise.{assertion_stream};
+ghost use Rattle.crash.specs.Cause.{cause_of, exception_of};
+ghost use Rattle.crash.specs.Crash.{crash_of};
+ghost use Rattle.json_tree.specs.Tree.{Puts};
+ghost use Rattle.crash_json.specs.Cause.{address_json, address_object, counting_in};
+ghost use Rattle.crash_json.specs.Cause.{crash_info_json, crash_object, exception_json};
+ghost use Rattle.crash_json.specs.Cause.{exception_object, exceptions_json, expression_in};
+ghost use Rattle.crash_json.specs.Cause.{problem_name};
+
+use crash::{AddressFacts, ContextProblem, Crash, CrashCause, CrashException};
+use json::Writer;
+use json_tree::{ItemJson, Scalar, ValueJson, as_text, put_object, put_values};
+use minidump::{Error, MinidumpAssertion};
+use std::alloc::Global;
+
+/// Puts the crash, by the exception that counts.
+pub(crate) fn put_crash_info(
+    out: &mut Writer,
+    alloc: Global,
+    crash: &Crash<'_>,
+) -> Result<(), Error>
+    ensures { Puts result out.old out.new (crash_info_json (crash_of crash.now)) }
+{
+    let assertion = expression_of(alloc, &crash.contents.messages.assertion)?;
+    put_crash(
+        out,
+        alloc,
+        reason_of(&crash.cause),
+        address_of(&crash.cause),
+        crash.threads.crashing,
+        &assertion,
+    )
+}
+
+// Returns the exception that counts.
+fn counting(cause: &CrashCause) -> Option<&CrashException>
+    ensures { option_map exception_of (option_copied result) ≡ counting_in (cause_of cause.now) }
+{
+    match cause.exceptions.get(cause.counts?)? {
+        Ok(exception) => Some(exception),
+        Err(_) => None,
+    }
+}
+
+// Returns the words for the reason of the crash.
+fn reason_of(cause: &CrashCause) -> Option<&str>
+    ensures { option_copied result
+        ≡ option_and_then (λ e. e.reason) (counting_in (cause_of cause.now)) }
+{
+    as_text(&counting(cause)?.reason)
+}
+
+// Returns the address of the crash.
+fn address_of(cause: &CrashCause) -> Option<u64>
+    ensures { result ≡ option_and_then (λ e. e.address) (counting_in (cause_of cause.now)) }
+{
+    counting(cause)?.address
+}
+
+// Makes the text of the expression of an assertion.
+fn expression_of(
+    alloc: Global,
+    assertion: &Result<MinidumpAssertion, Error>,
+) -> Result<Option<String>, Error>
+    ensures value { IfOk result (λ text. option_map string_bytes text
+        ≡ expression_in (map_ok assertion_stream.value assertion.now)) }
+    ensures memory { IsOkUnless result Error.OutOfMemory }
+{
+    match assertion {
+        Ok(assertion) => assertion.expression(alloc),
+        Err(_) => Ok(None),
+    }
+}
+
+#[tactic(auto, unfolding(crate::specs::Cause::crash_object))]
+fn put_crash<'t>(
+    out: &mut Writer,
+    alloc: Global,
+    reason: Option<&'t str>,
+    address: Option<u64>,
+    thread: Option<usize>,
+    assertion: &'t Option<String>,
+) -> Result<(), Error>
+    ensures { Puts result out.old out.new (crash_object (option_copied reason.entry) address thread
+        (option_map string_bytes assertion.now)) }
+{
+    put_object(
+        out,
+        alloc,
+        &[
+            ("type", Scalar::Text(reason)),
+            ("address", Scalar::Hex(address)),
+            ("crashing_thread", Scalar::Count(thread)),
+            ("assertion", Scalar::Optional(assertion)),
+        ],
+    )
+}
+
+/// Puts the exceptions.
+#[tactic(auto, unfolding(crate::specs::Cause::exceptions_json))]
+pub(crate) fn put_exceptions(
+    out: &mut Writer,
+    alloc: Global,
+    exceptions: &[Result<CrashException, Error>],
+) -> Result<(), Error>
+    ensures { Puts result out.old out.new
+        (exceptions_json (map (map_ok exception_of) exceptions.now)) }
+{
+    put_values(out, alloc, exceptions, &EachException)
+}
+
+// An exception of a list.
+#[derive(Clone, Copy)]
+struct EachException;
+
+impl ValueJson<Result<CrashException, Error>> for EachException {
+    ghost use Rattle.std.specs.Prelude.{Result};
+    ghost use Rattle.minidump.specs.declared.Error.{Error};
+    ghost use Rattle.minidump.specs.Below.Contexts.Context.{map_ok};
+    ghost use Rattle.crash.specs.Cause.{ExceptionValue, exception_of};
+    ghost use Rattle.crash_json.specs.Cause.{exception_json};
+
+    ghost Value = { Result ExceptionValue Error };
+
+    ghost value_of = { map_ok exception_of };
+
+    ghost json_of = { λ _ e. exception_json e };
+
+    fn put_value(
+        &self,
+        item: &Result<CrashException, Error>,
+        out: &mut Writer,
+        alloc: Global,
+    ) -> Result<(), Error> {
+        put_exception(out, alloc, item)
+    }
+}
+
+// Puts an exception, or why it can't be read.
+fn put_exception(
+    out: &mut Writer,
+    alloc: Global,
+    exception: &Result<CrashException, Error>,
+) -> Result<(), Error>
+    ensures { Puts result out.old out.new (exception_json (map_ok exception_of exception.now)) }
+{
+    match exception {
+        Ok(exception) => put_exception_members(
+            out,
+            alloc,
+            Some(exception.thread as u64),
+            Some(exception.code as u64),
+            Some(exception.at),
+            exception.address,
+            as_text(&exception.reason),
+            problem_name(exception.context_problem),
+            None,
+        ),
+        Err(error) => put_exception_members(
+            out,
+            alloc,
+            None,
+            None,
+            None,
+            None,
+            None,
+            None,
+            Some(error.name()),
+        ),
+    }
+}
+
+#[tactic(auto, unfolding(crate::specs::Cause::exception_object))]
+fn put_exception_members<'t>(
+    out: &mut Writer,
+    alloc: Global,
+    thread: Option<u64>,
+    code: Option<u64>,
+    at: Option<u64>,
+    address: Option<u64>,
+    reason: Option<&'t str>,
+    problem: Option<&'t str>,
+    error: Option<&'t str>,
+) -> Result<(), Error>
+    ensures { Puts result out.old out.new (exception_object thread code at address
+        (option_copied reason.entry) (option_copied problem.entry) (option_copied error.entry)) }
+{
+    put_object(
+        out,
+        alloc,
+        &[
+            ("thread_id", Scalar::Number(thread)),
+            ("code", Scalar::Hex(code)),
+            ("exception_address", Scalar::Hex(at)),
+            ("address", Scalar::Hex(address)),
+            ("type", Scalar::Text(reason)),
+            ("context_problem", Scalar::Text(problem)),
+            ("error", Scalar::Text(error)),
+        ],
+    )
+}
+
+/// Returns the words for why a context isn't used.
+pub(crate) fn problem_name(problem: Option<ContextProblem>) -> Option<&'static str>
+    ensures { option_copied result ≡ option_map problem_name problem }
+{
+    match problem? {
+        ContextProblem::Outside => Some("outside"),
+        ContextProblem::NoSystem => Some("no system"),
+        ContextProblem::NotAccepted { .. } => Some("not accepted"),
+    }
+}
+
+/// Gives what is known of an address its JSON value.
+#[derive(Clone, Copy)]
+pub(crate) struct AddressJson;
+
+impl ItemJson<AddressFacts> for AddressJson {
+    ghost use Rattle.crash_json.specs.Cause.{address_json};
+
+    ghost json_of = { λ _ a. address_json a };
+
+    fn put_item(&self, item: &AddressFacts, out: &mut Writer, alloc: Global) -> Result<(), Error> {
+        put_address(out, alloc, item.address, index_of(item), offset_of(item))
+    }
+}
+
+// Returns the index of the module of an address.
+fn index_of(address: &AddressFacts) -> Option<usize>
+    ensures { result ≡ option_map (λ p. p.0) address.now.module }
+{
+    let (index, _) = address.module?;
+    Some(index)
+}
+
+// Returns the offset of an address in its module.
+fn offset_of(address: &AddressFacts) -> Option<u64>
+    ensures { result ≡ option_map (λ p. p.1) address.now.module }
+{
+    let (_, offset) = address.module?;
+    Some(offset)
+}
+
+#[tactic(auto, unfolding(crate::specs::Cause::address_object))]
+fn put_address(
+    out: &mut Writer,
+    alloc: Global,
+    address: u64,
+    index: Option<usize>,
+    offset: Option<u64>,
+) -> Result<(), Error>
+    ensures { Puts result out.old out.new (address_object address index offset) }
+{
+    put_object(
+        out,
+        alloc,
+        &[
+            ("address", Scalar::Hex(Some(address))),
+            ("module", Scalar::Count(index)),
+            ("module_offset", Scalar::Hex(offset)),
+        ],
+    )
+}

@@ -1,0 +1,350 @@
+//! Handles, the records of macOS's crash information, and an assertion.
+ghost use Rattle.std.specs.Prelude.{◌≡◌, length, map, string_bytes};
+ghost use Rattle.std.specs.Option.{option_copied, option_map};
+ghost use Rattle.std.specs.Result.{result_ok};
+ghost use Rattle.minidump.specs.Below.Contexts.Context.{map_ok};
+ghost use Rattle.minidump.specs.Below.Records.Handles.{handle_of};
+ghost use Rattle.minidump.specs.Below.Records.Record.{mac_record_of};
+ghost use Rattle.minidump.specs.Promise.{assertion_stream};
+ghost use Rattle.json_tree.specs.Tree.{Puts, or_null};
+ghost use Rattle.crash_json.specs.Records.{assertion_json, assertion_kind, assertion_object};
+ghost use Rattle.crash_json.specs.Records.{handle_object, handles_json, mac_crash_json};
+ghost use Rattle.crash_json.specs.Records.{mac_members, mac_object};
+
+use json::Writer;
+use json_tree::{Scalar, ToJson, ValueJson, put_object, put_object_of, put_values};
+use minidump::{
+    Error, MinidumpAssertion, MinidumpHandleDataStream, MinidumpHandleDescriptor,
+    MinidumpMacCrashInfo, RawMacCrashInfo,
+};
+use std::alloc::Global;
+
+/// Puts the value of a stream by what it stands for, or `null` if it can't be read.
+pub(crate) fn put_found<X, F: ValueJson<X>>(
+    out: &mut Writer,
+    alloc: Global,
+    found: &Result<X, Error>,
+    by: &F,
+) -> Result<(), Error>
+    ensures { Puts result out.old out.new
+        (or_null (F.json_of by.now) (result_ok (map_ok F.value_of found.now))) }
+{
+    match found {
+        Ok(item) => by.put_value(item, out, alloc)?,
+        Err(_) => out.null()?,
+    }
+    Ok(())
+}
+
+/// Gives the handles their JSON value.
+#[derive(Clone, Copy)]
+pub(crate) struct HandlesJson;
+
+impl ValueJson<MinidumpHandleDataStream> for HandlesJson {
+    ghost use Rattle.std.specs.Prelude.{List};
+    ghost use Rattle.minidump.specs.Below.Records.Handles.{Handle};
+    ghost use Rattle.minidump.specs.Promise.{handle_data_stream};
+    ghost use Rattle.crash_json.specs.Records.{handles_json};
+
+    ghost Value = { List Handle };
+
+    ghost value_of = { handle_data_stream.value };
+
+    ghost json_of = { λ _ handles. handles_json handles };
+
+    fn put_value(
+        &self,
+        item: &MinidumpHandleDataStream,
+        out: &mut Writer,
+        alloc: Global,
+    ) -> Result<(), Error> {
+        put_handles(out, alloc, item.handles.as_slice())
+    }
+}
+
+#[tactic(auto, unfolding(crate::specs::Records::handles_json))]
+fn put_handles(
+    out: &mut Writer,
+    alloc: Global,
+    handles: &[MinidumpHandleDescriptor],
+) -> Result<(), Error>
+    ensures { Puts result out.old out.new (handles_json (map handle_of handles.now)) }
+{
+    put_values(out, alloc, handles, &EachHandle)
+}
+
+// A handle of a list.
+#[derive(Clone, Copy)]
+struct EachHandle;
+
+impl ValueJson<MinidumpHandleDescriptor> for EachHandle {
+    ghost use Rattle.minidump.specs.Below.Records.Handles.{Handle, handle_of};
+    ghost use Rattle.crash_json.specs.Records.{handle_json};
+
+    ghost Value = { Handle };
+
+    ghost value_of = { handle_of };
+
+    ghost json_of = { λ _ h. handle_json h };
+
+    fn put_value(
+        &self,
+        item: &MinidumpHandleDescriptor,
+        out: &mut Writer,
+        alloc: Global,
+    ) -> Result<(), Error> {
+        put_handle(
+            out,
+            alloc,
+            item.raw.handle().copied(),
+            &item.type_name,
+            &item.object_name,
+        )
+    }
+}
+
+#[tactic(auto, unfolding(crate::specs::Records::handle_object))]
+fn put_handle<'t>(
+    out: &mut Writer,
+    alloc: Global,
+    handle: Option<u64>,
+    type_name: &'t Option<String>,
+    object_name: &'t Option<String>,
+) -> Result<(), Error>
+    ensures { Puts result out.old out.new (handle_object handle
+        (option_map string_bytes type_name.now) (option_map string_bytes object_name.now)) }
+{
+    put_object(
+        out,
+        alloc,
+        &[
+            ("handle", Scalar::Hex(handle)),
+            ("type_name", Scalar::Optional(type_name)),
+            ("object_name", Scalar::Optional(object_name)),
+        ],
+    )
+}
+
+/// Gives the crash information of macOS its JSON value.
+#[derive(Clone, Copy)]
+pub(crate) struct MacCrashJson;
+
+impl ValueJson<MinidumpMacCrashInfo> for MacCrashJson {
+    ghost use Rattle.std.specs.Prelude.{List};
+    ghost use Rattle.minidump.specs.Below.Records.Record.{MacRecord};
+    ghost use Rattle.minidump.specs.Promise.{mac_crash_info_stream};
+    ghost use Rattle.crash_json.specs.Records.{mac_crash_json};
+
+    ghost Value = { List MacRecord };
+
+    ghost value_of = { mac_crash_info_stream.value };
+
+    ghost json_of = { λ _ records. mac_crash_json records };
+
+    fn put_value(
+        &self,
+        item: &MinidumpMacCrashInfo,
+        out: &mut Writer,
+        alloc: Global,
+    ) -> Result<(), Error> {
+        put_mac_crash(out, alloc, item.raw.as_slice())
+    }
+}
+
+fn put_mac_crash(out: &mut Writer, alloc: Global, records: &[RawMacCrashInfo]) -> Result<(), Error>
+    ensures { Puts result out.old out.new (mac_crash_json (map mac_record_of records.now)) }
+{
+    put_mac_members(out, alloc, how_many(records), records)
+}
+
+// Returns how many records there are.
+fn how_many(records: &[RawMacCrashInfo]) -> usize
+    ensures { result ≡ length (map mac_record_of records.now) }
+{
+    records.len()
+}
+
+#[tactic(auto, unfolding(crate::specs::Records::mac_members))]
+fn put_mac_members(
+    out: &mut Writer,
+    alloc: Global,
+    how_many: usize,
+    records: &[RawMacCrashInfo],
+) -> Result<(), Error>
+    ensures { Puts result out.old out.new (mac_members how_many (map mac_record_of records.now)) }
+{
+    put_object_of(
+        out,
+        alloc,
+        &[
+            (
+                "num_records",
+                MacMember::Scalar(Scalar::Count(Some(how_many))),
+            ),
+            ("records", MacMember::Records(records)),
+        ],
+    )
+}
+
+// The value of a member of the crash information of macOS.
+#[derive(Clone, Copy)]
+pub(crate) enum MacMember<'l> {
+    Scalar(Scalar<'l>),
+    Records(&'l [RawMacCrashInfo]),
+}
+
+impl ToJson for MacMember<'_> {
+    ghost use Rattle.crash_json.specs.Members.{mac_member};
+
+    ghost json = { mac_member };
+
+    fn put(&self, out: &mut Writer, alloc: Global) -> Result<(), Error> {
+        match self {
+            MacMember::Scalar(scalar) => scalar.put(out, alloc),
+            MacMember::Records(records) => put_values(out, alloc, records, &EachMacRecord),
+        }
+    }
+}
+
+// A record of the crash information of macOS.
+#[derive(Clone, Copy)]
+struct EachMacRecord;
+
+impl ValueJson<RawMacCrashInfo> for EachMacRecord {
+    ghost use Rattle.minidump.specs.Below.Records.Record.{MacRecord, mac_record_of};
+    ghost use Rattle.crash_json.specs.Records.{mac_record_json};
+
+    ghost Value = { MacRecord };
+
+    ghost value_of = { mac_record_of };
+
+    ghost json_of = { λ _ r. mac_record_json r };
+
+    fn put_value(
+        &self,
+        item: &RawMacCrashInfo,
+        out: &mut Writer,
+        alloc: Global,
+    ) -> Result<(), Error> {
+        put_mac_record(
+            out,
+            alloc,
+            item.thread().copied(),
+            item.dialog_mode().copied(),
+            item.abort_cause().copied(),
+            item.module_path(),
+            item.message(),
+            item.signature_string(),
+            item.backtrace(),
+            item.message2(),
+        )
+    }
+}
+
+#[tactic(auto, unfolding(crate::specs::Records::mac_object))]
+fn put_mac_record<'t>(
+    out: &mut Writer,
+    alloc: Global,
+    thread: Option<u64>,
+    dialog_mode: Option<u64>,
+    abort_cause: Option<u64>,
+    module_path: Option<&'t str>,
+    message: Option<&'t str>,
+    signature: Option<&'t str>,
+    backtrace: Option<&'t str>,
+    message2: Option<&'t str>,
+) -> Result<(), Error>
+    ensures { Puts result out.old out.new
+        (mac_object thread dialog_mode abort_cause (option_copied module_path.entry)
+        (option_copied message.entry) (option_copied signature.entry)
+        (option_copied backtrace.entry) (option_copied message2.entry)) }
+{
+    put_object(
+        out,
+        alloc,
+        &[
+            ("thread", Scalar::Hex(thread)),
+            ("dialog_mode", Scalar::Hex(dialog_mode)),
+            ("abort_cause", Scalar::Hex(abort_cause)),
+            ("module", Scalar::Text(module_path)),
+            ("message", Scalar::Text(message)),
+            ("signature_string", Scalar::Text(signature)),
+            ("backtrace", Scalar::Text(backtrace)),
+            ("message2", Scalar::Text(message2)),
+        ],
+    )
+}
+
+/// Gives an assertion its JSON value.
+#[derive(Clone, Copy)]
+pub(crate) struct AssertionJson;
+
+impl ValueJson<MinidumpAssertion> for AssertionJson {
+    ghost use Rattle.minidump.specs.declared.format.MINIDUMP_ASSERTION_INFO.{MINIDUMP_ASSERTION_INFO};
+    ghost use Rattle.minidump.specs.Promise.{assertion_stream};
+    ghost use Rattle.crash_json.specs.Records.{assertion_json};
+
+    ghost Value = { MINIDUMP_ASSERTION_INFO };
+
+    ghost value_of = { assertion_stream.value };
+
+    ghost json_of = { λ _ a. assertion_json a };
+
+    fn put_value(
+        &self,
+        item: &MinidumpAssertion,
+        out: &mut Writer,
+        alloc: Global,
+    ) -> Result<(), Error> {
+        let expression = item.expression(alloc)?;
+        let function = item.function(alloc)?;
+        let file = item.file(alloc)?;
+        put_assertion(
+            out,
+            alloc,
+            assertion_kind(item.raw._type),
+            &expression,
+            &function,
+            &file,
+            item.raw.line,
+        )
+    }
+}
+
+// Returns the words for the kind of an assertion, of those that Breakpad has.
+fn assertion_kind(kind: u32) -> Option<&'static str>
+    ensures { option_copied result ≡ assertion_kind kind }
+{
+    match kind {
+        1 => Some("invalid parameter"),
+        2 => Some("pure virtual call"),
+        _ => None,
+    }
+}
+
+#[tactic(auto, unfolding(crate::specs::Records::assertion_object))]
+fn put_assertion<'t>(
+    out: &mut Writer,
+    alloc: Global,
+    kind: Option<&'t str>,
+    expression: &'t Option<String>,
+    function: &'t Option<String>,
+    file: &'t Option<String>,
+    line: u32,
+) -> Result<(), Error>
+    ensures { Puts result out.old out.new (assertion_object (option_copied kind.entry)
+        (option_map string_bytes expression.now) (option_map string_bytes function.now)
+        (option_map string_bytes file.now) line) }
+{
+    put_object(
+        out,
+        alloc,
+        &[
+            ("kind", Scalar::Text(kind)),
+            ("expression", Scalar::Optional(expression)),
+            ("function", Scalar::Optional(function)),
+            ("file", Scalar::Optional(file)),
+            ("line", Scalar::Number(Some(line as u64))),
+        ],
+    )
+}

@@ -1,0 +1,354 @@
+//! The threads, and the one that crashed.
+ghost use Rattle.std.specs.Prelude.{◌≡◌, ◌∷◌, IfOk, codes, length, map, take};
+ghost use Rattle.std.specs.Option.{option_copied, option_map};
+ghost use Rattle.crash.specs.Contexts.{context_of};
+ghost use Rattle.crash.specs.Crash.{crash_of};
+ghost use Rattle.crash.specs.Frames.{crash_walk_of};
+ghost use Rattle.crash.specs.Modules.{loaded_of};
+ghost use Rattle.crash.specs.Threads.{thread_value, threads_of};
+ghost use Rattle.json_tree.specs.Tree.{Adds, Puts, count};
+ghost use Rattle.crash_json.specs.Cause.{problem_name};
+ghost use Rattle.crash_json.specs.Threads.{all_frames, crashing_json, end_name};
+ghost use Rattle.crash_json.specs.Threads.{indexed_crashed, indexed_json, range_json, registers_of};
+ghost use Rattle.crash_json.specs.Threads.{thread_members, thread_object, threads_json};
+
+use crate::cause::problem_name;
+use crate::frames::EachFrame;
+use crash::{
+    ContextOrigin, Crash, CrashContext, CrashFrame, CrashModule, CrashThread, CrashThreads,
+    CrashWalk, StackRange,
+};
+use json::Writer;
+use json_tree::{
+    ItemJson, Scalar, ToJson, ValueJson, put_fields, put_item_or_null, put_members,
+    put_numbered_array, put_object, put_values,
+};
+use minidump::Error;
+use stack_walk::WalkEnd;
+use std::alloc::{AllocError, Global};
+
+// What threads are written by: how many frames of each at most, and the modules.
+#[derive(Clone, Copy)]
+struct EachThread<'l> {
+    limit: usize,
+    modules: &'l [CrashModule],
+}
+
+impl ValueJson<CrashThread> for EachThread<'_> {
+    ghost use Rattle.std.specs.Prelude.{map};
+    ghost use Rattle.crash.specs.Modules.{loaded_of};
+    ghost use Rattle.crash.specs.Threads.{ThreadValue, thread_value};
+    ghost use Rattle.crash_json.specs.Threads.{thread_json};
+
+    ghost Value = { ThreadValue };
+
+    ghost value_of = { thread_value };
+
+    ghost json_of = { λ e t. thread_json e.limit (map loaded_of e.modules.now) t };
+
+    #[tactic(auto, using(json_tree::proofs::Tokens::object_of_members))]
+    fn put_value(&self, item: &CrashThread, out: &mut Writer, alloc: Global) -> Result<(), Error> {
+        out.begin_object()?;
+        put_thread(out, alloc, self, None, item)?;
+        out.end_object()?;
+        Ok(())
+    }
+}
+
+/// Puts the threads, with at most so many frames each.
+pub(crate) fn put_threads(
+    out: &mut Writer,
+    alloc: Global,
+    limit: usize,
+    crash: &Crash<'_>,
+) -> Result<(), Error>
+    ensures { Puts result out.old out.new (threads_json limit (crash_of crash.now).modules.loaded
+        (crash_of crash.now).threads.threads) }
+{
+    let each = EachThread {
+        limit,
+        modules: crash.modules.loaded.as_slice(),
+    };
+    put_each_thread(out, alloc, &each, crash.threads.threads.as_slice())
+}
+
+#[tactic(auto, unfolding(crate::specs::Threads::threads_json))]
+fn put_each_thread(
+    out: &mut Writer,
+    alloc: Global,
+    by: &EachThread<'_>,
+    threads: &[CrashThread],
+) -> Result<(), Error>
+    ensures { Puts result out.old out.new
+        (threads_json by.now.limit (map loaded_of by.now.modules.now)
+        (map thread_value threads.now)) }
+{
+    put_values(out, alloc, threads, by)
+}
+
+// Adds the members of a thread, with the registers of its first frame if they are shown.
+fn put_thread(
+    out: &mut Writer,
+    alloc: Global,
+    by: &EachThread<'_>,
+    context: Option<&CrashContext>,
+    thread: &CrashThread,
+) -> Result<(), Error>
+    ensures { Adds result out.old out.new
+        (thread_members by.now.limit (map loaded_of by.now.modules.now)
+        (option_map context_of (option_copied context.entry)) (thread_value thread.now)) }
+{
+    let frames = all_frames(alloc, &thread.walk)?;
+    let each = EachFrame {
+        modules: by.modules,
+        context,
+    };
+    put_thread_members(
+        out,
+        alloc,
+        thread,
+        problem_name(thread.context_problem),
+        end_of(&thread.walk),
+        frames.len(),
+        each,
+        first(frames.as_slice(), by.limit),
+    )
+}
+
+// Returns what is found in a stack: the frames, and after them the candidates.
+fn all_frames(alloc: Global, walk: &Option<CrashWalk>) -> Result<Vec<CrashFrame>, AllocError>
+    ensures { IfOk result
+        (λ frames. frames.items ≡ all_frames (option_map crash_walk_of walk.now)) }
+{
+    let mut frames = Vec::new(alloc);
+    match walk {
+        Some(walk) => {
+            frames.extend_from_slice(walk.frames.as_slice())?;
+            frames.extend_from_slice(walk.candidates.as_slice())?;
+            Ok(frames)
+        }
+        None => Ok(frames),
+    }
+}
+
+// Returns the first frames.
+fn first(frames: &[CrashFrame], limit: usize) -> &[CrashFrame]
+    ensures { result.now ≡ take limit frames.now }
+{
+    &frames[..frames.len().min(limit)]
+}
+
+// Returns the word for why the last frame has no caller.
+fn end_of(walk: &Option<CrashWalk>) -> Option<&'static str>
+    ensures { option_copied result
+        ≡ option_map (λ w. end_name w.end) (option_map crash_walk_of walk.now) }
+{
+    match walk {
+        Some(walk) => Some(end_name(walk.end)),
+        None => None,
+    }
+}
+
+fn end_name(end: WalkEnd) -> &'static str
+    ensures { result.now ≡ end_name end }
+{
+    match end {
+        WalkEnd::NoMemory => "no_memory",
+        WalkEnd::UnknownWidth => "unknown_width",
+        WalkEnd::NoFramePointer => "no_frame_pointer",
+        WalkEnd::ZeroFramePointer => "zero_frame_pointer",
+        WalkEnd::BelowStackPointer => "below_stack_pointer",
+        WalkEnd::NoRecord => "no_record",
+        WalkEnd::NoCode => "no_code",
+    }
+}
+
+#[tactic(auto, unfolding(crate::specs::Threads::thread_object))]
+fn put_thread_members<'l>(
+    out: &mut Writer,
+    alloc: Global,
+    thread: &'l CrashThread,
+    problem: Option<&'l str>,
+    end: Option<&'l str>,
+    frame_count: usize,
+    each: EachFrame<'l>,
+    frames: &'l [CrashFrame],
+) -> Result<(), Error>
+    ensures { Adds result out.old out.new (thread_object (thread_value thread.now)
+        (option_copied problem.entry) (option_copied end.entry) frame_count
+        (map loaded_of each.entry.modules.now)
+        (option_map context_of (option_copied each.entry.context)) frames.now) }
+{
+    put_members(
+        out,
+        alloc,
+        &[
+            (
+                "thread_id",
+                ThreadMember::Scalar(Scalar::Number(Some(thread.id as u64))),
+            ),
+            (
+                "thread_name",
+                ThreadMember::Scalar(Scalar::Optional(&thread.name)),
+            ),
+            (
+                "is_listed",
+                ThreadMember::Scalar(Scalar::Flag(thread.is_listed)),
+            ),
+            (
+                "last_error_value",
+                ThreadMember::Scalar(Scalar::Optional(&thread.last_error)),
+            ),
+            (
+                "frame_count",
+                ThreadMember::Scalar(Scalar::Count(Some(frame_count))),
+            ),
+            ("stack", ThreadMember::Range(thread.stack)),
+            ("stack_memory", ThreadMember::Range(thread.stack_memory)),
+            (
+                "context_problem",
+                ThreadMember::Scalar(Scalar::Text(problem)),
+            ),
+            ("end", ThreadMember::Scalar(Scalar::Text(end))),
+            ("frames", ThreadMember::Frames(each, frames)),
+        ],
+    )
+}
+
+// The value of a member of a thread.
+#[derive(Clone, Copy)]
+pub(crate) enum ThreadMember<'l> {
+    Scalar(Scalar<'l>),
+    Range(Option<StackRange>),
+    Frames(EachFrame<'l>, &'l [CrashFrame]),
+}
+
+impl ToJson for ThreadMember<'_> {
+    ghost use Rattle.crash_json.specs.Members.{thread_member};
+
+    ghost json = { thread_member };
+
+    fn put(&self, out: &mut Writer, alloc: Global) -> Result<(), Error> {
+        match self {
+            ThreadMember::Scalar(scalar) => scalar.put(out, alloc),
+            ThreadMember::Range(range) => put_item_or_null(out, alloc, range, &RangeJson),
+            ThreadMember::Frames(each, frames) => put_numbered_array(out, alloc, frames, each),
+        }
+    }
+}
+
+// Gives a range of addresses its JSON value.
+#[derive(Clone, Copy)]
+struct RangeJson;
+
+impl ItemJson<StackRange> for RangeJson {
+    ghost use Rattle.crash_json.specs.Threads.{range_json};
+
+    ghost json_of = { λ _ r. range_json r };
+
+    fn put_item(&self, item: &StackRange, out: &mut Writer, alloc: Global) -> Result<(), Error> {
+        put_range(out, alloc, *item)
+    }
+}
+
+#[tactic(auto, unfolding(crate::specs::Threads::range_json))]
+fn put_range(out: &mut Writer, alloc: Global, range: StackRange) -> Result<(), Error>
+    ensures { Puts result out.old out.new (range_json range) }
+{
+    put_object(
+        out,
+        alloc,
+        &[
+            ("base_addr", Scalar::Hex(Some(range.base))),
+            ("size", Scalar::Number(Some(range.size))),
+        ],
+    )
+}
+
+/// Puts the thread that crashed, with its index and the registers of its first frame, or `null`.
+pub(crate) fn put_crashing(
+    out: &mut Writer,
+    alloc: Global,
+    limit: usize,
+    crash: &Crash<'_>,
+) -> Result<(), Error>
+    ensures { Puts result out.old out.new (crashing_json limit (crash_of crash.now).modules.loaded
+        (crash_of crash.now).threads) }
+{
+    let each = EachThread {
+        limit,
+        modules: crash.modules.loaded.as_slice(),
+    };
+    put_crashed(out, alloc, &each, &crash.threads)
+}
+
+fn put_crashed(
+    out: &mut Writer,
+    alloc: Global,
+    by: &EachThread<'_>,
+    threads: &CrashThreads,
+) -> Result<(), Error>
+    ensures { Puts result out.old out.new (crashing_json by.now.limit
+        (map loaded_of by.now.modules.now) (threads_of threads.now)) }
+{
+    match crashed(threads) {
+        Some((index, thread)) => put_indexed(out, alloc, by, index, thread)?,
+        None => out.null()?,
+    }
+    Ok(())
+}
+
+// Returns the thread that crashed, with its index.
+fn crashed(threads: &CrashThreads) -> Option<(usize, &CrashThread)>
+    ensures { option_map (λ p. (p.0, thread_value p.1.now)) result
+        ≡ indexed_crashed (threads_of threads.now) }
+{
+    let index = threads.crashing?;
+    let thread = threads.threads.get(index)?;
+    Some((index, thread))
+}
+
+// Puts a thread with its index.
+#[tactic(auto, using(json_tree::proofs::Tokens::object_of_members))]
+fn put_indexed(
+    out: &mut Writer,
+    alloc: Global,
+    by: &EachThread<'_>,
+    index: usize,
+    thread: &CrashThread,
+) -> Result<(), Error>
+    ensures { Puts result out.old out.new (indexed_json by.now.limit
+        (map loaded_of by.now.modules.now) index (thread_value thread.now)) }
+{
+    out.begin_object()?;
+    put_indexed_members(out, alloc, by, index, thread)?;
+    out.end_object()?;
+    Ok(())
+}
+
+fn put_indexed_members(
+    out: &mut Writer,
+    alloc: Global,
+    by: &EachThread<'_>,
+    index: usize,
+    thread: &CrashThread,
+) -> Result<(), Error>
+    ensures { Adds result out.old out.new ((codes "threads_index", count index)
+        ∷ thread_members by.now.limit (map loaded_of by.now.modules.now)
+        (thread_value thread.now).context (thread_value thread.now)) }
+{
+    put_fields(out, alloc, &[("threads_index", Scalar::Count(Some(index)))])?;
+    put_thread(out, alloc, by, thread.context.as_ref(), thread)?;
+    Ok(())
+}
+
+/// Returns the word for whose context the registers of the thread that crashed are of.
+pub(crate) fn registers_of(threads: &CrashThreads) -> Option<&'static str>
+    ensures { option_copied result ≡ registers_of (threads_of threads.now) }
+{
+    let (_, thread) = crashed(threads)?;
+    match thread.context.as_ref()?.origin {
+        ContextOrigin::OfException => Some("exception"),
+        ContextOrigin::OfThread => Some("thread"),
+    }
+}

@@ -1,3 +1,0 @@
--- What several proofs share.
-pub mod LineLemmas
-pub mod Adding

@@ -1,0 +1,9 @@
+-- The lines of a text have no control characters but their ends.
+use Rattle.crash.specs.Crash.{crash_of}
+use Rattle.crash_text.specs.Text.{lines_of}
+use Rattle.crash_text.proofs.LineLemmas.{lines_printed}
+use Rattle.crash_text.proofs.text.text_of.Goals as goal
+
+pub returns-clause-printed : goal.returns-clause-printed
+returns-clause-printed c =
+    rw (c.in_ok-push_lines.ensures, c.new-text.ensures.bytes) (lines_printed (lines_of c.args.limits.now (crash_of c.args.crash.now)))

@@ -1,0 +1,52 @@
+-- The lines of what is there and can't be read.
+use Rattle.std.specs.Prelude.{ℕ, ◌++◌, List, [], ◌∷◌, map, nat_lt, Option, Some, None, codes}
+use Rattle.std.specs.Prelude.{if◌then◌else◌}
+use Rattle.std.specs.Fmt.{decimal}
+use Rattle.std.specs.List.{concat}
+use Rattle.minidump.specs.declared.format.MINIDUMP_STREAM_TYPE.{MINIDUMP_STREAM_TYPE}
+use Rattle.minidump.specs.Below.Bytes.Piece.{hex}
+use Rattle.minidump.specs.Below.Format.Error.{name_of_error}
+use Rattle.minidump.specs.Below.Format.StreamType.{stream_type_of, type_name}
+use Rattle.crash.specs.declared.damage.Damage.{Damage}
+use Rattle.crash.specs.declared.damage.Damage.TheVariants.{ExceptionContext, Stack, Stream}
+use Rattle.crash.specs.declared.damage.Damage.TheVariants.{ThreadContext}
+use Rattle.crash.specs.Crash.{CrashValue}
+
+-- the name of a type of stream, where it has one
+abbrev pub name_of_type : ℕ → Option MINIDUMP_STREAM_TYPE → List ℕ
+name_of_type number (Some known_type) = type_name known_type
+name_of_type number None = concat (codes "stream " ∷ hex number ∷ [])
+
+-- the words for the stream of a type
+abbrev pub stream_text : ℕ → List ℕ
+stream_text number = name_of_type number (stream_type_of number)
+
+-- the line of a stream, with the name of its error
+unfoldable pub stream_row : List ℕ → List ℕ → List ℕ
+stream_row stream error = concat (codes "can't be read: " ∷ stream ∷ codes ": " ∷ error ∷ [])
+
+-- the line of bytes that are not in the file, by what they are and the id of their thread
+unfoldable pub outside_row : List ℕ → ℕ → List ℕ
+outside_row what thread = concat (codes "outside the file: " ∷ what ∷ codes " " ∷ decimal thread
+    ∷ codes " (" ∷ hex thread ∷ codes ")" ∷ [])
+
+-- the line of something that can't be read
+abbrev pub damage_row : Damage → List ℕ
+damage_row (Stream number error) = stream_row (stream_text number) (name_of_error error)
+damage_row (ExceptionContext thread) =
+    outside_row (codes "the context of the exception on thread") thread
+damage_row (ThreadContext thread) = outside_row (codes "the context of thread") thread
+damage_row (Stack thread) = outside_row (codes "the stack of thread") thread
+
+-- the line of the number of entries whose bytes are not all in the file
+unfoldable pub entries_row : ℕ → List ℕ
+entries_row count = concat (codes "entries of the directory outside the file: " ∷ decimal count
+    ∷ [])
+
+-- the same, where there are any
+abbrev pub entries_lines : ℕ → List (List ℕ)
+entries_lines count = if nat_lt 0 count then entries_row count ∷ [] else []
+
+-- all of it
+abbrev pub damage_lines : CrashValue → List (List ℕ)
+damage_lines c = map damage_row c.damage ++ entries_lines c.directory.entries_outside

@@ -1,0 +1,93 @@
+-- The lines of the crash, and of the exceptions where there are several.
+use Rattle.std.specs.Prelude.{ℕ, ◌++◌, List, [], ◌∷◌, length, map, nat_lt, Option, Some, None}
+use Rattle.std.specs.Prelude.{Result, Ok, Err, codes, if◌then◌else◌}
+use Rattle.std.specs.Fmt.{decimal}
+use Rattle.std.specs.List.{concat, enumerate_from}
+use Rattle.minidump.specs.declared.Error.{Error}
+use Rattle.minidump.specs.Below.Bytes.Piece.{hex}
+use Rattle.minidump.specs.Below.Format.Error.{name_of_error}
+use Rattle.crash.specs.declared.cause.AddressFacts.{AddressFacts}
+use Rattle.crash.specs.Cause.{ExceptionValue}
+use Rattle.crash.specs.Counting.{counted}
+use Rattle.crash.specs.Crash.{CrashValue}
+use Rattle.crash.specs.Modules.{LoadedValue}
+use Rattle.crash_text.specs.Lines.{if_some}
+use Rattle.crash_text.specs.Places.{place_text}
+use Rattle.crash_text.specs.Registers.{registers_lines}
+use Rattle.crash_text.specs.Words.{or_empty, unless_empty}
+
+-- ---- the crash
+
+-- the line of the thread that crashed
+unfoldable pub crashed_row : ℕ → List ℕ
+crashed_row id = concat (codes "crashed thread " ∷ decimal id ∷ codes " (" ∷ hex id ∷ codes ")"
+    ∷ [])
+
+-- the line of the address, with the words for its module
+unfoldable pub address_row : ℕ → List ℕ → List ℕ
+address_row address place = concat (codes "address " ∷ hex address ∷ place ∷ [])
+
+-- the same by the modules
+abbrev pub address_lines : List LoadedValue → AddressFacts → List (List ℕ)
+address_lines modules a = address_row a.address (place_text modules [] a.«module») ∷ []
+
+-- the line of the reason, in words
+unfoldable pub reason_row : List ℕ → List ℕ
+reason_row reason = concat (codes "reason  " ∷ reason ∷ [])
+
+-- the line of the code of an exception, and of where it happened
+unfoldable pub code_row : ℕ → ℕ → List ℕ
+code_row code at = concat (codes "code    " ∷ hex code ∷ codes " at " ∷ hex at ∷ [])
+
+-- the crash, by the exception that counts
+abbrev pub counted_lines : CrashValue → ExceptionValue → List (List ℕ)
+counted_lines c e = crashed_row e.thread
+    ∷ (if_some (address_lines c.modules.loaded) c.cause.address
+    ++ (if_some (λ reason. reason_row reason ∷ []) e.reason
+    ++ (code_row e.code e.at ∷ registers_lines c e)))
+
+-- ---- the exceptions
+
+-- the line of an exception with its number: its thread, its code, where it happened, and the reason
+unfoldable pub exception_row : ℕ → ℕ → ℕ → ℕ → List ℕ → List ℕ
+exception_row number thread code at reason = concat (codes "    #" ∷ decimal number
+    ∷ codes " thread " ∷ decimal thread ∷ codes " (" ∷ hex thread ∷ codes "), code " ∷ hex code
+    ∷ codes " at " ∷ hex at ∷ unless_empty (codes ", ") reason ∷ reason ∷ [])
+
+-- the line of one that can't be read
+unfoldable pub unread_row : ℕ → List ℕ → List ℕ
+unread_row number error = concat (codes "    #" ∷ decimal number ∷ codes " can't be read: "
+    ∷ error ∷ [])
+
+-- the line of an exception, or of why it can't be read
+abbrev pub exception_line : ℕ → Result ExceptionValue Error → List ℕ
+exception_line number (Ok e) = exception_row number e.thread e.code e.at (or_empty e.reason)
+exception_line number (Err e) = unread_row number (name_of_error e)
+
+-- each of them
+abbrev pub each_exception : List (Result ExceptionValue Error) → List (List ℕ)
+each_exception exceptions = map (λ p. exception_line p.0 p.1) (enumerate_from 0 exceptions)
+
+-- how many there are, and which counts
+unfoldable pub several_row : ℕ → Option ℕ → List ℕ
+several_row count (Some counts) = concat (codes "exceptions " ∷ decimal count
+    ∷ codes ", of which number " ∷ decimal counts ∷ codes " counts" ∷ [])
+several_row count None = concat (codes "exceptions " ∷ decimal count ∷ [])
+
+-- the exceptions, where there are several
+abbrev pub several_lines : List (Result ExceptionValue Error) → Option ℕ → List (List ℕ)
+several_lines exceptions counts = if nat_lt 1 (length exceptions)
+    then several_row (length exceptions) counts ∷ each_exception exceptions else []
+
+-- ---- all of it
+
+-- that there is no exception
+abbrev pub none_lines : List (Result ExceptionValue Error) → List (List ℕ)
+none_lines [] = codes "no exception" ∷ []
+none_lines (_ ∷ _) = []
+
+-- the crash, and the exceptions of the dump
+abbrev pub crash_lines : CrashValue → List (List ℕ)
+crash_lines c = none_lines c.cause.exceptions
+    ++ (if_some (counted_lines c) (counted c.cause.exceptions c.cause.counts)
+    ++ several_lines c.cause.exceptions c.cause.counts)

@@ -1,0 +1,22 @@
+-- Lines, and how a text gains them.
+use Rattle.std.specs.Prelude.{◌≡◌, ◌++◌, ℕ, List, [], ◌∷◌, OnOk, Option, Some, None, Result, String}
+use Rattle.std.specs.Prelude.{string_bytes}
+use Rattle.std.specs.Global.{Global}
+use Rattle.std.specs.List.{flat_map}
+use Rattle.std.specs.declared.alloc.AllocError.{AllocError}
+use Rattle.crash_text.specs.Escape.{escaped_text}
+
+-- a line: a text as it is printed, and its end
+unfoldable pub line_of : List ℕ → List ℕ
+line_of text = escaped_text text ++ 0x0a ∷ []
+
+-- a call that is done has appended lines to a text, each as it is printed
+abbrev pub Adds : String Global → String Global → List (List ℕ) → Result (Unit {0}) AllocError
+    → Type 0
+Adds old new lines result =
+    OnOk result (string_bytes new ≡ string_bytes old ++ flat_map line_of lines)
+
+-- the lines for a value, and none where there is none
+abbrev pub if_some : {X : Type 0} → (X → List (List ℕ)) → Option X → List (List ℕ)
+if_some lines (Some x) = lines x
+if_some lines None = []

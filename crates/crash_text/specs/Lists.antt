@@ -1,0 +1,120 @@
+-- The lines of the lists of a dump: how many items each has and, if lists are asked for, the items.
+use Rattle.std.specs.Prelude.{ℕ, ◌++◌, ◌||◌, is_none, List, [], ◌∷◌, length, map, Option}
+use Rattle.std.specs.Prelude.{Some, None, Result, Ok, Err, codes, if◌then◌else◌}
+use Rattle.std.specs.Fmt.{decimal}
+use Rattle.std.specs.List.{concat}
+use Rattle.minidump.specs.declared.Error.{Error}
+use Rattle.minidump.specs.Below.Bytes.Piece.{hex}
+use Rattle.minidump.specs.Below.Format.Error.{name_of_error}
+use Rattle.minidump.specs.Below.MemoryLists.Unified.{UnifiedRegion, unified_regions}
+use Rattle.minidump.specs.Below.Modules.UnloadedModule.{UnloadedValue}
+use Rattle.minidump.specs.Below.Records.Descriptor.{handle}
+use Rattle.minidump.specs.Below.Records.Handles.{Handle}
+use Rattle.crash.specs.declared.directory.StreamEntry.{StreamEntry}
+use Rattle.crash.specs.Crash.{CrashValue}
+use Rattle.crash.specs.Modules.{UnloadedModuleValue}
+use Rattle.crash_text.specs.declared.limits.TextLimits.{TextLimits}
+use Rattle.crash_text.specs.Damage.{stream_text}
+use Rattle.crash_text.specs.Lines.{if_some}
+use Rattle.crash_text.specs.Modules.{key_text}
+use Rattle.crash_text.specs.Words.{or_empty, where_some}
+
+-- the line of the number of something
+unfoldable pub count_row : List ℕ → ℕ → List ℕ
+count_row what count = concat (what ∷ codes " " ∷ decimal count ∷ [])
+
+-- the number of items, and the lines of them if they are asked for
+abbrev pub list_lines : {X : Type 0} → TextLimits → List ℕ → (X → List ℕ) → List X
+    → List (List ℕ)
+list_lines limits what row items =
+    count_row what (length items) ∷ (if limits.lists then map row items else [])
+
+-- ---- streams
+
+-- the name of an error, where there is one
+abbrev pub error_text : Option Error → List ℕ
+error_text (Some error) = name_of_error error
+error_text None = []
+
+-- words before the name of an error
+abbrev pub before_error : Option Error → List ℕ
+before_error (Some error) = codes ": "
+before_error None = []
+
+-- the line of a stream: its name, the number of its type, its bytes, and why it can't be read
+unfoldable pub entry_row : List ℕ → StreamEntry → List ℕ
+entry_row name e = concat (codes "    " ∷ name ∷ codes " (" ∷ hex e.number ∷ codes "), "
+    ∷ decimal e.size ∷ codes " bytes at " ∷ hex e.rva ∷ before_error e.error ∷ error_text e.error
+    ∷ [])
+
+-- the same, by its number alone
+abbrev pub entry_line : StreamEntry → List ℕ
+entry_line e = entry_row (stream_text e.number) e
+
+-- ---- unloaded modules
+
+-- the line of a module that was unloaded: its base address, its path, and the name and the
+-- identifier of its code file
+unfoldable pub unloaded_row : ℕ → List ℕ → List ℕ → List ℕ
+unloaded_row base path code = concat (codes "    " ∷ hex base ∷ codes " " ∷ path ∷ code ∷ [])
+
+-- the same by the value
+abbrev pub unloaded_line : UnloadedModuleValue → List ℕ
+unloaded_line m = unloaded_row m.base m.path (key_text (codes ", code ") (Some m.file) m.code_id)
+
+-- the modules that were unloaded, where their list can be read
+abbrev pub unloaded_lines : TextLimits → List UnloadedModuleValue
+    → Result (List UnloadedValue) Error → List (List ℕ)
+unloaded_lines limits modules (Ok _) =
+    list_lines limits (codes "unloaded modules") unloaded_line modules
+unloaded_lines limits modules (Err _) = []
+
+-- ---- memory
+
+-- the line of a region of memory
+unfoldable pub region_row : ℕ → ℕ → List ℕ
+region_row base size = concat (codes "    " ∷ hex base ∷ codes ", " ∷ hex size ∷ codes " bytes"
+    ∷ [])
+
+-- the same by the region
+abbrev pub region_line : UnifiedRegion → List ℕ
+region_line r = region_row r.base_address r.size
+
+-- the regions of memory, where one of their lists can be read
+abbrev pub memory_lines : TextLimits → List UnifiedRegion → Option Error × Option Error
+    → List (List ℕ)
+memory_lines limits regions errors = if is_none errors.0 || is_none errors.1
+    then list_lines limits (codes "memory regions") region_line regions else []
+
+-- ---- handles
+
+-- the words for the operating system's value of a handle
+abbrev pub value_text : Option ℕ → List ℕ
+value_text (Some n) = hex n
+value_text None = codes "no value"
+
+-- the line of a handle: its value, the name of its type, and its own
+unfoldable pub handle_row : List ℕ → Option (List ℕ) → Option (List ℕ) → List ℕ
+handle_row value type_name name = concat (codes "    " ∷ value ∷ where_some (codes " ") type_name
+    ∷ or_empty type_name ∷ where_some (codes " \"") name ∷ or_empty name
+    ∷ where_some (codes "\"") name ∷ [])
+
+-- the same by the handle
+abbrev pub handle_line : Handle → List ℕ
+handle_line h = handle_row (value_text (handle h.raw)) h.type_name h.object_name
+
+-- the handles, where their list can be read
+abbrev pub handles_lines : TextLimits → Result (List Handle) Error → List (List ℕ)
+handles_lines limits (Ok handles) = list_lines limits (codes "handles") handle_line handles
+handles_lines limits (Err _) = []
+
+-- ---- all of them
+
+-- the lists after the modules
+abbrev pub lists_lines : TextLimits → CrashValue → List (List ℕ)
+lists_lines limits c =
+    unloaded_lines limits c.modules.unloaded c.contents.space.unloaded
+    ++ (list_lines limits (codes "streams") entry_line c.directory.entries
+    ++ (memory_lines limits (unified_regions c.contents.space.memory) c.contents.space.memory_errors
+    ++ (if_some (λ count. count_row (codes "maps") count ∷ []) c.contents.space.map_count
+    ++ handles_lines limits c.contents.process.handles)))

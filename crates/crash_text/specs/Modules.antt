@@ -1,0 +1,77 @@
+-- The lines of modules: how many there are, and those that other lines name, with what a symbol
+-- server is asked by.
+use Rattle.std.specs.Prelude.{ℕ, ◌==◌, ◌||◌, Bool, false, List, [], ◌∷◌, length, Option}
+use Rattle.std.specs.Prelude.{Some, None, codes, if◌then◌else◌}
+use Rattle.std.specs.Fmt.{decimal}
+use Rattle.std.specs.List.{concat, enumerate_from, flat_map, list_any}
+use Rattle.std.specs.Option.{option_and_then}
+use Rattle.minidump.specs.declared.Error.{Error}
+use Rattle.minidump.specs.Below.Bytes.Piece.{hex}
+use Rattle.crash.specs.declared.cause.AddressFacts.{AddressFacts}
+use Rattle.crash.specs.declared.frames.CrashFrame.{CrashFrame}
+use Rattle.crash.specs.Crash.{CrashValue}
+use Rattle.crash.specs.Modules.{LoadedValue}
+use Rattle.crash_text.specs.declared.limits.TextLimits.{TextLimits}
+use Rattle.crash_text.specs.Threads.{frames_in}
+use Rattle.crash_text.specs.Words.{if_missing, or_empty, where_some}
+
+-- ---- a module
+
+-- the words for the name of a file and an identifier, where there are both
+abbrev pub key_text : List ℕ → Option (List ℕ) → Option (List ℕ) → List ℕ
+key_text label (Some file) (Some id) = concat (label ∷ file ∷ codes "/" ∷ id ∷ [])
+key_text label (Some file) None = []
+key_text label None id = []
+
+-- the line of a module: its base address, its path, its version, and what a symbol server is asked
+-- by: the names and the identifiers of its debug file and of its code file
+unfoldable pub module_row : ℕ → List ℕ → Option (List ℕ) → List ℕ → List ℕ → List ℕ
+module_row base path version debug code = concat (codes "    " ∷ hex base ∷ codes " " ∷ path
+    ∷ where_some (codes ", version ") version ∷ or_empty version ∷ debug ∷ code ∷ [])
+
+-- the same by the value
+abbrev pub module_line : LoadedValue → List ℕ
+module_line m = module_row m.base m.path m.version
+    (key_text (codes ", debug ") m.debug_file m.debug_id)
+    (key_text (codes ", code ") (Some m.file) m.code_id)
+
+-- ---- those that other lines name
+
+-- a place is in the module of an index
+abbrev pub is_in : ℕ → Option (ℕ × ℕ) → Bool
+is_in index (Some place) = place.0 == index
+is_in index None = false
+
+-- the place of the address of the crash, where it is known
+abbrev pub address_place : Option AddressFacts → Option (ℕ × ℕ)
+address_place address = option_and_then (λ a. a.«module») address
+
+-- the address of the crash or one of these frames is in the module of an index
+abbrev pub is_named : Option AddressFacts → List CrashFrame → ℕ → Bool
+is_named address frames index = is_in index (address_place address)
+    || list_any (λ f. is_in index f.«module») frames
+
+-- a module with its index, if all modules are listed or other lines name it
+abbrev pub listed_lines : TextLimits → Option AddressFacts → List CrashFrame → ℕ × LoadedValue
+    → List (List ℕ)
+listed_lines limits address frames p =
+    if limits.lists || is_named address frames p.0 then module_line p.1 ∷ [] else []
+
+-- the modules that are listed
+abbrev pub each_module : TextLimits → Option AddressFacts → List CrashFrame → List LoadedValue
+    → List (List ℕ)
+each_module limits address frames modules =
+    flat_map (listed_lines limits address frames) (enumerate_from 0 modules)
+
+-- ---- all of it
+
+-- the line of the number of modules
+unfoldable pub count_row : ℕ → List ℕ
+count_row count = concat (codes "modules " ∷ decimal count ∷ [])
+
+-- the modules, or that their list is missing
+abbrev pub modules_lines : TextLimits → CrashValue → Option Error → List (List ℕ)
+modules_lines limits c None = count_row (length c.modules.loaded)
+    ∷ each_module limits c.cause.address (frames_in limits c.threads.crashing c.threads.threads)
+    c.modules.loaded
+modules_lines limits c (Some error) = if_missing (codes "no modules") error

@@ -1,0 +1,71 @@
+-- The lines of the registers of a crash.
+use Rattle.std.specs.Prelude.{ℕ, ◌++◌, ◌==◌, List, [], ◌∷◌, map, min, Option, Some}
+use Rattle.std.specs.Prelude.{None, codes, if◌then◌else◌, slice_get}
+use Rattle.std.specs.Fmt.{decimal}
+use Rattle.std.specs.List.{concat, flat_map}
+use Rattle.std.specs.Option.{option_and_then}
+use Rattle.minidump.specs.Below.Bytes.Piece.{left}
+use Rattle.minidump.specs.Below.Contexts.Register.{register_text}
+use Rattle.crash.specs.declared.contexts.ContextOrigin.{ContextOrigin}
+use Rattle.crash.specs.declared.contexts.ContextOrigin.TheVariants.{OfException, OfThread}
+use Rattle.crash.specs.declared.contexts.ContextProblem.{ContextProblem}
+use Rattle.crash.specs.declared.contexts.ContextProblem.TheVariants.{NotAccepted}
+use Rattle.crash.specs.Cause.{ExceptionValue}
+use Rattle.crash.specs.Contexts.{ContextValue}
+use Rattle.crash.specs.Crash.{CrashValue}
+
+-- the words for a register of so many bytes, of at most 8: its name in three columns, and its value
+abbrev pub register_words : ℕ → List ℕ × ℕ → List ℕ
+register_words size r = concat (codes "  " ∷ left 3 r.0 ∷ codes " "
+    ∷ register_text (min size 8) r.1 ∷ [])
+
+-- the line of a row of registers
+unfoldable pub register_row : ℕ → List (List ℕ × ℕ) → List ℕ
+register_row size row = concat (codes "  " ∷ flat_map (register_words size) row ∷ [])
+
+-- rows of four; the last one may be shorter
+abbrev pub rows : {X : Type 0} → List X → List (List X)
+rows (a ∷ b ∷ c ∷ d ∷ rest) = (a ∷ b ∷ c ∷ d ∷ []) ∷ rows rest
+rows [] = []
+rows few = few ∷ []
+
+-- all registers of a context
+abbrev pub context_lines : ContextValue → List (List ℕ)
+context_lines c = map (register_row c.size) (rows c.registers)
+
+-- whose registers they are
+abbrev pub heading_of : ContextOrigin → List ℕ
+heading_of OfException = codes "registers at the exception"
+heading_of OfThread = codes "registers of the thread when the dump was written"
+
+-- the line of an exception's context that is no context of the processor, which has so many bytes
+unfoldable pub unusable_row : ℕ → List ℕ
+unusable_row size = concat (codes "the context of the exception can't be read, " ∷ decimal size
+    ∷ codes " bytes" ∷ [])
+
+-- why the context of an exception isn't used. One that is outside the file is damage, and no bytes
+-- are no context at all
+abbrev pub unused_lines : Option ContextProblem → List (List ℕ)
+unused_lines (Some (NotAccepted size)) = if size == 0 then [] else unusable_row size ∷ []
+unused_lines _ = []
+
+-- the registers of the thread that crashed, where there are some
+abbrev pub known_lines : Option ContextValue → List (List ℕ)
+known_lines (Some c) = heading_of c.origin ∷ context_lines c
+known_lines None = codes "no registers that can be read" ∷ []
+
+-- the context of the thread that crashed
+abbrev pub crashed_context : CrashValue → Option ContextValue
+crashed_context c = option_and_then (λ t. t.context)
+    (option_and_then (slice_get c.threads.threads) c.threads.crashing)
+
+-- lines that need the system
+abbrev if_system : {S : Type 0} → Option S → List (List ℕ) → List (List ℕ)
+if_system (Some _) lines = lines
+if_system None lines = []
+
+-- why the exception's context isn't used, and the registers: nothing without the system, which says
+-- how to read a context
+abbrev pub registers_lines : CrashValue → ExceptionValue → List (List ℕ)
+registers_lines c e = if_system c.process.system
+    (unused_lines e.context_problem ++ known_lines (crashed_context c))

@@ -1,0 +1,89 @@
+-- The lines of the system, of the date of the dump, and of the process.
+use Rattle.std.specs.Prelude.{ℕ, ◌==◌, ◌++◌, List, [], ◌∷◌, Result, Ok, Err}
+use Rattle.std.specs.Prelude.{codes, if◌then◌else◌}
+use Rattle.std.specs.Fmt.{decimal}
+use Rattle.std.specs.List.{concat}
+use Rattle.minidump.specs.declared.Error.{Error}
+use Rattle.minidump.specs.Below.Bytes.Piece.{hex}
+use Rattle.minidump.specs.Below.Records.BootArgs.{BootArgs}
+use Rattle.minidump.specs.Below.System.Cpu.{cpu_name}
+use Rattle.minidump.specs.Below.System.Dates.{date_text_of}
+use Rattle.minidump.specs.Below.System.Os.{os_name}
+use Rattle.crash.specs.Crash.{CrashValue}
+use Rattle.crash.specs.Process.{SystemValue}
+use Rattle.crash.specs.Release.{ReleaseValue}
+use Rattle.crash_text.specs.Lines.{if_some}
+use Rattle.crash_text.specs.Words.{missing_lines, or_empty, unless_empty}
+
+-- the line of a system: its name, its version and its build, the processor, and how many there are
+unfoldable pub system_row : List ℕ → List ℕ → List ℕ → List ℕ → ℕ → List ℕ
+system_row os version build cpu processors = concat (codes "system  " ∷ os ∷ codes " " ∷ version
+    ∷ unless_empty (codes " ") build ∷ build ∷ codes " on " ∷ cpu ∷ codes ", processors: "
+    ∷ decimal processors ∷ [])
+
+-- the same by the value
+abbrev pub known_system_row : SystemValue → List ℕ
+known_system_row s =
+    system_row (os_name s.os) s.version (or_empty s.build) (cpu_name s.cpu) s.processors
+
+-- the line of the description of a processor
+unfoldable pub processor_row : List ℕ → List ℕ
+processor_row model = concat (codes "processor " ∷ model ∷ [])
+
+-- the lines of a system
+abbrev pub known_system_lines : SystemValue → List (List ℕ)
+known_system_lines s = known_system_row s ∷ if_some (λ model. processor_row model ∷ []) s.cpu_model
+
+-- the system, or that its information is missing
+abbrev pub system_lines : CrashValue → List (List ℕ)
+system_lines c = if_some known_system_lines c.process.system
+    ++ missing_lines (codes "no system information") c.contents.system.system
+
+-- the line of a release of Linux: its name, its number, its code name and its description, those
+-- that are there
+unfoldable pub release_row : List ℕ → List ℕ → List ℕ → List ℕ → List ℕ
+release_row id release codename description = concat (codes "release"
+    ∷ unless_empty (codes " ") id ∷ id ∷ unless_empty (codes " ") release ∷ release
+    ∷ unless_empty (codes " ") codename ∷ codename
+    ∷ unless_empty (codes " ") description ∷ description ∷ [])
+
+-- the same by the value
+abbrev pub release_lines : ReleaseValue → List (List ℕ)
+release_lines r = release_row (or_empty r.id) (or_empty r.release) (or_empty r.codename)
+    (or_empty r.description) ∷ []
+
+-- the line of the arguments with which macOS was booted
+unfoldable pub boot_row : List ℕ → List ℕ
+boot_row arguments = concat (codes "boot arguments " ∷ arguments ∷ [])
+
+-- the same, where they are there
+abbrev pub boot_lines : Result BootArgs Error → List (List ℕ)
+boot_lines (Ok b) = if_some (λ text. boot_row text ∷ []) b.text
+boot_lines (Err _) = []
+
+-- the line of the date of a time stamp
+unfoldable pub date_row : ℕ → List ℕ
+date_row stamp = concat (codes "dumped  " ∷ date_text_of stamp ∷ [])
+
+-- when the dump was written, by the time stamp of its header; 0 says nothing
+abbrev pub date_lines : ℕ → List (List ℕ)
+date_lines stamp = if stamp == 0 then [] else date_row stamp ∷ []
+
+-- the line of the id of a process
+unfoldable pub id_row : ℕ → List ℕ
+id_row id = concat (codes "process " ∷ decimal id ∷ codes " (" ∷ hex id ∷ codes ")" ∷ [])
+
+-- for how many seconds it ran
+unfoldable pub uptime_row : ℕ → List ℕ
+uptime_row seconds = concat (codes "uptime  " ∷ decimal seconds ∷ codes " s" ∷ [])
+
+-- the process
+abbrev pub process_lines : CrashValue → List (List ℕ)
+process_lines c = if_some (λ id. id_row id ∷ []) c.process.id
+    ++ if_some (λ seconds. uptime_row seconds ∷ []) c.process.uptime
+
+-- all of them
+abbrev pub head_lines : CrashValue → List (List ℕ)
+head_lines c = system_lines c ++ (if_some release_lines c.process.release
+    ++ (boot_lines c.contents.messages.mac_boot_args
+    ++ (date_lines c.directory.written ++ process_lines c)))

@@ -1,0 +1,34 @@
+-- The text of a crash: a function of its value.
+use Rattle.std.specs.Prelude.{ℕ, ◌++◌, List}
+use Rattle.std.specs.List.{flat_map}
+use Rattle.crash.specs.Crash.{CrashValue}
+use Rattle.crash_text.specs.declared.limits.TextLimits.{TextLimits}
+use Rattle.crash_text.specs.Damage.{damage_lines}
+use Rattle.crash_text.specs.Exceptions.{crash_lines}
+use Rattle.crash_text.specs.Lines.{line_of}
+use Rattle.crash_text.specs.Lists.{lists_lines}
+use Rattle.crash_text.specs.Messages.{messages_lines}
+use Rattle.crash_text.specs.Modules.{modules_lines}
+use Rattle.crash_text.specs.System.{head_lines}
+use Rattle.crash_text.specs.Threads.{crashed_lines, others_lines}
+
+-- the system, the process and the crash
+abbrev pub first_lines : CrashValue → List (List ℕ)
+first_lines c = head_lines c ++ (crash_lines c ++ damage_lines c)
+
+-- the thread that crashed, what the process said, and the other threads
+abbrev pub threads_lines : TextLimits → CrashValue → List (List ℕ)
+threads_lines limits c =
+    crashed_lines limits c ++ (messages_lines c.contents.messages ++ others_lines limits c)
+
+-- the modules and the other lists
+abbrev pub last_lines : TextLimits → CrashValue → List (List ℕ)
+last_lines limits c = modules_lines limits c c.contents.space.modules_error ++ lists_lines limits c
+
+-- the lines of a crash, in their order
+abbrev pub lines_of : TextLimits → CrashValue → List (List ℕ)
+lines_of limits c = first_lines c ++ (threads_lines limits c ++ last_lines limits c)
+
+-- the text of a crash: its lines, each as it is printed
+abbrev pub text_of : TextLimits → CrashValue → List ℕ
+text_of limits c = flat_map line_of (lines_of limits c)

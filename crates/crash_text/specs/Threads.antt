@@ -1,0 +1,125 @@
+-- The lines of threads.
+use Rattle.std.specs.Prelude.{ℕ, ◌++◌, ◌==◌, ◌&&◌, ◌||◌, Bool, false, true, List, [], ◌∷◌, Option}
+use Rattle.std.specs.Prelude.{Some, None, codes, if◌then◌else◌, slice_get}
+use Rattle.std.specs.Fmt.{decimal}
+use Rattle.std.specs.List.{concat, enumerate_from, flat_map}
+use Rattle.std.specs.Option.{option_and_then}
+use Rattle.minidump.specs.Below.Bytes.Piece.{hex}
+use Rattle.crash.specs.declared.contexts.ContextProblem.{ContextProblem}
+use Rattle.crash.specs.declared.contexts.ContextProblem.TheVariants.{Outside}
+use Rattle.crash.specs.declared.frames.CrashFrame.{CrashFrame}
+use Rattle.crash.specs.declared.stacks.StackRange.{StackRange}
+use Rattle.crash.specs.Crash.{CrashValue}
+use Rattle.crash.specs.Frames.{CrashWalkValue}
+use Rattle.crash.specs.Process.{SystemValue}
+use Rattle.crash.specs.Threads.{ThreadValue}
+use Rattle.crash_text.specs.declared.limits.TextLimits.{TextLimits}
+use Rattle.crash_text.specs.Frames.{printed_frames, walk_lines}
+use Rattle.crash_text.specs.Lines.{if_some}
+use Rattle.crash_text.specs.Words.{missing_lines, or_empty, where_some}
+
+-- ---- a thread
+
+-- the remark at a thread that the list of threads lacks
+abbrev pub remark : Bool → List ℕ
+remark true = []
+remark false = codes ", not in the list of threads"
+
+-- the line of a thread: its id, its name where it has one, and a remark
+unfoldable pub thread_row : ℕ → Option (List ℕ) → List ℕ → List ℕ
+thread_row id name words = concat (codes "thread " ∷ decimal id ∷ codes " (" ∷ hex id ∷ codes ")"
+    ∷ where_some (codes " \"") name ∷ or_empty name ∷ where_some (codes "\"") name ∷ words ∷ [])
+
+-- the line of its last error
+unfoldable pub error_row : List ℕ → List ℕ
+error_row error = concat (codes "    last error " ∷ error ∷ [])
+
+-- the line of a range of addresses
+unfoldable pub range_row : List ℕ → StackRange → List ℕ
+range_row what range = concat (codes "    " ∷ what ∷ codes " " ∷ hex range.base ∷ codes ", "
+    ∷ hex range.size ∷ codes " bytes" ∷ [])
+
+-- a range is another
+abbrev pub is_range : StackRange → Option StackRange → Bool
+is_range range (Some other) = other.base == range.base && other.size == range.size
+is_range range None = false
+
+-- the memory of a stack, where it isn't the stack as its entry names it
+abbrev pub memory_lines : Option StackRange → StackRange → List (List ℕ)
+memory_lines stack memory =
+    if is_range memory stack then [] else range_row (codes "stack memory") memory ∷ []
+
+-- the stack of a thread, and its memory
+abbrev pub stack_lines : ThreadValue → List (List ℕ)
+stack_lines t = if_some (λ range. range_row (codes "stack") range ∷ []) t.stack
+    ++ if_some (memory_lines t.stack) t.stack_memory
+
+-- why a thread's own context isn't used
+abbrev pub problem_row : Option ContextProblem → List ℕ
+problem_row (Some Outside) = codes "    its context is outside the file"
+problem_row _ = codes "    no context that can be read"
+
+-- why a thread has no frames
+abbrev pub no_walk_row : Option SystemValue → Option ContextProblem → List ℕ
+no_walk_row (Some _) problem = problem_row problem
+no_walk_row None problem = codes "    no frames without system information"
+
+-- what is found in the stack of a thread, or why nothing is
+abbrev pub found_lines : TextLimits → CrashValue → Bool → ThreadValue → Option CrashWalkValue
+    → List (List ℕ)
+found_lines limits c is_whole t (Some w) = walk_lines limits c.modules.loaded is_whole w
+found_lines limits c is_whole t None = no_walk_row c.process.system t.context_problem ∷ []
+
+-- a thread: also its stack, and the end of its walk, if all of its frames are asked for
+abbrev pub thread_lines : TextLimits → CrashValue → Bool → ThreadValue → List (List ℕ)
+thread_lines limits c is_whole t = thread_row t.id t.name (remark t.is_listed)
+    ∷ (if_some (λ error. error_row error ∷ []) t.last_error
+    ++ ((if is_whole then stack_lines t else [])
+    ++ found_lines limits c is_whole t t.walk))
+
+-- ---- threads
+
+-- whether an index is this one
+abbrev pub is_index : Option ℕ → ℕ → Bool
+is_index (Some index) number = index == number
+is_index None number = false
+
+-- the thread that crashed
+abbrev pub crashed_thread : CrashValue → Option ThreadValue
+crashed_thread c = option_and_then (slice_get c.threads.threads) c.threads.crashing
+
+-- its lines, or that there are no threads
+abbrev pub crashed_lines : TextLimits → CrashValue → List (List ℕ)
+crashed_lines limits c = missing_lines (codes "no threads") c.contents.threads.threads
+    ++ if_some (thread_lines limits c true) (crashed_thread c)
+
+-- a thread of an index, if it isn't the one that crashed
+abbrev pub other_lines : TextLimits → CrashValue → ℕ → ThreadValue → List (List ℕ)
+other_lines limits c number t = if is_index c.threads.crashing number then []
+    else thread_lines limits c limits.all_threads t
+
+-- those of threads that didn't crash
+abbrev pub each_other : TextLimits → CrashValue → List ThreadValue → List (List ℕ)
+each_other limits c threads =
+    flat_map (λ p. other_lines limits c p.0 p.1) (enumerate_from 0 threads)
+
+-- the other threads
+abbrev pub others_lines : TextLimits → CrashValue → List (List ℕ)
+others_lines limits c = each_other limits c c.threads.threads
+
+-- ---- all frames that are printed
+
+-- those of a walk, if there is one
+abbrev pub frames_of : TextLimits → Bool → Option CrashWalkValue → List CrashFrame
+frames_of limits is_whole (Some w) = printed_frames limits is_whole w
+frames_of limits is_whole None = []
+
+-- those of a thread with an index
+abbrev pub frames_at : TextLimits → Option ℕ → ℕ → ThreadValue → List CrashFrame
+frames_at limits crashing number t =
+    frames_of limits (is_index crashing number || limits.all_threads) t.walk
+
+-- those of all threads
+abbrev pub frames_in : TextLimits → Option ℕ → List ThreadValue → List CrashFrame
+frames_in limits crashing threads =
+    flat_map (λ p. frames_at limits crashing p.0 p.1) (enumerate_from 0 threads)

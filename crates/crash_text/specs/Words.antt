@@ -1,0 +1,28 @@
+-- Words of lines.
+use Rattle.std.specs.Prelude.{ℕ, List, [], ◌∷◌, Option, Some, None, Result, Ok, Err}
+use Rattle.std.specs.Prelude.{if◌then◌else◌, unwrap_or}
+use Rattle.minidump.specs.declared.Error.{Error}
+use Rattle.crash.specs.Missing.{is_missing}
+
+-- a text, or an empty one where there is none
+abbrev pub or_empty : Option (List ℕ) → List ℕ
+or_empty text = unwrap_or text []
+
+-- words before a text, and none before an empty one
+abbrev pub unless_empty : List ℕ → List ℕ → List ℕ
+unless_empty words [] = []
+unless_empty words (_ ∷ _) = words
+
+-- words around a text, and none where there is none
+abbrev pub where_some : List ℕ → Option (List ℕ) → List ℕ
+where_some words (Some _) = words
+where_some words None = []
+
+-- the line of an error if the error says that something is missing
+abbrev pub if_missing : List ℕ → Error → List (List ℕ)
+if_missing words e = if is_missing e then words ∷ [] else []
+
+-- the line of a stream that is missing, and none for one that is there, read or not
+abbrev pub missing_lines : {V : Type 0} → List ℕ → Result V Error → List (List ℕ)
+missing_lines words (Ok _) = []
+missing_lines words (Err e) = if_missing words e

@@ -1,0 +1,102 @@
+ghost use Rattle.std.specs.Prelude.{◌≡◌, [], ◌∷◌, IfOk, None, map, string_bytes};
+ghost use Rattle.crash.specs.Crash.{crash_of};
+ghost use Rattle.crash_text.specs.Damage.{damage_lines, damage_row, entries_lines, name_of_type};
+ghost use Rattle.crash_text.specs.Damage.{outside_row, stream_row, stream_text};
+ghost use Rattle.crash_text.specs.Lines.{Adds};
+
+use crate::lines::push_line;
+use crash::{Crash, Damage};
+use minidump::format::MINIDUMP_STREAM_TYPE;
+use minidump::text::Piece::{Decimal, Hex, Words};
+use minidump::text::format_pieces;
+use std::alloc::{AllocError, Global};
+
+// Appends the lines of what is there and can't be read.
+pub(crate) fn push_damage(out: &mut String, crash: &Crash<'_>) -> Result<(), AllocError>
+    ensures { Adds out.old out.new (damage_lines (crash_of crash.now)) result }
+{
+    push_each(out, crash.damage.as_slice())?;
+    push_entries(out, crash.directory.entries_outside)
+}
+
+// Appends the line of each of them.
+fn push_each(out: &mut String, damage: &[Damage]) -> Result<(), AllocError>
+    ensures { Adds out.old out.new (map damage_row damage.now) result }
+{
+    for item in damage {
+        push_item(out, item)?;
+    }
+    Ok(())
+}
+
+// Appends the line of something that can't be read.
+fn push_item(out: &mut String, damage: &Damage) -> Result<(), AllocError>
+    ensures { Adds out.old out.new (damage_row damage.now ∷ []) result }
+{
+    match *damage {
+        Damage::Stream { number, error } => {
+            let stream = stream_text(*out.allocator(), number)?;
+            push_stream(out, stream.as_str(), error.name())
+        }
+        Damage::ExceptionContext { thread } => {
+            push_outside(out, "the context of the exception on thread", thread)
+        }
+        Damage::ThreadContext { thread } => push_outside(out, "the context of thread", thread),
+        Damage::Stack { thread } => push_outside(out, "the stack of thread", thread),
+    }
+}
+
+#[rattlefmt::skip]
+#[tactic(auto, unfolding(crate::specs::Damage::stream_row))]
+fn push_stream<'t>(out: &mut String, stream: &'t str, error: &'t str) -> Result<(), AllocError>
+    ensures { Adds out.old out.new (stream_row stream.now error.now ∷ []) result }
+{
+    push_line(out, &[Words("can't be read: "), Words(stream), Words(": "), Words(error)])
+}
+
+#[rattlefmt::skip]
+#[tactic(auto, unfolding(crate::specs::Damage::outside_row))]
+fn push_outside(out: &mut String, what: &str, thread: u32) -> Result<(), AllocError>
+    ensures { Adds out.old out.new (outside_row what.now thread ∷ []) result }
+{
+    push_line(
+        out,
+        &[Words("outside the file: "), Words(what), Words(" "), Decimal(thread as u64), Words(" ("),
+            Hex(thread as u64), Words(")")],
+    )
+}
+
+// Makes the words for the stream of a type: its name, or its number if it has none.
+pub(crate) fn stream_text(alloc: Global, number: u32) -> Result<String, AllocError>
+    ensures { IfOk result (λ words. string_bytes words ≡ stream_text number) }
+{
+    match MINIDUMP_STREAM_TYPE::from_u32(number) {
+        Some(known_type) => String::from_str(alloc, known_type.name()),
+        None => unknown_text(alloc, number),
+    }
+}
+
+// Makes the words for the stream of a type that has no name.
+fn unknown_text(alloc: Global, number: u32) -> Result<String, AllocError>
+    ensures { IfOk result (λ words. string_bytes words ≡ name_of_type number None) }
+{
+    format_pieces(alloc, &[Words("stream "), Hex(number as u64)])
+}
+
+// Appends how many entries have bytes that are not all in the file, if there are any.
+#[tactic(auto, unfolding(crate::specs::Damage::entries_row))]
+fn push_entries(out: &mut String, count: u64) -> Result<(), AllocError>
+    ensures { Adds out.old out.new (entries_lines count) result }
+{
+    if count > 0 {
+        push_line(
+            out,
+            &[
+                Words("entries of the directory outside the file: "),
+                Decimal(count),
+            ],
+        )
+    } else {
+        Ok(())
+    }
+}

@@ -1,0 +1,60 @@
+//! Texts whose control characters are escapes, so that they neither begin a line nor change what a
+//! terminal shows.
+ghost use Rattle.std.specs.Prelude.{◌≡◌, ◌++◌, ◌∷◌, [], OnOk, chars, encode_utf8_all, false};
+ghost use Rattle.std.specs.Prelude.{string_bytes, true};
+ghost use Rattle.std.specs.List.{flat_map, list_all, list_any};
+ghost use Rattle.crash_text.specs.Escape.{escape, escape_char, escaped_text, is_control};
+ghost use Rattle.crash_text.specs.Escape.{is_printed};
+
+use std::alloc::AllocError;
+
+// Appends a text, each of its control characters as an escape, as `\u{1b}`. A text without control
+// characters is appended as it is.
+pub(crate) fn push_escaped(out: &mut String, text: &str) -> Result<(), AllocError>
+    ensures escaped_text { OnOk result (string_bytes out.new ≡ string_bytes out.old ++ escaped_text
+        text.now) }
+    ensures printed { OnOk result (list_all is_printed (escaped_text text.now) ≡ true) }
+    ensures plain { OnOk result (list_any is_control (chars text.now) ≡ false
+        → escaped_text text.now ≡ text.now) }
+{
+    for c in text.chars() {
+        push_char(out, c)?;
+    }
+    Ok(())
+}
+
+// Appends a character, or its escape.
+fn push_char(out: &mut String, c: char) -> Result<(), AllocError>
+    ensures { OnOk result (string_bytes out.new ≡ string_bytes out.old ++ encode_utf8_all
+        (flat_map escape_char (c ∷ []))) }
+{
+    if is_control(c) {
+        push_escape(out, c)
+    } else {
+        out.push(c)
+    }
+}
+
+// Appends the escape of a character.
+fn push_escape(out: &mut String, c: char) -> Result<(), AllocError>
+    ensures { OnOk result (string_bytes out.new ≡ string_bytes out.old ++ escape c) }
+{
+    let number = u32::from(c);
+    write!(out, "\\u{{{number:x}}}")
+}
+
+// Tells whether a character is shown as an escape: one of the control characters, a line or
+// paragraph separator, or a mark that changes the direction of text.
+fn is_control(c: char) -> bool
+    ensures { result ≡ is_control c }
+{
+    matches!(
+        c,
+        '\0'..='\u{1f}'
+            | '\u{7f}'..='\u{9f}'
+            | '\u{61c}'
+            | '\u{200e}'..='\u{200f}'
+            | '\u{2028}'..='\u{202e}'
+            | '\u{2066}'..='\u{2069}'
+    )
+}

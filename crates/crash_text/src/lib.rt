@@ -1,0 +1,67 @@
+//! The text of a crash: who crashed, where, why and by whom called, as a function of its value.
+//!
+//! [`text_of`] makes the text of a [`crash::Crash`], and [`crash_text`] that of the bytes of a
+//! minidump. Its lines are, in this order:
+//!
+//! - the system with its processor, the release of Linux, the arguments with which macOS was
+//!   booted, the date of the dump in UTC, the id of the process, and for how long it ran;
+//! - of the exception that counts the thread, the address with its module, the reason, the code and
+//!   where it happened; the registers of the thread, four a row, and why the context of the
+//!   exception isn't used; then all exceptions, if there are several;
+//! - what is there and can't be read, as `can't be read: ThreadListStream: StreamReadFailure`, and
+//!   how many entries of the directory have bytes outside the file;
+//! - the thread that crashed, with its name, its last error, its stack, its frames, and why the
+//!   last of them has no caller;
+//! - what the process itself said: an assertion, Crashpad's annotations, macOS's messages and
+//!   Mozilla's soft errors;
+//! - each other thread with its name, its last error and its first frame, or as the one that
+//!   crashed if all threads are asked for;
+//! - the number of modules; then each that a line before names, in the order of the list: its base
+//!   address, its path, its version, and what a symbol server needs: the name and the identifier of
+//!   its debug file and of its code file;
+//! - the numbers of unloaded modules, streams, regions of memory, maps and handles.
+//!
+//! A frame's line has its number, its address, its module with the offset in it, and how it was
+//! found. The address of a caller is that of its call: the return address less one. The candidates
+//! of the stack follow the frames, numbered on.
+//!
+//! Where the system information, the exception, the threads or the modules are missing, that is a
+//! line, as `no exception`; any other missing stream has none. What [`TextLimits`] leaves out is
+//! told by its number alone.
+//!
+//! A text of the dump can't begin a line, nor change what a terminal shows: control characters,
+//! ends of lines and marks of direction are printed as escapes, as `\u{1b}`. A backslash stays as
+//! it is, so that paths of Windows can be read: a text may look like an escape, and a name may hold
+//! quotation marks.
+//!
+//! # Errors
+//!
+//! Making a text takes memory: `AllocError`. There is no text then, and [`push_line`] leaves its
+//! text as it was.
+//!
+//! # What is proved
+//!
+//! - The text is the one that the definition `text_of` assigns to the value of the crash, and so to
+//!   the bytes: [`text_of`], [`crash_text`].
+//! - It has no control character below 0x20 but the ends of its lines, and no 0x7f: [`text_of`].
+#![tactic(auto)]
+
+mod damage;
+mod escape;
+mod exceptions;
+mod frames;
+mod limits;
+mod lines;
+mod lists;
+mod messages;
+mod modules;
+mod places;
+mod registers;
+mod system;
+mod text;
+mod threads;
+mod words;
+
+pub use limits::TextLimits;
+pub use lines::push_line;
+pub use text::{crash_text, text_of};

@@ -1,0 +1,181 @@
+ghost use Rattle.std.specs.Prelude.{◌≡◌, [], ◌∷◌, ◌||◌, IfOk, None, Some, codes, map, string_bytes};
+ghost use Rattle.std.specs.List.{list_any};
+ghost use Rattle.std.specs.Option.{option_map};
+ghost use Rattle.crash.specs.Crash.{crash_of};
+ghost use Rattle.crash.specs.Modules.{loaded_of};
+ghost use Rattle.crash_text.specs.Lines.{Adds};
+ghost use Rattle.crash_text.specs.Modules.{address_place, count_row, each_module, is_in, is_named};
+ghost use Rattle.crash_text.specs.Modules.{key_text, listed_lines, module_line, module_row};
+ghost use Rattle.crash_text.specs.Modules.{modules_lines};
+
+use crate::limits::TextLimits;
+use crate::lines::push_line;
+use crate::threads::frames_in;
+use crate::words::{or_empty, push_if_missing, where_some};
+use crash::{AddressFacts, Crash, CrashFrame, CrashModule};
+use minidump::Error;
+use minidump::text::Piece::{Decimal, Hex, Words};
+use minidump::text::format_pieces;
+use std::alloc::{AllocError, Global};
+
+// Appends the number of modules and those that other lines name, or that their list is missing.
+pub(crate) fn push_modules(
+    out: &mut String,
+    crash: &Crash<'_>,
+    limits: &TextLimits,
+    error: Option<Error>,
+) -> Result<(), AllocError>
+    ensures { Adds out.old out.new (modules_lines limits.now (crash_of crash.now) error) result }
+{
+    match error {
+        None => push_list(out, crash, limits),
+        Some(error) => push_if_missing(out, "no modules", error),
+    }
+}
+
+// Appends the number of modules, and those that other lines name.
+fn push_list(out: &mut String, crash: &Crash<'_>, limits: &TextLimits) -> Result<(), AllocError>
+    ensures { Adds out.old out.new (modules_lines limits.now (crash_of crash.now) None) result }
+{
+    let alloc = *out.allocator();
+    let threads = crash.threads.threads.as_slice();
+    let frames = frames_in(alloc, limits, crash.threads.crashing, threads)?;
+    let modules = crash.modules.loaded.as_slice();
+    push_count(out, modules.len())?;
+    push_each(out, limits, crash.cause.address, frames.as_slice(), modules)
+}
+
+#[tactic(auto, unfolding(crate::specs::Modules::count_row))]
+fn push_count(out: &mut String, count: usize) -> Result<(), AllocError>
+    ensures { Adds out.old out.new (count_row count ∷ []) result }
+{
+    push_line(out, &[Words("modules "), Decimal(count as u64)])
+}
+
+// Appends the lines of the modules that are listed.
+fn push_each(
+    out: &mut String,
+    limits: &TextLimits,
+    address: Option<AddressFacts>,
+    frames: &[CrashFrame],
+    modules: &[CrashModule],
+) -> Result<(), AllocError>
+    ensures { Adds out.old out.new
+        (each_module limits.now address frames.now (map loaded_of modules.now)) result }
+{
+    for (index, module) in modules.iter().enumerate() {
+        push_if_listed(out, limits, address, frames, index, module)?;
+    }
+    Ok(())
+}
+
+// Appends the line of a module with its index, if all modules are listed or other lines name it.
+fn push_if_listed(
+    out: &mut String,
+    limits: &TextLimits,
+    address: Option<AddressFacts>,
+    frames: &[CrashFrame],
+    index: usize,
+    module: &CrashModule,
+) -> Result<(), AllocError>
+    ensures { Adds out.old out.new
+        (listed_lines limits.now address frames.now (index, loaded_of module.now)) result }
+{
+    if limits.lists || is_named(address, frames, index) {
+        push_module(out, module)
+    } else {
+        Ok(())
+    }
+}
+
+// Tells whether the address of the crash or one of these frames is in the module of an index.
+fn is_named(address: Option<AddressFacts>, frames: &[CrashFrame], index: usize) -> bool
+    ensures { result ≡ is_named address frames.now index }
+{
+    is_in(index, address_place(address)) || has_frame_in(frames, index)
+}
+
+// Returns the place of the address of the crash, if it is known.
+fn address_place(address: Option<AddressFacts>) -> Option<(usize, u64)>
+    ensures { result ≡ address_place address }
+{
+    address?.module
+}
+
+// Tells whether one of these frames is in the module of an index.
+fn has_frame_in(frames: &[CrashFrame], index: usize) -> bool
+    ensures { result ≡ list_any (λ f. is_in index f.«module») frames.now }
+{
+    frames.iter().any(|frame| is_in(index, frame.module))
+}
+
+// Tells whether a place is in the module of an index.
+fn is_in(index: usize, place: Option<(usize, u64)>) -> bool
+    ensures { result ≡ is_in index place }
+{
+    match place {
+        Some(place) => place.0 == index,
+        None => false,
+    }
+}
+
+// Appends the line of a module.
+fn push_module(out: &mut String, module: &CrashModule) -> Result<(), AllocError>
+    ensures { Adds out.old out.new (module_line (loaded_of module.now) ∷ []) result }
+{
+    let alloc = *out.allocator();
+    let debug = debug_text(alloc, module)?;
+    let code = key_text(alloc, ", code ", &module.file, &module.code_id)?;
+    push_row(out, module, debug.as_str(), code.as_str())
+}
+
+#[rattlefmt::skip]
+#[tactic(auto, unfolding(crate::specs::Modules::module_row))]
+fn push_row<'t>(
+    out: &mut String,
+    module: &'t CrashModule,
+    debug: &'t str,
+    code: &'t str,
+) -> Result<(), AllocError>
+    ensures { Adds out.old out.new (module_row module.now.base (string_bytes module.now.path)
+        (option_map string_bytes module.now.version) debug.now code.now ∷ []) result }
+{
+    push_line(
+        out,
+        &[Words("    "), Hex(module.base), Words(" "), Words(module.path.as_str()),
+            Words(where_some(", version ", &module.version)), Words(or_empty(&module.version)),
+            Words(debug), Words(code)],
+    )
+}
+
+// Makes the words for the debug file of a module, none if it lacks the name or the identifier.
+fn debug_text(alloc: Global, module: &CrashModule) -> Result<String, AllocError>
+    ensures { IfOk result (λ words. string_bytes words ≡ key_text (codes ", debug ")
+        (option_map string_bytes module.now.debug_file)
+        (option_map string_bytes module.now.debug_id)) }
+{
+    match &module.debug_file {
+        Some(file) => key_text(alloc, ", debug ", file, &module.debug_id),
+        None => Ok(String::new(alloc)),
+    }
+}
+
+// Makes the words for the name of a file and an identifier, none if it lacks the identifier.
+#[rattlefmt::skip]
+pub(crate) fn key_text<'x>(
+    alloc: Global,
+    label: &'x str,
+    file: &'x String,
+    id: &'x Option<String>,
+) -> Result<String, AllocError>
+    ensures { IfOk result (λ words. string_bytes words ≡ key_text label.now
+        (Some (string_bytes file.now)) (option_map string_bytes id.now)) }
+{
+    match id {
+        Some(id) => format_pieces(
+            alloc,
+            &[Words(label), Words(file.as_str()), Words("/"), Words(id.as_str())],
+        ),
+        None => Ok(String::new(alloc)),
+    }
+}

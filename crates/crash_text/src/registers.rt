@@ -1,0 +1,142 @@
+ghost use Rattle.std.specs.Prelude.{◌≡◌, [], ◌∷◌, ◌++◌, IfOk, OnOk, Some, map, string_bytes};
+ghost use Rattle.std.specs.List.{flat_map};
+ghost use Rattle.std.specs.Option.{option_copied, option_map};
+ghost use Rattle.crash.specs.declared.contexts.ContextProblem.TheVariants.{NotAccepted};
+ghost use Rattle.crash.specs.Cause.{exception_of};
+ghost use Rattle.crash.specs.Contexts.{context_of};
+ghost use Rattle.crash.specs.Crash.{crash_of};
+ghost use Rattle.crash_text.specs.Lines.{Adds};
+ghost use Rattle.crash_text.specs.Registers.{context_lines, crashed_context, heading_of};
+ghost use Rattle.crash_text.specs.Registers.{known_lines, register_row, register_words};
+ghost use Rattle.crash_text.specs.Registers.{registers_lines, rows, unused_lines};
+
+use crate::lines::push_line;
+use crate::words::push_words;
+use crash::{ContextOrigin, ContextProblem, Crash, CrashContext, CrashException};
+use minidump::text::Piece::{Decimal, Left, Wide, Words};
+use minidump::text::push_pieces;
+use std::alloc::{AllocError, Global};
+
+// Appends why the context of an exception isn't used, and the registers of the thread that crashed:
+// nothing without the system.
+pub(crate) fn push_registers(
+    out: &mut String,
+    crash: &Crash<'_>,
+    exception: &CrashException,
+) -> Result<(), AllocError>
+    ensures { Adds out.old out.new
+        (registers_lines (crash_of crash.now) (exception_of exception.now)) result }
+{
+    match &crash.process.system {
+        Some(_) => {
+            push_unused(out, exception.context_problem)?;
+            push_known(out, crashed_context(crash))
+        }
+        None => Ok(()),
+    }
+}
+
+// Appends why the context of an exception isn't used, if it is no context of the processor.
+#[tactic(auto, unfolding(crate::specs::Registers::unusable_row))]
+fn push_unused(out: &mut String, problem: Option<ContextProblem>) -> Result<(), AllocError>
+    ensures { Adds out.old out.new (unused_lines problem) result }
+{
+    match problem {
+        Some(ContextProblem::NotAccepted { size }) => push_unusable(out, size),
+        Some(ContextProblem::Outside | ContextProblem::NoSystem) | None => Ok(()),
+    }
+}
+
+// Appends that so many bytes are no context, if there are any.
+#[rattlefmt::skip]
+#[tactic(auto, unfolding(crate::specs::Registers::unusable_row))]
+fn push_unusable(out: &mut String, size: usize) -> Result<(), AllocError>
+    ensures { Adds out.old out.new (unused_lines (Some (NotAccepted size))) result }
+{
+    if size == 0 {
+        return Ok(());
+    }
+    push_line(
+        out,
+        &[Words("the context of the exception can't be read, "), Decimal(size as u64),
+            Words(" bytes")],
+    )
+}
+
+// Returns the registers of the thread that crashed.
+fn crashed_context<'l>(crash: &'l Crash<'_>) -> Option<&'l CrashContext>
+    ensures { option_map context_of (option_copied result) ≡ crashed_context (crash_of crash.now) }
+{
+    let threads = crash.threads.threads.as_slice();
+    threads.get(crash.threads.crashing?)?.context.as_ref()
+}
+
+// Appends registers, or that there are none.
+fn push_known(out: &mut String, context: Option<&CrashContext>) -> Result<(), AllocError>
+    ensures { Adds out.old out.new
+        (known_lines (option_map context_of (option_copied context.entry))) result }
+{
+    match context {
+        Some(context) => {
+            push_words(out, heading_of(context.origin))?;
+            push_rows(out, context.registers.as_slice(), context.size)
+        }
+        None => push_words(out, "no registers that can be read"),
+    }
+}
+
+// Returns the words for whose registers they are.
+fn heading_of(origin: ContextOrigin) -> &'static str
+    ensures { result.now ≡ heading_of origin }
+{
+    match origin {
+        ContextOrigin::OfException => "registers at the exception",
+        ContextOrigin::OfThread => "registers of the thread when the dump was written",
+    }
+}
+
+// Appends the rows of registers, four a row, of which each has so many bytes.
+fn push_rows(
+    out: &mut String,
+    registers: &[(&'static str, u64)],
+    size: usize,
+) -> Result<(), AllocError>
+    ensures { Adds out.old out.new (map (register_row size)
+        (rows (map (λ r. (r.0.now, r.1)) registers.now))) result }
+{
+    for row in registers.chunks(4) {
+        push_row(out, row, size)?;
+    }
+    Ok(())
+}
+
+// Appends a row of registers.
+#[tactic(auto, unfolding(crate::specs::Registers::register_row))]
+fn push_row(out: &mut String, row: &[(&'static str, u64)], size: usize) -> Result<(), AllocError>
+    ensures { Adds out.old out.new
+        (register_row size (map (λ r. (r.0.now, r.1)) row.now) ∷ []) result }
+{
+    let words = row_words(*out.allocator(), row, size)?;
+    push_line(out, &[Words("  "), Words(words.as_str())])
+}
+
+// Makes the words for registers.
+fn row_words(alloc: Global, row: &[(&'static str, u64)], size: usize) -> Result<String, AllocError>
+    ensures { IfOk result (λ words. string_bytes words ≡ flat_map (register_words size)
+        (map (λ r. (r.0.now, r.1)) row.now)) }
+{
+    let mut words = String::new(alloc);
+    for register in row {
+        push_register(&mut words, register.0, register.1, size)?;
+    }
+    Ok(words)
+}
+
+// Appends the words for a register: its name in three columns, and its value.
+#[rattlefmt::skip]
+fn push_register(words: &mut String, name: &str, value: u64, size: usize) -> Result<(), AllocError>
+    ensures { OnOk result (string_bytes words.new
+        ≡ string_bytes words.old ++ register_words size (name.now, value)) }
+{
+    push_pieces(words, &[Words("  "), Left(3, name), Words(" "), Wide(value, 2 * size.min(8))])
+}

@@ -1,0 +1,358 @@
+ghost use Rattle.std.specs.Prelude.{◌≡◌, [], ◌∷◌, ◌++◌, ◌||◌, IfOk, OnOk, codes, if◌then◌else◌, map};
+ghost use Rattle.std.specs.Prelude.{string_bytes, true};
+ghost use Rattle.std.specs.Option.{option_copied, option_map};
+ghost use Rattle.minidump.specs.Below.Contexts.Context.{map_ok};
+ghost use Rattle.minidump.specs.Promise.{thread_list_stream};
+ghost use Rattle.crash.specs.Crash.{crash_of};
+ghost use Rattle.crash.specs.Frames.{crash_walk_of};
+ghost use Rattle.crash.specs.Process.{system_of};
+ghost use Rattle.crash.specs.Threads.{thread_value};
+ghost use Rattle.crash_text.specs.Frames.{printed_frames};
+ghost use Rattle.crash_text.specs.Lines.{Adds, if_some};
+ghost use Rattle.crash_text.specs.Threads.{crashed_lines, crashed_thread, each_other, error_row};
+ghost use Rattle.crash_text.specs.Threads.{found_lines};
+ghost use Rattle.crash_text.specs.Threads.{frames_at, frames_in, frames_of, is_index, is_range};
+ghost use Rattle.crash_text.specs.Threads.{memory_lines, no_walk_row, other_lines, others_lines};
+ghost use Rattle.crash_text.specs.Threads.{problem_row, range_row, remark, stack_lines};
+ghost use Rattle.crash_text.specs.Threads.{thread_lines, thread_row};
+ghost use Rattle.crash_text.specs.Words.{missing_lines};
+
+use crate::frames::{push_frames_of, push_walk};
+use crate::limits::TextLimits;
+use crate::lines::push_line;
+use crate::words::{or_empty, push_if_missing, push_words, where_some};
+use crash::{ContextProblem, Crash, CrashFrame, CrashSystem, CrashThread, CrashWalk, StackRange};
+use minidump::text::Piece::{Decimal, Hex, Words};
+use minidump::{Error, MinidumpThreadList};
+use std::alloc::{AllocError, Global};
+
+// Appends the lines of the thread that crashed, or that there are no threads.
+pub(crate) fn push_crashed(
+    out: &mut String,
+    crash: &Crash<'_>,
+    limits: &TextLimits,
+) -> Result<(), AllocError>
+    ensures { Adds out.old out.new (crashed_lines limits.now (crash_of crash.now)) result }
+{
+    push_missing(out, &crash.contents.threads.threads)?;
+    push_if_crashed(out, crash, limits, crashed_thread(crash))
+}
+
+// Appends that there are no threads, if their list is missing.
+fn push_missing(
+    out: &mut String,
+    threads: &Result<MinidumpThreadList<'_>, Error>,
+) -> Result<(), AllocError>
+    ensures { Adds out.old out.new (missing_lines (codes "no threads")
+        (map_ok thread_list_stream.value threads.now)) result }
+{
+    match threads {
+        Ok(_) => Ok(()),
+        Err(error) => push_if_missing(out, "no threads", *error),
+    }
+}
+
+// Returns the thread that crashed.
+fn crashed_thread<'l>(crash: &'l Crash<'_>) -> Option<&'l CrashThread>
+    ensures { option_map thread_value (option_copied result) ≡ crashed_thread (crash_of crash.now) }
+{
+    crash
+        .threads
+        .threads
+        .as_slice()
+        .get(crash.threads.crashing?)
+}
+
+// Appends the lines of the thread that crashed, if there is one.
+fn push_if_crashed(
+    out: &mut String,
+    crash: &Crash<'_>,
+    limits: &TextLimits,
+    thread: Option<&CrashThread>,
+) -> Result<(), AllocError>
+    ensures { Adds out.old out.new (if_some (thread_lines limits.now (crash_of crash.now) true)
+        (option_map thread_value (option_copied thread.entry))) result }
+{
+    match thread {
+        Some(thread) => push_thread(out, crash, limits, true, thread),
+        None => Ok(()),
+    }
+}
+
+// Appends the lines of the other threads.
+pub(crate) fn push_others(
+    out: &mut String,
+    crash: &Crash<'_>,
+    limits: &TextLimits,
+) -> Result<(), AllocError>
+    ensures { Adds out.old out.new (others_lines limits.now (crash_of crash.now)) result }
+{
+    push_each_other(out, crash, limits, crash.threads.threads.as_slice())
+}
+
+// Appends the lines of those of the threads that didn't crash.
+fn push_each_other(
+    out: &mut String,
+    crash: &Crash<'_>,
+    limits: &TextLimits,
+    threads: &[CrashThread],
+) -> Result<(), AllocError>
+    ensures { Adds out.old out.new
+        (each_other limits.now (crash_of crash.now) (map thread_value threads.now)) result }
+{
+    for (number, thread) in threads.iter().enumerate() {
+        push_other(out, crash, limits, number, thread)?;
+    }
+    Ok(())
+}
+
+// Appends the lines of a thread with its index, if it isn't the one that crashed.
+fn push_other(
+    out: &mut String,
+    crash: &Crash<'_>,
+    limits: &TextLimits,
+    number: usize,
+    thread: &CrashThread,
+) -> Result<(), AllocError>
+    ensures { Adds out.old out.new
+        (other_lines limits.now (crash_of crash.now) number (thread_value thread.now)) result }
+{
+    if is_index(crash.threads.crashing, number) {
+        Ok(())
+    } else {
+        push_thread(out, crash, limits, limits.all_threads, thread)
+    }
+}
+
+// Tells whether an index is this one.
+fn is_index(index: Option<usize>, number: usize) -> bool
+    ensures { result ≡ is_index index number }
+{
+    match index {
+        Some(index) => index == number,
+        None => false,
+    }
+}
+
+// Appends the lines of a thread.
+fn push_thread(
+    out: &mut String,
+    crash: &Crash<'_>,
+    limits: &TextLimits,
+    is_whole: bool,
+    thread: &CrashThread,
+) -> Result<(), AllocError>
+    ensures { Adds out.old out.new
+        (thread_lines limits.now (crash_of crash.now) is_whole (thread_value thread.now)) result }
+{
+    push_row(out, thread.id, &thread.name, remark(thread.is_listed))?;
+    push_error(out, &thread.last_error)?;
+    push_stack_if(out, is_whole, thread)?;
+    push_found(out, crash, limits, is_whole, thread)
+}
+
+// Returns the remark at a thread that the list of threads lacks.
+fn remark(is_listed: bool) -> &'static str
+    ensures { result.now ≡ remark is_listed }
+{
+    if is_listed {
+        ""
+    } else {
+        ", not in the list of threads"
+    }
+}
+
+#[rattlefmt::skip]
+#[tactic(auto, unfolding(crate::specs::Threads::thread_row))]
+fn push_row<'x>(
+    out: &mut String,
+    id: u32,
+    name: &'x Option<String>,
+    words: &'x str,
+) -> Result<(), AllocError>
+    ensures { Adds out.old out.new
+        (thread_row id (option_map string_bytes name.now) words.now ∷ []) result }
+{
+    push_line(
+        out,
+        &[Words("thread "), Decimal(id as u64), Words(" ("), Hex(id as u64), Words(")"),
+            Words(where_some(" \"", name)), Words(or_empty(name)), Words(where_some("\"", name)),
+            Words(words)],
+    )
+}
+
+// Appends the last error of a thread, if it has one.
+fn push_error(out: &mut String, error: &Option<String>) -> Result<(), AllocError>
+    ensures { Adds out.old out.new (if_some (λ error. error_row error ∷ [])
+        (option_map string_bytes error.now)) result }
+{
+    match error {
+        Some(error) => push_error_row(out, error.as_str()),
+        None => Ok(()),
+    }
+}
+
+#[tactic(auto, unfolding(crate::specs::Threads::error_row))]
+fn push_error_row(out: &mut String, error: &str) -> Result<(), AllocError>
+    ensures { Adds out.old out.new (error_row error.now ∷ []) result }
+{
+    push_line(out, &[Words("    last error "), Words(error)])
+}
+
+// Appends the lines of the stack of a thread, if all of its frames are asked for.
+fn push_stack_if(out: &mut String, is_whole: bool, thread: &CrashThread) -> Result<(), AllocError>
+    ensures { Adds out.old out.new
+        (if is_whole then stack_lines (thread_value thread.now) else []) result }
+{
+    if is_whole {
+        push_stack(out, thread)
+    } else {
+        Ok(())
+    }
+}
+
+// Appends the lines of the stack of a thread, and of its memory.
+fn push_stack(out: &mut String, thread: &CrashThread) -> Result<(), AllocError>
+    ensures { Adds out.old out.new (stack_lines (thread_value thread.now)) result }
+{
+    push_named(out, &thread.stack)?;
+    push_memory(out, &thread.stack, &thread.stack_memory)
+}
+
+// Appends the line of a stack as its entry names it, if it does.
+fn push_named(out: &mut String, stack: &Option<StackRange>) -> Result<(), AllocError>
+    ensures { Adds out.old out.new
+        (if_some (λ range. range_row (codes "stack") range ∷ []) stack.now) result }
+{
+    match stack {
+        Some(range) => push_range(out, "stack", range),
+        None => Ok(()),
+    }
+}
+
+// Appends the line of the memory of a stack, if it isn't the stack as its entry names it.
+fn push_memory(
+    out: &mut String,
+    stack: &Option<StackRange>,
+    memory: &Option<StackRange>,
+) -> Result<(), AllocError>
+    ensures { Adds out.old out.new (if_some (memory_lines stack.now) memory.now) result }
+{
+    match memory {
+        Some(range) if is_range(range, stack) => Ok(()),
+        Some(range) => push_range(out, "stack memory", range),
+        None => Ok(()),
+    }
+}
+
+// Tells whether a range is another.
+fn is_range(range: &StackRange, other: &Option<StackRange>) -> bool
+    ensures { result ≡ is_range range.now other.now }
+{
+    match other {
+        Some(other) => other.base == range.base && other.size == range.size,
+        None => false,
+    }
+}
+
+#[rattlefmt::skip]
+#[tactic(auto, unfolding(crate::specs::Threads::range_row))]
+fn push_range(out: &mut String, what: &str, range: &StackRange) -> Result<(), AllocError>
+    ensures { Adds out.old out.new (range_row what.now range.now ∷ []) result }
+{
+    push_line(
+        out,
+        &[Words("    "), Words(what), Words(" "), Hex(range.base), Words(", "), Hex(range.size),
+            Words(" bytes")],
+    )
+}
+
+// Appends what is found in the stack of a thread, or why nothing is.
+fn push_found(
+    out: &mut String,
+    crash: &Crash<'_>,
+    limits: &TextLimits,
+    is_whole: bool,
+    thread: &CrashThread,
+) -> Result<(), AllocError>
+    ensures { Adds out.old out.new (found_lines limits.now (crash_of crash.now) is_whole
+        (thread_value thread.now) (thread_value thread.now).walk) result }
+{
+    match &thread.walk {
+        Some(walk) => push_walk(out, limits, crash.modules.loaded.as_slice(), is_whole, walk),
+        None => push_words(
+            out,
+            no_walk_row(&crash.process.system, thread.context_problem),
+        ),
+    }
+}
+
+// Returns why a thread has no frames.
+fn no_walk_row(system: &Option<CrashSystem>, problem: Option<ContextProblem>) -> &'static str
+    ensures { result.now ≡ no_walk_row (option_map system_of system.now) problem }
+{
+    match system {
+        Some(_) => problem_row(problem),
+        None => "    no frames without system information",
+    }
+}
+
+// Returns why the own context of a thread isn't used.
+fn problem_row(problem: Option<ContextProblem>) -> &'static str
+    ensures { result.now ≡ problem_row problem }
+{
+    match problem {
+        Some(ContextProblem::Outside) => "    its context is outside the file",
+        Some(ContextProblem::NoSystem | ContextProblem::NotAccepted { .. }) | None => {
+            "    no context that can be read"
+        }
+    }
+}
+
+// Returns the frames of all threads that are printed.
+pub(crate) fn frames_in(
+    alloc: Global,
+    limits: &TextLimits,
+    crashing: Option<usize>,
+    threads: &[CrashThread],
+) -> Result<Vec<CrashFrame>, AllocError>
+    ensures { IfOk result (λ frames. frames.items
+        ≡ frames_in limits.now crashing (map thread_value threads.now)) }
+{
+    let mut frames = Vec::new(alloc);
+    for (number, thread) in threads.iter().enumerate() {
+        push_frames_at(&mut frames, limits, crashing, number, thread)?;
+    }
+    Ok(frames)
+}
+
+// Appends the frames of a thread with its index that are printed.
+fn push_frames_at(
+    frames: &mut Vec<CrashFrame>,
+    limits: &TextLimits,
+    crashing: Option<usize>,
+    number: usize,
+    thread: &CrashThread,
+) -> Result<(), AllocError>
+    ensures { OnOk result (frames.new.items ≡ frames.old.items
+        ++ frames_at limits.now crashing number (thread_value thread.now)) }
+{
+    let is_whole = is_index(crashing, number) || limits.all_threads;
+    push_if_found(frames, limits, is_whole, &thread.walk)
+}
+
+// Appends the frames of a walk that are printed, if there is one.
+fn push_if_found(
+    frames: &mut Vec<CrashFrame>,
+    limits: &TextLimits,
+    is_whole: bool,
+    walk: &Option<CrashWalk>,
+) -> Result<(), AllocError>
+    ensures { OnOk result (frames.new.items ≡ frames.old.items
+        ++ frames_of limits.now is_whole (option_map crash_walk_of walk.now)) }
+{
+    match walk {
+        Some(walk) => push_frames_of(frames, limits, is_whole, walk),
+        None => Ok(()),
+    }
+}

@@ -1,7 +1,0 @@
-use Rattle.std.proofs.Common.{◌∙◌, sym}
-use Rattle.escapes.proofs.EscapeLemmas.{escape_bytes}
-use Rattle.escapes.proofs.push_char.Goals as goal
-
-pub returns-then-is_control : goal.returns-then-is_control
-returns-then-is_control c =
-    rw (escape_bytes c.args.c (sym c.is_control.ensures ∙ c.if-is_control.true)) c.push_escape.ensures

@@ -1,2 +1,0 @@
--- What comes after the last item that passes a test.
-mod AfterLast

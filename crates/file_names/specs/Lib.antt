@@ -1,2 +1,0 @@
--- The definition that the contract cites.
-pub mod FileName

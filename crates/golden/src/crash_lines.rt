@@ -1,0 +1,143 @@
+use crash::{
+    Crash, CrashDirectory, CrashException, CrashProcess, CrashSystem, CrashThread, CrashThreads,
+    LsbRelease,
+};
+use minidump::Error;
+use std::io;
+use std::io::Write;
+
+/// Appends the lines of a crash: the directory, the process, the exceptions, the threads and the
+/// damage.
+pub fn push_crash(crash: &Crash<'_>, out: &mut Vec<u8>) -> io::Result<()> {
+    push_directory(&crash.directory, out)?;
+    push_process(&crash.process, out)?;
+    push_exceptions(crash.cause.exceptions.as_slice(), out)?;
+    writeln!(out, "counts {:?}", crash.cause.counts)?;
+    writeln!(out, "address {:?}", crash.cause.address)?;
+    push_threads(&crash.threads, out)?;
+    for damage in &crash.damage {
+        writeln!(out, "damage {damage:?}")?;
+    }
+    Ok(())
+}
+
+// Appends a line for the header, and one for each stream.
+fn push_directory(directory: &CrashDirectory, out: &mut Vec<u8>) -> io::Result<()> {
+    let outside = directory.entries_outside;
+    writeln!(out, "written {} outside {outside}", directory.written)?;
+    for entry in &directory.entries {
+        writeln!(out, "{entry:?}")?;
+    }
+    Ok(())
+}
+
+// Appends a line for the process, one for the system and one for the release.
+fn push_process(process: &CrashProcess, out: &mut Vec<u8>) -> io::Result<()> {
+    writeln!(out, "process {:?} uptime {:?}", process.id, process.uptime)?;
+    push_system(&process.system, out)?;
+    push_release(&process.release, out)
+}
+
+fn push_system(system: &Option<CrashSystem>, out: &mut Vec<u8>) -> io::Result<()> {
+    let Some(system) = system else {
+        return writeln!(out, "system none");
+    };
+    let version = system.version.as_str();
+    let build = system.build.as_deref().unwrap_or("none");
+    writeln!(out, "system {} {} {version} {build}", system.os, system.cpu)
+}
+
+fn push_release(release: &Option<LsbRelease>, out: &mut Vec<u8>) -> io::Result<()> {
+    let Some(found) = release else {
+        return writeln!(out, "release none");
+    };
+    let id = found.id.as_deref().unwrap_or("none");
+    let release = found.release.as_deref().unwrap_or("none");
+    let codename = found.codename.as_deref().unwrap_or("none");
+    let description = found.description.as_deref().unwrap_or("none");
+    writeln!(out, "release {id}, {release}, {codename}, {description}")
+}
+
+// Appends a line for each exception.
+fn push_exceptions(
+    exceptions: &[Result<CrashException, Error>],
+    out: &mut Vec<u8>,
+) -> io::Result<()> {
+    for exception in exceptions {
+        match exception {
+            Ok(exception) => push_exception(exception, out)?,
+            Err(error) => writeln!(out, "exception {error:?}")?,
+        }
+    }
+    Ok(())
+}
+
+fn push_exception(exception: &CrashException, out: &mut Vec<u8>) -> io::Result<()> {
+    let CrashException {
+        thread,
+        code,
+        at,
+        ..
+    } = exception;
+    let reason = exception.reason.as_deref().unwrap_or("none");
+    let (address, problem) = (exception.address, exception.context_problem);
+    writeln!(
+        out,
+        "exception on {thread:#x} code {code:#x} at {at:#x} address {address:?} {problem:?} {reason}"
+    )
+}
+
+// Appends the lines of each thread, and one for which of them crashed.
+fn push_threads(threads: &CrashThreads, out: &mut Vec<u8>) -> io::Result<()> {
+    for thread in &threads.threads {
+        push_thread(thread, out)?;
+        push_context(thread, out)?;
+        push_places(thread, out)?;
+    }
+    writeln!(out, "crashing {:?}", threads.crashing)
+}
+
+// Appends a line for a thread.
+fn push_thread(thread: &CrashThread, out: &mut Vec<u8>) -> io::Result<()> {
+    let (id, is_listed) = (thread.id, thread.is_listed);
+    let name = thread.name.as_deref().unwrap_or("none");
+    let error = thread.last_error.as_deref().unwrap_or("none");
+    writeln!(
+        out,
+        "thread {id:#x} listed {is_listed} name {name} error {error}"
+    )
+}
+
+// Appends a line for the registers, and one for the stack.
+fn push_context(thread: &CrashThread, out: &mut Vec<u8>) -> io::Result<()> {
+    let problem = thread.context_problem;
+    match &thread.context {
+        Some(c) => {
+            let (origin, registers, size) = (c.origin, c.registers.len(), c.size);
+            writeln!(out, "context {origin:?} {registers} of {size} {problem:?}")?;
+        }
+        None => writeln!(out, "context none {problem:?}")?,
+    }
+    let (stack, memory) = (thread.stack, thread.stack_memory);
+    writeln!(
+        out,
+        "stack {stack:?} memory {memory:?} outside {}",
+        thread.is_stack_outside
+    )
+}
+
+// Appends a line for each frame, with its place in a module.
+fn push_places(thread: &CrashThread, out: &mut Vec<u8>) -> io::Result<()> {
+    let Some(walk) = &thread.walk else {
+        return Ok(());
+    };
+    for frame in &walk.frames {
+        writeln!(out, "{frame:?}")?;
+    }
+    writeln!(
+        out,
+        "end {:?} candidates {}",
+        walk.end,
+        walk.candidates.len()
+    )
+}

@@ -1,2 +1,0 @@
--- The last item of an id: among one more, and of views.
-pub mod LastItem

@@ -1,0 +1,141 @@
+-- The numbers of a crash.
+use Rattle.std.specs.Prelude.{ℕ, ◌++◌, List, [], slice_get, Ok, Option, unwrap_or}
+use Rattle.std.specs.Option.{option_and_then, option_map_or}
+use Rattle.minidump.specs.declared.system_info.Cpu.{Cpu}
+use Rattle.minidump.specs.declared.system_info.Cpu.TheVariants as cpu
+use Rattle.minidump.specs.declared.system_info.Os.{Os}
+use Rattle.minidump.specs.declared.system_info.Os.TheVariants as os
+use Rattle.crash.specs.Cause.{ExceptionValue}
+use Rattle.crash.specs.Counting.{counted}
+use Rattle.crash.specs.Contexts.{ContextValue}
+use Rattle.crash.specs.Crash.{CrashValue, status_of}
+use Rattle.crash.specs.Frames.{CrashWalkValue}
+use Rattle.crash.specs.Threads.{ThreadValue}
+use Rattle.crash.specs.declared.contexts.ContextOrigin.{ContextOrigin}
+use Rattle.crash.specs.declared.contexts.ContextOrigin.TheVariants.{OfException, OfThread}
+use Rattle.minidump_c.specs.declared.numbers.Counts.{Counts}
+use Rattle.minidump_c.specs.declared.numbers.CrashRow.{CrashRow}
+use Rattle.minidump_c.specs.declared.numbers.OwnTexts.{OwnTexts}
+use Rattle.minidump_c.specs.Frames.{end_number}
+use Rattle.minidump_c.specs.Spans.{flag, span_after, text_in}
+
+-- ---- what counts of a crash
+
+-- the exception that counts
+abbrev pub exception_of : CrashValue → Option ExceptionValue
+exception_of c = counted c.cause.exceptions c.cause.counts
+
+-- the thread that crashed
+abbrev pub crashed : CrashValue → Option ThreadValue
+crashed c = option_and_then (slice_get c.threads.threads) c.threads.crashing
+
+-- its registers
+abbrev pub context_of : CrashValue → Option ContextValue
+context_of c = option_and_then (λ t. t.context) (crashed c)
+
+-- what is found in its stack
+abbrev pub walk_of : CrashValue → Option CrashWalkValue
+walk_of c = option_and_then (λ t. t.walk) (crashed c)
+
+-- the module that contains the address, by its index, and the offset in that
+abbrev pub place_of : CrashValue → Option (ℕ × ℕ)
+place_of c = option_and_then (λ a. a.module) c.cause.address
+
+-- ---- the texts of the crash itself
+
+-- the reason in words
+abbrev pub reason_of : CrashValue → List ℕ
+reason_of c = text_in (option_and_then (λ e. e.reason) (exception_of c))
+
+-- the version of the system, its build, and the description of its processor
+abbrev pub version_of : CrashValue → List ℕ
+version_of c = option_map_or (λ s. s.version) c.process.system []
+
+abbrev pub build_of : CrashValue → List ℕ
+build_of c = text_in (option_and_then (λ s. s.build) c.process.system)
+
+abbrev pub model_of : CrashValue → List ℕ
+model_of c = text_in (option_and_then (λ s. s.cpu_model) c.process.system)
+
+-- where they lie, at the front of the buffer
+abbrev pub own_spans : CrashValue → OwnTexts
+own_spans c = record {
+  reason = span_after [] (reason_of c);
+  version = span_after (reason_of c) (version_of c);
+  build = span_after (reason_of c ++ version_of c) (build_of c);
+  cpu_model = span_after (reason_of c ++ version_of c ++ build_of c) (model_of c);
+}
+
+abbrev pub own_texts : CrashValue → List ℕ
+own_texts c = reason_of c ++ version_of c ++ build_of c ++ model_of c
+
+-- ---- the numbers
+
+-- the numbers of the operating systems
+abbrev pub os_number : Os → ℕ
+os_number (os.Unknown id) = 0
+os_number os.Windows = 1
+os_number os.MacOs = 2
+os_number os.Ios = 3
+os_number os.Linux = 4
+os_number os.Solaris = 5
+os_number os.Android = 6
+os_number os.Ps3 = 7
+os_number os.NaCl = 8
+
+-- the numbers of the architectures of processors
+abbrev pub cpu_number : Cpu → ℕ
+cpu_number (cpu.Unknown id) = 0
+cpu_number cpu.X86 = 1
+cpu_number cpu.X86_64 = 2
+cpu_number cpu.Ppc = 3
+cpu_number cpu.Ppc64 = 4
+cpu_number cpu.Sparc = 5
+cpu_number cpu.Arm = 6
+cpu_number cpu.Arm64 = 7
+cpu_number cpu.Mips = 8
+cpu_number cpu.Mips64 = 9
+
+-- the numbers of whose context the registers are of
+abbrev pub origin_number : ContextOrigin → ℕ
+origin_number OfException = 1
+origin_number OfThread = 2
+
+-- the numbers of a crash, with the spans of its texts and the sizes of its tables: 0 for what is
+-- absent
+abbrev pub crash_row : CrashValue → OwnTexts → Counts → CrashRow
+crash_row c texts counts = record {
+  address = option_map_or (λ a. a.address) c.cause.address 0;
+  module_offset = option_map_or (λ p. p.1) (place_of c) 0;
+  exception_address = option_map_or (λ e. e.at) (exception_of c) 0;
+  uptime = unwrap_or c.process.uptime 0;
+  thread_index = unwrap_or c.threads.crashing 0;
+  «module» = option_map_or (λ p. p.0) (place_of c) 0;
+  register_size = option_map_or (λ x. x.size) (context_of c) 0;
+  frame_count = counts.frames;
+  register_count = counts.registers;
+  thread_count = counts.threads;
+  module_count = counts.modules;
+  texts_len = counts.texts;
+  reason = texts.reason;
+  version = texts.version;
+  build = texts.build;
+  cpu_model = texts.cpu_model;
+  thread = option_map_or (λ t. t.id) (crashed c) 0;
+  code = option_map_or (λ e. e.code) (exception_of c) 0;
+  process_id = unwrap_or c.process.id 0;
+  written = c.directory.written;
+  os = option_map_or (λ s. os_number s.os) c.process.system 0;
+  cpu = option_map_or (λ s. cpu_number s.cpu) c.process.system 0;
+  processors = option_map_or (λ s. s.processors) c.process.system 0;
+  has_exception = flag (exception_of c);
+  has_address = flag c.cause.address;
+  has_module = flag (place_of c);
+  has_thread = flag (crashed c);
+  has_system = flag c.process.system;
+  has_process_id = flag c.process.id;
+  has_uptime = flag c.process.uptime;
+  context = option_map_or (λ x. origin_number x.origin) (context_of c) 0;
+  walk_end = option_map_or (λ w. end_number w.end) (walk_of c) 0;
+  status = status_of (Ok c);
+}

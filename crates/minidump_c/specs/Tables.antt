@@ -1,0 +1,48 @@
+-- The registers, the threads and the modules of a crash, as rows.
+use Rattle.std.specs.Prelude.{ℕ, ◌++◌, List, length, unwrap_or}
+use Rattle.std.specs.Option.{option_map_or}
+use Rattle.crash.specs.Modules.{LoadedValue}
+use Rattle.crash.specs.Threads.{ThreadValue}
+use Rattle.minidump_c.specs.declared.tables.ModuleRow.{ModuleRow}
+use Rattle.minidump_c.specs.declared.tables.RegisterRow.{RegisterRow}
+use Rattle.minidump_c.specs.declared.tables.ThreadRow.{ThreadRow}
+use Rattle.minidump_c.specs.Spans.{bit, flag, span_after, text_in}
+
+-- a register: its name and its value
+abbrev pub register_row : List ℕ → List ℕ × ℕ → RegisterRow
+register_row before r = record { value = r.1; name = span_after before r.0 }
+
+abbrev pub with_register : List ℕ → List ℕ × ℕ → List ℕ
+with_register before r = before ++ r.0
+
+-- a thread: 0 for the stack of one without a stack, and for the frames of one without a walk
+abbrev pub thread_row : List ℕ → ThreadValue → ThreadRow
+thread_row before t = record {
+  stack_base = option_map_or (λ s. s.base) t.stack 0;
+  stack_size = option_map_or (λ s. s.size) t.stack 0;
+  name = span_after before (text_in t.name);
+  last_error = span_after (before ++ text_in t.name) (text_in t.last_error);
+  frame_count = option_map_or (λ w. length w.frames) t.walk 0;
+  id = t.id;
+  has_context = flag t.context;
+  is_listed = bit t.is_listed;
+}
+
+abbrev pub with_thread : List ℕ → ThreadValue → List ℕ
+with_thread before t = before ++ text_in t.name ++ text_in t.last_error
+
+-- a module: 0 for an end of more than 64 bits
+abbrev pub module_row : List ℕ → LoadedValue → ModuleRow
+module_row before m = record {
+  base = m.base;
+  end = unwrap_or m.end 0;
+  path = span_after before m.path;
+  version = span_after (before ++ m.path) (text_in m.version);
+  code_id = span_after (before ++ m.path ++ text_in m.version) (text_in m.code_id);
+  debug_file = span_after (before ++ m.path ++ text_in m.version ++ text_in m.code_id) (text_in m.debug_file);
+  debug_id = span_after (before ++ m.path ++ text_in m.version ++ text_in m.code_id ++ text_in m.debug_file) (text_in m.debug_id);
+}
+
+abbrev pub with_module : List ℕ → LoadedValue → List ℕ
+with_module before m =
+    before ++ m.path ++ text_in m.version ++ text_in m.code_id ++ text_in m.debug_file ++ text_in m.debug_id

@@ -1,0 +1,100 @@
+//! Texts, one after another in one buffer, and rows with the places of their texts.
+ghost use Rattle.std.specs.Prelude.{◌≡◌, ◌++◌, IfOk, List, OnOk, map, string_bytes, ℕ};
+ghost use Rattle.std.specs.Option.{option_map};
+ghost use Rattle.minidump_c.specs.Spans.{bit, flag, rows_after, span_after, text_in, texts_after};
+
+use std::alloc::{AllocError, Global};
+
+/// Where a text lies in the buffer of texts. That of an absent text has no bytes.
+#[repr(C)]
+#[derive(Clone, Copy)]
+pub struct Span {
+    /// How many bytes stand before it.
+    pub offset: usize,
+    /// How many bytes it has.
+    pub len: usize,
+}
+
+// Appends a text, and returns where it lies.
+pub(crate) fn push_text(texts: &mut Vec<u8>, text: &[u8]) -> Result<Span, AllocError>
+    ensures span { IfOk result (λ span. span ≡ span_after texts.old.items text.now) }
+    ensures texts { OnOk result (texts.new.items ≡ texts.old.items ++ text.now) }
+{
+    let span = Span {
+        offset: texts.len(),
+        len: text.len(),
+    };
+    texts.extend_from_slice(text)?;
+    Ok(span)
+}
+
+// Returns the bytes of a text, none if it is absent.
+pub(crate) fn bytes_of(text: &Option<String>) -> &[u8]
+    ensures { result.now ≡ text_in (option_map string_bytes text.now) }
+{
+    match text {
+        Some(text) => text.as_bytes(),
+        None => &[],
+    }
+}
+
+// Returns 1 for what is there, 0 for what is absent.
+pub(crate) fn flag<T>(part: &Option<T>) -> u8
+    ensures { result ≡ flag part.now }
+{
+    match part {
+        Some(_) => 1,
+        None => 0,
+    }
+}
+
+// Returns 1 for what is so, 0 for what isn't.
+pub(crate) fn bit(is_so: bool) -> u8
+    ensures { result ≡ bit is_so }
+{
+    if is_so { 1 } else { 0 }
+}
+
+/// Makes rows of items, whose texts are appended to those before.
+pub(crate) trait MakeRow<X> {
+    /// A row.
+    type Row;
+
+    // the value of an item
+    ghost Value: { Type 0 };
+
+    ghost value_of: { X → Value };
+
+    // the row of an item, by the texts before its own
+    ghost row_after: { List ℕ → Value → Self.Row };
+
+    // those texts with its own
+    ghost with_texts: { List ℕ → Value → List ℕ };
+
+    /// Makes the row of an item, and appends its texts.
+    fn make_row(&self, item: &X, texts: &mut Vec<u8>) -> Result<Self::Row, AllocError>
+        ensures row { IfOk result (λ made. made ≡ row_after texts.old.items (value_of item.now)) }
+        ensures texts { OnOk result (texts.new.items
+            ≡ with_texts texts.old.items (value_of item.now)) };
+}
+
+/// Makes the rows of items, and appends their texts.
+pub(crate) fn make_rows<X, F: MakeRow<X>>(
+    alloc: Global,
+    by: &F,
+    items: &[X],
+    texts: &mut Vec<u8>,
+) -> Result<Vec<F::Row>, AllocError>
+where
+    F::Row: Drop,
+    ensures rows { IfOk result (λ rows. rows.items
+        ≡ rows_after F.row_after F.with_texts texts.old.items (map F.value_of items.now)) }
+    ensures texts { OnOk result (texts.new.items
+        ≡ texts_after F.with_texts texts.old.items (map F.value_of items.now)) }
+{
+    let mut rows = Vec::new(alloc);
+    for item in items {
+        rows.push(by.make_row(item, texts)?)?;
+    }
+    Ok(rows)
+}

@@ -1,0 +1,201 @@
+ghost use Rattle.std.specs.Prelude.{◌≡◌, IfOk, OnOk, length};
+ghost use Rattle.std.specs.Option.{option_map, option_map_or};
+ghost use Rattle.crash.specs.Frames.{crash_walk_of};
+ghost use Rattle.crash.specs.Modules.{loaded_of};
+ghost use Rattle.crash.specs.Threads.{thread_value};
+ghost use Rattle.minidump_c.specs.Tables.{module_row, thread_row, with_module, with_thread};
+
+use crate::spans::{MakeRow, Span, bit, bytes_of, flag, push_text};
+use crash::{CrashModule, CrashThread, CrashWalk, StackRange};
+use std::alloc::AllocError;
+
+/// A register: its value, and its name.
+#[repr(C)]
+#[derive(Clone, Copy)]
+pub struct RegisterRow {
+    /// The value.
+    pub value: u64,
+    /// The name.
+    pub name: Span,
+}
+
+/// A thread. A number that is absent is 0.
+#[repr(C)]
+#[derive(Clone, Copy)]
+pub struct ThreadRow {
+    /// The first address of its stack, as its entry names it.
+    pub stack_base: u64,
+    /// The number of bytes of its stack.
+    pub stack_size: u64,
+    /// The name.
+    pub name: Span,
+    /// The last error in words.
+    pub last_error: Span,
+    /// The number of its frames, without candidates.
+    pub frame_count: usize,
+    /// The id of the thread.
+    pub id: u32,
+    /// 1 if there are registers of it, else 0.
+    pub has_context: u16,
+    /// 1 if the list of threads has it, else 0.
+    pub is_listed: u16,
+}
+
+/// A module.
+#[repr(C)]
+#[derive(Clone, Copy)]
+pub struct ModuleRow {
+    /// The first address.
+    pub base: u64,
+    /// The address after it, 0 if that has more than 64 bits.
+    pub end: u64,
+    /// The path of its file.
+    pub path: Span,
+    /// The version.
+    pub version: Span,
+    /// The identifier of its code.
+    pub code_id: Span,
+    /// The last part of the path of its debug file.
+    pub debug_file: Span,
+    /// The identifier of its debug file.
+    pub debug_id: Span,
+}
+
+/// The rows of registers.
+#[derive(Clone, Copy)]
+pub(crate) struct EachRegister;
+
+impl MakeRow<(&'static str, u64)> for EachRegister {
+    ghost use Rattle.std.specs.Prelude.{List, ℕ};
+    ghost use Rattle.minidump_c.specs.Tables.{register_row, with_register};
+
+    type Row = RegisterRow;
+
+    ghost Value = { List ℕ × ℕ };
+
+    ghost value_of = { λ r. (r.0.now, r.1) };
+
+    ghost row_after = { register_row };
+
+    ghost with_texts = { with_register };
+
+    fn make_row(
+        &self,
+        item: &(&'static str, u64),
+        texts: &mut Vec<u8>,
+    ) -> Result<RegisterRow, AllocError> {
+        let name = push_text(texts, item.0.as_bytes())?;
+        Ok(RegisterRow {
+            value: item.1,
+            name,
+        })
+    }
+}
+
+/// The rows of threads.
+#[derive(Clone, Copy)]
+pub(crate) struct EachThread;
+
+impl MakeRow<CrashThread> for EachThread {
+    ghost use Rattle.crash.specs.Threads.{ThreadValue, thread_value};
+    ghost use Rattle.minidump_c.specs.Tables.{thread_row, with_thread};
+
+    type Row = ThreadRow;
+
+    ghost Value = { ThreadValue };
+
+    ghost value_of = { thread_value };
+
+    ghost row_after = { thread_row };
+
+    ghost with_texts = { with_thread };
+
+    fn make_row(&self, item: &CrashThread, texts: &mut Vec<u8>) -> Result<ThreadRow, AllocError> {
+        thread_row(item, texts)
+    }
+}
+
+fn thread_row(thread: &CrashThread, texts: &mut Vec<u8>) -> Result<ThreadRow, AllocError>
+    ensures row { IfOk result (λ row. row ≡ thread_row texts.old.items (thread_value thread.now)) }
+    ensures texts { OnOk result (texts.new.items
+        ≡ with_thread texts.old.items (thread_value thread.now)) }
+{
+    let name = push_text(texts, bytes_of(&thread.name))?;
+    let last_error = push_text(texts, bytes_of(&thread.last_error))?;
+    let (stack_base, stack_size) = range_of(thread.stack);
+    Ok(ThreadRow {
+        stack_base,
+        stack_size,
+        name,
+        last_error,
+        frame_count: frame_count(&thread.walk),
+        id: thread.id,
+        has_context: flag(&thread.context) as u16,
+        is_listed: bit(thread.is_listed) as u16,
+    })
+}
+
+// Returns the first address and the size of a stack.
+fn range_of(stack: Option<StackRange>) -> (u64, u64)
+    ensures base { result.0 ≡ option_map_or (λ s. s.base) stack 0 }
+    ensures size { result.1 ≡ option_map_or (λ s. s.size) stack 0 }
+{
+    match stack {
+        Some(stack) => (stack.base, stack.size),
+        None => (0, 0),
+    }
+}
+
+// Returns the number of the frames of a walk.
+fn frame_count(walk: &Option<CrashWalk>) -> usize
+    ensures { result ≡ option_map_or (λ w. length w.frames) (option_map crash_walk_of walk.now) 0 }
+{
+    match walk {
+        Some(walk) => walk.frames.len(),
+        None => 0,
+    }
+}
+
+/// The rows of modules.
+#[derive(Clone, Copy)]
+pub(crate) struct EachModule;
+
+impl MakeRow<CrashModule> for EachModule {
+    ghost use Rattle.crash.specs.Modules.{LoadedValue, loaded_of};
+    ghost use Rattle.minidump_c.specs.Tables.{module_row, with_module};
+
+    type Row = ModuleRow;
+
+    ghost Value = { LoadedValue };
+
+    ghost value_of = { loaded_of };
+
+    ghost row_after = { module_row };
+
+    ghost with_texts = { with_module };
+
+    fn make_row(&self, item: &CrashModule, texts: &mut Vec<u8>) -> Result<ModuleRow, AllocError> {
+        module_row(item, texts)
+    }
+}
+
+fn module_row(loaded: &CrashModule, texts: &mut Vec<u8>) -> Result<ModuleRow, AllocError>
+    ensures row { IfOk result (λ row. row ≡ module_row texts.old.items (loaded_of loaded.now)) }
+    ensures texts { OnOk result (texts.new.items
+        ≡ with_module texts.old.items (loaded_of loaded.now)) }
+{
+    let path = push_text(texts, loaded.path.as_bytes())?;
+    let version = push_text(texts, bytes_of(&loaded.version))?;
+    let code_id = push_text(texts, bytes_of(&loaded.code_id))?;
+    let debug_file = push_text(texts, bytes_of(&loaded.debug_file))?;
+    let debug_id = push_text(texts, bytes_of(&loaded.debug_id))?;
+    Ok(ModuleRow {
+        base: loaded.base,
+        end: loaded.end.unwrap_or(0),
+        path,
+        version,
+        code_id,
+        debug_file,
+        debug_id,
+    })
+}

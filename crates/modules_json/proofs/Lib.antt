@@ -1,2 +1,0 @@
--- How deep the values nest.
-pub mod Depth
