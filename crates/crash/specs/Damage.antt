@@ -1,6 +1,6 @@
 -- What is there in a dump and can't be read, whether anything else stands in for it or not.
-use Rattle.std.specs.Prelude.{◌++◌, Bool, false, true, List, Option, Some, None, Result, Ok, Err}
-use Rattle.std.specs.Prelude.{if◌then◌else◌}
+use Rattle.std.specs.Prelude.{◌-◌, ◌++◌, Bool, false, true, List, length, take, Option, Some, None}
+use Rattle.std.specs.Prelude.{Result, Ok, Err, if◌then◌else◌}
 use Rattle.std.specs.List.{filter_map}
 use Rattle.std.specs.Option.{option_map}
 use Rattle.minidump.specs.declared.Error.{Error}
@@ -15,6 +15,15 @@ use Rattle.crash.specs.Threads.{ThreadValue}
 -- a stream that can't be read
 abbrev pub stream_damage : StreamEntry → Option Damage
 stream_damage e = option_map (λ error. damage.Stream e.number error) e.error
+
+-- an exception that can't be read
+abbrev pub exception_error : Result ExceptionValue Error → Option Damage
+exception_error (Ok e) = None
+exception_error (Err error) = Some (damage.Exception error)
+
+-- the exceptions before the last, whose error is that of the stream
+abbrev pub before_last : List (Result ExceptionValue Error) → List (Result ExceptionValue Error)
+before_last exceptions = take (length exceptions - 1) exceptions
 
 -- the bytes of a context are not in the file
 abbrev pub is_outside : Option ContextProblem → Bool
@@ -36,9 +45,10 @@ context_damage t =
 abbrev pub stack_damage : ThreadValue → Option Damage
 stack_damage t = if t.is_stack_outside then Some (damage.Stack t.id) else None
 
--- all of them: streams, contexts of exceptions, contexts of threads, and stacks
+-- all of them: streams, exceptions, contexts of exceptions, contexts of threads, and stacks
 abbrev pub damage_by : List StreamEntry → List (Result ExceptionValue Error) → List ThreadValue
     → List Damage
 damage_by entries exceptions threads = filter_map stream_damage entries
+    ++ (filter_map exception_error (before_last exceptions)
     ++ (filter_map exception_damage exceptions
-    ++ (filter_map context_damage threads ++ filter_map stack_damage threads))
+    ++ (filter_map context_damage threads ++ filter_map stack_damage threads)))

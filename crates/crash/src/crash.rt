@@ -34,8 +34,8 @@ pub struct Crash<'a> {
     pub threads: CrashThreads,
     /// Its modules.
     pub modules: CrashModules,
-    /// What is there and can't be read: streams, ascending by type, then contexts of exceptions, own
-    /// contexts of threads, and stacks, each in the order of its list.
+    /// What is there and can't be read: streams, ascending by type, then exceptions, contexts of
+    /// exceptions, own contexts of threads, and stacks, each in the order of its list.
     pub damage: Vec<Damage>,
 }
 

@@ -1,10 +1,10 @@
-ghost use Rattle.std.specs.Prelude.{◌≡◌, ◌++◌, [], IfOk, List, OnOk, Option, map};
+ghost use Rattle.std.specs.Prelude.{◌≡◌, ◌-◌, ◌++◌, [], IfOk, List, OnOk, Option, length, map, take};
 ghost use Rattle.std.specs.List.{cons_option, filter_map};
 ghost use Rattle.minidump.specs.Below.Contexts.Context.{map_ok};
 ghost use Rattle.crash.specs.declared.damage.Damage.{Damage};
 ghost use Rattle.crash.specs.Cause.{exception_of};
-ghost use Rattle.crash.specs.Damage.{context_damage, damage_by, exception_damage, is_outside};
-ghost use Rattle.crash.specs.Damage.{stack_damage, stream_damage};
+ghost use Rattle.crash.specs.Damage.{context_damage, damage_by, exception_damage, exception_error};
+ghost use Rattle.crash.specs.Damage.{is_outside, stack_damage, stream_damage};
 ghost use Rattle.crash.specs.Threads.{thread_value};
 
 use crate::cause::CrashException;
@@ -26,6 +26,11 @@ pub enum Damage {
         /// Why it can't be read.
         error: Error,
     },
+    /// An exception of the directory before the last one, whose error is that of the stream.
+    Exception {
+        /// Why it can't be read.
+        error: Error,
+    },
     /// The context of an exception on a thread, whose bytes are not all in the file. Each exception
     /// that can be read counts, also one that tells of no crash.
     ExceptionContext {
@@ -44,7 +49,8 @@ pub enum Damage {
     },
 }
 
-// Returns what can't be read: streams, contexts of exceptions, contexts of threads and stacks.
+// Returns what can't be read: streams, exceptions, contexts of exceptions, contexts of threads and
+// stacks.
 pub(crate) fn damage_of(
     alloc: Global,
     entries: &[StreamEntry],
@@ -55,6 +61,8 @@ pub(crate) fn damage_of(
         (map (map_ok exception_of) exceptions.now) (map thread_value threads.now)) }
 {
     let mut damage = find_all(alloc, &EachStream, entries)?;
+    let errors = find_all(alloc, &EachError, before_last(exceptions))?;
+    damage.extend_from_slice(errors.as_slice())?;
     let contexts = find_all(alloc, &EachException, exceptions)?;
     damage.extend_from_slice(contexts.as_slice())?;
     let contexts = find_all(alloc, &EachContext, threads)?;
@@ -121,6 +129,38 @@ impl FindDamage<StreamEntry> for EachStream {
 
     fn find(&self, item: &StreamEntry) -> Option<Damage> {
         stream_damage(item)
+    }
+}
+
+// Returns the items before the last.
+fn before_last<X>(items: &[X]) -> &[X]
+    ensures { result.now ≡ take (length items.now - 1) items.now }
+{
+    match items {
+        [before @ .., _] => before,
+        [] => items,
+    }
+}
+
+// The exceptions before the last.
+#[derive(Clone, Copy)]
+struct EachError;
+
+impl FindDamage<Result<CrashException, Error>> for EachError {
+    ghost use Rattle.std.specs.Prelude.{Result};
+    ghost use Rattle.minidump.specs.declared.Error.{Error};
+    ghost use Rattle.minidump.specs.Below.Contexts.Context.{map_ok};
+    ghost use Rattle.crash.specs.Cause.{ExceptionValue, exception_of};
+    ghost use Rattle.crash.specs.Damage.{exception_error};
+
+    ghost Value = { Result ExceptionValue Error };
+
+    ghost value_of = { map_ok exception_of };
+
+    ghost damage_of = { exception_error };
+
+    fn find(&self, item: &Result<CrashException, Error>) -> Option<Damage> {
+        exception_error(item)
     }
 }
 
@@ -192,6 +232,16 @@ fn stream_damage(entry: &StreamEntry) -> Option<Damage>
         number: entry.number,
         error: entry.error?,
     })
+}
+
+// Returns an exception that can't be read.
+fn exception_error(exception: &Result<CrashException, Error>) -> Option<Damage>
+    ensures { result ≡ exception_error (map_ok exception_of exception.now) }
+{
+    match exception {
+        Ok(_) => None,
+        Err(error) => Some(Damage::Exception { error: *error }),
+    }
 }
 
 // Returns the context of an exception if it is outside the file.

@@ -354,6 +354,7 @@ function damageWords(damage) {
   const thread = part(damage, "thread_id");
   switch (part(damage, "what")) {
     case "stream": return "can't be read: " + streamName(part(damage, "number")) + ": " + part(damage, "error");
+    case "exception": return "can't be read: an exception before the last: " + part(damage, "error");
     case "exception_context": return "outside the file: the context of the exception on thread " + thread;
     case "thread_context": return "outside the file: the context of thread " + thread;
     default: return "outside the file: the stack of thread " + thread;

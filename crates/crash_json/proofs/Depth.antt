@@ -14,7 +14,7 @@ use Rattle.minidump.specs.Below.Records.Handles.{Handle}
 use Rattle.minidump.specs.Below.Records.Record.{MacRecord}
 use Rattle.crash.specs.declared.cause.AddressFacts.{AddressFacts}
 use Rattle.crash.specs.declared.damage.Damage.{Damage}
-use Rattle.crash.specs.declared.damage.Damage.TheVariants.{ExceptionContext, Stack, Stream, ThreadContext}
+use Rattle.crash.specs.declared.damage.Damage.TheVariants.{Exception, ExceptionContext, Stack, Stream, ThreadContext}
 use Rattle.crash.specs.declared.directory.StreamEntry.{StreamEntry}
 use Rattle.crash.specs.declared.frames.CrashFrame.{CrashFrame}
 use Rattle.crash.specs.declared.stacks.StackRange.{StackRange}
@@ -236,6 +236,7 @@ damage_object_depth what number thread error = omega (arith, flat_hex number, fl
 
 damage_depth : (d : Damage) → depth (damage_json d) ≤ 1
 damage_depth (Stream number error) = damage_object_depth _ _ _ _
+damage_depth (Exception error) = damage_object_depth _ _ _ _
 damage_depth (ExceptionContext id) = damage_object_depth _ _ _ _
 damage_depth (ThreadContext id) = damage_object_depth _ _ _ _
 damage_depth (Stack id) = damage_object_depth _ _ _ _

@@ -9,7 +9,7 @@ use Rattle.minidump.specs.Below.Format.Error.{name_of_error}
 use Rattle.minidump.specs.Below.Format.StreamType.{stream_type_of, type_name}
 use Rattle.minidump.specs.Below.MemoryLists.Unified.{UnifiedRegion, unified_regions}
 use Rattle.crash.specs.declared.damage.Damage.{Damage}
-use Rattle.crash.specs.declared.damage.Damage.TheVariants.{ExceptionContext, Stack, Stream, ThreadContext}
+use Rattle.crash.specs.declared.damage.Damage.TheVariants.{Exception, ExceptionContext, Stack, Stream, ThreadContext}
 use Rattle.crash.specs.declared.directory.StreamEntry.{StreamEntry}
 use Rattle.crash.specs.Crash.{CrashValue, status_of}
 use Rattle.json_tree.specs.Tree.{array_of, count, hex_string, object_of, or_null}
@@ -70,6 +70,8 @@ damage_object what number thread error = object_of (
 abbrev pub damage_json : Damage → Json
 damage_json (Stream number error) =
     damage_object (codes "stream") (Some number) None (Some (name_of_error error))
+damage_json (Exception error) =
+    damage_object (codes "exception") None None (Some (name_of_error error))
 damage_json (ExceptionContext id) =
     damage_object (codes "exception_context") None (Some id) None
 damage_json (ThreadContext id) = damage_object (codes "thread_context") None (Some id) None

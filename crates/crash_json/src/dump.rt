@@ -309,6 +309,9 @@ impl ItemJson<Damage> for EachDamage {
                 None,
                 Some(error.name()),
             ),
+            Damage::Exception { error } => {
+                put_damage_members(out, alloc, "exception", None, None, Some(error.name()))
+            }
             Damage::ExceptionContext { thread } => put_damage_members(
                 out,
                 alloc,

@@ -8,7 +8,7 @@ use Rattle.minidump.specs.Below.Bytes.Piece.{hex}
 use Rattle.minidump.specs.Below.Format.Error.{name_of_error}
 use Rattle.minidump.specs.Below.Format.StreamType.{stream_type_of, type_name}
 use Rattle.crash.specs.declared.damage.Damage.{Damage}
-use Rattle.crash.specs.declared.damage.Damage.TheVariants.{ExceptionContext, Stack, Stream}
+use Rattle.crash.specs.declared.damage.Damage.TheVariants.{Exception, ExceptionContext, Stack, Stream}
 use Rattle.crash.specs.declared.damage.Damage.TheVariants.{ThreadContext}
 use Rattle.crash.specs.Crash.{CrashValue}
 
@@ -21,7 +21,7 @@ name_of_type number None = concat (codes "stream " ∷ hex number ∷ [])
 abbrev pub stream_text : ℕ → List ℕ
 stream_text number = name_of_type number (stream_type_of number)
 
--- the line of a stream, with the name of its error
+-- the line of a stream or an exception, with the name of its error
 unfoldable pub stream_row : List ℕ → List ℕ → List ℕ
 stream_row stream error = concat (codes "can't be read: " ∷ stream ∷ codes ": " ∷ error ∷ [])
 
@@ -33,6 +33,7 @@ outside_row what thread = concat (codes "outside the file: " ∷ what ∷ codes 
 -- the line of something that can't be read
 abbrev pub damage_row : Damage → List ℕ
 damage_row (Stream number error) = stream_row (stream_text number) (name_of_error error)
+damage_row (Exception error) = stream_row (codes "an exception before the last") (name_of_error error)
 damage_row (ExceptionContext thread) =
     outside_row (codes "the context of the exception on thread") thread
 damage_row (ThreadContext thread) = outside_row (codes "the context of thread") thread

@@ -1,6 +1,6 @@
 -- The lines of modules: how many there are, and those that other lines name, with what a symbol
 -- server is asked by.
-use Rattle.std.specs.Prelude.{ℕ, ◌==◌, ◌||◌, Bool, false, List, [], ◌∷◌, length, Option}
+use Rattle.std.specs.Prelude.{ℕ, ◌≡◌, ◌<◌, ◌==◌, ◌||◌, Bool, false, List, [], ◌∷◌, get_or, length, Option}
 use Rattle.std.specs.Prelude.{Some, None, codes, if◌then◌else◌}
 use Rattle.std.specs.Fmt.{decimal}
 use Rattle.std.specs.List.{concat, enumerate_from, flat_map, list_any}
@@ -52,16 +52,21 @@ is_named address frames index = is_in index (address_place address)
     || list_any (λ f. is_in index f.«module») frames
 
 -- a module with its index, if all modules are listed or other lines name it
-abbrev pub listed_lines : TextLimits → Option AddressFacts → List CrashFrame → ℕ × LoadedValue
-    → List (List ℕ)
-listed_lines limits address frames p =
-    if limits.lists || is_named address frames p.0 then module_line p.1 ∷ [] else []
+abbrev pub listed_lines : TextLimits → (ℕ → Bool) → ℕ × LoadedValue → List (List ℕ)
+listed_lines limits named p = if limits.lists || named p.0 then module_line p.1 ∷ [] else []
 
--- the modules that are listed
-abbrev pub each_module : TextLimits → Option AddressFacts → List CrashFrame → List LoadedValue
-    → List (List ℕ)
-each_module limits address frames modules =
-    flat_map (listed_lines limits address frames) (enumerate_from 0 modules)
+-- the modules that are listed, by the indices of those that other lines name
+abbrev pub each_module : TextLimits → (ℕ → Bool) → List LoadedValue → List (List ℕ)
+each_module limits named modules = flat_map (listed_lines limits named) (enumerate_from 0 modules)
+
+-- each of so many modules has a mark, that says whether one of these frames is in it
+pub record HasMarks (marks : List Bool) (count : ℕ) (frames : List CrashFrame) : Type 0 where
+  pub size : length marks ≡ count
+  pub at : (i : ℕ) → i < count → get_or marks i false ≡ list_any (λ f. is_in i f.«module») frames
+
+-- the address of the crash is in the module of an index, or it has a mark
+abbrev pub is_marked : Option AddressFacts → List Bool → ℕ → Bool
+is_marked address marks index = is_in index (address_place address) || get_or marks index false
 
 -- ---- all of it
 
@@ -72,6 +77,6 @@ count_row count = concat (codes "modules " ∷ decimal count ∷ [])
 -- the modules, or that their list is missing
 abbrev pub modules_lines : TextLimits → CrashValue → Option Error → List (List ℕ)
 modules_lines limits c None = count_row (length c.modules.loaded)
-    ∷ each_module limits c.cause.address (frames_in limits c.threads.crashing c.threads.threads)
-    c.modules.loaded
+    ∷ each_module limits (is_named c.cause.address
+    (frames_in limits c.threads.crashing c.threads.threads)) c.modules.loaded
 modules_lines limits c (Some error) = if_missing (codes "no modules") error

@@ -1,11 +1,11 @@
-ghost use Rattle.std.specs.Prelude.{◌≡◌, [], ◌∷◌, ◌||◌, IfOk, None, Some, codes, map, string_bytes};
-ghost use Rattle.std.specs.List.{list_any};
+ghost use Rattle.std.specs.Prelude.{◌≡◌, [], ◌∷◌, ◌||◌, IfOk, None, Some, codes, false, get_or};
+ghost use Rattle.std.specs.Prelude.{if◌then◌else◌, map, string_bytes};
 ghost use Rattle.std.specs.Option.{option_map};
 ghost use Rattle.crash.specs.Crash.{crash_of};
 ghost use Rattle.crash.specs.Modules.{loaded_of};
 ghost use Rattle.crash_text.specs.Lines.{Adds};
-ghost use Rattle.crash_text.specs.Modules.{address_place, count_row, each_module, is_in, is_named};
-ghost use Rattle.crash_text.specs.Modules.{key_text, listed_lines, module_line, module_row};
+ghost use Rattle.crash_text.specs.Modules.{HasMarks, address_place, count_row, each_module, is_in};
+ghost use Rattle.crash_text.specs.Modules.{is_marked, key_text, module_line, module_row};
 ghost use Rattle.crash_text.specs.Modules.{modules_lines};
 
 use crate::limits::TextLimits;
@@ -41,8 +41,24 @@ fn push_list(out: &mut String, crash: &Crash<'_>, limits: &TextLimits) -> Result
     let threads = crash.threads.threads.as_slice();
     let frames = frames_in(alloc, limits, crash.threads.crashing, threads)?;
     let modules = crash.modules.loaded.as_slice();
+    let marks = marks_of(alloc, modules.len(), frames.as_slice())?;
     push_count(out, modules.len())?;
-    push_each(out, limits, crash.cause.address, frames.as_slice(), modules)
+    push_each(out, limits, crash.cause.address, marks.as_slice(), modules)
+}
+
+// Marks the modules that frames are in, by their indices.
+fn marks_of(alloc: Global, count: usize, frames: &[CrashFrame]) -> Result<Vec<bool>, AllocError>
+    ensures { IfOk result (λ marks. HasMarks marks.items count frames.now) }
+{
+    let mut marks = vec![in alloc; false; count]?;
+    for frame in frames {
+        if let Some((index, _)) = frame.module
+            && index < marks.len()
+        {
+            marks[index] = true;
+        }
+    }
+    Ok(marks)
 }
 
 #[tactic(auto, unfolding(crate::specs::Modules::count_row))]
@@ -57,42 +73,50 @@ fn push_each(
     out: &mut String,
     limits: &TextLimits,
     address: Option<AddressFacts>,
-    frames: &[CrashFrame],
+    marks: &[bool],
     modules: &[CrashModule],
 ) -> Result<(), AllocError>
     ensures { Adds out.old out.new
-        (each_module limits.now address frames.now (map loaded_of modules.now)) result }
+        (each_module limits.now (is_marked address marks.now) (map loaded_of modules.now)) result }
 {
     for (index, module) in modules.iter().enumerate() {
-        push_if_listed(out, limits, address, frames, index, module)?;
+        push_if_listed(out, limits, is_marked(address, marks, index), module)?;
     }
     Ok(())
 }
 
-// Appends the line of a module with its index, if all modules are listed or other lines name it.
+// Appends the line of a module, if all modules are listed or other lines name it.
 fn push_if_listed(
     out: &mut String,
     limits: &TextLimits,
-    address: Option<AddressFacts>,
-    frames: &[CrashFrame],
-    index: usize,
+    is_named: bool,
     module: &CrashModule,
 ) -> Result<(), AllocError>
-    ensures { Adds out.old out.new
-        (listed_lines limits.now address frames.now (index, loaded_of module.now)) result }
+    ensures { Adds out.old out.new (if limits.now.lists || is_named
+        then module_line (loaded_of module.now) ∷ [] else []) result }
 {
-    if limits.lists || is_named(address, frames, index) {
+    if limits.lists || is_named {
         push_module(out, module)
     } else {
         Ok(())
     }
 }
 
-// Tells whether the address of the crash or one of these frames is in the module of an index.
-fn is_named(address: Option<AddressFacts>, frames: &[CrashFrame], index: usize) -> bool
-    ensures { result ≡ is_named address frames.now index }
+// Tells whether the address of the crash is in the module of an index, or it has a mark.
+fn is_marked(address: Option<AddressFacts>, marks: &[bool], index: usize) -> bool
+    ensures { result ≡ is_marked address marks.now index }
 {
-    is_in(index, address_place(address)) || has_frame_in(frames, index)
+    is_in(index, address_place(address)) || has_mark(marks, index)
+}
+
+// Tells whether a module has a mark.
+fn has_mark(marks: &[bool], index: usize) -> bool
+    ensures { result ≡ get_or marks.now index false }
+{
+    match marks.get(index) {
+        Some(mark) => *mark,
+        None => false,
+    }
 }
 
 // Returns the place of the address of the crash, if it is known.
@@ -100,13 +124,6 @@ fn address_place(address: Option<AddressFacts>) -> Option<(usize, u64)>
     ensures { result ≡ address_place address }
 {
     address?.module
-}
-
-// Tells whether one of these frames is in the module of an index.
-fn has_frame_in(frames: &[CrashFrame], index: usize) -> bool
-    ensures { result ≡ list_any (λ f. is_in index f.«module») frames.now }
-{
-    frames.iter().any(|frame| is_in(index, frame.module))
 }
 
 // Tells whether a place is in the module of an index.

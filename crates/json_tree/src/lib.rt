@@ -7,8 +7,6 @@
 //!   such members; [`put_object`] and [`put_fields`] are the same for values without parts.
 //! - [`put_array`], [`put_numbered_array`] and [`put_values`] put an array of the items of a list,
 //!   [`put_item_or_null`] and [`put_value_or_null`] a value that may be absent.
-//! - [`put_member`] adds one member of any value, [`put_list`], [`put_numbered_list`] and
-//!   [`put_optional`] one whose value is an array, or may be `null`.
 //! - [`as_text`] borrows a text that may be absent, as a scalar takes it.
 //! - [`text_of`] makes the text of a value.
 //!
@@ -27,10 +25,9 @@ mod list;
 mod tree;
 
 pub use list::{
-    ItemJson, NumberedJson, ValueJson, put_array, put_item_or_null, put_list, put_numbered_array,
-    put_numbered_list, put_optional, put_value_or_null, put_values,
+    ItemJson, NumberedJson, ValueJson, put_array, put_item_or_null, put_numbered_array,
+    put_value_or_null, put_values,
 };
 pub use tree::{
-    Scalar, ToJson, as_text, put_fields, put_member, put_members, put_object, put_object_of,
-    text_of,
+    Scalar, ToJson, as_text, put_fields, put_members, put_object, put_object_of, text_of,
 };

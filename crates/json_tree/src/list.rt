@@ -1,7 +1,7 @@
-ghost use Rattle.std.specs.Prelude.{◌≡◌, ◌++◌, ◌∷◌, ℕ, [], IsOkUnless, OnOk, map};
+ghost use Rattle.std.specs.Prelude.{◌≡◌, ◌++◌, ℕ, IsOkUnless, OnOk, map};
 ghost use Rattle.std.specs.Option.{option_map};
 ghost use Rattle.json.specs.Json.{Json};
-ghost use Rattle.json_tree.specs.Tree.{Adds, Puts, array_of, item_tokens, numbered_array_of};
+ghost use Rattle.json_tree.specs.Tree.{Puts, array_of, item_tokens, numbered_array_of};
 ghost use Rattle.json_tree.specs.Tree.{numbered_tokens, or_null};
 
 use json::Writer;
@@ -88,24 +88,6 @@ pub fn put_value_or_null<X, F: ValueJson<X>>(
     Ok(())
 }
 
-/// Adds a member with the value of an item, or with `null` if there is none. The only error is
-/// `OutOfMemory`.
-#[tactic(auto, unfolding(crate::specs::Tree::member_list_tokens))]
-pub fn put_optional<X, F: ItemJson<X>>(
-    out: &mut Writer,
-    alloc: Global,
-    name: &str,
-    item: &Option<X>,
-    by: &F,
-) -> Result<(), Error>
-    ensures { Adds result out.old out.new
-        ((name.now, or_null (F.json_of by.now) item.now) ∷ []) }
-{
-    out.key(name)?;
-    put_item_or_null(out, alloc, item, by)?;
-    Ok(())
-}
-
 /// Puts the value of an item, or `null`. The only error is `OutOfMemory`.
 pub fn put_item_or_null<X, F: ItemJson<X>>(
     out: &mut Writer,
@@ -119,41 +101,6 @@ pub fn put_item_or_null<X, F: ItemJson<X>>(
         Some(item) => by.put_item(item, out, alloc)?,
         None => out.null()?,
     }
-    Ok(())
-}
-
-/// Adds a member whose value is an array, with the value of each item of a list. The only error is
-/// `OutOfMemory`.
-#[tactic(auto, unfolding(crate::specs::Tree::member_list_tokens))]
-pub fn put_list<X, F: ItemJson<X>>(
-    out: &mut Writer,
-    alloc: Global,
-    name: &str,
-    items: &[X],
-    by: &F,
-) -> Result<(), Error>
-    ensures { Adds result out.old out.new ((name.now, array_of (F.json_of by.now) items.now) ∷ []) }
-{
-    out.key(name)?;
-    put_array(out, alloc, items, by)?;
-    Ok(())
-}
-
-/// Adds a member whose value is an array, with a value for each item of a list, which may depend on
-/// the item's number. The only error is `OutOfMemory`.
-#[tactic(auto, unfolding(crate::specs::Tree::member_list_tokens))]
-pub fn put_numbered_list<X, F: NumberedJson<X>>(
-    out: &mut Writer,
-    alloc: Global,
-    name: &str,
-    items: &[X],
-    by: &F,
-) -> Result<(), Error>
-    ensures { Adds result out.old out.new
-        ((name.now, numbered_array_of (F.json_at by.now) items.now) ∷ []) }
-{
-    out.key(name)?;
-    put_numbered_array(out, alloc, items, by)?;
     Ok(())
 }
 

@@ -1,4 +1,4 @@
-ghost use Rattle.std.specs.Prelude.{◌≡◌, ◌≤◌, [], ◌∷◌, IfOk, IsOkUnless, Some, map, string_bytes};
+ghost use Rattle.std.specs.Prelude.{◌≡◌, ◌≤◌, IfOk, IsOkUnless, Some, map, string_bytes};
 ghost use Rattle.std.specs.Option.{option_copied, option_map};
 ghost use Rattle.std.specs.Str.{IsUtf8};
 ghost use Rattle.json.specs.Json.{Json, document, max_depth, string};
@@ -102,21 +102,6 @@ pub fn put_members<T: ToJson>(
         out.key(name)?;
         value.put(out, alloc)?;
     }
-    Ok(())
-}
-
-/// Adds a member to an object. The only error is `OutOfMemory`.
-#[tactic(auto, unfolding(crate::specs::Tree::member_list_tokens))]
-pub fn put_member<T: ToJson>(
-    out: &mut Writer,
-    alloc: Global,
-    name: &str,
-    value: &T,
-) -> Result<(), Error>
-    ensures { Adds result out.old out.new ((name.now, T.json value.now) ∷ []) }
-{
-    out.key(name)?;
-    value.put(out, alloc)?;
     Ok(())
 }
 

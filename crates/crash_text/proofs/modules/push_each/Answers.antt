@@ -1,17 +1,17 @@
 -- One more.
 use Rattle.std.proofs.Common.{map, string_bytes, take, ◌+◌}
 use Rattle.crash.specs.Modules.{loaded_of}
-use Rattle.crash_text.specs.Modules.{each_module, listed_lines}
+use Rattle.crash_text.specs.Modules.{each_module, is_marked, listed_lines}
 use Rattle.crash_text.proofs.NumberLemmas.{length_values, more_items, more_lines, took_values}
 use Rattle.crash_text.proofs.modules.push_each.Goals as goal
 
 pub loop-index-preserved : goal.loop-index-preserved
 loop-index-preserved c =
     let modules = c.args.modules.now in let i = c.loop-index.index in let x = c.index-modules-index.result in
-    let f = listed_lines c.args.limits.now c.args.address c.args.frames.now in
+    let named = is_marked c.args.address c.args.marks.now in let f = listed_lines c.args.limits.now named in
     more_lines (string_bytes c.args.out.now) (string_bytes c.loop-index.out) (string_bytes c.push_if_listed.new.out)
-    (each_module c.args.limits.now c.args.address c.args.frames.now (map loaded_of (take i modules))) (f (i, loaded_of x))
-    (each_module c.args.limits.now c.args.address c.args.frames.now (map loaded_of (take (i + 1) modules)))
+    (each_module c.args.limits.now named (map loaded_of (take i modules))) (f (i, loaded_of x))
+    (each_module c.args.limits.now named (map loaded_of (take (i + 1) modules)))
     (more_items f (map loaded_of (take i modules)) (map loaded_of (take (i + 1) modules)) i (loaded_of x)
     (length_values loaded_of modules i c.loop-index-test.true)
     (took_values loaded_of modules i x c.loop-index-test.true c.index-modules-index.is))

@@ -2,9 +2,12 @@
 use Rattle.std.proofs.Common.{◌≡◌, ◌++◌, map, string_bytes, take}
 use Rattle.std.specs.List.{flat_map}
 use Rattle.crash.specs.Modules.{loaded_of}
-use Rattle.crash_text.specs.Modules.{each_module}
+use Rattle.crash_text.specs.Modules.{each_module, is_marked}
 use Rattle.crash_text.specs.Lines.{line_of}
 use Rattle.crash_text.proofs.modules.push_each.Given as goal
 
 abbrev pub invariant-loop-index : goal.invariant-loop-index
-invariant-loop-index l = string_bytes l.out ≡ string_bytes l.fn.out ++ flat_map line_of (each_module l.limits l.address l.frames (map loaded_of (take l.index l.modules)))
+invariant-loop-index l =
+    string_bytes l.out
+    ≡ string_bytes l.fn.out
+    ++ flat_map line_of (each_module l.limits (is_marked l.address l.marks) (map loaded_of (take l.index l.modules)))
