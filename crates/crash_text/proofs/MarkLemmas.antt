@@ -1,0 +1,22 @@
+-- The modules that are listed, by marks and by what the marks say.
+use Rattle.std.proofs.Common.{◌≡◌, ◌∙◌, ◌+◌, ◌<◌, ◌++◌, ◌∷◌, ◌||◌, [], ℕ, Bool, List, Option, ap, arith, length, refl, if◌then◌else◌}
+use Rattle.std.specs.List.{enumerate_from, flat_map}
+use Rattle.crash.specs.declared.cause.AddressFacts.{AddressFacts}
+use Rattle.crash.specs.declared.frames.CrashFrame.{CrashFrame}
+use Rattle.crash.specs.Modules.{LoadedValue}
+use Rattle.crash_text.specs.declared.limits.TextLimits.{TextLimits}
+use Rattle.crash_text.specs.Modules.{HasMarks, address_place, each_module, is_in, is_marked, is_named, listed_lines, module_line}
+
+same_listed : (limits : TextLimits) (f g : ℕ → Bool) (n : ℕ) (ms : List LoadedValue) → ((i : ℕ) → i < n + length ms → f i ≡ g i)
+    → flat_map (listed_lines limits f) (enumerate_from n ms) ≡ flat_map (listed_lines limits g) (enumerate_from n ms)
+same_listed limits f g n [] same = refl
+same_listed limits f g n (m ∷ ms) same =
+    let first : n < n + length (m ∷ ms) = omega arith in
+    ap (λ b. (if limits.lists || b then module_line m ∷ [] else []) ++ flat_map (listed_lines limits f) (enumerate_from (n + 1) ms)) (same n first)
+    ∙ ap (λ rest. listed_lines limits g (n, m) ++ rest) (same_listed limits f g (n + 1) ms (λ i within. same i (omega (arith, within))))
+
+-- what has a mark is named
+pub marked_listed : (limits : TextLimits) (address : Option AddressFacts) (marks : List Bool) (frames : List CrashFrame) (ms : List LoadedValue)
+    → HasMarks marks (length ms) frames → each_module limits (is_marked address marks) ms ≡ each_module limits (is_named address frames) ms
+marked_listed limits address marks frames ms h =
+    same_listed limits (is_marked address marks) (is_named address frames) 0 ms (λ i within. ap (λ b. is_in i (address_place address) || b) (h.at i (omega (arith, within))))
