@@ -6,4 +6,5 @@ pub mod Found
 pub mod LastLemmas
 pub mod Lasts
 pub mod Mapped
+pub mod PaddedLemmas
 pub mod ThreadLemmas

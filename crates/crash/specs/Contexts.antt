@@ -1,27 +1,37 @@
--- The registers of a thread, by the context of the exception or its own, or why there are none.
-use Rattle.std.specs.Prelude.{ℕ, ◌==◌, Bool, List, is_some, length, map, Option, Some, None}
+-- The registers of a thread, by the context of the exception or its own, whole or cut after its
+-- general registers, or why there are none.
+use Rattle.std.specs.Prelude.{ℕ, ◌-◌, ◌++◌, ◌==◌, ◌&&◌, Bool, false, List, is_none, is_some, length, map}
+use Rattle.std.specs.Prelude.{nat_le, nat_lt, replicate, Option, Some, None}
 use Rattle.std.specs.Prelude.{if◌then◌else◌}
-use Rattle.std.specs.Option.{option_and_then, option_map}
+use Rattle.std.specs.Option.{option_and_then, option_map, option_or}
 use Rattle.std.specs.Result.{result_ok}
 use Rattle.minidump.specs.declared.Endian.{Endian}
 use Rattle.minidump.specs.declared.MinidumpContextValidity.TheVariants.{All}
 use Rattle.minidump.specs.declared.MinidumpRawContext.{MinidumpRawContext}
+use Rattle.minidump.specs.declared.MinidumpRawContext.TheVariants.{Amd64, Arm64}
+use Rattle.minidump.specs.declared.system_info.Cpu.{Cpu}
+use Rattle.minidump.specs.declared.system_info.Cpu.TheVariants as cpu
 use Rattle.minidump.specs.Below.Contexts.Context.{registers_of, valid_registers_from}
+use Rattle.minidump.specs.Below.Format.Flags.{has_flag}
 use Rattle.minidump.specs.Below.System.System.{System}
 use Rattle.minidump.specs.Exception.{Exception}
-use Rattle.minidump.specs.Thread.{Thread, known_context}
+use Rattle.minidump.specs.Thread.{Thread, accepted_context, known_context}
 use Rattle.crash.specs.declared.contexts.ContextOrigin.{ContextOrigin}
 use Rattle.crash.specs.declared.contexts.ContextOrigin.TheVariants.{OfException, OfThread}
 use Rattle.crash.specs.declared.contexts.ContextProblem.{ContextProblem}
 use Rattle.crash.specs.declared.contexts.ContextProblem.TheVariants.{NoSystem, NotAccepted, Outside}
 use Rattle.crash.specs.declared.contexts.CrashContext.{CrashContext}
+use Rattle.crash.specs.declared.contexts.FoundContext.{FoundContext}
+use Rattle.crash.specs.declared.contexts.ShortContext.{ShortContext}
 use Rattle.crash.specs.Contents.{ContentsValue}
 
--- the registers with their names, how many bytes each has, and whose context they are of
+-- the registers with their names, how many bytes each has, whose context they are of, and how much
+-- of that there is, where it is cut
 pub record ContextValue : Type 0 where
   pub registers : List (List ℕ × ℕ)
   pub size : ℕ
   pub origin : ContextOrigin
+  pub short : Option ShortContext
 
 -- the same of a `CrashContext`
 abbrev pub context_of : CrashContext → ContextValue
@@ -29,41 +39,111 @@ context_of c = record {
   registers = map (λ r. (r.0.now, r.1)) c.registers.items;
   size = c.size;
   origin = c.origin;
+  short = c.short;
 }
-
--- ---- contexts
 
 -- the system, where it is known
 abbrev pub system_of : ContentsValue → Option System
 system_of c = result_ok c.system.system
 
--- the context of an exception, where the system accepts it
-abbrev pub context_at : ContentsValue → Exception → Option MinidumpRawContext
-context_at c e = known_context (system_of c) e.order e.context
+-- ---- contexts that are whole
+
+-- a whole context
+abbrev pub whole_context : Option MinidumpRawContext → Option FoundContext
+whole_context raw = option_map (λ raw. record { raw = raw; short = None }) raw
+
+-- ---- contexts that are cut after the general registers
+
+-- how many bytes of a processor's context end with its general registers, and how many it has. The
+-- last of these registers is rip of x86-64, at 0xf8, and pc of ARM64, at 0x108
+abbrev pub lengths : Cpu → Option (ℕ × ℕ)
+lengths cpu.X86_64 = Some (0x100, 1232)
+lengths cpu.Arm64 = Some (0x110, 912)
+lengths other = None
+
+-- the flags of a context have CONTEXT_CONTROL and CONTEXT_INTEGER of winnt.h: the general registers
+-- are set
+abbrev pub has_general : MinidumpRawContext → Bool
+has_general (Amd64 c) = has_flag c.context_flags 3
+has_general (Arm64 c) = has_flag c.context_flags 3
+has_general other = false
+
+-- bytes with zeros after them, so many in all
+abbrev pub padded : List ℕ → ℕ → List ℕ
+padded bytes whole = bytes ++ replicate (whole - length bytes) 0
+
+-- a context of which there are so many bytes, if these have all general registers
+abbrev pub short_of : ℕ → ℕ → MinidumpRawContext → Option FoundContext
+short_of size whole raw = if has_general raw
+    then Some (record { raw = raw; short = Some (record { size = size; whole = whole }) }) else None
+
+-- the context of which bytes are the front, by how many of these there are at least and at most
+abbrev pub short_by : System → Endian → List ℕ → ℕ × ℕ → Option FoundContext
+short_by s order bytes l = if nat_le l.0 (length bytes) && nat_lt (length bytes) l.1
+    then option_and_then (short_of (length bytes) l.1)
+    (accepted_context s.raw.processor_architecture order (Some (padded bytes l.1))) else None
+
+-- the same on the processor of a dump
+abbrev pub short_context : Option System → Endian → Option (List ℕ) → Option FoundContext
+short_context system order bytes = option_and_then (λ s. option_and_then (λ bytes.
+    option_and_then (short_by s order bytes) (lengths s.cpu)) bytes) system
+
+-- ---- the context of a thread
+
+-- the context that bytes hold: whole, or cut after its general registers
+abbrev pub any_context : Option System → Endian → Option (List ℕ) → Option FoundContext
+any_context system order bytes =
+    option_or (whole_context (known_context system order bytes)) (short_context system order bytes)
+
+-- the context of an exception
+abbrev pub context_at : ContentsValue → Exception → Option FoundContext
+context_at c e = any_context (system_of c) e.order e.context
 
 -- the same, where the exception happened on the thread with an id
-abbrev pub exception_context : ContentsValue → Option Exception → ℕ → Option MinidumpRawContext
-exception_context c e id =
+abbrev pub on_thread : ContentsValue → Option Exception → ℕ → Option FoundContext
+on_thread c e id =
     option_and_then (λ e. if e.thread_id == id then context_at c e else None) e
 
--- the registers of a context
-abbrev pub context_by : ContextOrigin → MinidumpRawContext → ContextValue
-context_by origin raw = record {
+-- a context, if it is whole
+abbrev pub whole_only : Option FoundContext → Option FoundContext
+whole_only (Some f) = if is_none f.short then Some f else None
+whole_only None = None
+
+-- a context with whose it is
+abbrev pub of_origin : ContextOrigin → Option FoundContext → Option (ContextOrigin × FoundContext)
+of_origin origin context = option_map (λ f. (origin, f)) context
+
+-- of the context of an exception on a thread and of the thread's own: the first that is whole, else
+-- the first
+abbrev pub first_found : Option FoundContext → Option FoundContext
+    → Option (ContextOrigin × FoundContext)
+first_found exception own = option_or (option_or (option_or
+    (of_origin OfException (whole_only exception)) (of_origin OfThread (whole_only own)))
+    (of_origin OfException exception)) (of_origin OfThread own)
+
+-- the context by which the registers of a thread of the list are known, and whose it is, by the
+-- exception that counts
+abbrev pub found_in : ContentsValue → Option Exception → Thread
+    → Option (ContextOrigin × FoundContext)
+found_in c e t = first_found (on_thread c e t.raw.thread_id)
+    (any_context (system_of c) t.order t.context)
+
+-- the registers of a context, with whose it is and how much of it there is, where it is cut
+abbrev pub registers_in : ContextOrigin → Option ShortContext → MinidumpRawContext → ContextValue
+registers_in origin short raw = record {
   registers = valid_registers_from All (registers_of raw) 0;
   size = (registers_of raw).size;
   origin = origin;
+  short = short;
 }
 
--- the registers of a thread: of the exception's context, else of its own
-abbrev pub first_context : Option MinidumpRawContext → Option MinidumpRawContext
-    → Option ContextValue
-first_context (Some raw) own = Some (context_by OfException raw)
-first_context None own = option_map (context_by OfThread) own
+-- the same of a context that is found
+abbrev pub context_by : ContextOrigin × FoundContext → ContextValue
+context_by f = registers_in f.0 f.1.short f.1.raw
 
--- the same of a thread of the list, by the exception that counts
+-- the registers of a thread of the list
 abbrev pub context_in : ContentsValue → Option Exception → Thread → Option ContextValue
-context_in c e t = first_context (exception_context c e t.raw.thread_id)
-    (known_context (system_of c) t.order t.context)
+context_in c e t = option_map context_by (found_in c e t)
 
 -- ---- why there are none
 
@@ -77,4 +157,4 @@ problem_by is_known is_accepted (Some bytes) = if is_accepted then None
 -- the same by the system
 abbrev pub problem_in : Option System → Endian → Option (List ℕ) → Option ContextProblem
 problem_in system order bytes =
-    problem_by (is_some system) (is_some (known_context system order bytes)) bytes
+    problem_by (is_some system) (is_some (any_context system order bytes)) bytes

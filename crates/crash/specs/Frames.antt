@@ -16,14 +16,15 @@ use Rattle.stack_walk.specs.declared.end.WalkEnd.{WalkEnd}
 use Rattle.stack_walk.specs.declared.frame.StackFrame.{StackFrame}
 use Rattle.stack_walk.specs.Frames.{stack_pointer_in}
 use Rattle.stack_walk.specs.Lookups.{lookup_address}
-use Rattle.stack_walk.specs.Threads.{ProcessValue, stack_in, thread_walk_in}
+use Rattle.stack_walk.specs.Threads.{ProcessValue, stack_in, thread_stack}
 use Rattle.stack_walk.specs.Walk as stack
 use Rattle.stack_walk.specs.Walk.{WalkValue}
+use Rattle.crash.specs.declared.contexts.FoundContext.{FoundContext}
 use Rattle.crash.specs.declared.frames.CrashFrame.{CrashFrame}
 use Rattle.crash.specs.declared.frames.CrashWalk.{CrashWalk}
 use Rattle.crash.specs.Cause.{module_place}
 use Rattle.crash.specs.Contents.{ContentsValue}
-use Rattle.crash.specs.Contexts.{context_at}
+use Rattle.crash.specs.Contexts.{context_at, found_in}
 
 -- the frames, the candidates, and why the last of the frames has no caller
 pub record CrashWalkValue : Type 0 where
@@ -76,25 +77,33 @@ process_in c e = option_map (λ system. record {
   infos = info_regions c.space.infos;
 }) (result_ok c.system.system)
 
--- the walk of a thread in a process: none without a context
-abbrev pub walk_in : ℕ → Thread → ProcessValue → Option CrashWalkValue
-walk_in scan t p = option_map (walk_by p.modules) (thread_walk_in p t scan)
+-- the walk of a context on a region of memory
+abbrev pub walk_on : ProcessValue → Option UnifiedRegion → ℕ → MinidumpContext → CrashWalkValue
+walk_on p region scan context = walk_by p.modules (stack.walk_in (stack_in p region) context scan)
 
--- the same by the contents and the exception that counts
+-- the context that is found, all of whose registers are valid
+abbrev context_of : FoundContext → MinidumpContext
+context_of f = record { raw = f.raw; valid = All }
+
+-- the walk of a thread's context on its stack, in a process
+abbrev pub walk_in : ℕ → Thread → ProcessValue → FoundContext → CrashWalkValue
+walk_in scan t p f = walk_on p (thread_stack p.memory t (stack_pointer_in f.raw)) scan
+    (context_of f)
+
+-- the same by the contents and the exception that counts: none without a context
 abbrev pub thread_walk : ContentsValue → Option Exception → ℕ → Thread → Option CrashWalkValue
-thread_walk c e scan t = option_and_then (walk_in scan t) (process_in c e)
+thread_walk c e scan t = option_and_then
+    (λ p. option_map (λ f. walk_in scan t p f.1) (found_in c e t)) (process_in c e)
 
 -- the kept region of the memory that contains an address
 abbrev pub memory_at : UnifiedRegions → ℕ → Option UnifiedRegion
 memory_at memory address = looked_up range_of_region (unified_regions memory) address
 
 -- the walk of a context on the memory at its stack pointer
-abbrev pub walk_at : ProcessValue → ℕ → MinidumpContext → CrashWalkValue
-walk_at p scan context = walk_by p.modules
-    (stack.walk_in (stack_in p (memory_at p.memory (stack_pointer_in context.raw))) context scan)
+abbrev pub walk_at : ProcessValue → ℕ → FoundContext → CrashWalkValue
+walk_at p scan f = walk_on p (memory_at p.memory (stack_pointer_in f.raw)) scan (context_of f)
 
--- the walk of an exception's context, all of whose registers are valid
+-- the walk of an exception's context
 abbrev pub exception_walk : ContentsValue → ℕ → Exception → Option CrashWalkValue
-exception_walk c scan e = option_and_then (λ p. option_map
-    (λ raw. walk_at p scan (record { raw = raw; valid = All })) (context_at c e))
+exception_walk c scan e = option_and_then (λ p. option_map (walk_at p scan) (context_at c e))
     (process_in c (Some e))

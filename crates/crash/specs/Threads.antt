@@ -17,8 +17,9 @@ use Rattle.crash.specs.declared.threads.CrashThread.{CrashThread}
 use Rattle.crash.specs.declared.threads.CrashThreads.{CrashThreads}
 use Rattle.crash.specs.declared.stacks.StackRange.{StackRange}
 use Rattle.crash.specs.Contents.{ContentsValue}
-use Rattle.crash.specs.Contexts.{ContextValue, context_at, context_in, context_of}
-use Rattle.crash.specs.Contexts.{first_context, problem_in, system_of}
+use Rattle.crash.specs.declared.contexts.ContextOrigin.TheVariants.{OfException}
+use Rattle.crash.specs.Contexts.{ContextValue, context_at, context_by, context_in, context_of}
+use Rattle.crash.specs.Contexts.{of_origin, problem_in, system_of}
 use Rattle.crash.specs.Counting.{counting_exception}
 use Rattle.crash.specs.Frames.{CrashWalkValue, crash_walk_of, exception_walk, thread_walk}
 use Rattle.crash.specs.Last.{last_index}
@@ -110,7 +111,7 @@ extra_in scan c e = record {
   id = e.thread_id;
   is_listed = false;
   name = name_in c.threads.names e.thread_id;
-  context = first_context (context_at c e) None;
+  context = option_map context_by (of_origin OfException (context_at c e));
   context_problem = None;
   stack = None;
   stack_memory = None;

@@ -1,14 +1,20 @@
-ghost use Rattle.std.specs.Prelude.{◌≡◌, IfOk, IfSome, is_some, length, map};
+ghost use Rattle.std.specs.Prelude.{◌≡◌, ◌≤◌, ◌<◌, IfOk, IfSome, Some, is_some, length, map, min, replicate};
 ghost use Rattle.std.specs.Option.{option_copied, option_map};
-ghost use Rattle.minidump.specs.declared.MinidumpContextValidity.TheVariants.{All};
-ghost use Rattle.minidump.specs.Promise.{exception_stream};
-ghost use Rattle.minidump.specs.Thread.{known_context, thread_of};
+ghost use Rattle.minidump.specs.Promise.{exception_stream, system_info_stream};
+ghost use Rattle.minidump.specs.Thread.{accepted_context, known_context, thread_of};
 ghost use Rattle.crash.specs.Contents.{contents_of};
-ghost use Rattle.crash.specs.Contexts.{context_at, context_by, context_in, context_of};
-ghost use Rattle.crash.specs.Contexts.{exception_context, first_context, problem_by, system_of};
+ghost use Rattle.crash.specs.Contexts.{any_context, context_at, context_by, context_in, context_of};
+ghost use Rattle.crash.specs.Contexts.{first_found, found_in, has_general, lengths, of_origin};
+ghost use Rattle.crash.specs.Contexts.{on_thread, padded, problem_by, registers_in, short_by};
+ghost use Rattle.crash.specs.Contexts.{short_context};
+ghost use Rattle.crash.specs.Contexts.{system_of, whole_context, whole_only};
 
 use crate::contents::Contents;
-use minidump::{MinidumpContext, MinidumpException, MinidumpThread};
+use minidump::system_info::Cpu;
+use minidump::{
+    Endian, MinidumpContext, MinidumpException, MinidumpRawContext, MinidumpSystemInfo,
+    MinidumpThread,
+};
 use std::alloc::{AllocError, Global};
 
 /// The registers of a thread, as its context has them.
@@ -20,6 +26,9 @@ pub struct CrashContext {
     pub size: usize,
     /// Whose context it is.
     pub origin: ContextOrigin,
+    /// How much of the context there is, if its writer cut it after the general registers, and
+    /// `None` if it is whole.
+    pub short: Option<ShortContext>,
 }
 
 /// Whose context the registers are of.
@@ -31,6 +40,15 @@ pub enum ContextOrigin {
     OfThread,
 }
 
+/// How much there is of a context that its writer cut after the general registers.
+#[derive(Clone, Copy, Debug, PartialEq, Eq)]
+pub struct ShortContext {
+    /// How many bytes it has.
+    pub size: usize,
+    /// How many bytes a whole context of the processor has.
+    pub whole: usize,
+}
+
 /// Why there are no registers in a context.
 #[derive(Clone, Copy, Debug, PartialEq, Eq)]
 pub enum ContextProblem {
@@ -38,22 +56,177 @@ pub enum ContextProblem {
     Outside,
     /// The system is unknown, whose processor says how to read it.
     NoSystem,
-    /// It isn't a context of the processor.
+    /// It isn't a context of the processor, nor the front of one with all general registers.
     NotAccepted {
         /// How many bytes it has.
         size: usize,
     },
 }
 
+// The registers that the bytes of a context hold, and how much of it there is if it is cut.
+#[derive(Clone, Copy)]
+pub(crate) struct FoundContext {
+    pub(crate) raw: MinidumpRawContext,
+    pub(crate) short: Option<ShortContext>,
+}
+
+// ---- contexts that are whole
+
+// Returns the context of an exception, if it is whole.
+fn exception_context(
+    contents: &Contents<'_>,
+    exception: &MinidumpException<'_>,
+) -> Option<MinidumpContext>
+    ensures { option_map (λ c. c.raw) result ≡ known_context (system_of (contents_of contents.now))
+        (exception_stream.value exception.now).order (exception_stream.value exception.now).context }
+{
+    let system = contents.system.system.as_ref().ok()?;
+    exception.context(system, None)
+}
+
+// Returns the own context of a thread, if it is whole.
+fn thread_context(contents: &Contents<'_>, thread: &MinidumpThread<'_>) -> Option<MinidumpContext>
+    ensures { option_map (λ c. c.raw) result ≡ known_context (system_of (contents_of contents.now))
+        (thread_of thread.now).order (thread_of thread.now).context }
+{
+    let system = contents.system.system.as_ref().ok()?;
+    thread.context(system, None)
+}
+
+// Returns a whole context.
+fn whole_context(context: Option<MinidumpContext>) -> Option<FoundContext>
+    ensures { result ≡ whole_context (option_map (λ c. c.raw) context) }
+{
+    let raw = context?.raw;
+    Some(FoundContext { raw, short: None })
+}
+
+// ---- contexts that are cut after the general registers
+
+// Returns the context of which bytes are the front.
+fn short_context(
+    contents: &Contents<'_>,
+    endian: Endian,
+    bytes: Option<&[u8]>,
+) -> Option<FoundContext>
+    ensures { result ≡ short_context (system_of (contents_of contents.now)) endian
+        (option_copied bytes.entry) }
+{
+    let system = contents.system.system.as_ref().ok()?;
+    let bytes = bytes?;
+    let (least, whole) = lengths(system.cpu)?;
+    short_by(system, endian, bytes, least, whole)
+}
+
+// Returns how many bytes of a processor's context end with its general registers, and how many it
+// has.
+fn lengths(cpu: Cpu) -> Option<(usize, usize)>
+    ensures lengths { result ≡ lengths cpu }
+    ensures most { IfSome result (λ l. l.1 ≤ 1232) }
+{
+    match cpu {
+        Cpu::X86_64 => Some((0x100, 1232)),
+        Cpu::Arm64 => Some((0x110, 912)),
+        _ => None,
+    }
+}
+
+// Returns the context of which bytes are the front, which ends with the general registers or after
+// them.
+fn short_by(
+    system: &MinidumpSystemInfo,
+    endian: Endian,
+    bytes: &[u8],
+    least: usize,
+    whole: usize,
+) -> Option<FoundContext>
+    requires { whole ≤ 1232 }
+    ensures { result ≡ short_by (system_info_stream.value system.now) endian bytes.now
+        (least, whole) }
+{
+    let size = bytes.len();
+    if size < least || size >= whole {
+        return None;
+    }
+    let raw = read_padded(system, endian, bytes, whole)?;
+    if has_general(&raw) {
+        let short = Some(ShortContext { size, whole });
+        Some(FoundContext { raw, short })
+    } else {
+        None
+    }
+}
+
+// Tells whether the flags of a context say that it has the control and the integer registers.
+fn has_general(raw: &MinidumpRawContext) -> bool
+    ensures { result ≡ has_general raw.now }
+{
+    match raw {
+        MinidumpRawContext::Amd64(context) => context.context_flags & 3 == 3,
+        MinidumpRawContext::Arm64(context) => context.context_flags & 3 == 3,
+        _ => false,
+    }
+}
+
+// Returns the context that bytes hold with zeros after them, so many in all.
+fn read_padded(
+    system: &MinidumpSystemInfo,
+    endian: Endian,
+    bytes: &[u8],
+    whole: usize,
+) -> Option<MinidumpRawContext>
+    requires fits { length bytes.now < whole }
+    requires most { whole ≤ 1232 }
+    ensures { result ≡ accepted_context (system_info_stream.value system.now).raw
+        .processor_architecture endian (Some (padded bytes.now whole)) }
+{
+    let mut padded = [0; 1232];
+    padded[..bytes.len()].copy_from_slice(bytes);
+    read_raw(&padded[..whole], endian, system)
+}
+
+// Returns the context that bytes hold.
+fn read_raw(bytes: &[u8], endian: Endian, system: &MinidumpSystemInfo) -> Option<MinidumpRawContext>
+    ensures { result ≡ accepted_context (system_info_stream.value system.now).raw
+        .processor_architecture endian (Some bytes.now) }
+{
+    let context = MinidumpContext::read(bytes, endian, system, None).ok()?;
+    Some(context.raw)
+}
+
+// ---- the context of a thread
+
+// Returns the context of an exception: whole, or cut after its general registers.
+pub(crate) fn context_at(
+    contents: &Contents<'_>,
+    exception: &MinidumpException<'_>,
+) -> Option<FoundContext>
+    ensures { result ≡ context_at (contents_of contents.now) (exception_stream.value exception.now) }
+{
+    let whole = whole_context(exception_context(contents, exception));
+    whole.or(short_context(contents, exception.endian(), exception.context_bytes()))
+}
+
+// Returns the own context of a thread: whole, or cut after its general registers.
+pub(crate) fn own_context(
+    contents: &Contents<'_>,
+    thread: &MinidumpThread<'_>,
+) -> Option<FoundContext>
+    ensures { result ≡ any_context (system_of (contents_of contents.now)) (thread_of thread.now).order
+        (thread_of thread.now).context }
+{
+    let whole = whole_context(thread_context(contents, thread));
+    whole.or(short_context(contents, thread.endian(), thread.context_bytes()))
+}
+
 // Returns the context of an exception, if it happened on the thread with an id.
-pub(crate) fn exception_context(
+fn on_thread(
     contents: &Contents<'_>,
     exception: Option<&MinidumpException<'_>>,
     id: u32,
-) -> Option<MinidumpContext>
-    ensures raw { option_map (λ c. c.raw) result ≡ exception_context (contents_of contents.now)
+) -> Option<FoundContext>
+    ensures { result ≡ on_thread (contents_of contents.now)
         (option_map exception_stream.value (option_copied exception.entry)) id }
-    ensures valid { IfSome result (λ c. c.valid ≡ All) }
 {
     let exception = exception?;
     if exception.thread_id == id {
@@ -63,44 +236,66 @@ pub(crate) fn exception_context(
     }
 }
 
-// Returns the context of an exception.
-pub(crate) fn context_at(
+// Returns the context by which the registers of a thread are known, and whose it is, by the
+// exception that counts.
+pub(crate) fn found_context(
     contents: &Contents<'_>,
-    exception: &MinidumpException<'_>,
-) -> Option<MinidumpContext>
-    ensures raw { option_map (λ c. c.raw) result
-        ≡ context_at (contents_of contents.now) (exception_stream.value exception.now) }
-    ensures valid { IfSome result (λ c. c.valid ≡ All) }
-{
-    let system = contents.system.system.as_ref().ok()?;
-    exception.context(system, None)
-}
-
-// Returns the own context of a thread.
-pub(crate) fn own_context(
-    contents: &Contents<'_>,
+    exception: Option<&MinidumpException<'_>>,
     thread: &MinidumpThread<'_>,
-) -> Option<MinidumpContext>
-    ensures { option_map (λ c. c.raw) result ≡ known_context (system_of (contents_of contents.now))
-        (thread_of thread.now).order (thread_of thread.now).context }
+) -> Option<(ContextOrigin, FoundContext)>
+    ensures { result ≡ found_in (contents_of contents.now)
+        (option_map exception_stream.value (option_copied exception.entry)) (thread_of thread.now) }
 {
-    let system = contents.system.system.as_ref().ok()?;
-    thread.context(system, None)
+    let excepted = on_thread(contents, exception, thread.raw.thread_id);
+    first_found(excepted, own_context(contents, thread))
 }
 
-// Returns the registers of a thread: of the exception's context, else of its own.
-pub(crate) fn first_context(
-    alloc: Global,
-    exception: Option<MinidumpContext>,
-    own: Option<MinidumpContext>,
-) -> Result<Option<CrashContext>, AllocError>
-    ensures { IfOk result (λ context. option_map context_of context
-        ≡ first_context (option_map (λ c. c.raw) exception) (option_map (λ c. c.raw) own)) }
+// Returns the first of the exception's and the own context that is whole, else the first of them.
+fn first_found(
+    exception: Option<FoundContext>,
+    own: Option<FoundContext>,
+) -> Option<(ContextOrigin, FoundContext)>
+    ensures { result ≡ first_found exception own }
 {
-    match (exception, own) {
-        (Some(context), _) => Ok(Some(context_by(alloc, ContextOrigin::OfException, &context)?)),
-        (None, Some(context)) => Ok(Some(context_by(alloc, ContextOrigin::OfThread, &context)?)),
-        (None, None) => Ok(None),
+    of_origin(ContextOrigin::OfException, whole_only(exception))
+        .or(of_origin(ContextOrigin::OfThread, whole_only(own)))
+        .or(of_origin(ContextOrigin::OfException, exception))
+        .or(of_origin(ContextOrigin::OfThread, own))
+}
+
+// Returns a context, if it is whole.
+fn whole_only(context: Option<FoundContext>) -> Option<FoundContext>
+    ensures { result ≡ whole_only context }
+{
+    match context {
+        Some(found) if found.short.is_none() => Some(found),
+        _ => None,
+    }
+}
+
+// Returns a context with whose it is.
+pub(crate) fn of_origin(
+    origin: ContextOrigin,
+    context: Option<FoundContext>,
+) -> Option<(ContextOrigin, FoundContext)>
+    ensures { result ≡ of_origin origin context }
+{
+    Some((origin, context?))
+}
+
+// Returns the registers of a context, whosever it is.
+pub(crate) fn registers_of(
+    alloc: Global,
+    context: Option<(ContextOrigin, FoundContext)>,
+) -> Result<Option<CrashContext>, AllocError>
+    ensures { IfOk result (λ c. option_map context_of c ≡ option_map context_by context) }
+{
+    match context {
+        Some((origin, found)) => {
+            let raw = MinidumpContext::from_raw(found.raw);
+            Ok(Some(context_by(alloc, origin, found.short, &raw)?))
+        }
+        None => Ok(None),
     }
 }
 
@@ -108,26 +303,30 @@ pub(crate) fn first_context(
 fn context_by(
     alloc: Global,
     origin: ContextOrigin,
+    short: Option<ShortContext>,
     context: &MinidumpContext,
 ) -> Result<CrashContext, AllocError>
-    ensures { IfOk result (λ c. context_of c ≡ context_by origin context.now.raw) }
+    ensures { IfOk result (λ c. context_of c ≡ registers_in origin short context.now.raw) }
 {
     let registers: Vec<(&'static str, u64)> = context.registers().collect(alloc)?;
     Ok(CrashContext {
         registers,
         size: context.register_size(),
         origin,
+        short,
     })
 }
+
+// ---- why there are none
 
 // Returns why there are no registers in the bytes of a context, by what the system makes of them.
 pub(crate) fn problem_of(
     contents: &Contents<'_>,
     bytes: Option<&[u8]>,
-    context: &Option<MinidumpContext>,
+    context: &Option<FoundContext>,
 ) -> Option<ContextProblem>
     ensures { result ≡ problem_by (is_some (system_of (contents_of contents.now)))
-        (is_some (option_map (λ c. c.raw) context.now)) (option_copied bytes.entry) }
+        (is_some context.now) (option_copied bytes.entry) }
 {
     problem_by(bytes, is_known(contents), is_accepted(context))
 }
@@ -143,8 +342,8 @@ fn is_known(contents: &Contents<'_>) -> bool
 }
 
 // Tells whether there is a context.
-fn is_accepted(context: &Option<MinidumpContext>) -> bool
-    ensures { result ≡ is_some (option_map (λ c. c.raw) context.now) }
+fn is_accepted(context: &Option<FoundContext>) -> bool
+    ensures { result ≡ is_some context.now }
 {
     match context {
         Some(_) => true,

@@ -4,21 +4,20 @@ ghost use Rattle.minidump.specs.Below.MemoryLists.Unified.{unified_list, unified
 ghost use Rattle.minidump.specs.Promise.{exception_stream, module_list_stream};
 ghost use Rattle.minidump.specs.Thread.{thread_of};
 ghost use Rattle.stack_walk.specs.Frames.{stack_pointer_in};
-ghost use Rattle.stack_walk.specs.Threads.{process_of};
+ghost use Rattle.stack_walk.specs.Threads.{process_of, thread_stack};
 ghost use Rattle.stack_walk.specs.Walk.{walk_of};
 ghost use Rattle.crash.specs.Contents.{contents_of};
-ghost use Rattle.crash.specs.Contexts.{context_at};
 ghost use Rattle.crash.specs.Frames.{crash_walk_of, exception_walk, frame_in, memory_at, place_of};
-ghost use Rattle.crash.specs.Frames.{process_in, thread_walk, walk_at, walk_by, walk_in};
+ghost use Rattle.crash.specs.Frames.{process_in, thread_walk, walk_at, walk_by, walk_in, walk_on};
 
 use crate::cause::module_place;
 use crate::contents::Contents;
-use crate::contexts::context_at;
+use crate::contexts::{FoundContext, context_at, found_context};
+use crate::stacks::{memory_at, stack_at};
 use minidump::{
     Error, MinidumpContext, MinidumpException, MinidumpModuleList, MinidumpThread, UnifiedMemory,
-    UnifiedMemoryList,
 };
-use stack_walk::{FrameTrust, Process, Stack, StackFrame, Walk, WalkEnd, walk_stack, walk_thread};
+use stack_walk::{FrameTrust, Process, Stack, StackFrame, Walk, WalkEnd, walk_stack};
 use std::alloc::{AllocError, Global};
 
 /// What is found in the stack of a thread.
@@ -66,27 +65,30 @@ pub(crate) fn walk_of_thread<'l, 'a>(
         (thread_of thread.now)) }
     ensures memory { IsOkUnless result Error.OutOfMemory }
 {
-    match process_of(contents, exception) {
-        Some(process) => walk_in(alloc, &process, thread, scan),
+    let Some(process) = process_of(contents, exception) else {
+        return Ok(None);
+    };
+    match found_context(contents, exception, thread) {
+        Some((_, found)) => Ok(Some(walk_in(alloc, &process, thread, &found, scan)?)),
         None => Ok(None),
     }
 }
 
-// Returns the same in a process.
+// Returns what is found in the stack of a thread that has a context, in a process.
 fn walk_in<'a>(
     alloc: Global,
     process: &Process<'_, 'a>,
     thread: &MinidumpThread<'a>,
+    found: &FoundContext,
     scan: usize,
-) -> Result<Option<CrashWalk>, Error>
-    ensures walk { IfOk result (λ walk. option_map crash_walk_of walk
-        ≡ walk_in scan (thread_of thread.now) (process_of process.now)) }
+) -> Result<CrashWalk, Error>
+    ensures walk { IfOk result (λ walk. crash_walk_of walk
+        ≡ walk_in scan (thread_of thread.now) (process_of process.now) found.now) }
     ensures memory { IsOkUnless result Error.OutOfMemory }
 {
-    match walk_thread(alloc, process, thread, scan)? {
-        Some(walk) => Ok(Some(walk_by(alloc, process.modules, &walk)?)),
-        None => Ok(None),
-    }
+    let context = MinidumpContext::from_raw(found.raw);
+    let memory = stack_at(process.memory, thread, context.get_stack_pointer());
+    walk_on(alloc, process, memory, &context, scan)
 }
 
 // Returns what is found on the memory at the stack pointer of an exception's context.
@@ -104,7 +106,7 @@ pub(crate) fn walk_of_exception<'l, 'a>(
         return Ok(None);
     };
     match context_at(contents, exception) {
-        Some(context) => Ok(Some(walk_at(alloc, &process, &context, scan)?)),
+        Some(found) => Ok(Some(walk_at(alloc, &process, &found, scan)?)),
         None => Ok(None),
     }
 }
@@ -113,31 +115,38 @@ pub(crate) fn walk_of_exception<'l, 'a>(
 fn walk_at(
     alloc: Global,
     process: &Process<'_, '_>,
+    found: &FoundContext,
+    scan: usize,
+) -> Result<CrashWalk, Error>
+    ensures walk { IfOk result (λ walk. crash_walk_of walk
+        ≡ walk_at (process_of process.now) scan found.now) }
+    ensures memory { IsOkUnless result Error.OutOfMemory }
+{
+    let context = MinidumpContext::from_raw(found.raw);
+    let memory = memory_at(process.memory, context.get_stack_pointer());
+    walk_on(alloc, process, memory, &context, scan)
+}
+
+// Returns what is found on a region of memory by a context.
+fn walk_on<'l, 'a>(
+    alloc: Global,
+    process: &Process<'l, 'a>,
+    memory: Option<UnifiedMemory<'l, 'a>>,
     context: &MinidumpContext,
     scan: usize,
 ) -> Result<CrashWalk, Error>
     ensures walk { IfOk result (λ walk. crash_walk_of walk
-        ≡ walk_at (process_of process.now) scan context.now) }
+        ≡ walk_on (process_of process.now) (option_map unified_region memory) scan context.now) }
     ensures memory { IsOkUnless result Error.OutOfMemory }
 {
     let stack = Stack {
-        memory: memory_at(process.memory, context.get_stack_pointer()),
+        memory,
         modules: process.modules,
         infos: process.infos,
         width: process.system.cpu.pointer_width(),
     };
     let walk = walk_stack(alloc, &stack, context, scan)?;
     Ok(walk_by(alloc, process.modules, &walk)?)
-}
-
-// Returns the kept region of the memory that contains an address.
-fn memory_at<'l, 'a>(
-    memory: &'l UnifiedMemoryList<'a>,
-    address: u64,
-) -> Option<UnifiedMemory<'l, 'a>>
-    ensures { option_map unified_region result ≡ memory_at (unified_list memory.now) address }
-{
-    memory.memory_at_address(address)
 }
 
 // Returns a walk with the module of each frame.

@@ -19,7 +19,8 @@
 //! The exception that counts is the last that can be read and whose code isn't 0, else the last that
 //! can be read. The address of the crash is its address. The thread that crashed is the last of its
 //! id, and its context takes the place of that thread's own. If the list of threads lacks it, a
-//! thread of this context alone follows the others.
+//! thread of this context alone follows the others. A context that its writer cut after the general
+//! registers, as LLDB does, gives these where there is no whole one: [`ShortContext`].
 //!
 //! A frame's place in a module is the index of the module in its list, and the offset in it. The
 //! frames by frame pointers stand apart from the words of the stack that may be return addresses.
@@ -60,7 +61,7 @@ mod threads;
 
 pub use cause::{AddressFacts, CrashCause, CrashException};
 pub use contents::{Contents, MessageStreams, ProcessStreams, SystemStreams, ThreadStreams};
-pub use contexts::{ContextOrigin, ContextProblem, CrashContext};
+pub use contexts::{ContextOrigin, ContextProblem, CrashContext, ShortContext};
 pub use crash::{Crash, status_of};
 pub use damage::Damage;
 pub use directory::{CrashDirectory, StreamEntry};

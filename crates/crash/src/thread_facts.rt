@@ -11,9 +11,7 @@ ghost use Rattle.crash.specs.Contexts.{context_in, context_of, problem_in, syste
 ghost use Rattle.crash.specs.Threads.{last_error_code, last_error_in, name_in};
 
 use crate::contents::Contents;
-use crate::contexts::{
-    self, ContextProblem, CrashContext, exception_context, first_context, own_context,
-};
+use crate::contexts::{self, ContextProblem, CrashContext, found_context, own_context, registers_of};
 use minidump::system_info::Cpu;
 use minidump::{
     CodeNames, CrashReason, Error, MinidumpException, MinidumpThread, MinidumpThreadNames,
@@ -88,8 +86,8 @@ pub(crate) fn context_of(
         (thread_of thread.now)) }
     ensures memory { IsOkUnless result Error.OutOfMemory }
 {
-    let excepted = exception_context(contents, exception, thread.raw.thread_id);
-    Ok(first_context(alloc, excepted, own_context(contents, thread))?)
+    let found = found_context(contents, exception, thread);
+    Ok(registers_of(alloc, found)?)
 }
 
 // Returns why the own context of a thread can't be used.

@@ -10,7 +10,9 @@ ghost use Rattle.crash.specs.Threads.{has_thread, listed_in, thread_in, thread_v
 ghost use Rattle.crash.specs.Threads.{threads_in, threads_of};
 
 use crate::contents::Contents;
-use crate::contexts::{ContextProblem, CrashContext, context_at, first_context};
+use crate::contexts::{
+    ContextOrigin, ContextProblem, CrashContext, context_at, of_origin, registers_of,
+};
 use crate::counting::counting_exception;
 use crate::each::{MakeItem, make_items};
 use crate::frames::{CrashWalk, walk_of_exception, walk_of_thread};
@@ -42,8 +44,9 @@ pub struct CrashThread {
     pub is_listed: bool,
     /// Its name, by its id in the names of threads.
     pub name: Option<String>,
-    /// Its registers: of the context of the exception that counts, if that happened on this thread
-    /// and is accepted, else of the thread's own.
+    /// Its registers: of the context of the exception that counts, if that happened on this thread,
+    /// or of the thread's own, by the first of these that is whole, else by the first that is cut
+    /// after its general registers.
     pub context: Option<CrashContext>,
     /// Why its own context isn't used where it would be, or `None` if it could be, and for a thread
     /// that the list lacks.
@@ -220,7 +223,8 @@ fn extra<'l, 'a>(
 {
     let id = exception.thread_id;
     let name = copy(alloc, name_of(&contents.threads.names, id))?;
-    let context = first_context(alloc, context_at(contents, exception), None)?;
+    let found = of_origin(ContextOrigin::OfException, context_at(contents, exception));
+    let context = registers_of(alloc, found)?;
     let walk = walk_of_exception(alloc, contents, exception, scan)?;
     Ok(CrashThread {
         id,

@@ -446,6 +446,11 @@ function rangeWords(range) {
   return base === null ? null : base + ", " + part(range, "size") + " bytes";
 }
 
+// Returns how much of the context of a thread's registers there is, or null if it is whole.
+function shortWords(short) {
+  return short === null ? null : "context of " + part(short, "size") + " of " + part(short, "whole") + " bytes";
+}
+
 // Adds what is known of a thread besides its frames.
 function addThreadFacts(place, of) {
   const end = part(of, "end");
@@ -455,6 +460,7 @@ function addThreadFacts(place, of) {
     part(of, "is_listed") === false ? "not in the list of threads" : null,
     labelled("last error ", part(of, "last_error_value")),
     labelled("its own context: ", part(of, "context_problem")),
+    shortWords(part(of, "short_context")),
     labelled("stack ", stack),
     memory === stack ? null : labelled("stack memory ", memory),
     end === null ? null : "end: " + end.replaceAll("_", " "),

@@ -17,6 +17,7 @@ use Rattle.crash.specs.declared.damage.Damage.{Damage}
 use Rattle.crash.specs.declared.damage.Damage.TheVariants.{Exception, ExceptionContext, Stack, Stream, ThreadContext}
 use Rattle.crash.specs.declared.directory.StreamEntry.{StreamEntry}
 use Rattle.crash.specs.declared.frames.CrashFrame.{CrashFrame}
+use Rattle.crash.specs.declared.contexts.ShortContext.{ShortContext}
 use Rattle.crash.specs.declared.stacks.StackRange.{StackRange}
 use Rattle.crash.specs.Cause.{ExceptionValue}
 use Rattle.crash.specs.Contexts.{ContextValue}
@@ -37,7 +38,7 @@ use Rattle.crash_json.specs.Records.{assertion_json, assertion_object, handle_js
 use Rattle.crash_json.specs.Report.{all_members, crash_members, error_json, json_of, path_members, process_members, process_object, record_members, record_object}
 use Rattle.crash_json.specs.Report as report
 use Rattle.crash_json.specs.System.{release_json, system_json, system_object}
-use Rattle.crash_json.specs.Threads.{crashing_json, indexed_crashed, indexed_json, range_json, thread_json, thread_members, thread_object, threads_json}
+use Rattle.crash_json.specs.Threads.{crashing_json, indexed_crashed, indexed_json, range_json, short_json, thread_json, thread_members, thread_object, threads_json}
 
 -- ---- the system, the crash and the modules
 
@@ -97,10 +98,15 @@ range_depth : (r : StackRange) → depth (range_json r) ≤ 1
 unfolding range_json
 range_depth r = omega arith
 
-thread_object_depth : (t : ThreadValue) (problem ended : Option (List ℕ)) (frame_count : ℕ) (modules : List LoadedValue) (context : Option ContextValue)
-    (frames : List CrashFrame) → members_depth (members_of (thread_object t problem ended frame_count modules context frames)) ≤ 3
+short_depth : (s : ShortContext) → depth (short_json s) ≤ 1
+unfolding short_json
+short_depth s = omega arith
+
+thread_object_depth : (t : ThreadValue) (problem ended : Option (List ℕ)) (short : Option ShortContext) (frame_count : ℕ) (modules : List LoadedValue)
+    (context : Option ContextValue) (frames : List CrashFrame)
+    → members_depth (members_of (thread_object t problem ended short frame_count modules context frames)) ≤ 3
 unfolding thread_object
-thread_object_depth t problem ended frame_count modules context frames =
+thread_object_depth t problem ended short frame_count modules context frames =
     omega (
       arith,
       flat_text t.name,
@@ -109,12 +115,13 @@ thread_object_depth t problem ended frame_count modules context frames =
       or_null_within range_json 1 t.stack_memory range_depth,
       flat_text problem,
       flat_text ended,
+      or_null_within short_json 1 short short_depth,
       numbered_array_within (frame_json modules context) 2 frames (frame_depth modules context),
     )
 
 thread_members_depth : (limit : ℕ) (modules : List LoadedValue) (context : Option ContextValue) (t : ThreadValue)
     → members_depth (members_of (thread_members limit modules context t)) ≤ 3
-thread_members_depth limit modules context t = thread_object_depth t _ _ _ modules context _
+thread_members_depth limit modules context t = thread_object_depth t _ _ _ _ modules context _
 
 thread_depth : (limit : ℕ) (modules : List LoadedValue) (t : ThreadValue) → depth (thread_json limit modules t) ≤ 4
 thread_depth limit modules t = omega (arith, thread_members_depth limit modules None t)

@@ -34,7 +34,7 @@ use Rattle.crash_json.specs.Minidump.{all_damage_json, minidump_json, regions_js
 use Rattle.crash_json.specs.Modules.{all_unloaded_json, modules_json}
 use Rattle.crash_json.specs.Records.{assertion_json, handles_json, mac_crash_json, mac_record_json}
 use Rattle.crash_json.specs.System.{release_json, system_json}
-use Rattle.crash_json.specs.Threads.{crashing_json, range_json, threads_json}
+use Rattle.crash_json.specs.Threads.{crashing_json, range_json, short_json, threads_json}
 
 -- a member of a frame
 abbrev pub frame_member : FrameMember → Json
@@ -45,6 +45,7 @@ frame_member (frame.Registers c) = or_null registers_json (option_map context_of
 abbrev pub thread_member : ThreadMember → Json
 thread_member (thread.Scalar s) = scalar_json s
 thread_member (thread.Range r) = or_null range_json r
+thread_member (thread.Short s) = or_null short_json s
 thread_member (thread.Frames e frames) = numbered_array_of (frame_json (map loaded_of e.modules.now)
     (option_map context_of (option_copied e.context))) frames.now
 
