@@ -6,6 +6,7 @@ use Rattle.json.specs.Json.{Json, max_depth, string}
 use Rattle.json.specs.Tree.{depth, members_depth}
 use Rattle.minidump.specs.declared.Error.{Error}
 use Rattle.minidump.specs.declared.format.MINIDUMP_ASSERTION_INFO.{MINIDUMP_ASSERTION_INFO}
+use Rattle.minidump.specs.Below.Format.Error.{name_of_error}
 use Rattle.minidump.specs.Below.MemoryLists.Unified.{UnifiedRegion, unified_regions}
 use Rattle.minidump.specs.Below.Records.Annotations.{Annotation}
 use Rattle.minidump.specs.Below.Records.Crashpad.{Crashpad, Module}
@@ -17,6 +18,8 @@ use Rattle.crash.specs.declared.damage.Damage.{Damage}
 use Rattle.crash.specs.declared.damage.Damage.TheVariants.{Exception, ExceptionContext, Stack, Stream, ThreadContext}
 use Rattle.crash.specs.declared.directory.StreamEntry.{StreamEntry}
 use Rattle.crash.specs.declared.frames.CrashFrame.{CrashFrame}
+use Rattle.crash.specs.declared.contexts.ShortContext.{ShortContext}
+use Rattle.crash.specs.declared.records.Sender.{Sender}
 use Rattle.crash.specs.declared.stacks.StackRange.{StackRange}
 use Rattle.crash.specs.Cause.{ExceptionValue}
 use Rattle.crash.specs.Contexts.{ContextValue}
@@ -28,7 +31,7 @@ use Rattle.crash.specs.Threads.{ThreadValue, ThreadsValue}
 use Rattle.json_tree.specs.Tree.{array_of, count, hex_string, members_of, object_of, or_null}
 use Rattle.json_tree.proofs.Depth.{array_within, flat_count, flat_hex, flat_text, numbered_array_within, or_null_within}
 use Rattle.crash_json.specs.declared.JsonLimits.{JsonLimits}
-use Rattle.crash_json.specs.Cause.{address_json, address_object, crash_info_json, crash_object, exception_json, exception_object, exceptions_json}
+use Rattle.crash_json.specs.Cause.{address_json, address_object, crash_info_json, crash_object, exception_json, exception_object, exceptions_json, sender_json, unread_object}
 use Rattle.crash_json.specs.Crashpad.{annotation_json, annotations_json, crashpad_json, crashpad_module_json, crashpad_modules_json, objects_json, texts_json}
 use Rattle.crash_json.specs.Frames.{frame_json, frame_object, register_members, registers_json}
 use Rattle.crash_json.specs.Minidump.{all_damage_json, damage_json, damage_object, minidump_json, minidump_object, region_object, region_json, regions_json, stream_json, stream_object, streams_json}
@@ -37,7 +40,7 @@ use Rattle.crash_json.specs.Records.{assertion_json, assertion_object, handle_js
 use Rattle.crash_json.specs.Report.{all_members, crash_members, error_json, json_of, path_members, process_members, process_object, record_members, record_object}
 use Rattle.crash_json.specs.Report as report
 use Rattle.crash_json.specs.System.{release_json, system_json, system_object}
-use Rattle.crash_json.specs.Threads.{crashing_json, indexed_crashed, indexed_json, range_json, thread_json, thread_members, thread_object, threads_json}
+use Rattle.crash_json.specs.Threads.{crashing_json, indexed_crashed, indexed_json, range_json, short_json, thread_json, thread_members, thread_object, threads_json}
 
 -- ---- the system, the crash and the modules
 
@@ -97,10 +100,15 @@ range_depth : (r : StackRange) → depth (range_json r) ≤ 1
 unfolding range_json
 range_depth r = omega arith
 
-thread_object_depth : (t : ThreadValue) (problem ended : Option (List ℕ)) (frame_count : ℕ) (modules : List LoadedValue) (context : Option ContextValue)
-    (frames : List CrashFrame) → members_depth (members_of (thread_object t problem ended frame_count modules context frames)) ≤ 3
+short_depth : (s : ShortContext) → depth (short_json s) ≤ 1
+unfolding short_json
+short_depth s = omega arith
+
+thread_object_depth : (t : ThreadValue) (problem ended : Option (List ℕ)) (short : Option ShortContext) (frame_count : ℕ) (modules : List LoadedValue)
+    (context : Option ContextValue) (frames : List CrashFrame)
+    → members_depth (members_of (thread_object t problem ended short frame_count modules context frames)) ≤ 3
 unfolding thread_object
-thread_object_depth t problem ended frame_count modules context frames =
+thread_object_depth t problem ended short frame_count modules context frames =
     omega (
       arith,
       flat_text t.name,
@@ -109,12 +117,13 @@ thread_object_depth t problem ended frame_count modules context frames =
       or_null_within range_json 1 t.stack_memory range_depth,
       flat_text problem,
       flat_text ended,
+      or_null_within short_json 1 short short_depth,
       numbered_array_within (frame_json modules context) 2 frames (frame_depth modules context),
     )
 
 thread_members_depth : (limit : ℕ) (modules : List LoadedValue) (context : Option ContextValue) (t : ThreadValue)
     → members_depth (members_of (thread_members limit modules context t)) ≤ 3
-thread_members_depth limit modules context t = thread_object_depth t _ _ _ modules context _
+thread_members_depth limit modules context t = thread_object_depth t _ _ _ _ modules context _
 
 thread_depth : (limit : ℕ) (modules : List LoadedValue) (t : ThreadValue) → depth (thread_json limit modules t) ≤ 4
 thread_depth limit modules t = omega (arith, thread_members_depth limit modules None t)
@@ -196,19 +205,34 @@ crashpad_depth c = omega (arith, annotations_depth c.simple_annotations, crashpa
 
 -- ---- what the schema has no member for
 
-exception_object_depth : (thread code at address : Option ℕ) (reason problem error : Option (List ℕ))
-    → depth (exception_object thread code at address reason problem error) ≤ 1
+sender_depth : (s : Sender) → depth (sender_json s) ≤ 1
+unfolding sender_json
+sender_depth s = omega (arith, flat_count s.user)
+
+exception_object_depth : (e : ExceptionValue) (access problem : Option (List ℕ)) → depth (exception_object e access problem) ≤ 2
 unfolding exception_object
-exception_object_depth thread code at address reason problem error =
-    omega (arith, flat_count thread, flat_hex code, flat_hex at, flat_hex address, flat_text reason, flat_text problem, flat_text error)
+exception_object_depth e access problem =
+    omega (
+      arith,
+      array_within hex_string 0 e.parameters (λ n. omega arith),
+      flat_text access,
+      or_null_within sender_json 1 e.sender sender_depth,
+      flat_hex e.address,
+      flat_text e.reason,
+      flat_text problem,
+    )
 
-exception_depth : (e : Result ExceptionValue Error) → depth (exception_json e) ≤ 1
-exception_depth (Ok e) = exception_object_depth _ _ _ _ _ _ _
-exception_depth (Err e) = exception_object_depth _ _ _ _ _ _ _
+unread_object_depth : (error : List ℕ) → depth (unread_object error) ≤ 1
+unfolding unread_object
+unread_object_depth error = omega arith
 
-exceptions_depth : (es : List (Result ExceptionValue Error)) → depth (exceptions_json es) ≤ 2
+exception_depth : (e : Result ExceptionValue Error) → depth (exception_json e) ≤ 2
+exception_depth (Ok e) = exception_object_depth e _ _
+exception_depth (Err e) = omega (arith, unread_object_depth (name_of_error e))
+
+exceptions_depth : (es : List (Result ExceptionValue Error)) → depth (exceptions_json es) ≤ 3
 unfolding exceptions_json
-exceptions_depth es = array_within exception_json 1 es exception_depth
+exceptions_depth es = array_within exception_json 2 es exception_depth
 
 address_object_depth : (address : ℕ) (index offset : Option ℕ) → depth (address_object address index offset) ≤ 1
 unfolding address_object

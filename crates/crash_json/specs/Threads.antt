@@ -7,6 +7,7 @@ use Rattle.stack_walk.specs.declared.end.WalkEnd.{WalkEnd}
 use Rattle.stack_walk.specs.declared.end.WalkEnd.TheVariants as ending
 use Rattle.crash.specs.declared.contexts.ContextOrigin.{ContextOrigin}
 use Rattle.crash.specs.declared.contexts.ContextOrigin.TheVariants.{OfException, OfThread}
+use Rattle.crash.specs.declared.contexts.ShortContext.{ShortContext}
 use Rattle.crash.specs.declared.frames.CrashFrame.{CrashFrame}
 use Rattle.crash.specs.declared.stacks.StackRange.{StackRange}
 use Rattle.crash.specs.Contexts.{ContextValue}
@@ -20,6 +21,14 @@ use Rattle.crash_json.specs.Frames.{frame_json}
 -- a range of addresses, by the first one and how many there are
 unfoldable pub range_json : StackRange → Json
 range_json r = object_of ((codes "base_addr", hex_string r.base) ∷ (codes "size", count r.size) ∷ [])
+
+-- how many bytes there are of a context that is cut, and how many a whole one has
+unfoldable pub short_json : ShortContext → Json
+short_json s = object_of ((codes "size", count s.size) ∷ (codes "whole", count s.whole) ∷ [])
+
+-- how much there is of the context of a thread's registers, where that is cut
+abbrev pub short_of : ThreadValue → Option ShortContext
+short_of t = option_and_then (λ c. c.short) t.context
 
 -- the word for why the last frame has no caller
 abbrev pub end_name : WalkEnd → List ℕ
@@ -37,11 +46,12 @@ all_frames None = []
 all_frames (Some w) = w.frames ++ w.candidates
 
 -- the members of a thread: why its context isn't used and why its last frame has no caller in
--- words, how many frames there are, those that are written, by their modules, and the registers of
+-- words, how much there is of the context of its registers, where that is cut, how many frames there are, those that are written, by their modules, and the registers of
 -- the first one, where these are shown
-unfoldable pub thread_object : ThreadValue → Option (List ℕ) → Option (List ℕ) → ℕ
-    → List LoadedValue → Option ContextValue → List CrashFrame → List (List ℕ × Json)
-thread_object t problem ended frame_count modules context frames =
+unfoldable pub thread_object : ThreadValue → Option (List ℕ) → Option (List ℕ)
+    → Option ShortContext → ℕ → List LoadedValue → Option ContextValue → List CrashFrame
+    → List (List ℕ × Json)
+thread_object t problem ended short frame_count modules context frames =
     (codes "thread_id", count t.id)
     ∷ (codes "thread_name", or_null string t.name)
     ∷ (codes "is_listed", boolean t.is_listed)
@@ -50,6 +60,7 @@ thread_object t problem ended frame_count modules context frames =
     ∷ (codes "stack", or_null range_json t.stack)
     ∷ (codes "stack_memory", or_null range_json t.stack_memory)
     ∷ (codes "context_problem", or_null string problem)
+    ∷ (codes "short_context", or_null short_json short)
     ∷ (codes "end", or_null string ended)
     ∷ (codes "frames", numbered_array_of (frame_json modules context) frames)
     ∷ []
@@ -58,7 +69,7 @@ thread_object t problem ended frame_count modules context frames =
 abbrev pub thread_members : ℕ → List LoadedValue → Option ContextValue → ThreadValue
     → List (List ℕ × Json)
 thread_members limit modules context t = thread_object t (option_map problem_name t.context_problem)
-    (option_map (λ w. end_name w.end) t.walk) (length (all_frames t.walk)) modules context
+    (option_map (λ w. end_name w.end) t.walk) (short_of t) (length (all_frames t.walk)) modules context
     (take limit (all_frames t.walk))
 
 -- a thread

@@ -20,8 +20,9 @@
 //!   that counts, the thread the last one of its id.
 //! - `threads` has the threads of the list, and after them that of the exception if the list lacks
 //!   it, which `is_listed` tells. `stack` is the range that the entry of a thread names,
-//!   `stack_memory` the memory of its stack. `end` is the word for why the last frame has no
-//!   caller.
+//!   `stack_memory` the memory of its stack. `short_context` is how many bytes the context of its
+//!   registers has, and how many a whole one would have, if it is cut after the general registers.
+//!   `end` is the word for why the last frame has no caller.
 //! - A thread's `frames` are at most as many as [`JsonLimits::frames`]; `frame_count` says how many
 //!   there are, the candidates among them, whose `trust` is `scan`. `offset` is the address by
 //!   which a frame is looked up, of a caller the return address less one, and `module_offset` is

@@ -10,13 +10,14 @@ ghost use Rattle.json_tree.specs.Tree.{Adds, Puts, count};
 ghost use Rattle.crash_json.specs.Cause.{problem_name};
 ghost use Rattle.crash_json.specs.Threads.{all_frames, crashing_json, end_name};
 ghost use Rattle.crash_json.specs.Threads.{indexed_crashed, indexed_json, range_json, registers_of};
-ghost use Rattle.crash_json.specs.Threads.{thread_members, thread_object, threads_json};
+ghost use Rattle.crash_json.specs.Threads.{short_json, short_of, thread_members, thread_object};
+ghost use Rattle.crash_json.specs.Threads.{threads_json};
 
 use crate::cause::problem_name;
 use crate::frames::EachFrame;
 use crash::{
     ContextOrigin, Crash, CrashContext, CrashFrame, CrashModule, CrashThread, CrashThreads,
-    CrashWalk, StackRange,
+    CrashWalk, ShortContext, StackRange,
 };
 use json::Writer;
 use json_tree::{
@@ -109,10 +110,18 @@ fn put_thread(
         thread,
         problem_name(thread.context_problem),
         end_of(&thread.walk),
+        short_of(thread),
         frames.len(),
         each,
         first(frames.as_slice(), by.limit),
     )
+}
+
+// Returns how much there is of the context of a thread's registers, if that is cut.
+fn short_of(thread: &CrashThread) -> Option<ShortContext>
+    ensures { result ≡ short_of (thread_value thread.now) }
+{
+    thread.context.as_ref()?.short
 }
 
 // Returns what is found in a stack: the frames, and after them the candidates.
@@ -170,12 +179,13 @@ fn put_thread_members<'l>(
     thread: &'l CrashThread,
     problem: Option<&'l str>,
     end: Option<&'l str>,
+    short: Option<ShortContext>,
     frame_count: usize,
     each: EachFrame<'l>,
     frames: &'l [CrashFrame],
 ) -> Result<(), Error>
     ensures { Adds result out.old out.new (thread_object (thread_value thread.now)
-        (option_copied problem.entry) (option_copied end.entry) frame_count
+        (option_copied problem.entry) (option_copied end.entry) short frame_count
         (map loaded_of each.entry.modules.now)
         (option_map context_of (option_copied each.entry.context)) frames.now) }
 {
@@ -209,6 +219,7 @@ fn put_thread_members<'l>(
                 "context_problem",
                 ThreadMember::Scalar(Scalar::Text(problem)),
             ),
+            ("short_context", ThreadMember::Short(short)),
             ("end", ThreadMember::Scalar(Scalar::Text(end))),
             ("frames", ThreadMember::Frames(each, frames)),
         ],
@@ -220,6 +231,7 @@ fn put_thread_members<'l>(
 pub(crate) enum ThreadMember<'l> {
     Scalar(Scalar<'l>),
     Range(Option<StackRange>),
+    Short(Option<ShortContext>),
     Frames(EachFrame<'l>, &'l [CrashFrame]),
 }
 
@@ -232,6 +244,7 @@ impl ToJson for ThreadMember<'_> {
         match self {
             ThreadMember::Scalar(scalar) => scalar.put(out, alloc),
             ThreadMember::Range(range) => put_item_or_null(out, alloc, range, &RangeJson),
+            ThreadMember::Short(short) => put_item_or_null(out, alloc, short, &ShortJson),
             ThreadMember::Frames(each, frames) => put_numbered_array(out, alloc, frames, each),
         }
     }
@@ -261,6 +274,34 @@ fn put_range(out: &mut Writer, alloc: Global, range: StackRange) -> Result<(), E
         &[
             ("base_addr", Scalar::Hex(Some(range.base))),
             ("size", Scalar::Number(Some(range.size))),
+        ],
+    )
+}
+
+// Gives what there is of a context that is cut its JSON value.
+#[derive(Clone, Copy)]
+struct ShortJson;
+
+impl ItemJson<ShortContext> for ShortJson {
+    ghost use Rattle.crash_json.specs.Threads.{short_json};
+
+    ghost json_of = { λ _ s. short_json s };
+
+    fn put_item(&self, item: &ShortContext, out: &mut Writer, alloc: Global) -> Result<(), Error> {
+        put_short(out, alloc, *item)
+    }
+}
+
+#[tactic(auto, unfolding(crate::specs::Threads::short_json))]
+fn put_short(out: &mut Writer, alloc: Global, short: ShortContext) -> Result<(), Error>
+    ensures { Puts result out.old out.new (short_json short) }
+{
+    put_object(
+        out,
+        alloc,
+        &[
+            ("size", Scalar::Count(Some(short.size))),
+            ("whole", Scalar::Count(Some(short.whole))),
         ],
     )
 }

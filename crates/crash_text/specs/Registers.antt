@@ -10,6 +10,7 @@ use Rattle.crash.specs.declared.contexts.ContextOrigin.{ContextOrigin}
 use Rattle.crash.specs.declared.contexts.ContextOrigin.TheVariants.{OfException, OfThread}
 use Rattle.crash.specs.declared.contexts.ContextProblem.{ContextProblem}
 use Rattle.crash.specs.declared.contexts.ContextProblem.TheVariants.{NotAccepted}
+use Rattle.crash.specs.declared.contexts.ShortContext.{ShortContext}
 use Rattle.crash.specs.Cause.{ExceptionValue}
 use Rattle.crash.specs.Contexts.{ContextValue}
 use Rattle.crash.specs.Crash.{CrashValue}
@@ -33,10 +34,20 @@ rows few = few ∷ []
 abbrev pub context_lines : ContextValue → List (List ℕ)
 context_lines c = map (register_row c.size) (rows c.registers)
 
+-- how much there is of a context that is cut, after other words
+unfoldable pub short_row : List ℕ → List ℕ → ShortContext → List ℕ
+short_row first second s = concat (first ∷ second ∷ codes "context of " ∷ decimal s.size
+    ∷ codes " of " ∷ decimal s.whole ∷ codes " bytes" ∷ [])
+
 -- whose registers they are
 abbrev pub heading_of : ContextOrigin → List ℕ
 heading_of OfException = codes "registers at the exception"
 heading_of OfThread = codes "registers of the thread when the dump was written"
+
+-- the line of whose registers they are, and how much of their context there is, where it is cut
+abbrev pub heading_row : ContextOrigin → Option ShortContext → List ℕ
+heading_row origin None = heading_of origin
+heading_row origin (Some s) = short_row (heading_of origin) (codes ", from a ") s
 
 -- the line of an exception's context that is no context of the processor, which has so many bytes
 unfoldable pub unusable_row : ℕ → List ℕ
@@ -51,7 +62,7 @@ unused_lines _ = []
 
 -- the registers of the thread that crashed, where there are some
 abbrev pub known_lines : Option ContextValue → List (List ℕ)
-known_lines (Some c) = heading_of c.origin ∷ context_lines c
+known_lines (Some c) = heading_row c.origin c.short ∷ context_lines c
 known_lines None = codes "no registers that can be read" ∷ []
 
 -- the context of the thread that crashed

@@ -9,6 +9,7 @@ use Rattle.crash.specs.declared.contexts.ContextProblem.{ContextProblem}
 use Rattle.crash.specs.declared.contexts.ContextProblem.TheVariants.{Outside}
 use Rattle.crash.specs.declared.frames.CrashFrame.{CrashFrame}
 use Rattle.crash.specs.declared.stacks.StackRange.{StackRange}
+use Rattle.crash.specs.Contexts.{ContextValue}
 use Rattle.crash.specs.Crash.{CrashValue}
 use Rattle.crash.specs.Frames.{CrashWalkValue}
 use Rattle.crash.specs.Process.{SystemValue}
@@ -16,6 +17,7 @@ use Rattle.crash.specs.Threads.{ThreadValue}
 use Rattle.crash_text.specs.declared.limits.TextLimits.{TextLimits}
 use Rattle.crash_text.specs.Frames.{printed_frames, walk_lines}
 use Rattle.crash_text.specs.Lines.{if_some}
+use Rattle.crash_text.specs.Registers.{short_row}
 use Rattle.crash_text.specs.Words.{missing_lines, or_empty, where_some}
 
 -- ---- a thread
@@ -33,6 +35,10 @@ thread_row id name words = concat (codes "thread " ∷ decimal id ∷ codes " ("
 -- the line of its last error
 unfoldable pub error_row : List ℕ → List ℕ
 error_row error = concat (codes "    last error " ∷ error ∷ [])
+
+-- how much there is of the context of its registers, where that is cut
+abbrev pub short_lines : ContextValue → List (List ℕ)
+short_lines c = if_some (λ s. short_row (codes "    ") [] s ∷ []) c.short
 
 -- the line of a range of addresses
 unfoldable pub range_row : List ℕ → StackRange → List ℕ
@@ -74,8 +80,9 @@ found_lines limits c is_whole t None = no_walk_row c.process.system t.context_pr
 abbrev pub thread_lines : TextLimits → CrashValue → Bool → ThreadValue → List (List ℕ)
 thread_lines limits c is_whole t = thread_row t.id t.name (remark t.is_listed)
     ∷ (if_some (λ error. error_row error ∷ []) t.last_error
+    ++ (if_some short_lines t.context
     ++ ((if is_whole then stack_lines t else [])
-    ++ found_lines limits c is_whole t t.walk))
+    ++ found_lines limits c is_whole t t.walk)))
 
 -- ---- threads
 

@@ -6,8 +6,9 @@
 //! - the system with its processor, the release of Linux, the arguments with which macOS was
 //!   booted, the date of the dump in UTC, the id of the process, and for how long it ran;
 //! - of the exception that counts the thread, the address with its module, the reason, the code and
-//!   where it happened; the registers of the thread, four a row, and why the context of the
-//!   exception isn't used; then all exceptions, if there are several;
+//!   where it happened; the registers of the thread, four a row, how much of their context there is
+//!   if it is cut, and why the context of the exception isn't used; then all exceptions, if there
+//!   are several;
 //! - what is there and can't be read, as `can't be read: ThreadListStream: StreamReadFailure`, and
 //!   how many entries of the directory have bytes outside the file;
 //! - the thread that crashed, with its name, its last error, its stack, its frames, and why the
@@ -56,6 +57,7 @@ mod lists;
 mod messages;
 mod modules;
 mod places;
+mod records;
 mod registers;
 mod system;
 mod text;

@@ -7,12 +7,13 @@ ghost use Rattle.crash.specs.Contexts.{context_of};
 ghost use Rattle.crash.specs.Crash.{crash_of};
 ghost use Rattle.crash_text.specs.Lines.{Adds};
 ghost use Rattle.crash_text.specs.Registers.{context_lines, crashed_context, heading_of};
+ghost use Rattle.crash_text.specs.Registers.{heading_row, short_row};
 ghost use Rattle.crash_text.specs.Registers.{known_lines, register_row, register_words};
 ghost use Rattle.crash_text.specs.Registers.{registers_lines, rows, unused_lines};
 
 use crate::lines::push_line;
 use crate::words::push_words;
-use crash::{ContextOrigin, ContextProblem, Crash, CrashContext, CrashException};
+use crash::{ContextOrigin, ContextProblem, Crash, CrashContext, CrashException, ShortContext};
 use minidump::text::Piece::{Decimal, Left, Wide, Words};
 use minidump::text::push_pieces;
 use std::alloc::{AllocError, Global};
@@ -78,11 +79,43 @@ fn push_known(out: &mut String, context: Option<&CrashContext>) -> Result<(), Al
 {
     match context {
         Some(context) => {
-            push_words(out, heading_of(context.origin))?;
+            push_heading(out, context.origin, context.short)?;
             push_rows(out, context.registers.as_slice(), context.size)
         }
         None => push_words(out, "no registers that can be read"),
     }
+}
+
+// Appends the line of whose registers they are, and how much of their context there is, if it is cut.
+fn push_heading(
+    out: &mut String,
+    origin: ContextOrigin,
+    short: Option<ShortContext>,
+) -> Result<(), AllocError>
+    ensures { Adds out.old out.new (heading_row origin short ∷ []) result }
+{
+    match short {
+        Some(short) => push_short(out, heading_of(origin), ", from a ", short),
+        None => push_words(out, heading_of(origin)),
+    }
+}
+
+// Appends the line of how much there is of a context that is cut, after other words.
+#[rattlefmt::skip]
+#[tactic(auto, unfolding(crate::specs::Registers::short_row))]
+pub(crate) fn push_short(
+    out: &mut String,
+    first: &str,
+    second: &str,
+    short: ShortContext,
+) -> Result<(), AllocError>
+    ensures { Adds out.old out.new (short_row first.now second.now short ∷ []) result }
+{
+    push_line(
+        out,
+        &[Words(first), Words(second), Words("context of "), Decimal(short.size as u64),
+            Words(" of "), Decimal(short.whole as u64), Words(" bytes")],
+    )
 }
 
 // Returns the words for whose registers they are.

@@ -3,6 +3,7 @@ ghost use Rattle.std.specs.Prelude.{string_bytes, true};
 ghost use Rattle.std.specs.Option.{option_copied, option_map};
 ghost use Rattle.minidump.specs.Below.Contexts.Context.{map_ok};
 ghost use Rattle.minidump.specs.Promise.{thread_list_stream};
+ghost use Rattle.crash.specs.Contexts.{context_of};
 ghost use Rattle.crash.specs.Crash.{crash_of};
 ghost use Rattle.crash.specs.Frames.{crash_walk_of};
 ghost use Rattle.crash.specs.Process.{system_of};
@@ -13,15 +14,19 @@ ghost use Rattle.crash_text.specs.Threads.{crashed_lines, crashed_thread, each_o
 ghost use Rattle.crash_text.specs.Threads.{found_lines};
 ghost use Rattle.crash_text.specs.Threads.{frames_at, frames_in, frames_of, is_index, is_range};
 ghost use Rattle.crash_text.specs.Threads.{memory_lines, no_walk_row, other_lines, others_lines};
-ghost use Rattle.crash_text.specs.Threads.{problem_row, range_row, remark, stack_lines};
+ghost use Rattle.crash_text.specs.Threads.{problem_row, range_row, remark, short_lines, stack_lines};
 ghost use Rattle.crash_text.specs.Threads.{thread_lines, thread_row};
 ghost use Rattle.crash_text.specs.Words.{missing_lines};
 
 use crate::frames::{push_frames_of, push_walk};
 use crate::limits::TextLimits;
 use crate::lines::push_line;
+use crate::registers::push_short;
 use crate::words::{or_empty, push_if_missing, push_words, where_some};
-use crash::{ContextProblem, Crash, CrashFrame, CrashSystem, CrashThread, CrashWalk, StackRange};
+use crash::{
+    ContextProblem, Crash, CrashContext, CrashFrame, CrashSystem, CrashThread, CrashWalk,
+    StackRange,
+};
 use minidump::text::Piece::{Decimal, Hex, Words};
 use minidump::{Error, MinidumpThreadList};
 use std::alloc::{AllocError, Global};
@@ -147,6 +152,7 @@ fn push_thread(
 {
     push_row(out, thread.id, &thread.name, remark(thread.is_listed))?;
     push_error(out, &thread.last_error)?;
+    push_if_short(out, &thread.context)?;
     push_stack_if(out, is_whole, thread)?;
     push_found(out, crash, limits, is_whole, thread)
 }
@@ -197,6 +203,26 @@ fn push_error_row(out: &mut String, error: &str) -> Result<(), AllocError>
     ensures { Adds out.old out.new (error_row error.now ∷ []) result }
 {
     push_line(out, &[Words("    last error "), Words(error)])
+}
+
+// Appends how much there is of the context of a thread's registers, if that is cut.
+fn push_if_short(out: &mut String, context: &Option<CrashContext>) -> Result<(), AllocError>
+    ensures { Adds out.old out.new
+        (if_some short_lines (option_map context_of context.now)) result }
+{
+    match context {
+        Some(context) => push_short_of(out, context),
+        None => Ok(()),
+    }
+}
+
+fn push_short_of(out: &mut String, context: &CrashContext) -> Result<(), AllocError>
+    ensures { Adds out.old out.new (short_lines (context_of context.now)) result }
+{
+    match context.short {
+        Some(short) => push_short(out, "    ", "", short),
+        None => Ok(()),
+    }
 }
 
 // Appends the lines of the stack of a thread, if all of its frames are asked for.

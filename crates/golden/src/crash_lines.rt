@@ -1,6 +1,6 @@
 use crash::{
     Crash, CrashDirectory, CrashException, CrashProcess, CrashSystem, CrashThread, CrashThreads,
-    LsbRelease,
+    LsbRelease, ShortContext,
 };
 use minidump::Error;
 use std::io;
@@ -84,6 +84,18 @@ fn push_exception(exception: &CrashException, out: &mut Vec<u8>) -> io::Result<(
     writeln!(
         out,
         "exception on {thread:#x} code {code:#x} at {at:#x} address {address:?} {problem:?} {reason}"
+    )?;
+    push_record(exception, out)
+}
+
+// Appends a line for what else the record of an exception says.
+fn push_record(exception: &CrashException, out: &mut Vec<u8>) -> io::Result<()> {
+    let (flags, nested) = (exception.flags, exception.nested);
+    let (access, sender) = (exception.access, exception.sender);
+    let parameters = exception.parameters.as_slice();
+    writeln!(
+        out,
+        "record {flags:#x} {nested:#x} {parameters:?} {access:?} {sender:?}"
     )
 }
 
@@ -108,13 +120,15 @@ fn push_thread(thread: &CrashThread, out: &mut Vec<u8>) -> io::Result<()> {
     )
 }
 
-// Appends a line for the registers, and one for the stack.
+// Appends a line for the registers, one for how much of their context there is, if it is cut, and
+// one for the stack.
 fn push_context(thread: &CrashThread, out: &mut Vec<u8>) -> io::Result<()> {
     let problem = thread.context_problem;
     match &thread.context {
         Some(c) => {
             let (origin, registers, size) = (c.origin, c.registers.len(), c.size);
             writeln!(out, "context {origin:?} {registers} of {size} {problem:?}")?;
+            push_short(c.short, out)?;
         }
         None => writeln!(out, "context none {problem:?}")?,
     }
@@ -124,6 +138,14 @@ fn push_context(thread: &CrashThread, out: &mut Vec<u8>) -> io::Result<()> {
         "stack {stack:?} memory {memory:?} outside {}",
         thread.is_stack_outside
     )
+}
+
+// Appends a line for how much of a context there is, if it is cut.
+fn push_short(short: Option<ShortContext>, out: &mut Vec<u8>) -> io::Result<()> {
+    match short {
+        Some(short) => writeln!(out, "short {} of {}", short.size, short.whole),
+        None => Ok(()),
+    }
 }
 
 // Appends a line for each frame, with its place in a module.
