@@ -149,7 +149,13 @@ fn push_code_row(out: &mut String, code: u32, at: u64, said: &str) -> Result<(),
 {
     push_line(
         out,
-        &[Words("code    "), Hex(code as u64), Words(" at "), Hex(at), Words(said)],
+        &[
+            Words("code    "),
+            Hex(code as u64),
+            Words(" at "),
+            Hex(at),
+            Words(said),
+        ],
     )
 }
 
@@ -215,16 +221,18 @@ fn push_exception(
 }
 
 // Appends the line of an exception.
-fn push_read(
-    out: &mut String,
-    number: usize,
-    exception: &CrashException,
-) -> Result<(), AllocError>
+fn push_read(out: &mut String, number: usize, exception: &CrashException) -> Result<(), AllocError>
     ensures { Adds out.old out.new
         (exception_line number (Ok (exception_of exception.now)) ∷ []) result }
 {
     let said = record_text(*out.allocator(), exception)?;
-    push_exception_row(out, number, exception, or_empty(&exception.reason), said.as_str())
+    push_exception_row(
+        out,
+        number,
+        exception,
+        or_empty(&exception.reason),
+        said.as_str(),
+    )
 }
 
 #[rattlefmt::skip]

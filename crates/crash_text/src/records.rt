@@ -11,10 +11,7 @@ use minidump::text::push_pieces;
 use std::alloc::{AllocError, Global};
 
 // Makes the words for what the record of an exception says beside its code and where it happened.
-pub(crate) fn record_text(
-    alloc: Global,
-    exception: &CrashException,
-) -> Result<String, AllocError>
+pub(crate) fn record_text(alloc: Global, exception: &CrashException) -> Result<String, AllocError>
     ensures { IfOk result
         (λ words. string_bytes words ≡ record_text (exception_of exception.now)) }
 {
