@@ -25,10 +25,14 @@ abbrev pub user_words : Option ℕ → List ℕ
 user_words (Some user) = concat (codes ", user " ∷ decimal user ∷ [])
 user_words None = []
 
--- the process that sent a signal
+-- the process that sent a signal, by its id
+abbrev pub process_words : ℕ → List ℕ
+process_words id = concat (codes ", sent by process " ∷ decimal id ∷ codes " (" ∷ hex id
+    ∷ codes ")" ∷ [])
+
+-- the same, and its user
 abbrev pub sender_words : Option Sender → List ℕ
-sender_words (Some s) = concat (codes ", sent by process " ∷ decimal s.process ∷ codes " ("
-    ∷ hex s.process ∷ codes ")" ∷ []) ++ user_words s.user
+sender_words (Some s) = process_words s.process ++ user_words s.user
 sender_words None = []
 
 -- a parameter after another one

@@ -237,12 +237,12 @@ fn push_read(out: &mut String, number: usize, exception: &CrashException) -> Res
 
 #[rattlefmt::skip]
 #[tactic(auto, unfolding(crate::specs::Exceptions::exception_row))]
-fn push_exception_row(
+fn push_exception_row<'t>(
     out: &mut String,
     number: usize,
     exception: &CrashException,
-    reason: &str,
-    said: &str,
+    reason: &'t str,
+    said: &'t str,
 ) -> Result<(), AllocError>
     ensures { Adds out.old out.new (exception_row number exception.now.thread exception.now.code
         exception.now.at reason.now said.now ∷ []) result }

@@ -3,7 +3,8 @@ ghost use Rattle.std.specs.Prelude.{◌≡◌, ◌++◌, IfOk, OnOk, string_byte
 ghost use Rattle.std.specs.List.{flat_map};
 ghost use Rattle.crash.specs.Cause.{exception_of};
 ghost use Rattle.crash_text.specs.Records.{access_words, parameter_words, parameters_words};
-ghost use Rattle.crash_text.specs.Records.{record_text, sender_words, unless_zero, user_words};
+ghost use Rattle.crash_text.specs.Records.{process_words, record_text, sender_words, unless_zero};
+ghost use Rattle.crash_text.specs.Records.{user_words};
 
 use crash::{Access, CrashException, Sender};
 use minidump::text::Piece::{Decimal, Hex, Words};
@@ -48,23 +49,29 @@ fn access_words(access: Option<Access>) -> &'static str
     }
 }
 
-// Appends the process that sent a signal, if one did.
-#[rattlefmt::skip]
+// Appends the process that sent a signal with its user, if one did.
 fn push_sender(words: &mut String, sender: Option<Sender>) -> Result<(), AllocError>
     ensures { OnOk result
         (string_bytes words.new ≡ string_bytes words.old ++ sender_words sender) }
 {
     match sender {
         Some(sender) => {
-            let process = sender.process as u64;
-            push_pieces(
-                words,
-                &[Words(", sent by process "), Decimal(process), Words(" ("), Hex(process), Words(")")],
-            )?;
+            push_process(words, sender.process)?;
             push_user(words, sender.user)
         }
         None => Ok(()),
     }
+}
+
+// Appends the process that sent a signal.
+#[rattlefmt::skip]
+fn push_process(words: &mut String, id: u32) -> Result<(), AllocError>
+    ensures { OnOk result (string_bytes words.new ≡ string_bytes words.old ++ process_words id) }
+{
+    push_pieces(
+        words,
+        &[Words(", sent by process "), Decimal(id as u64), Words(" ("), Hex(id as u64), Words(")")],
+    )
 }
 
 // Appends the user of that process, if it is known.

@@ -103,10 +103,10 @@ fn push_heading(
 // Appends the line of how much there is of a context that is cut, after other words.
 #[rattlefmt::skip]
 #[tactic(auto, unfolding(crate::specs::Registers::short_row))]
-pub(crate) fn push_short(
+pub(crate) fn push_short<'t>(
     out: &mut String,
-    first: &str,
-    second: &str,
+    first: &'t str,
+    second: &'t str,
     short: ShortContext,
 ) -> Result<(), AllocError>
     ensures { Adds out.old out.new (short_row first.now second.now short ∷ []) result }

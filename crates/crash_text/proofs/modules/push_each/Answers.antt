@@ -1,7 +1,9 @@
 -- One more.
-use Rattle.std.proofs.Common.{map, string_bytes, take, ◌+◌}
+use Rattle.std.proofs.Common.{◌∙◌, ◌+◌, ◌++◌, ◌∷◌, ◌||◌, [], ap, if◌then◌else◌, map, string_bytes, take}
+use Rattle.std.specs.List.{flat_map}
 use Rattle.crash.specs.Modules.{loaded_of}
-use Rattle.crash_text.specs.Modules.{each_module, is_marked, listed_lines}
+use Rattle.crash_text.specs.Lines.{line_of}
+use Rattle.crash_text.specs.Modules.{each_module, is_marked, listed_lines, module_line}
 use Rattle.crash_text.proofs.NumberLemmas.{length_values, more_items, more_lines, took_values}
 use Rattle.crash_text.proofs.modules.push_each.Goals as goal
 
@@ -15,4 +17,6 @@ loop-index-preserved c =
     (more_items f (map loaded_of (take i modules)) (map loaded_of (take (i + 1) modules)) i (loaded_of x)
     (length_values loaded_of modules i c.loop-index-test.true)
     (took_values loaded_of modules i x c.loop-index-test.true c.index-modules-index.is))
-    c.loop-index.invariant c.in_ok-push_if_listed.ensures
+    c.loop-index.invariant
+    (c.in_ok-push_if_listed.ensures
+    ∙ ap (λ b. string_bytes c.loop-index.out ++ flat_map line_of (if c.args.limits.now.lists || b then module_line (loaded_of x) ∷ [] else [])) c.is_marked.ensures)
