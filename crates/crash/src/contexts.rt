@@ -269,8 +269,7 @@ fn first_of(
 ) -> Option<(ContextOrigin, FoundContext)>
     ensures { result ≡ first_of exception own }
 {
-    of_origin(ContextOrigin::OfException, exception)
-        .or(of_origin(ContextOrigin::OfThread, own))
+    of_origin(ContextOrigin::OfException, exception).or(of_origin(ContextOrigin::OfThread, own))
 }
 
 // Returns a context, if it is whole.

@@ -4,7 +4,7 @@ ghost use Rattle.minidump.specs.Below.MemoryLists.Unified.{unified_list, unified
 ghost use Rattle.minidump.specs.Promise.{exception_stream, module_list_stream};
 ghost use Rattle.minidump.specs.Thread.{thread_of};
 ghost use Rattle.stack_walk.specs.Frames.{stack_pointer_in};
-ghost use Rattle.stack_walk.specs.Threads.{process_of, thread_stack};
+ghost use Rattle.stack_walk.specs.Threads.{process_of};
 ghost use Rattle.stack_walk.specs.Walk.{walk_of};
 ghost use Rattle.crash.specs.Contents.{contents_of};
 ghost use Rattle.crash.specs.Frames.{context_of, crash_walk_of, exception_walk, frame_in, memory_at};
@@ -13,11 +13,11 @@ ghost use Rattle.crash.specs.Frames.{place_of, process_in, thread_walk, walk_at,
 use crate::cause::module_place;
 use crate::contents::Contents;
 use crate::contexts::{FoundContext, context_at, found_context};
-use crate::stacks::{memory_at, stack_at};
 use minidump::{
     Error, MinidumpContext, MinidumpException, MinidumpModuleList, MinidumpThread, UnifiedMemory,
+    UnifiedMemoryList,
 };
-use stack_walk::{FrameTrust, Process, Stack, StackFrame, Walk, WalkEnd, walk_stack};
+use stack_walk::{FrameTrust, Process, Stack, StackFrame, Walk, WalkEnd, walk_context, walk_stack};
 use std::alloc::{AllocError, Global};
 
 /// What is found in the stack of a thread.
@@ -96,8 +96,8 @@ fn walk_in<'a>(
         ≡ walk_in scan (thread_of thread.now) (process_of process.now) context.now) }
     ensures memory { IsOkUnless result Error.OutOfMemory }
 {
-    let memory = stack_at(process.memory, thread, context.get_stack_pointer());
-    walk_on(alloc, process, memory, context, scan)
+    let walk = walk_context(alloc, process, thread, context, scan)?;
+    Ok(walk_by(alloc, process.modules, &walk)?)
 }
 
 // Returns what is found on the memory at the stack pointer of an exception's context.
@@ -156,6 +156,16 @@ fn walk_on<'l, 'a>(
     };
     let walk = walk_stack(alloc, &stack, context, scan)?;
     Ok(walk_by(alloc, process.modules, &walk)?)
+}
+
+// Returns the kept region of the memory that contains an address.
+fn memory_at<'l, 'a>(
+    memory: &'l UnifiedMemoryList<'a>,
+    address: u64,
+) -> Option<UnifiedMemory<'l, 'a>>
+    ensures { option_map unified_region result ≡ memory_at (unified_list memory.now) address }
+{
+    memory.memory_at_address(address)
 }
 
 // Returns a walk with the module of each frame.

@@ -44,10 +44,7 @@ pub struct Sender {
 }
 
 // Returns the parameters of a record.
-pub(crate) fn parameters_of(
-    alloc: Global,
-    raw: &MINIDUMP_EXCEPTION,
-) -> Result<Vec<u64>, AllocError>
+pub(crate) fn parameters_of(alloc: Global, raw: &MINIDUMP_EXCEPTION) -> Result<Vec<u64>, AllocError>
     ensures { IfOk result (λ parameters. parameters.items ≡ parameters_in raw.now) }
 {
     let count = raw.number_parameters.min(15) as usize;
@@ -137,9 +134,7 @@ fn is_signal(number: u32) -> bool
 fn is_sent(si_code: u32, sender: Sender) -> bool
     ensures { result ≡ is_sent si_code sender }
 {
-    si_code == SI_QUEUE
-        || si_code == SI_TKILL
-        || (si_code == SI_USER && is_process(sender.process))
+    si_code == SI_QUEUE || si_code == SI_TKILL || (si_code == SI_USER && is_process(sender.process))
 }
 
 // Tells whether a number can be that of a process.

@@ -4,9 +4,7 @@ ghost use Rattle.minidump.specs.Below.MemoryLists.Unified.{unified_list, unified
 ghost use Rattle.minidump.specs.Thread.{thread_of};
 ghost use Rattle.minidump.specs.ThreadText.{stack_of};
 ghost use Rattle.crash.specs.Contents.{contents_of};
-ghost use Rattle.crash.specs.Frames.{memory_at};
 ghost use Rattle.crash.specs.Stacks.{is_outside, named_stack, stack_memory};
-ghost use Rattle.stack_walk.specs.Threads.{holds, thread_stack};
 
 use crate::contents::Contents;
 use minidump::format::MINIDUMP_MEMORY_DESCRIPTOR;
@@ -58,49 +56,6 @@ fn region_of<'l, 'a>(
 {
     laws::a_report_has_what_a_lookup_returns();
     thread.stack_memory(memory)
-}
-
-// Returns the region of memory on which a thread runs, by its stack pointer: its own stack, if that
-// holds the pointer, else the kept region that does, else its own stack all the same.
-pub(crate) fn stack_at<'l, 'a>(
-    memory: &'l UnifiedMemoryList<'a>,
-    thread: &'l MinidumpThread<'a>,
-    stack_pointer: u64,
-) -> Option<UnifiedMemory<'l, 'a>>
-    ensures { option_map unified_region result
-        ≡ thread_stack (unified_list memory.now) (thread_of thread.now) stack_pointer }
-{
-    let own = region_of(memory, thread);
-    if holds(own, stack_pointer) {
-        return own;
-    }
-    match memory_at(memory, stack_pointer) {
-        Some(region) => Some(region),
-        None => own,
-    }
-}
-
-// Tells whether a region holds the byte at an address.
-fn holds(region: Option<UnifiedMemory<'_, '_>>, address: u64) -> bool
-    ensures { result ≡ holds address (option_map unified_region region.entry) }
-{
-    let Some(region) = region else {
-        return false;
-    };
-    match address.checked_sub(region.base_address()) {
-        Some(offset) => offset < region.bytes().len() as u64,
-        None => false,
-    }
-}
-
-// Returns the kept region of the memory that contains an address.
-pub(crate) fn memory_at<'l, 'a>(
-    memory: &'l UnifiedMemoryList<'a>,
-    address: u64,
-) -> Option<UnifiedMemory<'l, 'a>>
-    ensures { option_map unified_region result ≡ memory_at (unified_list memory.now) address }
-{
-    memory.memory_at_address(address)
 }
 
 // Tells whether a thread names bytes of a stack that are not in the file.

@@ -11,7 +11,9 @@ ghost use Rattle.crash.specs.Contexts.{context_in, context_of, problem_in, syste
 ghost use Rattle.crash.specs.Threads.{last_error_code, last_error_in, name_in};
 
 use crate::contents::Contents;
-use crate::contexts::{self, ContextProblem, CrashContext, found_context, own_context, registers_of};
+use crate::contexts::{
+    self, ContextProblem, CrashContext, found_context, own_context, registers_of,
+};
 use minidump::system_info::Cpu;
 use minidump::{
     CodeNames, CrashReason, Error, MinidumpException, MinidumpThread, MinidumpThreadNames,

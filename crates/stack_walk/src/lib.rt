@@ -50,7 +50,7 @@ pub use frame::{FrameTrust, StackFrame};
 use minidump::{Error, MinidumpContext};
 pub use stack::Stack;
 use std::alloc::Global;
-pub use thread::{Process, thread_frames, walk_thread};
+pub use thread::{Process, thread_frames, walk_context, walk_thread};
 pub use walk::{Walk, walk_stack};
 
 /// Returns the frames of the thread that has this context and this stack: that of the context, its

@@ -154,8 +154,10 @@ fn stack_pointer_of(context: &MinidumpContext) -> u64
     context.get_stack_pointer()
 }
 
-// Walks the stack of a thread that has a context.
-fn walk_context<'a>(
+/// Walks the stack of a thread by a context, which need not be the one that [`walk_thread`] takes:
+/// its own stack, if that holds the stack pointer, else the dump's region that does, else its own
+/// all the same. The only error is `OutOfMemory`.
+pub fn walk_context<'a>(
     alloc: Global,
     process: &Process<'_, 'a>,
     thread: &MinidumpThread<'a>,
