@@ -19,7 +19,6 @@ use Rattle.crash.specs.declared.damage.Damage.TheVariants.{Exception, ExceptionC
 use Rattle.crash.specs.declared.directory.StreamEntry.{StreamEntry}
 use Rattle.crash.specs.declared.frames.CrashFrame.{CrashFrame}
 use Rattle.crash.specs.declared.contexts.ShortContext.{ShortContext}
-use Rattle.crash.specs.declared.records.Sender.{Sender}
 use Rattle.crash.specs.declared.stacks.StackRange.{StackRange}
 use Rattle.crash.specs.Cause.{ExceptionValue}
 use Rattle.crash.specs.Contexts.{ContextValue}
@@ -31,7 +30,7 @@ use Rattle.crash.specs.Threads.{ThreadValue, ThreadsValue}
 use Rattle.json_tree.specs.Tree.{array_of, count, hex_string, members_of, object_of, or_null}
 use Rattle.json_tree.proofs.Depth.{array_within, flat_count, flat_hex, flat_text, numbered_array_within, or_null_within}
 use Rattle.crash_json.specs.declared.JsonLimits.{JsonLimits}
-use Rattle.crash_json.specs.Cause.{address_json, address_object, crash_info_json, crash_object, exception_json, exception_object, exceptions_json, sender_json, unread_object}
+use Rattle.crash_json.specs.Cause.{address_json, address_object, crash_info_json, crash_object, exception_json, exception_object, exceptions_json, sender_json, sender_object, unread_object}
 use Rattle.crash_json.specs.Crashpad.{annotation_json, annotations_json, crashpad_json, crashpad_module_json, crashpad_modules_json, objects_json, texts_json}
 use Rattle.crash_json.specs.Frames.{frame_json, frame_object, register_members, registers_json}
 use Rattle.crash_json.specs.Minidump.{all_damage_json, damage_json, damage_object, minidump_json, minidump_object, region_object, region_json, regions_json, stream_json, stream_object, streams_json}
@@ -205,9 +204,9 @@ crashpad_depth c = omega (arith, annotations_depth c.simple_annotations, crashpa
 
 -- ---- what the schema has no member for
 
-sender_depth : (s : Sender) → depth (sender_json s) ≤ 1
-unfolding sender_json
-sender_depth s = omega (arith, flat_count s.user)
+sender_object_depth : (process : ℕ) (user : Option ℕ) → depth (sender_object process user) ≤ 1
+unfolding sender_object
+sender_object_depth process user = omega (arith, flat_count user)
 
 exception_object_depth : (e : ExceptionValue) (access problem : Option (List ℕ)) → depth (exception_object e access problem) ≤ 2
 unfolding exception_object
@@ -216,7 +215,7 @@ exception_object_depth e access problem =
       arith,
       array_within hex_string 0 e.parameters (λ n. omega arith),
       flat_text access,
-      or_null_within sender_json 1 e.sender sender_depth,
+      or_null_within sender_json 1 e.sender (λ s. sender_object_depth _ _),
       flat_hex e.address,
       flat_text e.reason,
       flat_text problem,

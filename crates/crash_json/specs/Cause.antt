@@ -59,9 +59,13 @@ access_name Write = codes "write"
 access_name Execute = codes "execute"
 
 -- the process that sent a signal, and its user
-unfoldable pub sender_json : Sender → Json
-sender_json s = object_of (
-    (codes "process_id", count s.process) ∷ (codes "user_id", or_null count s.user) ∷ [])
+unfoldable pub sender_object : ℕ → Option ℕ → Json
+sender_object process user = object_of (
+    (codes "process_id", count process) ∷ (codes "user_id", or_null count user) ∷ [])
+
+-- a sender
+abbrev pub sender_json : Sender → Json
+sender_json s = sender_object s.process s.user
 
 -- an exception by the words for how memory was accessed, and for why its context isn't used
 unfoldable pub exception_object : ExceptionValue → Option (List ℕ) → Option (List ℕ) → Json

@@ -10,7 +10,7 @@ ghost use Rattle.json_tree.specs.Tree.{Puts};
 ghost use Rattle.crash_json.specs.Cause.{access_name, address_json, address_object, counting_in};
 ghost use Rattle.crash_json.specs.Cause.{crash_info_json, crash_object, exception_json};
 ghost use Rattle.crash_json.specs.Cause.{exception_object, exceptions_json, expression_in};
-ghost use Rattle.crash_json.specs.Cause.{problem_name, sender_json, unread_object};
+ghost use Rattle.crash_json.specs.Cause.{problem_name, sender_object, unread_object};
 
 use crash::{Access, AddressFacts, ContextProblem, Crash, CrashCause, CrashException, Sender};
 use json::Writer;
@@ -243,30 +243,29 @@ impl ItemJson<Sender> for SenderJson {
     ghost json_of = { λ _ s. sender_json s };
 
     fn put_item(&self, item: &Sender, out: &mut Writer, alloc: Global) -> Result<(), Error> {
-        put_sender(out, alloc, *item)
+        put_sender(out, alloc, item.process, user_of(item))
     }
 }
 
-#[tactic(auto, unfolding(crate::specs::Cause::sender_json))]
-fn put_sender(out: &mut Writer, alloc: Global, sender: Sender) -> Result<(), Error>
-    ensures { Puts result out.old out.new (sender_json sender) }
+// Returns the user of the process that sent a signal.
+fn user_of(sender: &Sender) -> Option<u64>
+    ensures { result ≡ sender.now.user }
 {
-    let user = user_of(sender);
+    Some(sender.user? as u64)
+}
+
+#[tactic(auto, unfolding(crate::specs::Cause::sender_object))]
+fn put_sender(out: &mut Writer, alloc: Global, process: u32, user: Option<u64>) -> Result<(), Error>
+    ensures { Puts result out.old out.new (sender_object process user) }
+{
     put_object(
         out,
         alloc,
         &[
-            ("process_id", Scalar::Number(Some(sender.process as u64))),
+            ("process_id", Scalar::Number(Some(process as u64))),
             ("user_id", Scalar::Number(user)),
         ],
     )
-}
-
-// Returns the user of the process that sent a signal.
-fn user_of(sender: Sender) -> Option<u64>
-    ensures { result ≡ sender.user }
-{
-    Some(sender.user? as u64)
 }
 
 #[tactic(auto, unfolding(crate::specs::Cause::unread_object))]
