@@ -19,7 +19,6 @@ use Rattle.crash.specs.declared.damage.Damage.TheVariants.{Exception, ExceptionC
 use Rattle.crash.specs.declared.directory.StreamEntry.{StreamEntry}
 use Rattle.crash.specs.declared.frames.CrashFrame.{CrashFrame}
 use Rattle.crash.specs.declared.contexts.ShortContext.{ShortContext}
-use Rattle.crash.specs.declared.records.Sender.{Sender}
 use Rattle.crash.specs.declared.stacks.StackRange.{StackRange}
 use Rattle.crash.specs.Cause.{ExceptionValue}
 use Rattle.crash.specs.Contexts.{ContextValue}
@@ -205,9 +204,9 @@ crashpad_depth c = omega (arith, annotations_depth c.simple_annotations, crashpa
 
 -- ---- what the schema has no member for
 
-sender_depth : (s : Sender) → depth (sender_json s) ≤ 1
+sender_object_depth : (process : ℕ) (user : Option ℕ) → depth (sender_object process user) ≤ 1
 unfolding sender_object
-sender_depth s = omega (arith, flat_count s.user)
+sender_object_depth process user = omega (arith, flat_count user)
 
 exception_object_depth : (e : ExceptionValue) (access problem : Option (List ℕ)) → depth (exception_object e access problem) ≤ 2
 unfolding exception_object
@@ -216,7 +215,7 @@ exception_object_depth e access problem =
       arith,
       array_within hex_string 0 e.parameters (λ n. omega arith),
       flat_text access,
-      or_null_within sender_json 1 e.sender sender_depth,
+      or_null_within sender_json 1 e.sender (λ s. sender_object_depth _ _),
       flat_hex e.address,
       flat_text e.reason,
       flat_text problem,

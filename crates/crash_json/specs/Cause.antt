@@ -58,12 +58,12 @@ access_name Read = codes "read"
 access_name Write = codes "write"
 access_name Execute = codes "execute"
 
--- the process that sent a signal, and its user, each by its id
+-- the process that sent a signal, and its user
 unfoldable pub sender_object : ℕ → Option ℕ → Json
 sender_object process user = object_of (
     (codes "process_id", count process) ∷ (codes "user_id", or_null count user) ∷ [])
 
--- the same by the value
+-- a sender
 abbrev pub sender_json : Sender → Json
 sender_json s = sender_object s.process s.user
 

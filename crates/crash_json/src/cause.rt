@@ -243,17 +243,19 @@ impl ItemJson<Sender> for SenderJson {
     ghost json_of = { λ _ s. sender_json s };
 
     fn put_item(&self, item: &Sender, out: &mut Writer, alloc: Global) -> Result<(), Error> {
-        put_sender(out, alloc, item.process, user_of(*item))
+        put_sender(out, alloc, item.process, user_of(item))
     }
 }
 
+// Returns the user of the process that sent a signal.
+fn user_of(sender: &Sender) -> Option<u64>
+    ensures { result ≡ sender.now.user }
+{
+    Some(sender.user? as u64)
+}
+
 #[tactic(auto, unfolding(crate::specs::Cause::sender_object))]
-fn put_sender(
-    out: &mut Writer,
-    alloc: Global,
-    process: u32,
-    user: Option<u64>,
-) -> Result<(), Error>
+fn put_sender(out: &mut Writer, alloc: Global, process: u32, user: Option<u64>) -> Result<(), Error>
     ensures { Puts result out.old out.new (sender_object process user) }
 {
     put_object(
@@ -264,13 +266,6 @@ fn put_sender(
             ("user_id", Scalar::Number(user)),
         ],
     )
-}
-
-// Returns the user of the process that sent a signal.
-fn user_of(sender: Sender) -> Option<u64>
-    ensures { result ≡ sender.user }
-{
-    Some(sender.user? as u64)
 }
 
 #[tactic(auto, unfolding(crate::specs::Cause::unread_object))]
