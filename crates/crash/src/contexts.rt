@@ -177,8 +177,9 @@ fn read_padded(
 ) -> Option<MinidumpRawContext>
     requires fits { length bytes.now < whole }
     requires most { whole ≤ 1232 }
-    ensures { result ≡ accepted_context (system_info_stream.value system.now).raw
-        .processor_architecture endian (Some (padded bytes.now whole)) }
+    ensures { result ≡ accepted_context
+        (system_info_stream.value system.now).raw.processor_architecture endian
+        (Some (padded bytes.now whole)) }
 {
     let mut padded = [0; 1232];
     padded[..bytes.len()].copy_from_slice(bytes);
@@ -187,8 +188,8 @@ fn read_padded(
 
 // Returns the context that bytes hold.
 fn read_raw(bytes: &[u8], endian: Endian, system: &MinidumpSystemInfo) -> Option<MinidumpRawContext>
-    ensures { result ≡ accepted_context (system_info_stream.value system.now).raw
-        .processor_architecture endian (Some bytes.now) }
+    ensures { result ≡ accepted_context
+        (system_info_stream.value system.now).raw.processor_architecture endian (Some bytes.now) }
 {
     let context = MinidumpContext::read(bytes, endian, system, None).ok()?;
     Some(context.raw)

@@ -136,7 +136,8 @@ fn walk_on<'l, 'a>(
     scan: usize,
 ) -> Result<CrashWalk, Error>
     ensures walk { IfOk result (λ walk. crash_walk_of walk
-        ≡ walk_on (process_of process.now) (option_map unified_region memory) scan context.now) }
+        ≡ walk_on (process_of process.now) (option_map unified_region memory.entry) scan
+        context.now) }
     ensures memory { IsOkUnless result Error.OutOfMemory }
 {
     let stack = Stack {
