@@ -1,9 +1,10 @@
 -- Where and why a process crashed: its exceptions, which of them counts, and what is known of the
 -- address of the crash.
-use Rattle.std.specs.Prelude.{ℕ, ◌-◌, List, map, Option, Result, string_bytes}
+use Rattle.std.specs.Prelude.{ℕ, ◌-◌, List, map, Option, Some, None, Result, string_bytes}
 use Rattle.std.specs.List.{enumerate_from}
 use Rattle.std.specs.Option.{option_and_then, option_map}
 use Rattle.minidump.specs.declared.Error.{Error}
+use Rattle.minidump.specs.declared.format.MINIDUMP_EXCEPTION.{MINIDUMP_EXCEPTION}
 use Rattle.minidump.specs.Below.Contexts.Context.{map_ok}
 use Rattle.minidump.specs.Below.Index.Lookup.{looked_up}
 use Rattle.minidump.specs.Below.Modules.Module.{ModuleValue, range_of_module}
@@ -16,16 +17,25 @@ use Rattle.crash.specs.declared.cause.AddressFacts.{AddressFacts}
 use Rattle.crash.specs.declared.cause.CrashCause.{CrashCause}
 use Rattle.crash.specs.declared.cause.CrashException.{CrashException}
 use Rattle.crash.specs.declared.contexts.ContextProblem.{ContextProblem}
+use Rattle.crash.specs.declared.records.Access.{Access}
+use Rattle.crash.specs.declared.records.Sender.{Sender}
 use Rattle.crash.specs.Contents.{ContentsValue}
 use Rattle.crash.specs.Contexts.{problem_in, system_of}
 use Rattle.crash.specs.Counting.{counted, counting}
+use Rattle.crash.specs.Records.{access_in, parameters_in, sender_in}
 
--- an exception: its thread, its code, where it happened, the address and the reason of the crash,
--- where the system is known, and why its context isn't used
+-- an exception: its thread, its code and flags, where it happened, where the record of another one
+-- is, and its parameters; where the system is known, how memory was accessed, who sent the signal,
+-- the address and the reason of the crash; and why its context isn't used
 pub record ExceptionValue : Type 0 where
   pub thread : ℕ
   pub code : ℕ
+  pub flags : ℕ
   pub at : ℕ
+  pub nested : ℕ
+  pub parameters : List ℕ
+  pub access : Option Access
+  pub sender : Option Sender
   pub address : Option ℕ
   pub reason : Option (List ℕ)
   pub context_problem : Option ContextProblem
@@ -43,7 +53,12 @@ abbrev pub exception_of : CrashException → ExceptionValue
 exception_of e = record {
   thread = e.thread;
   code = e.code;
+  flags = e.flags;
   at = e.at;
+  nested = e.nested;
+  parameters = e.parameters.items;
+  access = e.access;
+  sender = e.sender;
   address = e.address;
   reason = option_map string_bytes e.reason;
   context_problem = e.context_problem;
@@ -58,9 +73,15 @@ cause_of c = record {
 
 -- ---- exceptions
 
--- the address of a crash, where the system is known
+-- the address of a crash, where the system is known. A signal that a process sent has none
+abbrev pub address_unless : Option Sender → Option System → MINIDUMP_EXCEPTION → Option ℕ
+address_unless (Some _) system r = None
+address_unless None system r = option_map (λ s. crash_address s.os s.cpu r) system
+
+-- the same of an exception
 abbrev pub address_in : Option System → Exception → Option ℕ
-address_in system e = option_map (λ s. crash_address s.os s.cpu e.raw.exception_record) system
+address_in system e = address_unless (sender_in system e.raw.exception_record) system
+    e.raw.exception_record
 
 -- the words for its reason, where the system is known
 abbrev pub reason_in : Lists → Option System → Exception → Option (List ℕ)
@@ -72,7 +93,12 @@ abbrev pub exception_in : Lists → Option System → Exception → ExceptionVal
 exception_in names system e = record {
   thread = e.thread_id;
   code = e.raw.exception_record.exception_code;
+  flags = e.raw.exception_record.exception_flags;
   at = e.raw.exception_record.exception_address;
+  nested = e.raw.exception_record.exception_record;
+  parameters = parameters_in e.raw.exception_record;
+  access = access_in system e.raw.exception_record;
+  sender = sender_in system e.raw.exception_record;
   address = address_in system e;
   reason = reason_in names system e;
   context_problem = problem_in system e.order e.context;

@@ -113,13 +113,16 @@ whole_only None = None
 abbrev pub of_origin : ContextOrigin → Option FoundContext → Option (ContextOrigin × FoundContext)
 of_origin origin context = option_map (λ f. (origin, f)) context
 
--- of the context of an exception on a thread and of the thread's own: the first that is whole, else
--- the first
+-- the first of the context of an exception on a thread and of the thread's own
+abbrev pub first_of : Option FoundContext → Option FoundContext
+    → Option (ContextOrigin × FoundContext)
+first_of exception own = option_or (of_origin OfException exception) (of_origin OfThread own)
+
+-- the first of them that is whole, else the first
 abbrev pub first_found : Option FoundContext → Option FoundContext
     → Option (ContextOrigin × FoundContext)
-first_found exception own = option_or (option_or (option_or
-    (of_origin OfException (whole_only exception)) (of_origin OfThread (whole_only own)))
-    (of_origin OfException exception)) (of_origin OfThread own)
+first_found exception own = option_or (first_of (whole_only exception) (whole_only own))
+    (first_of exception own)
 
 -- the context by which the registers of a thread of the list are known, and whose it is, by the
 -- exception that counts

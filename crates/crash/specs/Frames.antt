@@ -82,28 +82,29 @@ abbrev pub walk_on : ProcessValue → Option UnifiedRegion → ℕ → MinidumpC
 walk_on p region scan context = walk_by p.modules (stack.walk_in (stack_in p region) context scan)
 
 -- the context that is found, all of whose registers are valid
-abbrev context_of : FoundContext → MinidumpContext
+abbrev pub context_of : FoundContext → MinidumpContext
 context_of f = record { raw = f.raw; valid = All }
 
 -- the walk of a thread's context on its stack, in a process
-abbrev pub walk_in : ℕ → Thread → ProcessValue → FoundContext → CrashWalkValue
-walk_in scan t p f = walk_on p (thread_stack p.memory t (stack_pointer_in f.raw)) scan
-    (context_of f)
+abbrev pub walk_in : ℕ → Thread → ProcessValue → MinidumpContext → CrashWalkValue
+walk_in scan t p context =
+    walk_on p (thread_stack p.memory t (stack_pointer_in context.raw)) scan context
 
 -- the same by the contents and the exception that counts: none without a context
 abbrev pub thread_walk : ContentsValue → Option Exception → ℕ → Thread → Option CrashWalkValue
 thread_walk c e scan t = option_and_then
-    (λ p. option_map (λ f. walk_in scan t p f.1) (found_in c e t)) (process_in c e)
+    (λ p. option_map (λ f. walk_in scan t p (context_of f.1)) (found_in c e t)) (process_in c e)
 
 -- the kept region of the memory that contains an address
 abbrev pub memory_at : UnifiedRegions → ℕ → Option UnifiedRegion
 memory_at memory address = looked_up range_of_region (unified_regions memory) address
 
 -- the walk of a context on the memory at its stack pointer
-abbrev pub walk_at : ProcessValue → ℕ → FoundContext → CrashWalkValue
-walk_at p scan f = walk_on p (memory_at p.memory (stack_pointer_in f.raw)) scan (context_of f)
+abbrev pub walk_at : ProcessValue → ℕ → MinidumpContext → CrashWalkValue
+walk_at p scan context =
+    walk_on p (memory_at p.memory (stack_pointer_in context.raw)) scan context
 
 -- the walk of an exception's context
 abbrev pub exception_walk : ContentsValue → ℕ → Exception → Option CrashWalkValue
-exception_walk c scan e = option_and_then (λ p. option_map (walk_at p scan) (context_at c e))
-    (process_in c (Some e))
+exception_walk c scan e = option_and_then
+    (λ p. option_map (λ f. walk_at p scan (context_of f)) (context_at c e)) (process_in c (Some e))

@@ -9,6 +9,7 @@ pub mod Release
 pub mod Process
 pub mod Contexts
 pub mod Counting
+pub mod Records
 pub mod Cause
 pub mod Frames
 pub mod Stacks

@@ -2,7 +2,7 @@ ghost use Rattle.std.specs.Prelude.{◌≡◌, IfOk, IsOkUnless, map, string_byt
 ghost use Rattle.std.specs.Option.{option_copied, option_map};
 ghost use Rattle.minidump.specs.Below.Contexts.Context.{map_ok};
 ghost use Rattle.minidump.specs.Promise.{exception_stream, module_list_stream, system_info_stream};
-ghost use Rattle.crash.specs.Cause.{address_at, address_in, cause_in, cause_of, exception_in};
+ghost use Rattle.crash.specs.Cause.{address_at, address_unless, cause_in, cause_of, exception_in};
 ghost use Rattle.crash.specs.Cause.{exception_of, exceptions_in, module_place, reason_in};
 ghost use Rattle.crash.specs.Contents.{contents_of};
 ghost use Rattle.crash.specs.Contexts.{problem_in, system_of};
@@ -12,6 +12,7 @@ use crate::contents::Contents;
 use crate::contexts::{self, ContextProblem, context_at};
 use crate::counting::counting;
 use crate::each::{MakeItem, make_items};
+use crate::records::{Access, Sender, access_of, parameters_of, sender_of};
 use minidump::{
     CodeNames, Error, MinidumpException, MinidumpModuleList, MinidumpSystemInfo, Module,
 };
@@ -36,12 +37,25 @@ pub struct CrashCause {
 pub struct CrashException {
     /// The id of the thread on which it happened, as its stream has it.
     pub thread: u32,
-    /// The code of its record.
+    /// The code of its record: on Linux and Android the number of the signal.
     pub code: u32,
+    /// The flags of its record: on Linux and Android the `si_code` of the signal.
+    pub flags: u32,
     /// The address of its record, at which it happened.
     pub at: u64,
+    /// The address of the record of another exception, during which it happened; 0 if there is none.
+    pub nested: u64,
+    /// The parameters of its record, as many as it says, but at most the 15 that it has.
+    pub parameters: Vec<u64>,
+    /// How memory was accessed, if it is an access violation or an in-page error of Windows.
+    pub access: Option<Access>,
+    /// The process that sent the signal, if one did, on Linux and Android. The address of the record
+    /// then has the ids of the process, in the low 32 bits, and of its user, in the high ones, or is
+    /// 0, and the first two parameters have them.
+    pub sender: Option<Sender>,
     /// The address of the crash: the one that was accessed where the record has it, else that of
-    /// the record, in as many bits as a pointer has. `None` without system information.
+    /// the record, in as many bits as a pointer has. `None` without system information, and for a
+    /// signal that a process sent.
     pub address: Option<u64>,
     /// The reason of the crash in words, or `None` without system information.
     pub reason: Option<String>,
@@ -148,26 +162,37 @@ fn exception_of(
     let system = contents.system.system.as_ref().ok();
     let reason = reason_of(alloc, exception, system, names)?;
     let record = &exception.raw.exception_record;
+    let parameters = parameters_of(alloc, record)?;
+    let sender = sender_of(system, record);
     Ok(CrashException {
         thread: exception.thread_id,
         code: record.exception_code,
+        flags: record.exception_flags,
         at: record.exception_address,
-        address: crash_address(exception, system),
+        nested: record.exception_record,
+        parameters,
+        access: access_of(system, record),
+        sender,
+        address: address_unless(sender, exception, system),
         reason,
         context_problem: problem_of(contents, exception),
     })
 }
 
-// Returns the address of the crash.
-fn crash_address(
+// Returns the address of the crash, unless a process sent the signal.
+fn address_unless(
+    sender: Option<Sender>,
     exception: &MinidumpException<'_>,
     system: Option<&MinidumpSystemInfo>,
 ) -> Option<u64>
-    ensures { result ≡ address_in (option_map system_info_stream.value (option_copied system.entry))
-        (exception_stream.value exception.now) }
+    ensures { result ≡ address_unless sender
+        (option_map system_info_stream.value (option_copied system.entry))
+        exception.now.raw.exception_record }
 {
-    let system = system?;
-    Some(exception.get_crash_address(system.os, system.cpu))
+    match (sender, system) {
+        (None, Some(system)) => Some(exception.get_crash_address(system.os, system.cpu)),
+        _ => None,
+    }
 }
 
 // Makes the words for the reason of the crash.

@@ -4,7 +4,8 @@ ghost use Rattle.minidump.specs.Promise.{exception_stream, system_info_stream};
 ghost use Rattle.minidump.specs.Thread.{accepted_context, known_context, thread_of};
 ghost use Rattle.crash.specs.Contents.{contents_of};
 ghost use Rattle.crash.specs.Contexts.{any_context, context_at, context_by, context_in, context_of};
-ghost use Rattle.crash.specs.Contexts.{first_found, found_in, has_general, lengths, of_origin};
+ghost use Rattle.crash.specs.Contexts.{first_found, first_of, found_in, has_general, lengths};
+ghost use Rattle.crash.specs.Contexts.{of_origin};
 ghost use Rattle.crash.specs.Contexts.{on_thread, padded, problem_by, registers_in, short_by};
 ghost use Rattle.crash.specs.Contexts.{short_context};
 ghost use Rattle.crash.specs.Contexts.{system_of, whole_context, whole_only};
@@ -258,9 +259,17 @@ fn first_found(
 ) -> Option<(ContextOrigin, FoundContext)>
     ensures { result ≡ first_found exception own }
 {
-    of_origin(ContextOrigin::OfException, whole_only(exception))
-        .or(of_origin(ContextOrigin::OfThread, whole_only(own)))
-        .or(of_origin(ContextOrigin::OfException, exception))
+    first_of(whole_only(exception), whole_only(own)).or(first_of(exception, own))
+}
+
+// Returns the first of the exception's and the own context.
+fn first_of(
+    exception: Option<FoundContext>,
+    own: Option<FoundContext>,
+) -> Option<(ContextOrigin, FoundContext)>
+    ensures { result ≡ first_of exception own }
+{
+    of_origin(ContextOrigin::OfException, exception)
         .or(of_origin(ContextOrigin::OfThread, own))
 }
 

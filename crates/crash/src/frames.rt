@@ -7,8 +7,8 @@ ghost use Rattle.stack_walk.specs.Frames.{stack_pointer_in};
 ghost use Rattle.stack_walk.specs.Threads.{process_of, thread_stack};
 ghost use Rattle.stack_walk.specs.Walk.{walk_of};
 ghost use Rattle.crash.specs.Contents.{contents_of};
-ghost use Rattle.crash.specs.Frames.{crash_walk_of, exception_walk, frame_in, memory_at, place_of};
-ghost use Rattle.crash.specs.Frames.{process_in, thread_walk, walk_at, walk_by, walk_in, walk_on};
+ghost use Rattle.crash.specs.Frames.{context_of, crash_walk_of, exception_walk, frame_in, memory_at};
+ghost use Rattle.crash.specs.Frames.{place_of, process_in, thread_walk, walk_at, walk_by, walk_in, walk_on};
 
 use crate::cause::module_place;
 use crate::contents::Contents;
@@ -69,26 +69,35 @@ pub(crate) fn walk_of_thread<'l, 'a>(
         return Ok(None);
     };
     match found_context(contents, exception, thread) {
-        Some((_, found)) => Ok(Some(walk_in(alloc, &process, thread, &found, scan)?)),
+        Some((_, found)) => {
+            let context = context_of(&found);
+            Ok(Some(walk_in(alloc, &process, thread, &context, scan)?))
+        }
         None => Ok(None),
     }
 }
 
-// Returns what is found in the stack of a thread that has a context, in a process.
+// Returns the context that is found, all of whose registers are valid.
+fn context_of(found: &FoundContext) -> MinidumpContext
+    ensures { result ≡ context_of found.now }
+{
+    MinidumpContext::from_raw(found.raw)
+}
+
+// Returns what is found in the stack of a thread by a context, in a process.
 fn walk_in<'a>(
     alloc: Global,
     process: &Process<'_, 'a>,
     thread: &MinidumpThread<'a>,
-    found: &FoundContext,
+    context: &MinidumpContext,
     scan: usize,
 ) -> Result<CrashWalk, Error>
     ensures walk { IfOk result (λ walk. crash_walk_of walk
-        ≡ walk_in scan (thread_of thread.now) (process_of process.now) found.now) }
+        ≡ walk_in scan (thread_of thread.now) (process_of process.now) context.now) }
     ensures memory { IsOkUnless result Error.OutOfMemory }
 {
-    let context = MinidumpContext::from_raw(found.raw);
     let memory = stack_at(process.memory, thread, context.get_stack_pointer());
-    walk_on(alloc, process, memory, &context, scan)
+    walk_on(alloc, process, memory, context, scan)
 }
 
 // Returns what is found on the memory at the stack pointer of an exception's context.
@@ -106,7 +115,7 @@ pub(crate) fn walk_of_exception<'l, 'a>(
         return Ok(None);
     };
     match context_at(contents, exception) {
-        Some(found) => Ok(Some(walk_at(alloc, &process, &found, scan)?)),
+        Some(found) => Ok(Some(walk_at(alloc, &process, &context_of(&found), scan)?)),
         None => Ok(None),
     }
 }
@@ -115,16 +124,15 @@ pub(crate) fn walk_of_exception<'l, 'a>(
 fn walk_at(
     alloc: Global,
     process: &Process<'_, '_>,
-    found: &FoundContext,
+    context: &MinidumpContext,
     scan: usize,
 ) -> Result<CrashWalk, Error>
     ensures walk { IfOk result (λ walk. crash_walk_of walk
-        ≡ walk_at (process_of process.now) scan found.now) }
+        ≡ walk_at (process_of process.now) scan context.now) }
     ensures memory { IsOkUnless result Error.OutOfMemory }
 {
-    let context = MinidumpContext::from_raw(found.raw);
     let memory = memory_at(process.memory, context.get_stack_pointer());
-    walk_on(alloc, process, memory, &context, scan)
+    walk_on(alloc, process, memory, context, scan)
 }
 
 // Returns what is found on a region of memory by a context.

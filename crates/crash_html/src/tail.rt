@@ -378,6 +378,22 @@ function addressWords() {
   return joined([part(part(crash, "crash_info"), "address"), place], " ");
 }
 
+// Returns the process that sent a signal, and its user, or null.
+function senderWords(exception) {
+  const sender = part(exception, "sender");
+  if (sender === null) return null;
+  return joined(["process " + part(sender, "process_id"), labelled("user ", part(sender, "user_id"))], ", ");
+}
+
+// Returns a text in hexadecimal, or null if it is that of 0.
+function unlessZero(value) {
+  return value === "0x0" ? null : value;
+}
+
+function parametersOf(exception) {
+  return list(part(exception, "parameters")).join(", ");
+}
+
 function assertionWords() {
   const assertion = part(minidump, "assertion");
   if (assertion === null) return null;
@@ -412,6 +428,11 @@ function facts() {
     ["Reason", part(info, "type")],
     ["Address", addressWords()],
     ["Code", counting === null ? null : part(counting, "code") + " at " + part(counting, "exception_address")],
+    ["Flags", unlessZero(part(counting, "flags"))],
+    ["Nested record", unlessZero(part(counting, "nested"))],
+    ["Access", part(counting, "access")],
+    ["Sent by", senderWords(counting)],
+    ["Parameters", parametersOf(counting)],
     ["Assertion", assertionWords()],
     ["Thread", thread === null ? null : threadName(thread)],
     ["Registers", labelled("of the context of the ", part(minidump, "registers_of"))],
@@ -549,11 +570,14 @@ function annotationsOf() {
 }
 
 function addLists() {
-  const exceptions = ["thread_id", "code", "exception_address", "address", "type", "context_problem", "error"];
-  const rows = rowsOf(part(minidump, "exceptions"), exceptions);
-  addMore("Exceptions", ["", "Thread", "Code", "At", "Address", "Reason", "Context", "Error"],
-    rows.map((row, i) => [i === part(minidump, "exception") ? "counts" : "", ...row]),
-    ["", "", "code", "code", "code", "", "", ""]);
+  const exceptions = list(part(minidump, "exceptions"));
+  const rows = rowsOf(exceptions, ["thread_id", "code", "flags", "exception_address", "nested", "access", "address",
+    "type", "context_problem", "error"]);
+  addMore("Exceptions", ["", "Thread", "Code", "Flags", "At", "Nested record", "Access", "Address", "Reason", "Context",
+    "Error", "Parameters", "Sent by"],
+    rows.map((row, i) => [i === part(minidump, "exception") ? "counts" : "", ...row, parametersOf(exceptions[i]),
+      senderWords(exceptions[i])]),
+    ["", "", "code", "code", "code", "code", "", "code", "", "", "", "code", ""]);
   addMore("Annotations", ["Of", "Name", "Value"], annotationsOf(), ["", "", ""]);
   const mac = ["module", "message", "message2", "signature_string", "backtrace", "thread", "dialog_mode", "abort_cause"];
   addMore("macOS\u2019s crash information",

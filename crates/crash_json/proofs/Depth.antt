@@ -6,6 +6,7 @@ use Rattle.json.specs.Json.{Json, max_depth, string}
 use Rattle.json.specs.Tree.{depth, members_depth}
 use Rattle.minidump.specs.declared.Error.{Error}
 use Rattle.minidump.specs.declared.format.MINIDUMP_ASSERTION_INFO.{MINIDUMP_ASSERTION_INFO}
+use Rattle.minidump.specs.Below.Format.Error.{name_of_error}
 use Rattle.minidump.specs.Below.MemoryLists.Unified.{UnifiedRegion, unified_regions}
 use Rattle.minidump.specs.Below.Records.Annotations.{Annotation}
 use Rattle.minidump.specs.Below.Records.Crashpad.{Crashpad, Module}
@@ -18,6 +19,7 @@ use Rattle.crash.specs.declared.damage.Damage.TheVariants.{Exception, ExceptionC
 use Rattle.crash.specs.declared.directory.StreamEntry.{StreamEntry}
 use Rattle.crash.specs.declared.frames.CrashFrame.{CrashFrame}
 use Rattle.crash.specs.declared.contexts.ShortContext.{ShortContext}
+use Rattle.crash.specs.declared.records.Sender.{Sender}
 use Rattle.crash.specs.declared.stacks.StackRange.{StackRange}
 use Rattle.crash.specs.Cause.{ExceptionValue}
 use Rattle.crash.specs.Contexts.{ContextValue}
@@ -29,7 +31,7 @@ use Rattle.crash.specs.Threads.{ThreadValue, ThreadsValue}
 use Rattle.json_tree.specs.Tree.{array_of, count, hex_string, members_of, object_of, or_null}
 use Rattle.json_tree.proofs.Depth.{array_within, flat_count, flat_hex, flat_text, numbered_array_within, or_null_within}
 use Rattle.crash_json.specs.declared.JsonLimits.{JsonLimits}
-use Rattle.crash_json.specs.Cause.{address_json, address_object, crash_info_json, crash_object, exception_json, exception_object, exceptions_json}
+use Rattle.crash_json.specs.Cause.{address_json, address_object, crash_info_json, crash_object, exception_json, exception_object, exceptions_json, sender_json, unread_object}
 use Rattle.crash_json.specs.Crashpad.{annotation_json, annotations_json, crashpad_json, crashpad_module_json, crashpad_modules_json, objects_json, texts_json}
 use Rattle.crash_json.specs.Frames.{frame_json, frame_object, register_members, registers_json}
 use Rattle.crash_json.specs.Minidump.{all_damage_json, damage_json, damage_object, minidump_json, minidump_object, region_object, region_json, regions_json, stream_json, stream_object, streams_json}
@@ -203,19 +205,34 @@ crashpad_depth c = omega (arith, annotations_depth c.simple_annotations, crashpa
 
 -- ---- what the schema has no member for
 
-exception_object_depth : (thread code at address : Option ℕ) (reason problem error : Option (List ℕ))
-    → depth (exception_object thread code at address reason problem error) ≤ 1
+sender_depth : (s : Sender) → depth (sender_json s) ≤ 1
+unfolding sender_json
+sender_depth s = omega (arith, flat_count s.user)
+
+exception_object_depth : (e : ExceptionValue) (access problem : Option (List ℕ)) → depth (exception_object e access problem) ≤ 2
 unfolding exception_object
-exception_object_depth thread code at address reason problem error =
-    omega (arith, flat_count thread, flat_hex code, flat_hex at, flat_hex address, flat_text reason, flat_text problem, flat_text error)
+exception_object_depth e access problem =
+    omega (
+      arith,
+      array_within hex_string 0 e.parameters (λ n. omega arith),
+      flat_text access,
+      or_null_within sender_json 1 e.sender sender_depth,
+      flat_hex e.address,
+      flat_text e.reason,
+      flat_text problem,
+    )
 
-exception_depth : (e : Result ExceptionValue Error) → depth (exception_json e) ≤ 1
-exception_depth (Ok e) = exception_object_depth _ _ _ _ _ _ _
-exception_depth (Err e) = exception_object_depth _ _ _ _ _ _ _
+unread_object_depth : (error : List ℕ) → depth (unread_object error) ≤ 1
+unfolding unread_object
+unread_object_depth error = omega arith
 
-exceptions_depth : (es : List (Result ExceptionValue Error)) → depth (exceptions_json es) ≤ 2
+exception_depth : (e : Result ExceptionValue Error) → depth (exception_json e) ≤ 2
+exception_depth (Ok e) = exception_object_depth e _ _
+exception_depth (Err e) = omega (arith, unread_object_depth (name_of_error e))
+
+exceptions_depth : (es : List (Result ExceptionValue Error)) → depth (exceptions_json es) ≤ 3
 unfolding exceptions_json
-exceptions_depth es = array_within exception_json 1 es exception_depth
+exceptions_depth es = array_within exception_json 2 es exception_depth
 
 address_object_depth : (address : ℕ) (index offset : Option ℕ) → depth (address_object address index offset) ≤ 1
 unfolding address_object

@@ -1,8 +1,8 @@
 -- Where and why a process crashed, as JSON.
-use Rattle.std.specs.Prelude.{ℕ, List, [], ◌∷◌, codes, Option, Some, None, Result, Ok, Err}
+use Rattle.std.specs.Prelude.{ℕ, List, [], ◌∷◌, codes, Option, Result, Ok, Err}
 use Rattle.std.specs.Option.{option_and_then, option_map}
 use Rattle.std.specs.Result.{result_ok}
-use Rattle.json.specs.Json.{Json, string}
+use Rattle.json.specs.Json.{Json, null, string}
 use Rattle.minidump.specs.declared.Error.{Error}
 use Rattle.minidump.specs.declared.format.MINIDUMP_ASSERTION_INFO.{MINIDUMP_ASSERTION_INFO}
 use Rattle.minidump.specs.Below.Bytes.Text16.{text_before_nul}
@@ -10,6 +10,9 @@ use Rattle.minidump.specs.Below.Format.Error.{name_of_error}
 use Rattle.crash.specs.declared.cause.AddressFacts.{AddressFacts}
 use Rattle.crash.specs.declared.contexts.ContextProblem.{ContextProblem}
 use Rattle.crash.specs.declared.contexts.ContextProblem.TheVariants.{NoSystem, NotAccepted, Outside}
+use Rattle.crash.specs.declared.records.Access.{Access}
+use Rattle.crash.specs.declared.records.Access.TheVariants.{Execute, Read, Write}
+use Rattle.crash.specs.declared.records.Sender.{Sender}
 use Rattle.crash.specs.Cause.{CauseValue, ExceptionValue}
 use Rattle.crash.specs.Counting.{counted}
 use Rattle.crash.specs.Crash.{CrashValue}
@@ -49,26 +52,56 @@ problem_name Outside = codes "outside"
 problem_name NoSystem = codes "no system"
 problem_name (NotAccepted size) = codes "not accepted"
 
--- an exception by its thread, its code, where it happened, the address and the reason of the crash,
--- why its context isn't used, and the name of the error for which it can't be read
-unfoldable pub exception_object : Option ℕ → Option ℕ → Option ℕ → Option ℕ → Option (List ℕ)
-    → Option (List ℕ) → Option (List ℕ) → Json
-exception_object thread code at address reason problem error = object_of (
-    (codes "thread_id", or_null count thread)
-    ∷ (codes "code", or_null hex_string code)
-    ∷ (codes "exception_address", or_null hex_string at)
-    ∷ (codes "address", or_null hex_string address)
-    ∷ (codes "type", or_null string reason)
+-- the word for how memory was accessed
+abbrev pub access_name : Access → List ℕ
+access_name Read = codes "read"
+access_name Write = codes "write"
+access_name Execute = codes "execute"
+
+-- the process that sent a signal, and its user
+unfoldable pub sender_json : Sender → Json
+sender_json s = object_of (
+    (codes "process_id", count s.process) ∷ (codes "user_id", or_null count s.user) ∷ [])
+
+-- an exception by the words for how memory was accessed, and for why its context isn't used
+unfoldable pub exception_object : ExceptionValue → Option (List ℕ) → Option (List ℕ) → Json
+exception_object e access problem = object_of (
+    (codes "thread_id", count e.thread)
+    ∷ (codes "code", hex_string e.code)
+    ∷ (codes "flags", hex_string e.flags)
+    ∷ (codes "exception_address", hex_string e.at)
+    ∷ (codes "nested", hex_string e.nested)
+    ∷ (codes "parameters", array_of hex_string e.parameters)
+    ∷ (codes "access", or_null string access)
+    ∷ (codes "sender", or_null sender_json e.sender)
+    ∷ (codes "address", or_null hex_string e.address)
+    ∷ (codes "type", or_null string e.reason)
     ∷ (codes "context_problem", or_null string problem)
-    ∷ (codes "error", or_null string error)
+    ∷ (codes "error", null)
+    ∷ [])
+
+-- one that can't be read, by the name of the error
+unfoldable pub unread_object : List ℕ → Json
+unread_object error = object_of (
+    (codes "thread_id", null)
+    ∷ (codes "code", null)
+    ∷ (codes "flags", null)
+    ∷ (codes "exception_address", null)
+    ∷ (codes "nested", null)
+    ∷ (codes "parameters", null)
+    ∷ (codes "access", null)
+    ∷ (codes "sender", null)
+    ∷ (codes "address", null)
+    ∷ (codes "type", null)
+    ∷ (codes "context_problem", null)
+    ∷ (codes "error", string error)
     ∷ [])
 
 -- an exception, or why it can't be read
 abbrev pub exception_json : Result ExceptionValue Error → Json
-exception_json (Ok e) = exception_object (Some e.thread) (Some e.code) (Some e.at) e.address
-    e.reason (option_map problem_name e.context_problem) None
-exception_json (Err error) =
-    exception_object None None None None None None (Some (name_of_error error))
+exception_json (Ok e) = exception_object e (option_map access_name e.access)
+    (option_map problem_name e.context_problem)
+exception_json (Err error) = unread_object (name_of_error error)
 
 -- the exceptions
 unfoldable pub exceptions_json : List (Result ExceptionValue Error) → Json

@@ -11,7 +11,9 @@ use Rattle.minidump.specs.Below.Records.Record.{mac_record_of}
 use Rattle.crash.specs.Contexts.{context_of}
 use Rattle.crash.specs.Crash.{crash_of}
 use Rattle.crash.specs.Modules.{loaded_of}
-use Rattle.json_tree.specs.Tree.{array_of, numbered_array_of, or_null, scalar_json}
+use Rattle.json_tree.specs.Tree.{array_of, hex_string, numbered_array_of, or_null, scalar_json}
+use Rattle.crash_json.specs.declared.cause.ExceptionMember.{ExceptionMember}
+use Rattle.crash_json.specs.declared.cause.ExceptionMember.TheVariants as exception
 use Rattle.crash_json.specs.declared.crashpad.CrashpadMember.{CrashpadMember}
 use Rattle.crash_json.specs.declared.crashpad.CrashpadMember.TheVariants as crashpad
 use Rattle.crash_json.specs.declared.crashpad.ModuleMember.{ModuleMember}
@@ -26,7 +28,7 @@ use Rattle.crash_json.specs.declared.report.ReportMember.{ReportMember}
 use Rattle.crash_json.specs.declared.report.ReportMember.TheVariants as report
 use Rattle.crash_json.specs.declared.threads.ThreadMember.{ThreadMember}
 use Rattle.crash_json.specs.declared.threads.ThreadMember.TheVariants as thread
-use Rattle.crash_json.specs.Cause.{address_json, crash_info_json, exceptions_json}
+use Rattle.crash_json.specs.Cause.{address_json, crash_info_json, exceptions_json, sender_json}
 use Rattle.crash_json.specs.Crashpad.{annotations_json, crashpad_json, crashpad_modules_json}
 use Rattle.crash_json.specs.Crashpad.{objects_json, texts_json}
 use Rattle.crash_json.specs.Frames.{frame_json, registers_json}
@@ -48,6 +50,12 @@ thread_member (thread.Range r) = or_null range_json r
 thread_member (thread.Short s) = or_null short_json s
 thread_member (thread.Frames e frames) = numbered_array_of (frame_json (map loaded_of e.modules.now)
     (option_map context_of (option_copied e.context))) frames.now
+
+-- a member of an exception
+abbrev pub exception_member : ExceptionMember → Json
+exception_member (exception.Scalar s) = scalar_json s
+exception_member (exception.Parameters parameters) = array_of hex_string parameters.now
+exception_member (exception.Sender s) = or_null sender_json s
 
 -- a member of macOS's crash information
 abbrev pub mac_member : MacMember → Json

@@ -7,14 +7,17 @@ ghost use Rattle.minidump.specs.Promise.{assertion_stream};
 ghost use Rattle.crash.specs.Cause.{cause_of, exception_of};
 ghost use Rattle.crash.specs.Crash.{crash_of};
 ghost use Rattle.json_tree.specs.Tree.{Puts};
-ghost use Rattle.crash_json.specs.Cause.{address_json, address_object, counting_in};
+ghost use Rattle.crash_json.specs.Cause.{access_name, address_json, address_object, counting_in};
 ghost use Rattle.crash_json.specs.Cause.{crash_info_json, crash_object, exception_json};
 ghost use Rattle.crash_json.specs.Cause.{exception_object, exceptions_json, expression_in};
-ghost use Rattle.crash_json.specs.Cause.{problem_name};
+ghost use Rattle.crash_json.specs.Cause.{problem_name, sender_json, unread_object};
 
-use crash::{AddressFacts, ContextProblem, Crash, CrashCause, CrashException};
+use crash::{Access, AddressFacts, ContextProblem, Crash, CrashCause, CrashException, Sender};
 use json::Writer;
-use json_tree::{ItemJson, Scalar, ValueJson, as_text, put_object, put_values};
+use json_tree::{
+    ItemJson, Scalar, ToJson, ValueJson, as_text, put_array, put_item_or_null, put_object,
+    put_object_of, put_values,
+};
 use minidump::{Error, MinidumpAssertion};
 use std::alloc::Global;
 
@@ -150,59 +153,155 @@ fn put_exception(
     ensures { Puts result out.old out.new (exception_json (map_ok exception_of exception.now)) }
 {
     match exception {
-        Ok(exception) => put_exception_members(
+        Ok(exception) => put_read(
             out,
             alloc,
-            Some(exception.thread as u64),
-            Some(exception.code as u64),
-            Some(exception.at),
-            exception.address,
-            as_text(&exception.reason),
+            exception,
+            access_name(exception.access),
             problem_name(exception.context_problem),
-            None,
         ),
-        Err(error) => put_exception_members(
-            out,
-            alloc,
-            None,
-            None,
-            None,
-            None,
-            None,
-            None,
-            Some(error.name()),
-        ),
+        Err(error) => put_unread(out, alloc, error.name()),
     }
 }
 
+#[rattlefmt::skip]
 #[tactic(auto, unfolding(crate::specs::Cause::exception_object))]
-fn put_exception_members<'t>(
+fn put_read<'l>(
     out: &mut Writer,
     alloc: Global,
-    thread: Option<u64>,
-    code: Option<u64>,
-    at: Option<u64>,
-    address: Option<u64>,
-    reason: Option<&'t str>,
-    problem: Option<&'t str>,
-    error: Option<&'t str>,
+    exception: &'l CrashException,
+    access: Option<&'l str>,
+    problem: Option<&'l str>,
 ) -> Result<(), Error>
-    ensures { Puts result out.old out.new (exception_object thread code at address
-        (option_copied reason.entry) (option_copied problem.entry) (option_copied error.entry)) }
+    ensures { Puts result out.old out.new (exception_object (exception_of exception.now)
+        (option_copied access.entry) (option_copied problem.entry)) }
+{
+    let parameters = exception.parameters.as_slice();
+    put_object_of(
+        out,
+        alloc,
+        &[
+            ("thread_id", ExceptionMember::Scalar(Scalar::Number(Some(exception.thread as u64)))),
+            ("code", ExceptionMember::Scalar(Scalar::Hex(Some(exception.code as u64)))),
+            ("flags", ExceptionMember::Scalar(Scalar::Hex(Some(exception.flags as u64)))),
+            ("exception_address", ExceptionMember::Scalar(Scalar::Hex(Some(exception.at)))),
+            ("nested", ExceptionMember::Scalar(Scalar::Hex(Some(exception.nested)))),
+            ("parameters", ExceptionMember::Parameters(parameters)),
+            ("access", ExceptionMember::Scalar(Scalar::Text(access))),
+            ("sender", ExceptionMember::Sender(exception.sender)),
+            ("address", ExceptionMember::Scalar(Scalar::Hex(exception.address))),
+            ("type", ExceptionMember::Scalar(Scalar::Optional(&exception.reason))),
+            ("context_problem", ExceptionMember::Scalar(Scalar::Text(problem))),
+            ("error", ExceptionMember::Scalar(Scalar::Null)),
+        ],
+    )
+}
+
+// The value of a member of an exception.
+#[derive(Clone, Copy)]
+pub(crate) enum ExceptionMember<'l> {
+    Scalar(Scalar<'l>),
+    Parameters(&'l [u64]),
+    Sender(Option<Sender>),
+}
+
+impl ToJson for ExceptionMember<'_> {
+    ghost use Rattle.crash_json.specs.Members.{exception_member};
+
+    ghost json = { exception_member };
+
+    fn put(&self, out: &mut Writer, alloc: Global) -> Result<(), Error> {
+        match self {
+            ExceptionMember::Scalar(scalar) => scalar.put(out, alloc),
+            ExceptionMember::Parameters(parameters) => put_array(out, alloc, parameters, &HexJson),
+            ExceptionMember::Sender(sender) => put_item_or_null(out, alloc, sender, &SenderJson),
+        }
+    }
+}
+
+// Gives a number its JSON value, in hexadecimal.
+#[derive(Clone, Copy)]
+struct HexJson;
+
+impl ItemJson<u64> for HexJson {
+    ghost use Rattle.json_tree.specs.Tree.{hex_string};
+
+    ghost json_of = { λ _ n. hex_string n };
+
+    fn put_item(&self, item: &u64, out: &mut Writer, alloc: Global) -> Result<(), Error> {
+        Scalar::Hex(Some(*item)).put(out, alloc)
+    }
+}
+
+// Gives the process that sent a signal its JSON value.
+#[derive(Clone, Copy)]
+struct SenderJson;
+
+impl ItemJson<Sender> for SenderJson {
+    ghost use Rattle.crash_json.specs.Cause.{sender_json};
+
+    ghost json_of = { λ _ s. sender_json s };
+
+    fn put_item(&self, item: &Sender, out: &mut Writer, alloc: Global) -> Result<(), Error> {
+        put_sender(out, alloc, *item)
+    }
+}
+
+#[tactic(auto, unfolding(crate::specs::Cause::sender_json))]
+fn put_sender(out: &mut Writer, alloc: Global, sender: Sender) -> Result<(), Error>
+    ensures { Puts result out.old out.new (sender_json sender) }
+{
+    let user = user_of(sender);
+    put_object(
+        out,
+        alloc,
+        &[
+            ("process_id", Scalar::Number(Some(sender.process as u64))),
+            ("user_id", Scalar::Number(user)),
+        ],
+    )
+}
+
+// Returns the user of the process that sent a signal.
+fn user_of(sender: Sender) -> Option<u64>
+    ensures { result ≡ sender.user }
+{
+    Some(sender.user? as u64)
+}
+
+#[tactic(auto, unfolding(crate::specs::Cause::unread_object))]
+fn put_unread(out: &mut Writer, alloc: Global, error: &str) -> Result<(), Error>
+    ensures { Puts result out.old out.new (unread_object error.now) }
 {
     put_object(
         out,
         alloc,
         &[
-            ("thread_id", Scalar::Number(thread)),
-            ("code", Scalar::Hex(code)),
-            ("exception_address", Scalar::Hex(at)),
-            ("address", Scalar::Hex(address)),
-            ("type", Scalar::Text(reason)),
-            ("context_problem", Scalar::Text(problem)),
-            ("error", Scalar::Text(error)),
+            ("thread_id", Scalar::Null),
+            ("code", Scalar::Null),
+            ("flags", Scalar::Null),
+            ("exception_address", Scalar::Null),
+            ("nested", Scalar::Null),
+            ("parameters", Scalar::Null),
+            ("access", Scalar::Null),
+            ("sender", Scalar::Null),
+            ("address", Scalar::Null),
+            ("type", Scalar::Null),
+            ("context_problem", Scalar::Null),
+            ("error", Scalar::Text(Some(error))),
         ],
     )
+}
+
+// Returns the word for how memory was accessed.
+fn access_name(access: Option<Access>) -> Option<&'static str>
+    ensures { option_copied result ≡ option_map access_name access }
+{
+    match access? {
+        Access::Read => Some("read"),
+        Access::Write => Some("write"),
+        Access::Execute => Some("execute"),
+    }
 }
 
 /// Returns the words for why a context isn't used.

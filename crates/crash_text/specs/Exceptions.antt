@@ -13,6 +13,7 @@ use Rattle.crash.specs.Crash.{CrashValue}
 use Rattle.crash.specs.Modules.{LoadedValue}
 use Rattle.crash_text.specs.Lines.{if_some}
 use Rattle.crash_text.specs.Places.{place_text}
+use Rattle.crash_text.specs.Records.{record_text}
 use Rattle.crash_text.specs.Registers.{registers_lines}
 use Rattle.crash_text.specs.Words.{or_empty, unless_empty}
 
@@ -35,24 +36,25 @@ address_lines modules a = address_row a.address (place_text modules [] a.«modul
 unfoldable pub reason_row : List ℕ → List ℕ
 reason_row reason = concat (codes "reason  " ∷ reason ∷ [])
 
--- the line of the code of an exception, and of where it happened
-unfoldable pub code_row : ℕ → ℕ → List ℕ
-code_row code at = concat (codes "code    " ∷ hex code ∷ codes " at " ∷ hex at ∷ [])
+-- the line of the code of an exception, of where it happened, and of what else its record says
+unfoldable pub code_row : ℕ → ℕ → List ℕ → List ℕ
+code_row code at said = concat (codes "code    " ∷ hex code ∷ codes " at " ∷ hex at ∷ said ∷ [])
 
 -- the crash, by the exception that counts
 abbrev pub counted_lines : CrashValue → ExceptionValue → List (List ℕ)
 counted_lines c e = crashed_row e.thread
     ∷ (if_some (address_lines c.modules.loaded) c.cause.address
     ++ (if_some (λ reason. reason_row reason ∷ []) e.reason
-    ++ (code_row e.code e.at ∷ registers_lines c e)))
+    ++ (code_row e.code e.at (record_text e) ∷ registers_lines c e)))
 
 -- ---- the exceptions
 
--- the line of an exception with its number: its thread, its code, where it happened, and the reason
-unfoldable pub exception_row : ℕ → ℕ → ℕ → ℕ → List ℕ → List ℕ
-exception_row number thread code at reason = concat (codes "    #" ∷ decimal number
+-- the line of an exception with its number: its thread, its code, where it happened, the reason, and
+-- what else its record says
+unfoldable pub exception_row : ℕ → ℕ → ℕ → ℕ → List ℕ → List ℕ → List ℕ
+exception_row number thread code at reason said = concat (codes "    #" ∷ decimal number
     ∷ codes " thread " ∷ decimal thread ∷ codes " (" ∷ hex thread ∷ codes "), code " ∷ hex code
-    ∷ codes " at " ∷ hex at ∷ unless_empty (codes ", ") reason ∷ reason ∷ [])
+    ∷ codes " at " ∷ hex at ∷ unless_empty (codes ", ") reason ∷ reason ∷ said ∷ [])
 
 -- the line of one that can't be read
 unfoldable pub unread_row : ℕ → List ℕ → List ℕ
@@ -61,7 +63,8 @@ unread_row number error = concat (codes "    #" ∷ decimal number ∷ codes " c
 
 -- the line of an exception, or of why it can't be read
 abbrev pub exception_line : ℕ → Result ExceptionValue Error → List ℕ
-exception_line number (Ok e) = exception_row number e.thread e.code e.at (or_empty e.reason)
+exception_line number (Ok e) =
+    exception_row number e.thread e.code e.at (or_empty e.reason) (record_text e)
 exception_line number (Err e) = unread_row number (name_of_error e)
 
 -- each of them

@@ -4,6 +4,7 @@ pub mod Lines
 pub mod Words
 pub mod System
 pub mod Places
+pub mod Records
 pub mod Exceptions
 pub mod Registers
 pub mod Damage

@@ -38,7 +38,11 @@ fn push_item(out: &mut String, damage: &Damage) -> Result<(), AllocError>
             let stream = stream_text(*out.allocator(), number)?;
             push_stream(out, stream.as_str(), error.name())
         }
-        Damage::Exception { error } => push_stream(out, "an exception before the last", error.name()),
+        Damage::Exception { error } => push_stream(
+            out,
+            "an exception before the last",
+            error.name(),
+        ),
         Damage::ExceptionContext { thread } => {
             push_outside(out, "the context of the exception on thread", thread)
         }

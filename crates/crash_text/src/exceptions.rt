@@ -10,9 +10,11 @@ ghost use Rattle.crash_text.specs.Exceptions.{crash_lines, crashed_row, each_exc
 ghost use Rattle.crash_text.specs.Exceptions.{exception_line, exception_row, none_lines, reason_row};
 ghost use Rattle.crash_text.specs.Exceptions.{several_lines, several_row, unread_row};
 ghost use Rattle.crash_text.specs.Lines.{Adds, if_some};
+ghost use Rattle.crash_text.specs.Records.{record_text};
 
 use crate::lines::push_line;
 use crate::places::place_text;
+use crate::records::record_text;
 use crate::registers::push_registers;
 use crate::words::{or_empty, push_words, unless_empty};
 use crash::{AddressFacts, Crash, CrashCause, CrashException, CrashModule};
@@ -81,7 +83,7 @@ fn push_counted_lines(
     push_crashed(out, exception.thread)?;
     push_address(out, crash.modules.loaded.as_slice(), crash.cause.address)?;
     push_reason(out, &exception.reason)?;
-    push_code(out, exception.code, exception.at)?;
+    push_code(out, exception)?;
     push_registers(out, crash, exception)
 }
 
@@ -132,13 +134,28 @@ fn push_reason(out: &mut String, reason: &Option<String>) -> Result<(), AllocErr
     }
 }
 
+// Appends the code of an exception, where it happened, and what else its record says.
+fn push_code(out: &mut String, exception: &CrashException) -> Result<(), AllocError>
+    ensures { Adds out.old out.new (code_row exception.now.code exception.now.at
+        (record_text (exception_of exception.now)) ∷ []) result }
+{
+    let said = record_text(*out.allocator(), exception)?;
+    push_code_row(out, exception.code, exception.at, said.as_str())
+}
+
 #[tactic(auto, unfolding(crate::specs::Exceptions::code_row))]
-fn push_code(out: &mut String, code: u32, at: u64) -> Result<(), AllocError>
-    ensures { Adds out.old out.new (code_row code at ∷ []) result }
+fn push_code_row(out: &mut String, code: u32, at: u64, said: &str) -> Result<(), AllocError>
+    ensures { Adds out.old out.new (code_row code at said.now ∷ []) result }
 {
     push_line(
         out,
-        &[Words("code    "), Hex(code as u64), Words(" at "), Hex(at)],
+        &[
+            Words("code    "),
+            Hex(code as u64),
+            Words(" at "),
+            Hex(at),
+            Words(said),
+        ],
     )
 }
 
@@ -198,9 +215,24 @@ fn push_exception(
         (exception_line number (map_ok exception_of exception.now) ∷ []) result }
 {
     match exception {
-        Ok(exception) => push_exception_row(out, number, exception),
+        Ok(exception) => push_read(out, number, exception),
         Err(error) => push_unread_row(out, number, error.name()),
     }
+}
+
+// Appends the line of an exception.
+fn push_read(out: &mut String, number: usize, exception: &CrashException) -> Result<(), AllocError>
+    ensures { Adds out.old out.new
+        (exception_line number (Ok (exception_of exception.now)) ∷ []) result }
+{
+    let said = record_text(*out.allocator(), exception)?;
+    push_exception_row(
+        out,
+        number,
+        exception,
+        or_empty(&exception.reason),
+        said.as_str(),
+    )
 }
 
 #[rattlefmt::skip]
@@ -209,17 +241,18 @@ fn push_exception_row(
     out: &mut String,
     number: usize,
     exception: &CrashException,
+    reason: &str,
+    said: &str,
 ) -> Result<(), AllocError>
-    ensures { Adds out.old out.new
-        (exception_line number (Ok (exception_of exception.now)) ∷ []) result }
+    ensures { Adds out.old out.new (exception_row number exception.now.thread exception.now.code
+        exception.now.at reason.now said.now ∷ []) result }
 {
-    let reason = or_empty(&exception.reason);
     push_line(
         out,
         &[Words("    #"), Decimal(number as u64), Words(" thread "),
             Decimal(exception.thread as u64), Words(" ("), Hex(exception.thread as u64),
             Words("), code "), Hex(exception.code as u64), Words(" at "), Hex(exception.at),
-            Words(unless_empty(", ", reason)), Words(reason)],
+            Words(unless_empty(", ", reason)), Words(reason), Words(said)],
     )
 }
 

@@ -57,6 +57,7 @@ mod lists;
 mod messages;
 mod modules;
 mod places;
+mod records;
 mod registers;
 mod system;
 mod text;

@@ -84,6 +84,18 @@ fn push_exception(exception: &CrashException, out: &mut Vec<u8>) -> io::Result<(
     writeln!(
         out,
         "exception on {thread:#x} code {code:#x} at {at:#x} address {address:?} {problem:?} {reason}"
+    )?;
+    push_record(exception, out)
+}
+
+// Appends a line for what else the record of an exception says.
+fn push_record(exception: &CrashException, out: &mut Vec<u8>) -> io::Result<()> {
+    let (flags, nested) = (exception.flags, exception.nested);
+    let (access, sender) = (exception.access, exception.sender);
+    let parameters = exception.parameters.as_slice();
+    writeln!(
+        out,
+        "record {flags:#x} {nested:#x} {parameters:?} {access:?} {sender:?}"
     )
 }
 

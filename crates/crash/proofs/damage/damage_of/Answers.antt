@@ -5,7 +5,7 @@ use Rattle.crash.proofs.Found.{unchanged}
 use Rattle.crash.proofs.damage.damage_of.Goals as goal
 
 before : {X Y : Type 0} (f : X → Y) (xs : List X) → map f (take (length xs - 1) xs) ≡ take (length (map f xs) - 1) (map f xs)
-before f xs = sym (take-map f (length xs - 1) xs) ∙ ap (λ n. take (n - 1) (map f xs)) (sym (length-map f xs))
+before f xs = sym (take-map f (length xs - 1) xs) ∙ ap (λ n. take (n - 1) (map f xs)) (sym (length-map xs f))
 
 pub returns : goal.returns
 returns c =

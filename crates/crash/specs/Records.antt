@@ -1,0 +1,90 @@
+-- What the record of an exception says by its system: the parameters, how memory was accessed, and
+-- who sent a signal.
+use Rattle.std.specs.Prelude.{ℕ, ◌%◌, ◌/◌, ◌^◌, ◌==◌, ◌||◌, ◌&&◌, nat_le, nat_lt, Bool, List, min}
+use Rattle.std.specs.Prelude.{slice_index, take, Option, Some, None, if◌then◌else◌}
+use Rattle.std.specs.Option.{option_and_then}
+use Rattle.minidump.specs.declared.format.MINIDUMP_EXCEPTION.{MINIDUMP_EXCEPTION}
+use Rattle.minidump.specs.declared.system_info.Cpu.{Cpu}
+use Rattle.minidump.specs.declared.system_info.Os.{Os}
+use Rattle.minidump.specs.declared.system_info.Os.TheVariants.{Android, Linux, Windows}
+use Rattle.minidump.specs.declared.system_info.PointerWidth.{PointerWidth}
+use Rattle.minidump.specs.declared.system_info.PointerWidth.TheVariants.{Bits32}
+use Rattle.minidump.specs.Below.System.Cpu.{width_of}
+use Rattle.minidump.specs.Below.System.System.{System}
+use Rattle.crash.specs.declared.records.Access.{Access}
+use Rattle.crash.specs.declared.records.Access.TheVariants.{Execute, Read, Write}
+use Rattle.crash.specs.declared.records.Sender.{Sender}
+
+-- the parameters: NumberParameters of them, at most the 15 that a record has
+abbrev pub parameters_in : MINIDUMP_EXCEPTION → List ℕ
+parameters_in r = take (min r.number_parameters 15) r.exception_information
+
+-- ---- accesses
+
+-- how memory was accessed, by the first parameter of winnt.h's EXCEPTION_ACCESS_VIOLATION and
+-- EXCEPTION_IN_PAGE_ERROR
+abbrev pub access_of_number : ℕ → Option Access
+access_of_number n = if n == 0 then Some Read
+    else (if n == 1 then Some Write else (if n == 8 then Some Execute else None))
+
+-- the exceptions that have this parameter
+abbrev has_access : MINIDUMP_EXCEPTION → Bool
+has_access r = (r.exception_code == 0xc0000005 || r.exception_code == 0xc0000006)
+    && nat_le 1 r.number_parameters
+
+-- how memory was accessed, by a record of an operating system
+abbrev pub access_on : Os → MINIDUMP_EXCEPTION → Option Access
+access_on Windows r = if has_access r then access_of_number (slice_index r.exception_information 0) else None
+access_on _ r = None
+
+-- the same where the system is known
+abbrev pub access_in : Option System → MINIDUMP_EXCEPTION → Option Access
+access_in system r = option_and_then (λ s. access_on s.os r) system
+
+-- ---- signals
+
+-- the process that sent a signal and its user, by the union of Linux's siginfo, whose bytes are the
+-- address of a fault else: `si_pid`, and after it `si_uid`, which an address of 32 bits lacks
+abbrev pub sender_at : PointerWidth → ℕ → Sender
+sender_at Bits32 address = record { process = address % 2 ^ 32; user = None }
+sender_at _ address = record { process = address % 2 ^ 32; user = Some (address / 2 ^ 32) }
+
+-- the same by the first two parameters, where Crashpad has them for a signal that is no fault
+abbrev pub sender_of_parameters : List ℕ → Sender
+sender_of_parameters parameters = record {
+  process = slice_index parameters 0 % 2 ^ 32;
+  user = Some (slice_index parameters 1 % 2 ^ 32);
+}
+
+-- the same by the parameters, where there is no address, else by the address
+abbrev pub sender_by : PointerWidth → MINIDUMP_EXCEPTION → Sender
+sender_by width r = if r.exception_address == 0 && nat_le 2 r.number_parameters
+    then sender_of_parameters r.exception_information else sender_at width r.exception_address
+
+-- Linux numbers its signals from 1 to 64, and its processes from 1 to 2^22 - 1
+abbrev pub is_signal : ℕ → Bool
+is_signal n = nat_le 1 n && nat_le n 64
+
+abbrev pub is_process : ℕ → Bool
+is_process n = nat_le 1 n && nat_lt n (2 ^ 22)
+
+-- a process sent a signal: its `si_code` is SI_QUEUE, -1, or SI_TKILL, -6; or SI_USER, 0, as of a
+-- writer that has no `si_code`, and the sender can be a process
+abbrev pub is_sent : ℕ → Sender → Bool
+is_sent si_code s = si_code == 0xffff_ffff || si_code == 0xffff_fffa
+    || (si_code == 0 && is_process s.process)
+
+-- the sender, where there is one. The record's code is the signal, its flags are the `si_code`
+abbrev pub sender_if_sent : MINIDUMP_EXCEPTION → Sender → Option Sender
+sender_if_sent r s =
+    if is_signal r.exception_code && is_sent r.exception_flags s then Some s else None
+
+-- the process that sent the signal of a record on an operating system
+abbrev pub sender_on : Os → Cpu → MINIDUMP_EXCEPTION → Option Sender
+sender_on Linux cpu r = sender_if_sent r (sender_by (width_of cpu) r)
+sender_on Android cpu r = sender_if_sent r (sender_by (width_of cpu) r)
+sender_on _ cpu r = None
+
+-- the same where the system is known
+abbrev pub sender_in : Option System → MINIDUMP_EXCEPTION → Option Sender
+sender_in system r = option_and_then (λ s. sender_on s.os s.cpu r) system

@@ -1,0 +1,190 @@
+//! What the record of an exception says by its system.
+ghost use Rattle.std.specs.Prelude.{◌≡◌, ◌%◌, ◌/◌, ◌^◌, IfOk};
+ghost use Rattle.std.specs.Option.{option_copied, option_map};
+ghost use Rattle.minidump.specs.Promise.{system_info_stream};
+ghost use Rattle.crash.specs.Records.{access_in, access_of_number, access_on, is_process};
+ghost use Rattle.crash.specs.Records.{is_sent, is_signal};
+ghost use Rattle.crash.specs.Records.{parameters_in, sender_at, sender_by, sender_if_sent, sender_in};
+ghost use Rattle.crash.specs.Records.{sender_on};
+
+use minidump::MinidumpSystemInfo;
+use minidump::format::MINIDUMP_EXCEPTION;
+use minidump::system_info::{Cpu, Os, PointerWidth};
+use std::alloc::{AllocError, Global};
+
+const EXCEPTION_ACCESS_VIOLATION: u32 = 0xc000_0005;
+
+const EXCEPTION_IN_PAGE_ERROR: u32 = 0xc000_0006;
+
+const SI_USER: u32 = 0;
+
+const SI_QUEUE: u32 = 0xffff_ffff;
+
+const SI_TKILL: u32 = 0xffff_fffa;
+
+/// How memory was accessed.
+#[derive(Clone, Copy, Debug, PartialEq, Eq)]
+pub enum Access {
+    /// It was read: 0 in the record.
+    Read,
+    /// It was written: 1.
+    Write,
+    /// It was run as code: 8.
+    Execute,
+}
+
+/// The process that sent a signal.
+#[derive(Clone, Copy, Debug, PartialEq, Eq)]
+pub struct Sender {
+    /// The id of the process, `si_pid`. It is 0 for one outside of the receiver's namespace.
+    pub process: u32,
+    /// The id of its user, `si_uid`, or `None` where the record has no room for it: in an address of
+    /// 32 bits.
+    pub user: Option<u32>,
+}
+
+// Returns the parameters of a record.
+pub(crate) fn parameters_of(
+    alloc: Global,
+    raw: &MINIDUMP_EXCEPTION,
+) -> Result<Vec<u64>, AllocError>
+    ensures { IfOk result (λ parameters. parameters.items ≡ parameters_in raw.now) }
+{
+    let count = raw.number_parameters.min(15) as usize;
+    let mut parameters = Vec::new(alloc);
+    parameters.extend_from_slice(&raw.exception_information[..count])?;
+    Ok(parameters)
+}
+
+// Returns how memory was accessed, if the record says it.
+pub(crate) fn access_of(
+    system: Option<&MinidumpSystemInfo>,
+    raw: &MINIDUMP_EXCEPTION,
+) -> Option<Access>
+    ensures { result ≡ access_in
+        (option_map system_info_stream.value (option_copied system.entry)) raw.now }
+{
+    access_on(system?.os, raw)
+}
+
+// Returns the same on an operating system.
+fn access_on(os: Os, raw: &MINIDUMP_EXCEPTION) -> Option<Access>
+    ensures { result ≡ access_on os raw.now }
+{
+    let has_access = raw.exception_code == EXCEPTION_ACCESS_VIOLATION
+        || raw.exception_code == EXCEPTION_IN_PAGE_ERROR;
+    match os {
+        Os::Windows if has_access && raw.number_parameters >= 1 => {
+            access_of_number(raw.exception_information[0])
+        }
+        _ => None,
+    }
+}
+
+// Returns how memory was accessed by its number.
+fn access_of_number(number: u64) -> Option<Access>
+    ensures { result ≡ access_of_number number }
+{
+    match number {
+        0 => Some(Access::Read),
+        1 => Some(Access::Write),
+        8 => Some(Access::Execute),
+        _ => None,
+    }
+}
+
+// Returns the process that sent the signal, if one did.
+pub(crate) fn sender_of(
+    system: Option<&MinidumpSystemInfo>,
+    raw: &MINIDUMP_EXCEPTION,
+) -> Option<Sender>
+    ensures { result ≡ sender_in
+        (option_map system_info_stream.value (option_copied system.entry)) raw.now }
+{
+    let system = system?;
+    sender_on(system.os, system.cpu, raw)
+}
+
+// Returns the same on an operating system.
+fn sender_on(os: Os, cpu: Cpu, raw: &MINIDUMP_EXCEPTION) -> Option<Sender>
+    ensures { result ≡ sender_on os cpu raw.now }
+{
+    match os {
+        Os::Linux | Os::Android => sender_if_sent(raw, sender_by(cpu.pointer_width(), raw)),
+        _ => None,
+    }
+}
+
+// Returns a sender if the signal of a record was sent.
+fn sender_if_sent(raw: &MINIDUMP_EXCEPTION, sender: Sender) -> Option<Sender>
+    ensures { result ≡ sender_if_sent raw.now sender }
+{
+    if is_signal(raw.exception_code) && is_sent(raw.exception_flags, sender) {
+        Some(sender)
+    } else {
+        None
+    }
+}
+
+// Tells whether a number is that of a signal.
+fn is_signal(number: u32) -> bool
+    ensures { result ≡ is_signal number }
+{
+    number >= 1 && number <= 64
+}
+
+// Tells whether a process sent a signal, by its code and its sender.
+fn is_sent(si_code: u32, sender: Sender) -> bool
+    ensures { result ≡ is_sent si_code sender }
+{
+    si_code == SI_QUEUE
+        || si_code == SI_TKILL
+        || (si_code == SI_USER && is_process(sender.process))
+}
+
+// Tells whether a number can be that of a process.
+fn is_process(number: u32) -> bool
+    ensures { result ≡ is_process number }
+{
+    number >= 1 && number < 0x40_0000
+}
+
+// Returns the sender of a signal, if it was sent.
+fn sender_by(width: PointerWidth, raw: &MINIDUMP_EXCEPTION) -> Sender
+    ensures { result ≡ sender_by width raw.now }
+{
+    if raw.exception_address == 0 && raw.number_parameters >= 2 {
+        Sender {
+            process: low(raw.exception_information[0]),
+            user: Some(low(raw.exception_information[1])),
+        }
+    } else {
+        sender_at(width, raw.exception_address)
+    }
+}
+
+// Returns the same by the address.
+fn sender_at(width: PointerWidth, address: u64) -> Sender
+    ensures { result ≡ sender_at width address }
+{
+    let process = low(address);
+    let user = match width {
+        PointerWidth::Bits32 => None,
+        _ => Some(high(address)),
+    };
+    Sender { process, user }
+}
+
+// Returns the low half of a number.
+fn low(number: u64) -> u32
+    ensures { result ≡ number % 2 ^ 32 }
+{
+    (number % 0x1_0000_0000) as u32
+}
+
+// Returns the high half of a number.
+fn high(number: u64) -> u32
+    ensures { result ≡ number / 2 ^ 32 }
+{
+    (number / 0x1_0000_0000) as u32
+}

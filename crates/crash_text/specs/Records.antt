@@ -1,0 +1,48 @@
+-- The words for what the record of an exception says beside its code and where it happened.
+use Rattle.std.specs.Prelude.{ℕ, ◌++◌, ◌==◌, List, [], ◌∷◌, Option, Some, None, codes}
+use Rattle.std.specs.Prelude.{if◌then◌else◌}
+use Rattle.std.specs.Fmt.{decimal}
+use Rattle.std.specs.List.{concat, flat_map}
+use Rattle.minidump.specs.Below.Bytes.Piece.{hex}
+use Rattle.crash.specs.declared.records.Access.{Access}
+use Rattle.crash.specs.declared.records.Access.TheVariants.{Execute, Read, Write}
+use Rattle.crash.specs.declared.records.Sender.{Sender}
+use Rattle.crash.specs.Cause.{ExceptionValue}
+
+-- a number after these words, and nothing for 0
+abbrev pub unless_zero : List ℕ → ℕ → List ℕ
+unless_zero words n = if n == 0 then [] else concat (words ∷ hex n ∷ [])
+
+-- how memory was accessed
+abbrev pub access_words : Option Access → List ℕ
+access_words (Some Read) = codes ", access read"
+access_words (Some Write) = codes ", access write"
+access_words (Some Execute) = codes ", access execute"
+access_words None = []
+
+-- the user of the process that sent a signal
+abbrev pub user_words : Option ℕ → List ℕ
+user_words (Some user) = concat (codes ", user " ∷ decimal user ∷ [])
+user_words None = []
+
+-- the process that sent a signal
+abbrev pub sender_words : Option Sender → List ℕ
+sender_words (Some s) = concat (codes ", sent by process " ∷ decimal s.process ∷ codes " ("
+    ∷ hex s.process ∷ codes ")" ∷ []) ++ user_words s.user
+sender_words None = []
+
+-- a parameter after another one
+abbrev pub parameter_words : ℕ → List ℕ
+parameter_words parameter = concat (codes ", " ∷ hex parameter ∷ [])
+
+-- the parameters, where there are some
+abbrev pub parameters_words : List ℕ → List ℕ
+parameters_words [] = []
+parameters_words (first ∷ others) = concat (codes ", parameters " ∷ hex first ∷ [])
+    ++ flat_map parameter_words others
+
+-- all of it
+abbrev pub record_text : ExceptionValue → List ℕ
+record_text e = unless_zero (codes ", flags ") e.flags
+    ++ (unless_zero (codes ", nested record at ") e.nested
+    ++ (access_words e.access ++ (sender_words e.sender ++ parameters_words e.parameters)))

@@ -1,0 +1,103 @@
+//! The words for what the record of an exception says.
+ghost use Rattle.std.specs.Prelude.{◌≡◌, ◌++◌, IfOk, OnOk, string_bytes};
+ghost use Rattle.std.specs.List.{flat_map};
+ghost use Rattle.crash.specs.Cause.{exception_of};
+ghost use Rattle.crash_text.specs.Records.{access_words, parameter_words, parameters_words};
+ghost use Rattle.crash_text.specs.Records.{record_text, sender_words, unless_zero, user_words};
+
+use crash::{Access, CrashException, Sender};
+use minidump::text::Piece::{Decimal, Hex, Words};
+use minidump::text::push_pieces;
+use std::alloc::{AllocError, Global};
+
+// Makes the words for what the record of an exception says beside its code and where it happened.
+pub(crate) fn record_text(alloc: Global, exception: &CrashException) -> Result<String, AllocError>
+    ensures { IfOk result
+        (λ words. string_bytes words ≡ record_text (exception_of exception.now)) }
+{
+    let mut words = String::new(alloc);
+    push_unless_zero(&mut words, ", flags ", exception.flags as u64)?;
+    push_unless_zero(&mut words, ", nested record at ", exception.nested)?;
+    words.push_str(access_words(exception.access))?;
+    push_sender(&mut words, exception.sender)?;
+    push_parameters(&mut words, exception.parameters.as_slice())?;
+    Ok(words)
+}
+
+// Appends a number after its words, unless it is 0.
+fn push_unless_zero(words: &mut String, name: &str, number: u64) -> Result<(), AllocError>
+    ensures { OnOk result
+        (string_bytes words.new ≡ string_bytes words.old ++ unless_zero name.now number) }
+{
+    if number == 0 {
+        Ok(())
+    } else {
+        push_pieces(words, &[Words(name), Hex(number)])
+    }
+}
+
+// Returns the words for how memory was accessed.
+fn access_words(access: Option<Access>) -> &'static str
+    ensures { result.now ≡ access_words access }
+{
+    match access {
+        Some(Access::Read) => ", access read",
+        Some(Access::Write) => ", access write",
+        Some(Access::Execute) => ", access execute",
+        None => "",
+    }
+}
+
+// Appends the process that sent a signal, if one did.
+#[rattlefmt::skip]
+fn push_sender(words: &mut String, sender: Option<Sender>) -> Result<(), AllocError>
+    ensures { OnOk result
+        (string_bytes words.new ≡ string_bytes words.old ++ sender_words sender) }
+{
+    match sender {
+        Some(sender) => {
+            let process = sender.process as u64;
+            push_pieces(
+                words,
+                &[Words(", sent by process "), Decimal(process), Words(" ("), Hex(process), Words(")")],
+            )?;
+            push_user(words, sender.user)
+        }
+        None => Ok(()),
+    }
+}
+
+// Appends the user of that process, if it is known.
+fn push_user(words: &mut String, user: Option<u32>) -> Result<(), AllocError>
+    ensures { OnOk result (string_bytes words.new ≡ string_bytes words.old ++ user_words user) }
+{
+    match user {
+        Some(user) => push_pieces(words, &[Words(", user "), Decimal(user as u64)]),
+        None => Ok(()),
+    }
+}
+
+// Appends the parameters, if there are any.
+fn push_parameters(words: &mut String, parameters: &[u64]) -> Result<(), AllocError>
+    ensures { OnOk result
+        (string_bytes words.new ≡ string_bytes words.old ++ parameters_words parameters.now) }
+{
+    match parameters {
+        [first, others @ ..] => {
+            push_pieces(words, &[Words(", parameters "), Hex(*first)])?;
+            push_others(words, others)
+        }
+        [] => Ok(()),
+    }
+}
+
+// Appends the parameters after the first.
+fn push_others(words: &mut String, others: &[u64]) -> Result<(), AllocError>
+    ensures { OnOk result
+        (string_bytes words.new ≡ string_bytes words.old ++ flat_map parameter_words others.now) }
+{
+    for other in others {
+        push_pieces(words, &[Words(", "), Hex(*other)])?;
+    }
+    Ok(())
+}
