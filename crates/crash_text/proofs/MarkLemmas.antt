@@ -1,10 +1,13 @@
 -- The modules that are listed, by marks and by what the marks say.
-use Rattle.std.proofs.Common.{◌≡◌, ◌∙◌, ◌+◌, ◌<◌, ◌++◌, ◌∷◌, ◌||◌, [], ℕ, Bool, List, Option, ap, arith, length, refl, if◌then◌else◌}
+use Rattle.std.proofs.Common.{◌≡◌, ◌∙◌, ◌+◌, ◌<◌, ◌++◌, ◌∷◌, ◌||◌, [], ℕ, Bool, List, Option, ap, arith, length, map, refl, sym, if◌then◌else◌}
 use Rattle.std.specs.List.{enumerate_from, flat_map}
+use Rattle.std.proofs.lemmas.List.{length-map}
+use Rattle.crash.specs.declared.modules.CrashModule.{CrashModule}
 use Rattle.crash.specs.declared.cause.AddressFacts.{AddressFacts}
 use Rattle.crash.specs.declared.frames.CrashFrame.{CrashFrame}
-use Rattle.crash.specs.Modules.{LoadedValue}
+use Rattle.crash.specs.Modules.{LoadedValue, loaded_of}
 use Rattle.crash_text.specs.declared.limits.TextLimits.{TextLimits}
+use Rattle.crash_text.specs.Lines.{line_of}
 use Rattle.crash_text.specs.Modules.{HasMarks, address_place, each_module, is_in, is_marked, is_named, listed_lines, module_line}
 
 same_listed : (limits : TextLimits) (f g : ℕ → Bool) (n : ℕ) (ms : List LoadedValue) → ((i : ℕ) → i < n + length ms → f i ≡ g i)
@@ -20,3 +23,12 @@ pub marked_listed : (limits : TextLimits) (address : Option AddressFacts) (marks
     → HasMarks marks (length ms) frames → each_module limits (is_marked address marks) ms ≡ each_module limits (is_named address frames) ms
 marked_listed limits address marks frames ms h =
     same_listed limits (is_marked address marks) (is_named address frames) 0 ms (λ i within. ap (λ b. is_in i (address_place address) || b) (h.at i (omega (arith, within))))
+
+-- the lines by marks are those by what the marks say
+pub marked_lines : (limits : TextLimits) (address : Option AddressFacts) (marks : List Bool) (frames : List CrashFrame) (modules : List CrashModule) (old new : List ℕ)
+    → HasMarks marks (length modules) frames
+    → new ≡ old ++ flat_map line_of (each_module limits (is_marked address marks) (map loaded_of modules))
+    → new ≡ old ++ flat_map line_of (each_module limits (is_named address frames) (map loaded_of modules))
+marked_lines limits address marks frames modules old new h added =
+    added ∙ ap (λ lines. old ++ flat_map line_of lines)
+    (marked_listed limits address marks frames (map loaded_of modules) (record { size = h.size ∙ sym (length-map modules loaded_of); at = λ i within. h.at i (rw sym (length-map modules loaded_of) within) }))

@@ -5,7 +5,7 @@ ghost use Rattle.crash.specs.Crash.{crash_of};
 ghost use Rattle.crash.specs.Modules.{loaded_of};
 ghost use Rattle.crash_text.specs.Lines.{Adds};
 ghost use Rattle.crash_text.specs.Modules.{HasMarks, address_place, count_row, each_module, is_in};
-ghost use Rattle.crash_text.specs.Modules.{is_marked, key_text, module_line, module_row};
+ghost use Rattle.crash_text.specs.Modules.{is_marked, is_named, key_text, module_line, module_row};
 ghost use Rattle.crash_text.specs.Modules.{modules_lines};
 
 use crate::limits::TextLimits;
@@ -41,9 +41,24 @@ fn push_list(out: &mut String, crash: &Crash<'_>, limits: &TextLimits) -> Result
     let threads = crash.threads.threads.as_slice();
     let frames = frames_in(alloc, limits, crash.threads.crashing, threads)?;
     let modules = crash.modules.loaded.as_slice();
-    let marks = marks_of(alloc, modules.len(), frames.as_slice())?;
     push_count(out, modules.len())?;
-    push_each(out, limits, crash.cause.address, marks.as_slice(), modules)
+    push_named(out, limits, crash.cause.address, frames.as_slice(), modules)
+}
+
+// Appends the lines of the modules that are listed, by the address of the crash and by frames.
+#[tactic(auto, using(crate::proofs::MarkLemmas::marked_lines))]
+fn push_named(
+    out: &mut String,
+    limits: &TextLimits,
+    address: Option<AddressFacts>,
+    frames: &[CrashFrame],
+    modules: &[CrashModule],
+) -> Result<(), AllocError>
+    ensures { Adds out.old out.new (each_module limits.now (is_named address frames.now)
+        (map loaded_of modules.now)) result }
+{
+    let marks = marks_of(*out.allocator(), modules.len(), frames)?;
+    push_each(out, limits, address, marks.as_slice(), modules)
 }
 
 // Marks the modules that frames are in, by their indices.
@@ -68,7 +83,7 @@ fn push_count(out: &mut String, count: usize) -> Result<(), AllocError>
     push_line(out, &[Words("modules "), Decimal(count as u64)])
 }
 
-// Appends the lines of the modules that are listed.
+// Appends the lines of the modules that are listed, by the address of the crash and by marks.
 fn push_each(
     out: &mut String,
     limits: &TextLimits,
