@@ -208,12 +208,12 @@ sender_object_depth : (process : ℕ) (user : Option ℕ) → depth (sender_obje
 unfolding sender_object
 sender_object_depth process user = omega (arith, flat_count user)
 
-exception_object_depth : (e : ExceptionValue) (access problem : Option (List ℕ)) → depth (exception_object e access problem) ≤ 2
+exception_object_depth : (e : ExceptionValue) (parameters : List ℕ) (access problem : Option (List ℕ)) → depth (exception_object e parameters access problem) ≤ 2
 unfolding exception_object
-exception_object_depth e access problem =
+exception_object_depth e parameters access problem =
     omega (
       arith,
-      array_within hex_string 0 e.parameters (λ n. omega arith),
+      array_within hex_string 0 parameters (λ n. omega arith),
       flat_text access,
       or_null_within sender_json 1 e.sender (λ s. sender_object_depth _ _),
       flat_hex e.address,
@@ -226,7 +226,7 @@ unfolding unread_object
 unread_object_depth error = omega arith
 
 exception_depth : (e : Result ExceptionValue Error) → depth (exception_json e) ≤ 2
-exception_depth (Ok e) = exception_object_depth e _ _
+exception_depth (Ok e) = exception_object_depth e _ _ _
 exception_depth (Err e) = omega (arith, unread_object_depth (name_of_error e))
 
 exceptions_depth : (es : List (Result ExceptionValue Error)) → depth (exceptions_json es) ≤ 3

@@ -67,15 +67,16 @@ sender_object process user = object_of (
 abbrev pub sender_json : Sender → Json
 sender_json s = sender_object s.process s.user
 
--- an exception by the words for how memory was accessed, and for why its context isn't used
-unfoldable pub exception_object : ExceptionValue → Option (List ℕ) → Option (List ℕ) → Json
-exception_object e access problem = object_of (
+-- an exception by its parameters, and by the words for how memory was accessed and for why its
+-- context isn't used
+unfoldable pub exception_object : ExceptionValue → List ℕ → Option (List ℕ) → Option (List ℕ) → Json
+exception_object e parameters access problem = object_of (
     (codes "thread_id", count e.thread)
     ∷ (codes "code", hex_string e.code)
     ∷ (codes "flags", hex_string e.flags)
     ∷ (codes "exception_address", hex_string e.at)
     ∷ (codes "nested", hex_string e.nested)
-    ∷ (codes "parameters", array_of hex_string e.parameters)
+    ∷ (codes "parameters", array_of hex_string parameters)
     ∷ (codes "access", or_null string access)
     ∷ (codes "sender", or_null sender_json e.sender)
     ∷ (codes "address", or_null hex_string e.address)
@@ -103,7 +104,7 @@ unread_object error = object_of (
 
 -- an exception, or why it can't be read
 abbrev pub exception_json : Result ExceptionValue Error → Json
-exception_json (Ok e) = exception_object e (option_map access_name e.access)
+exception_json (Ok e) = exception_object e e.parameters (option_map access_name e.access)
     (option_map problem_name e.context_problem)
 exception_json (Err error) = unread_object (name_of_error error)
 

@@ -157,6 +157,7 @@ fn put_exception(
             out,
             alloc,
             exception,
+            exception.parameters.as_slice(),
             access_name(exception.access),
             problem_name(exception.context_problem),
         ),
@@ -170,13 +171,13 @@ fn put_read<'l>(
     out: &mut Writer,
     alloc: Global,
     exception: &'l CrashException,
+    parameters: &'l [u64],
     access: Option<&'l str>,
     problem: Option<&'l str>,
 ) -> Result<(), Error>
     ensures { Puts result out.old out.new (exception_object (exception_of exception.now)
-        (option_copied access.entry) (option_copied problem.entry)) }
+        parameters.now (option_copied access.entry) (option_copied problem.entry)) }
 {
-    let parameters = exception.parameters.as_slice();
     put_object_of(
         out,
         alloc,
