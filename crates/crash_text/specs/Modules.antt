@@ -59,6 +59,11 @@ listed_lines limits named p = if limits.lists || named p.0 then module_line p.1 
 abbrev pub each_module : TextLimits → (ℕ → Bool) → List LoadedValue → List (List ℕ)
 each_module limits named modules = flat_map (listed_lines limits named) (enumerate_from 0 modules)
 
+-- the modules that are listed, by the address of the crash and by frames
+unfoldable pub named_modules : TextLimits → Option AddressFacts → List CrashFrame → List LoadedValue
+    → List (List ℕ)
+named_modules limits address frames modules = each_module limits (is_named address frames) modules
+
 -- each of so many modules has a mark, that says whether one of these frames is in it
 pub record HasMarks (marks : List Bool) (count : ℕ) (frames : List CrashFrame) : Type 0 where
   pub size : length marks ≡ count
@@ -77,6 +82,6 @@ count_row count = concat (codes "modules " ∷ decimal count ∷ [])
 -- the modules, or that their list is missing
 abbrev pub modules_lines : TextLimits → CrashValue → Option Error → List (List ℕ)
 modules_lines limits c None = count_row (length c.modules.loaded)
-    ∷ each_module limits (is_named c.cause.address
-    (frames_in limits c.threads.crashing c.threads.threads)) c.modules.loaded
+    ∷ named_modules limits c.cause.address (frames_in limits c.threads.crashing c.threads.threads)
+    c.modules.loaded
 modules_lines limits c (Some error) = if_missing (codes "no modules") error

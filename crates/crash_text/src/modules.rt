@@ -5,8 +5,8 @@ ghost use Rattle.crash.specs.Crash.{crash_of};
 ghost use Rattle.crash.specs.Modules.{loaded_of};
 ghost use Rattle.crash_text.specs.Lines.{Adds};
 ghost use Rattle.crash_text.specs.Modules.{HasMarks, address_place, count_row, each_module, is_in};
-ghost use Rattle.crash_text.specs.Modules.{is_marked, is_named, key_text, module_line, module_row};
-ghost use Rattle.crash_text.specs.Modules.{modules_lines};
+ghost use Rattle.crash_text.specs.Modules.{is_marked, key_text, module_line, module_row};
+ghost use Rattle.crash_text.specs.Modules.{modules_lines, named_modules};
 
 use crate::limits::TextLimits;
 use crate::lines::push_line;
@@ -46,7 +46,6 @@ fn push_list(out: &mut String, crash: &Crash<'_>, limits: &TextLimits) -> Result
 }
 
 // Appends the lines of the modules that are listed, by the address of the crash and by frames.
-#[tactic(auto, using(crate::proofs::MarkLemmas::marked_lines))]
 fn push_named(
     out: &mut String,
     limits: &TextLimits,
@@ -54,11 +53,12 @@ fn push_named(
     frames: &[CrashFrame],
     modules: &[CrashModule],
 ) -> Result<(), AllocError>
-    ensures { Adds out.old out.new (each_module limits.now (is_named address frames.now)
-        (map loaded_of modules.now)) result }
+    ensures { Adds out.old out.new
+        (named_modules limits.now address frames.now (map loaded_of modules.now)) result }
 {
     let marks = marks_of(*out.allocator(), modules.len(), frames)?;
-    push_each(out, limits, address, marks.as_slice(), modules)
+    push_each(out, limits, address, marks.as_slice(), modules)?;
+    Ok(())
 }
 
 // Marks the modules that frames are in, by their indices.
