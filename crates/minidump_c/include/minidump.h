@@ -253,9 +253,10 @@ struct minidump_module {
  * The numbers of *crash say how large the whole tables and texts are: to ask for these alone, pass lengths of 0. The dump
  * is read anew at each call, so begin with buffers of a guess, and call again where one was too small.
  *
- * The registers are those of the exception's context on its thread, if it can be read, and else of the thread's own. The
- * stack is the region of the dump that holds the stack pointer, and where none does the thread's own; callers follow by
- * frame pointers. Frames, registers and the address are those that whocrashed prints. */
+ * The registers are those of the exception's context on its thread, if it can be read, and else of the thread's own; one
+ * that its writer cut after these registers, as LLDB does, is read only where there is no whole one. The stack is the
+ * region of the dump that holds the stack pointer, and where none does the thread's own; callers follow by frame
+ * pointers. Frames, registers and the address are those that whocrashed prints. */
 uint32_t minidump_crash(const uint8_t *bytes, size_t len, const uint8_t *names, size_t names_len, size_t scan,
                         struct minidump_crash *crash, struct minidump_frame *frames, size_t frames_len,
                         struct minidump_register *registers, size_t registers_len, struct minidump_thread *threads,
