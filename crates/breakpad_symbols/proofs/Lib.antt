@@ -1,0 +1,9 @@
+-- The lemmas of this crate.
+pub mod WidthLemmas
+pub mod LineLemmas
+pub mod RecordLemmas
+pub mod WalkLemmas
+pub mod RuleLemmas
+pub mod FieldLemmas
+pub mod GrammarLemmas
+pub mod NearestLemmas
