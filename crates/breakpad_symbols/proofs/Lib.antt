@@ -4,6 +4,7 @@ pub mod LineLemmas
 pub mod RecordLemmas
 pub mod WalkLemmas
 pub mod RuleLemmas
+pub mod InlineLemmas
 pub mod FieldLemmas
 pub mod GrammarLemmas
 pub mod NearestLemmas

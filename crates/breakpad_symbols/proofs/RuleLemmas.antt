@@ -4,7 +4,6 @@ use Rattle.std.specs.Option.{option_or}
 use Rattle.minidump_bytes.specs.LinuxOsStr.{words_of}
 use Rattle.breakpad_symbols.specs.Cfi.{expression_of, is_label, labels, rule_among}
 use Rattle.breakpad_symbols.specs.Expression.{StateValue, only, step, value_from}
-use Rattle.breakpad_symbols.specs.Inline.{pair_covers, ranges_cover}
 use Rattle.breakpad_symbols.specs.Records.{until}
 
 -- ---- the expression of a register
@@ -58,23 +57,3 @@ module _ (state : StateValue) (frame_address : Option ℕ) where
       → step state frame_address word values ≡ Some next → Value rest values ≡ Value after next
   unfolding value_from until
   value_next rest word after values next e goes some = rw (e, goes, some) refl
-
--- ---- ranges of a call
-pub ranges_end : (address : ℕ) (rest : List ℕ) → words_of rest ≡ [] → ranges_cover address (words_of rest) ≡ false
-unfolding ranges_cover
-ranges_end address rest e = rw e refl
-
-pub ranges_odd : (address : ℕ) (rest first after : List ℕ) → words_of rest ≡ first ∷ words_of after → words_of after ≡ []
-    → ranges_cover address (words_of rest) ≡ false
-unfolding ranges_cover
-ranges_odd address rest first after e none = rw (e, none) refl
-
-pub ranges_here : (address : ℕ) (rest first after size more : List ℕ) → words_of rest ≡ first ∷ words_of after → words_of after ≡ size ∷ words_of more
-    → pair_covers address first size ≡ true → ranges_cover address (words_of rest) ≡ true
-unfolding ranges_cover
-ranges_here address rest first after size more e f is = rw (e, f, is) refl
-
-pub ranges_later : (address : ℕ) (rest first after size more : List ℕ) → words_of rest ≡ first ∷ words_of after → words_of after ≡ size ∷ words_of more
-    → pair_covers address first size ≡ false → ranges_cover address (words_of rest) ≡ ranges_cover address (words_of more)
-unfolding ranges_cover
-ranges_later address rest first after size more e f is = rw (e, f, is) refl

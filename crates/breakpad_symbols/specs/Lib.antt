@@ -16,4 +16,5 @@ pub mod CfiParts
 pub mod Caller
 pub mod Grammar
 pub mod Inline
+pub mod InlineParts
 pub mod Malformed
