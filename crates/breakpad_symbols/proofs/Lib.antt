@@ -4,7 +4,10 @@ pub mod LineLemmas
 pub mod RecordLemmas
 pub mod WalkLemmas
 pub mod RuleLemmas
+pub mod NumberedLemmas
 pub mod InlineLemmas
 pub mod FieldLemmas
 pub mod GrammarLemmas
+pub mod InlineGrammarLemmas
+pub mod TreeLemmas
 pub mod NearestLemmas

@@ -2,6 +2,7 @@
 pub mod Lines
 pub mod LineParts
 pub mod Records
+pub mod Numbered
 pub mod Module
 pub mod File
 pub mod LineRecord
@@ -12,6 +13,7 @@ pub mod Answer
 pub mod Cfi
 pub mod AddressWidth
 pub mod Expression
+pub mod Tree
 pub mod CfiParts
 pub mod Caller
 pub mod Grammar

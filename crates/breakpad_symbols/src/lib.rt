@@ -37,6 +37,7 @@ mod line_record;
 mod lines;
 mod malformed;
 mod module_record;
+mod numbered;
 mod public;
 mod records;
 mod symbol_file;
