@@ -2,7 +2,6 @@
 pub mod WidthLemmas
 pub mod LineLemmas
 pub mod RecordLemmas
-pub mod WalkLemmas
 pub mod RuleLemmas
 pub mod NumberedLemmas
 pub mod InlineLemmas
@@ -11,3 +10,4 @@ pub mod GrammarLemmas
 pub mod InlineGrammarLemmas
 pub mod TreeLemmas
 pub mod NearestLemmas
+pub mod PublicLemmas

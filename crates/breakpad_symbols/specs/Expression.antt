@@ -6,7 +6,9 @@ use Rattle.std.specs.Str.{bytes_eq}
 use Rattle.minidump_bytes.specs.Digits.{number_of_digits}
 use Rattle.minidump_bytes.specs.LinuxOsStr.{after_prefix}
 use Rattle.breakpad_symbols.specs.declared.expression.Operator.{Operator}
-use Rattle.breakpad_symbols.specs.declared.expression.Operator.TheVariants.{Add, Subtract, Multiply, Divide, Remainder, Align}
+use Rattle.breakpad_symbols.specs.declared.expression.Operator.TheVariants.{Add, Subtract}
+use Rattle.breakpad_symbols.specs.declared.expression.Operator.TheVariants.{Multiply, Divide}
+use Rattle.breakpad_symbols.specs.declared.expression.Operator.TheVariants.{Remainder, Align}
 use Rattle.breakpad_symbols.specs.AddressWidth.{cut, negative}
 use Rattle.breakpad_symbols.specs.Lines.{and_then}
 

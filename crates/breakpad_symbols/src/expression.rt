@@ -2,7 +2,8 @@ ghost use Rattle.std.specs.Prelude.{◌≡◌, Some, None, IfOk, if◌then◌els
 ghost use Rattle.minidump_bytes.specs.LinuxOsStr.{text_of};
 ghost use Rattle.breakpad_symbols.specs.AddressWidth.{bits_of};
 ghost use Rattle.breakpad_symbols.specs.CfiParts.{expression_at};
-ghost use Rattle.breakpad_symbols.specs.Expression.{StateValue, apply, apply_on, literal, operand, operator, read_on, step, value_of};
+ghost use Rattle.breakpad_symbols.specs.Expression.{StateValue, apply, apply_on, literal, operand};
+ghost use Rattle.breakpad_symbols.specs.Expression.{operator, read_on, step, value_of};
 
 use crate::AddressWidth;
 use crate::value_stack::ValueStack;

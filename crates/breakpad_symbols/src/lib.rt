@@ -1,28 +1,66 @@
-//! The text of a Breakpad symbol file: which function, source file and line an offset in a module
-//! belongs to, and how the registers of a caller are recovered there.
+//! Breakpad's symbol files: which function, source file and line an offset in a module belongs to, and
+//! how the registers of its caller are recovered.
 //!
-//! - [`SymbolFile::read`] reads the lists of a text: files, functions, public symbols, unwind
-//!   information and the functions that were called in place. All texts are borrowed from it.
-//! - [`SymbolFile::function_at`] and [`SymbolFile::public_at`] find what an offset belongs to,
-//!   [`Function::line_at`] the source line, [`Function::inline_at`] the calls in place.
-//! - [`SymbolFile::cfi_at`], [`CfiRecord::frame_address`] and [`CfiRecord::caller_register`]
-//!   evaluate the STACK CFI rules of an offset, over the registers and the memory of an
+//! - [`SymbolFile::read`] reads the records of a text. All names are borrowed from it.
+//! - [`SymbolFile::function_at`], or else [`SymbolFile::public_at`], is what an offset belongs to;
+//!   [`Function::line_at`] is its source line, [`Function::inline_at`] a call that the compiler put in
+//!   place there. [`SymbolFile::file_name`] and [`SymbolFile::origin_name`] are their names.
+//! - [`SymbolFile::cfi_at`] has the rules of an offset. [`CfiRecord::frame_address`] and
+//!   [`CfiRecord::caller_register`] evaluate them over the registers and the memory of an
 //!   [`UnwindState`].
 //!
-//! A line ends at a line feed, before which a carriage return may stand. The records of a function
-//! are on the lines after its own, up to the next function, public symbol or unwind information.
-//! Lines that are malformed or of no known kind are skipped; [`malformed_lines`] counts those that
-//! begin as a record of a list.
+//! An offset is an address less its module's base. That of a caller is of the address below its return
+//! address, which is in the call.
+//!
+//!     let symbols = SymbolFile::read(alloc, text)?;
+//!     if let Some(function) = symbols.function_at(offset, &mut Steps::new()) {
+//!         if let Some(line) = function.line_at(offset) {
+//!             let file = symbols.file_name(line.file);
+//!
+//! # The format
+//!
+//!     MODULE os architecture id name                     the first line
+//!     FILE number name
+//!     INLINE_ORIGIN number name
+//!     FUNC [m] address size parameter_size name
+//!     address size line file                             a line record, of the function before it
+//!     INLINE depth line file origin (address size)..     of the function before it
+//!     PUBLIC [m] address parameter_size name
+//!     STACK CFI INIT address size rules
+//!     STACK CFI address rules                            changes the rules before it
+//!
+//! A line ends at a line feed, before which a carriage return may stand. One space is between fields,
+//! and the last one is the rest of the line. Addresses and sizes are hexadecimal digits of 64 bits,
+//! other numbers decimal ones of 32 bits. The next FUNC, PUBLIC or STACK line ends the records of a
+//! function.
+//!
+//! Rules are words: a register and a colon, and then its expression in postfix form, of numbers in
+//! decimal digits, registers, `.cfa`, the operators `+ - * / % @`, and `^`, which reads the word at an
+//! address. STACK WIN lines aren't read.
+//!
+//! # Errors
+//!
+//! Reading returns `MissingModule` for a text that doesn't begin with a MODULE line, and `OutOfMemory`
+//! where an allocation fails. Malformed lines, and those of no known kind, are skipped:
+//! [`malformed_lines`] counts the malformed ones. A rule without a value gives `None`: where a word is
+//! unknown, an operand, a register or memory is missing, a divisor is 0, or not one value is left.
 //!
 //! # What is proved
 //!
-//! - Each line is read as a record exactly if the grammar has that record for it, for MODULE, FILE,
-//!   FUNC, PUBLIC and STACK CFI INIT lines and line records: `laws::lines_are_the_grammar`.
-//! - The lists are the records of all lines: `SymbolFile::read`, by `symbols_in`.
-//! - Lookups return the kept function or unwind information that contains the offset:
-//!   `function_at`, `cfi_at`, by `IsCountedLookup`; `laws::region_laws`.
-//! - The nearest public symbol is the nearest: `laws::nearest_symbol_is_nearest`.
-//! - A rule's value is that of its postfix expression: `evaluate`, by `value_of`.
+//! - The lists are the records of all lines: `SymbolFile::read`, by `symbols_in`. Each line is read as a
+//!   record exactly if the grammar has that record for it: `laws::lines_are_the_grammar`.
+//! - Lookups return the kept function or rules, by the rule of [`minidump_index`], that contain the
+//!   offset: `function_at`, `cfi_at`, by `IsCountedLookup`; `laws::region_laws`.
+//! - A public symbol is the nearest at or below the offset, unless a function begins between them:
+//!   `public_at`; `laws::nearest_symbol_is_nearest`. Names are the first of a number: `file_name`,
+//!   `origin_name`; lines and calls the first that have the offset: `line_at`, `inline_at`.
+//! - A register's rule is that of the last change that isn't above the offset: `rule_at`. Its value is
+//!   that of its words one after the other: `evaluate`, by `value_of`; which is the value of the
+//!   expression tree with these words: `laws::expressions_are_trees`.
+//! - Malformed lines are counted: `malformed_lines`, by `is_malformed`.
+//!
+//! What isn't: that a lookup of a name or of a public symbol takes the time of a search by halves, and
+//! reading that of one pass for each list.
 #![tactic(auto)]
 
 mod address_width;
@@ -31,6 +69,7 @@ mod cfi;
 mod expression;
 mod file_record;
 mod function;
+mod function_list;
 mod inline;
 pub mod laws;
 mod line_record;

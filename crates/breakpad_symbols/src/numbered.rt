@@ -2,7 +2,7 @@ ghost use Rattle.std.specs.Prelude.{◌≡◌, ℕ, ◌==◌, Some, None, IfOk, 
 ghost use Rattle.std.specs.BTreeMap.{get};
 ghost use Rattle.std.specs.Option.{option_copied, option_or};
 ghost use Rattle.std.specs.Ordering.{nat_cmp};
-ghost use Rattle.breakpad_symbols.specs.Numbered.{first_numbered};
+ghost use Rattle.breakpad_symbols.specs.Numbered.{IsNearestFound, first_numbered};
 
 use std::alloc::{AllocError, Global};
 use std::collections::BTreeMap;
@@ -51,11 +51,26 @@ impl<R: Numbered + Drop> NumberedList<R> {
         Ok(NumberedList { records, firsts })
     }
 
+    // Returns all records, in the order of the file.
+    pub(crate) fn as_slice(&self) -> &[R]
+        ensures { result.now ≡ self.now }
+    {
+        self.records.as_slice()
+    }
+
     // Returns the first record of a number.
     pub(crate) fn first(&self, number: u64) -> Option<&R>
         ensures { option_copied result ≡ first_numbered R.number_of number self.now }
     {
         self.firsts.get(&number)
+    }
+
+    // Returns the first record of the greatest number that isn't above another.
+    pub(crate) fn nearest(&self, number: u64) -> Option<&R>
+        ensures { IsNearestFound R.number_of self.now number (option_copied result) }
+    {
+        let (_, record) = self.firsts.range(..=number).next_back()?;
+        Some(record)
     }
 }
 
@@ -65,8 +80,9 @@ fn put_first<R: Numbered + Drop>(firsts: &mut BTreeMap<u64, R>, next: &R) -> Res
         ≡ option_or (get nat_cmp firsts.old number)
         (if R.number_of next.now == number then Some next.now else None)) }
 {
-    if !firsts.contains_key(&next.number()) {
-        firsts.insert(next.number(), *next)?;
+    if firsts.contains_key(&next.number()) {
+        return Ok(());
     }
+    firsts.insert(next.number(), *next)?;
     Ok(())
 }
