@@ -13,9 +13,9 @@
 //! address, which is in the call.
 //!
 //!     let symbols = SymbolFile::read(alloc, text)?;
-//!     if let Some(function) = symbols.function_at(offset, &mut Steps::new()) {
-//!         if let Some(line) = function.line_at(offset) {
-//!             let file = symbols.file_name(line.file);
+//!     let function = symbols.function_at(offset, &mut Steps::new())?;
+//!     let line = function.line_at(offset)?;
+//!     let file = symbols.file_name(line.file)?;
 //!
 //! # The format
 //!
@@ -34,9 +34,9 @@
 //! other numbers decimal ones of 32 bits. The next FUNC, PUBLIC or STACK line ends the records of a
 //! function.
 //!
-//! Rules are words: a register and a colon, and then its expression in postfix form, of numbers in
-//! decimal digits, registers, `.cfa`, the operators `+ - * / % @`, and `^`, which reads the word at an
-//! address. STACK WIN lines aren't read.
+//! Rules are words: a register and a colon, and then its expression in postfix form, of decimal numbers,
+//! also negative ones, registers, `.cfa`, the operators `+ - * / % @`, and `^`, which reads the word at
+//! an address. STACK WIN lines aren't read.
 //!
 //! # Errors
 //!
