@@ -1,0 +1,22 @@
+-- The definitions that this crate's contracts cite.
+pub mod Lines
+pub mod LineParts
+pub mod Records
+pub mod Numbered
+pub mod Module
+pub mod File
+pub mod LineRecord
+pub mod Function
+pub mod Public
+pub mod SymbolFile
+pub mod Answer
+pub mod Cfi
+pub mod AddressWidth
+pub mod Expression
+pub mod Tree
+pub mod CfiParts
+pub mod Caller
+pub mod Grammar
+pub mod Inline
+pub mod InlineParts
+pub mod Malformed

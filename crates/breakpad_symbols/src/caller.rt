@@ -1,0 +1,43 @@
+ghost use Rattle.std.specs.Prelude.{◌≡◌, IfOk};
+ghost use Rattle.breakpad_symbols.specs.Caller.{caller_register_at, frame_address_at};
+ghost use Rattle.breakpad_symbols.specs.Cfi.{cfi_of};
+
+use crate::{CfiRecord, UnwindState, evaluate};
+use std::alloc::{AllocError, Global};
+
+impl CfiRecord<'_> {
+    /// Returns the canonical frame address at an address: the stack pointer of the caller. Returns
+    /// `None` if there is no rule, or its expression has no value.
+    pub fn frame_address<S: UnwindState>(
+        &self,
+        alloc: Global,
+        address: u64,
+        state: &S,
+    ) -> Result<Option<u64>, AllocError>
+        ensures { IfOk result (λ v. v ≡ frame_address_at (S.value state.now) (cfi_of self.now) address) }
+    {
+        let Some(rule) = self.rule_at(b".cfa", address) else {
+            return Ok(None);
+        };
+        evaluate(alloc, rule, state, None)
+    }
+
+    /// Returns a register of the caller, or for `.ra` its return address. Returns `None` if there is
+    /// no rule, or its expression has no value.
+    pub fn caller_register<S: UnwindState>(
+        &self,
+        alloc: Global,
+        address: u64,
+        state: &S,
+        frame_address: u64,
+        name: &[u8],
+    ) -> Result<Option<u64>, AllocError>
+        ensures { IfOk result (λ v. v ≡ caller_register_at (S.value state.now) (cfi_of self.now) address
+            frame_address name.now) }
+    {
+        let Some(rule) = self.rule_at(name, address) else {
+            return Ok(None);
+        };
+        evaluate(alloc, rule, state, Some(frame_address))
+    }
+}
