@@ -4,7 +4,7 @@ use crate::lookup::push_found;
 use crate::row::{Row, number, number_32};
 use crate::streams;
 use crate::summary::push_summary;
-use crate::values::{debug_ids, push_numbers, push_raw};
+use crate::values::{push_debug_ids, push_numbers, push_raw};
 use anyhow::{Result, bail};
 use crash::{Crash, status_of};
 use crash_summary::summarise;
@@ -15,15 +15,22 @@ use std::io::Write;
 
 /// Makes the call of a row on its dump.
 pub fn answer(alloc: Global, row: &Row<'_>, dump: &[u8]) -> Result<Vec<u8>> {
+    if row.call == "report" {
+        return report(alloc, dump);
+    }
+    let mut out = Vec::new(alloc);
+    push_answer(alloc, row, dump, &mut out)?;
+    Ok(out)
+}
+
+// Appends the answer of a call.
+fn push_answer(alloc: Global, row: &Row<'_>, dump: &[u8], out: &mut Vec<u8>) -> Result<()> {
     match row.call {
-        "report" => report(alloc, dump),
-        "summary" => summary(alloc, dump),
-        "at" => answers(alloc, dump, row.about, Each::Found),
-        "numbers" => answers(alloc, dump, row.about, Each::Numbers),
-        "raw" => answers(alloc, dump, row.about, Each::Raw),
-        "debug-id" => debug_ids(alloc, dump, row.about),
-        "frames" => of_crash(alloc, dump, number_32(row.about)? as usize, Part::Frames),
-        "crash" => of_crash(alloc, dump, number_32(row.about)? as usize, Part::All),
+        "summary" => Ok(push_both(alloc, dump, out)?),
+        "at" | "numbers" | "raw" => push_numbered(alloc, row, dump, out),
+        "debug-id" => push_debug_ids(alloc, dump, row.about, out),
+        "frames" => push_scanned(alloc, row, dump, Part::Frames, out),
+        "crash" => push_scanned(alloc, row, dump, Part::All, out),
         _ => bail!("no call"),
     }
 }
@@ -31,25 +38,38 @@ pub fn answer(alloc: Global, row: &Row<'_>, dump: &[u8]) -> Result<Vec<u8>> {
 /// Returns the report on a dump, and after it a line for each type of stream; or the error of the
 /// file.
 pub fn report(alloc: Global, bytes: &[u8]) -> Result<Vec<u8>> {
-    let mut told = Told::new(Vec::new(alloc));
-    let answer = write_report(alloc, bytes, &CodeNames::empty(), &mut told);
-    let mut out = told.into_device();
+    let (answer, mut out) = written(alloc, bytes);
     match answer {
-        Ok(()) => streams::push_all(alloc, &Minidump::read(alloc, bytes)?, &mut out)?,
+        Ok(()) => push_streams(alloc, bytes, &mut out)?,
         Err(error) => writeln!(out, "{error:?}")?,
     }
     Ok(out)
 }
 
-// Returns a line for each part of the summary of a crash, or its error.
-fn summary(alloc: Global, bytes: &[u8]) -> Result<Vec<u8>> {
-    let mut out = Vec::new(alloc);
+// Returns the report with its answer.
+fn written(alloc: Global, bytes: &[u8]) -> (Result<(), Error>, Vec<u8>) {
+    let mut told = Told::new(Vec::new(alloc));
+    let answer = write_report(alloc, bytes, &CodeNames::empty(), &mut told);
+    (answer, told.into_device())
+}
+
+fn push_streams(alloc: Global, bytes: &[u8], out: &mut Vec<u8>) -> Result<()> {
+    let dump = Minidump::read(alloc, bytes)?;
+    Ok(streams::push_all(alloc, &dump, out)?)
+}
+
+// Appends a line for each part of the summary of a crash, or its error, and then the pointers and
+// the system.
+fn push_both(alloc: Global, bytes: &[u8], out: &mut Vec<u8>) -> io::Result<()> {
+    push_summarised(alloc, bytes, out)?;
+    push_part(alloc, bytes, 0, Part::Machine, out)
+}
+
+fn push_summarised(alloc: Global, bytes: &[u8], out: &mut Vec<u8>) -> io::Result<()> {
     match summarise(alloc, bytes, &CodeNames::empty()) {
-        Ok(crash) => push_summary(&crash, &mut out)?,
-        Err(error) => writeln!(out, "{error:?}")?,
+        Ok(crash) => push_summary(&crash, out),
+        Err(error) => writeln!(out, "{error:?}"),
     }
-    out.extend_from_slice(&of_crash(alloc, bytes, 0, Part::Machine)?)?;
-    Ok(out)
 }
 
 // What is written of a crash.
@@ -63,53 +83,77 @@ enum Part {
     Machine,
 }
 
-// Returns the lines of a part of a crash, with at most `scan` candidates a thread, or the error of
-// the file.
-fn of_crash(alloc: Global, bytes: &[u8], scan: usize, part: Part) -> Result<Vec<u8>> {
-    let mut out = Vec::new(alloc);
+// Appends the lines of a part of a crash, with at most as many candidates a thread as the row says.
+fn push_scanned(
+    alloc: Global,
+    row: &Row<'_>,
+    dump: &[u8],
+    part: Part,
+    out: &mut Vec<u8>,
+) -> Result<()> {
+    let scan = number_32(row.about)? as usize;
+    Ok(push_part(alloc, dump, scan, part, out)?)
+}
+
+// Appends the lines of a part of a crash, or the error of the file. The crash is closed before the
+// only way out, since each would let it go.
+fn push_part(
+    alloc: Global,
+    bytes: &[u8],
+    scan: usize,
+    part: Part,
+    out: &mut Vec<u8>,
+) -> io::Result<()> {
     let read = Crash::read(alloc, bytes, &CodeNames::empty(), scan);
-    let pushed = push_part(&read, part, &mut out);
-    if let Ok(crash) = read {
-        crash.close();
-    }
-    pushed?;
-    Ok(out)
-}
-
-fn push_part(read: &Result<Crash<'_>, Error>, part: Part, out: &mut Vec<u8>) -> io::Result<()> {
-    match (read, part) {
-        (Err(error), _) => writeln!(out, "{error:?}")?,
-        (Ok(crash), Part::All) => push_crash(crash, out)?,
-        (Ok(crash), Part::Frames) => push_frames(crash, out)?,
-        (Ok(crash), Part::Machine) => push_machine(crash, out)?,
-    }
-    match part {
-        Part::All => writeln!(out, "status {}", status_of(read)),
-        _ => Ok(()),
-    }
-}
-
-// What is asked of a dump for each number of a list.
-#[derive(Clone, Copy)]
-enum Each {
-    // What is at the address.
-    Found,
-    // The numbers at the address.
-    Numbers,
-    // The bytes of the stream of the type.
-    Raw,
-}
-
-// Returns the lines for each number of a list.
-fn answers(alloc: Global, bytes: &[u8], list: &str, what: Each) -> Result<Vec<u8>> {
-    let dump = Minidump::read(alloc, bytes)?;
-    let mut out = Vec::new(alloc);
-    for word in list.split(',') {
-        match what {
-            Each::Found => push_found(alloc, &dump, number(word)?, &mut out)?,
-            Each::Numbers => push_numbers(alloc, &dump, number(word)?, &mut out)?,
-            Each::Raw => push_raw(&dump, number_32(word)?, &mut out)?,
+    let status = status_of(&read);
+    match read {
+        Ok(crash) => {
+            let pushed = push_crash_part(&crash, part, status, out);
+            crash.close();
+            pushed
         }
+        Err(error) => push_error(error, part, status, out),
     }
-    Ok(out)
+}
+
+fn push_crash_part(crash: &Crash<'_>, part: Part, status: u8, out: &mut Vec<u8>) -> io::Result<()> {
+    match part {
+        Part::All => push_crash(crash, status, out),
+        Part::Frames => push_frames(crash, out),
+        Part::Machine => push_machine(crash, out),
+    }
+}
+
+fn push_error(error: Error, part: Part, status: u8, out: &mut Vec<u8>) -> io::Result<()> {
+    match part {
+        Part::All => writeln!(out, "{error:?}\nstatus {status}"),
+        _ => writeln!(out, "{error:?}"),
+    }
+}
+
+// Appends what the row asks of a dump, for each number of its list.
+fn push_numbered(alloc: Global, row: &Row<'_>, bytes: &[u8], out: &mut Vec<u8>) -> Result<()> {
+    let dump = Minidump::read(alloc, bytes)?;
+    push_each(alloc, row, &dump, out)
+}
+
+fn push_each(alloc: Global, row: &Row<'_>, dump: &Minidump<'_>, out: &mut Vec<u8>) -> Result<()> {
+    for word in row.about.split(',') {
+        push_one(alloc, row.call, dump, number(word)?, out)?;
+    }
+    Ok(())
+}
+
+fn push_one(
+    alloc: Global,
+    call: &str,
+    dump: &Minidump<'_>,
+    number: u64,
+    out: &mut Vec<u8>,
+) -> Result<()> {
+    match call {
+        "at" => push_found(alloc, dump, number, out),
+        "numbers" => push_numbers(alloc, dump, number, out),
+        _ => Ok(push_raw(dump, u32::try_from(number)?, out)?),
+    }
 }

@@ -1,21 +1,24 @@
 use crash::{
-    Crash, CrashDirectory, CrashException, CrashProcess, CrashSystem, CrashThread, CrashThreads,
-    LsbRelease, ShortContext,
+    Crash, CrashCause, CrashDirectory, CrashException, CrashProcess, CrashSystem, CrashThread,
+    CrashThreads, Damage, LsbRelease, ShortContext,
 };
 use minidump::Error;
 use std::io;
 use std::io::Write;
 
-/// Appends the lines of a crash: the directory, the process, the exceptions, the threads and the
-/// damage.
-pub fn push_crash(crash: &Crash<'_>, out: &mut Vec<u8>) -> io::Result<()> {
+/// Appends the lines of a crash: the directory, the process, the exceptions, the threads, the
+/// damage and the status.
+pub fn push_crash(crash: &Crash<'_>, status: u8, out: &mut Vec<u8>) -> io::Result<()> {
     push_directory(&crash.directory, out)?;
     push_process(&crash.process, out)?;
-    push_exceptions(crash.cause.exceptions.as_slice(), out)?;
-    writeln!(out, "counts {:?}", crash.cause.counts)?;
-    writeln!(out, "address {:?}", crash.cause.address)?;
+    push_cause(&crash.cause, out)?;
     push_threads(&crash.threads, out)?;
-    for damage in &crash.damage {
+    push_damage(crash.damage.as_slice(), out)?;
+    writeln!(out, "status {status}")
+}
+
+fn push_damage(damage: &[Damage], out: &mut Vec<u8>) -> io::Result<()> {
+    for damage in damage {
         writeln!(out, "damage {damage:?}")?;
     }
     Ok(())
@@ -56,6 +59,13 @@ fn push_release(release: &Option<LsbRelease>, out: &mut Vec<u8>) -> io::Result<(
     let codename = found.codename.as_deref().unwrap_or("none");
     let description = found.description.as_deref().unwrap_or("none");
     writeln!(out, "release {id}, {release}, {codename}, {description}")
+}
+
+// Appends the lines of the exceptions, one for which of them counts, and one for its address.
+fn push_cause(cause: &CrashCause, out: &mut Vec<u8>) -> io::Result<()> {
+    push_exceptions(cause.exceptions.as_slice(), out)?;
+    writeln!(out, "counts {:?}", cause.counts)?;
+    writeln!(out, "address {:?}", cause.address)
 }
 
 // Appends a line for each exception.

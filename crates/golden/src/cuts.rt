@@ -58,16 +58,17 @@ fn read_cut(alloc: Global, bytes: &[u8]) -> Cut {
         return Cut::Beyond;
     }
     match dump {
+        Ok(dump) => cut_of(alloc, &dump, most),
         Err(_) => Cut::NoDump,
-        Ok(dump) => {
-            let reads = read_all(alloc, &dump, most);
-            if reads.iter().any(|read| read.is_beyond) {
-                Cut::Beyond
-            } else {
-                Cut::Dump(reads.iter().filter(|read| read.error.is_none()).count())
-            }
-        }
     }
+}
+
+fn cut_of(alloc: Global, dump: &Minidump<'_>, most: u128) -> Cut {
+    let reads = read_all(alloc, dump, most);
+    if reads.iter().any(|read| read.is_beyond) {
+        return Cut::Beyond;
+    }
+    Cut::Dump(reads.iter().filter(|read| read.error.is_none()).count())
 }
 
 // A dump that is made.

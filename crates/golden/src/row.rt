@@ -58,11 +58,11 @@ impl<'t> Row<'t> {
 
 /// Reads a number: decimal, or hexadecimal after `0x`.
 pub fn number(word: &str) -> Result<u64> {
-    let read = match word.strip_prefix("0x") {
-        Some(digits) => u64::from_str_radix(digits, 16),
-        None => u64::from_str_radix(word, 10),
+    let (digits, radix) = match word.strip_prefix("0x") {
+        Some(digits) => (digits, 16),
+        None => (word, 10),
     };
-    match read {
+    match u64::from_str_radix(digits, radix) {
         Ok(number) => Ok(number),
         Err(_) => bail!("no number: {word}"),
     }

@@ -41,9 +41,9 @@ pub fn print_differences(rt: &HostRuntime, path: &str) -> Result<()> {
 // Returns the rows of a text whose answer differs from their lines, and counts all of them.
 fn differences(alloc: Global, text: &str, count: &mut Count) -> Result<Vec<u8>> {
     let mut out = Vec::new(alloc);
-    for row in &rows_of(alloc, text)? {
+    for row in rows_of(alloc, text)?.iter().filter(|row| is_row(row)) {
         if let Err(error) = push_row(alloc, row, count, &mut out) {
-            bail!("{row}: {error}");
+            bail!("{error}: {row}");
         }
     }
     Ok(out)
@@ -55,31 +55,18 @@ fn rows_of<'t>(alloc: Global, text: &'t str) -> Result<Vec<&'t str>, AllocError>
     let (mut start, mut end) = (0, 0_usize);
     for line in text.split('\n') {
         if !line.starts_with(' ') {
-            push_part(text, start, end, &mut rows)?;
+            rows.push(text.get(start..end).unwrap_or(""))?;
             start = end;
         }
         end = end.saturating_add(line.len()).saturating_add(1);
     }
-    push_part(text, start, end, &mut rows)?;
+    rows.push(text.get(start..).unwrap_or(""))?;
     Ok(rows)
 }
 
-// Appends a part of a text, if it is a row.
-fn push_part<'t>(
-    text: &'t str,
-    start: usize,
-    end: usize,
-    rows: &mut Vec<&'t str>,
-) -> Result<(), AllocError> {
-    let row = text
-        .get(start..end.min(text.len()))
-        .unwrap_or("")
-        .trim_end();
-    if row.is_empty() || row.starts_with('#') {
-        return Ok(());
-    }
-    rows.push(row)?;
-    Ok(())
+// Tells whether a text is a row, and no empty line and no comment.
+fn is_row(text: &str) -> bool {
+    !text.starts_with('#') && !text.starts_with('\n') && !text.is_empty()
 }
 
 // Appends a row in the byte orders in which the answer isn't what it wants, and counts it.

@@ -2,7 +2,7 @@ use crate::row::{number, number_32};
 use anyhow::{Result, bail};
 use minidump::Endian;
 use minidump_synth::Section;
-use std::alloc::Global;
+use std::alloc::{AllocError, Global};
 
 // What a text is: its bytes, its code units of UTF-16, or the same after their length.
 #[derive(Clone, Copy)]
@@ -20,7 +20,7 @@ pub fn bytes_of(alloc: Global, spelled: &str, endian: Endian) -> Result<Section>
     // Each second part stands between quotes.
     for part in spelled.split('"') {
         if is_text {
-            put_text(form, part, &mut bytes);
+            put_text(alloc, endian, form, part, &mut bytes)?;
         } else {
             form = put_words(part, &mut bytes)?;
         }
@@ -49,12 +49,26 @@ fn put_words(words: &str, bytes: &mut Section) -> Result<Form> {
     Ok(form)
 }
 
-fn put_text(form: Form, text: &str, bytes: &mut Section) {
+fn put_text(
+    alloc: Global,
+    endian: Endian,
+    form: Form,
+    text: &str,
+    bytes: &mut Section,
+) -> Result<(), AllocError> {
     match form {
         Form::Bytes => bytes.bytes(text.as_bytes()),
-        Form::Units => bytes.units16(text, text.encode_utf16().count()),
+        Form::Units => bytes.bytes(counted(alloc, endian, text)?.get(4..).unwrap_or(&[])),
         Form::Counted => bytes.text16(text),
     };
+    Ok(())
+}
+
+// Returns the code units of a text after the four bytes of their length.
+fn counted(alloc: Global, endian: Endian, text: &str) -> Result<Vec<u8>, AllocError> {
+    let mut bytes = Section::new(alloc, endian);
+    bytes.text16(text);
+    bytes.finish()
 }
 
 fn put_word(word: &str, bytes: &mut Section) -> Result<()> {

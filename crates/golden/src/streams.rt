@@ -68,10 +68,7 @@ fn error_of<'a, S: MinidumpStream<'a> + Drop>(
     dump: &Minidump<'a>,
     steps: &mut Steps,
 ) -> Option<Error> {
-    match dump.get_stream_counted::<S>(alloc, steps) {
-        Ok(_) => None,
-        Err(error) => Some(error),
-    }
+    dump.get_stream_counted::<S>(alloc, steps).err()
 }
 
 // Tells whether the directory has no entry of a number.

@@ -67,13 +67,11 @@ pub fn push_digits(bytes: &[u8], out: &mut Vec<u8>) -> io::Result<()> {
     Ok(())
 }
 
-/// Returns a line for each module of a dump, which says whether its debug identifier is the one
+/// Appends a line for each module of a dump, which says whether its debug identifier is the one
 /// that Breakpad writes as `text`.
-pub fn debug_ids(alloc: Global, bytes: &[u8], text: &str) -> Result<Vec<u8>> {
+pub fn push_debug_ids(alloc: Global, bytes: &[u8], text: &str, out: &mut Vec<u8>) -> Result<()> {
     let list = Minidump::read(alloc, bytes)?.get_stream(alloc)?;
-    let mut out = Vec::new(alloc);
-    push_same(&list, DebugId::from_breakpad(text), &mut out)?;
-    Ok(out)
+    Ok(push_same(&list, DebugId::from_breakpad(text), out)?)
 }
 
 fn push_same(list: &MinidumpModuleList, id: Option<DebugId>, out: &mut Vec<u8>) -> io::Result<()> {

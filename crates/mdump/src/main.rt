@@ -30,9 +30,10 @@
 //! - The status and the texts of a run from the arguments of the process: `run_arguments`; the
 //!   arguments are all that the standard library's iterator yields: `arguments`.
 //!
-//! What isn't: what opening a path returns, which tests show; and what files and standard output
-//! hold, since the standard library tells none of their bytes. That `main` passes on its arguments
-//! and its devices is reviewed, and so is that no file is opened if the arguments are no command.
+//! What isn't: what opening a path returns, what files and standard output hold, since the standard
+//! library tells none of their bytes, and that `main` passes on its arguments and its devices. The
+//! runs of `.ci/mdump` show these. That no file is opened if the arguments are no command is
+//! reviewed.
 #![tactic(auto)]
 
 mod address;
@@ -54,6 +55,3 @@ fn main(rt: HostRuntime) -> ExitCode {
     let args = start::arguments(rt.alloc(), env::args(&rt));
     start::run_arguments(&rt, args, &mut out, &mut err)
 }
-
-#[cfg(test)]
-mod tests;
