@@ -1,24 +1,22 @@
 -- Where and why a process crashed: its exceptions, which of them counts, and what is known of the
 -- address of the crash.
-use Rattle.std.specs.Prelude.{ℕ, ◌-◌, List, map, Option, Some, None, Result, string_bytes}
-use Rattle.std.specs.List.{enumerate_from}
+use Rattle.std.specs.Prelude.{ℕ, List, map, Option, Some, None, Result, string_bytes}
 use Rattle.std.specs.Option.{option_and_then, option_map}
 use Rattle.minidump.specs.declared.Error.{Error}
 use Rattle.minidump.specs.declared.format.MINIDUMP_EXCEPTION.{MINIDUMP_EXCEPTION}
 use Rattle.minidump.specs.Below.Contexts.Context.{map_ok}
-use Rattle.minidump.specs.Below.Index.Lookup.{looked_up}
-use Rattle.minidump.specs.Below.Modules.Module.{ModuleValue, range_of_module}
 use Rattle.minidump.specs.Below.Reasons.Names.{Lists}
 use Rattle.minidump.specs.Below.Reasons.Reason.{crash_reason}
 use Rattle.minidump.specs.Below.Reasons.ReasonText.{reason_text}
 use Rattle.minidump.specs.Below.System.System.{System}
 use Rattle.minidump.specs.Exception.{Exception, crash_address}
-use Rattle.crash.specs.declared.cause.AddressFacts.{AddressFacts}
+use Rattle.crash.specs.declared.addresses.AddressFacts.{AddressFacts}
 use Rattle.crash.specs.declared.cause.CrashCause.{CrashCause}
 use Rattle.crash.specs.declared.cause.CrashException.{CrashException}
 use Rattle.crash.specs.declared.contexts.ContextProblem.{ContextProblem}
 use Rattle.crash.specs.declared.records.Access.{Access}
 use Rattle.crash.specs.declared.records.Sender.{Sender}
+use Rattle.crash.specs.Addresses.{facts_of}
 use Rattle.crash.specs.Contents.{ContentsValue}
 use Rattle.crash.specs.Contexts.{problem_in, system_of}
 use Rattle.crash.specs.Counting.{counted, counting}
@@ -110,17 +108,9 @@ exceptions_in names c = map (map_ok (exception_in names (system_of c))) c.thread
 
 -- ---- the address
 
--- the index of the kept module that contains an address, and the offset in that
-abbrev pub module_place : List ModuleValue → ℕ → Option (ℕ × ℕ)
-module_place modules address = option_map (λ p. (p.0, address - p.1.raw.base_of_image))
-    (looked_up (λ p. range_of_module p.1) (enumerate_from 0 modules) address)
-
 -- what is known of the address of an exception
 abbrev pub address_at : ContentsValue → Option ExceptionValue → Option AddressFacts
-address_at c e = option_map (λ address. record {
-  address = address;
-  «module» = module_place c.space.modules address;
-}) (option_and_then (λ e. e.address) e)
+address_at c e = option_map (facts_of c) (option_and_then (λ e. e.address) e)
 
 -- ---- all of it
 

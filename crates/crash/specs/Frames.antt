@@ -22,7 +22,7 @@ use Rattle.stack_walk.specs.Walk.{WalkValue}
 use Rattle.crash.specs.declared.contexts.FoundContext.{FoundContext}
 use Rattle.crash.specs.declared.frames.CrashFrame.{CrashFrame}
 use Rattle.crash.specs.declared.frames.CrashWalk.{CrashWalk}
-use Rattle.crash.specs.Cause.{module_place}
+use Rattle.crash.specs.Addresses.{module_place}
 use Rattle.crash.specs.Contents.{ContentsValue}
 use Rattle.crash.specs.Contexts.{context_at, found_in}
 

@@ -10,9 +10,10 @@ pub mod Process
 pub mod Contexts
 pub mod Counting
 pub mod Records
+pub mod Stacks
+pub mod Addresses
 pub mod Cause
 pub mod Frames
-pub mod Stacks
 pub mod Threads
 pub mod Modules
 pub mod Damage

@@ -1,21 +1,20 @@
 ghost use Rattle.std.specs.Prelude.{◌≡◌, IfOk, IsOkUnless, map, string_bytes};
 ghost use Rattle.std.specs.Option.{option_copied, option_map};
 ghost use Rattle.minidump.specs.Below.Contexts.Context.{map_ok};
-ghost use Rattle.minidump.specs.Promise.{exception_stream, module_list_stream, system_info_stream};
+ghost use Rattle.minidump.specs.Promise.{exception_stream, system_info_stream};
 ghost use Rattle.crash.specs.Cause.{address_at, address_unless, cause_in, cause_of, exception_in};
-ghost use Rattle.crash.specs.Cause.{exception_of, exceptions_in, module_place, reason_in};
+ghost use Rattle.crash.specs.Cause.{exception_of, exceptions_in, reason_in};
 ghost use Rattle.crash.specs.Contents.{contents_of};
 ghost use Rattle.crash.specs.Contexts.{problem_in, system_of};
 ghost use Rattle.crash.specs.Counting.{counted};
 
+use crate::addresses::{AddressFacts, facts_of};
 use crate::contents::Contents;
 use crate::contexts::{self, ContextProblem, context_at};
 use crate::counting::counting;
 use crate::each::{MakeItem, make_items};
 use crate::records::{Access, Sender, access_of, parameters_of, sender_of};
-use minidump::{
-    CodeNames, Error, MinidumpException, MinidumpModuleList, MinidumpSystemInfo, Module,
-};
+use minidump::{CodeNames, Error, MinidumpException, MinidumpSystemInfo};
 use std::alloc::Global;
 
 /// Where and why a process crashed.
@@ -61,15 +60,6 @@ pub struct CrashException {
     pub reason: Option<String>,
     /// Why its context isn't used, or `None` if it is.
     pub context_problem: Option<ContextProblem>,
-}
-
-/// What is known of an address.
-#[derive(Clone, Copy, Debug)]
-pub struct AddressFacts {
-    /// The address.
-    pub address: u64,
-    /// The index in the list of modules of the kept one that contains it, and the offset in that.
-    pub module: Option<(usize, u64)>,
 }
 
 // Returns where and why a process crashed.
@@ -236,10 +226,7 @@ fn address_of(
         (counted (map (map_ok exception_of) exceptions.now) counts) }
 {
     let address = counted(exceptions, counts)?.address?;
-    Some(AddressFacts {
-        address,
-        module: module_place(&contents.space.modules, address),
-    })
+    Some(facts_of(contents, address))
 }
 
 // Returns the exception of an index, if it can be read.
@@ -254,12 +241,4 @@ fn counted(
         Ok(exception) => Some(exception),
         Err(_) => None,
     }
-}
-
-// Returns the index of the kept module that contains an address, and the offset in that.
-pub(crate) fn module_place(modules: &MinidumpModuleList, address: u64) -> Option<(usize, u64)>
-    ensures { result ≡ module_place (module_list_stream.value modules.now) address }
-{
-    let (index, module) = modules.numbered_module_at_address(address)?;
-    Some((index, address.saturating_sub(module.base_address())))
 }

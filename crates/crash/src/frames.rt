@@ -10,7 +10,7 @@ ghost use Rattle.crash.specs.Contents.{contents_of};
 ghost use Rattle.crash.specs.Frames.{context_of, crash_walk_of, exception_walk, frame_in, memory_at};
 ghost use Rattle.crash.specs.Frames.{place_of, process_in, thread_walk, walk_at, walk_by, walk_in, walk_on};
 
-use crate::cause::module_place;
+use crate::addresses::module_place;
 use crate::contents::Contents;
 use crate::contexts::{FoundContext, context_at, found_context};
 use minidump::{

@@ -38,6 +38,7 @@
 //! stream, though all exceptions are read at once, is a law of the definitions: [`laws`].
 #![tactic(auto)]
 
+mod addresses;
 mod cause;
 mod contents;
 mod contexts;
@@ -60,7 +61,8 @@ mod stacks;
 mod thread_facts;
 mod threads;
 
-pub use cause::{AddressFacts, CrashCause, CrashException};
+pub use addresses::{AddressFacts, AddressMemory, RegionState};
+pub use cause::{CrashCause, CrashException};
 pub use contents::{Contents, MessageStreams, ProcessStreams, SystemStreams, ThreadStreams};
 pub use contexts::{ContextOrigin, ContextProblem, CrashContext, ShortContext};
 pub use crash::{Crash, status_of};

@@ -1,0 +1,299 @@
+//! What is known of an address.
+ghost use Rattle.std.specs.Prelude.{◌≡◌, [], map, unwrap_or};
+ghost use Rattle.std.specs.Option.{option_map};
+ghost use Rattle.std.specs.Result.{result_ok};
+ghost use Rattle.minidump.specs.Below.Contexts.Context.{map_ok};
+ghost use Rattle.minidump.specs.Below.MemoryLists.UnifiedInfo.{info_list, info_region, info_regions};
+ghost use Rattle.minidump.specs.Below.Modules.UnloadedModule.{unloaded_of};
+ghost use Rattle.minidump.specs.Promise.{module_list_stream, thread_list_stream};
+ghost use Rattle.minidump.specs.Promise.{unloaded_module_list_stream};
+ghost use Rattle.minidump.specs.Thread.{thread_of};
+ghost use Rattle.crash.specs.Addresses.{canonical_on, facts_of, has_stack, is_below_stack};
+ghost use Rattle.crash.specs.Addresses.{is_canonical, is_guarded, memory_at, memory_of};
+ghost use Rattle.crash.specs.Addresses.{module_place, null_offset, stack_above, stack_at, state_of};
+ghost use Rattle.crash.specs.Addresses.{unloaded_at};
+ghost use Rattle.crash.specs.Contents.{contents_of};
+ghost use Rattle.crash.specs.Contexts.{system_of};
+
+use crate::contents::Contents;
+use crate::last::{Choose, last_index};
+use crate::stacks::{StackRange, named_stack};
+use minidump::system_info::Cpu;
+use minidump::{
+    Error, MinidumpModuleList, MinidumpThread, MinidumpThreadList, MinidumpUnloadedModule,
+    MinidumpUnloadedModuleList, Module, Region, UnifiedMemoryInfo,
+};
+
+const MEM_FREE: u32 = 0x1_0000;
+
+const MEM_RESERVE: u32 = 0x2000;
+
+const PAGE_GUARD: u32 = 0x100;
+
+/// What is known of an address.
+#[derive(Clone, Copy, Debug)]
+pub struct AddressFacts {
+    /// The address.
+    pub address: u64,
+    /// The same if it is below 0x10000, where no process maps memory: an offset from a null pointer.
+    pub null_offset: Option<u64>,
+    /// Whether the processor can access it: on x86-64 bits 47 to 63 are alike, else it is true. The
+    /// address of the exception of an access to another one is often 0 or 2^64 - 1 in its place.
+    pub is_canonical: bool,
+    /// The index in the list of modules of the kept one that contains it, and the offset in that.
+    pub module: Option<(usize, u64)>,
+    /// The index in the list of unloaded modules of the last one that contains it.
+    pub unloaded: Option<usize>,
+    /// The index of the last thread whose stack, as its entry names it, contains it.
+    pub stack_of: Option<usize>,
+    /// The index of the last thread whose stack, as its entry names it, begins above it, by at most a
+    /// page of 4,096 bytes, as where a stack has overflowed.
+    pub below_stack: Option<usize>,
+    /// The memory that contains it, by the memory information, else by the maps of Linux.
+    pub memory: Option<AddressMemory>,
+}
+
+/// What is known of the memory that contains an address.
+#[derive(Clone, Copy, Debug, PartialEq, Eq)]
+pub struct AddressMemory {
+    /// The state.
+    pub state: RegionState,
+    /// Whether it may be read.
+    pub is_readable: bool,
+    /// Whether it may be written.
+    pub is_writable: bool,
+    /// Whether it may be run as code.
+    pub is_executable: bool,
+    /// Whether the first access raises an exception: Microsoft's `PAGE_GUARD`.
+    pub is_guarded: bool,
+}
+
+/// The state of memory.
+#[derive(Clone, Copy, Debug, PartialEq, Eq)]
+pub enum RegionState {
+    /// Nothing is there: Microsoft's `MEM_FREE`.
+    Free,
+    /// Addresses are kept for later, without memory: `MEM_RESERVE`.
+    Reserved,
+    /// Memory is there: any other state, as `MEM_COMMIT`, or a line of the maps.
+    Committed,
+}
+
+// Returns what is known of an address.
+pub(crate) fn facts_of(contents: &Contents<'_>, address: u64) -> AddressFacts
+    ensures { result ≡ facts_of (contents_of contents.now) address }
+{
+    AddressFacts {
+        address,
+        null_offset: null_offset(address),
+        is_canonical: is_canonical(contents, address),
+        module: module_place(&contents.space.modules, address),
+        unloaded: unloaded_at(&contents.space.unloaded, address),
+        stack_of: stack_at(&contents.threads.threads, address),
+        below_stack: stack_above(&contents.threads.threads, address),
+        memory: memory_at(contents, address),
+    }
+}
+
+// Returns an address if it is near 0.
+fn null_offset(address: u64) -> Option<u64>
+    ensures { result ≡ null_offset address }
+{
+    if address < 0x1_0000 {
+        Some(address)
+    } else {
+        None
+    }
+}
+
+// Tells whether the processor can access an address.
+fn is_canonical(contents: &Contents<'_>, address: u64) -> bool
+    ensures { result ≡ is_canonical (system_of (contents_of contents.now)) address }
+{
+    match &contents.system.system {
+        Ok(system) => canonical_on(system.cpu, address),
+        Err(_) => true,
+    }
+}
+
+// Tells whether a processor can access an address.
+fn canonical_on(cpu: Cpu, address: u64) -> bool
+    ensures { result ≡ canonical_on cpu address }
+{
+    match cpu {
+        Cpu::X86_64 => address < 0x8000_0000_0000 || address >= 0xffff_8000_0000_0000,
+        _ => true,
+    }
+}
+
+// Returns the index of the kept module that contains an address, and the offset in that.
+pub(crate) fn module_place(modules: &MinidumpModuleList, address: u64) -> Option<(usize, u64)>
+    ensures { result ≡ module_place (module_list_stream.value modules.now) address }
+{
+    let (index, module) = modules.numbered_module_at_address(address)?;
+    Some((index, address.saturating_sub(module.base_address())))
+}
+
+// ---- unloaded modules
+
+// Returns the index of the last unloaded module that contains an address.
+fn unloaded_at(list: &Result<MinidumpUnloadedModuleList, Error>, address: u64) -> Option<usize>
+    ensures { result ≡ unloaded_at (unwrap_or
+        (result_ok (map_ok unloaded_module_list_stream.value list.now)) []) address }
+{
+    match list {
+        Ok(list) => last_index(&Unloaded(address), list.iter().as_slice()),
+        Err(_) => None,
+    }
+}
+
+// The unloaded modules that contain an address.
+#[derive(Clone, Copy)]
+struct Unloaded(u64);
+
+impl Choose<MinidumpUnloadedModule> for Unloaded {
+    ghost use Rattle.minidump.specs.Below.Index.Lookup.{has_address};
+    ghost use Rattle.minidump.specs.Below.Modules.UnloadedModule.{UnloadedValue, unloaded_of};
+    ghost use Rattle.minidump.specs.Below.Modules.UnloadedModule.{range_of_unloaded};
+
+    ghost Value = { UnloadedValue };
+
+    ghost value_of = { unloaded_of };
+
+    ghost is_chosen = { λ u m. has_address range_of_unloaded u.0 m };
+
+    fn chooses(&self, item: &MinidumpUnloadedModule) -> bool {
+        match item.memory_range() {
+            Some(range) => range.start <= self.0 && self.0 <= range.end,
+            None => false,
+        }
+    }
+}
+
+// ---- stacks
+
+// Returns the index of the last thread whose stack contains an address.
+fn stack_at(threads: &Result<MinidumpThreadList<'_>, Error>, address: u64) -> Option<usize>
+    ensures { result ≡ stack_at
+        (unwrap_or (result_ok (map_ok thread_list_stream.value threads.now)) []) address }
+{
+    match threads {
+        Ok(list) => last_index(&OnStack(address), list.threads.as_slice()),
+        Err(_) => None,
+    }
+}
+
+// The threads whose stacks contain an address.
+#[derive(Clone, Copy)]
+struct OnStack(u64);
+
+impl Choose<MinidumpThread<'_>> for OnStack {
+    ghost use Rattle.minidump.specs.Thread.{Thread, thread_of};
+    ghost use Rattle.crash.specs.Addresses.{has_stack};
+    ghost use Rattle.crash.specs.Stacks.{named_stack};
+
+    ghost Value = { Thread };
+
+    ghost value_of = { thread_of };
+
+    ghost is_chosen = { λ a t. has_stack a.0 (named_stack t.raw.stack) };
+
+    fn chooses(&self, item: &MinidumpThread<'_>) -> bool {
+        has_stack(self.0, named_stack(&item.raw.stack))
+    }
+}
+
+// Tells whether a stack contains an address.
+fn has_stack(address: u64, stack: Option<StackRange>) -> bool
+    ensures { result ≡ has_stack address stack }
+{
+    match stack {
+        Some(stack) => stack.base <= address && address - stack.base < stack.size,
+        None => false,
+    }
+}
+
+// Returns the index of the last thread whose stack begins a little above an address.
+fn stack_above(threads: &Result<MinidumpThreadList<'_>, Error>, address: u64) -> Option<usize>
+    ensures { result ≡ stack_above
+        (unwrap_or (result_ok (map_ok thread_list_stream.value threads.now)) []) address }
+{
+    match threads {
+        Ok(list) => last_index(&BelowStack(address), list.threads.as_slice()),
+        Err(_) => None,
+    }
+}
+
+// The threads whose stacks begin a little above an address.
+#[derive(Clone, Copy)]
+struct BelowStack(u64);
+
+impl Choose<MinidumpThread<'_>> for BelowStack {
+    ghost use Rattle.minidump.specs.Thread.{Thread, thread_of};
+    ghost use Rattle.crash.specs.Addresses.{is_below_stack};
+    ghost use Rattle.crash.specs.Stacks.{named_stack};
+
+    ghost Value = { Thread };
+
+    ghost value_of = { thread_of };
+
+    ghost is_chosen = { λ a t. is_below_stack a.0 (named_stack t.raw.stack) };
+
+    fn chooses(&self, item: &MinidumpThread<'_>) -> bool {
+        is_below_stack(self.0, named_stack(&item.raw.stack))
+    }
+}
+
+// Tells whether a stack begins a little above an address.
+fn is_below_stack(address: u64, stack: Option<StackRange>) -> bool
+    ensures { result ≡ is_below_stack address stack }
+{
+    match stack {
+        Some(stack) => address < stack.base && stack.base - address <= 4096,
+        None => false,
+    }
+}
+
+// ---- memory
+
+// Returns what is known of the memory that contains an address.
+fn memory_at(contents: &Contents<'_>, address: u64) -> Option<AddressMemory>
+    ensures { result ≡ memory_at (contents_of contents.now) address }
+{
+    let region = contents.space.infos.memory_info_at_address(address)?;
+    Some(memory_of(region))
+}
+
+// Returns what is known of the memory of a region.
+fn memory_of(region: UnifiedMemoryInfo<'_, '_>) -> AddressMemory
+    ensures { result ≡ memory_of (info_region region.entry) }
+{
+    AddressMemory {
+        state: state_of(region),
+        is_readable: region.is_readable(),
+        is_writable: region.is_writable(),
+        is_executable: region.is_executable(),
+        is_guarded: is_guarded(region),
+    }
+}
+
+// Returns the state of a region.
+fn state_of(region: UnifiedMemoryInfo<'_, '_>) -> RegionState
+    ensures { result ≡ state_of (info_region region.entry) }
+{
+    match region {
+        UnifiedMemoryInfo::Info(info) if info.raw.state == MEM_FREE => RegionState::Free,
+        UnifiedMemoryInfo::Info(info) if info.raw.state == MEM_RESERVE => RegionState::Reserved,
+        UnifiedMemoryInfo::Info(_) | UnifiedMemoryInfo::Map(_) => RegionState::Committed,
+    }
+}
+
+// Tells whether a region is guarded.
+fn is_guarded(region: UnifiedMemoryInfo<'_, '_>) -> bool
+    ensures { result ≡ is_guarded (info_region region.entry) }
+{
+    match region {
+        UnifiedMemoryInfo::Info(info) => info.raw.protection & PAGE_GUARD == PAGE_GUARD,
+        UnifiedMemoryInfo::Map(_) => false,
+    }
+}
