@@ -13,7 +13,8 @@ use Rattle.minidump.specs.Below.Records.Crashpad.{Crashpad, Module}
 use Rattle.minidump.specs.Below.Records.CrashpadText.{annotation_text}
 use Rattle.minidump.specs.Below.Records.Handles.{Handle}
 use Rattle.minidump.specs.Below.Records.Record.{MacRecord}
-use Rattle.crash.specs.declared.cause.AddressFacts.{AddressFacts}
+use Rattle.crash.specs.declared.addresses.AddressFacts.{AddressFacts}
+use Rattle.crash.specs.declared.addresses.AddressMemory.{AddressMemory}
 use Rattle.crash.specs.declared.damage.Damage.{Damage}
 use Rattle.crash.specs.declared.damage.Damage.TheVariants.{Exception, ExceptionContext, Stack, Stream, ThreadContext}
 use Rattle.crash.specs.declared.directory.StreamEntry.{StreamEntry}
@@ -30,7 +31,7 @@ use Rattle.crash.specs.Threads.{ThreadValue, ThreadsValue}
 use Rattle.json_tree.specs.Tree.{array_of, count, hex_string, members_of, object_of, or_null}
 use Rattle.json_tree.proofs.Depth.{array_within, flat_count, flat_hex, flat_text, numbered_array_within, or_null_within}
 use Rattle.crash_json.specs.declared.JsonLimits.{JsonLimits}
-use Rattle.crash_json.specs.Cause.{address_json, address_object, crash_info_json, crash_object, exception_json, exception_object, exceptions_json, sender_json, sender_object, unread_object}
+use Rattle.crash_json.specs.Cause.{address_json, address_object, crash_info_json, crash_object, exception_json, exception_object, exceptions_json, memory_json, memory_object, sender_json, sender_object, unread_object}
 use Rattle.crash_json.specs.Crashpad.{annotation_json, annotations_json, crashpad_json, crashpad_module_json, crashpad_modules_json, objects_json, texts_json}
 use Rattle.crash_json.specs.Frames.{frame_json, frame_object, register_members, registers_json}
 use Rattle.crash_json.specs.Minidump.{all_damage_json, damage_json, damage_object, minidump_json, minidump_object, region_object, region_json, regions_json, stream_json, stream_object, streams_json}
@@ -233,9 +234,23 @@ exceptions_depth : (es : List (Result ExceptionValue Error)) → depth (exceptio
 unfolding exceptions_json
 exceptions_depth es = array_within exception_json 2 es exception_depth
 
-address_object_depth : (address : ℕ) (index offset : Option ℕ) → depth (address_object address index offset) ≤ 1
+memory_object_depth : (state : List ℕ) (m : AddressMemory) → depth (memory_object state m) ≤ 1
+unfolding memory_object
+memory_object_depth state m = omega arith
+
+address_object_depth : (a : AddressFacts) (index offset : Option ℕ) → depth (address_object a index offset) ≤ 2
 unfolding address_object
-address_object_depth address index offset = omega (arith, flat_count index, flat_hex offset)
+address_object_depth a index offset =
+    omega (
+      arith,
+      flat_hex a.null_offset,
+      flat_count index,
+      flat_hex offset,
+      flat_count a.unloaded,
+      flat_count a.stack_of,
+      flat_count a.below_stack,
+      or_null_within memory_json 1 a.memory (λ m. memory_object_depth _ m),
+    )
 
 stream_object_depth : (number : ℕ) (name : Option (List ℕ)) (size rva : ℕ) (error : Option (List ℕ)) → depth (stream_object number name size rva error) ≤ 1
 unfolding stream_object
@@ -278,7 +293,7 @@ minidump_object_depth c written status origin =
       streams_depth c.directory.entries,
       regions_depth (unified_regions c.contents.space.memory),
       all_damage_depth c.damage,
-      or_null_within address_json 1 c.cause.address (λ a. address_object_depth _ _ _),
+      or_null_within address_json 2 c.cause.address (λ a. address_object_depth a _ _),
       exceptions_depth c.cause.exceptions,
       flat_count c.cause.counts,
       flat_text origin,

@@ -2,12 +2,15 @@
 use Rattle.std.specs.Prelude.{ℕ, List, [], ◌∷◌, codes, Option, Result, Ok, Err}
 use Rattle.std.specs.Option.{option_and_then, option_map}
 use Rattle.std.specs.Result.{result_ok}
-use Rattle.json.specs.Json.{Json, null, string}
+use Rattle.json.specs.Json.{Json, boolean, null, string}
 use Rattle.minidump.specs.declared.Error.{Error}
 use Rattle.minidump.specs.declared.format.MINIDUMP_ASSERTION_INFO.{MINIDUMP_ASSERTION_INFO}
 use Rattle.minidump.specs.Below.Bytes.Text16.{text_before_nul}
 use Rattle.minidump.specs.Below.Format.Error.{name_of_error}
-use Rattle.crash.specs.declared.cause.AddressFacts.{AddressFacts}
+use Rattle.crash.specs.declared.addresses.AddressFacts.{AddressFacts}
+use Rattle.crash.specs.declared.addresses.AddressMemory.{AddressMemory}
+use Rattle.crash.specs.declared.addresses.RegionState.{RegionState}
+use Rattle.crash.specs.declared.addresses.RegionState.TheVariants.{Committed, Free, Reserved}
 use Rattle.crash.specs.declared.contexts.ContextProblem.{ContextProblem}
 use Rattle.crash.specs.declared.contexts.ContextProblem.TheVariants.{NoSystem, NotAccepted, Outside}
 use Rattle.crash.specs.declared.records.Access.{Access}
@@ -114,15 +117,41 @@ exceptions_json exceptions = array_of exception_json exceptions
 
 -- ---- the address
 
+-- the word for the state of memory
+abbrev pub state_name : RegionState → List ℕ
+state_name Free = codes "free"
+state_name Reserved = codes "reserved"
+state_name Committed = codes "committed"
+
+-- memory by the word for its state
+unfoldable pub memory_object : List ℕ → AddressMemory → Json
+memory_object state m = object_of (
+    (codes "state", string state)
+    ∷ (codes "is_readable", boolean m.is_readable)
+    ∷ (codes "is_writable", boolean m.is_writable)
+    ∷ (codes "is_executable", boolean m.is_executable)
+    ∷ (codes "is_guarded", boolean m.is_guarded)
+    ∷ [])
+
+-- the memory that contains an address
+abbrev pub memory_json : AddressMemory → Json
+memory_json m = memory_object (state_name m.state) m
+
 -- an address by the index of its module and the offset in that
-unfoldable pub address_object : ℕ → Option ℕ → Option ℕ → Json
-address_object address index offset = object_of (
-    (codes "address", hex_string address)
+unfoldable pub address_object : AddressFacts → Option ℕ → Option ℕ → Json
+address_object a index offset = object_of (
+    (codes "address", hex_string a.address)
+    ∷ (codes "null_offset", or_null hex_string a.null_offset)
+    ∷ (codes "is_canonical", boolean a.is_canonical)
     ∷ (codes "module", or_null count index)
     ∷ (codes "module_offset", or_null hex_string offset)
+    ∷ (codes "unloaded_module", or_null count a.unloaded)
+    ∷ (codes "stack_of", or_null count a.stack_of)
+    ∷ (codes "below_stack", or_null count a.below_stack)
+    ∷ (codes "memory", or_null memory_json a.memory)
     ∷ [])
 
 -- what is known of an address
 abbrev pub address_json : AddressFacts → Json
 address_json a =
-    address_object a.address (option_map (λ p. p.0) a.module) (option_map (λ p. p.1) a.module)
+    address_object a (option_map (λ p. p.0) a.module) (option_map (λ p. p.1) a.module)

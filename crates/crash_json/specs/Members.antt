@@ -12,6 +12,8 @@ use Rattle.crash.specs.Contexts.{context_of}
 use Rattle.crash.specs.Crash.{crash_of}
 use Rattle.crash.specs.Modules.{loaded_of}
 use Rattle.json_tree.specs.Tree.{array_of, hex_string, numbered_array_of, or_null, scalar_json}
+use Rattle.crash_json.specs.declared.cause.AddressMember.{AddressMember}
+use Rattle.crash_json.specs.declared.cause.AddressMember.TheVariants as address
 use Rattle.crash_json.specs.declared.cause.ExceptionMember.{ExceptionMember}
 use Rattle.crash_json.specs.declared.cause.ExceptionMember.TheVariants as exception
 use Rattle.crash_json.specs.declared.crashpad.CrashpadMember.{CrashpadMember}
@@ -28,7 +30,8 @@ use Rattle.crash_json.specs.declared.report.ReportMember.{ReportMember}
 use Rattle.crash_json.specs.declared.report.ReportMember.TheVariants as report
 use Rattle.crash_json.specs.declared.threads.ThreadMember.{ThreadMember}
 use Rattle.crash_json.specs.declared.threads.ThreadMember.TheVariants as thread
-use Rattle.crash_json.specs.Cause.{address_json, crash_info_json, exceptions_json, sender_json}
+use Rattle.crash_json.specs.Cause.{address_json, crash_info_json, exceptions_json, memory_json}
+use Rattle.crash_json.specs.Cause.{sender_json}
 use Rattle.crash_json.specs.Crashpad.{annotations_json, crashpad_json, crashpad_modules_json}
 use Rattle.crash_json.specs.Crashpad.{objects_json, texts_json}
 use Rattle.crash_json.specs.Frames.{frame_json, registers_json}
@@ -56,6 +59,11 @@ abbrev pub exception_member : ExceptionMember → Json
 exception_member (exception.Scalar s) = scalar_json s
 exception_member (exception.Parameters parameters) = array_of hex_string parameters.now
 exception_member (exception.Sender s) = or_null sender_json s
+
+-- a member of what is known of an address
+abbrev pub address_member : AddressMember → Json
+address_member (address.Scalar s) = scalar_json s
+address_member (address.Memory m) = or_null memory_json m
 
 -- a member of macOS's crash information
 abbrev pub mac_member : MacMember → Json

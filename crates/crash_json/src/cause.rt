@@ -10,9 +10,13 @@ ghost use Rattle.json_tree.specs.Tree.{Puts};
 ghost use Rattle.crash_json.specs.Cause.{access_name, address_json, address_object, counting_in};
 ghost use Rattle.crash_json.specs.Cause.{crash_info_json, crash_object, exception_json};
 ghost use Rattle.crash_json.specs.Cause.{exception_object, exceptions_json, expression_in};
-ghost use Rattle.crash_json.specs.Cause.{problem_name, sender_object, unread_object};
+ghost use Rattle.crash_json.specs.Cause.{memory_json, memory_object, problem_name, sender_object, state_name};
+ghost use Rattle.crash_json.specs.Cause.{unread_object};
 
-use crash::{Access, AddressFacts, ContextProblem, Crash, CrashCause, CrashException, Sender};
+use crash::{
+    Access, AddressFacts, AddressMemory, ContextProblem, Crash, CrashCause, CrashException,
+    RegionState, Sender,
+};
 use json::Writer;
 use json_tree::{
     ItemJson, Scalar, ToJson, ValueJson, as_text, put_array, put_item_or_null, put_object,
@@ -325,7 +329,7 @@ impl ItemJson<AddressFacts> for AddressJson {
     ghost json_of = { λ _ a. address_json a };
 
     fn put_item(&self, item: &AddressFacts, out: &mut Writer, alloc: Global) -> Result<(), Error> {
-        put_address(out, alloc, item.address, index_of(item), offset_of(item))
+        put_address(out, alloc, item, index_of(item), offset_of(item))
     }
 }
 
@@ -345,23 +349,97 @@ fn offset_of(address: &AddressFacts) -> Option<u64>
     Some(offset)
 }
 
+#[rattlefmt::skip]
 #[tactic(auto, unfolding(crate::specs::Cause::address_object))]
 fn put_address(
     out: &mut Writer,
     alloc: Global,
-    address: u64,
+    facts: &AddressFacts,
     index: Option<usize>,
     offset: Option<u64>,
 ) -> Result<(), Error>
-    ensures { Puts result out.old out.new (address_object address index offset) }
+    ensures { Puts result out.old out.new (address_object facts.now index offset) }
+{
+    put_object_of(
+        out,
+        alloc,
+        &[
+            ("address", AddressMember::Scalar(Scalar::Hex(Some(facts.address)))),
+            ("null_offset", AddressMember::Scalar(Scalar::Hex(facts.null_offset))),
+            ("is_canonical", AddressMember::Scalar(Scalar::Flag(facts.is_canonical))),
+            ("module", AddressMember::Scalar(Scalar::Count(index))),
+            ("module_offset", AddressMember::Scalar(Scalar::Hex(offset))),
+            ("unloaded_module", AddressMember::Scalar(Scalar::Count(facts.unloaded))),
+            ("stack_of", AddressMember::Scalar(Scalar::Count(facts.stack_of))),
+            ("below_stack", AddressMember::Scalar(Scalar::Count(facts.below_stack))),
+            ("memory", AddressMember::Memory(facts.memory)),
+        ],
+    )
+}
+
+// The value of a member of what is known of an address.
+#[derive(Clone, Copy)]
+pub(crate) enum AddressMember<'l> {
+    Scalar(Scalar<'l>),
+    Memory(Option<AddressMemory>),
+}
+
+impl ToJson for AddressMember<'_> {
+    ghost use Rattle.crash_json.specs.Members.{address_member};
+
+    ghost json = { address_member };
+
+    fn put(&self, out: &mut Writer, alloc: Global) -> Result<(), Error> {
+        match self {
+            AddressMember::Scalar(scalar) => scalar.put(out, alloc),
+            AddressMember::Memory(memory) => put_item_or_null(out, alloc, memory, &MemoryJson),
+        }
+    }
+}
+
+// Gives the memory that contains an address its JSON value.
+#[derive(Clone, Copy)]
+struct MemoryJson;
+
+impl ItemJson<AddressMemory> for MemoryJson {
+    ghost use Rattle.crash_json.specs.Cause.{memory_json};
+
+    ghost json_of = { λ _ m. memory_json m };
+
+    fn put_item(&self, item: &AddressMemory, out: &mut Writer, alloc: Global) -> Result<(), Error> {
+        put_memory(out, alloc, state_name(item.state), item)
+    }
+}
+
+#[tactic(auto, unfolding(crate::specs::Cause::memory_object))]
+fn put_memory<'t>(
+    out: &mut Writer,
+    alloc: Global,
+    state: &'t str,
+    memory: &AddressMemory,
+) -> Result<(), Error>
+    ensures { Puts result out.old out.new (memory_object state.now memory.now) }
 {
     put_object(
         out,
         alloc,
         &[
-            ("address", Scalar::Hex(Some(address))),
-            ("module", Scalar::Count(index)),
-            ("module_offset", Scalar::Hex(offset)),
+            ("state", Scalar::Text(Some(state))),
+            ("is_readable", Scalar::Flag(memory.is_readable)),
+            ("is_writable", Scalar::Flag(memory.is_writable)),
+            ("is_executable", Scalar::Flag(memory.is_executable)),
+            ("is_guarded", Scalar::Flag(memory.is_guarded)),
         ],
     )
+}
+
+// Returns the word for the state of memory.
+fn state_name(state: RegionState) -> &'static str
+    ensures { result.now ≡ state_name state }
+{
+    match state {
+        RegionState::Free => "free",
+        RegionState::Reserved => "reserved",
+        RegionState::Committed => "committed",
+    }
 }
