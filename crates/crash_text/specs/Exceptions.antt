@@ -6,13 +6,11 @@ use Rattle.std.specs.List.{concat, enumerate_from}
 use Rattle.minidump.specs.declared.Error.{Error}
 use Rattle.minidump.specs.Below.Bytes.Piece.{hex}
 use Rattle.minidump.specs.Below.Format.Error.{name_of_error}
-use Rattle.crash.specs.declared.cause.AddressFacts.{AddressFacts}
 use Rattle.crash.specs.Cause.{ExceptionValue}
 use Rattle.crash.specs.Counting.{counted}
 use Rattle.crash.specs.Crash.{CrashValue}
-use Rattle.crash.specs.Modules.{LoadedValue}
+use Rattle.crash_text.specs.Addresses.{address_lines}
 use Rattle.crash_text.specs.Lines.{if_some}
-use Rattle.crash_text.specs.Places.{place_text}
 use Rattle.crash_text.specs.Records.{record_text}
 use Rattle.crash_text.specs.Registers.{registers_lines}
 use Rattle.crash_text.specs.Words.{or_empty, unless_empty}
@@ -23,14 +21,6 @@ use Rattle.crash_text.specs.Words.{or_empty, unless_empty}
 unfoldable pub crashed_row : ℕ → List ℕ
 crashed_row id = concat (codes "crashed thread " ∷ decimal id ∷ codes " (" ∷ hex id ∷ codes ")"
     ∷ [])
-
--- the line of the address, with the words for its module
-unfoldable pub address_row : ℕ → List ℕ → List ℕ
-address_row address place = concat (codes "address " ∷ hex address ∷ place ∷ [])
-
--- the same by the modules
-abbrev pub address_lines : List LoadedValue → AddressFacts → List (List ℕ)
-address_lines modules a = address_row a.address (place_text modules [] a.«module») ∷ []
 
 -- the line of the reason, in words
 unfoldable pub reason_row : List ℕ → List ℕ
@@ -43,7 +33,7 @@ code_row code at said = concat (codes "code    " ∷ hex code ∷ codes " at " �
 -- the crash, by the exception that counts
 abbrev pub counted_lines : CrashValue → ExceptionValue → List (List ℕ)
 counted_lines c e = crashed_row e.thread
-    ∷ (if_some (address_lines c.modules.loaded) c.cause.address
+    ∷ (if_some (address_lines c) c.cause.address
     ++ (if_some (λ reason. reason_row reason ∷ []) e.reason
     ++ (code_row e.code e.at (record_text e) ∷ registers_lines c e)))
 

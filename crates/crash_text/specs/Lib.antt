@@ -5,6 +5,7 @@ pub mod Words
 pub mod System
 pub mod Places
 pub mod Records
+pub mod Addresses
 pub mod Exceptions
 pub mod Registers
 pub mod Damage

@@ -4,20 +4,19 @@ ghost use Rattle.minidump.specs.Below.Contexts.Context.{map_ok};
 ghost use Rattle.crash.specs.Cause.{cause_of, exception_of};
 ghost use Rattle.crash.specs.Counting.{counted};
 ghost use Rattle.crash.specs.Crash.{crash_of};
-ghost use Rattle.crash.specs.Modules.{loaded_of};
-ghost use Rattle.crash_text.specs.Exceptions.{address_lines, address_row, code_row, counted_lines};
+ghost use Rattle.crash_text.specs.Exceptions.{code_row, counted_lines};
 ghost use Rattle.crash_text.specs.Exceptions.{crash_lines, crashed_row, each_exception};
 ghost use Rattle.crash_text.specs.Exceptions.{exception_line, exception_row, none_lines, reason_row};
 ghost use Rattle.crash_text.specs.Exceptions.{several_lines, several_row, unread_row};
 ghost use Rattle.crash_text.specs.Lines.{Adds, if_some};
 ghost use Rattle.crash_text.specs.Records.{record_text};
 
+use crate::addresses::push_address;
 use crate::lines::push_line;
-use crate::places::place_text;
 use crate::records::record_text;
 use crate::registers::push_registers;
 use crate::words::{or_empty, push_words, unless_empty};
-use crash::{AddressFacts, Crash, CrashCause, CrashException, CrashModule};
+use crash::{Crash, CrashCause, CrashException};
 use minidump::Error;
 use minidump::text::Piece::{Decimal, Hex, Words};
 use std::alloc::AllocError;
@@ -81,7 +80,7 @@ fn push_counted_lines(
         (counted_lines (crash_of crash.now) (exception_of exception.now)) result }
 {
     push_crashed(out, exception.thread)?;
-    push_address(out, crash.modules.loaded.as_slice(), crash.cause.address)?;
+    push_address(out, crash)?;
     push_reason(out, &exception.reason)?;
     push_code(out, exception)?;
     push_registers(out, crash, exception)
@@ -96,31 +95,6 @@ fn push_crashed(out: &mut String, id: u32) -> Result<(), AllocError>
         out,
         &[Words("crashed thread "), Decimal(id as u64), Words(" ("), Hex(id as u64), Words(")")],
     )
-}
-
-// Appends the address of the crash with its module, if it is known.
-fn push_address(
-    out: &mut String,
-    modules: &[CrashModule],
-    address: Option<AddressFacts>,
-) -> Result<(), AllocError>
-    ensures { Adds out.old out.new
-        (if_some (address_lines (map loaded_of modules.now)) address) result }
-{
-    match address {
-        Some(facts) => {
-            let place = place_text(*out.allocator(), modules, "", facts.module)?;
-            push_address_row(out, facts.address, place.as_str())
-        }
-        None => Ok(()),
-    }
-}
-
-#[tactic(auto, unfolding(crate::specs::Exceptions::address_row))]
-fn push_address_row(out: &mut String, address: u64, place: &str) -> Result<(), AllocError>
-    ensures { Adds out.old out.new (address_row address place.now ∷ []) result }
-{
-    push_line(out, &[Words("address "), Hex(address), Words(place)])
 }
 
 #[tactic(auto, unfolding(crate::specs::Exceptions::reason_row))]

@@ -47,6 +47,7 @@
 //! - It has no control character below 0x20 but the ends of its lines, and no 0x7f: [`text_of`].
 #![tactic(auto)]
 
+mod addresses;
 mod damage;
 mod escape;
 mod exceptions;

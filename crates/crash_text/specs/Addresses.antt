@@ -1,0 +1,84 @@
+-- The line of the address of a crash, with what is known of it.
+use Rattle.std.specs.Prelude.{ℕ, ◌++◌, Bool, true, false, List, [], ◌∷◌, codes, slice_get}
+use Rattle.std.specs.Prelude.{Option, Some, None}
+use Rattle.std.specs.Fmt.{decimal}
+use Rattle.std.specs.List.{concat}
+use Rattle.std.specs.Option.{option_and_then}
+use Rattle.minidump.specs.Below.Bytes.Piece.{hex}
+use Rattle.crash.specs.declared.addresses.AddressFacts.{AddressFacts}
+use Rattle.crash.specs.declared.addresses.AddressMemory.{AddressMemory}
+use Rattle.crash.specs.declared.addresses.RegionState.{RegionState}
+use Rattle.crash.specs.declared.addresses.RegionState.TheVariants.{Committed, Free, Reserved}
+use Rattle.crash.specs.Crash.{CrashValue}
+use Rattle.crash.specs.Modules.{UnloadedModuleValue}
+use Rattle.crash.specs.Threads.{ThreadValue}
+use Rattle.crash_text.specs.Places.{place_text}
+
+-- how far the address is from 0, where it is near
+abbrev pub null_words : Option ℕ → List ℕ
+null_words (Some offset) = concat (codes ", null + " ∷ hex offset ∷ [])
+null_words None = []
+
+-- that the processor can't access it
+abbrev pub canonical_words : Bool → List ℕ
+canonical_words true = []
+canonical_words false = codes ", not canonical"
+
+-- an unloaded module by its path
+abbrev pub path_words : List ℕ → List ℕ
+path_words path = concat (codes ", in unloaded " ∷ path ∷ [])
+
+-- the unloaded module that contained it
+abbrev pub unloaded_words : Option UnloadedModuleValue → List ℕ
+unloaded_words (Some m) = path_words m.path
+unloaded_words None = []
+
+-- a thread after these words
+abbrev pub thread_words : List ℕ → Option ThreadValue → List ℕ
+thread_words words (Some t) =
+    concat (words ∷ decimal t.id ∷ codes " (" ∷ hex t.id ∷ codes ")" ∷ [])
+thread_words words None = []
+
+-- a letter for a right, and a dash where it is absent
+abbrev pub right_letter : List ℕ → Bool → List ℕ
+right_letter letter true = letter
+right_letter letter false = codes "-"
+
+-- that its memory is guarded
+abbrev pub guard_words : Bool → List ℕ
+guard_words true = codes " guarded"
+guard_words false = []
+
+-- the rights of memory
+abbrev pub rights_words : AddressMemory → List ℕ
+rights_words m = concat (codes ", memory " ∷ right_letter (codes "r") m.is_readable
+    ∷ right_letter (codes "w") m.is_writable ∷ right_letter (codes "x") m.is_executable
+    ∷ guard_words m.is_guarded ∷ [])
+
+-- its memory, by the state and then by the rights
+abbrev pub state_words : RegionState → AddressMemory → List ℕ
+state_words Free m = codes ", memory free"
+state_words Reserved m = codes ", memory reserved"
+state_words Committed m = rights_words m
+
+abbrev pub memory_words : Option AddressMemory → List ℕ
+memory_words (Some m) = state_words m.state m
+memory_words None = []
+
+-- all of it, by the unloaded modules and the threads
+abbrev pub address_words : List UnloadedModuleValue → List ThreadValue → AddressFacts → List ℕ
+address_words unloaded threads a = null_words a.null_offset ++ (canonical_words a.is_canonical
+    ++ (unloaded_words (option_and_then (slice_get unloaded) a.unloaded)
+    ++ (thread_words (codes ", in the stack of thread ")
+    (option_and_then (slice_get threads) a.stack_of)
+    ++ (thread_words (codes ", below the stack of thread ")
+    (option_and_then (slice_get threads) a.below_stack) ++ memory_words a.memory))))
+
+-- the line of the address, with the words for its module and the others
+unfoldable pub address_row : ℕ → List ℕ → List ℕ → List ℕ
+address_row address place words = concat (codes "address " ∷ hex address ∷ place ∷ words ∷ [])
+
+-- the same by the crash
+abbrev pub address_lines : CrashValue → AddressFacts → List (List ℕ)
+address_lines c a = address_row a.address (place_text c.modules.loaded [] a.«module»)
+    (address_words c.modules.unloaded c.threads.threads a) ∷ []
