@@ -7,7 +7,7 @@ pub(crate) const HEAD: &str = r##"<!DOCTYPE html>
 <head>
 <meta charset="utf-8">
 <meta http-equiv="Content-Security-Policy" content="default-src 'none'; base-uri 'none'; form-action 'none';
- script-src 'sha256-iS72Yr478bFoh60hq2WGdk67XT9BpYibpSUt7+h/kMA=';
+ script-src 'sha256-sCS2DR2HNvi9NgTc3MDr22LwcbkYdyaC+Mk6AWbFvYg=';
  style-src 'sha256-n6RianowlLPo6k+7drOX/1aXltKM2fjvRvjzX1Fk0/U='">
 <meta name="viewport" content="width=device-width, initial-scale=1">
 <title>Crash</title>

@@ -370,12 +370,36 @@ function labelled(label, value) {
   return value === null || value === "" ? null : label + value;
 }
 
-// Returns an address of the crash, and where it lies.
+// Returns the address of the crash, where it lies, and what is known of it.
 function addressWords() {
   const at = part(minidump, "address");
   const module = list(part(crash, "modules"))[part(at, "module")] ?? null;
+  const unloaded = list(part(crash, "unloaded_modules"))[part(at, "unloaded_module")] ?? null;
   const place = module === null ? null : "in " + last(part(module, "filename")) + "+" + part(at, "module_offset");
-  return joined([part(part(crash, "crash_info"), "address"), place], " ");
+  return joined([
+    joined([part(part(crash, "crash_info"), "address"), place], " "),
+    labelled("null + ", part(at, "null_offset")),
+    part(at, "is_canonical") === false ? "not canonical" : null,
+    unloaded === null ? null : "in unloaded " + last(part(unloaded, "filename")),
+    stackWords("in the stack of thread ", part(at, "stack_of")),
+    stackWords("below the stack of thread ", part(at, "below_stack")),
+    memoryWords(part(at, "memory")),
+  ], ", ");
+}
+
+// Returns words and the thread of an index, or null.
+function stackWords(words, index) {
+  const found = list(part(crash, "threads"))[index] ?? null;
+  return found === null ? null : words + threadName(found);
+}
+
+// Returns the state of memory, or the rights of what is there, or null.
+function memoryWords(memory) {
+  if (memory === null) return null;
+  if (part(memory, "state") !== "committed") return "memory " + part(memory, "state");
+  const rights = [["is_readable", "r"], ["is_writable", "w"], ["is_executable", "x"]];
+  const letters = rights.map(([name, letter]) => (part(memory, name) === true ? letter : "-")).join("");
+  return "memory " + letters + (part(memory, "is_guarded") === true ? " guarded" : "");
 }
 
 // Returns the process that sent a signal, and its user, or null.
