@@ -22,8 +22,8 @@ impl CfiRecord<'_> {
         evaluate(alloc, rule, state, None)
     }
 
-    /// Returns a register of the caller, or for `.ra` its return address. Returns `None` if there is
-    /// no rule, or its expression has no value.
+    /// Returns a register of the caller, or for `.ra` the return address into it. Returns `None` if
+    /// there is no rule, or its expression has no value.
     pub fn caller_register<S: UnwindState>(
         &self,
         alloc: Global,

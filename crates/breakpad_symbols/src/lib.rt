@@ -30,9 +30,10 @@
 //!     STACK CFI address rules                            changes the rules before it
 //!
 //! A line ends at a line feed, before which a carriage return may stand. One space is between fields,
-//! and the last one is the rest of the line. Addresses and sizes are hexadecimal digits of 64 bits,
-//! other numbers decimal ones of 32 bits. The next FUNC, PUBLIC or STACK line ends the records of a
-//! function.
+//! and the last one is the rest of the line; between the words of ranges and rules white space is.
+//! Addresses and sizes are hexadecimal digits of 64 bits, other numbers decimal ones of 32 bits. The
+//! next FUNC, PUBLIC or STACK line ends the records of a function, the next STACK CFI INIT line the
+//! changes of rules.
 //!
 //! Rules are words: a register and a colon, and then its expression in postfix form, of decimal numbers,
 //! also negative ones, registers, `.cfa`, the operators `+ - * / % @`, and `^`, which reads the word at
