@@ -10,8 +10,8 @@ use Rattle.minidump.specs.Below.System.Cpu.{pointer_bytes}
 use Rattle.stack_walk.specs.declared.frame.FrameTrust.TheVariants.{Scan}
 use Rattle.stack_walk.specs.declared.frame.StackFrame.{StackFrame}
 use Rattle.stack_walk.specs.Evidence.{HasEvidence}
-use Rattle.stack_walk.specs.Frames.{AreCallers, AreFrames, StackValue, candidate_at, candidate_by, context_frame, pointer_at, scan, word_candidate, words_from}
-use Rattle.stack_walk.specs.Lookups.{call_site, is_code, may_be_run}
+use Rattle.stack_walk.specs.Frames.{AreCallers, AreFrames, StackValue, candidate_at, candidate_by, context_frame, may_have_called, pointer_at, scan, word_candidate, words_from}
+use Rattle.stack_walk.specs.Lookups.{call_site}
 use Rattle.stack_walk.proofs.CallerLemmas.{Record, has_record, passed, step}
 
 -- a word below a stack pointer
@@ -35,12 +35,12 @@ by_word : (s : StackValue) (after word : ℕ) (f : StackFrame) → candidate_by 
     → ◌≡◌ {A = StackFrame} (record { instruction = word; stack_pointer = after; frame_pointer = None; trust = Scan }) f
 by_word s after word f e =
     let call =
-    step (λ call. if is_code s.modules call && may_be_run s.infos call
+    step (λ call. if may_have_called s call
     then Some (record { instruction = word; stack_pointer = after; frame_pointer = None; trust = Scan })
     else None) (call_site word) f e
     in
     let code =
-    passed (is_code s.modules call.0 && may_be_run s.infos call.0)
+    passed (may_have_called s call.0)
     (Some (record { instruction = word; stack_pointer = after; frame_pointer = None; trust = Scan })) f call.2
     in
     let same : ◌≡◌ {A = Option StackFrame}

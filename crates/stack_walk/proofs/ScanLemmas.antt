@@ -7,9 +7,10 @@ use Rattle.std.proofs.lemmas.Bool.{cases_lt}
 use Rattle.std.proofs.lemmas.Grind.{div_ceil_times}
 use Rattle.std.proofs.lemmas.List.{take_all}
 use Rattle.std.proofs.lemmas.List.FromFn.{length-range_with_len}
+use Rattle.minidump.specs.declared.system_info.Cpu.{Cpu}
 use Rattle.minidump.specs.declared.system_info.PointerWidth.{PointerWidth}
 use Rattle.minidump.specs.declared.system_info.PointerWidth.TheVariants.{Bits32, Bits64, Unknown}
-use Rattle.minidump.specs.Below.MemoryLists.Unified.{UnifiedRegion}
+use Rattle.minidump.specs.Below.MemoryLists.Unified.{UnifiedRegion, UnifiedRegions}
 use Rattle.minidump.specs.Below.MemoryLists.UnifiedInfo.{InfoRegion}
 use Rattle.minidump.specs.Below.Modules.Module.{ModuleValue}
 use Rattle.minidump.specs.Below.System.Cpu.{pointer_bytes}
@@ -51,30 +52,30 @@ OnStack from number size s = (base_of s ≤ number * size) × (number * size + s
 abbrev IsWithin : ℕ → ℕ → StackValue → Type 0
 IsWithin from number s = ((words_from s from).0 ≤ number) × (number < (words_from s from).0 + (words_from s from).1)
 
-within : (region : Option UnifiedRegion) (modules : List ModuleValue) (infos : List InfoRegion) (width : PointerWidth) (from number size : ℕ)
+within : (region : Option UnifiedRegion) (modules : List ModuleValue) (memory : UnifiedRegions) (infos : List InfoRegion) (cpu : Cpu) (width : PointerWidth) (from number size : ℕ)
     → pointer_bytes width ≡ Some size
-    → OnStack from number size (record { region = region; modules = modules; infos = infos; width = width })
-    → IsWithin from number (record { region = region; modules = modules; infos = infos; width = width })
-within None modules infos width from number size is on = absurd (omega (arith, on.1, wide width size is))
-within (Some r) modules infos Bits32 from number size is on =
+    → OnStack from number size (record { region = region; modules = modules; memory = memory; infos = infos; cpu = cpu; width = width })
+    → IsWithin from number (record { region = region; modules = modules; memory = memory; infos = infos; cpu = cpu; width = width })
+within None modules memory infos cpu width from number size is on = absurd (omega (arith, on.1, wide width size is))
+within (Some r) modules memory infos cpu Bits32 from number size is on =
     let k : 4 ≡ size = cc in
     let there = rw (sym k) at on in
     let c = div_ceil_times (max from r.base_address) 4 (omega arith) in
     (omega (arith, there.0, there.1, there.2, c.0, c.1), omega (arith, there.0, there.1, there.2, c.0, c.1))
-within (Some r) modules infos Bits64 from number size is on =
+within (Some r) modules memory infos cpu Bits64 from number size is on =
     let k : 8 ≡ size = cc in
     let there = rw (sym k) at on in
     let c = div_ceil_times (max from r.base_address) 8 (omega arith) in
     (omega (arith, there.0, there.1, there.2, c.0, c.1), omega (arith, there.0, there.1, there.2, c.0, c.1))
-within (Some r) modules infos Unknown from number size is on = cc
+within (Some r) modules memory infos cpu Unknown from number size is on = cc
 
-few_words : (region : Option UnifiedRegion) (modules : List ModuleValue) (infos : List InfoRegion) (width : PointerWidth) (from : ℕ)
-    → (words_from (record { region = region; modules = modules; infos = infos; width = width }) from).1
-    ≤ length (stack_bytes (record { region = region; modules = modules; infos = infos; width = width }))
-few_words None modules infos width from = omega arith
-few_words (Some r) modules infos Bits32 from = omega arith
-few_words (Some r) modules infos Bits64 from = omega arith
-few_words (Some r) modules infos Unknown from = omega arith
+few_words : (region : Option UnifiedRegion) (modules : List ModuleValue) (memory : UnifiedRegions) (infos : List InfoRegion) (cpu : Cpu) (width : PointerWidth) (from : ℕ)
+    → (words_from (record { region = region; modules = modules; memory = memory; infos = infos; cpu = cpu; width = width }) from).1
+    ≤ length (stack_bytes (record { region = region; modules = modules; memory = memory; infos = infos; cpu = cpu; width = width }))
+few_words None modules memory infos cpu width from = omega arith
+few_words (Some r) modules memory infos cpu Bits32 from = omega arith
+few_words (Some r) modules memory infos cpu Bits64 from = omega arith
+few_words (Some r) modules memory infos cpu Unknown from = omega arith
 
 -- a candidate's word lies on the stack
 on_stack : (s : StackValue) (size address : ℕ) (f : StackFrame) → pointer_bytes s.width ≡ Some size → candidate_at s size address ≡ Some f
@@ -95,11 +96,11 @@ pub each_word : (s : StackValue) (from limit number size : ℕ) (f : StackFrame)
 each_word s from limit number size f is above e enough =
     let words = words_from s from in
     let on = on_stack s size (number * size) f is (candidate_of s number size f is e) in
-    let here = within s.region s.modules s.infos s.width from number size is (on.0, on.1, above) in
+    let here = within s.region s.modules s.memory s.infos s.cpu s.width from number size is (on.0, on.1, above) in
     let there : words.0 + (number - words.0) ≡ number = omega (arith, here.0) in
     let h = λ (index : ℕ). word_candidate s (words.0 + index) in
     let found = given h f words.1 0 (number - words.0) (omega arith) (omega (arith, here.0, here.1)) (rw there e) in
     let few : length (filter_map h (range_with_len 0 words.1)) ≤ limit =
-    omega (arith, few_given h (range_with_len 0 words.1), length-range_with_len 0 words.1, few_words s.region s.modules s.infos s.width from, enough)
+    omega (arith, few_given h (range_with_len 0 words.1), length-range_with_len 0 words.1, few_words s.region s.modules s.memory s.infos s.cpu s.width from, enough)
     in
     rw (take_all limit (filter_map h (range_with_len 0 words.1)) few) found

@@ -5,13 +5,15 @@ use Rattle.std.specs.Option.{option_and_then}
 use Rattle.minidump.specs.declared.system_info.PointerWidth.{PointerWidth}
 use Rattle.minidump.specs.Below.System.Cpu.{pointer_bytes}
 use Rattle.stack_walk.specs.declared.frame.FrameTrust.{FrameTrust}
-use Rattle.stack_walk.specs.declared.frame.FrameTrust.TheVariants.{Context, FramePointer, Scan}
+use Rattle.stack_walk.specs.declared.frame.FrameTrust.TheVariants.{Context, Cfi, FramePointer, Scan}
 use Rattle.stack_walk.specs.declared.frame.StackFrame.{StackFrame}
 use Rattle.stack_walk.specs.Frames.{StackValue, pointer_at}
 
--- the address of the word below the stack pointer of a caller or a candidate: none of a context
+-- the address of the word below the stack pointer of a caller or a candidate: none of a context,
+-- nor of a frame by rules, whose return address may stand elsewhere or in a register
 abbrev word_below : FrameTrust → ℕ → ℕ → Option ℕ
 word_below Context stack_pointer size = None
+word_below Cfi stack_pointer size = None
 word_below FramePointer stack_pointer size = if nat_le size stack_pointer
     then Some (stack_pointer - size) else None
 word_below Scan stack_pointer size = if nat_le size stack_pointer then Some (stack_pointer - size)

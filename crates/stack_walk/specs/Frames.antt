@@ -1,6 +1,6 @@
 -- The frames of a thread: that of its context, its callers by the frame records that the stack
 -- holds, and the words of the stack that may be return addresses.
-use Rattle.std.specs.Prelude.{◌≡◌, ℕ, ◌+◌, ◌*◌, ◌/◌, ◌^◌, max, nat_lt, ◌&&◌, List, [], ◌∷◌, ◌++◌}
+use Rattle.std.specs.Prelude.{◌≡◌, ℕ, ◌+◌, ◌*◌, ◌/◌, ◌^◌, max, nat_lt, ◌&&◌, Bool, List, [], ◌∷◌, ◌++◌}
 use Rattle.std.specs.Prelude.{codes, length, take, Option, Some, None, if◌then◌else◌, unwrap_or}
 use Rattle.std.specs.Int.{div_ceil}
 use Rattle.std.specs.List.{filter_map, range_with_len}
@@ -8,12 +8,14 @@ use Rattle.std.specs.Option.{option_and_then, option_map, option_map_or}
 use Rattle.minidump.specs.declared.MinidumpContext.{MinidumpContext}
 use Rattle.minidump.specs.declared.MinidumpRawContext.{MinidumpRawContext}
 use Rattle.minidump.specs.declared.MinidumpRawContext.TheVariants.{X86, Amd64, Arm, Arm64, OldArm64}
+use Rattle.minidump.specs.declared.system_info.Cpu.{Cpu}
 use Rattle.minidump.specs.declared.system_info.PointerWidth.{PointerWidth}
 use Rattle.minidump.specs.declared.system_info.PointerWidth.TheVariants.{Bits32, Bits64, Unknown}
 use Rattle.minidump.specs.Below.Bytes.Layout.{number_layout}
 use Rattle.minidump.specs.Below.Contexts.Context.{registers_of, valid_value_in, value_in}
 use Rattle.minidump.specs.Below.MemoryLists.Memory.{number_in}
-use Rattle.minidump.specs.Below.MemoryLists.Unified.{UnifiedRegion, unified_region}
+use Rattle.minidump.specs.Below.MemoryLists.Unified.{UnifiedRegion, UnifiedRegions, unified_list}
+use Rattle.minidump.specs.Below.MemoryLists.Unified.{unified_region}
 use Rattle.minidump.specs.Below.MemoryLists.UnifiedInfo.{InfoRegion, info_list, info_regions}
 use Rattle.minidump.specs.Below.Modules.Module.{ModuleValue}
 use Rattle.minidump.specs.Below.System.Cpu.{pointer_bytes}
@@ -21,14 +23,17 @@ use Rattle.minidump.specs.Promise.{module_list_stream}
 use Rattle.stack_walk.specs.declared.frame.FrameTrust.TheVariants.{Context, FramePointer, Scan}
 use Rattle.stack_walk.specs.declared.frame.StackFrame.{StackFrame}
 use Rattle.stack_walk.specs.declared.stack.Stack.{Stack}
+use Rattle.stack_walk.specs.Calls.{is_past_headers, may_end_call}
 use Rattle.stack_walk.specs.Lookups.{call_site, is_code, may_be_run}
 
--- a stack: the region of memory that holds it, if the dump has one, the modules, what is known of
--- the memory, and the width of an address
+-- a stack: the region of memory that holds it, if the dump has one, the modules, the memory, what is
+-- known of that, the processor, and the width of an address
 pub record StackValue : Type 0 where
   pub region : Option UnifiedRegion
   pub modules : List ModuleValue
+  pub memory : UnifiedRegions
   pub infos : List InfoRegion
+  pub cpu : Cpu
   pub width : PointerWidth
 
 -- the stack of a `Stack`, as its fields have it
@@ -36,7 +41,9 @@ abbrev pub stack_of : Stack → StackValue
 stack_of s = record {
   region = option_map unified_region s.memory;
   modules = module_list_stream.value s.modules.now;
+  memory = unified_list s.code.now;
   infos = info_regions (info_list s.infos.now);
+  cpu = s.cpu;
   width = s.width;
 }
 
@@ -130,11 +137,16 @@ pub record IsWalk (s : StackValue) (first : StackFrame) (frames : List StackFram
 
 -- ---- candidates, by the words of the stack
 
--- the frame that a word may be the return address of; none where no kept module has the call, or
--- where its memory can't be run
+-- whether the last byte of a call may stand at an address: past the headers of a kept module, where
+-- the memory may be run, and by the bytes there, if the dump has them
+abbrev pub may_have_called : StackValue → ℕ → Bool
+may_have_called s call = is_past_headers s.modules call
+    && (may_be_run s.infos call && may_end_call s.cpu s.memory call)
+
+-- the frame that a word may be the return address of
 abbrev pub candidate_by : StackValue → ℕ → ℕ → Option StackFrame
 candidate_by s after word = option_and_then
-    (λ call. if is_code s.modules call && may_be_run s.infos call
+    (λ call. if may_have_called s call
     then Some (record {
       instruction = word;
       stack_pointer = after;

@@ -1,5 +1,6 @@
 -- The definitions that the contracts cite.
 pub mod Lookups
+pub mod Calls
 pub mod Frames
 pub mod WalkEnd
 pub mod Walk

@@ -8,7 +8,7 @@ use Rattle.minidump.specs.Below.MemoryLists.UnifiedInfo.{InfoRegion, range_of_in
 use Rattle.minidump.specs.Below.MemoryLists.UnifiedInfo.{region_is_executable}
 use Rattle.minidump.specs.Below.Modules.Module.{ModuleValue, range_of_module}
 use Rattle.stack_walk.specs.declared.frame.FrameTrust.{FrameTrust}
-use Rattle.stack_walk.specs.declared.frame.FrameTrust.TheVariants.{Context, FramePointer, Scan}
+use Rattle.stack_walk.specs.declared.frame.FrameTrust.TheVariants.{Context, Cfi, FramePointer, Scan}
 use Rattle.stack_walk.specs.declared.frame.StackFrame.{StackFrame}
 
 -- the address before a return address, which lies in the call: none before 0
@@ -19,6 +19,7 @@ call_site address = if nat_le 1 address then Some (address - 1) else None
 -- call
 abbrev lookup_by : FrameTrust → ℕ → Option ℕ
 lookup_by Context address = Some address
+lookup_by Cfi address = call_site address
 lookup_by FramePointer address = call_site address
 lookup_by Scan address = call_site address
 

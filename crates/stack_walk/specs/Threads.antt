@@ -69,7 +69,9 @@ abbrev pub stack_in : ProcessValue → Option UnifiedRegion → StackValue
 stack_in p region = record {
   region = region;
   modules = p.modules;
+  memory = p.memory;
   infos = p.infos;
+  cpu = p.system.cpu;
   width = width_of p.system.cpu;
 }
 

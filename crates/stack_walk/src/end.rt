@@ -2,7 +2,6 @@ ghost use Rattle.std.specs.Prelude.{◌≡◌};
 ghost use Rattle.stack_walk.specs.Frames.{stack_of};
 ghost use Rattle.stack_walk.specs.WalkEnd.{has_record, walk_end};
 
-use crate::stack::pointer_at;
 use crate::{Stack, StackFrame};
 
 /// Why the last frame of a walk has no caller by its frame pointer.
@@ -26,27 +25,29 @@ pub enum WalkEnd {
     NoCode,
 }
 
-// Returns why a frame has no caller.
-pub(crate) fn walk_end(stack: &Stack<'_, '_>, frame: &StackFrame) -> WalkEnd
-    ensures { result ≡ walk_end (stack_of stack.now) frame.now }
-{
-    if stack.memory.is_none() {
-        return WalkEnd::NoMemory;
-    }
-    let Some(size) = stack.width.size_in_bytes() else {
-        return WalkEnd::UnknownWidth;
-    };
-    let Some(address) = frame.frame_pointer else {
-        return WalkEnd::NoFramePointer;
-    };
-    if address == 0 {
-        WalkEnd::ZeroFramePointer
-    } else if address < frame.stack_pointer {
-        WalkEnd::BelowStackPointer
-    } else if has_record(stack, size as u64, address) {
-        WalkEnd::NoCode
-    } else {
-        WalkEnd::NoRecord
+impl Stack<'_, '_> {
+    /// Returns why a frame without a caller by its frame pointer has none.
+    pub fn end_at(&self, frame: &StackFrame) -> WalkEnd
+        ensures { result ≡ walk_end (stack_of self.now) frame.now }
+    {
+        if self.memory.is_none() {
+            return WalkEnd::NoMemory;
+        }
+        let Some(size) = self.width.size_in_bytes() else {
+            return WalkEnd::UnknownWidth;
+        };
+        let Some(address) = frame.frame_pointer else {
+            return WalkEnd::NoFramePointer;
+        };
+        if address == 0 {
+            WalkEnd::ZeroFramePointer
+        } else if address < frame.stack_pointer {
+            WalkEnd::BelowStackPointer
+        } else if has_record(self, size as u64, address) {
+            WalkEnd::NoCode
+        } else {
+            WalkEnd::NoRecord
+        }
     }
 }
 
@@ -57,8 +58,8 @@ fn has_record(stack: &Stack<'_, '_>, size: u64, address: u64) -> bool
     match size.checked_mul(2) {
         Some(both) => {
             address.checked_add(both).is_some()
-                && pointer_at(stack, address).is_some()
-                && pointer_at(stack, address + size).is_some()
+                && stack.word_at(address).is_some()
+                && stack.word_at(address + size).is_some()
         }
         None => false,
     }

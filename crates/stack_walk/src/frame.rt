@@ -14,6 +14,8 @@ use minidump::{MinidumpModule, MinidumpModuleList};
 pub enum FrameTrust {
     /// The registers of the thread's context.
     Context,
+    /// The rules of the module's symbol file, for call frame information.
+    Cfi,
     /// The frame pointer of the frame before.
     FramePointer,
     /// A word of the stack that may be a return address.
@@ -43,7 +45,9 @@ impl StackFrame {
     {
         match self.trust {
             FrameTrust::Context => Some(self.instruction),
-            FrameTrust::FramePointer | FrameTrust::Scan => call_site(self.instruction),
+            FrameTrust::Cfi | FrameTrust::FramePointer | FrameTrust::Scan => {
+                call_site(self.instruction)
+            },
         }
     }
 
@@ -67,14 +71,14 @@ impl StackFrame {
     }
 
     /// Returns the address in the stack at which the frame's return address stands, the word below
-    /// its stack pointer. Returns `None` for the frame of a context, where the width of an address
-    /// is unknown, and if the stack pointer is less than that width.
+    /// its stack pointer. Returns `None` for the frame of a context and for one by rules, where the
+    /// width of an address is unknown, and if the stack pointer is less than that width.
     pub fn evidence(&self, width: PointerWidth) -> Option<u64>
         ensures { result ≡ evidence_address width self.now }
     {
         let size = width.size_in_bytes()?;
         match self.trust {
-            FrameTrust::Context => None,
+            FrameTrust::Context | FrameTrust::Cfi => None,
             FrameTrust::FramePointer | FrameTrust::Scan => {
                 self.stack_pointer.checked_sub(size as u64)
             }

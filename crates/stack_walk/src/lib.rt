@@ -37,6 +37,7 @@ ghost use Rattle.std.specs.Prelude.{◌≡◌, IfOk, IsOkUnless};
 ghost use Rattle.stack_walk.specs.Frames.{AreFrames, stack_of};
 ghost use Rattle.stack_walk.specs.Walk.{frames_in};
 
+mod calls;
 mod end;
 mod frame;
 pub mod laws;
@@ -61,8 +62,10 @@ pub use walk::{Walk, walk_stack};
 ///   record lies at or above the stack pointer of its frame, which for a caller is the address
 ///   after the record that leads to it. The last frame is the one whose frame pointer leads to no
 ///   record. Bits by which ARM64 authenticates a return address are kept.
-/// - A candidate is an aligned word from the last frame's stack pointer on that a kept module
-///   contains, unless what is known of the memory says that it can't be run.
+/// - A candidate is an aligned word from the last frame's stack pointer on that may be a return
+///   address: a kept module contains it, past its first page, which has the module's headers; the
+///   memory there may be run, as far as is known of it; and on x86, x86-64 and ARM64 a call ends
+///   before it, as far as the dump has these bytes.
 ///
 /// A module contains a return address if it contains the address before it, which lies in the call.
 /// The only error is `OutOfMemory`.

@@ -1,6 +1,7 @@
 ghost use Rattle.std.specs.Prelude.{◌≡◌, Some};
 ghost use Rattle.minidump.specs.Below.MemoryLists.UnifiedInfo.{info_list, info_regions};
 ghost use Rattle.minidump.specs.Promise.{module_list_stream};
+ghost use Rattle.stack_walk.specs.Calls.{is_past_headers};
 ghost use Rattle.stack_walk.specs.Lookups.{call_site, is_code, may_be_run, module_offset_at};
 
 use minidump::{MinidumpModuleList, UnifiedMemoryInfoList};
@@ -25,6 +26,16 @@ pub(crate) fn is_code(modules: &MinidumpModuleList, address: u64) -> bool
     ensures { result ≡ is_code (module_list_stream.value modules.now) address }
 {
     modules.module_at_address(address).is_some()
+}
+
+// Tells whether a kept module contains an address past its first page.
+pub(crate) fn is_past_headers(modules: &MinidumpModuleList, address: u64) -> bool
+    ensures { result ≡ is_past_headers (module_list_stream.value modules.now) address }
+{
+    match offset_at(modules, address) {
+        Some(offset) => offset >= 4096,
+        None => false,
+    }
 }
 
 // Tells whether the memory at an address may be run, as far as is known of it.

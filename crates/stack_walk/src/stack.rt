@@ -1,11 +1,12 @@
 ghost use Rattle.std.specs.Prelude.{◌≡◌, ◌+◌, IfOk};
 ghost use Rattle.stack_walk.specs.Frames.{caller_at, caller_of, candidate_at, pointer_at};
-ghost use Rattle.stack_walk.specs.Frames.{scan, stack_of, word_candidate, words_from};
+ghost use Rattle.stack_walk.specs.Frames.{may_have_called, scan, stack_of, word_candidate, words_from};
 
-use crate::lookups::{call_site, is_code, may_be_run};
+use crate::calls::may_end_call;
+use crate::lookups::{call_site, is_code, is_past_headers, may_be_run};
 use crate::{FrameTrust, StackFrame};
-use minidump::system_info::PointerWidth;
-use minidump::{MinidumpModuleList, UnifiedMemory, UnifiedMemoryInfoList};
+use minidump::system_info::{Cpu, PointerWidth};
+use minidump::{MinidumpModuleList, UnifiedMemory, UnifiedMemoryInfoList, UnifiedMemoryList};
 use std::alloc::{AllocError, Global};
 
 /// The stack of a thread, and what decides which of its words may be return addresses.
@@ -15,37 +16,62 @@ pub struct Stack<'l, 'a> {
     pub memory: Option<UnifiedMemory<'l, 'a>>,
     /// The modules of the process.
     pub modules: &'l MinidumpModuleList,
+    /// The memory of the process, which may hold the code of the modules.
+    pub code: &'l UnifiedMemoryList<'a>,
     /// What is known of the regions of its memory.
     pub infos: &'l UnifiedMemoryInfoList<'a>,
+    /// The processor.
+    pub cpu: Cpu,
     /// The width of an address.
     pub width: PointerWidth,
 }
 
-// Returns the word that the stack holds at an address, as wide as an address.
-pub(crate) fn pointer_at(stack: &Stack<'_, '_>, address: u64) -> Option<u64>
-    ensures { result ≡ pointer_at (stack_of stack.now) address }
-{
-    let memory = stack.memory?;
-    match stack.width {
-        PointerWidth::Bits32 => {
-            let word: u32 = memory.get_memory_at_address(address)?;
-            Some(word as u64)
+impl Stack<'_, '_> {
+    /// Returns the word that the stack holds at an address, as wide as an address. Returns `None` if
+    /// the stack doesn't hold all of it, or the width of an address is unknown.
+    pub fn word_at(&self, address: u64) -> Option<u64>
+        ensures { result ≡ pointer_at (stack_of self.now) address }
+    {
+        let memory = self.memory?;
+        match self.width {
+            PointerWidth::Bits32 => {
+                let word: u32 = memory.get_memory_at_address(address)?;
+                Some(word as u64)
+            }
+            PointerWidth::Bits64 => memory.get_memory_at_address(address),
+            PointerWidth::Unknown => None,
         }
-        PointerWidth::Bits64 => memory.get_memory_at_address(address),
-        PointerWidth::Unknown => None,
     }
-}
 
-// Returns the caller of a frame, by its frame pointer.
-pub(crate) fn caller_of(stack: &Stack<'_, '_>, frame: &StackFrame) -> Option<StackFrame>
-    ensures { result ≡ caller_of (stack_of stack.now) frame.now }
-{
-    let size = stack.width.size_in_bytes()?;
-    let address = frame.frame_pointer?;
-    if address < frame.stack_pointer {
-        return None;
+    /// Returns the caller of a frame by its frame pointer, or `None` if that leads to no record, or
+    /// the return address there lies in no kept module.
+    pub fn caller_of(&self, frame: &StackFrame) -> Option<StackFrame>
+        ensures { result ≡ caller_of (stack_of self.now) frame.now }
+    {
+        let size = self.width.size_in_bytes()?;
+        let address = frame.frame_pointer?;
+        if address < frame.stack_pointer {
+            return None;
+        }
+        caller_at(self, size as u64, address)
     }
-    caller_at(stack, size as u64, address)
+
+    /// Returns at most `limit` candidates of the aligned words at an address and above it, in their
+    /// order. The only error is that no memory is left.
+    pub fn candidates(
+        &self,
+        alloc: Global,
+        from: u64,
+        limit: usize,
+    ) -> Result<Vec<StackFrame>, AllocError>
+        ensures { IfOk result (λ frames. frames.items ≡ scan (stack_of self.now) from limit) }
+    {
+        let (first, count) = words_from(self, from);
+        (0..count)
+            .filter_map(|index| word_candidate(self, first, index))
+            .take(limit)
+            .collect(alloc)
+    }
 }
 
 // Returns the frame to which the record at an address returns.
@@ -54,8 +80,8 @@ fn caller_at(stack: &Stack<'_, '_>, size: u64, address: u64) -> Option<StackFram
     ensures { result ≡ caller_at (stack_of stack.now) size address }
 {
     let stack_pointer = address.checked_add(size.checked_mul(2)?)?;
-    let saved = pointer_at(stack, address)?;
-    let instruction = pointer_at(stack, address + size)?;
+    let saved = stack.word_at(address)?;
+    let instruction = stack.word_at(address + size)?;
     if is_code(stack.modules, call_site(instruction)?) {
         Some(StackFrame {
             instruction,
@@ -66,22 +92,6 @@ fn caller_at(stack: &Stack<'_, '_>, size: u64, address: u64) -> Option<StackFram
     } else {
         None
     }
-}
-
-// Returns at most so many candidates of the aligned words from an address on.
-pub(crate) fn scan(
-    alloc: Global,
-    stack: &Stack<'_, '_>,
-    from: u64,
-    limit: usize,
-) -> Result<Vec<StackFrame>, AllocError>
-    ensures { IfOk result (λ frames. frames.items ≡ scan (stack_of stack.now) from limit) }
-{
-    let (first, count) = words_from(stack, from);
-    (0..count)
-        .filter_map(|index| word_candidate(stack, first, index))
-        .take(limit)
-        .collect(alloc)
 }
 
 // Returns the number of the first aligned word from an address on, and how many words there may be
@@ -116,9 +126,9 @@ fn candidate_at(stack: &Stack<'_, '_>, size: u64, address: u64) -> Option<StackF
     ensures { result ≡ candidate_at (stack_of stack.now) size address }
 {
     let stack_pointer = address.checked_add(size)?;
-    let word = pointer_at(stack, address)?;
+    let word = stack.word_at(address)?;
     let call = call_site(word)?;
-    if is_code(stack.modules, call) && may_be_run(stack.infos, call) {
+    if may_have_called(stack, call) {
         Some(StackFrame {
             instruction: word,
             stack_pointer,
@@ -128,4 +138,13 @@ fn candidate_at(stack: &Stack<'_, '_>, size: u64, address: u64) -> Option<StackF
     } else {
         None
     }
+}
+
+// Tells whether the last byte of a call may stand at an address.
+fn may_have_called(stack: &Stack<'_, '_>, call: u64) -> bool
+    ensures { result ≡ may_have_called (stack_of stack.now) call }
+{
+    is_past_headers(stack.modules, call)
+        && may_be_run(stack.infos, call)
+        && may_end_call(stack.cpu, stack.code, call)
 }

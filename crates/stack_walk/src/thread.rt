@@ -4,6 +4,7 @@ ghost use Rattle.minidump.specs.declared.MinidumpContextValidity.TheVariants.{Al
 ghost use Rattle.minidump.specs.Below.MemoryLists.Unified.{unified_list, unified_region};
 ghost use Rattle.minidump.specs.Thread.{thread_of};
 ghost use Rattle.minidump.specs.ThreadText.{stack_of};
+ghost use Rattle.stack_walk.specs.Frames as walked;
 ghost use Rattle.stack_walk.specs.Frames.{stack_pointer_in};
 ghost use Rattle.stack_walk.specs.Threads.{exception_context, holds, process_of, stack_in};
 ghost use Rattle.stack_walk.specs.Threads.{thread_context, thread_frames_in, thread_stack};
@@ -169,11 +170,34 @@ pub fn walk_context<'a>(
         (thread_of thread.now) (stack_pointer_in context.now.raw))) context.now limit) }
     ensures memory { IsOkUnless result Error.OutOfMemory }
 {
-    let stack = Stack {
-        memory: stack_memory(process.memory, thread, stack_pointer_of(context)),
-        modules: process.modules,
-        infos: process.infos,
-        width: process.system.cpu.pointer_width(),
-    };
-    walk_stack(alloc, &stack, context, limit)
+    walk_stack(alloc, &process.stack_of(thread, context), context, limit)
+}
+
+impl<'l, 'a> Process<'l, 'a> {
+    /// Returns the stack by which [`walk_context`] walks a context of a thread.
+    pub fn stack_of(
+        &self,
+        thread: &'l MinidumpThread<'a>,
+        context: &MinidumpContext,
+    ) -> Stack<'l, 'a>
+        ensures { walked.stack_of result ≡ stack_in (process_of self.now) (thread_stack
+            (process_of self.now).memory (thread_of thread.now) (stack_pointer_in context.now.raw)) }
+    {
+        self.stack_on(stack_memory(self.memory, thread, stack_pointer_of(context)))
+    }
+
+    /// Returns the stack that lies in a region of memory, or that of no memory.
+    pub fn stack_on(&self, memory: Option<UnifiedMemory<'l, 'a>>) -> Stack<'l, 'a>
+        ensures { walked.stack_of result ≡ stack_in (process_of self.now)
+            (option_map unified_region memory.entry) }
+    {
+        Stack {
+            memory,
+            modules: self.modules,
+            code: self.memory,
+            infos: self.infos,
+            cpu: self.system.cpu,
+            width: self.system.cpu.pointer_width(),
+        }
+    }
 }

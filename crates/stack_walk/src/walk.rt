@@ -2,8 +2,6 @@ ghost use Rattle.std.specs.Prelude.{◌≡◌, ◌∷◌, IfOk, IsOkUnless};
 ghost use Rattle.stack_walk.specs.Frames.{context_frame, frame_register, stack_of};
 ghost use Rattle.stack_walk.specs.Walk.{all_frames, callers_in, outermost, walk_in, walk_of};
 
-use crate::end::walk_end;
-use crate::stack::{caller_of, scan};
 use crate::{FrameTrust, Stack, StackFrame, WalkEnd};
 use minidump::{Error, MinidumpContext, MinidumpRawContext};
 use std::alloc::{AllocError, Global};
@@ -42,24 +40,26 @@ pub fn walk_stack(
         (λ walk. walk_of walk ≡ walk_in (stack_of stack.now) context.now limit) }
     ensures memory { IsOkUnless result Error.OutOfMemory }
 {
-    let (frames, last) = climb(alloc, stack, context_frame(context))?;
-    let candidates = scan(alloc, stack, last.stack_pointer, limit)?;
+    let (frames, last) = climb(alloc, stack, StackFrame::of_context(context))?;
+    let candidates = stack.candidates(alloc, last.stack_pointer, limit)?;
     Ok(Walk {
         frames,
         candidates,
-        end: walk_end(stack, &last),
+        end: stack.end_at(&last),
     })
 }
 
-// Returns the frame of a context.
-fn context_frame(context: &MinidumpContext) -> StackFrame
-    ensures { result ≡ context_frame context.now }
-{
-    StackFrame {
-        instruction: context.get_instruction_pointer(),
-        stack_pointer: context.get_stack_pointer(),
-        frame_pointer: context.get_register(frame_register(&context.raw)),
-        trust: FrameTrust::Context,
+impl StackFrame {
+    /// Returns the frame of a context: its instruction pointer, stack pointer and frame pointer.
+    pub fn of_context(context: &MinidumpContext) -> StackFrame
+        ensures { result ≡ context_frame context.now }
+    {
+        StackFrame {
+            instruction: context.get_instruction_pointer(),
+            stack_pointer: context.get_stack_pointer(),
+            frame_pointer: context.get_register(frame_register(&context.raw)),
+            trust: FrameTrust::Context,
+        }
     }
 }
 
@@ -90,7 +90,7 @@ fn climb(
     let mut frames = Vec::new(alloc);
     frames.push(first)?;
     let mut last = first;
-    while let Some(caller) = caller_of(stack, &last) {
+    while let Some(caller) = stack.caller_of(&last) {
         frames.push(caller)?;
         last = caller;
     }

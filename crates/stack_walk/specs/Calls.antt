@@ -1,0 +1,60 @@
+-- Which addresses may be returned to: those after a call, past the headers of a module, where
+-- memory may be run.
+use Rattle.std.specs.Prelude.{ℕ, ◌+◌, ◌-◌, ◌*◌, ◌==◌, ◌/◌, ◌%◌, ◌&&◌, ◌||◌, Bool, true, false, nat_le, nat_lt}
+use Rattle.std.specs.Prelude.{length, List, [], ◌∷◌, Option, Some, None, if◌then◌else◌, slice_range}
+use Rattle.std.specs.Option.{option_and_then, option_map_or}
+use Rattle.minidump.specs.declared.system_info.Cpu.{Cpu}
+use Rattle.minidump.specs.declared.system_info.Cpu.TheVariants as cpu
+use Rattle.minidump.specs.Below.Index.Lookup.{looked_up}
+use Rattle.minidump.specs.Below.MemoryLists.Memory.{range_of_region}
+use Rattle.minidump.specs.Below.MemoryLists.Unified.{UnifiedRegion, UnifiedRegions, unified_regions}
+use Rattle.minidump.specs.Below.Modules.Module.{ModuleValue}
+use Rattle.stack_walk.specs.Lookups.{module_offset_at}
+
+-- an address lies in a kept module, and not in its first page, which has the module's headers
+abbrev pub is_past_headers : List ModuleValue → ℕ → Bool
+is_past_headers modules address =
+    option_map_or (λ offset. nat_le 4096 offset) (module_offset_at modules (Some address)) false
+
+-- a byte FF and the byte after it call by register or memory: its bits 3 to 5 are 2
+abbrev pub calls_by : ℕ → ℕ → Bool
+calls_by first second = first == 255 && second / 8 % 8 == 2
+
+-- the bytes before an address end with a call of x86 or x86-64: E8 with a distance; FF /2 with its
+-- operand, in two to seven bytes; or 9A with a far address
+unfoldable pub ends_x86_call : List ℕ → Bool
+ends_x86_call (b7 ∷ b6 ∷ b5 ∷ b4 ∷ b3 ∷ b2 ∷ b1 ∷ []) =
+    b5 == 232 || (calls_by b2 b1 || (calls_by b3 b2 || (calls_by b4 b3
+    || (calls_by b6 b5 || (calls_by b7 b6 || b7 == 154)))))
+ends_x86_call _ = false
+
+-- the same of ARM64: BL, or BLR in each of its forms, an instruction of four bytes, the lowest first
+unfoldable pub ends_arm64_call : List ℕ → Bool
+ends_arm64_call (b7 ∷ b6 ∷ b5 ∷ b4 ∷ b3 ∷ b2 ∷ b1 ∷ []) =
+    b1 / 4 == 37 || ((b1 == 214 || b1 == 215) && (b2 == 63 && nat_lt b3 16))
+ends_arm64_call _ = false
+
+-- the same of a processor; of others it isn't known, so that they may
+abbrev pub ends_call : Cpu → List ℕ → Bool
+ends_call cpu.X86 bytes = ends_x86_call bytes
+ends_call cpu.X86_64 bytes = ends_x86_call bytes
+ends_call cpu.Arm64 bytes = ends_arm64_call bytes
+ends_call _ bytes = true
+
+-- the seven bytes of a region of which the last is at an offset, if it has them
+abbrev pub bytes_before : UnifiedRegion → ℕ → Option (List ℕ)
+bytes_before region offset =
+    if nat_le 6 offset && nat_lt offset (length region.bytes)
+    then Some (slice_range region.bytes (offset - 6) (offset + 1)) else None
+
+-- those of which the last is at an address, in the kept region of the memory that contains it
+abbrev pub bytes_until : UnifiedRegions → ℕ → Option (List ℕ)
+bytes_until memory address =
+    option_and_then (λ region. bytes_before region (address - region.base_address))
+    (looked_up range_of_region (unified_regions memory) address)
+
+-- whether a call ends with the byte at an address, by the dump's memory: also where that doesn't
+-- have the bytes
+abbrev pub may_end_call : Cpu → UnifiedRegions → ℕ → Bool
+may_end_call processor memory address =
+    option_map_or (ends_call processor) (bytes_until memory address) true

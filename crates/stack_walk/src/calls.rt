@@ -1,0 +1,92 @@
+ghost use Rattle.std.specs.Prelude.{◌≡◌, ◌+◌, ◌-◌};
+ghost use Rattle.std.specs.Option.{option_copied};
+ghost use Rattle.minidump.specs.Below.MemoryLists.Unified.{unified_list, unified_region};
+ghost use Rattle.stack_walk.specs.Calls.{bytes_before, bytes_until, calls_by, ends_arm64_call};
+ghost use Rattle.stack_walk.specs.Calls.{ends_call, ends_x86_call, may_end_call};
+
+use minidump::system_info::Cpu;
+use minidump::{UnifiedMemory, UnifiedMemoryList};
+
+// Tells whether a call ends with the byte at an address, by the dump's memory: also where that
+// doesn't have the bytes.
+pub(crate) fn may_end_call(cpu: Cpu, memory: &UnifiedMemoryList<'_>, address: u64) -> bool
+    ensures { result ≡ may_end_call cpu (unified_list memory.now) address }
+{
+    match bytes_until(memory, address) {
+        Some(bytes) => ends_call(cpu, bytes),
+        None => true,
+    }
+}
+
+// Returns the seven bytes of which the last is at an address, if the dump's memory has them.
+fn bytes_until<'l>(memory: &'l UnifiedMemoryList<'_>, address: u64) -> Option<&'l [u8]>
+    ensures { option_copied result ≡ bytes_until (unified_list memory.now) address }
+{
+    let region = memory.memory_at_address(address)?;
+    bytes_before(region, address)
+}
+
+// Returns the seven bytes of a region of which the last is at an address, if it has them.
+fn bytes_before<'l>(region: UnifiedMemory<'l, '_>, address: u64) -> Option<&'l [u8]>
+    ensures { option_copied result ≡ bytes_before (unified_region region.entry)
+        (address - (unified_region region.entry).base_address) }
+{
+    let bytes = region.bytes();
+    let offset = address.checked_sub(region.base_address())?;
+    if offset >= 6 && offset < bytes.len() as u64 {
+        let last = offset as usize;
+        Some(&bytes[last - 6..last + 1])
+    } else {
+        None
+    }
+}
+
+// Tells whether a call ends with bytes, or the processor's calls are not known.
+fn ends_call(cpu: Cpu, bytes: &[u8]) -> bool
+    ensures { result ≡ ends_call cpu bytes.now }
+{
+    match cpu {
+        Cpu::X86 | Cpu::X86_64 => ends_x86_call(bytes),
+        Cpu::Arm64 => ends_arm64_call(bytes),
+        _ => true,
+    }
+}
+
+// Tells whether bytes end with a call of x86 or x86-64.
+#[tactic(auto, unfolding(crate::specs::Calls::ends_x86_call))]
+fn ends_x86_call(bytes: &[u8]) -> bool
+    ensures { result ≡ ends_x86_call bytes.now }
+{
+    match bytes {
+        [b7, b6, b5, b4, b3, b2, b1] => {
+            *b5 == 0xe8
+                || calls_by(*b2, *b1)
+                || calls_by(*b3, *b2)
+                || calls_by(*b4, *b3)
+                || calls_by(*b6, *b5)
+                || calls_by(*b7, *b6)
+                || *b7 == 0x9a
+        }
+        _ => false,
+    }
+}
+
+// Tells whether a byte and the next one call by register or memory: FF /2.
+fn calls_by(first: u8, second: u8) -> bool
+    ensures { result ≡ calls_by first second }
+{
+    first == 0xff && second / 8 % 8 == 2
+}
+
+// Tells whether bytes end with a call of ARM64.
+#[tactic(auto, unfolding(crate::specs::Calls::ends_arm64_call))]
+fn ends_arm64_call(bytes: &[u8]) -> bool
+    ensures { result ≡ ends_arm64_call bytes.now }
+{
+    match bytes {
+        [_, _, _, _, b3, b2, b1] => {
+            *b1 / 4 == 37 || ((*b1 == 214 || *b1 == 215) && *b2 == 63 && *b3 < 16)
+        }
+        _ => false,
+    }
+}
