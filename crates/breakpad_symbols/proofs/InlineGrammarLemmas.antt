@@ -1,49 +1,50 @@
--- INLINE_ORIGIN, INLINE and STACK CFI lines mean what their grammar says.
-use Rattle.std.proofs.Common.{◌≡◌, ◌↔◌, ℕ, List, [], ◌∷◌, Option, Some, None, refl, ap}
+-- FILE, INLINE_ORIGIN, INLINE and STACK CFI lines mean what their grammar says.
+use Rattle.std.proofs.Common.{◌≡◌, ◌≢◌, ◌↔◌, ℕ, List, [], ◌∷◌, Option, Some, None, refl, ap}
 use Rattle.std.specs.Prelude.{codes}
 use Rattle.minidump_bytes.proofs.DigitLemmas.{number_spells, spelled_number}
 use Rattle.minidump_bytes.specs.Digits.{number_of_digits}
 use Rattle.minidump_bytes.specs.LinuxOsStr.{after_prefix, cut_first, words_of}
 use Rattle.breakpad_symbols.specs.declared.inline.InlineCall.{InlineCall}
 use Rattle.breakpad_symbols.specs.Cfi.{ChangeValue, change_line}
-use Rattle.breakpad_symbols.specs.Grammar.{AreRanges, IsChangeLine, IsInlineLine, IsOriginLine}
-use Rattle.breakpad_symbols.specs.Inline.{InlineValue, OriginValue, inline_head, inline_line, origin_line, ranges_in, with_range}
+use Rattle.breakpad_symbols.specs.Grammar.{AreRanges, IsChangeLine, IsInlineLine, IsNumberedName}
+use Rattle.breakpad_symbols.specs.Inline.{InlineValue, inline_head, inline_line, ranges_in, some_ranges, with_range}
+use Rattle.breakpad_symbols.specs.NumberedName.{NameValue, numbered_name}
 use Rattle.breakpad_symbols.proofs.FieldLemmas.{after_prefix_is, after_prefix_some, field_is, given, is_field, some_same}
 
--- ---- origins
-origin_by : (line fields : List ℕ) (number : List ℕ × List ℕ) (n : ℕ) (o : OriginValue)
-    → after_prefix (codes "INLINE_ORIGIN ") line ≡ Some fields → cut_first 32 fields ≡ Some number → number_of_digits 10 32 number.0 ≡ Some n
-    → (let g : OriginValue = record { number = n; name = number.1 } in Some g ≡ Some o) → IsOriginLine line o
-origin_by line fields number n o k a b h =
-    let g : OriginValue = record { number = n; name = number.1 } in
-    let same : g ≡ o = cc in
+-- ---- names by number
+name_by : (keyword line fields : List ℕ) (number : List ℕ × List ℕ) (n : ℕ) (v : NameValue)
+    → after_prefix keyword line ≡ Some fields → cut_first 32 fields ≡ Some number → number_of_digits 10 32 number.0 ≡ Some n
+    → (let g : NameValue = record { number = n; name = number.1 } in Some g ≡ Some v) → IsNumberedName keyword line v
+name_by keyword line fields number n v k a b h =
+    let g : NameValue = record { number = n; name = number.1 } in
+    let same : g ≡ v = cc in
     rw (← same) (record {
       fields = fields;
-      keyword = after_prefix_is (codes "INLINE_ORIGIN ") line fields k;
+      keyword_is = after_prefix_is keyword line fields k;
       number = number.0;
       number_field = field_is fields number.0 number.1 a;
       number_is = number_spells 10 32 number.0 n b;
     })
 
-origin_spells : (line : List ℕ) (o : OriginValue) → origin_line line ≡ Some o → IsOriginLine line o
-unfolding origin_line
-origin_spells line o h =
-    let fields = given (after_prefix (codes "INLINE_ORIGIN ") line) _ o h in
-    let number = given (cut_first 32 fields.0) _ o fields.2 in
-    let n = given (number_of_digits 10 32 number.0.0) _ o number.2 in
-    origin_by line fields.0 number.0 n.0 o fields.1 number.1 n.1 n.2
+name_spells : (keyword line : List ℕ) (v : NameValue) → numbered_name keyword line ≡ Some v → IsNumberedName keyword line v
+unfolding numbered_name
+name_spells keyword line v h =
+    let fields = given (after_prefix keyword line) _ v h in
+    let number = given (cut_first 32 fields.0) _ v fields.2 in
+    let n = given (number_of_digits 10 32 number.0.0) _ v number.2 in
+    name_by keyword line fields.0 number.0 n.0 v fields.1 number.1 n.1 n.2
 
-spelled_origin : (line : List ℕ) (o : OriginValue) → IsOriginLine line o → origin_line line ≡ Some o
-unfolding origin_line
-spelled_origin line o h =
+spelled_name : (keyword line : List ℕ) (v : NameValue) → IsNumberedName keyword line v → numbered_name keyword line ≡ Some v
+unfolding numbered_name
+spelled_name keyword line v h =
     rw (
-      after_prefix_some (codes "INLINE_ORIGIN ") line h.fields h.keyword,
-      is_field h.fields h.number o.name h.number_field,
-      spelled_number 10 32 h.number o.number h.number_is,
+      after_prefix_some keyword line h.fields h.keyword_is,
+      is_field h.fields h.number v.name h.number_field,
+      spelled_number 10 32 h.number v.number h.number_is,
     ) refl
 
-pub origins : (line : List ℕ) (o : OriginValue) → (origin_line line ≡ Some o) ↔ IsOriginLine line o
-origins line o = (origin_spells line o, spelled_origin line o)
+pub names : (keyword line : List ℕ) (v : NameValue) → (numbered_name keyword line ≡ Some v) ↔ IsNumberedName keyword line v
+names keyword line v = (name_spells keyword line v, spelled_name keyword line v)
 
 -- ---- changes of rules
 change_by : (line fields : List ℕ) (address : List ℕ × List ℕ) (n : ℕ) (c : ChangeValue)
@@ -60,7 +61,7 @@ change_by line fields address n c k a b h =
       address_is = number_spells 16 64 address.0 n b;
     })
 
-change_spells : (line : List ℕ) (c : ChangeValue) → change_line line ≡ Some c → IsChangeLine line c
+pub change_spells : (line : List ℕ) (c : ChangeValue) → change_line line ≡ Some c → IsChangeLine line c
 unfolding change_line
 change_spells line c h =
     let fields = given (after_prefix (codes "STACK CFI ") line) _ c h in
@@ -68,7 +69,7 @@ change_spells line c h =
     let n = given (number_of_digits 16 64 address.0.0) _ c address.2 in
     change_by line fields.0 address.0 n.0 c fields.1 address.1 n.1 n.2
 
-spelled_change : (line : List ℕ) (c : ChangeValue) → IsChangeLine line c → change_line line ≡ Some c
+pub spelled_change : (line : List ℕ) (c : ChangeValue) → IsChangeLine line c → change_line line ≡ Some c
 unfolding change_line
 spelled_change line c h =
     rw (
@@ -119,8 +120,8 @@ inline_by : (text fields : List ℕ) (depth line file origin : List ℕ × List 
     → number_of_digits 10 32 depth.0 ≡ Some d → number_of_digits 10 32 line.0 ≡ Some l
     → number_of_digits 10 32 file.0 ≡ Some f → number_of_digits 10 32 origin.0 ≡ Some o
     → (let x : InlineCall × List ℕ = (call_of d l f o, origin.1) in let y : InlineCall × List ℕ = (call, rest) in Some x ≡ Some y)
-    → AreRanges (words_of rest) rs → IsInlineLine text (inline_of call rs)
-inline_by text fields depth line file origin d l f o call rest rs k a b c e n m p q h ranges =
+    → AreRanges (words_of rest) rs → rs ≢ [] → IsInlineLine text (inline_of call rs)
+inline_by text fields depth line file origin d l f o call rest rs k a b c e n m p q h ranges some =
     let same = some_same {A = InlineCall × List ℕ} (call_of d l f o, origin.1) (call, rest) h in
     let call_is : call_of d l f o ≡ call = ap (λ x. x.0) same in
     let rest_is : origin.1 ≡ rest = ap (λ x. x.1) same in
@@ -144,12 +145,13 @@ inline_by text fields depth line file origin d l f o call rest rs k a b c e n m 
       file_is = number_spells 10 32 file.0 f p;
       origin_is = number_spells 10 32 origin.0 o q;
       ranges_are = rw rest_is ranges;
+      some_range = some;
     })
 
 head_spells : (text : List ℕ) (call : InlineCall) (rest : List ℕ) (rs : List (ℕ × ℕ)) → inline_head text ≡ Some (call, rest)
-    → AreRanges (words_of rest) rs → IsInlineLine text (inline_of call rs)
+    → AreRanges (words_of rest) rs → rs ≢ [] → IsInlineLine text (inline_of call rs)
 unfolding inline_head
-head_spells text call rest rs h ranges =
+head_spells text call rest rs h ranges some =
     let y : InlineCall × List ℕ = (call, rest) in
     let fields = given (after_prefix (codes "INLINE ") text) _ y h in
     let depth = given (cut_first 32 fields.0) _ y fields.2 in
@@ -161,16 +163,32 @@ head_spells text call rest rs h ranges =
     let f = given (number_of_digits 10 32 file.0.0) _ y l.2 in
     let o = given (number_of_digits 10 32 origin.0.0) _ y f.2 in
     inline_by text fields.0 depth.0 line.0 file.0 origin.0 d.0 l.0 f.0 o.0 call rest rs
-    fields.1 depth.1 line.1 file.1 origin.1 d.1 l.1 f.1 o.1 o.2 ranges
+    fields.1 depth.1 line.1 file.1 origin.1 d.1 l.1 f.1 o.1 o.2 ranges some
 
-inline_spells : (text : List ℕ) (i : InlineValue) → inline_line text ≡ Some i → IsInlineLine text i
+-- at least one range
+not_empty : (word : List ℕ) (words : List (List ℕ)) (rs : List (ℕ × ℕ)) → AreRanges (word ∷ words) rs → rs ≢ []
+not_empty word [] rs h = absurd h
+not_empty word (size ∷ words) [] h = absurd h
+not_empty word (size ∷ words) (r ∷ rs) h = λ e. cc
+
+some_spell : (words : List (List ℕ)) (rs : List (ℕ × ℕ)) → some_ranges words ≡ Some rs → AreRanges words rs × (rs ≢ [])
+some_spell [] rs h = absurd (let k : None ≡ Some rs = h in cc)
+some_spell (word ∷ words) rs h = let are = ranges_spell (word ∷ words) rs h in (are, not_empty word words rs are)
+
+spelled_some : (words : List (List ℕ)) (rs : List (ℕ × ℕ)) → AreRanges words rs → rs ≢ [] → some_ranges words ≡ Some rs
+spelled_some [] [] h some = absurd (some refl)
+spelled_some [] (r ∷ rs) h some = absurd h
+spelled_some (word ∷ words) rs h some = spelled_ranges (word ∷ words) rs h
+
+pub inline_spells : (text : List ℕ) (i : InlineValue) → inline_line text ≡ Some i → IsInlineLine text i
 inline_spells text i h =
     let head = given (inline_head text) _ i h in
-    let ranges = given (ranges_in (words_of head.0.1)) _ i head.2 in
+    let ranges = given (some_ranges (words_of head.0.1)) _ i head.2 in
     let same = some_same (inline_of head.0.0 ranges.0) i ranges.2 in
-    rw (← same) (head_spells text head.0.0 head.0.1 ranges.0 head.1 (ranges_spell (words_of head.0.1) ranges.0 ranges.1))
+    let are = some_spell (words_of head.0.1) ranges.0 ranges.1 in
+    rw (← same) (head_spells text head.0.0 head.0.1 ranges.0 head.1 are.0 are.1)
 
-spelled_inline : (text : List ℕ) (i : InlineValue) → IsInlineLine text i → inline_line text ≡ Some i
+pub spelled_inline : (text : List ℕ) (i : InlineValue) → IsInlineLine text i → inline_line text ≡ Some i
 unfolding inline_head
 spelled_inline text i h =
     rw (
@@ -183,7 +201,7 @@ spelled_inline text i h =
       spelled_number 10 32 h.line i.call.line h.line_is,
       spelled_number 10 32 h.file i.call.file h.file_is,
       spelled_number 10 32 h.origin i.call.origin h.origin_is,
-      spelled_ranges (words_of h.ranges) i.ranges h.ranges_are,
+      spelled_some (words_of h.ranges) i.ranges h.ranges_are h.some_range,
     ) refl
 
 pub inlines : (text : List ℕ) (i : InlineValue) → (inline_line text ≡ Some i) ↔ IsInlineLine text i

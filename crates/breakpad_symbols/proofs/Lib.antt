@@ -2,6 +2,7 @@
 pub mod WidthLemmas
 pub mod LineLemmas
 pub mod RecordLemmas
+pub mod RecordListLemmas
 pub mod RuleLemmas
 pub mod NumberedLemmas
 pub mod InlineLemmas
@@ -9,5 +10,6 @@ pub mod FieldLemmas
 pub mod GrammarLemmas
 pub mod InlineGrammarLemmas
 pub mod TreeLemmas
-pub mod NearestLemmas
+pub mod MemberLemmas
 pub mod PublicLemmas
+pub mod ChoiceLemmas

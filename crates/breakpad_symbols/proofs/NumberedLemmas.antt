@@ -12,12 +12,10 @@ use Rattle.std.proofs.lemmas.Bool.{cases_lt, eqb-true}
 use Rattle.std.proofs.lemmas.List.{take_more}
 use Rattle.std.proofs.lemmas.List.Folds.{find-append}
 use Rattle.minidump_bytes.specs.LinuxOsStr.{text_of}
-use Rattle.breakpad_symbols.specs.declared.file_record.FileRecord.{FileRecord}
-use Rattle.breakpad_symbols.specs.declared.inline.OriginRecord.{OriginRecord}
-use Rattle.breakpad_symbols.specs.File.{file_of}
-use Rattle.breakpad_symbols.specs.Inline.{origin_of}
+use Rattle.breakpad_symbols.specs.declared.numbered_name.NumberedName.{NumberedName}
 use Rattle.breakpad_symbols.specs.Numbered.{HasFirsts, IsNearestNumber, first_numbered}
-use Rattle.breakpad_symbols.specs.SymbolFile.{file_name, origin_name}
+use Rattle.breakpad_symbols.specs.NumberedName.{name_of}
+use Rattle.breakpad_symbols.specs.SymbolFile.{name_in}
 use Rattle.breakpad_symbols.proofs.FieldLemmas.{some_same}
 
 -- what is found among mapped values
@@ -30,23 +28,14 @@ find-map f p (x ∷ xs) = by (p (f x)) (find-map f p xs)
     by true more = refl
     by false more = more
 
-pub file_found : (files : List FileRecord) (number : ℕ)
-    → file_name (map file_of files) number ≡ option_map (λ f. text_of f.name) (first_numbered (λ f. f.number) number files)
-file_found files number = go (find (λ f. f.number == number) files) (find-map file_of (λ f. f.number == number) files)
+pub name_found : (names : List NumberedName) (number : ℕ)
+    → name_in (map name_of names) number ≡ option_map (λ n. text_of n.name) (first_numbered (λ n. n.number) number names)
+name_found names number = go (find (λ n. n.number == number) names) (find-map name_of (λ n. n.number == number) names)
   where
-    go : (o : Option FileRecord) → find (λ f. f.number == number) (map file_of files) ≡ option_map file_of o
-        → file_name (map file_of files) number ≡ option_map (λ f. text_of f.name) o
+    go : (o : Option NumberedName) → find (λ n. n.number == number) (map name_of names) ≡ option_map name_of o
+        → name_in (map name_of names) number ≡ option_map (λ n. text_of n.name) o
     go None e = rw e refl
-    go (Some f) e = rw e refl
-
-pub origin_found : (origins : List OriginRecord) (number : ℕ)
-    → origin_name (map origin_of origins) number ≡ option_map (λ o. text_of o.name) (first_numbered (λ o. o.number) number origins)
-origin_found origins number = go (find (λ o. o.number == number) origins) (find-map origin_of (λ o. o.number == number) origins)
-  where
-    go : (o : Option OriginRecord) → find (λ r. r.number == number) (map origin_of origins) ≡ option_map origin_of o
-        → origin_name (map origin_of origins) number ≡ option_map (λ r. text_of r.name) o
-    go None e = rw e refl
-    go (Some r) e = rw e refl
+    go (Some n) e = rw e refl
 
 -- one record more is found where none before it is
 pub first_more : {R : Type 0} (number_of : R → ℕ) (number : ℕ) (done : List R) (next : R)

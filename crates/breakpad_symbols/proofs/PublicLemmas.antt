@@ -1,116 +1,168 @@
 -- Public symbols and beginnings of functions, found by their addresses.
-use Rattle.std.proofs.Common.{◌≡◌, ◌<◌, ◌≤◌, ◌∙◌, ℕ, Bool, true, false, List, [], ◌∷◌, map, Option, Some, None, refl, ap, sym, inl}
+use Rattle.std.proofs.Common.{◌≡◌, ◌<◌, ◌≤◌, ◌+◌, ◌∙◌, ℕ, zero, suc, Bool, true, false, List, [], ◌∷◌, map, Option, Some, None, refl, ap, sym, inl}
 use Rattle.std.proofs.Common.{inr, arith, cond, subst}
-use Rattle.std.specs.Prelude.{◌==◌, ◌&&◌, ◌||◌, nat_lt, ⊤, IsSome}
+use Rattle.std.specs.Prelude.{◌==◌, ◌||◌, Contains, nat_le, nat_lt, not, IsSome}
 use Rattle.std.specs.List.{find, list_any}
 use Rattle.std.specs.Option.{option_map}
-use Rattle.std.proofs.lemmas.Bool.{cases_eq, cases_lt, eq-eqb, le-leb, lt-leb, lt-ltb, le-ltb, ne_eqb}
+use Rattle.std.proofs.lemmas.Bool.{cases_eq, cases_lt, eq-eqb, le-leb, leb-true, lt-leb, lt-ltb, ltb-true, le-ltb, ne_eqb}
+use Rattle.minidump_index.proofs.ContainsLemmas.{cases, nothing}
 use Rattle.breakpad_symbols.specs.declared.function.Function.{Function}
 use Rattle.breakpad_symbols.specs.declared.public.PublicSymbol.{PublicSymbol}
 use Rattle.breakpad_symbols.specs.Function.{function_of}
 use Rattle.breakpad_symbols.specs.Numbered.{IsNearestNumber, first_numbered}
-use Rattle.breakpad_symbols.specs.Public.{PublicValue, nearer, nearest, nearest_from, public_of}
+use Rattle.breakpad_symbols.specs.Public.{IsNearestOrNone, PublicValue, is_between, is_nearest, nearest, public_of}
 use Rattle.breakpad_symbols.specs.SymbolFile.{parts}
+use Rattle.breakpad_symbols.proofs.MemberLemmas.{although, and_false, any_member, both, find_as, find_none, found_passes, none_passes, or_true, some_is, unless}
 use Rattle.breakpad_symbols.proofs.NumberedLemmas.{find-map}
 
 -- ---- numbers of a list
 module _ {R : Type 0} (number_of : R → ℕ) where
   -- a record of a list has its number
-  pub found_head : (x : R) (xs : List R) → find (λ r. number_of r == number_of x) (x ∷ xs) ≡ Some x
+  found_head : (x : R) (xs : List R) → find (λ r. number_of r == number_of x) (x ∷ xs) ≡ Some x
   found_head x xs = rw (eq-eqb (number_of x) (number_of x) refl) refl
 
   -- a number of a list is one of a longer list
-  pub found_tail : (x : R) (xs : List R) (q : ℕ) → IsSome (find (λ r. number_of r == q) xs) → IsSome (find (λ r. number_of r == q) (x ∷ xs))
+  found_tail : (x : R) (xs : List R) (q : ℕ) → IsSome (find (λ r. number_of r == q) xs) → IsSome (find (λ r. number_of r == q) (x ∷ xs))
   found_tail x xs q h = by (number_of x == q) h
     where
       by : (t : Bool) → IsSome (find (λ r. number_of r == q) xs) → IsSome (cond t (Some x) (find (λ r. number_of r == q) xs))
       by true k = refl
       by false k = k
 
--- no symbol of a list is above one address and not above another
-abbrev Nearest : ℕ → ℕ → List PublicValue → Type 0
-Nearest address k xs = (q : ℕ) → q ≤ address → IsSome (find (λ (p : PublicValue). p.address == q) xs) → q ≤ k
-
-some_is : {A : Type 0} (o : Option A) (x : A) → o ≡ Some x → IsSome o
-some_is None x h = absurd (let k : None ≡ Some x = h in cc)
-some_is (Some y) x h = refl
-
-of_head : (address k : ℕ) (x : PublicValue) (xs : List PublicValue) → Nearest address k (x ∷ xs) → x.address ≤ address → x.address ≤ k
-of_head address k x xs h below = h x.address below (some_is _ x (found_head (λ p. p.address) x xs))
-
-of_tail : (address k : ℕ) (x : PublicValue) (xs : List PublicValue) → Nearest address k (x ∷ xs) → Nearest address k xs
-of_tail address k x xs h q below there = h q below (found_tail (λ p. p.address) x xs q there)
-
--- the nearest of all stays
-keeps : (address k : ℕ) (best : PublicValue) (xs : List PublicValue) → best.address ≡ k → Nearest address k xs
-    → nearest_from address (Some best) xs ≡ Some best
-unfolding nearest_from
-keeps address k best [] is h = refl
-keeps address k best (x ∷ xs) is h = elim (cases_lt address x.address) [
-  | inr below ↦
-      let no : nat_lt best.address x.address ≡ false = le-ltb _ _ (omega (arith, of_head address k x xs h below, is)) in
-      rw (le-leb _ _ below, no) (keeps address k best xs is (of_tail address k x xs h))
-  | inl above ↦ rw (lt-leb _ _ above) (keeps address k best xs is (of_tail address k x xs h))
-]
-
--- a symbol that may be there lies below an address
-abbrev Short : ℕ → Option PublicValue → Type 0
-Short k None = ⊤
-Short k (Some b) = b.address < k
-
-short_next : (address k : ℕ) (best : Option PublicValue) (x : PublicValue) → Short k best → (x.address ≤ address → x.address < k)
-    → Short k (nearer address best x)
-short_next address k None x short low = elim (cases_lt address x.address) [
-  | inr below ↦ rw (le-leb _ _ below) (low below)
-  | inl above ↦ rw (lt-leb _ _ above) tt
-]
-short_next address k (Some b) x short low = elim (cases_lt address x.address) [
-  | inr below ↦ elim (cases_lt b.address x.address) [
-    | inl over ↦ rw (le-leb _ _ below, lt-ltb _ _ over) (low below)
-    | inr not_over ↦ rw (le-leb _ _ below, le-ltb _ _ not_over) short
+  -- the number of a member is found
+  found_member : (xs : List R) (x : R) → Contains xs x → IsSome (find (λ r. number_of r == number_of x) xs)
+  found_member [] x h = absurd (nothing x h)
+  found_member (y ∷ ys) x h = elim (cases y ys x h) [
+    | inl same ↦
+        subst (λ z. IsSome (find (λ r. number_of r == number_of z) (y ∷ ys))) same (some_is _ y (found_head y ys))
+    | inr more ↦ found_tail y ys (number_of x) (found_member ys x more)
   ]
-  | inl above ↦ rw (lt-leb _ _ above) short
-]
 
-taken : (address k : ℕ) (best : Option PublicValue) (x : PublicValue) → Short k best → x.address ≡ k → k ≤ address → nearer address best x ≡ Some x
-taken address k None x short is below = let here : x.address ≤ address = omega (arith, is, below) in rw (le-leb _ _ here) refl
-taken address k (Some b) x short is below =
-    let here : x.address ≤ address = omega (arith, is, below) in
-    let over : b.address < x.address = omega (arith, short, is) in
-    rw (le-leb _ _ here, lt-ltb _ _ over) refl
+  -- a number of the list is above one and not above another
+  abbrev any_between : ℕ → ℕ → List R → Bool
+  any_between low high xs = list_any (λ r. is_between low high (number_of r)) xs
 
--- the first symbol of the greatest address is reached
-reaches : (address k : ℕ) (best : Option PublicValue) (xs : List PublicValue) (p : PublicValue) → Short k best → k ≤ address → Nearest address k xs
-    → find (λ (x : PublicValue). x.address == k) xs ≡ Some p → nearest_from address best xs ≡ Some p
-unfolding nearest_from
-reaches address k best [] p short below h there = absurd (let n : None ≡ Some p = there in cc)
-reaches address k best (x ∷ xs) p short below h there = elim (cases_eq x.address k) [
-  | inl is ↦
-      let found : Some x ≡ Some p = (rw (eq-eqb x.address k is) at there) in
-      rw (taken address k best x short is below) (keeps address k x xs is (of_tail address k x xs h) ∙ found)
-  | inr not ↦
-      let found : find (λ (y : PublicValue). y.address == k) xs ≡ Some p = (rw (ne_eqb x.address k not) at there) in
-      reaches address k (nearer address best x) xs p
-      (short_next address k best x short (λ here. omega (arith, of_head address k x xs h here, not)))
-      below (of_tail address k x xs h) found
-]
+  -- no number of the list is above one and not above another
+  abbrev Highest : ℕ → ℕ → List R → Type 0
+  Highest low high xs = (q : ℕ) → q ≤ high → IsSome (find (λ r. number_of r == q) xs) → q ≤ low
 
--- no symbol is near, where none is at or below the address
-none_near : (address : ℕ) (xs : List PublicValue) → ((q : ℕ) → q ≤ address → find (λ (p : PublicValue). p.address == q) xs ≡ None)
-    → nearest_from address None xs ≡ None
-unfolding nearest_from
-none_near address [] h = refl
-none_near address (x ∷ xs) h = elim (cases_lt address x.address) [
-  | inr below ↦ absurd (let k : Some x ≡ None = sym (found_head (λ (p : PublicValue). p.address) x xs) ∙ h x.address below in cc)
-  | inl above ↦ rw (lt-leb _ _ above) (none_near address xs (λ q below. gone q (h q below)))
-]
-  where
-    gone : (q : ℕ) → find (λ (p : PublicValue). p.address == q) (x ∷ xs) ≡ None → find (λ (p : PublicValue). p.address == q) xs ≡ None
-    gone q k = by (x.address == q) k
-      where
-        by : (t : Bool) → cond t (Some x) (find (λ (p : PublicValue). p.address == q) xs) ≡ None → find (λ (p : PublicValue). p.address == q) xs ≡ None
-        by true e = absurd (let n : Some x ≡ None = e in cc)
-        by false e = e
+  between_by : (low high q : ℕ) (xs : List R) → low < q → q ≤ high → IsSome (find (λ r. number_of r == q) xs) → any_between low high xs ≡ true
+  between_by low high q [] over below there = absurd (let k : false ≡ true = there in cc)
+  between_by low high q (x ∷ xs) over below there = elim (cases_eq (number_of x) q) [
+    | inl is ↦
+        let a : low < number_of x = omega (arith, over, is) in
+        let b : number_of x ≤ high = omega (arith, below, is) in
+        rw (lt-ltb _ _ a, le-leb _ _ b) refl
+    | inr not ↦
+        let more : IsSome (find (λ r. number_of r == q) xs) = (rw (ne_eqb (number_of x) q not) at there) in
+        rw (between_by low high q xs over below more) (or_true (is_between low high (number_of x)))
+  ]
+
+  none_between : (low high : ℕ) (xs : List R) → Highest low high xs → any_between low high xs ≡ false
+  none_between low high [] h = refl
+  none_between low high (x ∷ xs) h =
+      let more = none_between low high xs (λ q below there. h q below (found_tail x xs q there)) in
+      elim (cases_lt high (number_of x)) [
+        | inl above ↦ rw (lt-leb _ _ above, and_false (nat_lt low (number_of x)), more) refl
+        | inr below ↦
+            let least = h (number_of x) below (some_is _ x (found_head x xs)) in
+            rw (le-ltb _ _ least, more) refl
+      ]
+
+  highest : (low high : ℕ) (xs : List R) → any_between low high xs ≡ false → Highest low high xs
+  highest low high xs none q below there = elim (cases_lt low q) [
+    | inl over ↦ absurd (let clash : false ≡ true = sym none ∙ between_by low high q xs over below there in cc)
+    | inr least ↦ least
+  ]
+
+-- ---- the nearest symbol
+abbrev address_of : PublicValue → ℕ
+address_of p = p.address
+
+module _ (symbols : List PublicValue) (address : ℕ) where
+  passes_below : (p : PublicValue) → is_nearest symbols address p ≡ true
+      → (p.address ≤ address) × (any_between address_of p.address address symbols ≡ false)
+  unfolding is_nearest
+  passes_below p h =
+      let t = both (nat_le p.address address) (not (any_between address_of p.address address symbols)) h in
+      (leb-true _ _ t.0, unless _ t.1)
+
+  fails_below : (p : PublicValue) → is_nearest symbols address p ≡ false → p.address ≤ address → any_between address_of p.address address symbols ≡ true
+  unfolding is_nearest
+  fails_below p h below = although _ (rw (le-leb _ _ below) at h)
+
+  fails_above : (p : PublicValue) → address < p.address → is_nearest symbols address p ≡ false
+  unfolding is_nearest
+  fails_above p above = rw (lt-leb _ _ above) refl
+
+  -- the nearest symbols are those at the greatest address that isn't above another
+  at_greatest : (k : ℕ) → k ≤ address → IsSome (find (λ (p : PublicValue). p.address == k) symbols) → Highest address_of k address symbols
+      → (x : PublicValue) → Contains symbols x → is_nearest symbols address x ≡ (x.address == k)
+  unfolding is_nearest
+  at_greatest k low there greatest x among = elim (cases_eq x.address k) [
+    | inl is ↦
+        let below : x.address ≤ address = omega (arith, is, low) in
+        let none =
+        none_between address_of x.address address symbols (λ q least some. let h = greatest q least some in omega (arith, h, is)) in
+        rw (le-leb _ _ below, none, eq-eqb _ _ is) refl
+    | inr not ↦ elim (cases_lt address x.address) [
+      | inl above ↦ rw (lt-leb _ _ above, ne_eqb _ _ not) refl
+      | inr below ↦
+          let least = greatest x.address below (found_member address_of symbols x among) in
+          let over : x.address < k = omega (arith, least, not) in
+          rw (le-leb _ _ below, between_by address_of x.address address k symbols over low there, ne_eqb _ _ not) refl
+    ]
+  ]
+
+  first_greatest : (k : ℕ) (p : PublicValue) → k ≤ address → Highest address_of k address symbols
+      → find (λ (x : PublicValue). x.address == k) symbols ≡ Some p → nearest symbols address ≡ Some p
+  first_greatest k p low greatest there =
+      find_as (is_nearest symbols address) (λ x. x.address == k) symbols (at_greatest k low (some_is _ p there) greatest) ∙ there
+
+  none_near : ((q : ℕ) → q ≤ address → find (λ (p : PublicValue). p.address == q) symbols ≡ None) → nearest symbols address ≡ None
+  none_near h = find_none (is_nearest symbols address) symbols (λ x among. elim (cases_lt address x.address) [
+    | inl above ↦ fails_above x above
+    | inr below ↦ absurd (let k : false ≡ true = subst IsSome (h x.address below) (found_member address_of symbols x among) in cc)
+  ])
+
+  -- where no symbol is the nearest, one at or below the address has another between them
+  another : find (is_nearest symbols address) symbols ≡ None → (x : PublicValue) → Contains symbols x → x.address ≤ address
+      → (o : PublicValue) × Contains symbols o × (x.address < o.address) × (o.address ≤ address)
+  another none x among below =
+      let between = fails_below x (none_passes (is_nearest symbols address) symbols none x among) below in
+      let other = any_member (λ (o : PublicValue). is_between x.address address o.address) symbols between in
+      let t = both (nat_lt x.address other.0.address) (nat_le other.0.address address) other.2 in
+      (other.0, other.1, ltb-true _ _ t.0, leb-true _ _ t.1)
+
+  -- which can't go on
+  climbs : find (is_nearest symbols address) symbols ≡ None → (n : ℕ) (x : PublicValue) → Contains symbols x → x.address ≤ address
+      → address ≤ x.address + n → ⊥
+  climbs none zero x among below left = let o = another none x among below in omega (arith, left, o.2, o.3)
+  climbs none (suc n) x among below left =
+      let o = another none x among below in
+      let over = o.2 in
+      climbs none n o.0 o.1 o.3 (omega (arith, left, over))
+
+  nearest_by : (o : Option PublicValue) → find (is_nearest symbols address) symbols ≡ o → IsNearestOrNone symbols address o
+  nearest_by None h = λ x among. elim (cases_lt address x.address) [
+    | inl above ↦ above
+    | inr below ↦ absurd (climbs h address x among below (omega arith))
+  ]
+  nearest_by (Some p) h =
+      let t = found_passes (is_nearest symbols address) symbols p h in
+      let low = passes_below p t.1 in
+      let greatest = highest address_of p.address address symbols low.1 in
+      record {
+        among = t.0;
+        below = low.0;
+        closest = λ other there here. greatest other.address here (found_member address_of symbols other there);
+        first =
+            sym (find_as (is_nearest symbols address) (λ x. x.address == p.address) symbols
+            (at_greatest p.address low.0 (found_member address_of symbols p t.0) greatest)) ∙ h;
+      }
+
+pub nearest_is : (symbols : List PublicValue) (address : ℕ) → IsNearestOrNone symbols address (nearest symbols address)
+nearest_is symbols address = nearest_by symbols address (nearest symbols address) refl
 
 -- ---- lists of the code
 some_mapped : {A B : Type 0} (f : A → B) (o : Option A) → IsSome (option_map f o) → IsSome o
@@ -120,7 +172,7 @@ some_mapped f (Some x) h = refl
 pub found_public : (publics : List PublicSymbol) (address : ℕ) (p : PublicSymbol) → IsNearestNumber (λ s. s.address) publics address p
     → nearest (map public_of publics) address ≡ Some (public_of p)
 found_public publics address p h =
-    reaches address p.address None (map public_of publics) (public_of p) tt h.below
+    first_greatest (map public_of publics) address p.address (public_of p) h.below
     (λ q below there.
     h.closest q below (some_mapped public_of (find (λ s. s.address == q) publics) (subst IsSome (find-map public_of (λ s. s.address == q) publics) there)))
     (find-map public_of (λ s. s.address == p.address) publics ∙ ap (option_map public_of) h.first)
@@ -129,7 +181,7 @@ pub no_public : (publics : List PublicSymbol) (address : ℕ)
     → ((q : ℕ) → q ≤ address → first_numbered (λ (s : PublicSymbol). s.address) q publics ≡ None)
     → nearest (map public_of publics) address ≡ None
 no_public publics address h =
-    none_near address (map public_of publics)
+    none_near (map public_of publics) address
     (λ q below. find-map public_of (λ s. s.address == q) publics ∙ ap (option_map public_of) (h q below))
 
 abbrev begins : Function → ℕ
@@ -138,51 +190,24 @@ begins f = f.address
 abbrev any_parts : ℕ → ℕ → List Function → Bool
 any_parts symbol address fs = list_any (parts symbol address) (map function_of fs)
 
-and_false : (b : Bool) → (b && false) ≡ false
-and_false true = refl
-and_false false = refl
-
-or_true : (b : Bool) → (b || true) ≡ true
-or_true true = refl
-or_true false = refl
-
--- a function that begins between a symbol and an address parts them
-parted : (symbol address q r : ℕ) (fs : List Function) → symbol < q → q ≤ address → find (λ n. n == q) (map begins fs) ≡ Some r
-    → any_parts symbol address fs ≡ true
-parted symbol address q r [] over below there = absurd (let k : None ≡ Some r = there in cc)
-parted symbol address q r (f ∷ fs) over below there = elim (cases_eq f.address q) [
-  | inl is ↦
-      let a : symbol < f.address = omega (arith, over, is) in
-      let b : f.address ≤ address = omega (arith, below, is) in
-      rw (lt-ltb _ _ a, le-leb _ _ b) refl
-  | inr not ↦
-      let more : find (λ n. n == q) (map begins fs) ≡ Some r = (rw (ne_eqb f.address q not) at there) in
-      rw (parted symbol address q r fs over below more) (or_true (parts symbol address (function_of f)))
-]
-
--- none does, where none at or below the address begins above the symbol
-whole : (symbol address : ℕ) (fs : List Function) → ((q : ℕ) → q ≤ address → IsSome (find (λ n. n == q) (map begins fs)) → q ≤ symbol)
-    → any_parts symbol address fs ≡ false
-whole symbol address [] h = refl
-whole symbol address (f ∷ fs) h =
-    let more = whole symbol address fs (λ q below there. h q below (found_tail (λ (n : ℕ). n) f.address (map begins fs) q there)) in
-    elim (cases_lt address f.address) [
-      | inl above ↦ rw (lt-leb _ _ above, and_false (nat_lt symbol f.address), more) refl
-      | inr below ↦
-          let low = h f.address below (some_is _ f.address (found_head (λ (n : ℕ). n) f.address (map begins fs))) in
-          rw (le-ltb _ _ low, more) refl
-    ]
+-- functions part a symbol from an address by where they begin
+by_beginnings : (symbol address : ℕ) (fs : List Function) → any_parts symbol address fs ≡ any_between (λ n. n) symbol address (map begins fs)
+by_beginnings symbol address [] = refl
+by_beginnings symbol address (f ∷ fs) = ap (λ b. is_between symbol address f.address || b) (by_beginnings symbol address fs)
 
 pub parted_by : (symbol address start : ℕ) (fs : List Function) → IsNearestNumber (λ (n : ℕ). n) (map begins fs) address start
     → any_parts symbol address fs ≡ nat_lt symbol start
-parted_by symbol address start fs h = elim (cases_lt symbol start) [
-  | inl over ↦ parted symbol address start start fs over h.below h.first ∙ sym (lt-ltb _ _ over)
+parted_by symbol address start fs h = by_beginnings symbol address fs ∙ elim (cases_lt symbol start) [
+  | inl over ↦
+      between_by (λ n. n) symbol address start (map begins fs) over h.below (some_is _ start h.first) ∙ sym (lt-ltb _ _ over)
   | inr not_over ↦
-      whole symbol address fs (λ q below there. let low = h.closest q below there in omega (arith, low, not_over))
+      none_between (λ n. n) symbol address (map begins fs) (λ q below there. let low = h.closest q below there in omega (arith, low, not_over))
       ∙ sym (le-ltb _ _ not_over)
 ]
 
 pub parted_none : (symbol address : ℕ) (fs : List Function) → ((q : ℕ) → q ≤ address → first_numbered (λ (n : ℕ). n) q (map begins fs) ≡ None)
     → any_parts symbol address fs ≡ false
 parted_none symbol address fs h =
-    whole symbol address fs (λ q below there. absurd (let k : false ≡ true = subst IsSome (h q below) there in cc))
+    by_beginnings symbol address fs
+    ∙ none_between (λ n. n) symbol address (map begins fs)
+    (λ q below there. absurd (let k : false ≡ true = subst IsSome (h q below) there in cc))

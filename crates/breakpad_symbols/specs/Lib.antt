@@ -4,11 +4,12 @@ pub mod LineParts
 pub mod Records
 pub mod Numbered
 pub mod Module
-pub mod File
+pub mod NumberedName
 pub mod LineRecord
 pub mod Function
 pub mod Public
 pub mod SymbolFile
+pub mod RecordLists
 pub mod Answer
 pub mod Cfi
 pub mod AddressWidth
@@ -17,6 +18,7 @@ pub mod Tree
 pub mod CfiParts
 pub mod Caller
 pub mod Grammar
+pub mod Choice
 pub mod Inline
 pub mod InlineParts
 pub mod Malformed

@@ -4,7 +4,8 @@
 //! - [`SymbolFile::read`] reads the records of a text. All names are borrowed from it.
 //! - [`SymbolFile::function_at`], or else [`SymbolFile::public_at`], is what an offset belongs to;
 //!   [`Function::line_at`] is its source line, [`Function::inline_at`] a call that the compiler put in
-//!   place there. [`SymbolFile::file_name`] and [`SymbolFile::origin_name`] are their names.
+//!   place there, of one depth, and [`Function::inlines_at`] those of all depths.
+//!   [`SymbolFile::file_name`] and [`SymbolFile::origin_name`] are their names.
 //! - [`SymbolFile::cfi_at`] has the rules of an offset. [`CfiRecord::frame_address`] and
 //!   [`CfiRecord::caller_register`] evaluate them over the registers and the memory of an
 //!   [`UnwindState`].
@@ -31,9 +32,9 @@
 //!
 //! A line ends at a line feed, before which a carriage return may stand. One space is between fields,
 //! and the last one is the rest of the line; between the words of ranges and rules white space is.
-//! Addresses and sizes are hexadecimal digits of 64 bits, other numbers decimal ones of 32 bits. The
-//! next FUNC, PUBLIC or STACK line ends the records of a function, the next STACK CFI INIT line the
-//! changes of rules.
+//! Addresses and sizes are hexadecimal digits of 64 bits, other numbers decimal ones of 32 bits. An
+//! INLINE line has at least one range. The next FUNC, PUBLIC or STACK line ends the records of a
+//! function, the next STACK CFI INIT line the changes of rules.
 //!
 //! Rules are words: a register and a colon, and then its expression in postfix form, of decimal numbers,
 //! also negative ones, registers, `.cfa`, the operators `+ - * / % @`, and `^`, which reads the word at
@@ -52,34 +53,38 @@
 //!   record exactly if the grammar has that record for it: `laws::lines_are_the_grammar`.
 //! - Lookups return the kept function or rules, by the rule of [`minidump_index`], that contain the
 //!   offset: `function_at`, `cfi_at`, by `IsCountedLookup`; `laws::region_laws`.
-//! - A public symbol is the nearest at or below the offset, unless a function begins between them:
-//!   `public_at`; `laws::nearest_symbol_is_nearest`. Names are the first of a number: `file_name`,
-//!   `origin_name`; lines and calls the first that have the offset: `line_at`, `inline_at`.
-//! - A register's rule is that of the last change that isn't above the offset: `rule_at`. Its value is
-//!   that of its words one after the other: `evaluate`, by `value_of`; which is the value of the
-//!   expression tree with these words: `laws::expressions_are_trees`.
+//! - A public symbol is the nearest at or below the offset, the first of two at one address, unless a
+//!   function begins between them: `public_at`; `laws::nearest_symbol_is_nearest`. Names are the first
+//!   of a number: `file_name`, `origin_name`; lines and calls the first that have the offset: `line_at`,
+//!   `inline_at`, `inlines_at`.
+//! - A register's rule is that of the last change that isn't above the offset and has one: `rule_at`.
+//!   Which lines count is `laws::lines_that_count`. The value of a rule is that of its words one after
+//!   the other: `evaluate`, by `value_of`; which is the value of the expression tree with these words:
+//!   `laws::expressions_are_trees`.
 //! - Malformed lines are counted: `malformed_lines`, by `is_malformed`.
 //!
 //! What isn't: that a lookup of a name or of a public symbol takes the time of a search by halves, and
-//! reading that of one pass for each list.
+//! reading that of one pass over the text and of making the indices. `line_at`, `inline_at` and
+//! `inlines_at` read the lines of the function, `rule_at` the changes after the STACK CFI INIT line.
 #![tactic(auto)]
 
 mod address_width;
 mod caller;
 mod cfi;
 mod expression;
-mod file_record;
 mod function;
 mod function_list;
 mod inline;
+mod inline_calls;
 pub mod laws;
 mod line_record;
 mod lines;
 mod malformed;
 mod module_record;
 mod numbered;
+mod numbered_name;
 mod public;
-mod records;
+mod record_lists;
 mod symbol_file;
 mod value_stack;
 mod words;
@@ -89,6 +94,7 @@ pub use cfi::CfiRecord;
 pub use expression::{UnwindState, evaluate};
 pub use function::Function;
 pub use inline::InlineCall;
+pub use inline_calls::InlineCalls;
 pub use line_record::LineRecord;
 pub use malformed::malformed_lines;
 pub use module_record::ModuleRecord;
