@@ -1,0 +1,93 @@
+-- Registers whose values are known: one after another, and by a test of what they are.
+use Rattle.std.proofs.Common.{◌≡◌, ◌∙◌, ◌<◌, ◌≤◌, ◌+◌, ◌++◌, ◌∷◌, [], ℕ, List, Option, Some, None, Bool, true, false, ap, get_or, length, map, refl, sym, take}
+use Rattle.std.specs.Prelude.{cond}
+use Rattle.std.specs.List.{cons_option, filter_map, find}
+use Rattle.std.specs.Option.{option_and_then, option_map}
+use Rattle.std.specs.Str.{bytes_eq}
+use Rattle.std.proofs.lemmas.List.{map-append, take_all, take_more}
+use Rattle.std.proofs.lemmas.List.Elements.{filter_map-append}
+use Rattle.symbol_walk.specs.declared.registers.KnownRegister.{KnownRegister}
+use Rattle.symbol_walk.specs.declared.registers.Register.{Register}
+use Rattle.symbol_walk.specs.Registers.{RegisterRow, is_frame_pointer, is_stack_pointer, known_by, known_frame_pointer, known_of, known_stack_pointer, known_value, labelled_value, row_of, value_where}
+
+module _ (value : RegisterRow → Option ℕ) where
+  abbrev one : RegisterRow → Option (List ℕ × ℕ)
+  one r = option_map (λ v. (r.name, v)) (value r)
+
+  -- one more
+  pub known_next : (rs : List Register) (i : ℕ) (d : Register) (before after : List KnownRegister) (o : Option ℕ) → i < length rs
+      → map known_of before ≡ known_by value (map row_of (take i rs)) → o ≡ value (row_of (get_or rs i d))
+      → map known_of after ≡ map known_of before ++ cons_option (option_map (λ v. ((get_or rs i d).name.now, v)) o) []
+      → map known_of after ≡ known_by value (map row_of (take (i + 1) rs))
+  unfolding known_by
+  known_next rs i d before after o within done given step =
+      let rows : map row_of (take (i + 1) rs) ≡ map row_of (take i rs) ++ (row_of (get_or rs i d) ∷ []) =
+      ap (map row_of) (take_more rs i d within) ∙ map-append row_of (take i rs) (get_or rs i d ∷ [])
+      in
+      step ∙ ap (λ l. l ++ cons_option (option_map (λ v. ((get_or rs i d).name.now, v)) o) []) done
+      ∙ ap (λ p. filter_map one (map row_of (take i rs)) ++ cons_option (option_map (λ v. ((get_or rs i d).name.now, v)) p) []) given
+      ∙ sym (filter_map-append one (map row_of (take i rs)) (row_of (get_or rs i d) ∷ [])) ∙ ap (filter_map one) (sym rows)
+
+  -- none yet
+  pub known_none : [] ≡ known_by value []
+  unfolding known_by
+  known_none = refl
+
+  -- all
+  pub known_all : (rs : List Register) (i : ℕ) (all : List KnownRegister) → length rs ≤ i → map known_of all ≡ known_by value (map row_of (take i rs))
+      → map known_of all ≡ known_by value (map row_of rs)
+  known_all rs i all past done = done ∙ ap (λ l. known_by value (map row_of l)) (take_all i rs past)
+
+-- ---- by a test
+
+-- the first of views that passes a test
+pub find-map : {X Y : Type 0} (test : Y → Bool) (view : X → Y) (xs : List X) → find test (map view xs) ≡ option_map view (find (λ x. test (view x)) xs)
+find-map test view [] = refl
+find-map test view (x ∷ xs) = by (test (view x)) (find-map test view xs)
+  where
+    by : (b : Bool) → find test (map view xs) ≡ option_map view (find (λ x. test (view x)) xs)
+        → cond b (Some (view x)) (find test (map view xs)) ≡ option_map view (cond b (Some x) (find (λ x. test (view x)) xs))
+    by true more = refl
+    by false more = more
+
+value_of_view : (o : Option KnownRegister) → option_map (λ (k : List ℕ × ℕ). k.1) (option_map known_of o) ≡ option_map (λ (k : KnownRegister). k.value) o
+value_of_view None = refl
+value_of_view (Some k) = refl
+
+-- the value by the name
+pub known_found : (ks : List KnownRegister) (name : List ℕ)
+    → known_value (map known_of ks) name ≡ option_map (λ (k : KnownRegister). k.value) (find (λ (k : KnownRegister). bytes_eq k.name.now name) ks)
+known_found ks name =
+    ap (option_map (λ (k : List ℕ × ℕ). k.1)) (find-map (λ (k : List ℕ × ℕ). bytes_eq k.0 name) known_of ks)
+    ∙ value_of_view (find (λ (k : KnownRegister). bytes_eq k.name.now name) ks)
+
+row_value : (known : List (List ℕ × ℕ)) (o : Option Register) → option_and_then (λ (r : RegisterRow). known_value known r.name) (option_map row_of o)
+    ≡ option_and_then (λ (r : Register). known_value known r.name.now) o
+row_value known None = refl
+row_value known (Some r) = refl
+
+found_where : (test : RegisterRow → Bool) (rs : List Register) (known : List (List ℕ × ℕ))
+    → value_where test (map row_of rs) known ≡ option_and_then (λ (r : Register). known_value known r.name.now) (find (λ (r : Register). test (row_of r)) rs)
+found_where test rs known =
+    ap (option_and_then (λ (r : RegisterRow). known_value known r.name)) (find-map test row_of rs)
+    ∙ row_value known (find (λ (r : Register). test (row_of r)) rs)
+
+-- the value by the label
+pub label_found : (rs : List Register) (known : List (List ℕ × ℕ)) (label : List ℕ)
+    → labelled_value (map row_of rs) known label
+    ≡ option_and_then (λ (r : Register). known_value known r.name.now) (find (λ (r : Register). bytes_eq r.label.now label) rs)
+unfolding labelled_value
+label_found rs known label = found_where (λ r. bytes_eq r.label label) rs known
+
+-- those of both pointers
+pub stack_pointer_found : (rs : List Register) (known : List (List ℕ × ℕ))
+    → known_stack_pointer (map row_of rs) known
+    ≡ option_and_then (λ (r : Register). known_value known r.name.now) (find (λ (r : Register). is_stack_pointer r.role) rs)
+unfolding known_stack_pointer
+stack_pointer_found rs known = found_where (λ r. is_stack_pointer r.role) rs known
+
+pub frame_pointer_found : (rs : List Register) (known : List (List ℕ × ℕ))
+    → known_frame_pointer (map row_of rs) known
+    ≡ option_and_then (λ (r : Register). known_value known r.name.now) (find (λ (r : Register). is_frame_pointer r.role) rs)
+unfolding known_frame_pointer
+frame_pointer_found rs known = found_where (λ r. is_frame_pointer r.role) rs known

@@ -1,0 +1,322 @@
+-- The caller of a frame stands on the stack, above it, or for a context's frame at it.
+use Rattle.std.proofs.Common.{◌≡◌, ◌∙◌, ◌<◌, ◌≤◌, ◌+◌, ◌-◌, ◌*◌, ◌^◌, ◌∷◌, [], ℕ, zero, suc, List, Option, Some, None, Bool, true, false, ap, length, refl, sym, subst, take, arith, ◌⊎◌, inl, inr}
+use Rattle.std.specs.Prelude.{cond, nat_le, nat_lt, is_some, ◌&&◌, if◌then◌else◌}
+use Rattle.std.specs.List.{cons_option, filter_map, find, range_with_len}
+use Rattle.std.specs.Option.{option_and_then, option_map, option_map_or, option_or}
+use Rattle.std.proofs.lemmas.Bool.Decides.{nat_tests}
+use Rattle.minidump.specs.Below.MemoryLists.Unified.{UnifiedRegion}
+use Rattle.minidump.specs.Below.System.Cpu.{pointer_bytes}
+use Rattle.stack_walk.specs.declared.frame.FrameTrust.{FrameTrust}
+use Rattle.stack_walk.specs.declared.frame.FrameTrust.TheVariants.{Context, Cfi, FramePointer, Scan}
+use Rattle.stack_walk.specs.declared.frame.StackFrame.{StackFrame}
+use Rattle.stack_walk.specs.Frames.{StackValue, candidate_at, candidate_by, may_have_called, pointer_at, scan, word_candidate, words_from}
+use Rattle.stack_walk.specs.Frames.{caller_of as pointer_caller}
+use Rattle.stack_walk.specs.Lookups.{call_site}
+use Rattle.stack_walk.proofs.CallerLemmas.{base_of, climbs, end_of, failed, has_record, passed, step}
+use Rattle.symbol_walk.specs.declared.rules.Return.{Return}
+use Rattle.symbol_walk.specs.Frames.{IsByRules}
+use Rattle.symbol_walk.specs.Registers.{known_by, known_frame_pointer, known_stack_pointer}
+use Rattle.symbol_walk.specs.Rules.{caller_by, caller_value, caller_with, goes_on, is_above, is_of_context, is_on_stack, returns, rules_at}
+use Rattle.symbol_walk.specs.Scan.{is_called, restart_of, restarts, scanned_words}
+use Rattle.symbol_walk.specs.Unwinder.{FrameValue, UnwinderValue, pointer_frame}
+use Rattle.symbol_walk.specs.Walk.{caller_by_rules, caller_of, caller_without, end_by_rules}
+
+-- both of two tests that were passed
+both : (a b : Bool) → (a && b) ≡ true → (a ≡ true) × (b ≡ true)
+both true b e = (refl, e)
+both false b e = cc
+
+-- ---- on the stack
+
+abbrev on_region : Option UnifiedRegion → ℕ → Bool
+on_region region address =
+    option_map_or (λ r. nat_le r.base_address address && nat_le address (r.base_address + length r.bytes)) region false
+
+within_region : (region : Option UnifiedRegion) (a : ℕ) → on_region region a ≡ true
+    → (option_map_or (λ r. r.base_address) region 0 ≤ a)
+    × (a ≤ option_map_or (λ r. r.base_address) region 0 + length (option_map_or (λ r. r.bytes) region []))
+within_region None a e = cc
+within_region (Some r) a e =
+    let tests = both (nat_le r.base_address a) (nat_le a (r.base_address + length r.bytes)) e in
+    let low : r.base_address ≤ a = grind (arith, nat_tests, tests.0) in
+    let high : a ≤ r.base_address + length r.bytes = grind (arith, nat_tests, tests.1) in
+    (low, high)
+
+-- an address of the stack, or the one after it
+pub within_stack : (s : StackValue) (a : ℕ) → is_on_stack s a ≡ true → (base_of s ≤ a) × (a ≤ end_of s)
+within_stack s a e = within_region s.region a e
+
+region_has : (region : Option UnifiedRegion) (a : ℕ) → option_map_or (λ r. r.base_address) region 0 + 8 ≤ a
+    → a ≤ option_map_or (λ r. r.base_address) region 0 + length (option_map_or (λ r. r.bytes) region []) → on_region region a ≡ true
+region_has None a low high = absurd (omega (arith, low, high))
+region_has (Some r) a low high =
+    let first : nat_le r.base_address a ≡ true = grind (arith, nat_tests, low) in
+    let last : nat_le a (r.base_address + length r.bytes) ≡ true = grind (arith, nat_tests, high) in
+    rw (first, last) refl
+
+-- ---- above the frame
+
+-- where the caller of a frame stands
+pub record Reached (u : UnwinderValue) (f g : StackFrame) : Type 0 where
+  pub on : is_on_stack u.stack g.stack_pointer ≡ true
+  pub above : is_above f g.stack_pointer ≡ true
+  pub found : is_of_context g.trust ≡ false
+
+at_least : (t : FrameTrust) (a b : ℕ) → (if is_of_context t then nat_le a b else nat_lt a b) ≡ true → a ≤ b
+at_least Context a b e = grind (arith, nat_tests, e)
+at_least Cfi a b e = grind (arith, nat_tests, e)
+at_least FramePointer a b e = grind (arith, nat_tests, e)
+at_least Scan a b e = grind (arith, nat_tests, e)
+
+more_than : (t : FrameTrust) (a b : ℕ) → is_of_context t ≡ false → (if is_of_context t then nat_le a b else nat_lt a b) ≡ true → a < b
+more_than Context a b other e = cc
+more_than Cfi a b other e = grind (arith, nat_tests, e)
+more_than FramePointer a b other e = grind (arith, nat_tests, e)
+more_than Scan a b other e = grind (arith, nat_tests, e)
+
+higher : (t : FrameTrust) (a b : ℕ) → a < b → (if is_of_context t then nat_le a b else nat_lt a b) ≡ true
+higher Context a b lt = grind (arith, nat_tests, lt)
+higher Cfi a b lt = grind (arith, nat_tests, lt)
+higher FramePointer a b lt = grind (arith, nat_tests, lt)
+higher Scan a b lt = grind (arith, nat_tests, lt)
+
+-- the caller stands at the stack pointer of its frame or above it
+pub not_below : (u : UnwinderValue) (f g : StackFrame) → Reached u f g → f.stack_pointer ≤ g.stack_pointer
+not_below u f g r = at_least f.trust f.stack_pointer g.stack_pointer r.above
+
+-- the caller of a caller stands above that
+pub strictly : (u : UnwinderValue) (f g : StackFrame) → is_of_context f.trust ≡ false → Reached u f g → f.stack_pointer < g.stack_pointer
+strictly u f g other r = more_than f.trust f.stack_pointer g.stack_pointer other r.above
+
+-- where the stack of a frame goes on
+goes : (s : StackValue) (f : StackFrame) (a : ℕ) → goes_on s f a ≡ true → (is_on_stack s a ≡ true) × (is_above f a ≡ true)
+unfolding goes_on
+goes s f a e = both (is_on_stack s a) (is_above f a) e
+
+-- ---- by rules
+
+some_is : {A : Type 0} (x y : A) → Some x ≡ Some y → x ≡ y
+some_is x y e = cc
+
+-- the caller with a stack pointer and some registers
+abbrev framed : UnwinderValue → Return → List (List ℕ × ℕ) → ℕ → FrameValue
+framed u back registers stack_pointer = record {
+  frame = record {
+    instruction = back.return_address;
+    stack_pointer = stack_pointer;
+    frame_pointer = known_frame_pointer u.registers registers;
+    trust = Cfi;
+  };
+  registers = registers;
+}
+
+-- what the caller with some registers is
+record WithRegisters (u : UnwinderValue) (f : StackFrame) (back : Return) (registers : List (List ℕ × ℕ)) (g : FrameValue) : Type 0 where
+  reach : Reached u f g.frame
+  instruction : g.frame.instruction ≡ back.return_address
+  has : g.registers ≡ registers
+
+with_registers : (u : UnwinderValue) (f : StackFrame) (back : Return) (registers : List (List ℕ × ℕ)) (g : FrameValue)
+    → caller_with u f back registers ≡ Some g → WithRegisters u f back registers g
+with_registers u f back registers g e =
+    let made = λ (stack_pointer : ℕ). framed u back registers stack_pointer in
+    let pointer =
+    step (λ stack_pointer. if goes_on u.stack f stack_pointer then Some (made stack_pointer) else None) (known_stack_pointer u.registers registers) g e
+    in
+    let test = passed (goes_on u.stack f pointer.0) (Some (made pointer.0)) g pointer.2 in
+    let there = goes u.stack f pointer.0 test.0 in
+    let is : made pointer.0 ≡ g = some_is (made pointer.0) g test.1 in
+    let at : pointer.0 ≡ g.frame.stack_pointer = ap (λ (x : FrameValue). x.frame.stack_pointer) is in
+    let by : Cfi ≡ g.frame.trust = ap (λ (x : FrameValue). x.frame.trust) is in
+    record {
+      reach = record { on = rw (← at) there.0; above = rw (← at) there.1; found = rw (← by) refl };
+      instruction = sym (ap (λ (x : FrameValue). x.frame.instruction) is);
+      has = sym (ap (λ (x : FrameValue). x.registers) is);
+    }
+
+by_rules : (u : UnwinderValue) (f g : FrameValue) → caller_by_rules u f ≡ Some g → Reached u f.frame g.frame × IsByRules u f g
+unfolding caller_by_rules
+by_rules u f g e =
+    let rules = step (caller_by u f.frame) (rules_at u f) g e in
+    let back =
+    step (λ back. caller_with u f.frame back (known_by (caller_value rules.0 back) u.registers)) (returns rules.0) g rules.2
+    in
+    let is = with_registers u f.frame back.0 (known_by (caller_value rules.0 back.0) u.registers) g back.2 in (
+      is.reach,
+      record {
+        rules = rules.0;
+        back = back.0;
+        has_rules = rules.1;
+        has_return = back.1;
+        instruction = is.instruction;
+        registers = is.has;
+      },
+    )
+
+-- ---- by the frame pointer
+
+-- whether a frame is by rules
+abbrev is_cfi : FrameTrust → Bool
+is_cfi Cfi = true
+is_cfi _ = false
+
+by_pointer : (u : UnwinderValue) (f g : StackFrame) → pointer_caller u.stack f ≡ Some g → Reached u f g × (is_cfi g.trust ≡ false)
+by_pointer u f g e =
+    let up = climbs u.stack f g e in
+    let by = (has_record u.stack f g e).trust in
+    let lt : f.stack_pointer < g.stack_pointer = omega (arith, up.0) in (
+      record { on = region_has u.stack.region g.stack_pointer up.1 up.2; above = higher f.trust f.stack_pointer g.stack_pointer lt; found = rw by refl },
+      rw by refl,
+    )
+
+-- ---- by a candidate
+
+abbrev Each : {X : Type 0} → (X → Type 0) → List X → Type 0
+Each P [] = Unit {0}
+Each P (x ∷ xs) = P x × Each P xs
+
+each_more : {X : Type 0} (P : X → Type 0) (o : Option X) (xs : List X) → ((x : X) → o ≡ Some x → P x) → Each P xs → Each P (cons_option o xs)
+each_more P None xs gives rest = rest
+each_more P (Some x) xs gives rest = (gives x refl, rest)
+
+each_given : {X Y : Type 0} (P : Y → Type 0) (h : X → Option Y) → ((x : X) (y : Y) → h x ≡ Some y → P y) → (xs : List X) → Each P (filter_map h xs)
+each_given P h gives [] = tt
+each_given P h gives (x ∷ xs) = each_more P (h x) (filter_map h xs) (gives x) (each_given P h gives xs)
+
+each_taken : {X : Type 0} (P : X → Type 0) (n : ℕ) (xs : List X) → Each P xs → Each P (take n xs)
+each_taken P zero xs each = tt
+each_taken P (suc n) [] each = tt
+each_taken P (suc n) (x ∷ xs) each = (each.0, each_taken P n xs each.1)
+
+-- what is found has passed the test, and is one of the list
+found_passes : {X : Type 0} (P : X → Type 0) (test : X → Bool) (xs : List X) (y : X) → Each P xs → find test xs ≡ Some y → (test y ≡ true) × P y
+found_passes P test [] y each e = cc
+found_passes P test (x ∷ xs) y each e = by (test x) refl e (found_passes P test xs y each.1)
+  where
+    by : (b : Bool) → test x ≡ b → cond b (Some x) (find test xs) ≡ Some y → (find test xs ≡ Some y → (test y ≡ true) × P y)
+        → (test y ≡ true) × P y
+    by true is e rest = let same : x ≡ y = some_is x y e in (rw (← same) is, rw (← same) each.0)
+    by false is e rest = rest e
+
+abbrev IsScanned : StackFrame → Type 0
+IsScanned f = f.trust ≡ Scan
+
+by_word : (s : StackValue) (after word : ℕ) (f : StackFrame) → candidate_by s after word ≡ Some f → IsScanned f
+by_word s after word f e =
+    let call =
+    step (λ call. if may_have_called s call
+    then Some (record { instruction = word; stack_pointer = after; frame_pointer = None; trust = Scan })
+    else None) (call_site word) f e
+    in
+    let code =
+    passed (may_have_called s call.0)
+    (Some (record { instruction = word; stack_pointer = after; frame_pointer = None; trust = Scan })) f call.2
+    in
+    let same : ◌≡◌ {A = Option StackFrame}
+    (Some (record { instruction = word; stack_pointer = after; frame_pointer = None; trust = Scan })) (Some f) =
+    code.1
+    in
+    let is : ◌≡◌ {A = StackFrame} (record { instruction = word; stack_pointer = after; frame_pointer = None; trust = Scan }) f = cc in
+    sym (ap (λ (x : StackFrame). x.trust) is)
+
+of_number : (s : StackValue) (number : ℕ) (f : StackFrame) → word_candidate s number ≡ Some f → IsScanned f
+unfolding word_candidate
+of_number s number f e =
+    let size = step (λ size. candidate_at s size (number * size)) (pointer_bytes s.width) f e in
+    let low =
+    passed (nat_lt (number * size.0 + size.0) (2 ^ 64))
+    (option_and_then (candidate_by s (number * size.0 + size.0)) (pointer_at s (number * size.0))) f size.2
+    in
+    let word = step (candidate_by s (number * size.0 + size.0)) (pointer_at s (number * size.0)) f low.1 in
+    by_word s (number * size.0 + size.0) word.0 f word.2
+
+each_scanned : (s : StackValue) (from limit : ℕ) → Each IsScanned (scan s from limit)
+each_scanned s from limit =
+    each_taken IsScanned limit _
+    (each_given IsScanned (λ index. word_candidate s ((words_from s from).0 + index)) (λ index f is. of_number s _ f is)
+    (range_with_len 0 (words_from s from).1))
+
+restarts_there : (u : UnwinderValue) (f : StackFrame) (size : ℕ) (g : StackFrame) → restarts u f size g ≡ true → goes_on u.stack f g.stack_pointer ≡ true
+unfolding restarts
+restarts_there u f size g e =
+    (both (goes_on u.stack f g.stack_pointer) (nat_le (g.stack_pointer - f.stack_pointer) (scanned_words f.trust * size) && is_called u g) e).0
+
+by_scan : (u : UnwinderValue) (f g : StackFrame) → restart_of u f ≡ Some g → Reached u f g × (is_cfi g.trust ≡ false)
+unfolding restart_of
+by_scan u f g e =
+    let size =
+    step (λ size. find (restarts u f size) (scan u.stack f.stack_pointer (scanned_words f.trust))) (pointer_bytes u.stack.width) g e
+    in
+    let is =
+    found_passes IsScanned (restarts u f size.0) (scan u.stack f.stack_pointer (scanned_words f.trust)) g
+    (each_scanned u.stack f.stack_pointer (scanned_words f.trust)) size.2
+    in
+    let there = goes u.stack f g.stack_pointer (restarts_there u f size.0 g is.0) in
+    let by = is.1 in
+    (record { on = there.0; above = there.1; found = rw by refl }, rw by refl)
+
+-- ---- any of these
+
+-- what a choice of two is
+pub either : {A : Type 0} (o p : Option A) (y : A) → option_or o p ≡ Some y → (o ≡ Some y) ⊎ (p ≡ Some y)
+either None p y e = inr e
+either (Some x) p y e = inl e
+
+pub mapped : {A B : Type 0} (f : A → B) (o : Option A) (y : B) → option_map f o ≡ Some y → (x : A) × (o ≡ Some x) × (f x ≡ y)
+mapped f None y e = cc
+mapped f (Some x) y e = (x, refl, (let same : Some (f x) ≡ Some y = e in cc))
+
+without_rules : (u : UnwinderValue) (f g : FrameValue) → caller_without u f ≡ Some g → Reached u f.frame g.frame × (is_cfi g.frame.trust ≡ false)
+without_rules u f g e =
+    let found = mapped (pointer_frame u) (option_or (pointer_caller u.stack f.frame) (restart_of u f.frame)) g e in
+    let is : found.0 ≡ g.frame = ap (λ (x : FrameValue). x.frame) found.2 in
+    subst (λ (h : StackFrame). Reached u f.frame h × (is_cfi h.trust ≡ false)) is (by found.0 (either (pointer_caller u.stack f.frame) (restart_of u f.frame) found.0 found.1))
+  where
+    by : (h : StackFrame) → (pointer_caller u.stack f.frame ≡ Some h) ⊎ (restart_of u f.frame ≡ Some h) → Reached u f.frame h × (is_cfi h.trust ≡ false)
+    by h (inl e) = by_pointer u f.frame h e
+    by h (inr e) = by_scan u f.frame h e
+
+-- the caller of a frame, by its rules or without them
+caller_by_any : (u : UnwinderValue) (f g : FrameValue) → caller_of u f ≡ Some g → (caller_by_rules u f ≡ Some g) ⊎ (caller_without u f ≡ Some g)
+unfolding caller_of
+caller_by_any u f g e =
+    let goes = failed (is_some (end_by_rules u f)) (option_or (caller_by_rules u f) (caller_without u f)) g e in
+    either (caller_by_rules u f) (caller_without u f) g goes.1
+
+-- it stands on the stack
+pub reached : (u : UnwinderValue) (f g : FrameValue) → caller_of u f ≡ Some g → Reached u f.frame g.frame
+reached u f g e = by (caller_by_any u f g e)
+  where
+    by : (caller_by_rules u f ≡ Some g) ⊎ (caller_without u f ≡ Some g) → Reached u f.frame g.frame
+    by (inl e) = (by_rules u f g e).0
+    by (inr e) = (without_rules u f g e).0
+
+-- and if it is by rules it has their values
+pub is_by_rules : (u : UnwinderValue) (f g : FrameValue) → caller_of u f ≡ Some g → g.frame.trust ≡ Cfi → IsByRules u f g
+is_by_rules u f g e by_cfi = by (caller_by_any u f g e)
+  where
+    by : (caller_by_rules u f ≡ Some g) ⊎ (caller_without u f ≡ Some g) → IsByRules u f g
+    by (inl e) = (by_rules u f g e).1
+    by (inr e) = absurd (let k : true ≡ false = sym (ap is_cfi by_cfi) ∙ (without_rules u f g e).1 in cc)
+
+-- ---- what is left of the stack
+
+-- how far the stack goes on after a frame, and one more for that of a context
+abbrev pub left : UnwinderValue → FrameValue → ℕ
+left u f = (end_of u.stack + 1 - f.frame.stack_pointer) + cond (is_of_context f.frame.trust) 1 0
+
+shorter : (t : FrameTrust) (a b end : ℕ) → a ≤ b → b ≤ end → (is_of_context t ≡ false → a < b)
+    → end + 1 - b < (end + 1 - a) + cond (is_of_context t) 1 0
+shorter Context a b end low high more = omega (arith, low, high)
+shorter Cfi a b end low high more = omega (arith, more refl, high)
+shorter FramePointer a b end low high more = omega (arith, more refl, high)
+shorter Scan a b end low high more = omega (arith, more refl, high)
+
+-- it is less after the caller
+pub falls : (u : UnwinderValue) (f g : FrameValue) → caller_of u f ≡ Some g → left u g < left u f
+falls u f g e =
+    let r = reached u f g e in
+    let high = (within_stack u.stack g.frame.stack_pointer r.on).1 in
+    rw r.found
+    (let less = shorter f.frame.trust f.frame.stack_pointer g.frame.stack_pointer (end_of u.stack) (not_below u f.frame g.frame r) high
+    (λ other. strictly u f.frame g.frame other r) in omega (arith, less))

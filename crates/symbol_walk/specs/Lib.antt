@@ -1,0 +1,8 @@
+-- The definitions that the contracts cite.
+pub mod Registers
+pub mod Symbols
+pub mod Unwinder
+pub mod Rules
+pub mod Scan
+pub mod Walk
+pub mod Frames

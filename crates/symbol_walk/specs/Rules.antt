@@ -1,0 +1,168 @@
+-- The caller of a frame by the rules of its module's symbols.
+use Rattle.std.specs.Prelude.{ℕ, ◌+◌, ◌==◌, ◌&&◌, Bool, true, false, nat_le, nat_lt, List, length}
+use Rattle.std.specs.Prelude.{codes, map, is_none, Option, Some, None, if◌then◌else◌}
+use Rattle.std.specs.Option.{option_and_then, option_map, option_map_or}
+use Rattle.minidump.specs.declared.system_info.PointerWidth.{PointerWidth}
+use Rattle.minidump.specs.declared.system_info.PointerWidth.TheVariants.{Bits32, Bits64, Unknown}
+use Rattle.stack_walk.specs.declared.frame.FrameTrust.{FrameTrust}
+use Rattle.stack_walk.specs.declared.frame.FrameTrust.TheVariants.{Context, Cfi}
+use Rattle.stack_walk.specs.declared.frame.StackFrame.{StackFrame}
+use Rattle.stack_walk.specs.Frames.{StackValue, pointer_at, stack_of}
+use Rattle.stack_walk.specs.Lookups.{lookup_address}
+use Rattle.breakpad_symbols.specs.AddressWidth.{bits_of}
+use Rattle.breakpad_symbols.specs.Caller.{caller_register_at, frame_address_at}
+use Rattle.breakpad_symbols.specs.Cfi.{CfiValue, cfi_of, rule_at}
+use Rattle.breakpad_symbols.specs.Expression.{StateValue, value_of}
+use Rattle.symbol_walk.specs.declared.registers.RegisterRole.{RegisterRole}
+use Rattle.symbol_walk.specs.declared.registers.RegisterRole.TheVariants.{InstructionPointer}
+use Rattle.symbol_walk.specs.declared.registers.RegisterRole.TheVariants.{StackPointer}
+use Rattle.symbol_walk.specs.declared.registers.RegisterRole.TheVariants.{FramePointer as Frame}
+use Rattle.symbol_walk.specs.declared.registers.RegisterRole.TheVariants.{Saved, Scratch}
+use Rattle.symbol_walk.specs.declared.rules.Return.{Return}
+use Rattle.symbol_walk.specs.declared.rules.Rules.{Rules}
+use Rattle.symbol_walk.specs.declared.state.FrameState.{FrameState}
+use Rattle.symbol_walk.specs.declared.walk.SymbolWalkEnd.{SymbolWalkEnd}
+use Rattle.symbol_walk.specs.declared.walk.SymbolWalkEnd.TheVariants.{NoReturnRule}
+use Rattle.symbol_walk.specs.declared.walk.SymbolWalkEnd.TheVariants.{ZeroReturnAddress}
+use Rattle.symbol_walk.specs.Registers.{RegisterRow, known_by, known_frame_pointer, known_of}
+use Rattle.symbol_walk.specs.Registers.{known_stack_pointer, known_value, labelled_value, row_of}
+use Rattle.symbol_walk.specs.Symbols.{cfi_at, symbols_at}
+use Rattle.symbol_walk.specs.Unwinder.{FrameValue, UnwinderValue}
+
+-- ---- the rules of a frame
+
+-- the number of bits of an address, if it is known
+abbrev pub address_bits : PointerWidth → Option ℕ
+address_bits Bits32 = Some 32
+address_bits Bits64 = Some 64
+address_bits Unknown = None
+
+-- what rules refer to in a frame: its known registers by their labels, and the words of the stack
+abbrev pub state_in : StackValue → List RegisterRow → List (List ℕ × ℕ) → ℕ → StateValue
+state_in stack table known bits = record {
+  bits = bits;
+  register = labelled_value table known;
+  word = pointer_at stack;
+}
+
+-- the same of a `FrameState`
+abbrev pub state_of : FrameState → StateValue
+state_of s = state_in (stack_of s.stack.now) (map row_of s.table.now) (map known_of s.known.now)
+    (bits_of s.width)
+
+-- the rules of a frame: the unwind information, the offset in the module at which it is read, the
+-- known registers of the frame, and what rules refer to
+pub record RulesValue : Type 0 where
+  pub cfi : CfiValue
+  pub offset : ℕ
+  pub known : List (List ℕ × ℕ)
+  pub state : StateValue
+
+-- the rules of a `Rules`
+abbrev pub rules_of : Rules → RulesValue
+rules_of r = record {
+  cfi = cfi_of r.cfi.now;
+  offset = r.offset;
+  known = map known_of r.state.known.now;
+  state = state_of r.state;
+}
+
+-- those that the symbols of the module have for an address
+abbrev pub rules_by : UnwinderValue → FrameValue → ℕ → ℕ → Option RulesValue
+rules_by u f bits address = option_and_then
+    (λ p. option_map (λ cfi. record {
+      cfi = cfi;
+      offset = p.1;
+      known = f.registers;
+      state = state_in u.stack u.registers f.registers bits;
+    }) (cfi_at p.0 p.1)) (symbols_at u.stack.modules u.symbols address)
+
+-- the rules of a frame: those of the address by which it is looked up
+unfoldable pub rules_at : UnwinderValue → FrameValue → Option RulesValue
+rules_at u f = option_and_then (λ bits. option_and_then (rules_by u f bits)
+    (lookup_address f.frame)) (address_bits u.stack.width)
+
+-- ---- where they return to
+
+-- the canonical frame address and the return address, where rules have a value for both
+unfoldable pub returns : RulesValue → Option Return
+returns r = option_and_then (λ frame. option_map
+    (λ address. record { frame_address = frame; return_address = address })
+    (caller_register_at r.state r.cfi r.offset frame (codes ".ra")))
+    (frame_address_at r.state r.cfi r.offset)
+
+-- whether they return to 0
+abbrev pub returns_to_zero : Option Return → Bool
+returns_to_zero back = option_map_or (λ b. b.return_address == 0) back false
+
+-- why the walk ends by rules: they have none for the return address, or it is 0
+abbrev pub end_by : RulesValue → Option SymbolWalkEnd
+end_by r = if is_none (rule_at r.cfi (codes ".ra") r.offset) then Some NoReturnRule
+    else (if returns_to_zero (returns r) then Some ZeroReturnAddress else None)
+
+-- ---- the registers of the caller
+
+-- what the calling convention says of a register that has no rule: the stack pointer of the caller
+-- is the canonical frame address, and a saved register has its value in the callee
+abbrev pub unruled_value : List (List ℕ × ℕ) → Return → List ℕ → RegisterRole → Option ℕ
+unruled_value known back name InstructionPointer = Some back.return_address
+unruled_value known back name StackPointer = Some back.frame_address
+unruled_value known back name Frame = known_value known name
+unruled_value known back name Saved = known_value known name
+unruled_value known back name Scratch = None
+
+-- the value of a register by its rule, or else by the calling convention
+abbrev pub ruled_value : RulesValue → Return → RegisterRow → Option ℕ
+ruled_value r back row = option_map_or (value_of r.state (Some back.frame_address))
+    (rule_at r.cfi row.label r.offset) (unruled_value r.known back row.name row.role)
+
+-- whether a register is the instruction pointer
+abbrev pub is_instruction_pointer : RegisterRole → Bool
+is_instruction_pointer InstructionPointer = true
+is_instruction_pointer _ = false
+
+-- the value of a register in the caller: the instruction pointer is the return address
+abbrev pub caller_value : RulesValue → Return → RegisterRow → Option ℕ
+caller_value r back row = if is_instruction_pointer row.role then Some back.return_address
+    else ruled_value r back row
+
+-- ---- the caller
+
+-- whether a frame is that of a context
+abbrev pub is_of_context : FrameTrust → Bool
+is_of_context Context = true
+is_of_context _ = false
+
+-- whether an address lies on the stack, or is the one after it
+abbrev pub is_on_stack : StackValue → ℕ → Bool
+is_on_stack s address = option_map_or (λ r. nat_le r.base_address address
+    && nat_le address (r.base_address + length r.bytes)) s.region false
+
+-- whether an address is above the stack pointer of a frame. That of a context may be it: a function
+-- that has pushed nothing, with its return address in a register, has its caller's
+abbrev pub is_above : StackFrame → ℕ → Bool
+is_above f address = if is_of_context f.trust then nat_le f.stack_pointer address
+    else nat_lt f.stack_pointer address
+
+-- whether the stack of a frame goes on at an address, as the stack pointer of its caller
+unfoldable pub goes_on : StackValue → StackFrame → ℕ → Bool
+goes_on s f address = is_on_stack s address && is_above f address
+
+-- the caller with these registers, if the stack goes on at its stack pointer
+abbrev pub caller_with : UnwinderValue → StackFrame → Return → List (List ℕ × ℕ) → Option FrameValue
+caller_with u f back registers = option_and_then (λ stack_pointer.
+    if goes_on u.stack f stack_pointer then Some (record {
+      frame = record {
+        instruction = back.return_address;
+        stack_pointer = stack_pointer;
+        frame_pointer = known_frame_pointer u.registers registers;
+        trust = Cfi;
+      };
+      registers = registers;
+    })
+    else None) (known_stack_pointer u.registers registers)
+
+-- the caller of a frame by its rules
+abbrev pub caller_by : UnwinderValue → StackFrame → RulesValue → Option FrameValue
+caller_by u f r = option_and_then
+    (λ back. caller_with u f back (known_by (caller_value r back) u.registers)) (returns r)

@@ -1,0 +1,41 @@
+-- Where a walk starts again: at a candidate whose call lies in a function of the symbols.
+use Rattle.std.specs.Prelude.{ℕ, ◌-◌, ◌*◌, ◌&&◌, Bool, false, nat_le, Option}
+use Rattle.std.specs.List.{find}
+use Rattle.std.specs.Option.{option_and_then, option_map_or}
+use Rattle.minidump.specs.Below.System.Cpu.{pointer_bytes}
+use Rattle.stack_walk.specs.declared.frame.FrameTrust.{FrameTrust}
+use Rattle.stack_walk.specs.declared.frame.FrameTrust.TheVariants.{Context, Cfi, FramePointer, Scan}
+use Rattle.stack_walk.specs.declared.frame.StackFrame.{StackFrame}
+use Rattle.stack_walk.specs.Frames.{scan}
+use Rattle.stack_walk.specs.Lookups.{lookup_address}
+use Rattle.symbol_walk.specs.Rules.{goes_on}
+use Rattle.symbol_walk.specs.Symbols.{has_function, symbols_at}
+use Rattle.symbol_walk.specs.Unwinder.{UnwinderValue}
+
+-- how many words from the stack pointer of a frame on are looked at
+abbrev pub scanned_words : FrameTrust → ℕ
+scanned_words Context = 40
+scanned_words Cfi = 30
+scanned_words FramePointer = 30
+scanned_words Scan = 30
+
+-- whether a function of the symbols has an address
+unfoldable pub in_function : UnwinderValue → ℕ → Bool
+in_function u address = option_map_or (λ p. has_function p.0 p.1)
+    (symbols_at u.stack.modules u.symbols address) false
+
+-- whether the call of a candidate lies in one
+abbrev pub is_called : UnwinderValue → StackFrame → Bool
+is_called u candidate = option_map_or (in_function u) (lookup_address candidate) false
+
+-- whether the walk goes on from a candidate after a frame, where an address has so many bytes: its
+-- word is one of those, and its call lies in a function
+unfoldable pub restarts : UnwinderValue → StackFrame → ℕ → StackFrame → Bool
+restarts u f size candidate = goes_on u.stack f candidate.stack_pointer
+    && (nat_le (candidate.stack_pointer - f.stack_pointer) (scanned_words f.trust * size)
+    && is_called u candidate)
+
+-- the first candidate from which it does
+unfoldable pub restart_of : UnwinderValue → StackFrame → Option StackFrame
+restart_of u f = option_and_then (λ size. find (λ candidate. restarts u f size candidate)
+    (scan u.stack f.stack_pointer (scanned_words f.trust))) (pointer_bytes u.stack.width)

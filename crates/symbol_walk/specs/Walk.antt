@@ -1,0 +1,109 @@
+-- The walk of a context by the symbols of its process, as a function of its stack.
+use Rattle.std.specs.Prelude.{ℕ, ◌+◌, ◌==◌, List, [], ◌∷◌, length, map, is_some, Option, Some, None}
+use Rattle.std.specs.Prelude.{if◌then◌else◌, unwrap_or}
+use Rattle.std.specs.List.{range_with_len}
+use Rattle.std.specs.Option.{option_and_then, option_map, option_map_or, option_or}
+use Rattle.minidump.specs.declared.MinidumpContext.{MinidumpContext}
+use Rattle.minidump.specs.Below.MemoryLists.Unified.{UnifiedRegion}
+use Rattle.stack_walk.specs.declared.frame.StackFrame.{StackFrame}
+use Rattle.stack_walk.specs.Frames.{StackValue, scan}
+use Rattle.stack_walk.specs.Frames.{caller_of as pointer_caller}
+use Rattle.stack_walk.specs.WalkEnd.{walk_end}
+use Rattle.breakpad_symbols.specs.SymbolFile.{SymbolsValue}
+use Rattle.symbol_walk.specs.declared.walk.SymbolWalk.{SymbolWalk}
+use Rattle.symbol_walk.specs.declared.walk.SymbolWalkEnd.{SymbolWalkEnd}
+use Rattle.symbol_walk.specs.declared.walk.SymbolWalkEnd.TheVariants.{Walk}
+use Rattle.symbol_walk.specs.Registers.{register_table}
+use Rattle.symbol_walk.specs.Rules.{caller_by, end_by, rules_at}
+use Rattle.symbol_walk.specs.Scan.{restart_of}
+use Rattle.symbol_walk.specs.Unwinder.{FrameValue, UnwinderValue, first_frame, frame_of}
+use Rattle.symbol_walk.specs.Unwinder.{pointer_frame}
+
+-- ---- the caller of a frame
+
+-- why the walk ends by the rules of a frame
+unfoldable pub end_by_rules : UnwinderValue → FrameValue → Option SymbolWalkEnd
+end_by_rules u f = option_and_then end_by (rules_at u f)
+
+-- the caller of a frame by its rules
+unfoldable pub caller_by_rules : UnwinderValue → FrameValue → Option FrameValue
+caller_by_rules u f = option_and_then (caller_by u f.frame) (rules_at u f)
+
+-- the caller by the frame pointer, or else the candidate from which the walk starts again
+abbrev pub caller_without : UnwinderValue → FrameValue → Option FrameValue
+caller_without u f = option_map (pointer_frame u)
+    (option_or (pointer_caller u.stack f.frame) (restart_of u f.frame))
+
+-- the caller of a frame: by its rules, or else without them; none where rules end the walk
+unfoldable pub caller_of : UnwinderValue → FrameValue → Option FrameValue
+caller_of u f = if is_some (end_by_rules u f) then None
+    else option_or (caller_by_rules u f) (caller_without u f)
+
+-- why a frame has no caller
+abbrev pub end_of : UnwinderValue → FrameValue → SymbolWalkEnd
+end_of u f = unwrap_or (end_by_rules u f) (Walk (walk_end u.stack f.frame))
+
+-- ---- the callers
+
+-- the caller of a frame, where its stack pointer is an address
+abbrev pub caller_here : UnwinderValue → FrameValue → ℕ → Option FrameValue
+caller_here u f address = option_and_then (λ caller.
+    if caller.frame.stack_pointer == address then Some caller else None) (caller_of u f)
+
+-- the callers of a frame whose stack pointers are among these ascending addresses: the one at the
+-- first, and its callers at the addresses above; where there is none, those at the addresses above
+unfoldable pub callers_at : UnwinderValue → FrameValue → List ℕ → List FrameValue
+callers_at u f [] = []
+callers_at u f (address ∷ above) =
+    option_map_or (λ caller. caller ∷ callers_at u caller above) (caller_here u f address)
+    (callers_at u f above)
+
+-- the addresses of a region and the one after it, ascending
+abbrev pub pointers_to : UnifiedRegion → List ℕ
+pointers_to region = range_with_len region.base_address (length region.bytes + 1)
+
+-- those of a stack
+abbrev pub stack_pointers : StackValue → List ℕ
+stack_pointers s = option_map_or pointers_to s.region []
+
+-- the callers of a frame, the innermost first
+abbrev pub callers_in : UnwinderValue → FrameValue → List FrameValue
+callers_in u f = callers_at u f (stack_pointers u.stack)
+
+-- the last of a frame and its callers
+abbrev pub outermost : FrameValue → List FrameValue → FrameValue
+outermost f [] = f
+outermost f (caller ∷ callers) = outermost caller callers
+
+-- ---- the walk
+
+-- a walk: the frames, the candidates, and why the last of the frames has no caller
+pub record SymbolWalkValue : Type 0 where
+  pub frames : List FrameValue
+  pub candidates : List StackFrame
+  pub end : SymbolWalkEnd
+
+-- the walk of a `SymbolWalk`
+abbrev pub symbol_walk_of : SymbolWalk → SymbolWalkValue
+symbol_walk_of w = record {
+  frames = map frame_of w.frames.items;
+  candidates = w.candidates.items;
+  end = w.end;
+}
+
+-- the walk from a frame: it and its callers, the candidates from the last one's stack pointer on, at
+-- most so many, and why there is no further caller
+abbrev pub walk_from : UnwinderValue → FrameValue → ℕ → SymbolWalkValue
+walk_from u first limit =
+    let callers = callers_in u first in
+    let last = outermost first callers in record {
+      frames = first ∷ callers;
+      candidates = scan u.stack last.frame.stack_pointer limit;
+      end = end_of u last;
+    }
+
+-- the walk of a context on a stack, by the symbols of the modules
+abbrev pub symbol_walk_in : StackValue → List (Option SymbolsValue) → MinidumpContext → ℕ → SymbolWalkValue
+symbol_walk_in s symbols c limit =
+    walk_from (record { stack = s; symbols = symbols; registers = register_table c.raw })
+    (first_frame c) limit

@@ -1,0 +1,48 @@
+//! Laws of walks by symbols, over the definitions that the contract of [`crate::walk_by_symbols`]
+//! names.
+ghost use Rattle.std.specs.Prelude.{◌≡◌, ◌↔◌, ◌≤◌, ◌+◌, ℕ, List, Option, Some, length, map};
+ghost use Rattle.minidump.specs.declared.MinidumpContext.{MinidumpContext};
+ghost use Rattle.stack_walk.specs.declared.frame.FrameTrust.TheVariants.{Cfi};
+ghost use Rattle.stack_walk.specs.Frames.{StackValue, stack_bytes};
+ghost use Rattle.stack_walk.specs.Walk.{walk_in};
+ghost use Rattle.breakpad_symbols.specs.SymbolFile.{SymbolsValue};
+ghost use Rattle.symbol_walk.specs.declared.walk.SymbolWalkEnd.TheVariants.{Walk};
+ghost use Rattle.symbol_walk.specs.Frames.{AreCallers, HaveNone, IsByRules};
+ghost use Rattle.symbol_walk.specs.Unwinder.{FrameValue, UnwinderValue};
+ghost use Rattle.symbol_walk.specs.Walk.{caller_of, callers_in, outermost, symbol_walk_in};
+
+/// Without symbols the frames, the candidates and the end are those of [`stack_walk`].
+pub fn without_symbols_a_walk_is_by_frame_pointers()
+    ensures frames { (s : StackValue) (symbols : List (Option SymbolsValue)) (c : MinidumpContext)
+        (limit : ℕ) → HaveNone symbols
+        → map (λ f. f.frame) (symbol_walk_in s symbols c limit).frames
+        ≡ (walk_in s c limit).frames }
+    ensures candidates { (s : StackValue) (symbols : List (Option SymbolsValue))
+        (c : MinidumpContext) (limit : ℕ) → HaveNone symbols
+        → (symbol_walk_in s symbols c limit).candidates ≡ (walk_in s c limit).candidates }
+    ensures end { (s : StackValue) (symbols : List (Option SymbolsValue)) (c : MinidumpContext)
+        (limit : ℕ) → HaveNone symbols
+        → (symbol_walk_in s symbols c limit).end ≡ Walk (walk_in s c limit).end }
+{}
+
+/// A frame has exactly one list of callers: each is the caller of the one before it, and the last has
+/// none.
+pub fn one_list_of_callers()
+    ensures { (u : UnwinderValue) (f : FrameValue) (callers : List FrameValue) (last : FrameValue)
+        → AreCallers u f callers last
+        ↔ ((callers ≡ callers_in u f) × (last ≡ outermost f (callers_in u f))) }
+{}
+
+/// A frame by rules has the instruction and the registers that the rules of its callee give by the
+/// registers of that.
+pub fn rules_give_the_registers()
+    ensures { (u : UnwinderValue) (f g : FrameValue) → caller_of u f ≡ Some g → g.frame.trust ≡ Cfi
+        → IsByRules u f g }
+{}
+
+/// There is at most one caller for each byte of the stack, and one more.
+pub fn frames_are_few()
+    ensures { (s : StackValue) (symbols : List (Option SymbolsValue)) (c : MinidumpContext)
+        (limit : ℕ) → length (symbol_walk_in s symbols c limit).frames
+        ≤ length (stack_bytes s) + 2 }
+{}

@@ -1,0 +1,56 @@
+//! Walks the stack of a thread by the symbols of its modules: its frames, each with what is known of
+//! its registers.
+//!
+//! - The first frame is that of the thread's context.
+//! - Its callers follow by the rules of their modules' symbol files: [`FrameTrust::Cfi`]. Where a module
+//!   has no symbols, or its rules give no caller, the caller is that by the frame pointer, as in
+//!   [`stack_walk`]; or else the walk starts again at the first of the next words of the stack that may
+//!   be a return address into a function of the symbols: [`FrameTrust::Scan`].
+//! - It ends where rules say that a frame has no caller, and where none of these gives one.
+//!
+//! [`walk_by_symbols`] finds the frames by a context and a [`Stack`].
+//!
+//! [`FrameTrust::Cfi`]: stack_walk::FrameTrust::Cfi
+//! [`FrameTrust::Scan`]: stack_walk::FrameTrust::Scan
+//! [`Stack`]: stack_walk::Stack
+//!
+//! # The caller by rules
+//!
+//! The rules of a frame are those that its module's symbols have for the address by which it is looked
+//! up ([`StackFrame::lookup_address`]). They refer to the known registers, and to the words of the
+//! stack. `.ra` is the caller's instruction, and `.cfa` its stack pointer, unless that has a rule of its
+//! own. Each other register has the value of its rule; without a rule one that a function keeps for its
+//! caller has its value in the callee, and any other isn't known.
+//!
+//! The stack pointer of a caller lies on the stack or right after it, above that of its callee, or for a
+//! context's frame not below it: there a return address may be in a register. A candidate has to lie
+//! within 40 words of the stack pointer of a context's frame, and within 30 of another's.
+//!
+//! [`StackFrame::lookup_address`]: stack_walk::StackFrame::lookup_address
+//!
+//! # What is proved
+//!
+//! - A walk is the one that the definition `symbol_walk_in` assigns to a stack, the symbols of the
+//!   modules and a context: [`walk_by_symbols`]. Out of memory is an error, never a shorter list.
+//! - Its callers are those of `AreCallers`, and the only ones: each is the caller of the frame before
+//!   it, and the last frame has none: [`laws::one_list_of_callers`].
+//! - A frame by rules has the instruction and the registers that the rules of its callee give:
+//!   [`laws::rules_give_the_registers`].
+//! - The walk ends on every stack, and its length is bounded by that of the stack:
+//!   [`laws::frames_are_few`].
+//! - Without symbols it is the walk of [`stack_walk`]:
+//!   [`laws::without_symbols_a_walk_is_by_frame_pointers`].
+#![tactic(auto)]
+
+mod frame;
+pub mod laws;
+mod registers;
+mod rules;
+mod scan;
+mod state;
+mod unwinder;
+mod walk;
+
+pub use frame::KnownFrame;
+pub use registers::KnownRegister;
+pub use walk::{SymbolWalk, SymbolWalkEnd, walk_by_symbols};

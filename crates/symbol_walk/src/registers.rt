@@ -1,0 +1,269 @@
+//! The registers of a processor.
+ghost use Rattle.std.specs.Prelude.{◌≡◌, ◌++◌, [], IfOk, OnOk, map};
+ghost use Rattle.std.specs.List.{cons_option, find};
+ghost use Rattle.std.specs.Option.{option_copied, option_map};
+ghost use Rattle.std.specs.Str.{bytes_eq};
+ghost use Rattle.symbol_walk.specs.Registers.{is_frame_pointer, is_stack_pointer};
+ghost use Rattle.symbol_walk.specs.Registers.{known_by, known_frame_pointer, known_of};
+ghost use Rattle.symbol_walk.specs.Registers.{known_stack_pointer, known_value};
+ghost use Rattle.symbol_walk.specs.Registers.{labelled_value, register_table, row_of};
+
+use minidump::MinidumpRawContext;
+use std::alloc::{AllocError, Global};
+
+/// A register of a frame whose value is known.
+#[derive(Clone, Copy, Debug, PartialEq, Eq)]
+pub struct KnownRegister {
+    /// The name that a context has for it.
+    pub name: &'static str,
+    /// Its value.
+    pub value: u64,
+}
+
+// A register of a processor.
+#[derive(Clone, Copy)]
+pub(crate) struct Register {
+    // how rules call it
+    pub(crate) label: &'static str,
+    // how a context calls it
+    pub(crate) name: &'static str,
+    pub(crate) role: RegisterRole,
+}
+
+// What a register is for, by the calling convention of its processor.
+#[derive(Clone, Copy)]
+pub(crate) enum RegisterRole {
+    InstructionPointer,
+    StackPointer,
+    // a saved register
+    FramePointer,
+    // a function keeps its value for the caller
+    Saved,
+    // a function may change it
+    Scratch,
+}
+
+// The registers of a table: each its label, its name and its role.
+macro_rules! registers {
+    ($($label:literal $name:literal $role:ident,)*) => {
+        &[$(Register { label: $label, name: $name, role: RegisterRole::$role },)*]
+    };
+}
+
+const X86: &[Register] = registers! {
+    "$eip" "eip" InstructionPointer,
+    "$esp" "esp" StackPointer,
+    "$ebp" "ebp" FramePointer,
+    "$ebx" "ebx" Saved,
+    "$esi" "esi" Saved,
+    "$edi" "edi" Saved,
+    "$eax" "eax" Scratch,
+    "$ecx" "ecx" Scratch,
+    "$edx" "edx" Scratch,
+};
+
+const AMD64: &[Register] = registers! {
+    "$rax" "rax" Scratch,
+    "$rdx" "rdx" Scratch,
+    "$rcx" "rcx" Scratch,
+    "$rbx" "rbx" Saved,
+    "$rsi" "rsi" Scratch,
+    "$rdi" "rdi" Scratch,
+    "$rbp" "rbp" FramePointer,
+    "$rsp" "rsp" StackPointer,
+    "$r8" "r8" Scratch,
+    "$r9" "r9" Scratch,
+    "$r10" "r10" Scratch,
+    "$r11" "r11" Scratch,
+    "$r12" "r12" Saved,
+    "$r13" "r13" Saved,
+    "$r14" "r14" Saved,
+    "$r15" "r15" Saved,
+    "$rip" "rip" InstructionPointer,
+};
+
+const ARM: &[Register] = registers! {
+    "r0" "r0" Scratch,
+    "r1" "r1" Scratch,
+    "r2" "r2" Scratch,
+    "r3" "r3" Scratch,
+    "r4" "r4" Saved,
+    "r5" "r5" Saved,
+    "r6" "r6" Saved,
+    "r7" "r7" Saved,
+    "r8" "r8" Saved,
+    "r9" "r9" Saved,
+    "r10" "r10" Saved,
+    "r11" "fp" FramePointer,
+    "r12" "r12" Scratch,
+    "sp" "sp" StackPointer,
+    "lr" "lr" Scratch,
+    "pc" "pc" InstructionPointer,
+};
+
+const ARM64: &[Register] = registers! {
+    "x0" "x0" Scratch,
+    "x1" "x1" Scratch,
+    "x2" "x2" Scratch,
+    "x3" "x3" Scratch,
+    "x4" "x4" Scratch,
+    "x5" "x5" Scratch,
+    "x6" "x6" Scratch,
+    "x7" "x7" Scratch,
+    "x8" "x8" Scratch,
+    "x9" "x9" Scratch,
+    "x10" "x10" Scratch,
+    "x11" "x11" Scratch,
+    "x12" "x12" Scratch,
+    "x13" "x13" Scratch,
+    "x14" "x14" Scratch,
+    "x15" "x15" Scratch,
+    "x16" "x16" Scratch,
+    "x17" "x17" Scratch,
+    "x18" "x18" Scratch,
+    "x19" "x19" Saved,
+    "x20" "x20" Saved,
+    "x21" "x21" Saved,
+    "x22" "x22" Saved,
+    "x23" "x23" Saved,
+    "x24" "x24" Saved,
+    "x25" "x25" Saved,
+    "x26" "x26" Saved,
+    "x27" "x27" Saved,
+    "x28" "x28" Saved,
+    "x29" "fp" FramePointer,
+    "x30" "lr" Scratch,
+    "sp" "sp" StackPointer,
+    "pc" "pc" InstructionPointer,
+};
+
+// Returns the registers of the processor of a context.
+#[tactic(auto, unfolding(crate::specs::Registers::x86_table, crate::specs::Registers::amd64_table, crate::specs::Registers::arm_table, crate::specs::Registers::arm64_table))]
+pub(crate) fn register_table(raw: &MinidumpRawContext) -> &'static [Register]
+    ensures { map row_of result.now ≡ register_table raw.now }
+{
+    match raw {
+        MinidumpRawContext::X86(_) => X86,
+        MinidumpRawContext::Amd64(_) => AMD64,
+        MinidumpRawContext::Arm(_) => ARM,
+        MinidumpRawContext::Arm64(_) | MinidumpRawContext::OldArm64(_) => ARM64,
+    }
+}
+
+// ---- values
+
+// Values of registers. `self` is what they are found by.
+pub(crate) trait RegisterValues {
+    ghost use Rattle.std.specs.Prelude.{ℕ, Option};
+    ghost use Rattle.symbol_walk.specs.Registers.{RegisterRow};
+
+    ghost value_of: { Self → RegisterRow → Option ℕ };
+
+    // Returns the value of a register, or `None` if it isn't known. The only error is that no memory
+    // is left.
+    fn value(&self, alloc: Global, register: &Register) -> Result<Option<u64>, AllocError>
+        ensures { IfOk result (λ v. v ≡ value_of self.now (row_of register.now)) };
+}
+
+// Returns the registers of a table that have a value.
+pub(crate) fn known_by<V: RegisterValues>(
+    alloc: Global,
+    by: &V,
+    table: &[Register],
+) -> Result<Vec<KnownRegister>, AllocError>
+    ensures { IfOk result (λ known. map known_of known.items
+        ≡ known_by (V.value_of by.now) (map row_of table.now)) }
+{
+    let mut known = Vec::new(alloc);
+    for register in table {
+        let value = by.value(alloc, register)?;
+        push_known(&mut known, register, value)?;
+    }
+    Ok(known)
+}
+
+// Appends a register, if its value is known.
+pub(crate) fn push_known(
+    known: &mut Vec<KnownRegister>,
+    register: &Register,
+    value: Option<u64>,
+) -> Result<(), AllocError>
+    ensures { OnOk result (map known_of known.new.items ≡ map known_of known.old.items
+        ++ cons_option (option_map (λ v. (register.now.name.now, v)) value) []) }
+{
+    match value {
+        Some(value) => {
+            let name = register.name;
+            Ok(known.push(KnownRegister { name, value })?)
+        }
+        None => Ok(()),
+    }
+}
+
+// Returns the value of the register with a name, if it is known.
+#[tactic(auto, using(crate::proofs::KnownLemmas::known_found))]
+pub(crate) fn known_value(known: &[KnownRegister], name: &str) -> Option<u64>
+    ensures { result ≡ known_value (map known_of known.now) name.now }
+{
+    let register = known_at(known, name)?;
+    Some(register.value)
+}
+
+fn known_at<'k>(known: &'k [KnownRegister], name: &str) -> Option<&'k KnownRegister>
+    ensures { option_copied result ≡ find (λ k. bytes_eq k.name.now name.now) known.now }
+{
+    known.iter().find(|k| k.name == name)
+}
+
+// Returns the known value of the register with a label.
+#[tactic(auto, using(crate::proofs::KnownLemmas::label_found))]
+pub(crate) fn labelled_value(
+    table: &[Register],
+    known: &[KnownRegister],
+    label: &[u8],
+) -> Option<u64>
+    ensures { result ≡ labelled_value (map row_of table.now) (map known_of known.now) label.now }
+{
+    let register = labelled(table, label)?;
+    known_value(known, register.name)
+}
+
+fn labelled<'t>(table: &'t [Register], label: &[u8]) -> Option<&'t Register>
+    ensures { option_copied result ≡ find (λ r. bytes_eq r.label.now label.now) table.now }
+{
+    table.iter().find(|r| r.label.as_bytes() == label)
+}
+
+// Returns the known value of the stack pointer.
+#[tactic(auto, using(crate::proofs::KnownLemmas::stack_pointer_found))]
+pub(crate) fn known_stack_pointer(table: &[Register], known: &[KnownRegister]) -> Option<u64>
+    ensures { result ≡ known_stack_pointer (map row_of table.now) (map known_of known.now) }
+{
+    let register = stack_pointer(table)?;
+    known_value(known, register.name)
+}
+
+fn stack_pointer(table: &[Register]) -> Option<&Register>
+    ensures { option_copied result ≡ find (λ r. is_stack_pointer r.role) table.now }
+{
+    table
+        .iter()
+        .find(|r| matches!(r.role, RegisterRole::StackPointer))
+}
+
+// Returns the known value of the frame pointer.
+#[tactic(auto, using(crate::proofs::KnownLemmas::frame_pointer_found))]
+pub(crate) fn known_frame_pointer(table: &[Register], known: &[KnownRegister]) -> Option<u64>
+    ensures { result ≡ known_frame_pointer (map row_of table.now) (map known_of known.now) }
+{
+    let register = frame_pointer(table)?;
+    known_value(known, register.name)
+}
+
+fn frame_pointer(table: &[Register]) -> Option<&Register>
+    ensures { option_copied result ≡ find (λ r. is_frame_pointer r.role) table.now }
+{
+    table
+        .iter()
+        .find(|r| matches!(r.role, RegisterRole::FramePointer))
+}

@@ -1,0 +1,268 @@
+//! The caller of a frame by the rules of its module's symbols.
+ghost use Rattle.std.specs.Prelude.{◌≡◌, IfOk, map};
+ghost use Rattle.std.specs.Option.{option_map};
+ghost use Rattle.stack_walk.specs.Frames.{stack_of};
+ghost use Rattle.symbol_walk.specs.Registers.{known_by, known_of, row_of};
+ghost use Rattle.symbol_walk.specs.Rules.{caller_by, caller_value, caller_with, end_by, goes_on};
+ghost use Rattle.symbol_walk.specs.Rules.{is_above, is_on_stack, ruled_value, rules_at, rules_by};
+ghost use Rattle.symbol_walk.specs.Rules.{returns, returns_to_zero, rules_of, unruled_value};
+ghost use Rattle.symbol_walk.specs.Unwinder.{frame_of, unwinder_of};
+ghost use Rattle.breakpad_symbols.specs.AddressWidth.{bits_of};
+
+use crate::registers::{
+    KnownRegister, Register, RegisterRole, known_frame_pointer, known_stack_pointer, known_value,
+    push_known,
+};
+use crate::state::{FrameState, address_width};
+use crate::unwinder::{Unwinder, cfi_at};
+use crate::{KnownFrame, SymbolWalkEnd};
+use breakpad_symbols::{AddressWidth, CfiRecord, evaluate};
+use stack_walk::{FrameTrust, Stack, StackFrame};
+use std::alloc::{AllocError, Global};
+
+// The rules of a frame: the unwind information, the offset at which it is read, and what it refers
+// to.
+#[derive(Clone, Copy)]
+pub(crate) struct Rules<'f, 'l, 'a, 's> {
+    pub(crate) cfi: &'f CfiRecord<'s>,
+    pub(crate) offset: u64,
+    pub(crate) state: FrameState<'f, 'l, 'a>,
+}
+
+// Where the rules of a frame return to.
+#[derive(Clone, Copy)]
+pub(crate) struct Return {
+    // the canonical frame address
+    pub(crate) frame_address: u64,
+    pub(crate) return_address: u64,
+}
+
+impl<'w, 'l, 'a, 's> Unwinder<'w, 'l, 'a, 's> {
+    // Returns the rules of a frame: those of the address by which it is looked up.
+    #[tactic(auto, unfolding(crate::specs::Rules::rules_at))]
+    pub(crate) fn rules_at<'f>(&self, known: &'f KnownFrame) -> Option<Rules<'f, 'l, 'a, 's>>
+    where
+        'w: 'f,
+        ensures { option_map rules_of result ≡ rules_at (unwinder_of self.now) (frame_of known.now) }
+    {
+        let width = address_width(self.stack.width)?;
+        let address = known.frame.lookup_address()?;
+        self.rules_by(known, width, address)
+    }
+
+    // Returns those that the symbols of the module have for an address.
+    fn rules_by<'f>(
+        &self,
+        known: &'f KnownFrame,
+        width: AddressWidth,
+        address: u64,
+    ) -> Option<Rules<'f, 'l, 'a, 's>>
+    where
+        'w: 'f,
+        ensures { option_map rules_of result
+            ≡ rules_by (unwinder_of self.now) (frame_of known.now) (bits_of width) address }
+    {
+        let (symbols, offset) = self.symbols_at(address)?;
+        let cfi = cfi_at(symbols, offset)?;
+        let state = FrameState {
+            stack: self.stack,
+            table: self.registers,
+            known: known.registers.as_slice(),
+            width,
+        };
+        Some(Rules { cfi, offset, state })
+    }
+}
+
+impl Rules<'_, '_, '_, '_> {
+    // Returns where the rules return to.
+    #[tactic(auto, unfolding(crate::specs::Rules::returns))]
+    fn returns(&self, alloc: Global) -> Result<Option<Return>, AllocError>
+        ensures { IfOk result (λ back. back ≡ returns (rules_of self.now)) }
+    {
+        let found = self.cfi.frame_address(alloc, self.offset, &self.state)?;
+        let Some(frame_address) = found else {
+            return Ok(None);
+        };
+        let found = self
+            .cfi
+            .caller_register(alloc, self.offset, &self.state, frame_address, b".ra")?;
+        let Some(return_address) = found else {
+            return Ok(None);
+        };
+        Ok(Some(Return {
+            frame_address,
+            return_address,
+        }))
+    }
+
+    // Returns why the walk ends by the rules.
+    pub(crate) fn end(&self, alloc: Global) -> Result<Option<SymbolWalkEnd>, AllocError>
+        ensures { IfOk result (λ end. end ≡ end_by (rules_of self.now)) }
+    {
+        if self.cfi.rule_at(b".ra", self.offset).is_none() {
+            return Ok(Some(SymbolWalkEnd::NoReturnRule));
+        }
+        let back = self.returns(alloc)?;
+        if returns_to_zero(back) {
+            Ok(Some(SymbolWalkEnd::ZeroReturnAddress))
+        } else {
+            Ok(None)
+        }
+    }
+
+    // Returns the caller of a frame by its rules.
+    pub(crate) fn caller(
+        &self,
+        alloc: Global,
+        by: &Unwinder<'_, '_, '_, '_>,
+        frame: &StackFrame,
+    ) -> Result<Option<KnownFrame>, AllocError>
+        ensures { IfOk result (λ caller. option_map frame_of caller
+            ≡ caller_by (unwinder_of by.now) frame.now (rules_of self.now)) }
+    {
+        let Some(back) = self.returns(alloc)? else {
+            return Ok(None);
+        };
+        let registers = self.caller_registers(alloc, back, by.registers)?;
+        Ok(by.caller_with(frame, back, registers))
+    }
+}
+
+// Tells whether rules return to 0.
+fn returns_to_zero(back: Option<Return>) -> bool
+    ensures { result ≡ returns_to_zero back }
+{
+    match back {
+        Some(back) => back.return_address == 0,
+        None => false,
+    }
+}
+
+// ---- the registers of the caller
+
+impl Rules<'_, '_, '_, '_> {
+    // Returns the registers of a table that have a value in the caller.
+    fn caller_registers(
+        &self,
+        alloc: Global,
+        back: Return,
+        table: &[Register],
+    ) -> Result<Vec<KnownRegister>, AllocError>
+        ensures { IfOk result (λ known. map known_of known.items
+            ≡ known_by (caller_value (rules_of self.now) back) (map row_of table.now)) }
+    {
+        let mut known = Vec::new(alloc);
+        for register in table {
+            let value = self.caller_value(alloc, back, register)?;
+            push_known(&mut known, register, value)?;
+        }
+        Ok(known)
+    }
+
+    // Returns the value of a register in the caller.
+    fn caller_value(
+        &self,
+        alloc: Global,
+        back: Return,
+        register: &Register,
+    ) -> Result<Option<u64>, AllocError>
+        ensures { IfOk result
+            (λ v. v ≡ caller_value (rules_of self.now) back (row_of register.now)) }
+    {
+        if matches!(register.role, RegisterRole::InstructionPointer) {
+            return Ok(Some(back.return_address));
+        }
+        self.ruled_value(alloc, back, register)
+    }
+
+    // Returns the value of a register by its rule, or else by the calling convention.
+    fn ruled_value(
+        &self,
+        alloc: Global,
+        back: Return,
+        register: &Register,
+    ) -> Result<Option<u64>, AllocError>
+        ensures { IfOk result
+            (λ v. v ≡ ruled_value (rules_of self.now) back (row_of register.now)) }
+    {
+        match self.cfi.rule_at(register.label.as_bytes(), self.offset) {
+            Some(rule) => evaluate(alloc, rule, &self.state, Some(back.frame_address)),
+            None => Ok(unruled_value(self.state.known, back, register)),
+        }
+    }
+}
+
+// Returns what the calling convention says of a register that has no rule.
+fn unruled_value(known: &[KnownRegister], back: Return, register: &Register) -> Option<u64>
+    ensures { result ≡ unruled_value (map known_of known.now) back register.now.name.now
+        register.now.role }
+{
+    match register.role {
+        RegisterRole::InstructionPointer => Some(back.return_address),
+        RegisterRole::StackPointer => Some(back.frame_address),
+        RegisterRole::FramePointer | RegisterRole::Saved => known_value(known, register.name),
+        RegisterRole::Scratch => None,
+    }
+}
+
+// ---- the caller
+
+impl Unwinder<'_, '_, '_, '_> {
+    // Returns the caller with these registers, if the stack goes on at its stack pointer.
+    fn caller_with(
+        &self,
+        frame: &StackFrame,
+        back: Return,
+        registers: Vec<KnownRegister>,
+    ) -> Option<KnownFrame>
+        ensures { option_map frame_of result ≡ caller_with (unwinder_of self.now) frame.now back
+            (map known_of registers.items) }
+    {
+        let stack_pointer = known_stack_pointer(self.registers, registers.as_slice())?;
+        if !goes_on(self.stack, frame, stack_pointer) {
+            return None;
+        }
+        let frame_pointer = known_frame_pointer(self.registers, registers.as_slice());
+        let frame = StackFrame {
+            instruction: back.return_address,
+            stack_pointer,
+            frame_pointer,
+            trust: FrameTrust::Cfi,
+        };
+        Some(KnownFrame { frame, registers })
+    }
+}
+
+// Tells whether the stack of a frame goes on at an address, as the stack pointer of its caller.
+#[tactic(auto, unfolding(crate::specs::Rules::goes_on))]
+pub(crate) fn goes_on(stack: &Stack<'_, '_>, frame: &StackFrame, address: u64) -> bool
+    ensures { result ≡ goes_on (stack_of stack.now) frame.now address }
+{
+    is_on_stack(stack, address) && is_above(frame, address)
+}
+
+// Tells whether an address lies on the stack, or is the one after it.
+fn is_on_stack(stack: &Stack<'_, '_>, address: u64) -> bool
+    ensures { result ≡ is_on_stack (stack_of stack.now) address }
+{
+    match stack.memory {
+        Some(memory) => {
+            let base = memory.base_address();
+            base <= address && address - base <= memory.bytes().len() as u64
+        }
+        None => false,
+    }
+}
+
+// Tells whether an address is above the stack pointer of a frame, or for a context's frame at it.
+fn is_above(frame: &StackFrame, address: u64) -> bool
+    ensures { result ≡ is_above frame.now address }
+{
+    match frame.trust {
+        FrameTrust::Context => frame.stack_pointer <= address,
+        FrameTrust::Cfi | FrameTrust::FramePointer | FrameTrust::Scan => {
+            frame.stack_pointer < address
+        }
+    }
+}
