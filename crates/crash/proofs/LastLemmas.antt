@@ -1,5 +1,5 @@
 -- The last item of a list, by its value.
-use Rattle.std.proofs.Common.{◌≡◌, ◌∙◌, ◌-◌, ℕ, suc, List, [], ◌∷◌, Option, Some, None, ap, arith, get_or, length, map, refl}
+use Rattle.std.proofs.Common.{◌≡◌, ◌∙◌, ◌-◌, suc, List, [], ◌∷◌, Option, Some, None, ap, arith, get_or, length, map, refl}
 use Rattle.std.specs.List.{last_or}
 use Rattle.std.specs.Option.{option_map}
 use Rattle.std.specs.Prelude.{slice_get}

@@ -8,10 +8,12 @@ use Rattle.std.specs.Result.{result_ok}
 use Rattle.minidump.specs.declared.Endian.{Endian}
 use Rattle.minidump.specs.declared.MinidumpContextValidity.TheVariants.{All}
 use Rattle.minidump.specs.declared.MinidumpRawContext.{MinidumpRawContext}
-use Rattle.minidump.specs.declared.MinidumpRawContext.TheVariants.{Amd64, Arm64}
+use Rattle.minidump.specs.declared.MinidumpRawContext.TheVariants.{Amd64, Arm64, OldArm64}
 use Rattle.minidump.specs.declared.system_info.Cpu.{Cpu}
 use Rattle.minidump.specs.declared.system_info.Cpu.TheVariants as cpu
+use Rattle.minidump.specs.Below.Bytes.Span.{record_at}
 use Rattle.minidump.specs.Below.Contexts.Context.{registers_of, valid_registers_from}
+use Rattle.minidump.specs.Below.Format.ContextArm64.{context_arm64_old}
 use Rattle.minidump.specs.Below.Format.Flags.{has_flag}
 use Rattle.minidump.specs.Below.System.System.{System}
 use Rattle.minidump.specs.Exception.{Exception}
@@ -52,6 +54,25 @@ system_of c = result_ok c.system.system
 abbrev pub whole_context : Option MinidumpRawContext → Option FoundContext
 whole_context raw = option_map (λ raw. record { raw = raw; short = None }) raw
 
+-- ---- contexts in another layout
+
+-- the context at the start of the bytes in Breakpad's first layout of ARM64: its flags have the
+-- number of that layout, and those of the general registers
+abbrev pub old_arm64 : Endian → List ℕ → Option MinidumpRawContext
+old_arm64 order bytes = option_and_then (λ c.
+    if has_flag c.context_flags 0x8000_0006 then Some (OldArm64 c) else None)
+    (record_at context_arm64_old order 0 bytes)
+
+-- the same on a processor of the layout that came after it, where LLDB writes the first one, too
+abbrev pub old_on : Cpu → Endian → List ℕ → Option MinidumpRawContext
+old_on cpu.Arm64 order bytes = old_arm64 order bytes
+old_on other order bytes = None
+
+-- the same on the processor of a dump
+abbrev pub old_context : Option System → Endian → Option (List ℕ) → Option MinidumpRawContext
+old_context system order bytes =
+    option_and_then (λ s. option_and_then (old_on s.cpu order) bytes) system
+
 -- ---- contexts that are cut after the general registers
 
 -- how many bytes of a processor's context end with its general registers, and how many it has. The
@@ -90,10 +111,15 @@ short_context system order bytes = option_and_then (λ s. option_and_then (λ by
 
 -- ---- the context of a thread
 
+-- the context that bytes hold whole: in the layout of the processor, or in another one
+abbrev pub whole_in : Option System → Endian → Option (List ℕ) → Option MinidumpRawContext
+whole_in system order bytes =
+    option_or (known_context system order bytes) (old_context system order bytes)
+
 -- the context that bytes hold: whole, or cut after its general registers
 abbrev pub any_context : Option System → Endian → Option (List ℕ) → Option FoundContext
 any_context system order bytes =
-    option_or (whole_context (known_context system order bytes)) (short_context system order bytes)
+    option_or (whole_context (whole_in system order bytes)) (short_context system order bytes)
 
 -- the context of an exception
 abbrev pub context_at : ContentsValue → Exception → Option FoundContext

@@ -1,9 +1,12 @@
 -- The crash that a file holds: a value for each file that is a minidump.
-use Rattle.std.specs.Prelude.{ℕ, ◌==◌, List, length, Result, Ok, Err, if◌then◌else◌}
+use Rattle.std.specs.Prelude.{ℕ, ◌==◌, List, length, Option, Result, Ok, Err, if◌then◌else◌}
+use Rattle.std.specs.Option.{option_map}
 use Rattle.minidump.specs.declared.Error.{Error}
+use Rattle.minidump.specs.declared.MinidumpContext.{MinidumpContext}
 use Rattle.minidump.specs.Below.Reasons.Names.{Lists}
 use Rattle.minidump.specs.Below.System.Reads.{and_then}
 use Rattle.minidump.specs.Dump.{Dump, dump_in}
+use Rattle.stack_walk.specs.Frames.{StackValue}
 use Rattle.crash.specs.declared.crash.Crash.{Crash}
 use Rattle.crash.specs.declared.damage.Damage.{Damage}
 use Rattle.crash.specs.Cause.{CauseValue, cause_in, cause_of}
@@ -11,8 +14,9 @@ use Rattle.crash.specs.Contents.{ContentsValue, contents_in, contents_of}
 use Rattle.crash.specs.Damage.{damage_by}
 use Rattle.crash.specs.Directory.{DirectoryValue, directory_in, directory_of}
 use Rattle.crash.specs.Modules.{ModulesValue, modules_in, modules_of}
+use Rattle.crash.specs.Point.{PointValue, point_in, point_of}
 use Rattle.crash.specs.Process.{ProcessFacts, process_in, process_of}
-use Rattle.crash.specs.Threads.{ThreadsValue, threads_in, threads_of}
+use Rattle.crash.specs.Threads.{ThreadsValue, threads_in, threads_of, walked_at}
 
 -- a crash: the streams, and what is found in them
 pub record CrashValue : Type 0 where
@@ -21,6 +25,7 @@ pub record CrashValue : Type 0 where
   pub process : ProcessFacts
   pub cause : CauseValue
   pub threads : ThreadsValue
+  pub point : Option PointValue
   pub modules : ModulesValue
   pub damage : List Damage
 
@@ -32,6 +37,7 @@ crash_of c = record {
   process = process_of c.process;
   cause = cause_of c.cause;
   threads = threads_of c.threads;
+  point = option_map point_of c.point;
   modules = modules_of c.modules;
   damage = c.damage.items;
 }
@@ -45,9 +51,10 @@ abbrev crash_with : Dump → ContentsValue → DirectoryValue → CauseValue →
 crash_with d c directory cause threads = record {
   contents = c;
   directory = directory;
-  process = process_in d.header.time_date_stamp c;
+  process = process_in d c;
   cause = cause;
   threads = threads;
+  point = point_in c threads.crashing;
   modules = modules_in c;
   damage = damage_in directory cause threads;
 }
@@ -67,3 +74,7 @@ crash_in file names scan =
 abbrev pub status_of : Result CrashValue Error → ℕ
 status_of (Err _) = 1
 status_of (Ok c) = if length c.damage == 0 then 0 else 1
+
+-- the stack and the context by which the thread of an index is walked
+abbrev pub walked_in : CrashValue → ℕ → Option (StackValue × MinidumpContext)
+walked_in c thread = walked_at c.contents thread

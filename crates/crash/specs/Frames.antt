@@ -14,7 +14,8 @@ use Rattle.minidump.specs.Exception.{Exception}
 use Rattle.minidump.specs.Thread.{Thread}
 use Rattle.stack_walk.specs.declared.end.WalkEnd.{WalkEnd}
 use Rattle.stack_walk.specs.declared.frame.StackFrame.{StackFrame}
-use Rattle.stack_walk.specs.Frames.{stack_pointer_in}
+use Rattle.stack_walk.specs.declared.stack.Stack.{Stack}
+use Rattle.stack_walk.specs.Frames.{StackValue, stack_of, stack_pointer_in}
 use Rattle.stack_walk.specs.Lookups.{lookup_address}
 use Rattle.stack_walk.specs.Threads.{ProcessValue, stack_in, thread_stack}
 use Rattle.stack_walk.specs.Walk as stack
@@ -77,34 +78,47 @@ process_in c e = option_map (λ system. record {
   infos = info_regions c.space.infos;
 }) (result_ok c.system.system)
 
--- the walk of a context on a region of memory
-abbrev pub walk_on : ProcessValue → Option UnifiedRegion → ℕ → MinidumpContext → CrashWalkValue
-walk_on p region scan context = walk_by p.modules (stack.walk_in (stack_in p region) context scan)
+-- the stack and the context by which a thread is walked, of a `Stack` and a context
+abbrev pub walked_of : Stack × MinidumpContext → StackValue × MinidumpContext
+walked_of w = (stack_of w.0, w.1)
 
 -- the context that is found, all of whose registers are valid
 abbrev pub context_of : FoundContext → MinidumpContext
 context_of f = record { raw = f.raw; valid = All }
 
--- the walk of a thread's context on its stack, in a process
-abbrev pub walk_in : ℕ → Thread → ProcessValue → MinidumpContext → CrashWalkValue
-walk_in scan t p context =
-    walk_on p (thread_stack p.memory t (stack_pointer_in context.raw)) scan context
+-- the stack of a thread of the list by a context, and that context
+abbrev pub walked_by : ProcessValue → Thread → MinidumpContext → StackValue × MinidumpContext
+walked_by p t context =
+    (stack_in p (thread_stack p.memory t (stack_pointer_in context.raw)), context)
 
--- the same by the contents and the exception that counts: none without a context
-abbrev pub thread_walk : ContentsValue → Option Exception → ℕ → Thread → Option CrashWalkValue
-thread_walk c e scan t = option_and_then
-    (λ p. option_map (λ f. walk_in scan t p (context_of f.1)) (found_in c e t)) (process_in c e)
+-- the stack and the context by which a thread of the list is walked, by the contents and the
+-- exception that counts: none without a context
+abbrev pub thread_walked : ContentsValue → Option Exception → Thread
+    → Option (StackValue × MinidumpContext)
+thread_walked c e t = option_and_then
+    (λ p. option_map (λ f. walked_by p t (context_of f.1)) (found_in c e t)) (process_in c e)
 
 -- the kept region of the memory that contains an address
 abbrev pub memory_at : UnifiedRegions → ℕ → Option UnifiedRegion
 memory_at memory address = looked_up range_of_region (unified_regions memory) address
 
--- the walk of a context on the memory at its stack pointer
-abbrev pub walk_at : ProcessValue → ℕ → MinidumpContext → CrashWalkValue
-walk_at p scan context =
-    walk_on p (memory_at p.memory (stack_pointer_in context.raw)) scan context
+-- the memory at the stack pointer of a context, as its stack, and that context
+abbrev pub walked_at : ProcessValue → MinidumpContext → StackValue × MinidumpContext
+walked_at p context = (stack_in p (memory_at p.memory (stack_pointer_in context.raw)), context)
 
--- the walk of an exception's context
+-- the stack and the context by which the thread of an exception is walked, which the list lacks
+abbrev pub exception_walked : ContentsValue → Exception → Option (StackValue × MinidumpContext)
+exception_walked c e = option_and_then
+    (λ p. option_map (λ f. walked_at p (context_of f)) (context_at c e)) (process_in c (Some e))
+
+-- what is found in a stack by a context, with at most so many candidates
+abbrev pub walk_from : ℕ → StackValue × MinidumpContext → CrashWalkValue
+walk_from scan w = walk_by w.0.modules (stack.walk_in w.0 w.1 scan)
+
+-- the walk of a thread of the list
+abbrev pub thread_walk : ContentsValue → Option Exception → ℕ → Thread → Option CrashWalkValue
+thread_walk c e scan t = option_map (walk_from scan) (thread_walked c e t)
+
+-- the walk of the thread of an exception, which the list lacks
 abbrev pub exception_walk : ContentsValue → ℕ → Exception → Option CrashWalkValue
-exception_walk c scan e = option_and_then
-    (λ p. option_map (λ f. walk_at p scan (context_of f)) (context_at c e)) (process_in c (Some e))
+exception_walk c scan e = option_map (walk_from scan) (exception_walked c e)

@@ -6,6 +6,7 @@ pub mod Contents
 pub mod Last
 pub mod Directory
 pub mod Release
+pub mod ProcessTexts
 pub mod Process
 pub mod Contexts
 pub mod Counting
@@ -15,6 +16,7 @@ pub mod Addresses
 pub mod Cause
 pub mod Frames
 pub mod Threads
+pub mod Point
 pub mod Modules
 pub mod Damage
 pub mod Crash

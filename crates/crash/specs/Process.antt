@@ -1,7 +1,7 @@
 -- What is known of a process, and of the system on which it ran.
 use Rattle.std.specs.Prelude.{ℕ, ◌-◌, ◌==◌, List, nat_le, Option, Some, None, Result}
 use Rattle.std.specs.Prelude.{if◌then◌else◌, string_bytes}
-use Rattle.std.specs.Option.{option_and_then, option_map}
+use Rattle.std.specs.Option.{option_and_then, option_map, option_or}
 use Rattle.std.specs.Result.{result_ok}
 use Rattle.minidump.specs.declared.Error.{Error}
 use Rattle.minidump.specs.declared.RawMiscInfo.{RawMiscInfo}
@@ -10,9 +10,12 @@ use Rattle.minidump.specs.declared.system_info.Os.{Os}
 use Rattle.minidump.specs.Below.System.MiscInfo.{process_create_time, process_id}
 use Rattle.minidump.specs.Below.System.OsParts.{os_parts_of}
 use Rattle.minidump.specs.Below.System.System.{System}
+use Rattle.minidump.specs.Dump.{Dump}
 use Rattle.crash.specs.declared.process.CrashProcess.{CrashProcess}
 use Rattle.crash.specs.declared.process.CrashSystem.{CrashSystem}
 use Rattle.crash.specs.Contents.{ContentsValue}
+use Rattle.crash.specs.ProcessTexts.{CommentsValue, command_line_in, comments_in, comments_of}
+use Rattle.crash.specs.ProcessTexts.{status_id}
 use Rattle.crash.specs.Release.{ReleaseValue, release_in, release_of}
 
 -- a system: its kind, that of its processors and how many there are, its version with the build,
@@ -25,12 +28,15 @@ pub record SystemValue : Type 0 where
   pub build : Option (List ℕ)
   pub cpu_model : Option (List ℕ)
 
--- a process: its system, its id, for how many seconds it had run, and the release of its Linux
+-- a process: its system, its id, for how many seconds it had run, the release of its Linux, its
+-- command line, and the comments of the dump
 pub record ProcessFacts : Type 0 where
   pub system : Option SystemValue
   pub id : Option ℕ
   pub uptime : Option ℕ
   pub release : Option ReleaseValue
+  pub command_line : Option (List ℕ)
+  pub comments : CommentsValue
 
 -- ---- the value of the structs
 
@@ -50,6 +56,8 @@ process_of p = record {
   id = p.id;
   uptime = p.uptime;
   release = option_map release_of p.release;
+  command_line = option_map string_bytes p.command_line;
+  comments = comments_of p.comments;
 }
 
 -- ---- the value of the streams
@@ -74,9 +82,13 @@ system_by s = record {
 abbrev pub system_in : Result System Error → Option SystemValue
 system_in system = option_map system_by (result_ok system)
 
--- the id of the process
-abbrev pub id_in : Result RawMiscInfo Error → Option ℕ
-id_in misc = option_and_then process_id (result_ok misc)
+-- the id of the process by the misc information
+abbrev pub misc_id : Result RawMiscInfo Error → Option ℕ
+misc_id misc = option_and_then process_id (result_ok misc)
+
+-- the same, else that of Linux's status
+abbrev pub id_in : Result RawMiscInfo Error → Result (List ℕ) Error → Option ℕ
+id_in misc status = option_or (misc_id misc) (status_id status)
 
 -- how many seconds after the process began the dump was written, where both times are there, that
 -- of the beginning isn't 0, and they are in order
@@ -88,11 +100,13 @@ uptime stamp begun = option_and_then (λ begun.
 abbrev pub uptime_in : ℕ → Result RawMiscInfo Error → Option ℕ
 uptime_in stamp misc = uptime stamp (option_and_then process_create_time (result_ok misc))
 
--- the process of a dump that was written at a time
-abbrev pub process_in : ℕ → ContentsValue → ProcessFacts
-process_in stamp c = record {
+-- the process of a dump with these contents
+abbrev pub process_in : Dump → ContentsValue → ProcessFacts
+process_in d c = record {
   system = system_in c.system.system;
-  id = id_in c.system.misc;
-  uptime = uptime_in stamp c.system.misc;
+  id = id_in c.system.misc c.process.status;
+  uptime = uptime_in d.header.time_date_stamp c.system.misc;
   release = release_in c.system.lsb_release;
+  command_line = command_line_in d;
+  comments = comments_in d;
 }

@@ -1,6 +1,6 @@
 -- What the record of an exception says by its system: the parameters, how memory was accessed, and
 -- who sent a signal.
-use Rattle.std.specs.Prelude.{ℕ, ◌%◌, ◌/◌, ◌^◌, ◌==◌, ◌||◌, ◌&&◌, nat_le, nat_lt, Bool, List, min}
+use Rattle.std.specs.Prelude.{ℕ, ◌%◌, ◌/◌, ◌^◌, ◌==◌, ◌||◌, ◌&&◌, nat_le, nat_lt, not, Bool, List, min}
 use Rattle.std.specs.Prelude.{slice_index, take, Option, Some, None, if◌then◌else◌}
 use Rattle.std.specs.Option.{option_and_then}
 use Rattle.minidump.specs.declared.format.MINIDUMP_EXCEPTION.{MINIDUMP_EXCEPTION}
@@ -68,16 +68,22 @@ is_signal n = nat_le 1 n && nat_le n 64
 abbrev pub is_process : ℕ → Bool
 is_process n = nat_le 1 n && nat_lt n (2 ^ 22)
 
+-- a record can be that of an access near 0, as through a null pointer: SIGBUS or SIGSEGV, at an address
+-- that would name a process of root. The address of another fault is that of its instruction
+abbrev pub is_low_access : MINIDUMP_EXCEPTION → Bool
+is_low_access r =
+    (r.exception_code == 7 || r.exception_code == 11) && is_process r.exception_address
+
 -- a process sent a signal: its `si_code` is SI_QUEUE, -1, or SI_TKILL, -6; or SI_USER, 0, as of a
--- writer that has no `si_code`, and the sender can be a process
-abbrev pub is_sent : ℕ → Sender → Bool
-is_sent si_code s = si_code == 0xffff_ffff || si_code == 0xffff_fffa
-    || (si_code == 0 && is_process s.process)
+-- writer that has no `si_code`, and the sender can be a process, unless that is an access near 0
+abbrev pub is_sent : MINIDUMP_EXCEPTION → Sender → Bool
+is_sent r s = r.exception_flags == 0xffff_ffff || r.exception_flags == 0xffff_fffa
+    || (r.exception_flags == 0 && is_process s.process && not (is_low_access r))
 
 -- the sender, where there is one. The record's code is the signal, its flags are the `si_code`
 abbrev pub sender_if_sent : MINIDUMP_EXCEPTION → Sender → Option Sender
 sender_if_sent r s =
-    if is_signal r.exception_code && is_sent r.exception_flags s then Some s else None
+    if is_signal r.exception_code && is_sent r s then Some s else None
 
 -- the process that sent the signal of a record on an operating system
 abbrev pub sender_on : Os → Cpu → MINIDUMP_EXCEPTION → Option Sender

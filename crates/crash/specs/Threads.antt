@@ -1,17 +1,19 @@
 -- The threads of a process, and which of them crashed.
 use Rattle.std.specs.Prelude.{ℕ, ◌==◌, ◌++◌, Bool, false, true, List, [], ◌∷◌, map}
 use Rattle.std.specs.Prelude.{is_some, Option, Some, None, Result, Ok, Err}
-use Rattle.std.specs.Prelude.{if◌then◌else◌, string_bytes, unwrap_or}
+use Rattle.std.specs.Prelude.{if◌then◌else◌, length, slice_get, string_bytes, unwrap_or}
 use Rattle.std.specs.Option.{option_and_then, option_map}
 use Rattle.std.specs.Result.{result_ok}
 use Rattle.minidump.specs.declared.CrashReason.{CrashReason}
 use Rattle.minidump.specs.declared.Error.{Error}
+use Rattle.minidump.specs.declared.MinidumpContext.{MinidumpContext}
 use Rattle.minidump.specs.Below.Reasons.Names.{Lists}
 use Rattle.minidump.specs.Below.Reasons.ReasonText.{reason_text}
 use Rattle.minidump.specs.Below.Records.ThreadNames.{ThreadName, name_of_thread}
 use Rattle.minidump.specs.Crash.{error_in, last_with}
 use Rattle.minidump.specs.Exception.{Exception}
 use Rattle.minidump.specs.Thread.{Thread, last_error_address}
+use Rattle.stack_walk.specs.Frames.{StackValue}
 use Rattle.crash.specs.declared.contexts.ContextProblem.{ContextProblem}
 use Rattle.crash.specs.declared.threads.CrashThread.{CrashThread}
 use Rattle.crash.specs.declared.threads.CrashThreads.{CrashThreads}
@@ -21,7 +23,8 @@ use Rattle.crash.specs.declared.contexts.ContextOrigin.TheVariants.{OfException}
 use Rattle.crash.specs.Contexts.{ContextValue, context_at, context_by, context_in, context_of}
 use Rattle.crash.specs.Contexts.{of_origin, problem_in, system_of}
 use Rattle.crash.specs.Counting.{counting_exception}
-use Rattle.crash.specs.Frames.{CrashWalkValue, crash_walk_of, exception_walk, thread_walk}
+use Rattle.crash.specs.Frames.{CrashWalkValue, crash_walk_of, exception_walk, exception_walked}
+use Rattle.crash.specs.Frames.{thread_walk, thread_walked}
 use Rattle.crash.specs.Last.{last_index}
 use Rattle.crash.specs.Stacks.{is_outside, named_stack, stack_memory}
 
@@ -95,10 +98,13 @@ thread_in names scan c e t = record {
 
 -- ---- the threads
 
--- the threads of the list: none where it can't be read
+-- the entries of the list: none where it can't be read
+abbrev pub entries_in : Result (List Thread) Error → List Thread
+entries_in threads = unwrap_or (result_ok threads) []
+
+-- the threads of the list
 abbrev pub listed_in : Lists → ℕ → ContentsValue → Option Exception → List ThreadValue
-listed_in names scan c e =
-    map (thread_in names scan c e) (unwrap_or (result_ok c.threads.threads) [])
+listed_in names scan c e = map (thread_in names scan c e) (entries_in c.threads.threads)
 
 -- a thread of the list has an id
 abbrev pub has_thread : ℕ → Result (List Thread) Error → Bool
@@ -144,3 +150,30 @@ threads_by names scan c e = record {
 -- the same by the exception that counts
 abbrev pub threads_in : Lists → ℕ → ContentsValue → ThreadsValue
 threads_in names scan c = threads_by names scan c (counting_exception c)
+
+-- ---- how they are walked
+
+-- the stack and the context by which the thread is walked that the list lacks
+abbrev pub extra_walked : ContentsValue → Option Exception → Option (StackValue × MinidumpContext)
+extra_walked c (Some e) =
+    if has_thread e.thread_id c.threads.threads then None else exception_walked c e
+extra_walked c None = None
+
+-- those of an entry of the list, or, where there is none, of the thread after them
+abbrev pub walked_of_entry : ContentsValue → Option Exception → Option Thread → Bool
+    → Option (StackValue × MinidumpContext)
+walked_of_entry c e (Some t) is_next = thread_walked c e t
+walked_of_entry c e None is_next = if is_next then extra_walked c e else None
+
+-- an index is the one after those of a list
+abbrev pub is_next : Result (List Thread) Error → ℕ → Bool
+is_next threads index = index == length (entries_in threads)
+
+-- those of the thread of an index
+abbrev pub walked_by : ContentsValue → Option Exception → ℕ → Option (StackValue × MinidumpContext)
+walked_by c e index = walked_of_entry c e (slice_get (entries_in c.threads.threads) index)
+    (is_next c.threads.threads index)
+
+-- the same by the exception that counts
+abbrev pub walked_at : ContentsValue → ℕ → Option (StackValue × MinidumpContext)
+walked_at c index = walked_by c (counting_exception c) index

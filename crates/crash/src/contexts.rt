@@ -1,20 +1,23 @@
 ghost use Rattle.std.specs.Prelude.{◌≡◌, ◌≤◌, ◌<◌, IfOk, IfSome, Some, is_some, length, map, min, replicate};
-ghost use Rattle.std.specs.Option.{option_copied, option_map};
+ghost use Rattle.std.specs.Option.{option_copied, option_map, option_or};
+ghost use Rattle.minidump.specs.Below.Bytes.Span.{record_at};
+ghost use Rattle.minidump.specs.Below.Format.ContextArm64.{context_arm64_old};
 ghost use Rattle.minidump.specs.Promise.{exception_stream, system_info_stream};
 ghost use Rattle.minidump.specs.Thread.{accepted_context, known_context, thread_of};
 ghost use Rattle.crash.specs.Contents.{contents_of};
 ghost use Rattle.crash.specs.Contexts.{any_context, context_at, context_by, context_in, context_of};
 ghost use Rattle.crash.specs.Contexts.{first_found, first_of, found_in, has_general, lengths};
-ghost use Rattle.crash.specs.Contexts.{of_origin};
+ghost use Rattle.crash.specs.Contexts.{of_origin, old_arm64, old_context, old_on};
 ghost use Rattle.crash.specs.Contexts.{on_thread, padded, problem_by, registers_in, short_by};
 ghost use Rattle.crash.specs.Contexts.{short_context};
 ghost use Rattle.crash.specs.Contexts.{system_of, whole_context, whole_only};
 
 use crate::contents::Contents;
+use minidump::format::CONTEXT_ARM64_OLD;
 use minidump::system_info::Cpu;
 use minidump::{
     Endian, MinidumpContext, MinidumpException, MinidumpRawContext, MinidumpSystemInfo,
-    MinidumpThread,
+    MinidumpThread, Source, Steps,
 };
 use std::alloc::{AllocError, Global};
 
@@ -95,11 +98,70 @@ fn thread_context(contents: &Contents<'_>, thread: &MinidumpThread<'_>) -> Optio
 }
 
 // Returns a whole context.
-fn whole_context(context: Option<MinidumpContext>) -> Option<FoundContext>
-    ensures { result ≡ whole_context (option_map (λ c. c.raw) context) }
+fn whole_context(raw: Option<MinidumpRawContext>) -> Option<FoundContext>
+    ensures { result ≡ whole_context raw }
 {
-    let raw = context?.raw;
-    Some(FoundContext { raw, short: None })
+    Some(FoundContext {
+        raw: raw?,
+        short: None,
+    })
+}
+
+// ---- contexts in another layout
+
+// Returns the context at the start of the bytes in Breakpad's first layout of ARM64.
+fn old_arm64(endian: Endian, bytes: &[u8]) -> Option<MinidumpRawContext>
+    ensures { result ≡ old_arm64 endian bytes.now }
+{
+    let context = old_record(endian, bytes)?;
+    if context.context_flags & 0x8000_0006 == 0x8000_0006 {
+        Some(MinidumpRawContext::OldArm64(context))
+    } else {
+        None
+    }
+}
+
+// Returns the record of that layout.
+fn old_record(endian: Endian, bytes: &[u8]) -> Option<CONTEXT_ARM64_OLD>
+    ensures { result ≡ record_at context_arm64_old endian 0 bytes.now }
+{
+    Source::new(bytes).record(0, endian, &mut Steps::new())
+}
+
+// Returns the same on a processor of the layout that came after it.
+fn old_on(cpu: Cpu, endian: Endian, bytes: &[u8]) -> Option<MinidumpRawContext>
+    ensures { result ≡ old_on cpu endian bytes.now }
+{
+    match cpu {
+        Cpu::Arm64 => old_arm64(endian, bytes),
+        _ => None,
+    }
+}
+
+// Returns the same on the processor of a dump.
+fn old_context(
+    contents: &Contents<'_>,
+    endian: Endian,
+    bytes: Option<&[u8]>,
+) -> Option<MinidumpRawContext>
+    ensures { result ≡ old_context (system_of (contents_of contents.now)) endian
+        (option_copied bytes.entry) }
+{
+    let system = contents.system.system.as_ref().ok()?;
+    old_on(system.cpu, endian, bytes?)
+}
+
+// Returns the first of two contexts.
+fn first_raw(
+    context: Option<MinidumpContext>,
+    other: Option<MinidumpRawContext>,
+) -> Option<MinidumpRawContext>
+    ensures { result ≡ option_or (option_map (λ c. c.raw) context) other }
+{
+    match context {
+        Some(context) => Some(context.raw),
+        None => other,
+    }
 }
 
 // ---- contexts that are cut after the general registers
@@ -198,15 +260,17 @@ fn read_raw(bytes: &[u8], endian: Endian, system: &MinidumpSystemInfo) -> Option
 
 // ---- the context of a thread
 
-// Returns the context of an exception: whole, or cut after its general registers.
+// Returns the context of an exception: whole, in any layout, or cut after its general registers.
 pub(crate) fn context_at(
     contents: &Contents<'_>,
     exception: &MinidumpException<'_>,
 ) -> Option<FoundContext>
     ensures { result ≡ context_at (contents_of contents.now) (exception_stream.value exception.now) }
 {
-    let whole = whole_context(exception_context(contents, exception));
-    whole.or(short_context(contents, exception.endian(), exception.context_bytes()))
+    let (endian, bytes) = (exception.endian(), exception.context_bytes());
+    let old = old_context(contents, endian, bytes);
+    let whole = whole_context(first_raw(exception_context(contents, exception), old));
+    whole.or(short_context(contents, endian, bytes))
 }
 
 // Returns the own context of a thread: whole, or cut after its general registers.
@@ -217,8 +281,10 @@ pub(crate) fn own_context(
     ensures { result ≡ any_context (system_of (contents_of contents.now)) (thread_of thread.now).order
         (thread_of thread.now).context }
 {
-    let whole = whole_context(thread_context(contents, thread));
-    whole.or(short_context(contents, thread.endian(), thread.context_bytes()))
+    let (endian, bytes) = (thread.endian(), thread.context_bytes());
+    let old = old_context(contents, endian, bytes);
+    let whole = whole_context(first_raw(thread_context(contents, thread), old));
+    whole.or(short_context(contents, endian, bytes))
 }
 
 // Returns the context of an exception, if it happened on the thread with an id.

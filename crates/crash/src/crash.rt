@@ -1,4 +1,5 @@
 ghost use Rattle.std.specs.Prelude.{◌≡◌, ⊤, IfOk, IsOkUnless, Ok};
+ghost use Rattle.std.specs.Option.{option_map};
 ghost use Rattle.minidump.specs.Below.Contexts.Context.{map_ok};
 ghost use Rattle.minidump.specs.Below.Format.Answer.{Gives};
 ghost use Rattle.minidump.specs.Dump.{dump_in};
@@ -6,6 +7,8 @@ ghost use Rattle.minidump.specs.DumpValue.{dump_of};
 ghost use Rattle.crash.specs.Cause.{cause_of};
 ghost use Rattle.crash.specs.Contents.{contents_in, contents_of};
 ghost use Rattle.crash.specs.Crash.{crash_by, crash_in, crash_of, damage_in, status_of};
+ghost use Rattle.crash.specs.Crash.{walked_in};
+ghost use Rattle.crash.specs.Frames.{walked_of};
 ghost use Rattle.crash.specs.Directory.{directory_of};
 ghost use Rattle.crash.specs.Threads.{threads_of};
 
@@ -14,9 +17,11 @@ use crate::contents::{Contents, read_contents};
 use crate::damage::{Damage, damage_of};
 use crate::directory::{CrashDirectory, directory_of};
 use crate::modules::{CrashModules, modules_of};
+use crate::point::{CrashPoint, point_of};
 use crate::process::{CrashProcess, process_of};
-use crate::threads::{CrashThreads, threads_of};
-use minidump::{CodeNames, Error, Minidump};
+use crate::threads::{CrashThreads, threads_of, walked_at};
+use minidump::{CodeNames, Error, Minidump, MinidumpContext};
+use stack_walk::Stack;
 use std::alloc::{AllocError, Global};
 
 /// What a minidump says of a crash.
@@ -32,6 +37,8 @@ pub struct Crash<'a> {
     pub cause: CrashCause,
     /// Its threads.
     pub threads: CrashThreads,
+    /// Where the thread that crashed stands, or `None` if it has no walk.
+    pub point: Option<CrashPoint<'a>>,
     /// Its modules.
     pub modules: CrashModules,
     /// What is there and can't be read: streams, ascending by type, then exceptions, contexts of
@@ -54,6 +61,15 @@ impl<'a> Crash<'a> {
     {
         let dump = Minidump::read(alloc, bytes)?;
         crash_of_dump(alloc, bytes, &dump, names, scan)
+    }
+
+    /// Returns the stack and the context by which the thread of an index in `threads.threads` is
+    /// walked, or `None` if it has no walk, or there is no such thread. The walk of the thread is
+    /// that of [`walk_stack`](stack_walk::walk_stack) by both, with the module of each frame.
+    pub fn walked(&self, thread: usize) -> Option<(Stack<'_, 'a>, MinidumpContext)>
+        ensures { option_map walked_of result ≡ walked_in (crash_of self.now) thread }
+    {
+        walked_at(&self.contents, thread)
     }
 
     /// Lets the crash go, so that a caller's crate need not prove how.
@@ -86,9 +102,10 @@ fn crash_of_dump<'a>(
 {
     let contents = read_contents(alloc, dump)?;
     let directory = directory_of(alloc, file, dump, &contents)?;
-    let process = process_of(alloc, directory.written, &contents)?;
+    let process = process_of(alloc, dump, &contents)?;
     let cause = cause_of(alloc, &contents, names)?;
     let threads = threads_of(alloc, &contents, names, scan)?;
+    let point = point_of(alloc, &contents, threads.crashing)?;
     let modules = modules_of(alloc, &contents)?;
     let damage = damage_in(alloc, &directory, &cause, &threads)?;
     Ok(Crash {
@@ -97,6 +114,7 @@ fn crash_of_dump<'a>(
         process,
         cause,
         threads,
+        point,
         modules,
         damage,
     })

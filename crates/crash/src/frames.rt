@@ -3,12 +3,13 @@ ghost use Rattle.std.specs.Option.{option_copied, option_map};
 ghost use Rattle.minidump.specs.Below.MemoryLists.Unified.{unified_list, unified_region};
 ghost use Rattle.minidump.specs.Promise.{exception_stream, module_list_stream};
 ghost use Rattle.minidump.specs.Thread.{thread_of};
-ghost use Rattle.stack_walk.specs.Frames.{stack_pointer_in};
+ghost use Rattle.stack_walk.specs.Frames.{stack_of};
 ghost use Rattle.stack_walk.specs.Threads.{process_of};
 ghost use Rattle.stack_walk.specs.Walk.{walk_of};
 ghost use Rattle.crash.specs.Contents.{contents_of};
-ghost use Rattle.crash.specs.Frames.{context_of, crash_walk_of, exception_walk, frame_in, memory_at};
-ghost use Rattle.crash.specs.Frames.{place_of, process_in, thread_walk, walk_at, walk_by, walk_in, walk_on};
+ghost use Rattle.crash.specs.Frames.{context_of, crash_walk_of, exception_walked, frame_in, memory_at};
+ghost use Rattle.crash.specs.Frames.{place_of, process_in, thread_walked, walk_by, walk_from};
+ghost use Rattle.crash.specs.Frames.{walked_of};
 
 use crate::addresses::module_place;
 use crate::contents::Contents;
@@ -17,7 +18,7 @@ use minidump::{
     Error, MinidumpContext, MinidumpException, MinidumpModuleList, MinidumpThread, UnifiedMemory,
     UnifiedMemoryList,
 };
-use stack_walk::{FrameTrust, Process, Stack, StackFrame, Walk, WalkEnd, walk_context, walk_stack};
+use stack_walk::{FrameTrust, Process, Stack, StackFrame, Walk, WalkEnd, walk_stack};
 use std::alloc::{AllocError, Global};
 
 /// What is found in the stack of a thread.
@@ -50,31 +51,36 @@ pub struct CrashFrame {
     pub module: Option<(usize, u64)>,
 }
 
-// Returns what is found in the stack of a thread, with at most `scan` candidates: nothing without
-// system information or a context.
-pub(crate) fn walk_of_thread<'l, 'a>(
-    alloc: Global,
+// Returns the stack and the context by which a thread of the list is walked: none without system
+// information or a context.
+pub(crate) fn walked_thread<'l, 'a>(
     contents: &'l Contents<'a>,
     exception: Option<&'l MinidumpException<'a>>,
-    thread: &MinidumpThread<'a>,
-    scan: usize,
-) -> Result<Option<CrashWalk>, Error>
-    ensures walk { IfOk result (λ walk. option_map crash_walk_of walk
-        ≡ thread_walk (contents_of contents.now)
-        (option_map exception_stream.value (option_copied exception.entry)) scan
-        (thread_of thread.now)) }
-    ensures memory { IsOkUnless result Error.OutOfMemory }
+    thread: &'l MinidumpThread<'a>,
+) -> Option<(Stack<'l, 'a>, MinidumpContext)>
+    ensures { option_map walked_of result ≡ thread_walked (contents_of contents.now)
+        (option_map exception_stream.value (option_copied exception.entry)) (thread_of thread.now) }
 {
-    let Some(process) = process_of(contents, exception) else {
-        return Ok(None);
-    };
-    match found_context(contents, exception, thread) {
-        Some((_, found)) => {
-            let context = context_of(&found);
-            Ok(Some(walk_in(alloc, &process, thread, &context, scan)?))
-        }
-        None => Ok(None),
-    }
+    let process = process_of(contents, exception)?;
+    let (_, found) = found_context(contents, exception, thread)?;
+    let context = context_of(&found);
+    Some((process.stack_of(thread, &context), context))
+}
+
+// Returns the stack and the context by which the thread of an exception is walked, which the list
+// lacks: the memory at the stack pointer of the exception's context.
+pub(crate) fn walked_exception<'l, 'a>(
+    contents: &'l Contents<'a>,
+    exception: &'l MinidumpException<'a>,
+) -> Option<(Stack<'l, 'a>, MinidumpContext)>
+    ensures { option_map walked_of result ≡ exception_walked (contents_of contents.now)
+        (exception_stream.value exception.now) }
+{
+    let process = process_of(contents, Some(exception))?;
+    let found = context_at(contents, exception)?;
+    let context = context_of(&found);
+    let memory = memory_at(process.memory, context.get_stack_pointer());
+    Some((process.stack_on(memory), context))
 }
 
 // Returns the context that is found, all of whose registers are valid.
@@ -84,82 +90,40 @@ fn context_of(found: &FoundContext) -> MinidumpContext
     MinidumpContext::from_raw(found.raw)
 }
 
-// Returns what is found in the stack of a thread by a context, in a process.
-fn walk_in<'a>(
+// Returns what is found in a stack by a context, with at most `scan` candidates, where there are
+// both.
+pub(crate) fn walk_of(
     alloc: Global,
-    process: &Process<'_, 'a>,
-    thread: &MinidumpThread<'a>,
-    context: &MinidumpContext,
-    scan: usize,
-) -> Result<CrashWalk, Error>
-    ensures walk { IfOk result (λ walk. crash_walk_of walk
-        ≡ walk_in scan (thread_of thread.now) (process_of process.now) context.now) }
-    ensures memory { IsOkUnless result Error.OutOfMemory }
-{
-    let walk = walk_context(alloc, process, thread, context, scan)?;
-    Ok(walk_by(alloc, process.modules, &walk)?)
-}
-
-// Returns what is found on the memory at the stack pointer of an exception's context.
-pub(crate) fn walk_of_exception<'l, 'a>(
-    alloc: Global,
-    contents: &'l Contents<'a>,
-    exception: &'l MinidumpException<'a>,
+    walked: Option<(Stack<'_, '_>, MinidumpContext)>,
     scan: usize,
 ) -> Result<Option<CrashWalk>, Error>
     ensures walk { IfOk result (λ walk. option_map crash_walk_of walk
-        ≡ exception_walk (contents_of contents.now) scan (exception_stream.value exception.now)) }
+        ≡ option_map (walk_from scan) (option_map walked_of walked.entry)) }
     ensures memory { IsOkUnless result Error.OutOfMemory }
 {
-    let Some(process) = process_of(contents, Some(exception)) else {
-        return Ok(None);
-    };
-    match context_at(contents, exception) {
-        Some(found) => Ok(Some(walk_at(alloc, &process, &context_of(&found), scan)?)),
+    match walked {
+        Some((stack, context)) => Ok(Some(walk_from(alloc, &stack, &context, scan)?)),
         None => Ok(None),
     }
 }
 
-// Returns what is found on the memory at the stack pointer of a context.
-fn walk_at(
+// Returns what is found in a stack by a context.
+fn walk_from(
     alloc: Global,
-    process: &Process<'_, '_>,
+    stack: &Stack<'_, '_>,
     context: &MinidumpContext,
     scan: usize,
 ) -> Result<CrashWalk, Error>
     ensures walk { IfOk result (λ walk. crash_walk_of walk
-        ≡ walk_at (process_of process.now) scan context.now) }
+        ≡ walk_from scan (stack_of stack.now, context.now)) }
     ensures memory { IsOkUnless result Error.OutOfMemory }
 {
-    let memory = memory_at(process.memory, context.get_stack_pointer());
-    walk_on(alloc, process, memory, context, scan)
-}
-
-// Returns what is found on a region of memory by a context.
-fn walk_on<'l, 'a>(
-    alloc: Global,
-    process: &Process<'l, 'a>,
-    memory: Option<UnifiedMemory<'l, 'a>>,
-    context: &MinidumpContext,
-    scan: usize,
-) -> Result<CrashWalk, Error>
-    ensures walk { IfOk result (λ walk. crash_walk_of walk
-        ≡ walk_on (process_of process.now) (option_map unified_region memory.entry) scan
-        context.now) }
-    ensures memory { IsOkUnless result Error.OutOfMemory }
-{
-    let stack = Stack {
-        memory,
-        modules: process.modules,
-        infos: process.infos,
-        width: process.system.cpu.pointer_width(),
-    };
-    let walk = walk_stack(alloc, &stack, context, scan)?;
-    Ok(walk_by(alloc, process.modules, &walk)?)
+    let walk = walk_stack(alloc, stack, context, scan)?;
+    Ok(walk_by(alloc, stack.modules, &walk)?)
 }
 
 // Returns the kept region of the memory that contains an address.
-fn memory_at<'l, 'a>(
+pub(crate) fn memory_at<'l, 'a>(
     memory: &'l UnifiedMemoryList<'a>,
     address: u64,
 ) -> Option<UnifiedMemory<'l, 'a>>

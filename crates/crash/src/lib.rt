@@ -12,15 +12,17 @@
 //! - [`CrashDirectory`] has the entries that decide, each with the error of its stream.
 //! - [`CrashProcess`] has the process and the system on which it ran, [`CrashCause`] the exceptions
 //!   and the address of the crash, [`CrashThreads`] the threads with their registers and frames,
+//!   [`CrashPoint`] the code and the words of the stack where the thread that crashed stands,
 //!   [`CrashModules`] the modules.
 //! - [`Damage`] is something that is there and can't be read. [`status_of`] is the status with which
 //!   a dump ends a program.
 //!
 //! The exception that counts is the last that can be read and whose code isn't 0, else the last that
 //! can be read. The address of the crash is its address. The thread that crashed is the last of its
-//! id, and its context takes the place of that thread's own. If the list of threads lacks it, a
-//! thread of this context alone follows the others. A context that its writer cut after the general
-//! registers, as LLDB does, gives these where there is no whole one: [`ShortContext`].
+//! id. Its registers are those of the exception's context, if that is whole, else of the thread's own,
+//! if that is. A context that its writer cut after the general registers, as LLDB does, gives these
+//! where neither is whole, the exception's first: [`ShortContext`]. If the list of threads lacks the
+//! thread, one of the exception's context alone follows the others.
 //!
 //! A frame's place in a module is the index of the module in its list, and the offset in it. The
 //! frames by frame pointers stand apart from the words of the stack that may be return addresses.
@@ -53,7 +55,9 @@ mod last;
 pub mod laws;
 mod missing;
 mod modules;
+mod point;
 mod process;
+mod process_texts;
 mod records;
 mod release;
 mod space;
@@ -72,7 +76,9 @@ pub use file_names::file_name;
 pub use frames::{CrashFrame, CrashWalk};
 pub use missing::is_missing;
 pub use modules::{CrashModule, CrashModules, UnloadedModule};
+pub use point::{CrashPoint, StackWord};
 pub use process::{CrashProcess, CrashSystem};
+pub use process_texts::Comments;
 pub use records::{Access, Sender};
 pub use release::LsbRelease;
 pub use space::SpaceStreams;

@@ -1,15 +1,18 @@
 ghost use Rattle.std.specs.Prelude.{◌≡◌, IfOk, IsOkUnless, string_bytes};
 ghost use Rattle.std.specs.Option.{option_copied, option_map};
 ghost use Rattle.minidump.specs.Below.Contexts.Context.{map_ok};
-ghost use Rattle.minidump.specs.Promise.{misc_info_stream, system_info_stream};
+ghost use Rattle.minidump.specs.DumpValue.{dump_of};
+ghost use Rattle.minidump.specs.Promise.{linux_proc_status_stream, misc_info_stream};
+ghost use Rattle.minidump.specs.Promise.{system_info_stream};
 ghost use Rattle.crash.specs.Contents.{contents_of};
-ghost use Rattle.crash.specs.Process.{id_in, process_in, process_of, system_by, system_in};
+ghost use Rattle.crash.specs.Process.{id_in, misc_id, process_in, process_of, system_by, system_in};
 ghost use Rattle.crash.specs.Process.{system_of, uptime, uptime_in};
 
 use crate::contents::Contents;
+use crate::process_texts::{Comments, command_line_of, comments_of, status_id};
 use crate::release::{LsbRelease, release_of};
 use minidump::system_info::{Cpu, Os};
-use minidump::{Error, MinidumpMiscInfo, MinidumpSystemInfo};
+use minidump::{Error, Minidump, MinidumpLinuxProcStatus, MinidumpMiscInfo, MinidumpSystemInfo};
 use std::alloc::{AllocError, Global};
 
 /// What is known of a process, and of the system on which it ran.
@@ -17,13 +20,18 @@ use std::alloc::{AllocError, Global};
 pub struct CrashProcess {
     /// The system, or `None` if its information can't be read.
     pub system: Option<CrashSystem>,
-    /// The id.
+    /// The id, by the misc information, else by Linux's status.
     pub id: Option<u32>,
     /// For how many seconds it had run when the dump was written, or `None` if one of the times
     /// isn't there, is 0, or they are not in order.
     pub uptime: Option<u64>,
     /// The release of Linux, or `None` if its stream can't be read.
     pub release: Option<LsbRelease>,
+    /// The arguments of its command line, as the copy of Linux's `/proc/PID/cmdline` has them, with a
+    /// space between two and U+FFFD for what isn't UTF-8; `None` if its stream can't be read.
+    pub command_line: Option<String>,
+    /// The comments of the dump.
+    pub comments: Comments,
 }
 
 /// The system on which a process ran.
@@ -43,23 +51,27 @@ pub struct CrashSystem {
     pub cpu_model: Option<String>,
 }
 
-// Returns what is known of the process of a dump that was written at `stamp`.
+// Returns what is known of the process of a dump with these contents.
 pub(crate) fn process_of(
     alloc: Global,
-    stamp: u32,
+    dump: &Minidump<'_>,
     contents: &Contents<'_>,
 ) -> Result<CrashProcess, Error>
-    ensures process { IfOk result
-        (λ process. process_of process ≡ process_in stamp (contents_of contents.now)) }
+    ensures process { IfOk result (λ process. process_of process
+        ≡ process_in (dump_of dump.now) (contents_of contents.now)) }
     ensures memory { IsOkUnless result Error.OutOfMemory }
 {
     let system = system_of(alloc, &contents.system.system)?;
     let release = release_of(alloc, &contents.system.lsb_release)?;
+    let command_line = command_line_of(alloc, dump)?;
+    let comments = comments_of(alloc, dump)?;
     Ok(CrashProcess {
         system,
-        id: id_of(&contents.system.misc),
-        uptime: uptime_of(stamp, &contents.system.misc),
+        id: id_of(&contents.system.misc, &contents.process.status),
+        uptime: uptime_of(dump.header.time_date_stamp, &contents.system.misc),
         release,
+        command_line,
+        comments,
     })
 }
 
@@ -107,8 +119,19 @@ pub(crate) fn copy(alloc: Global, text: Option<&str>) -> Result<Option<String>, 
 }
 
 // Returns the id of the process.
-fn id_of(misc: &Result<MinidumpMiscInfo, Error>) -> Option<u32>
-    ensures { result ≡ id_in (map_ok misc_info_stream.value misc.now) }
+fn id_of(
+    misc: &Result<MinidumpMiscInfo, Error>,
+    status: &Result<MinidumpLinuxProcStatus<'_>, Error>,
+) -> Option<u32>
+    ensures { result ≡ id_in (map_ok misc_info_stream.value misc.now)
+        (map_ok linux_proc_status_stream.value status.now) }
+{
+    misc_id(misc).or(status_id(status))
+}
+
+// Returns the id of the process by the misc information.
+fn misc_id(misc: &Result<MinidumpMiscInfo, Error>) -> Option<u32>
+    ensures { result ≡ misc_id (map_ok misc_info_stream.value misc.now) }
 {
     match misc {
         Ok(misc) => misc.raw.process_id().copied(),

@@ -3,7 +3,7 @@ ghost use Rattle.std.specs.Prelude.{◌≡◌, ◌%◌, ◌/◌, ◌^◌, IfOk};
 ghost use Rattle.std.specs.Option.{option_copied, option_map};
 ghost use Rattle.minidump.specs.Promise.{system_info_stream};
 ghost use Rattle.crash.specs.Records.{access_in, access_of_number, access_on, is_process};
-ghost use Rattle.crash.specs.Records.{is_sent, is_signal};
+ghost use Rattle.crash.specs.Records.{is_low_access, is_sent, is_signal};
 ghost use Rattle.crash.specs.Records.{parameters_in, sender_at, sender_by, sender_if_sent, sender_in};
 ghost use Rattle.crash.specs.Records.{sender_on};
 
@@ -15,6 +15,10 @@ use std::alloc::{AllocError, Global};
 const EXCEPTION_ACCESS_VIOLATION: u32 = 0xc000_0005;
 
 const EXCEPTION_IN_PAGE_ERROR: u32 = 0xc000_0006;
+
+const SIGBUS: u32 = 7;
+
+const SIGSEGV: u32 = 11;
 
 const SI_USER: u32 = 0;
 
@@ -36,7 +40,7 @@ pub enum Access {
 /// The process that sent a signal.
 #[derive(Clone, Copy, Debug, PartialEq, Eq)]
 pub struct Sender {
-    /// The id of the process, `si_pid`. It is 0 for one outside of the receiver's namespace.
+    /// The id of the process, `si_pid`: of one outside of the receiver's namespace 0.
     pub process: u32,
     /// The id of its user, `si_uid`, or `None` where the record has no room for it: in an address of
     /// 32 bits.
@@ -116,7 +120,7 @@ fn sender_on(os: Os, cpu: Cpu, raw: &MINIDUMP_EXCEPTION) -> Option<Sender>
 fn sender_if_sent(raw: &MINIDUMP_EXCEPTION, sender: Sender) -> Option<Sender>
     ensures { result ≡ sender_if_sent raw.now sender }
 {
-    if is_signal(raw.exception_code) && is_sent(raw.exception_flags, sender) {
+    if is_signal(raw.exception_code) && is_sent(raw, sender) {
         Some(sender)
     } else {
         None
@@ -130,11 +134,22 @@ fn is_signal(number: u32) -> bool
     number >= 1 && number <= 64
 }
 
-// Tells whether a process sent a signal, by its code and its sender.
-fn is_sent(si_code: u32, sender: Sender) -> bool
-    ensures { result ≡ is_sent si_code sender }
+// Tells whether a process sent the signal of a record, by its sender.
+fn is_sent(raw: &MINIDUMP_EXCEPTION, sender: Sender) -> bool
+    ensures { result ≡ is_sent raw.now sender }
 {
-    si_code == SI_QUEUE || si_code == SI_TKILL || (si_code == SI_USER && is_process(sender.process))
+    let si_code = raw.exception_flags;
+    si_code == SI_QUEUE
+        || si_code == SI_TKILL
+        || (si_code == SI_USER && is_process(sender.process) && !is_low_access(raw))
+}
+
+// Tells whether a record can be that of an access near 0.
+fn is_low_access(raw: &MINIDUMP_EXCEPTION) -> bool
+    ensures { result ≡ is_low_access raw.now }
+{
+    let (signal, address) = (raw.exception_code, raw.exception_address);
+    (signal == SIGBUS || signal == SIGSEGV) && address >= 1 && address < 0x40_0000
 }
 
 // Tells whether a number can be that of a process.

@@ -1,4 +1,4 @@
-ghost use Rattle.std.specs.Prelude.{◌≡◌, ◌++◌, IfOk, IsOkUnless, OnOk, is_some, map};
+ghost use Rattle.std.specs.Prelude.{◌≡◌, ◌++◌, IfOk, IsOkUnless, OnOk, is_some, map, slice_get};
 ghost use Rattle.std.specs.Option.{option_copied, option_map};
 ghost use Rattle.minidump.specs.Below.Contexts.Context.{map_ok};
 ghost use Rattle.minidump.specs.Crash.{last_with};
@@ -7,7 +7,9 @@ ghost use Rattle.minidump.specs.Thread.{thread_of};
 ghost use Rattle.crash.specs.Contents.{contents_of};
 ghost use Rattle.crash.specs.Threads.{all_threads, crashing_at, extra_in, extra_threads};
 ghost use Rattle.crash.specs.Threads.{has_thread, listed_in, thread_in, thread_value, threads_by};
-ghost use Rattle.crash.specs.Threads.{threads_in, threads_of};
+ghost use Rattle.crash.specs.Threads.{entries_in, extra_walked, threads_in, threads_of, walked_at};
+ghost use Rattle.crash.specs.Threads.{is_next, walked_by, walked_of_entry};
+ghost use Rattle.crash.specs.Frames.{walked_of};
 
 use crate::contents::Contents;
 use crate::contexts::{
@@ -15,12 +17,15 @@ use crate::contexts::{
 };
 use crate::counting::counting_exception;
 use crate::each::{MakeItem, make_items};
-use crate::frames::{CrashWalk, walk_of_exception, walk_of_thread};
+use crate::frames::{CrashWalk, walk_of, walked_exception, walked_thread};
 use crate::last::{Choose, last_index};
 use crate::process::copy;
 use crate::stacks::{StackRange, is_outside, named_stack, stack_memory};
 use crate::thread_facts::{context_of, last_error_of, name_of, problem_of};
-use minidump::{CodeNames, Error, MinidumpException, MinidumpThread, MinidumpThreadList};
+use minidump::{
+    CodeNames, Error, MinidumpContext, MinidumpException, MinidumpThread, MinidumpThreadList,
+};
+use stack_walk::Stack;
 use std::alloc::Global;
 
 /// The threads of a process.
@@ -48,8 +53,8 @@ pub struct CrashThread {
     /// or of the thread's own, by the first of these that is whole, else by the first that is cut
     /// after its general registers.
     pub context: Option<CrashContext>,
-    /// Why its own context isn't used where it would be, or `None` if it could be, and for a thread
-    /// that the list lacks.
+    /// Why its own context gives no registers, or `None` if it gives some, and for a thread that the
+    /// list lacks.
     pub context_problem: Option<ContextProblem>,
     /// Where its stack is, as its entry names it; `None` if that has no bytes.
     pub stack: Option<StackRange>,
@@ -225,7 +230,7 @@ fn extra<'l, 'a>(
     let name = copy(alloc, name_of(&contents.threads.names, id))?;
     let found = of_origin(ContextOrigin::OfException, context_at(contents, exception));
     let context = registers_of(alloc, found)?;
-    let walk = walk_of_exception(alloc, contents, exception, scan)?;
+    let walk = walk_of(alloc, walked_exception(contents, exception), scan)?;
     Ok(CrashThread {
         id,
         is_listed: false,
@@ -293,7 +298,7 @@ fn thread_of<'l, 'a>(
     let id = thread.raw.thread_id;
     let name = copy(alloc, name_of(&contents.threads.names, id))?;
     let context = context_of(alloc, contents, exception, thread)?;
-    let walk = walk_of_thread(alloc, contents, exception, thread, scan)?;
+    let walk = walk_of(alloc, walked_thread(contents, exception, thread), scan)?;
     let last_error = last_error_of(alloc, contents, names, thread)?;
     Ok(CrashThread {
         id,
@@ -307,4 +312,89 @@ fn thread_of<'l, 'a>(
         walk,
         last_error,
     })
+}
+
+// ---- how they are walked
+
+// Returns the stack and the context by which the thread of an index is walked.
+pub(crate) fn walked_at<'l, 'a>(
+    contents: &'l Contents<'a>,
+    index: usize,
+) -> Option<(Stack<'l, 'a>, MinidumpContext)>
+    ensures { option_map walked_of result ≡ walked_at (contents_of contents.now) index }
+{
+    walked_by(contents, counting_exception(contents), index)
+}
+
+// Returns the same by the exception that counts.
+fn walked_by<'l, 'a>(
+    contents: &'l Contents<'a>,
+    exception: Option<&'l MinidumpException<'a>>,
+    index: usize,
+) -> Option<(Stack<'l, 'a>, MinidumpContext)>
+    ensures { option_map walked_of result ≡ walked_by (contents_of contents.now)
+        (option_map exception_stream.value (option_copied exception.entry)) index }
+{
+    let threads = &contents.threads.threads;
+    let (entry, is_next) = (entry_at(threads, index), is_next(threads, index));
+    walked_of_entry(contents, exception, entry, is_next)
+}
+
+// Returns the entry of an index in the list of threads.
+fn entry_at<'l, 'a>(
+    threads: &'l Result<MinidumpThreadList<'a>, Error>,
+    index: usize,
+) -> Option<&'l MinidumpThread<'a>>
+    ensures { option_map thread_of (option_copied result)
+        ≡ slice_get (entries_in (map_ok thread_list_stream.value threads.now)) index }
+{
+    match threads {
+        Ok(list) => list.threads.get(index),
+        Err(_) => None,
+    }
+}
+
+// Tells whether an index is the one after those of the list.
+fn is_next(threads: &Result<MinidumpThreadList<'_>, Error>, index: usize) -> bool
+    ensures { result ≡ is_next (map_ok thread_list_stream.value threads.now) index }
+{
+    match threads {
+        Ok(list) => index == list.threads.len(),
+        Err(_) => index == 0,
+    }
+}
+
+// Returns the stack and the context by which an entry of the list is walked, or, if there is none,
+// those of the thread after them.
+fn walked_of_entry<'l, 'a>(
+    contents: &'l Contents<'a>,
+    exception: Option<&'l MinidumpException<'a>>,
+    entry: Option<&'l MinidumpThread<'a>>,
+    is_next: bool,
+) -> Option<(Stack<'l, 'a>, MinidumpContext)>
+    ensures { option_map walked_of result ≡ walked_of_entry (contents_of contents.now)
+        (option_map exception_stream.value (option_copied exception.entry))
+        (option_map thread_of (option_copied entry.entry)) is_next }
+{
+    match entry {
+        Some(thread) => walked_thread(contents, exception, thread),
+        None if is_next => extra_walked(contents, exception),
+        None => None,
+    }
+}
+
+// Returns the stack and the context by which the thread of an exception is walked, if the list lacks
+// it.
+fn extra_walked<'l, 'a>(
+    contents: &'l Contents<'a>,
+    exception: Option<&'l MinidumpException<'a>>,
+) -> Option<(Stack<'l, 'a>, MinidumpContext)>
+    ensures { option_map walked_of result ≡ extra_walked (contents_of contents.now)
+        (option_map exception_stream.value (option_copied exception.entry)) }
+{
+    let exception = exception?;
+    if has_thread(&contents.threads.threads, exception.thread_id) {
+        return None;
+    }
+    walked_exception(contents, exception)
 }

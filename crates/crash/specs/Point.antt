@@ -1,0 +1,102 @@
+-- Where a thread stands: what is known of its instruction pointer, the code there, the words from its
+-- stack pointer up, and the flags and the segments of its processor.
+use Rattle.std.specs.Prelude.{ℕ, ◌+◌, ◌-◌, ◌*◌, ◌^◌, List, [], ◌∷◌, codes, drop, length, map, nat_lt}
+use Rattle.std.specs.Prelude.{take}
+use Rattle.std.specs.Prelude.{Option, None, if◌then◌else◌}
+use Rattle.std.specs.List.{filter_map, range_with_len}
+use Rattle.std.specs.Option.{option_and_then, option_map, option_map_or}
+use Rattle.minidump.specs.declared.MinidumpContext.{MinidumpContext}
+use Rattle.minidump.specs.declared.MinidumpRawContext.{MinidumpRawContext}
+use Rattle.minidump.specs.declared.MinidumpRawContext.TheVariants.{Amd64, Arm, Arm64, OldArm64, X86}
+use Rattle.minidump.specs.Below.MemoryLists.Unified.{UnifiedRegion, UnifiedRegions}
+use Rattle.minidump.specs.Below.Modules.Module.{ModuleValue}
+use Rattle.minidump.specs.Below.System.Cpu.{pointer_bytes}
+use Rattle.stack_walk.specs.Frames.{StackValue, instruction_pointer_in, pointer_at, stack_bytes}
+use Rattle.stack_walk.specs.Frames.{stack_pointer_in}
+use Rattle.crash.specs.declared.addresses.AddressFacts.{AddressFacts}
+use Rattle.crash.specs.declared.point.CrashPoint.{CrashPoint}
+use Rattle.crash.specs.declared.point.StackWord.{StackWord}
+use Rattle.crash.specs.Addresses.{facts_of, module_place}
+use Rattle.crash.specs.Contents.{ContentsValue}
+use Rattle.crash.specs.Frames.{memory_at}
+use Rattle.crash.specs.Threads.{walked_at}
+
+-- what is known of an instruction pointer, the bytes from there on, the words from the stack pointer
+-- up, and the flags and the segments by their names
+pub record PointValue : Type 0 where
+  pub instruction : AddressFacts
+  pub code : List ℕ
+  pub words : List StackWord
+  pub flags : List (List ℕ × ℕ)
+
+-- the same of a `CrashPoint`
+abbrev pub point_of : CrashPoint → PointValue
+point_of p = record {
+  instruction = p.instruction;
+  code = p.code.now;
+  words = p.words.items;
+  flags = map (λ r. (r.0.now, r.1)) p.flags.items;
+}
+
+-- ---- the code
+
+-- the bytes of a region from an address on, at most 16
+abbrev pub code_of : Option UnifiedRegion → ℕ → List ℕ
+code_of region address =
+    option_map_or (λ r. take 16 (drop (address - r.base_address) r.bytes)) region []
+
+-- the same of the kept region that contains the address
+abbrev pub code_at : UnifiedRegions → ℕ → List ℕ
+code_at memory address = code_of (memory_at memory address) address
+
+-- ---- the words
+
+-- a word with the module that contains it, as an address
+abbrev pub word_by : List ModuleValue → ℕ → ℕ → StackWord
+word_by modules address value = record {
+  address = address;
+  value = value;
+  «module» = module_place modules value;
+}
+
+-- the word that a stack holds at an address, which has at most 64 bits
+abbrev pub word_in : StackValue → ℕ → Option StackWord
+word_in s address = if nat_lt address (2 ^ 64)
+    then option_map (word_by s.modules address) (pointer_at s address) else None
+
+-- the word of a number from an address up
+unfoldable pub word_at : StackValue → ℕ → ℕ → Option StackWord
+word_at s from index = option_and_then (λ size. word_in s (from + index * size)) (pointer_bytes s.width)
+
+-- the words from an address up, at most so many, of as many as the stack has bytes
+abbrev pub words_from : StackValue → ℕ → ℕ → List StackWord
+words_from s from limit =
+    take limit (filter_map (λ index. word_at s from index) (range_with_len 0 (length (stack_bytes s))))
+
+-- ---- the flags
+
+-- the flags and the segments of a context, of x86 without the flags, which are among its registers
+abbrev pub flags_of : MinidumpRawContext → List (List ℕ × ℕ)
+flags_of (X86 c) = (codes "cs", c.cs) ∷ (codes "ss", c.ss)
+    ∷ (codes "ds", c.ds) ∷ (codes "es", c.es) ∷ (codes "fs", c.fs) ∷ (codes "gs", c.gs) ∷ []
+flags_of (Amd64 c) = (codes "eflags", c.eflags) ∷ (codes "cs", c.cs) ∷ (codes "ss", c.ss)
+    ∷ (codes "ds", c.ds) ∷ (codes "es", c.es) ∷ (codes "fs", c.fs) ∷ (codes "gs", c.gs) ∷ []
+flags_of (Arm c) = (codes "cpsr", c.cpsr) ∷ []
+flags_of (Arm64 c) = (codes "cpsr", c.cpsr) ∷ []
+flags_of (OldArm64 c) = (codes "cpsr", c.cpsr) ∷ []
+
+-- ---- all of it
+
+-- the point of a stack and a context
+abbrev pub point_by : ContentsValue → StackValue → MinidumpContext → PointValue
+point_by c s context = record {
+  instruction = facts_of c (instruction_pointer_in context.raw);
+  code = code_at c.space.memory (instruction_pointer_in context.raw);
+  words = words_from s (stack_pointer_in context.raw) 16;
+  flags = flags_of context.raw;
+}
+
+-- that of the thread of an index, which has a walk
+abbrev pub point_in : ContentsValue → Option ℕ → Option PointValue
+point_in c thread =
+    option_map (λ w. point_by c w.0 w.1) (option_and_then (walked_at c) thread)

@@ -1,0 +1,165 @@
+//! The texts of a process: its id in Linux's status, its command line, and the comments of the dump.
+ghost use Rattle.std.specs.Prelude.{◌≡◌, ◌/◌, ◌==◌, IfOk, length, string_bytes};
+ghost use Rattle.std.specs.List.{before_first, position};
+ghost use Rattle.std.specs.Option.{option_map};
+ghost use Rattle.minidump.specs.Below.Bytes.LinuxOsStr.{text_of};
+ghost use Rattle.minidump.specs.Below.Bytes.Text16.{units_at};
+ghost use Rattle.minidump.specs.Below.Contexts.Context.{map_ok};
+ghost use Rattle.minidump.specs.DumpValue.{dump_of};
+ghost use Rattle.minidump.specs.Promise.{linux_proc_status_stream};
+ghost use Rattle.crash.specs.ProcessTexts.{command_line_in, command_text, comment_text, comments_in};
+ghost use Rattle.crash.specs.ProcessTexts.{comments_of, pid_value, spaced, status_id, wide_text};
+
+use minidump::format::MINIDUMP_STREAM_TYPE;
+use minidump::own_streams::text_before_nul;
+use minidump::strings::LinuxOsStr;
+use minidump::{Endian, Error, Minidump, MinidumpLinuxProcStatus, Source, Steps};
+use minidump_bytes::number_32;
+use std::alloc::{AllocError, Global};
+
+/// The comments of a dump, by whoever wrote it.
+#[derive(Drop)]
+pub struct Comments {
+    /// The text of the stream CommentStreamA before its first 0, with U+FFFD for what isn't UTF-8;
+    /// `None` if its bytes can't be read.
+    pub narrow: Option<String>,
+    /// The text of the stream CommentStreamW before its first 0, `None` if its bytes can't be read,
+    /// or a surrogate lacks its partner.
+    pub wide: Option<String>,
+}
+
+// ---- the id
+
+// Returns the id of the process, as Linux's status has it.
+pub(crate) fn status_id(status: &Result<MinidumpLinuxProcStatus<'_>, Error>) -> Option<u32>
+    ensures { result ≡ status_id (map_ok linux_proc_status_stream.value status.now) }
+{
+    match status {
+        Ok(status) => number_32(pid_value(status)?.as_bytes(), 10),
+        Err(_) => None,
+    }
+}
+
+// Returns the value of the first line of a status whose key is Pid.
+fn pid_value<'a>(status: &MinidumpLinuxProcStatus<'a>) -> Option<LinuxOsStr<'a>>
+    ensures { option_map text_of result ≡ pid_value (linux_proc_status_stream.value status.now) }
+{
+    for (name, value) in status.iter() {
+        if name.as_bytes() == b"Pid".as_slice() {
+            return Some(value);
+        }
+    }
+    None
+}
+
+// ---- the command line
+
+// Makes the text of the command line.
+pub(crate) fn command_line_of(
+    alloc: Global,
+    dump: &Minidump<'_>,
+) -> Result<Option<String>, AllocError>
+    ensures { IfOk result (λ text. option_map string_bytes text
+        ≡ command_line_in (dump_of dump.now)) }
+{
+    match dump.get_raw_stream(0x4767_0006) {
+        Ok(bytes) => Ok(Some(command_text(alloc, bytes)?)),
+        Err(_) => Ok(None),
+    }
+}
+
+// Makes the text of arguments, each of which a 0 ends.
+fn command_text(alloc: Global, bytes: &[u8]) -> Result<String, AllocError>
+    ensures { IfOk result (λ text. string_bytes text ≡ command_text bytes.now) }
+{
+    let spaced: Vec<u8> = bytes.iter().map(|byte| spaced(*byte)).collect(alloc)?;
+    LinuxOsStr::from_bytes(spaced.as_slice())
+        .trim_ascii_whitespace()
+        .to_string_lossy(alloc)
+}
+
+// Returns a byte, or a space for a 0.
+fn spaced(byte: u8) -> u8
+    ensures { result ≡ spaced byte }
+{
+    if byte == 0 { b' ' } else { byte }
+}
+
+// ---- the comments
+
+// Makes the comments of a dump.
+pub(crate) fn comments_of(alloc: Global, dump: &Minidump<'_>) -> Result<Comments, AllocError>
+    ensures { IfOk result (λ comments. comments_of comments ≡ comments_in (dump_of dump.now)) }
+{
+    let narrow = narrow_comment(alloc, dump)?;
+    let wide = wide_comment(alloc, dump)?;
+    Ok(Comments { narrow, wide })
+}
+
+// Makes the comment in bytes.
+fn narrow_comment(alloc: Global, dump: &Minidump<'_>) -> Result<Option<String>, AllocError>
+    ensures { IfOk result (λ text. option_map string_bytes text
+        ≡ (comments_in (dump_of dump.now)).narrow) }
+{
+    match dump.get_raw_stream(10) {
+        Ok(bytes) => Ok(Some(comment_text(alloc, bytes)?)),
+        Err(_) => Ok(None),
+    }
+}
+
+// Makes the text of bytes before the first 0.
+fn comment_text(alloc: Global, bytes: &[u8]) -> Result<String, AllocError>
+    ensures { IfOk result (λ text. string_bytes text ≡ comment_text bytes.now) }
+{
+    LinuxOsStr::from_bytes(before_nul(bytes)).to_string_lossy(alloc)
+}
+
+// Returns the bytes before the first 0, or all if none is 0.
+fn before_nul(bytes: &[u8]) -> &[u8]
+    ensures { result.now ≡ before_first (λ b. b == 0) bytes.now }
+{
+    match first_nul(bytes) {
+        Some(end) => &bytes[..end],
+        None => bytes,
+    }
+}
+
+// Returns where the first 0 is.
+fn first_nul(bytes: &[u8]) -> Option<usize>
+    ensures { result ≡ position (λ b. b == 0) bytes.now }
+{
+    bytes.iter().position(|byte| *byte == 0)
+}
+
+// Makes the comment in UTF-16.
+fn wide_comment(alloc: Global, dump: &Minidump<'_>) -> Result<Option<String>, AllocError>
+    ensures { IfOk result (λ text. option_map string_bytes text
+        ≡ (comments_in (dump_of dump.now)).wide) }
+{
+    match dump.get_raw_stream(11) {
+        Ok(bytes) => wide_text(alloc, bytes, dump.endian),
+        Err(_) => Ok(None),
+    }
+}
+
+// Makes the text of UTF-16 before the first 0.
+fn wide_text(alloc: Global, bytes: &[u8], endian: Endian) -> Result<Option<String>, AllocError>
+    ensures { IfOk result (λ text. option_map string_bytes text ≡ wide_text endian bytes.now) }
+{
+    let units = units_of(alloc, bytes, endian)?;
+    text_before_nul(alloc, units.as_slice())
+}
+
+// Returns the code units of bytes.
+fn units_of(alloc: Global, bytes: &[u8], endian: Endian) -> Result<Vec<u16>, AllocError>
+    ensures { IfOk result (λ units. units.items
+        ≡ units_at endian 0 (length bytes.now / 2) bytes.now) }
+{
+    let count = bytes.len() / 2;
+    let entries = Source::new(bytes).entries::<u16>(0, count as u64, endian);
+    let mut units = Vec::new(alloc);
+    for index in 0..count {
+        units.push(entries.read(index, &mut Steps::new()))?;
+    }
+    Ok(units)
+}
