@@ -1,0 +1,5 @@
+-- The lemmas of this crate.
+pub mod NameLemmas
+pub mod PathLemmas
+pub mod WantedLemmas
+pub mod BacktraceLemmas

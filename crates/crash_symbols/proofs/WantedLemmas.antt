@@ -1,0 +1,48 @@
+-- Marks of modules, and the wanted ones of the modules so far.
+use Rattle.std.proofs.Common.{◌≡◌, ◌∙◌, ℕ, ◌+◌, ◌<◌, ◌≤◌, ◌++◌, ◌∷◌, ◌||◌, [], Bool, List, Option, add-zero, add-one, ap, arith, cond, false, filter, get_or, length, map, refl, suc, sym, take, true, zero}
+use Rattle.std.specs.List.{list_any, range_with_len}
+use Rattle.std.proofs.Math.Bool.{or-false}
+use Rattle.std.proofs.lemmas.List.{map_more, take_all}
+use Rattle.std.proofs.lemmas.List.Elements.{filter-append}
+use Rattle.std.proofs.lemmas.List.Folds.{list_any-append}
+
+range_next : (a n : ℕ) → range_with_len a (suc n) ≡ range_with_len a n ++ ((a + n) ∷ [])
+range_next a zero = rw add-zero refl
+range_next a (suc n) =
+    let next : a + 1 + n ≡ a + suc n = omega arith in
+    ap (λ l. a ∷ l) (range_next (a + 1) n ∙ ap (λ k. range_with_len (a + 1) n ++ (k ∷ [])) next)
+
+-- one number more
+pub range_more : (a n : ℕ) → range_with_len a (n + 1) ≡ range_with_len a n ++ ((a + n) ∷ [])
+range_more a n = rw add-one (range_next a n)
+
+-- the numbers so far that pass a test, with one more
+pub kept_more : (test : ℕ → Bool) (n : ℕ) → filter test (range_with_len 0 (n + 1)) ≡ filter test (range_with_len 0 n) ++ cond (test n) (n ∷ []) []
+kept_more test n =
+    let next : 0 + n ≡ n = omega arith in
+    ap (filter test) (range_more 0 n ∙ ap (λ k. range_with_len 0 n ++ (k ∷ [])) next) ∙ filter-append test (range_with_len 0 n) (n ∷ [])
+
+-- the same where a list of marks has the test
+pub kept_next : (test : ℕ → Bool) (n : ℕ) (passes : Bool) (before after : List ℕ) → test n ≡ passes → after ≡ before ++ cond passes (n ∷ []) []
+    → before ≡ filter test (range_with_len 0 n) → after ≡ filter test (range_with_len 0 (n + 1))
+kept_next test n passes before after is more so =
+    more ∙ ap (λ l. l ++ cond passes (n ∷ []) []) so ∙ ap (λ b. filter test (range_with_len 0 n) ++ cond b (n ∷ []) []) (sym is) ∙ sym (kept_more test n)
+
+pub or_assoc : (a b c : Bool) → ((a || b) || c) ≡ (a || (b || c))
+or_assoc true b c = refl
+or_assoc false b c = refl
+
+-- a mark by one item after another
+module _ {X Y : Type 0} (view : X → Y) (test : Y → Bool) where
+  pub marked_more : (xs : List X) (i : ℕ) (x : X) (old before after : Bool) → i < length xs → x ≡ get_or xs i x → after ≡ (before || test (view x))
+      → before ≡ (old || list_any test (map view (take i xs))) → after ≡ (old || list_any test (map view (take (i + 1) xs)))
+  marked_more xs i x old before after within at is so =
+      let so_far = map view (take i xs) in
+      let more : list_any test (map view (take (i + 1) xs)) ≡ (list_any test so_far || test (view x)) =
+      ap (list_any test) (map_more view xs i x within) ∙ list_any-append test so_far (view (get_or xs i x) ∷ [])
+      ∙ ap (λ b. list_any test so_far || b) (or-false (test (view (get_or xs i x))))
+      ∙ ap (λ y. list_any test so_far || test (view y)) (sym at) in
+      is ∙ ap (λ b. b || test (view x)) so ∙ or_assoc old (list_any test (map view (take i xs))) (test (view x)) ∙ ap (λ b. old || b) (sym more)
+
+  pub marked_all : (xs : List X) (i : ℕ) (old after : Bool) → length xs ≤ i → after ≡ (old || list_any test (map view (take i xs))) → after ≡ (old || list_any test (map view xs))
+  marked_all xs i old after past so = so ∙ ap (λ l. old || list_any test (map view l)) (take_all i xs past)

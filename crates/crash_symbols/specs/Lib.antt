@@ -1,0 +1,9 @@
+-- The definitions that the contracts cite: the backtraces of a crash by its symbol files are
+-- `backtraces_in` of Backtraces.antt.
+pub mod Symbols
+pub mod Names
+pub mod NameParts
+pub mod Backtraces
+pub mod Wanted
+pub mod Modules
+pub mod Shown

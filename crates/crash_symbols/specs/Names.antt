@@ -1,0 +1,131 @@
+-- What a symbol file says of a frame: its function, its source line, and the calls that the compiler
+-- put in place there.
+use Rattle.std.specs.Prelude.{ℕ, ◌-◌, List, [], ◌∷◌, map, reverse, Option, Some, None}
+use Rattle.std.specs.List.{range_with_len}
+use Rattle.std.specs.Option.{option_map, option_map_or}
+use Rattle.minidump_index.specs.Lookup.{looked_up}
+use Rattle.breakpad_symbols.specs.declared.inline.InlineCall.{InlineCall}
+use Rattle.breakpad_symbols.specs.Function.{FunctionValue, line_in}
+use Rattle.breakpad_symbols.specs.Inline.{inlines_in}
+use Rattle.breakpad_symbols.specs.Numbered.{first_numbered}
+use Rattle.breakpad_symbols.specs.SymbolFile.{SymbolsValue, file_name, origin_name, public_at}
+use Rattle.crash.specs.declared.frames.CrashFrame.{CrashFrame}
+use Rattle.symbol_walk.specs.Symbols.{range_of_lines, symbols_of_module}
+
+-- a function by name, and the offset of an address from its first
+pub record FunctionName : Type 0 where
+  pub name : List ℕ
+  pub offset : ℕ
+
+-- a source line, with the name of its file where that is known
+pub record SourceValue : Type 0 where
+  pub file : Option (List ℕ)
+  pub line : ℕ
+
+-- a call that the compiler put in place: the function that was called, and where in it the frame is
+pub record CallValue : Type 0 where
+  pub function : Option (List ℕ)
+  pub source : Option SourceValue
+
+-- the function of a frame, where in it the frame is, and the calls put in place there, the innermost
+-- first
+pub record NamesValue : Type 0 where
+  pub function : Option FunctionName
+  pub line : Option SourceValue
+  pub inlines : List CallValue
+
+-- a frame with its names
+pub record NamedFrameValue : Type 0 where
+  pub frame : CrashFrame
+  pub function : Option FunctionName
+  pub line : Option SourceValue
+  pub inlines : List CallValue
+
+-- ---- functions
+
+-- the kept function that has an offset
+abbrev pub function_at : SymbolsValue → ℕ → Option FunctionValue
+function_at s offset = looked_up range_of_lines s.functions offset
+
+-- the name for an offset: of the function that has it, else of the public symbol
+abbrev pub name_at : SymbolsValue → ℕ → Option FunctionValue → Option FunctionName
+name_at s offset (Some f) = Some (record { name = f.name; offset = offset - f.address })
+name_at s offset None =
+    option_map (λ p. record { name = p.name; offset = offset - p.address }) (public_at s offset)
+
+-- ---- source lines and calls put in place
+
+-- the source line of these numbers
+abbrev pub source_in : SymbolsValue → ℕ → ℕ → SourceValue
+source_in s file line = record { file = file_name s.files file; line = line }
+
+-- that of the line record of an offset in a function
+abbrev pub line_at : SymbolsValue → FunctionValue → ℕ → Option SourceValue
+line_at s f offset = option_map (λ r. source_in s r.file r.line) (line_in f offset)
+
+-- the values of a function for these numbers, up to the first that has none
+unfoldable pub values_by : {A : Type 0} → (ℕ → Option A) → List ℕ → List A
+values_by value [] = []
+values_by value (n ∷ more) = option_map_or (λ x. x ∷ values_by value more) (value n) []
+
+-- the calls of the depths 0, 1 and so on, up to the first that none has, at most 1,000 of them; of two
+-- of one depth the first
+unfoldable pub by_depth : List InlineCall → List InlineCall
+by_depth calls = values_by (λ depth. first_numbered (λ c. c.depth) depth calls) (range_with_len 0 1000)
+
+-- the calls put in place at an offset of a function
+abbrev pub calls_in : FunctionValue → ℕ → List InlineCall
+calls_in f offset = by_depth (inlines_in f offset)
+
+-- calls, the innermost first, that is at this source line: the function of each next one is at the
+-- line of the call in it
+unfoldable pub inlines_by : SymbolsValue → Option SourceValue → List InlineCall → List CallValue
+inlines_by s line [] = []
+inlines_by s line (call ∷ outer) =
+    record { function = origin_name s.origins call.origin; source = line }
+    ∷ inlines_by s (Some (source_in s call.file call.line)) outer
+
+-- the source line of the function in which such calls are: of the outermost one, and without calls
+-- this line
+unfoldable pub line_around : SymbolsValue → Option SourceValue → List InlineCall → Option SourceValue
+line_around s line [] = line
+line_around s line (call ∷ outer) = line_around s (Some (source_in s call.file call.line)) outer
+
+-- ---- names
+
+-- the names of an offset in a function: the line record is that of the innermost call
+abbrev pub names_in : SymbolsValue → FunctionValue → ℕ → NamesValue
+names_in s f offset =
+    let calls = reverse (calls_in f offset) in record {
+      function = name_at s offset (Some f);
+      line = line_around s (line_at s f offset) calls;
+      inlines = inlines_by s (line_at s f offset) calls;
+    }
+
+-- the name alone, where no function has the offset
+abbrev pub public_names : SymbolsValue → ℕ → NamesValue
+public_names s offset = record { function = name_at s offset None; line = None; inlines = [] }
+
+-- the names of an offset in a module with these symbols
+abbrev pub names_at : SymbolsValue → ℕ → NamesValue
+names_at s offset = option_map_or (λ f. names_in s f offset) (function_at s offset) (public_names s offset)
+
+-- the names of a frame without symbols
+abbrev pub no_names : NamesValue
+no_names = record { function = None; line = None; inlines = [] }
+
+-- the names of a place in a module, by the symbols of the modules
+abbrev pub names_of_place : List (Option SymbolsValue) → ℕ × ℕ → NamesValue
+names_of_place files place = option_map_or (λ s. names_at s place.1) (symbols_of_module files place.0) no_names
+
+-- the names of a frame, by the symbols of the modules
+abbrev pub names_of : List (Option SymbolsValue) → CrashFrame → NamesValue
+names_of files f = option_map_or (names_of_place files) f.«module» no_names
+
+-- a frame with such names
+abbrev pub with_names : CrashFrame → NamesValue → NamedFrameValue
+with_names f n = record { frame = f; function = n.function; line = n.line; inlines = n.inlines }
+
+-- a frame with its names, by the symbols of the modules
+abbrev pub named_in : List (Option SymbolsValue) → CrashFrame → NamedFrameValue
+named_in files f = with_names f (names_of files f)

@@ -1,0 +1,215 @@
+ghost use Rattle.std.specs.Prelude.{◌≡◌, IfOk, IsOkUnless, length, map};
+ghost use Rattle.std.specs.List.{range_with_len};
+ghost use Rattle.std.specs.Option.{option_map};
+ghost use Rattle.minidump.specs.Promise.{module_list_stream};
+ghost use Rattle.stack_walk.specs.Frames.{stack_of};
+ghost use Rattle.crash.specs.Crash.{crash_of};
+ghost use Rattle.crash.specs.Frames.{frame_in, place_of, walked_of};
+ghost use Rattle.symbol_walk.specs.Unwinder.{frame_of};
+ghost use Rattle.symbol_walk.specs.Walk.{symbol_walk_of};
+ghost use Rattle.crash_symbols.specs.Backtraces.{backtrace_by, backtrace_in, backtrace_of};
+ghost use Rattle.crash_symbols.specs.Backtraces.{backtrace_on, backtraces_in, backtraces_of, frame_by};
+ghost use Rattle.crash_symbols.specs.NameParts.{named_of};
+ghost use Rattle.crash_symbols.specs.Symbols.{known_of};
+
+use crate::names::named_in;
+use crate::{NamedFrame, Symbols};
+use crash::{Crash, CrashFrame};
+use minidump::{Error, MinidumpContext, MinidumpModuleList, Module};
+use stack_walk::{Stack, StackFrame};
+use std::alloc::{AllocError, Global};
+use symbol_walk::{KnownFrame, SymbolWalk, SymbolWalkEnd, walk_by_symbols};
+
+/// The backtraces of a crash.
+#[derive(Drop)]
+pub struct Backtraces<'l> {
+    /// That of each thread of the crash, in the order of its threads; `None` where it has no walk.
+    pub threads: Vec<Option<Backtrace<'l>>>,
+}
+
+/// The frames of a thread, with what symbol files say of each.
+#[derive(Drop)]
+pub struct Backtrace<'l> {
+    /// The frames: that of the context, and then its callers.
+    pub frames: Vec<NamedFrame<'l>>,
+    /// The words of the stack after them that may be return addresses.
+    pub candidates: Vec<NamedFrame<'l>>,
+    /// Why the last of the frames has no caller.
+    pub end: SymbolWalkEnd,
+}
+
+/// Symbols and the backtraces that they give, for what prints them.
+#[derive(Clone, Copy)]
+pub struct Symbolized<'s, 'l> {
+    /// The symbols.
+    pub symbols: &'s Symbols<'l>,
+    /// The backtraces by these symbols.
+    pub backtraces: &'s Backtraces<'l>,
+}
+
+impl<'l> Backtraces<'l> {
+    /// Finds the backtraces of all threads of a crash by symbols, with at most `scan` candidates
+    /// each. The only error is `OutOfMemory`.
+    pub fn find(
+        alloc: Global,
+        crash: &Crash<'_>,
+        symbols: &Symbols<'l>,
+        scan: usize,
+    ) -> Result<Backtraces<'l>, Error>
+        ensures backtraces { IfOk result (λ b. backtraces_of b
+            ≡ backtraces_in (crash_of crash.now) (known_of symbols.now) scan) }
+        ensures memory { IsOkUnless result Error.OutOfMemory }
+    {
+        let threads = first_backtraces(alloc, crash, symbols, scan, crash.threads.threads.len())?;
+        Ok(Backtraces { threads })
+    }
+}
+
+// Returns the backtraces of so many threads.
+fn first_backtraces<'l>(
+    alloc: Global,
+    crash: &Crash<'_>,
+    symbols: &Symbols<'l>,
+    scan: usize,
+    count: usize,
+) -> Result<Vec<Option<Backtrace<'l>>>, Error>
+    ensures backtraces { IfOk result (λ bs. map (option_map backtrace_of) bs.items
+        ≡ map (backtrace_in (crash_of crash.now) (known_of symbols.now) scan)
+        (range_with_len 0 count)) }
+    ensures memory { IsOkUnless result Error.OutOfMemory }
+{
+    let mut backtraces = Vec::new(alloc);
+    for thread in 0..count {
+        backtraces.push(backtrace_in(alloc, crash, symbols, scan, thread)?)?;
+    }
+    Ok(backtraces)
+}
+
+// Returns the backtrace of the thread of an index, or `None` if it has no walk.
+fn backtrace_in<'l>(
+    alloc: Global,
+    crash: &Crash<'_>,
+    symbols: &Symbols<'l>,
+    scan: usize,
+    thread: usize,
+) -> Result<Option<Backtrace<'l>>, Error>
+    ensures backtrace { IfOk result (λ b. option_map backtrace_of b
+        ≡ backtrace_in (crash_of crash.now) (known_of symbols.now) scan thread) }
+    ensures memory { IsOkUnless result Error.OutOfMemory }
+{
+    match crash.walked(thread) {
+        Some((stack, context)) => {
+            Ok(Some(backtrace_on(alloc, &stack, &context, symbols, scan)?))
+        }
+        None => Ok(None),
+    }
+}
+
+// Returns the backtrace of a context on a stack.
+fn backtrace_on<'l>(
+    alloc: Global,
+    stack: &Stack<'_, '_>,
+    context: &MinidumpContext,
+    symbols: &Symbols<'l>,
+    scan: usize,
+) -> Result<Backtrace<'l>, Error>
+    ensures backtrace { IfOk result (λ b. backtrace_of b
+        ≡ backtrace_on (known_of symbols.now) scan (stack_of stack.now, context.now)) }
+    ensures memory { IsOkUnless result Error.OutOfMemory }
+{
+    let walk = walk_by_symbols(alloc, stack, context, symbols.files.as_slice(), scan)?;
+    Ok(backtrace_by(alloc, stack.modules, symbols, &walk)?)
+}
+
+// Returns a walk with the module and the names of each frame.
+fn backtrace_by<'l>(
+    alloc: Global,
+    modules: &MinidumpModuleList,
+    symbols: &Symbols<'l>,
+    walk: &SymbolWalk,
+) -> Result<Backtrace<'l>, AllocError>
+    ensures { IfOk result (λ b. backtrace_of b ≡ backtrace_by (module_list_stream.value modules.now)
+        (known_of symbols.now).files (symbol_walk_of walk.now)) }
+{
+    let frames = frames_by(alloc, modules, symbols, walk.frames.as_slice())?;
+    let candidates = candidates_by(alloc, modules, symbols, walk.candidates.as_slice())?;
+    Ok(Backtrace {
+        frames,
+        candidates,
+        end: walk.end,
+    })
+}
+
+// Returns frames, each with its module and its names.
+fn frames_by<'l>(
+    alloc: Global,
+    modules: &MinidumpModuleList,
+    symbols: &Symbols<'l>,
+    frames: &[KnownFrame],
+) -> Result<Vec<NamedFrame<'l>>, AllocError>
+    ensures { IfOk result (λ named. map named_of named.items
+        ≡ map (λ f. frame_by (module_list_stream.value modules.now) (known_of symbols.now).files
+        f.frame) (map frame_of frames.now)) }
+{
+    let mut named = Vec::new(alloc);
+    for known in frames {
+        named.push(frame_by(alloc, modules, symbols, &known.frame)?)?;
+    }
+    Ok(named)
+}
+
+// Returns candidates, each with its module and its names.
+fn candidates_by<'l>(
+    alloc: Global,
+    modules: &MinidumpModuleList,
+    symbols: &Symbols<'l>,
+    frames: &[StackFrame],
+) -> Result<Vec<NamedFrame<'l>>, AllocError>
+    ensures { IfOk result (λ named. map named_of named.items
+        ≡ map (frame_by (module_list_stream.value modules.now) (known_of symbols.now).files)
+        frames.now) }
+{
+    let mut named = Vec::new(alloc);
+    for frame in frames {
+        named.push(frame_by(alloc, modules, symbols, frame)?)?;
+    }
+    Ok(named)
+}
+
+// Returns a frame with its module and its names.
+fn frame_by<'l>(
+    alloc: Global,
+    modules: &MinidumpModuleList,
+    symbols: &Symbols<'l>,
+    frame: &StackFrame,
+) -> Result<NamedFrame<'l>, AllocError>
+    ensures { IfOk result (λ f. named_of f ≡ frame_by (module_list_stream.value modules.now)
+        (known_of symbols.now).files frame.now) }
+{
+    named_in(alloc, symbols, frame_in(modules, frame))
+}
+
+// Returns a frame with its module.
+fn frame_in(modules: &MinidumpModuleList, frame: &StackFrame) -> CrashFrame
+    ensures { result ≡ frame_in (module_list_stream.value modules.now) frame.now }
+{
+    let address = frame.lookup_address();
+    CrashFrame {
+        address,
+        instruction: frame.instruction,
+        stack_pointer: frame.stack_pointer,
+        frame_pointer: frame.frame_pointer,
+        trust: frame.trust,
+        module: place_of(modules, address),
+    }
+}
+
+// Returns the index of the kept module that contains an address, if there is one, and the offset in
+// that.
+fn place_of(modules: &MinidumpModuleList, address: Option<u64>) -> Option<(usize, u64)>
+    ensures { result ≡ place_of (module_list_stream.value modules.now) address }
+{
+    let address = address?;
+    let (index, module) = modules.numbered_module_at_address(address)?;
+    Some((index, address.saturating_sub(module.base_address())))
+}

@@ -1,0 +1,93 @@
+ghost use Rattle.std.specs.Prelude.{◌≡◌, ◌++◌, IfOk, codes, string_bytes};
+ghost use Rattle.std.specs.List.{list_any};
+ghost use Rattle.std.specs.Option.{option_map};
+ghost use Rattle.breakpad_symbols.specs.SymbolFile.{symbols_of};
+ghost use Rattle.crash.specs.Modules.{loaded_of};
+ghost use Rattle.crash_symbols.specs.Modules.{is_of_module, is_plain_name, path_of, same_letters, separates, stem};
+ghost use Rattle.crash_symbols.specs.Modules.{symbol_path};
+
+use breakpad_symbols::SymbolFile;
+use crash::{CrashModule, file_name};
+use std::alloc::{AllocError, Global};
+
+/// Tells whether a symbol file is that of a module: the identifier in its MODULE line is the module's
+/// debug identifier, in letters of either case.
+pub fn is_of_module(file: &SymbolFile<'_>, module: &CrashModule) -> bool
+    ensures { result ≡ is_of_module (symbols_of file.now) (loaded_of module.now) }
+{
+    match &module.debug_id {
+        Some(id) => same_letters(file.module_record().id.as_bytes(), id.as_str().as_bytes()),
+        None => false,
+    }
+}
+
+/// Returns the path of the symbol file of a module, below a directory of symbol files, as Breakpad
+/// lays it out: `NAME/ID/NAME.sym`, by the name of the debug file, from which the last part leaves out
+/// the ending `.pdb`, and its identifier. Returns `None` if the module lacks one of both, or it can't
+/// be the name of a file: it is empty, `.` or `..`, or has a `/`, a `\` or a NUL.
+pub fn symbol_path(alloc: Global, module: &CrashModule) -> Result<Option<String>, AllocError>
+    ensures { IfOk result (λ path. option_map string_bytes path
+        ≡ symbol_path (loaded_of module.now)) }
+{
+    let Some(file) = &module.debug_file else {
+        return Ok(None);
+    };
+    let Some(id) = &module.debug_id else {
+        return Ok(None);
+    };
+    let name = file_name(file.as_str());
+    if !is_plain_name(name) || !is_plain_name(id.as_str()) {
+        return Ok(None);
+    }
+    Ok(Some(path_of(alloc, name, id.as_str())?))
+}
+
+// Tells whether two texts are the same but for the case of letters.
+fn same_letters(a: &[u8], b: &[u8]) -> bool
+    ensures { result ≡ same_letters a.now b.now }
+{
+    a.eq_ignore_ascii_case(b)
+}
+
+// Tells whether a text can be the name of a file or a directory in another one.
+fn is_plain_name(name: &str) -> bool
+    ensures { result ≡ is_plain_name name.now }
+{
+    let bytes = name.as_bytes();
+    !bytes.is_empty()
+        && !has_separator(bytes)
+        && bytes != b".".as_slice()
+        && bytes != b"..".as_slice()
+}
+
+// Tells whether a text has a byte that no name can have.
+fn has_separator(name: &[u8]) -> bool
+    ensures { result ≡ list_any separates name.now }
+{
+    name.iter().any(|b| *b == b'/' || *b == b'\\' || *b == 0)
+}
+
+// Returns the path of the symbols of a debug file by its name and identifier.
+fn path_of(alloc: Global, name: &str, id: &str) -> Result<String, AllocError>
+    ensures { IfOk result (λ path. string_bytes path ≡ path_of name.now id.now) }
+{
+    joined(alloc, name, id, stem(name))
+}
+
+// Joins the parts of such a path.
+fn joined(alloc: Global, name: &str, id: &str, stem: &str) -> Result<String, AllocError>
+    ensures { IfOk result (λ path. string_bytes path
+        ≡ name.now ++ codes "/" ++ id.now ++ codes "/" ++ stem.now ++ codes ".sym") }
+{
+    format!(in alloc; "{}/{}/{}.sym", name, id, stem)
+}
+
+// Returns the name of a debug file without the ending `.pdb`.
+fn stem(name: &str) -> &str
+    ensures { result.now ≡ stem name.now }
+{
+    match name.rsplit_once('.') {
+        Some((stem, ending)) if same_letters(ending.as_bytes(), b"pdb") => stem,
+        _ => name,
+    }
+}

@@ -1,0 +1,256 @@
+ghost use Rattle.std.specs.Prelude.{◌≡◌, IfOk, map, reverse};
+ghost use Rattle.std.specs.Option.{option_map};
+ghost use Rattle.breakpad_symbols.specs.Function.{function_of};
+ghost use Rattle.breakpad_symbols.specs.SymbolFile.{symbols_of};
+ghost use Rattle.crash_symbols.specs.NameParts.{call_of, function_of as name_value, named_of};
+ghost use Rattle.crash_symbols.specs.NameParts.{names_value, source_of};
+ghost use Rattle.crash_symbols.specs.Names.{by_depth, calls_in, function_at, inlines_by, line_around, line_at};
+ghost use Rattle.crash_symbols.specs.Names.{name_at, named_in, names_at, names_in, names_of, no_names};
+ghost use Rattle.crash_symbols.specs.Names.{source_in};
+ghost use Rattle.crash_symbols.specs.Symbols.{known_of};
+
+use crate::Symbols;
+use breakpad_symbols::{Function, InlineCall, InlineCalls, SymbolFile};
+use crash::CrashFrame;
+use minidump_bytes::{LinuxOsStr, Steps};
+use std::alloc::{AllocError, Global};
+
+// How many calls in one another are looked for at most.
+const MAX_DEPTH: u32 = 1_000;
+
+/// A frame with what the symbol file of its module says of it.
+#[derive(Drop)]
+pub struct NamedFrame<'l> {
+    /// The frame.
+    pub frame: CrashFrame,
+    /// The function that the frame's address lies in.
+    pub function: Option<FrameFunction<'l>>,
+    /// The source line in that function: where calls were put in place, the line of the outermost of
+    /// them.
+    pub line: Option<SourceLine<'l>>,
+    /// The calls that the compiler put in place at the frame's address, the innermost first.
+    pub inlines: Vec<InlinedCall<'l>>,
+}
+
+/// A function, or a public symbol where no function is known.
+#[derive(Clone, Copy)]
+pub struct FrameFunction<'l> {
+    /// The name.
+    pub name: LinuxOsStr<'l>,
+    /// The offset of the frame's address from the first of the function.
+    pub offset: u64,
+}
+
+/// A line of a source file.
+#[derive(Clone, Copy)]
+pub struct SourceLine<'l> {
+    /// The name of the file, or `None` if the symbol file lacks it.
+    pub file: Option<LinuxOsStr<'l>>,
+    /// The number of the line.
+    pub line: u32,
+}
+
+/// A call that the compiler put in place: the code of the function that was called stands in that of
+/// the caller.
+#[derive(Clone, Copy)]
+pub struct InlinedCall<'l> {
+    /// The function that was called, or `None` if the symbol file lacks its name.
+    pub function: Option<LinuxOsStr<'l>>,
+    /// The source line in that function: of the frame's address in the innermost call, and in each
+    /// other one of the call in it.
+    pub source: Option<SourceLine<'l>>,
+}
+
+// What a symbol file says of a frame.
+#[derive(Drop)]
+pub(crate) struct FrameNames<'l> {
+    function: Option<FrameFunction<'l>>,
+    line: Option<SourceLine<'l>>,
+    inlines: Vec<InlinedCall<'l>>,
+}
+
+// Returns a frame with what the symbol file of its module says of it.
+pub(crate) fn named_in<'l>(
+    alloc: Global,
+    symbols: &Symbols<'l>,
+    frame: CrashFrame,
+) -> Result<NamedFrame<'l>, AllocError>
+    ensures { IfOk result (λ f. named_of f ≡ named_in (known_of symbols.now).files frame) }
+{
+    let FrameNames {
+        function,
+        line,
+        inlines,
+    } = names_of(alloc, symbols, &frame)?;
+    Ok(NamedFrame {
+        frame,
+        function,
+        line,
+        inlines,
+    })
+}
+
+// Returns what the symbol file of a frame's module says of it.
+fn names_of<'l>(
+    alloc: Global,
+    symbols: &Symbols<'l>,
+    frame: &CrashFrame,
+) -> Result<FrameNames<'l>, AllocError>
+    ensures { IfOk result (λ n. names_value n ≡ names_of (known_of symbols.now).files frame.now) }
+{
+    let Some((index, offset)) = frame.module else {
+        return Ok(no_names(alloc));
+    };
+    match symbols.file(index) {
+        Some(file) => names_at(alloc, file, offset),
+        None => Ok(no_names(alloc)),
+    }
+}
+
+// Returns no names.
+fn no_names<'l>(alloc: Global) -> FrameNames<'l>
+    ensures { names_value result ≡ no_names }
+{
+    FrameNames {
+        function: None,
+        line: None,
+        inlines: Vec::new(alloc),
+    }
+}
+
+// Returns what a symbol file says of an offset.
+fn names_at<'l>(
+    alloc: Global,
+    file: &'l SymbolFile<'l>,
+    offset: u64,
+) -> Result<FrameNames<'l>, AllocError>
+    ensures { IfOk result (λ n. names_value n ≡ names_at (symbols_of file.now) offset) }
+{
+    match function_at(file, offset) {
+        Some(function) => names_in(alloc, file, function, offset),
+        None => Ok(FrameNames {
+            function: public_name(file, offset),
+            line: None,
+            inlines: Vec::new(alloc),
+        }),
+    }
+}
+
+// Returns the kept function that has an offset.
+fn function_at<'l>(file: &'l SymbolFile<'l>, offset: u64) -> Option<&'l Function<'l>>
+    ensures { option_map (λ f. function_of f.now) result
+        ≡ function_at (symbols_of file.now) offset }
+{
+    file.function_at(offset, &mut Steps::new())
+}
+
+// Returns the name of the public symbol of an offset.
+fn public_name<'l>(file: &'l SymbolFile<'l>, offset: u64) -> Option<FrameFunction<'l>>
+    ensures { option_map name_value result ≡ name_at (symbols_of file.now) offset None }
+{
+    let symbol = file.public_at(offset)?;
+    Some(FrameFunction {
+        name: symbol.name,
+        offset: offset.saturating_sub(symbol.address),
+    })
+}
+
+// Returns what a symbol file says of an offset in a function.
+fn names_in<'l>(
+    alloc: Global,
+    file: &'l SymbolFile<'l>,
+    function: &Function<'l>,
+    offset: u64,
+) -> Result<FrameNames<'l>, AllocError>
+    ensures { IfOk result (λ n. names_value n
+        ≡ names_in (symbols_of file.now) (function_of function.now) offset) }
+{
+    let calls = calls_in(alloc, function, offset)?;
+    let innermost = line_at(file, function, offset);
+    let (line, inlines) = inlines_by(alloc, file, innermost, calls)?;
+    let name = FrameFunction {
+        name: function.name,
+        offset: offset.saturating_sub(function.address),
+    };
+    Ok(FrameNames {
+        function: Some(name),
+        line,
+        inlines,
+    })
+}
+
+// Returns the source line of the line record of an offset in a function.
+fn line_at<'l>(
+    file: &'l SymbolFile<'l>,
+    function: &Function<'l>,
+    offset: u64,
+) -> Option<SourceLine<'l>>
+    ensures { option_map source_of result
+        ≡ line_at (symbols_of file.now) (function_of function.now) offset }
+{
+    let record = function.line_at(offset)?;
+    Some(source_in(file, record.file, record.line))
+}
+
+// Returns the source line of the numbers of a file and a line.
+fn source_in<'l>(file: &'l SymbolFile<'l>, number: u32, line: u32) -> SourceLine<'l>
+    ensures { source_of result ≡ source_in (symbols_of file.now) number line }
+{
+    SourceLine {
+        file: file.file_name(number),
+        line,
+    }
+}
+
+// Returns the calls put in place at an offset of a function, by their depths from 0 on.
+fn calls_in(
+    alloc: Global,
+    function: &Function<'_>,
+    offset: u64,
+) -> Result<Vec<InlineCall>, AllocError>
+    ensures { IfOk result (λ calls. calls.items ≡ calls_in (function_of function.now) offset) }
+{
+    let calls = function.inlines_at(alloc, offset)?;
+    by_depth(alloc, &calls)
+}
+
+// Returns calls by their depths from 0 on.
+fn by_depth(alloc: Global, calls: &InlineCalls) -> Result<Vec<InlineCall>, AllocError>
+    ensures { IfOk result (λ ordered. ordered.items ≡ by_depth calls.now) }
+{
+    let mut ordered = Vec::new(alloc);
+    for depth in 0..MAX_DEPTH {
+        let Some(call) = calls.at_depth(depth) else {
+            return Ok(ordered);
+        };
+        ordered.push(call)?;
+    }
+    Ok(ordered)
+}
+
+// Returns calls with their source lines, the innermost first, and the source line around all of them.
+// The calls are given by their depths, and the innermost stands at the given line.
+fn inlines_by<'l>(
+    alloc: Global,
+    file: &'l SymbolFile<'l>,
+    innermost: Option<SourceLine<'l>>,
+    mut calls: Vec<InlineCall>,
+) -> Result<(Option<SourceLine<'l>>, Vec<InlinedCall<'l>>), AllocError>
+    ensures line { IfOk result (λ r. option_map source_of r.0
+        ≡ line_around (symbols_of file.now) (option_map source_of innermost.entry)
+        (reverse calls.items)) }
+    ensures inlines { IfOk result (λ r. map call_of r.1.items
+        ≡ inlines_by (symbols_of file.now) (option_map source_of innermost.entry)
+        (reverse calls.items)) }
+{
+    let mut line = innermost;
+    let mut inlines = Vec::new(alloc);
+    while let Some(call) = calls.pop() {
+        inlines.push(InlinedCall {
+            function: file.origin_name(call.origin),
+            source: line,
+        })?;
+        line = Some(source_in(file, call.file, call.line));
+    }
+    Ok((line, inlines))
+}

@@ -1,0 +1,139 @@
+ghost use Rattle.std.specs.Prelude.{◌≡◌, [], IfOk, map};
+ghost use Rattle.std.specs.Option.{option_copied, option_map};
+ghost use Rattle.crash.specs.Frames.{crash_walk_of};
+ghost use Rattle.crash.specs.Threads.{thread_value};
+ghost use Rattle.crash_symbols.specs.Backtraces.{backtrace_of};
+ghost use Rattle.crash_symbols.specs.NameParts.{named_of};
+ghost use Rattle.crash_symbols.specs.Shown.{shown_frame_of, shown_in, shown_of, symbolized_of};
+ghost use Rattle.crash_symbols.specs.Shown.{unnamed, unnamed_walk};
+
+use crate::{Backtrace, FrameFunction, InlinedCall, NamedFrame, SourceLine, Symbolized};
+use crash::{CrashFrame, CrashThread, CrashWalk};
+use std::alloc::{AllocError, Global};
+use symbol_walk::SymbolWalkEnd;
+
+/// A frame as it is shown, with its names where symbols say them.
+#[derive(Clone, Copy)]
+pub struct ShownFrame<'s, 'l> {
+    /// The frame.
+    pub frame: CrashFrame,
+    /// The function that the frame's address lies in.
+    pub function: Option<FrameFunction<'l>>,
+    /// The source line in that function.
+    pub line: Option<SourceLine<'l>>,
+    /// The calls that the compiler put in place there, the innermost first.
+    pub inlines: &'s [InlinedCall<'l>],
+}
+
+/// What is shown of a thread.
+#[derive(Drop)]
+pub struct ShownWalk<'s, 'l> {
+    /// The frames: that of the context, and then its callers.
+    pub frames: Vec<ShownFrame<'s, 'l>>,
+    /// The words of the stack after them that may be return addresses.
+    pub candidates: Vec<ShownFrame<'s, 'l>>,
+    /// Why the last of the frames has no caller.
+    pub end: SymbolWalkEnd,
+}
+
+/// Returns what is shown of a thread with its index: its backtrace by symbols, and without symbols its
+/// walk. `None` if it has none.
+pub fn shown_walk<'s, 'l: 's>(
+    alloc: Global,
+    thread: &CrashThread,
+    number: usize,
+    symbols: Option<&Symbolized<'s, 'l>>,
+) -> Result<Option<ShownWalk<'s, 'l>>, AllocError>
+    ensures { IfOk result (λ walk. option_map shown_of walk
+        ≡ shown_in (option_map symbolized_of (option_copied symbols.entry)) number
+        (thread_value thread.now)) }
+{
+    match symbols {
+        Some(symbols) => match symbols.backtraces.threads.get(number) {
+            Some(Some(backtrace)) => Ok(Some(named_walk(alloc, backtrace)?)),
+            Some(None) | None => Ok(None),
+        },
+        None => match &thread.walk {
+            Some(walk) => Ok(Some(unnamed_walk(alloc, walk)?)),
+            None => Ok(None),
+        },
+    }
+}
+
+// Returns what is shown of a backtrace.
+fn named_walk<'s, 'l>(
+    alloc: Global,
+    backtrace: &'s Backtrace<'l>,
+) -> Result<ShownWalk<'s, 'l>, AllocError>
+    ensures { IfOk result (λ walk. shown_of walk ≡ backtrace_of backtrace.now) }
+{
+    let frames = named_frames(alloc, backtrace.frames.as_slice())?;
+    let candidates = named_frames(alloc, backtrace.candidates.as_slice())?;
+    Ok(ShownWalk {
+        frames,
+        candidates,
+        end: backtrace.end,
+    })
+}
+
+// Returns what is shown of frames with their names.
+fn named_frames<'s, 'l>(
+    alloc: Global,
+    frames: &'s [NamedFrame<'l>],
+) -> Result<Vec<ShownFrame<'s, 'l>>, AllocError>
+    ensures { IfOk result (λ shown. map shown_frame_of shown.items ≡ map named_of frames.now) }
+{
+    let mut shown = Vec::new(alloc);
+    for named in frames {
+        shown.push(ShownFrame {
+            frame: named.frame,
+            function: named.function,
+            line: named.line,
+            inlines: named.inlines.as_slice(),
+        })?;
+    }
+    Ok(shown)
+}
+
+// Returns what is shown of a walk without symbols.
+fn unnamed_walk<'s, 'l: 's>(
+    alloc: Global,
+    walk: &CrashWalk,
+) -> Result<ShownWalk<'s, 'l>, AllocError>
+    ensures { IfOk result (λ shown. shown_of shown ≡ unnamed_walk (crash_walk_of walk.now)) }
+{
+    let frames = unnamed_frames(alloc, walk.frames.as_slice())?;
+    let candidates = unnamed_frames(alloc, walk.candidates.as_slice())?;
+    Ok(ShownWalk {
+        frames,
+        candidates,
+        end: SymbolWalkEnd::Walk(walk.end),
+    })
+}
+
+// Returns what is shown of frames without names.
+fn unnamed_frames<'s, 'l: 's>(
+    alloc: Global,
+    frames: &[CrashFrame],
+) -> Result<Vec<ShownFrame<'s, 'l>>, AllocError>
+    ensures { IfOk result (λ shown. map shown_frame_of shown.items ≡ map unnamed frames.now) }
+{
+    let none: &'s [InlinedCall<'l>] = no_calls();
+    let mut shown = Vec::new(alloc);
+    for frame in frames {
+        shown.push(ShownFrame {
+            frame: *frame,
+            function: None,
+            line: None,
+            inlines: none,
+        })?;
+    }
+    Ok(shown)
+}
+
+// Returns no calls.
+fn no_calls<'s, 'l: 's>() -> &'s [InlinedCall<'l>]
+    ensures { result.now ≡ [] }
+{
+    &[]
+}

@@ -1,0 +1,116 @@
+ghost use Rattle.std.specs.Prelude.{◌≡◌, ◌&&◌, ◌||◌, ◌<◌, ℕ, IfOk, false, length, map, slice_index_or};
+ghost use Rattle.std.specs.List.{list_any};
+ghost use Rattle.std.specs.Option.{option_map};
+ghost use Rattle.crash.specs.Crash.{crash_of};
+ghost use Rattle.crash_symbols.specs.Backtraces.{backtrace_of, backtraces_of};
+ghost use Rattle.crash_symbols.specs.NameParts.{named_of};
+ghost use Rattle.crash_symbols.specs.Symbols.{known_of};
+ghost use Rattle.crash_symbols.specs.Wanted.{is_in, is_unwanted, lies_in, visits, wanted_in};
+
+use crate::{Backtrace, Backtraces, NamedFrame, SymbolState, Symbols};
+use crash::Crash;
+use std::alloc::{AllocError, Global};
+
+impl Backtraces<'_> {
+    /// Returns the indices of the modules whose symbol files are wanted, ascending: a frame or a
+    /// candidate lies in the module, and nothing is known of the file.
+    pub fn wanted(
+        &self,
+        alloc: Global,
+        crash: &Crash<'_>,
+        symbols: &Symbols<'_>,
+    ) -> Result<Vec<usize>, AllocError>
+        ensures { IfOk result (λ wanted. wanted.items ≡ wanted_in (backtraces_of self.now)
+            (known_of symbols.now).states (length (crash_of crash.now).modules.loaded)) }
+    {
+        wanted_of(
+            alloc,
+            self.threads.as_slice(),
+            symbols,
+            crash.modules.loaded.len(),
+        )
+    }
+}
+
+// Returns the indices of the modules, of so many, whose symbol files are wanted.
+fn wanted_of(
+    alloc: Global,
+    threads: &[Option<Backtrace<'_>>],
+    symbols: &Symbols<'_>,
+    count: usize,
+) -> Result<Vec<usize>, AllocError>
+    ensures { IfOk result (λ wanted. wanted.items
+        ≡ wanted_in (map (option_map backtrace_of) threads.now) (known_of symbols.now).states count) }
+{
+    let visited = visited(alloc, threads, count)?;
+    let mut wanted = Vec::new(alloc);
+    for (index, is_visited) in visited.iter().enumerate() {
+        if is_wanted(symbols.state(index), *is_visited) {
+            wanted.push(index)?;
+        }
+    }
+    Ok(wanted)
+}
+
+// Tells whether the symbol file of a module is wanted, by whether a frame lies in it.
+fn is_wanted(state: SymbolState, is_visited: bool) -> bool
+    ensures { result ≡ (is_unwanted state && is_visited) }
+{
+    match state {
+        SymbolState::Unwanted => is_visited,
+        SymbolState::Missing
+        | SymbolState::Loaded
+        | SymbolState::Corrupt
+        | SymbolState::OutOfMemory => false,
+    }
+}
+
+// Tells of each of so many modules whether a frame or a candidate lies in it.
+fn visited(
+    alloc: Global,
+    threads: &[Option<Backtrace<'_>>],
+    count: usize,
+) -> Result<Vec<bool>, AllocError>
+    ensures len { IfOk result (λ marks. length marks.items ≡ count) }
+    ensures marks { IfOk result (λ marks. (k : ℕ) → k < count → slice_index_or marks.items k false
+        ≡ list_any (visits k) (map (option_map backtrace_of) threads.now)) }
+{
+    let mut marks = vec![in alloc; false; count]?;
+    for thread in threads {
+        mark_thread(marks.as_mut_slice(), thread);
+    }
+    Ok(marks)
+}
+
+// Marks the modules in which frames or candidates of a thread lie.
+fn mark_thread(marks: &mut [bool], thread: &Option<Backtrace<'_>>)
+    ensures { (k : ℕ) → k < length marks.old → slice_index_or marks.new k false
+        ≡ (slice_index_or marks.old k false || visits k (option_map backtrace_of thread.now)) }
+{
+    if let Some(backtrace) = thread {
+        mark_frames(marks, backtrace.frames.as_slice());
+        mark_frames(marks, backtrace.candidates.as_slice());
+    }
+}
+
+// Marks the modules in which frames lie.
+fn mark_frames(marks: &mut [bool], frames: &[NamedFrame<'_>])
+    ensures { (k : ℕ) → k < length marks.old → slice_index_or marks.new k false
+        ≡ (slice_index_or marks.old k false || list_any (lies_in k) (map named_of frames.now)) }
+{
+    for named in frames {
+        mark_place(marks, named.frame.module);
+    }
+}
+
+// Marks the module of a place.
+fn mark_place(marks: &mut [bool], place: Option<(usize, u64)>)
+    ensures { (k : ℕ) → k < length marks.old → slice_index_or marks.new k false
+        ≡ (slice_index_or marks.old k false || is_in k place) }
+{
+    if let Some((index, _)) = place {
+        if index < marks.len() {
+            marks[index] = true;
+        }
+    }
+}
