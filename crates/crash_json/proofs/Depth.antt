@@ -1,9 +1,13 @@
--- A line nests seven levels deep at most.
-use Rattle.std.proofs.Common.{◌≤◌, ◌++◌, ℕ, List, [], ◌∷◌, Option, Some, None, Result, Ok, Err, arith, length, map, string_bytes, take}
+-- A line nests seven levels deep at most, but for its soft errors, which nest no deeper than they may.
+use Rattle.std.proofs.Common.{◌≡◌, ◌≤◌, ◌++◌, ℕ, Bool, false, true, List, [], ◌∷◌, Option, Some, None, Result, Ok, Err, arith, length, map, refl, string_bytes, take}
+use Rattle.std.specs.Prelude.{unwrap_or}
 use Rattle.std.specs.Option.{option_and_then, option_map}
 use Rattle.std.specs.Result.{result_ok}
-use Rattle.json.specs.Json.{Json, max_depth, string}
+use Rattle.json.specs.Json.{Json, if_last, max_depth, string, value}
+use Rattle.json.specs.Lex.{tokens}
+use Rattle.json.specs.Token.{Token}
 use Rattle.json.specs.Tree.{depth, members_depth}
+use Rattle.json.proofs.Nesting.{value-depth}
 use Rattle.minidump.specs.declared.Error.{Error}
 use Rattle.minidump.specs.declared.format.MINIDUMP_ASSERTION_INFO.{MINIDUMP_ASSERTION_INFO}
 use Rattle.minidump.specs.Below.Format.Error.{name_of_error}
@@ -20,27 +24,42 @@ use Rattle.crash.specs.declared.damage.Damage.TheVariants.{Exception, ExceptionC
 use Rattle.crash.specs.declared.directory.StreamEntry.{StreamEntry}
 use Rattle.crash.specs.declared.frames.CrashFrame.{CrashFrame}
 use Rattle.crash.specs.declared.contexts.ShortContext.{ShortContext}
+use Rattle.crash.specs.declared.point.StackWord.{StackWord}
 use Rattle.crash.specs.declared.stacks.StackRange.{StackRange}
 use Rattle.crash.specs.Cause.{ExceptionValue}
 use Rattle.crash.specs.Contexts.{ContextValue}
 use Rattle.crash.specs.Crash.{CrashValue}
 use Rattle.crash.specs.Modules.{LoadedValue, UnloadedModuleValue}
+use Rattle.crash.specs.Point.{PointValue}
 use Rattle.crash.specs.Process.{SystemValue}
 use Rattle.crash.specs.Release.{ReleaseValue}
 use Rattle.crash.specs.Threads.{ThreadValue, ThreadsValue}
+use Rattle.crash_symbols.specs.declared.symbols.SymbolState.{SymbolState}
+use Rattle.crash_symbols.specs.Names.{CallValue, NamedFrameValue}
+use Rattle.crash_symbols.specs.Shown.{SymbolizedValue}
 use Rattle.json_tree.specs.Tree.{array_of, count, hex_string, members_of, object_of, or_null}
 use Rattle.json_tree.proofs.Depth.{array_within, flat_count, flat_hex, flat_text, numbered_array_within, or_null_within}
 use Rattle.crash_json.specs.declared.JsonLimits.{JsonLimits}
 use Rattle.crash_json.specs.Cause.{address_json, address_object, crash_info_json, crash_object, exception_json, exception_object, exceptions_json, memory_json, memory_object, sender_json, sender_object, unread_object}
 use Rattle.crash_json.specs.Crashpad.{annotation_json, annotations_json, crashpad_json, crashpad_module_json, crashpad_modules_json, objects_json, texts_json}
-use Rattle.crash_json.specs.Frames.{frame_json, frame_object, register_members, registers_json}
+use Rattle.crash_json.specs.Frames.{frame_json, frame_object, inline_json, inline_object, inlines_json, name_members, name_object, place_members, register_members, registers_json}
 use Rattle.crash_json.specs.Minidump.{all_damage_json, damage_json, damage_object, minidump_json, minidump_object, region_object, region_json, regions_json, stream_json, stream_object, streams_json}
-use Rattle.crash_json.specs.Modules.{all_unloaded_json, main_module, module_json, modules_json, unloaded_json}
+use Rattle.crash_json.specs.Modules.{all_unloaded_json, main_module, module_json, module_object, modules_json, state_object, symbol_members, unloaded_json}
+use Rattle.crash_json.specs.Point.{code_json, flags_json, point_json, word_json, word_object, words_json}
 use Rattle.crash_json.specs.Records.{assertion_json, assertion_object, handle_json, handle_object, handles_json, mac_crash_json, mac_members, mac_object, mac_record_json}
 use Rattle.crash_json.specs.Report.{all_members, crash_members, error_json, json_of, path_members, process_members, process_object, record_members, record_object}
 use Rattle.crash_json.specs.Report as report
+use Rattle.crash_json.specs.SoftErrors.{soft_depth, soft_json}
 use Rattle.crash_json.specs.System.{release_json, system_json, system_object}
 use Rattle.crash_json.specs.Threads.{crashing_json, indexed_crashed, indexed_json, range_json, short_json, thread_json, thread_members, thread_object, threads_json}
+
+-- ---- members
+
+-- members after others
+both_within : (a b : List (List ℕ × Json)) (bound : ℕ) → members_depth (members_of a) ≤ bound → members_depth (members_of b) ≤ bound
+    → members_depth (members_of (a ++ b)) ≤ bound
+both_within [] b bound first second = second
+both_within (m ∷ a) b bound first second = omega (arith, both_within a b bound (omega arith) second)
 
 -- ---- the system, the crash and the modules
 
@@ -62,13 +81,25 @@ crash_object_depth reason address thread assertion = omega (arith, flat_text rea
 crash_info_depth : (c : CrashValue) → depth (crash_info_json c) ≤ 1
 crash_info_depth c = crash_object_depth _ _ _ _
 
-module_depth : (m : LoadedValue) → depth (module_json m) ≤ 1
-unfolding module_json
-module_depth m = omega (arith, flat_hex m.end, flat_text m.code_id, flat_text m.debug_file, flat_text m.debug_id, flat_text m.version)
+module_object_depth : (m : LoadedValue) → members_depth (members_of (module_object m)) ≤ 0
+unfolding module_object
+module_object_depth m = omega (arith, flat_hex m.end, flat_text m.code_id, flat_text m.debug_file, flat_text m.debug_id, flat_text m.version)
 
-modules_depth : (ms : List LoadedValue) → depth (modules_json ms) ≤ 2
+state_object_depth : (state : SymbolState) → members_depth (members_of (state_object state)) ≤ 0
+unfolding state_object
+state_object_depth state = omega arith
+
+symbol_members_depth : (symbols : Option SymbolizedValue) (index : ℕ) → members_depth (members_of (symbol_members symbols index)) ≤ 0
+symbol_members_depth None index = omega arith
+symbol_members_depth (Some s) index = state_object_depth _
+
+module_depth : (symbols : Option SymbolizedValue) (index : ℕ) (m : LoadedValue) → depth (module_json symbols index m) ≤ 1
+module_depth symbols index m =
+    omega (arith, both_within (module_object m) (symbol_members symbols index) 0 (module_object_depth m) (symbol_members_depth symbols index))
+
+modules_depth : (symbols : Option SymbolizedValue) (ms : List LoadedValue) → depth (modules_json symbols ms) ≤ 2
 unfolding modules_json
-modules_depth ms = array_within module_json 1 ms module_depth
+modules_depth symbols ms = numbered_array_within (module_json symbols) 1 ms (module_depth symbols)
 
 unloaded_depth : (m : UnloadedModuleValue) → depth (unloaded_json m) ≤ 1
 unfolding unloaded_json
@@ -88,13 +119,34 @@ registers_depth : (c : ContextValue) → depth (registers_json c) ≤ 1
 registers_depth c = omega (arith, fields_within c.registers)
 
 frame_object_depth : (number : ℕ) (trust : List ℕ) (file : Option (List ℕ)) (offset : Option ℕ) (f : CrashFrame) (context : Option ContextValue)
-    → depth (frame_object number trust file offset f context) ≤ 2
+    → members_depth (members_of (frame_object number trust file offset f context)) ≤ 1
 unfolding frame_object
 frame_object_depth number trust file offset f context =
     omega (arith, flat_text file, flat_hex offset, flat_hex f.address, flat_hex f.frame_pointer, or_null_within registers_json 1 context registers_depth)
 
-frame_depth : (modules : List LoadedValue) (context : Option ContextValue) (number : ℕ) (f : CrashFrame) → depth (frame_json modules context number f) ≤ 2
-frame_depth modules context number f = frame_object_depth _ _ _ _ _ _
+inline_object_depth : (function file : Option (List ℕ)) (line : Option ℕ) → depth (inline_object function file line) ≤ 1
+unfolding inline_object
+inline_object_depth function file line = omega (arith, flat_text function, flat_text file, flat_count line)
+
+inlines_depth : (calls : List CallValue) → depth (inlines_json calls) ≤ 2
+unfolding inlines_json
+inlines_depth calls = array_within inline_json 1 calls (λ c. inline_object_depth _ _ _)
+
+name_object_depth : (function : Option (List ℕ)) (offset : Option ℕ) (file : Option (List ℕ)) (line : Option ℕ) (inlines : List CallValue) (is_missing : Bool)
+    → members_depth (members_of (name_object function offset file line inlines is_missing)) ≤ 2
+unfolding name_object
+name_object_depth function offset file line inlines is_missing =
+    omega (arith, flat_text function, flat_hex offset, flat_text file, flat_count line, inlines_depth inlines)
+
+name_members_depth : (has_symbols : Bool) (f : NamedFrameValue) → members_depth (members_of (name_members has_symbols f)) ≤ 2
+name_members_depth true f = name_object_depth _ _ _ _ _ _
+name_members_depth false f = omega arith
+
+frame_depth : (modules : List LoadedValue) (context : Option ContextValue) (has_symbols : Bool) (number : ℕ) (f : NamedFrameValue)
+    → depth (frame_json modules context has_symbols number f) ≤ 3
+frame_depth modules context has_symbols number f =
+    let place : members_depth (members_of (place_members modules context number f.frame)) ≤ 1 = frame_object_depth _ _ _ _ _ _ in
+    omega (arith, both_within (place_members modules context number f.frame) (name_members has_symbols f) 2 (omega (arith, place)) (name_members_depth has_symbols f))
 
 range_depth : (r : StackRange) → depth (range_json r) ≤ 1
 unfolding range_json
@@ -105,10 +157,10 @@ unfolding short_json
 short_depth s = omega arith
 
 thread_object_depth : (t : ThreadValue) (problem ended : Option (List ℕ)) (short : Option ShortContext) (frame_count : ℕ) (modules : List LoadedValue)
-    (context : Option ContextValue) (frames : List CrashFrame)
-    → members_depth (members_of (thread_object t problem ended short frame_count modules context frames)) ≤ 3
+    (context : Option ContextValue) (has_symbols : Bool) (frames : List NamedFrameValue)
+    → members_depth (members_of (thread_object t problem ended short frame_count modules context has_symbols frames)) ≤ 4
 unfolding thread_object
-thread_object_depth t problem ended short frame_count modules context frames =
+thread_object_depth t problem ended short frame_count modules context has_symbols frames =
     omega (
       arith,
       flat_text t.name,
@@ -118,26 +170,30 @@ thread_object_depth t problem ended short frame_count modules context frames =
       flat_text problem,
       flat_text ended,
       or_null_within short_json 1 short short_depth,
-      numbered_array_within (frame_json modules context) 2 frames (frame_depth modules context),
+      numbered_array_within (frame_json modules context has_symbols) 3 frames (frame_depth modules context has_symbols),
     )
 
-thread_members_depth : (limit : ℕ) (modules : List LoadedValue) (context : Option ContextValue) (t : ThreadValue)
-    → members_depth (members_of (thread_members limit modules context t)) ≤ 3
-thread_members_depth limit modules context t = thread_object_depth t _ _ _ _ modules context _
+thread_members_depth : (limit : ℕ) (symbols : Option SymbolizedValue) (modules : List LoadedValue) (context : Option ContextValue) (number : ℕ) (t : ThreadValue)
+    → members_depth (members_of (thread_members limit symbols modules context number t)) ≤ 4
+thread_members_depth limit symbols modules context number t = thread_object_depth t _ _ _ _ modules context _ _
 
-thread_depth : (limit : ℕ) (modules : List LoadedValue) (t : ThreadValue) → depth (thread_json limit modules t) ≤ 4
-thread_depth limit modules t = omega (arith, thread_members_depth limit modules None t)
+thread_depth : (limit : ℕ) (symbols : Option SymbolizedValue) (modules : List LoadedValue) (number : ℕ) (t : ThreadValue)
+    → depth (thread_json limit symbols modules number t) ≤ 5
+thread_depth limit symbols modules number t = omega (arith, thread_members_depth limit symbols modules None number t)
 
-threads_depth : (limit : ℕ) (modules : List LoadedValue) (ts : List ThreadValue) → depth (threads_json limit modules ts) ≤ 5
+threads_depth : (limit : ℕ) (symbols : Option SymbolizedValue) (modules : List LoadedValue) (ts : List ThreadValue)
+    → depth (threads_json limit symbols modules ts) ≤ 6
 unfolding threads_json
-threads_depth limit modules ts = array_within (thread_json limit modules) 4 ts (thread_depth limit modules)
+threads_depth limit symbols modules ts = numbered_array_within (thread_json limit symbols modules) 5 ts (thread_depth limit symbols modules)
 
-indexed_depth : (limit : ℕ) (modules : List LoadedValue) (index : ℕ) (t : ThreadValue) → depth (indexed_json limit modules index t) ≤ 4
-indexed_depth limit modules index t = omega (arith, thread_members_depth limit modules t.context t)
+indexed_depth : (limit : ℕ) (symbols : Option SymbolizedValue) (modules : List LoadedValue) (index : ℕ) (t : ThreadValue)
+    → depth (indexed_json limit symbols modules index t) ≤ 5
+indexed_depth limit symbols modules index t = omega (arith, thread_members_depth limit symbols modules t.context index t)
 
-crashing_depth : (limit : ℕ) (modules : List LoadedValue) (t : ThreadsValue) → depth (crashing_json limit modules t) ≤ 4
-crashing_depth limit modules t =
-    or_null_within (λ p. indexed_json limit modules p.0 p.1) 4 (indexed_crashed t) (λ p. indexed_depth limit modules p.0 p.1)
+crashing_depth : (limit : ℕ) (symbols : Option SymbolizedValue) (modules : List LoadedValue) (t : ThreadsValue)
+    → depth (crashing_json limit symbols modules t) ≤ 5
+crashing_depth limit symbols modules t =
+    or_null_within (λ p. indexed_json limit symbols modules p.0 p.1) 5 (indexed_crashed t) (λ p. indexed_depth limit symbols modules p.0 p.1)
 
 -- ---- records
 
@@ -283,76 +339,117 @@ all_damage_depth : (ds : List Damage) → depth (all_damage_json ds) ≤ 2
 unfolding all_damage_json
 all_damage_depth ds = array_within damage_json 1 ds damage_depth
 
-minidump_object_depth : (c : CrashValue) (written : Option ℕ) (status : ℕ) (origin : Option (List ℕ)) → depth (minidump_object c written status origin) ≤ 6
+word_object_depth : (w : StackWord) (index offset : Option ℕ) → depth (word_object w index offset) ≤ 1
+unfolding word_object
+word_object_depth w index offset = omega (arith, flat_count index, flat_hex offset)
+
+words_depth : (ws : List StackWord) → depth (words_json ws) ≤ 2
+unfolding words_json
+words_depth ws = array_within word_json 1 ws (λ w. word_object_depth w _ _)
+
+code_depth : (bytes : List ℕ) → depth (code_json bytes) ≤ 1
+unfolding code_json
+code_depth bytes = array_within count 0 bytes (λ b. omega arith)
+
+flags_depth : (flags : List (List ℕ × ℕ)) → depth (flags_json flags) ≤ 1
+flags_depth flags = omega (arith, fields_within flags)
+
+point_depth : (p : PointValue) → depth (point_json p) ≤ 3
+unfolding point_json
+point_depth p =
+    let instruction : depth (address_json p.instruction) ≤ 2 = address_object_depth p.instruction _ _ in
+    omega (arith, instruction, code_depth p.code, words_depth p.words, flags_depth p.flags)
+
+minidump_object_depth : (c : CrashValue) (written : Option ℕ) (status : ℕ) (origin signature : Option (List ℕ))
+    → depth (minidump_object c written status origin signature) ≤ 6
 unfolding minidump_object
-minidump_object_depth c written status origin =
+minidump_object_depth c written status origin signature =
     omega (
       arith,
       flat_count written,
       flat_count c.process.uptime,
+      flat_text c.process.command_line,
+      flat_text c.process.comments.narrow,
+      flat_text c.process.comments.wide,
       streams_depth c.directory.entries,
       regions_depth (unified_regions c.contents.space.memory),
       all_damage_depth c.damage,
       or_null_within address_json 2 c.cause.address (λ a. address_object_depth a _ _),
+      or_null_within point_json 3 c.point point_depth,
       exceptions_depth c.cause.exceptions,
       flat_count c.cause.counts,
+      flat_text signature,
       flat_text origin,
       or_null_within assertion_json 1 (result_ok c.contents.messages.assertion) (λ a. assertion_object_depth _ _ _ _ _),
       or_null_within crashpad_json 5 (result_ok c.contents.messages.crashpad) crashpad_depth,
     )
 
-minidump_depth : (c : CrashValue) → depth (minidump_json c) ≤ 6
-minidump_depth c = minidump_object_depth c _ _ _
+minidump_depth : (symbols : Option SymbolizedValue) (c : CrashValue) → depth (minidump_json symbols c) ≤ 6
+minidump_depth symbols c = minidump_object_depth c _ _ _ _
+
+-- ---- the soft errors
+
+read_within : (text : List ℕ) (read : Option (Json × List Token)) → value soft_depth (tokens text) ≡ read
+    → depth (unwrap_or (option_and_then (λ p. if_last p.0 p.1) read) (string text)) ≤ soft_depth
+read_within text None is = omega arith
+read_within text (Some (j, [])) is = value-depth soft_depth (tokens text) [] j is
+read_within text (Some (j, t ∷ ts)) is = omega arith
+
+soft_within : (text : List ℕ) → depth (soft_json text) ≤ soft_depth
+unfolding soft_json
+soft_within text = read_within text (value soft_depth (tokens text)) refl
 
 -- ---- all of it
 
-crash_within : (c : CrashValue) (main : Option ℕ) → members_depth (members_of (report.crash_object c main)) ≤ 6
+crash_within : (symbols : Option SymbolizedValue) (c : CrashValue) (main : Option ℕ) → members_depth (members_of (report.crash_object symbols c main)) ≤ soft_depth
 unfolding report.crash_object
-crash_within c main =
+crash_within symbols c main =
     omega (
       arith,
       or_null_within system_json 1 c.process.system system_depth,
       crash_info_depth c,
       flat_count main,
-      modules_depth c.modules.loaded,
+      modules_depth symbols c.modules.loaded,
       all_unloaded_depth c.modules.unloaded,
     )
 
-process_within : (limit : ℕ) (c : CrashValue) (id : Option ℕ) (threads : ℕ) → members_depth (members_of (process_object limit c id threads)) ≤ 6
+process_within : (limit : ℕ) (symbols : Option SymbolizedValue) (c : CrashValue) (id : Option ℕ) (threads : ℕ)
+    → members_depth (members_of (process_object limit symbols c id threads)) ≤ soft_depth
 unfolding process_object
-process_within limit c id threads =
-    omega (arith, flat_count id, threads_depth limit c.modules.loaded c.threads.threads, crashing_depth limit c.modules.loaded c.threads)
+process_within limit symbols c id threads =
+    omega (
+      arith,
+      flat_count id,
+      threads_depth limit symbols c.modules.loaded c.threads.threads,
+      crashing_depth limit symbols c.modules.loaded c.threads,
+    )
 
-record_within : (c : CrashValue) (boot_args soft_errors : Option (List ℕ)) → members_depth (members_of (record_object c boot_args soft_errors)) ≤ 6
+record_within : (symbols : Option SymbolizedValue) (c : CrashValue) (boot_args soft_errors : Option (List ℕ))
+    → members_depth (members_of (record_object symbols c boot_args soft_errors)) ≤ soft_depth
 unfolding record_object
-record_within c boot_args soft_errors =
+record_within symbols c boot_args soft_errors =
     omega (
       arith,
       or_null_within release_json 1 c.process.release release_depth,
       or_null_within mac_crash_json 3 (result_ok c.contents.messages.mac_crash_info) (λ rs. mac_depth _ rs),
       flat_text boot_args,
       or_null_within handles_json 2 (result_ok c.contents.process.handles) handles_depth,
-      flat_text soft_errors,
+      or_null_within soft_json soft_depth soft_errors soft_within,
       flat_count c.contents.space.map_count,
-      minidump_depth c,
+      minidump_depth symbols c,
     )
 
-path_within : (path : Option (List ℕ)) → members_depth (members_of (path_members path)) ≤ 6
+path_within : (path : Option (List ℕ)) → members_depth (members_of (path_members path)) ≤ soft_depth
 path_within None = omega arith
 path_within (Some path) = omega arith
 
--- members after others
-both_within : (a b : List (List ℕ × Json)) (bound : ℕ) → members_depth (members_of a) ≤ bound → members_depth (members_of b) ≤ bound
-    → members_depth (members_of (a ++ b)) ≤ bound
-both_within [] b bound first second = second
-both_within (m ∷ a) b bound first second = omega (arith, both_within a b bound (omega arith) second)
-
-pub line_depth : (limits : JsonLimits) (path : Option (List ℕ)) (c : CrashValue) → depth (json_of limits path c) ≤ max_depth
-line_depth limits path c =
-    let records : members_depth (members_of (record_members c)) ≤ 6 = record_within c _ _ in
-    let all = both_within (path_members path) _ 6 (path_within path)
-    (both_within (crash_members c) _ 6 (crash_within c _)
-    (both_within (process_members limits.frames c) (record_members c) 6 (process_within limits.frames c _ _) records)) in
+pub line_depth : (limits : JsonLimits) (path : Option (List ℕ)) (symbols : Option SymbolizedValue) (c : CrashValue)
+    → depth (json_of limits path symbols c) ≤ max_depth
+line_depth limits path symbols c =
+    let records : members_depth (members_of (record_members symbols c)) ≤ soft_depth = record_within symbols c _ _ in
+    let all = both_within (path_members path) _ soft_depth (path_within path)
+    (both_within (crash_members symbols c) _ soft_depth (crash_within symbols c _)
+    (both_within (process_members limits.frames symbols c) (record_members symbols c) soft_depth (process_within limits.frames symbols c _ _) records)) in
     omega (arith, all)
 
 pub error_depth : (path status : List ℕ) → depth (error_json path status) ≤ max_depth

@@ -1,2 +1,4 @@
 -- How deep the values nest.
 pub mod Depth
+pub mod NumberedLemmas
+pub mod SignatureLemmas

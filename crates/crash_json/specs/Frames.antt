@@ -1,18 +1,21 @@
 -- The frames of a thread as JSON.
-use Rattle.std.specs.Prelude.{ℕ, ◌==◌, List, [], ◌∷◌, codes, map, slice_get, Option, None}
-use Rattle.std.specs.Prelude.{if◌then◌else◌}
+use Rattle.std.specs.Prelude.{ℕ, ◌==◌, ◌++◌, Bool, false, true, List, [], ◌∷◌, codes, is_none, map}
+use Rattle.std.specs.Prelude.{Option, None, if◌then◌else◌, slice_get}
 use Rattle.std.specs.Option.{option_and_then, option_map}
-use Rattle.json.specs.Json.{Json, string}
+use Rattle.std.specs.Str.Lossy.{utf8_lossy}
+use Rattle.json.specs.Json.{Json, boolean, string}
 use Rattle.stack_walk.specs.declared.frame.FrameTrust.{FrameTrust}
-use Rattle.stack_walk.specs.declared.frame.FrameTrust.TheVariants.{Context, FramePointer, Scan}
+use Rattle.stack_walk.specs.declared.frame.FrameTrust.TheVariants.{Context, Cfi, FramePointer, Scan}
 use Rattle.crash.specs.declared.frames.CrashFrame.{CrashFrame}
 use Rattle.crash.specs.Contexts.{ContextValue}
 use Rattle.crash.specs.Modules.{LoadedValue}
-use Rattle.json_tree.specs.Tree.{count, hex_string, object_of, or_null}
+use Rattle.crash_symbols.specs.Names.{CallValue, NamedFrameValue, SourceValue}
+use Rattle.json_tree.specs.Tree.{array_of, count, hex_string, object_of, or_null}
 
 -- the word for how a frame was found
 abbrev pub trust_name : FrameTrust → List ℕ
 trust_name Context = codes "context"
+trust_name Cfi = codes "cfi"
 trust_name FramePointer = codes "frame_pointer"
 trust_name Scan = codes "scan"
 
@@ -33,11 +36,11 @@ file_at modules place =
 abbrev pub of_first : ℕ → Option ContextValue → Option ContextValue
 of_first number context = if number == 0 then context else None
 
--- a frame by its number, the word for its trust, the file of its module, the offset in that, and
--- its registers
+-- the members of a frame by its number, the word for its trust, the file of its module, the offset in
+-- that, and its registers
 unfoldable pub frame_object : ℕ → List ℕ → Option (List ℕ) → Option ℕ → CrashFrame
-    → Option ContextValue → Json
-frame_object number trust file offset f context = object_of (
+    → Option ContextValue → List (List ℕ × Json)
+frame_object number trust file offset f context =
     (codes "frame", count number)
     ∷ (codes "trust", string trust)
     ∷ (codes "module", or_null string file)
@@ -47,9 +50,66 @@ frame_object number trust file offset f context = object_of (
     ∷ (codes "stack_pointer", hex_string f.stack_pointer)
     ∷ (codes "frame_pointer", or_null hex_string f.frame_pointer)
     ∷ (codes "registers", or_null registers_json context)
+    ∷ []
+
+-- those of a frame by its number, with the registers of the first one, where these are shown
+abbrev pub place_members : List LoadedValue → Option ContextValue → ℕ → CrashFrame
+    → List (List ℕ × Json)
+place_members modules context number f = frame_object number (trust_name f.trust)
+    (file_at modules f.module) (option_map (λ p. p.1) f.module) f (of_first number context)
+
+-- ---- names
+
+-- a text that Linux wrote, where there is one: what isn't UTF-8 is U+FFFD
+abbrev pub lossy : Option (List ℕ) → Option (List ℕ)
+lossy text = option_map utf8_lossy text
+
+-- the name of the file of a source line
+abbrev pub source_file : Option SourceValue → Option (List ℕ)
+source_file source = option_and_then (λ s. s.file) source
+
+-- the number of a source line
+abbrev pub source_line : Option SourceValue → Option ℕ
+source_line source = option_map (λ s. s.line) source
+
+-- a call that the compiler put in place, by the names of the function and of the source file
+unfoldable pub inline_object : Option (List ℕ) → Option (List ℕ) → Option ℕ → Json
+inline_object function file line = object_of (
+    (codes "function", or_null string function)
+    ∷ (codes "file", or_null string file)
+    ∷ (codes "line", or_null count line)
     ∷ [])
 
--- a frame by its number, with the registers of the first one, where these are shown
-abbrev pub frame_json : List LoadedValue → Option ContextValue → ℕ → CrashFrame → Json
-frame_json modules context number f = frame_object number (trust_name f.trust)
-    (file_at modules f.module) (option_map (λ p. p.1) f.module) f (of_first number context)
+-- the same by the value
+abbrev pub inline_json : CallValue → Json
+inline_json c =
+    inline_object (lossy c.function) (lossy (source_file c.source)) (source_line c.source)
+
+-- the calls put in place at a frame
+unfoldable pub inlines_json : List CallValue → Json
+inlines_json calls = array_of inline_json calls
+
+-- the members of a frame's names, by those of its function and of its source file, and whether it has
+-- no function
+unfoldable pub name_object : Option (List ℕ) → Option ℕ → Option (List ℕ) → Option ℕ
+    → List CallValue → Bool → List (List ℕ × Json)
+name_object function offset file line inlines is_missing =
+    (codes "function", or_null string function)
+    ∷ (codes "function_offset", or_null hex_string offset)
+    ∷ (codes "file", or_null string file)
+    ∷ (codes "line", or_null count line)
+    ∷ (codes "inlines", inlines_json inlines)
+    ∷ (codes "missing_symbols", boolean is_missing)
+    ∷ []
+
+-- those of a frame's names, where symbols are known
+abbrev pub name_members : Bool → NamedFrameValue → List (List ℕ × Json)
+name_members true f = name_object (lossy (option_map (λ g. g.name) f.function))
+    (option_map (λ g. g.offset) f.function) (lossy (source_file f.line)) (source_line f.line)
+    f.inlines (is_none f.function)
+name_members false f = []
+
+-- a frame by its number, with its names where symbols are known
+abbrev pub frame_json : List LoadedValue → Option ContextValue → Bool → ℕ → NamedFrameValue → Json
+frame_json modules context has_symbols number f = object_of (
+    place_members modules context number f.frame ++ name_members has_symbols f)

@@ -4,8 +4,11 @@ pub mod Cause
 pub mod Modules
 pub mod Frames
 pub mod Threads
+pub mod Signature
 pub mod Records
 pub mod Crashpad
+pub mod Point
 pub mod Minidump
+pub mod SoftErrors
 pub mod Members
 pub mod Report

@@ -11,6 +11,8 @@ use Rattle.minidump.specs.Below.Records.Record.{mac_record_of}
 use Rattle.crash.specs.Contexts.{context_of}
 use Rattle.crash.specs.Crash.{crash_of}
 use Rattle.crash.specs.Modules.{loaded_of}
+use Rattle.crash_symbols.specs.NameParts.{call_of}
+use Rattle.crash_symbols.specs.Shown.{shown_frame_of, symbolized_of}
 use Rattle.json_tree.specs.Tree.{array_of, hex_string, numbered_array_of, or_null, scalar_json}
 use Rattle.crash_json.specs.declared.cause.AddressMember.{AddressMember}
 use Rattle.crash_json.specs.declared.cause.AddressMember.TheVariants as address
@@ -24,6 +26,8 @@ use Rattle.crash_json.specs.declared.frames.FrameMember.{FrameMember}
 use Rattle.crash_json.specs.declared.frames.FrameMember.TheVariants as frame
 use Rattle.crash_json.specs.declared.dump.Member.{Member}
 use Rattle.crash_json.specs.declared.dump.Member.TheVariants as dump
+use Rattle.crash_json.specs.declared.point.PointMember.{PointMember}
+use Rattle.crash_json.specs.declared.point.PointMember.TheVariants as point
 use Rattle.crash_json.specs.declared.records.MacMember.{MacMember}
 use Rattle.crash_json.specs.declared.records.MacMember.TheVariants as mac
 use Rattle.crash_json.specs.declared.report.ReportMember.{ReportMember}
@@ -34,10 +38,12 @@ use Rattle.crash_json.specs.Cause.{address_json, crash_info_json, exceptions_jso
 use Rattle.crash_json.specs.Cause.{sender_json}
 use Rattle.crash_json.specs.Crashpad.{annotations_json, crashpad_json, crashpad_modules_json}
 use Rattle.crash_json.specs.Crashpad.{objects_json, texts_json}
-use Rattle.crash_json.specs.Frames.{frame_json, registers_json}
+use Rattle.crash_json.specs.Frames.{frame_json, inlines_json, registers_json}
 use Rattle.crash_json.specs.Minidump.{all_damage_json, minidump_json, regions_json, streams_json}
 use Rattle.crash_json.specs.Modules.{all_unloaded_json, modules_json}
+use Rattle.crash_json.specs.Point.{code_json, flags_json, point_json, words_json}
 use Rattle.crash_json.specs.Records.{assertion_json, handles_json, mac_crash_json, mac_record_json}
+use Rattle.crash_json.specs.SoftErrors.{soft_json}
 use Rattle.crash_json.specs.System.{release_json, system_json}
 use Rattle.crash_json.specs.Threads.{crashing_json, range_json, short_json, threads_json}
 
@@ -45,6 +51,7 @@ use Rattle.crash_json.specs.Threads.{crashing_json, range_json, short_json, thre
 abbrev pub frame_member : FrameMember → Json
 frame_member (frame.Scalar s) = scalar_json s
 frame_member (frame.Registers c) = or_null registers_json (option_map context_of (option_copied c))
+frame_member (frame.Inlines calls) = inlines_json (map call_of calls.now)
 
 -- a member of a thread
 abbrev pub thread_member : ThreadMember → Json
@@ -52,7 +59,8 @@ thread_member (thread.Scalar s) = scalar_json s
 thread_member (thread.Range r) = or_null range_json r
 thread_member (thread.Short s) = or_null short_json s
 thread_member (thread.Frames e frames) = numbered_array_of (frame_json (map loaded_of e.modules.now)
-    (option_map context_of (option_copied e.context))) frames.now
+    (option_map context_of (option_copied e.context)) e.has_symbols)
+    (map shown_frame_of frames.now)
 
 -- a member of an exception
 abbrev pub exception_member : ExceptionMember → Json
@@ -64,6 +72,13 @@ exception_member (exception.Sender s) = or_null sender_json s
 abbrev pub address_member : AddressMember → Json
 address_member (address.Scalar s) = scalar_json s
 address_member (address.Memory m) = or_null memory_json m
+
+-- a member of where a thread stands
+abbrev pub point_member : PointMember → Json
+point_member (point.Instruction a) = address_json a.now
+point_member (point.Code code) = code_json code.now
+point_member (point.Words words) = words_json words.now
+point_member (point.Flags flags) = flags_json (map (λ r. (r.0.now, r.1)) flags.now)
 
 -- a member of macOS's crash information
 abbrev pub mac_member : MacMember → Json
@@ -93,6 +108,7 @@ minidump_member (dump.Memory c) =
     regions_json (unified_regions (crash_of c.now).contents.space.memory)
 minidump_member (dump.Damage c) = all_damage_json (crash_of c.now).damage
 minidump_member (dump.Address c) = or_null address_json (crash_of c.now).cause.address
+minidump_member (dump.Point c) = or_null point_json (crash_of c.now).point
 minidump_member (dump.Exceptions c) = exceptions_json (crash_of c.now).cause.exceptions
 minidump_member (dump.Assertion c) =
     or_null assertion_json (result_ok (crash_of c.now).contents.messages.assertion)
@@ -104,15 +120,20 @@ abbrev pub report_member : ReportMember → Json
 report_member (report.Scalar s) = scalar_json s
 report_member (report.System c) = or_null system_json (crash_of c.now).process.system
 report_member (report.CrashInfo c) = crash_info_json (crash_of c.now)
-report_member (report.Modules c) = modules_json (crash_of c.now).modules.loaded
+report_member (report.Modules c s) = modules_json (option_map symbolized_of (option_copied s))
+    (crash_of c.now).modules.loaded
 report_member (report.Unloaded c) = all_unloaded_json (crash_of c.now).modules.unloaded
-report_member (report.Threads limit c) =
-    threads_json limit (crash_of c.now).modules.loaded (crash_of c.now).threads.threads
-report_member (report.Crashing limit c) =
-    crashing_json limit (crash_of c.now).modules.loaded (crash_of c.now).threads
+report_member (report.Threads limit c s) =
+    threads_json limit (option_map symbolized_of (option_copied s))
+    (crash_of c.now).modules.loaded (crash_of c.now).threads.threads
+report_member (report.Crashing limit c s) =
+    crashing_json limit (option_map symbolized_of (option_copied s))
+    (crash_of c.now).modules.loaded (crash_of c.now).threads
 report_member (report.Release c) = or_null release_json (crash_of c.now).process.release
 report_member (report.MacCrash c) =
     or_null mac_crash_json (result_ok (crash_of c.now).contents.messages.mac_crash_info)
 report_member (report.Handles c) =
     or_null handles_json (result_ok (crash_of c.now).contents.process.handles)
-report_member (report.Minidump c) = minidump_json (crash_of c.now)
+report_member (report.SoftErrors text) = or_null soft_json (option_copied text)
+report_member (report.Minidump c s) =
+    minidump_json (option_map symbolized_of (option_copied s)) (crash_of c.now)

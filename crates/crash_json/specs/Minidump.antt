@@ -12,10 +12,13 @@ use Rattle.crash.specs.declared.damage.Damage.{Damage}
 use Rattle.crash.specs.declared.damage.Damage.TheVariants.{Exception, ExceptionContext, Stack, Stream, ThreadContext}
 use Rattle.crash.specs.declared.directory.StreamEntry.{StreamEntry}
 use Rattle.crash.specs.Crash.{CrashValue, status_of}
+use Rattle.crash_symbols.specs.Shown.{SymbolizedValue}
 use Rattle.json_tree.specs.Tree.{array_of, count, hex_string, object_of, or_null}
 use Rattle.crash_json.specs.Cause.{address_json, exceptions_json}
 use Rattle.crash_json.specs.Crashpad.{crashpad_json}
+use Rattle.crash_json.specs.Point.{point_json}
 use Rattle.crash_json.specs.Records.{assertion_json}
+use Rattle.crash_json.specs.Signature.{signature_in}
 use Rattle.crash_json.specs.Threads.{registers_of}
 
 -- ---- streams
@@ -87,26 +90,32 @@ all_damage_json damage = array_of damage_json damage
 abbrev pub unless_zero : ℕ → Option ℕ
 unless_zero n = if n == 0 then None else Some n
 
--- the members by the crash, when the dump was written, the status with which it ends a program, and
--- the word for whose context the registers are of
-unfoldable pub minidump_object : CrashValue → Option ℕ → ℕ → Option (List ℕ) → Json
-minidump_object c written status origin = object_of (
+-- the members by the crash, when the dump was written, the status with which it ends a program, the
+-- word for whose context the registers are of, and the signature
+unfoldable pub minidump_object : CrashValue → Option ℕ → ℕ → Option (List ℕ) → Option (List ℕ)
+    → Json
+minidump_object c written status origin signature = object_of (
     (codes "written", or_null count written)
     ∷ (codes "uptime", or_null count c.process.uptime)
+    ∷ (codes "command_line", or_null string c.process.command_line)
+    ∷ (codes "comment", or_null string c.process.comments.narrow)
+    ∷ (codes "wide_comment", or_null string c.process.comments.wide)
     ∷ (codes "status", count status)
     ∷ (codes "streams", streams_json c.directory.entries)
     ∷ (codes "entries_outside", count c.directory.entries_outside)
     ∷ (codes "memory", regions_json (unified_regions c.contents.space.memory))
     ∷ (codes "damage", all_damage_json c.damage)
     ∷ (codes "address", or_null address_json c.cause.address)
+    ∷ (codes "point", or_null point_json c.point)
     ∷ (codes "exceptions", exceptions_json c.cause.exceptions)
     ∷ (codes "exception", or_null count c.cause.counts)
+    ∷ (codes "signature", or_null string signature)
     ∷ (codes "registers_of", or_null string origin)
     ∷ (codes "assertion", or_null assertion_json (result_ok c.contents.messages.assertion))
     ∷ (codes "crashpad", or_null crashpad_json (result_ok c.contents.messages.crashpad))
     ∷ [])
 
 -- what the schema has no member for
-abbrev pub minidump_json : CrashValue → Json
-minidump_json c = minidump_object c (unless_zero c.directory.written) (status_of (Ok c))
-    (registers_of c.threads)
+abbrev pub minidump_json : Option SymbolizedValue → CrashValue → Json
+minidump_json symbols c = minidump_object c (unless_zero c.directory.written) (status_of (Ok c))
+    (registers_of c.threads) (signature_in symbols c)

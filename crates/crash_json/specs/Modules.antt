@@ -1,12 +1,17 @@
 -- Modules as JSON, loaded and unloaded.
-use Rattle.std.specs.Prelude.{ℕ, List, [], ◌∷◌, codes, Option, Some, None}
-use Rattle.json.specs.Json.{Json, string}
+use Rattle.std.specs.Prelude.{ℕ, ◌++◌, Bool, false, true, List, [], ◌∷◌, codes, Option, Some, None}
+use Rattle.json.specs.Json.{Json, boolean, string}
 use Rattle.crash.specs.Modules.{LoadedValue, UnloadedModuleValue}
-use Rattle.json_tree.specs.Tree.{array_of, hex_string, object_of, or_null}
+use Rattle.crash_symbols.specs.declared.symbols.SymbolState.{SymbolState}
+use Rattle.crash_symbols.specs.declared.symbols.SymbolState.TheVariants.{Corrupt, Loaded, Missing}
+use Rattle.crash_symbols.specs.declared.symbols.SymbolState.TheVariants.{OutOfMemory, Unwanted}
+use Rattle.crash_symbols.specs.Shown.{SymbolizedValue}
+use Rattle.crash_symbols.specs.Symbols.{state_at}
+use Rattle.json_tree.specs.Tree.{array_of, hex_string, numbered_array_of, object_of, or_null}
 
--- a module
-unfoldable pub module_json : LoadedValue → Json
-module_json m = object_of (
+-- the members of a module
+unfoldable pub module_object : LoadedValue → List (List ℕ × Json)
+module_object m =
     (codes "base_addr", hex_string m.base)
     ∷ (codes "end_addr", or_null hex_string m.end)
     ∷ (codes "filename", string m.file)
@@ -14,11 +19,56 @@ module_json m = object_of (
     ∷ (codes "debug_file", or_null string m.debug_file)
     ∷ (codes "debug_id", or_null string m.debug_id)
     ∷ (codes "version", or_null string m.version)
-    ∷ [])
+    ∷ []
+
+-- ---- symbols
+
+-- symbols were looked for, and aren't there
+unfoldable pub are_missing : SymbolState → Bool
+are_missing Unwanted = false
+are_missing Missing = true
+are_missing Loaded = false
+are_missing Corrupt = false
+are_missing OutOfMemory = true
+
+-- symbols are there
+unfoldable pub are_loaded : SymbolState → Bool
+are_loaded Unwanted = false
+are_loaded Missing = false
+are_loaded Loaded = true
+are_loaded Corrupt = false
+are_loaded OutOfMemory = false
+
+-- symbols can't be read, or are those of another module
+unfoldable pub are_corrupt : SymbolState → Bool
+are_corrupt Unwanted = false
+are_corrupt Missing = false
+are_corrupt Loaded = false
+are_corrupt Corrupt = true
+are_corrupt OutOfMemory = false
+
+-- what is known of a module's symbols
+unfoldable pub state_object : SymbolState → List (List ℕ × Json)
+state_object state =
+    (codes "missing_symbols", boolean (are_missing state))
+    ∷ (codes "loaded_symbols", boolean (are_loaded state))
+    ∷ (codes "corrupt_symbols", boolean (are_corrupt state))
+    ∷ []
+
+-- the same by the index of the module, where symbols are known
+abbrev pub symbol_members : Option SymbolizedValue → ℕ → List (List ℕ × Json)
+symbol_members (Some s) index = state_object (state_at s.states index)
+symbol_members None index = []
+
+-- ---- all of it
+
+-- a module by its index
+abbrev pub module_json : Option SymbolizedValue → ℕ → LoadedValue → Json
+module_json symbols index m = object_of (module_object m ++ symbol_members symbols index)
 
 -- the modules
-unfoldable pub modules_json : List LoadedValue → Json
-modules_json modules = array_of module_json modules
+unfoldable pub modules_json : Option SymbolizedValue → List LoadedValue → Json
+modules_json symbols modules = numbered_array_of (module_json symbols) modules
 
 -- the index of the main module, which is the first
 abbrev pub main_module : List LoadedValue → Option ℕ

@@ -6,12 +6,14 @@ use Rattle.json.specs.Json.{Json, string}
 use Rattle.json.specs.Print.{print}
 use Rattle.json.specs.Tree.{json_tokens}
 use Rattle.crash.specs.Crash.{CrashValue}
+use Rattle.crash_symbols.specs.Shown.{SymbolizedValue}
 use Rattle.json_tree.specs.Tree.{count, object_of, or_null}
 use Rattle.crash_json.specs.declared.JsonLimits.{JsonLimits}
 use Rattle.crash_json.specs.Cause.{crash_info_json}
 use Rattle.crash_json.specs.Minidump.{minidump_json}
 use Rattle.crash_json.specs.Modules.{all_unloaded_json, main_module, modules_json}
 use Rattle.crash_json.specs.Records.{handles_json, mac_crash_json}
+use Rattle.crash_json.specs.SoftErrors.{soft_json}
 use Rattle.crash_json.specs.System.{release_json, system_json}
 use Rattle.crash_json.specs.Threads.{crashing_json, threads_json}
 
@@ -21,66 +23,71 @@ path_members None = []
 path_members (Some path) = (codes "path", string path) ∷ []
 
 -- the system, the crash and the modules, by the index of the main module
-unfoldable pub crash_object : CrashValue → Option ℕ → List (List ℕ × Json)
-crash_object c main =
+unfoldable pub crash_object : Option SymbolizedValue → CrashValue → Option ℕ
+    → List (List ℕ × Json)
+crash_object symbols c main =
     (codes "status", string (codes "OK"))
     ∷ (codes "system_info", or_null system_json c.process.system)
     ∷ (codes "crash_info", crash_info_json c)
     ∷ (codes "main_module", or_null count main)
-    ∷ (codes "modules", modules_json c.modules.loaded)
+    ∷ (codes "modules", modules_json symbols c.modules.loaded)
     ∷ (codes "unloaded_modules", all_unloaded_json c.modules.unloaded)
     ∷ []
 
 -- the system, the crash and the modules
-abbrev pub crash_members : CrashValue → List (List ℕ × Json)
-crash_members c = crash_object c (main_module c.modules.loaded)
+abbrev pub crash_members : Option SymbolizedValue → CrashValue → List (List ℕ × Json)
+crash_members symbols c = crash_object symbols c (main_module c.modules.loaded)
 
 -- the process by its id, and its threads, of which there are so many, with at most so many frames
 -- each
-unfoldable pub process_object : ℕ → CrashValue → Option ℕ → ℕ → List (List ℕ × Json)
-process_object limit c id threads =
+unfoldable pub process_object : ℕ → Option SymbolizedValue → CrashValue → Option ℕ → ℕ
+    → List (List ℕ × Json)
+process_object limit symbols c id threads =
     (codes "pid", or_null count id)
     ∷ (codes "thread_count", count threads)
-    ∷ (codes "threads", threads_json limit c.modules.loaded c.threads.threads)
-    ∷ (codes "crashing_thread", crashing_json limit c.modules.loaded c.threads)
+    ∷ (codes "threads", threads_json limit symbols c.modules.loaded c.threads.threads)
+    ∷ (codes "crashing_thread", crashing_json limit symbols c.modules.loaded c.threads)
     ∷ []
 
 -- the process and its threads, with at most so many frames each
-abbrev pub process_members : ℕ → CrashValue → List (List ℕ × Json)
-process_members limit c = process_object limit c c.process.id (length c.threads.threads)
+abbrev pub process_members : ℕ → Option SymbolizedValue → CrashValue → List (List ℕ × Json)
+process_members limit symbols c =
+    process_object limit symbols c c.process.id (length c.threads.threads)
 
 -- what single streams hold, with the arguments of macOS's boot and the soft errors, and what the
 -- schema has no member for
-unfoldable pub record_object : CrashValue → Option (List ℕ) → Option (List ℕ)
-    → List (List ℕ × Json)
-record_object c boot_args soft_errors =
+unfoldable pub record_object : Option SymbolizedValue → CrashValue → Option (List ℕ)
+    → Option (List ℕ) → List (List ℕ × Json)
+record_object symbols c boot_args soft_errors =
     (codes "lsb_release", or_null release_json c.process.release)
     ∷ (codes "mac_crash_info", or_null mac_crash_json (result_ok c.contents.messages.mac_crash_info))
     ∷ (codes "mac_boot_args", or_null string boot_args)
     ∷ (codes "handles", or_null handles_json (result_ok c.contents.process.handles))
-    ∷ (codes "soft_errors", or_null string soft_errors)
+    ∷ (codes "soft_errors", or_null soft_json soft_errors)
     ∷ (codes "linux_memory_map_count", or_null count c.contents.space.map_count)
-    ∷ (codes "minidump", minidump_json c)
+    ∷ (codes "minidump", minidump_json symbols c)
     ∷ []
 
 -- what single streams hold, and what the schema has no member for
-abbrev pub record_members : CrashValue → List (List ℕ × Json)
-record_members c = record_object c
+abbrev pub record_members : Option SymbolizedValue → CrashValue → List (List ℕ × Json)
+record_members symbols c = record_object symbols c
     (option_and_then (λ b. b.text) (result_ok c.contents.messages.mac_boot_args))
     (result_ok c.contents.messages.soft_errors)
 
 -- all members
-abbrev pub all_members : JsonLimits → Option (List ℕ) → CrashValue → List (List ℕ × Json)
-all_members limits path c = path_members path
-    ++ (crash_members c ++ (process_members limits.frames c ++ record_members c))
+abbrev pub all_members : JsonLimits → Option (List ℕ) → Option SymbolizedValue → CrashValue
+    → List (List ℕ × Json)
+all_members limits path symbols c = path_members path
+    ++ (crash_members symbols c
+    ++ (process_members limits.frames symbols c ++ record_members symbols c))
 
--- a crash, with the path of its file, where it has one
-abbrev pub json_of : JsonLimits → Option (List ℕ) → CrashValue → Json
-json_of limits path c = object_of (all_members limits path c)
+-- a crash, with the path of its file, where it has one, and with symbols, where they are known
+abbrev pub json_of : JsonLimits → Option (List ℕ) → Option SymbolizedValue → CrashValue → Json
+json_of limits path symbols c = object_of (all_members limits path symbols c)
 
 -- the line of a crash: its value with nothing between the tokens
-abbrev pub text_of : JsonLimits → Option (List ℕ) → CrashValue → List ℕ
-text_of limits path c = print (json_tokens (json_of limits path c))
+abbrev pub text_of : JsonLimits → Option (List ℕ) → Option SymbolizedValue → CrashValue → List ℕ
+text_of limits path symbols c = print (json_tokens (json_of limits path symbols c))
 
 -- ---- a file that is no dump
 

@@ -1,20 +1,24 @@
 -- Threads as JSON.
-use Rattle.std.specs.Prelude.{ℕ, List, [], ◌∷◌, ◌++◌, codes, length, take, slice_get}
+use Rattle.std.specs.Prelude.{ℕ, Bool, List, [], ◌∷◌, ◌++◌, codes, is_some, length, take, slice_get}
 use Rattle.std.specs.Prelude.{Option, Some, None}
 use Rattle.std.specs.Option.{option_and_then, option_map}
 use Rattle.json.specs.Json.{Json, boolean, string}
 use Rattle.stack_walk.specs.declared.end.WalkEnd.{WalkEnd}
 use Rattle.stack_walk.specs.declared.end.WalkEnd.TheVariants as ending
+use Rattle.symbol_walk.specs.declared.walk.SymbolWalkEnd.{SymbolWalkEnd}
+use Rattle.symbol_walk.specs.declared.walk.SymbolWalkEnd.TheVariants.{NoReturnRule, Walk}
+use Rattle.symbol_walk.specs.declared.walk.SymbolWalkEnd.TheVariants.{ZeroReturnAddress}
 use Rattle.crash.specs.declared.contexts.ContextOrigin.{ContextOrigin}
 use Rattle.crash.specs.declared.contexts.ContextOrigin.TheVariants.{OfException, OfThread}
 use Rattle.crash.specs.declared.contexts.ShortContext.{ShortContext}
-use Rattle.crash.specs.declared.frames.CrashFrame.{CrashFrame}
 use Rattle.crash.specs.declared.stacks.StackRange.{StackRange}
 use Rattle.crash.specs.Contexts.{ContextValue}
-use Rattle.crash.specs.Frames.{CrashWalkValue}
 use Rattle.crash.specs.Modules.{LoadedValue}
 use Rattle.crash.specs.Threads.{ThreadValue, ThreadsValue}
-use Rattle.json_tree.specs.Tree.{array_of, count, hex_string, numbered_array_of, object_of, or_null}
+use Rattle.crash_symbols.specs.Backtraces.{BacktraceValue}
+use Rattle.crash_symbols.specs.Names.{NamedFrameValue}
+use Rattle.crash_symbols.specs.Shown.{SymbolizedValue, shown_in}
+use Rattle.json_tree.specs.Tree.{count, hex_string, numbered_array_of, object_of, or_null}
 use Rattle.crash_json.specs.Cause.{problem_name}
 use Rattle.crash_json.specs.Frames.{frame_json}
 
@@ -30,28 +34,35 @@ short_json s = object_of ((codes "size", count s.size) ∷ (codes "whole", count
 abbrev pub short_of : ThreadValue → Option ShortContext
 short_of t = option_and_then (λ c. c.short) t.context
 
+-- the word for why the last frame has no caller by its frame pointer
+abbrev pub pointer_end_name : WalkEnd → List ℕ
+pointer_end_name ending.NoMemory = codes "no_memory"
+pointer_end_name ending.UnknownWidth = codes "unknown_width"
+pointer_end_name ending.NoFramePointer = codes "no_frame_pointer"
+pointer_end_name ending.ZeroFramePointer = codes "zero_frame_pointer"
+pointer_end_name ending.BelowStackPointer = codes "below_stack_pointer"
+pointer_end_name ending.NoRecord = codes "no_record"
+pointer_end_name ending.NoCode = codes "no_code"
+
 -- the word for why the last frame has no caller
-abbrev pub end_name : WalkEnd → List ℕ
-end_name ending.NoMemory = codes "no_memory"
-end_name ending.UnknownWidth = codes "unknown_width"
-end_name ending.NoFramePointer = codes "no_frame_pointer"
-end_name ending.ZeroFramePointer = codes "zero_frame_pointer"
-end_name ending.BelowStackPointer = codes "below_stack_pointer"
-end_name ending.NoRecord = codes "no_record"
-end_name ending.NoCode = codes "no_code"
+abbrev pub end_name : SymbolWalkEnd → List ℕ
+end_name (Walk end) = pointer_end_name end
+end_name NoReturnRule = codes "no_return_rule"
+end_name ZeroReturnAddress = codes "zero_return_address"
 
 -- what is found in a stack: the frames, and after them the candidates
-abbrev pub all_frames : Option CrashWalkValue → List CrashFrame
+abbrev pub all_frames : Option BacktraceValue → List NamedFrameValue
 all_frames None = []
 all_frames (Some w) = w.frames ++ w.candidates
 
 -- the members of a thread: why its context isn't used and why its last frame has no caller in
--- words, how much there is of the context of its registers, where that is cut, how many frames there are, those that are written, by their modules, and the registers of
--- the first one, where these are shown
+-- words, how much there is of the context of its registers, where that is cut, how many frames there
+-- are, those that are written, by their modules, the registers of the first one, where these are
+-- shown, and the names, where symbols are known
 unfoldable pub thread_object : ThreadValue → Option (List ℕ) → Option (List ℕ)
-    → Option ShortContext → ℕ → List LoadedValue → Option ContextValue → List CrashFrame
-    → List (List ℕ × Json)
-thread_object t problem ended short frame_count modules context frames =
+    → Option ShortContext → ℕ → List LoadedValue → Option ContextValue → Bool
+    → List NamedFrameValue → List (List ℕ × Json)
+thread_object t problem ended short frame_count modules context has_symbols frames =
     (codes "thread_id", count t.id)
     ∷ (codes "thread_name", or_null string t.name)
     ∷ (codes "is_listed", boolean t.is_listed)
@@ -62,25 +73,32 @@ thread_object t problem ended short frame_count modules context frames =
     ∷ (codes "context_problem", or_null string problem)
     ∷ (codes "short_context", or_null short_json short)
     ∷ (codes "end", or_null string ended)
-    ∷ (codes "frames", numbered_array_of (frame_json modules context) frames)
+    ∷ (codes "frames", numbered_array_of (frame_json modules context has_symbols) frames)
     ∷ []
 
--- the members of a thread, with so many frames at most
-abbrev pub thread_members : ℕ → List LoadedValue → Option ContextValue → ThreadValue
-    → List (List ℕ × Json)
-thread_members limit modules context t = thread_object t (option_map problem_name t.context_problem)
-    (option_map (λ w. end_name w.end) t.walk) (short_of t) (length (all_frames t.walk)) modules context
-    (take limit (all_frames t.walk))
+-- the members of a thread by what is shown of it, with so many frames at most
+abbrev pub walk_members : ℕ → List LoadedValue → Option ContextValue → Bool → ThreadValue
+    → Option BacktraceValue → List (List ℕ × Json)
+walk_members limit modules context has_symbols t walk = thread_object t
+    (option_map problem_name t.context_problem) (option_map (λ w. end_name w.end) walk) (short_of t)
+    (length (all_frames walk)) modules context has_symbols (take limit (all_frames walk))
 
--- a thread
-abbrev pub thread_json : ℕ → List LoadedValue → ThreadValue → Json
-thread_json limit modules t = object_of (thread_members limit modules None t)
+-- the members of the thread of an index, with so many frames at most
+abbrev pub thread_members : ℕ → Option SymbolizedValue → List LoadedValue → Option ContextValue
+    → ℕ → ThreadValue → List (List ℕ × Json)
+thread_members limit symbols modules context number t =
+    walk_members limit modules context (is_some symbols) t (shown_in symbols number t)
+
+-- a thread by its index
+abbrev pub thread_json : ℕ → Option SymbolizedValue → List LoadedValue → ℕ → ThreadValue → Json
+thread_json limit symbols modules number t =
+    object_of (thread_members limit symbols modules None number t)
 
 -- the threads
-unfoldable pub threads_json : ℕ → List LoadedValue → List ThreadValue → Json
-threads_json limit modules threads = array_of (thread_json limit modules) threads
-
--- ---- the thread that crashed
+unfoldable pub threads_json : ℕ → Option SymbolizedValue → List LoadedValue → List ThreadValue
+    → Json
+threads_json limit symbols modules threads =
+    numbered_array_of (thread_json limit symbols modules) threads
 
 -- the thread that crashed with its index, where it is known
 abbrev pub indexed_crashed : ThreadsValue → Option (ℕ × ThreadValue)
@@ -98,11 +116,11 @@ registers_of t = option_map (λ c. origin_name c.origin)
     (option_and_then (λ p. p.1.context) (indexed_crashed t))
 
 -- a thread at an index, with its registers in its first frame
-abbrev pub indexed_json : ℕ → List LoadedValue → ℕ → ThreadValue → Json
-indexed_json limit modules index t = object_of
-    ((codes "threads_index", count index) ∷ thread_members limit modules t.context t)
+abbrev pub indexed_json : ℕ → Option SymbolizedValue → List LoadedValue → ℕ → ThreadValue → Json
+indexed_json limit symbols modules index t = object_of ((codes "threads_index", count index)
+    ∷ thread_members limit symbols modules t.context index t)
 
 -- the thread that crashed, with its index
-abbrev pub crashing_json : ℕ → List LoadedValue → ThreadsValue → Json
-crashing_json limit modules t =
-    or_null (λ p. indexed_json limit modules p.0 p.1) (indexed_crashed t)
+abbrev pub crashing_json : ℕ → Option SymbolizedValue → List LoadedValue → ThreadsValue → Json
+crashing_json limit symbols modules t =
+    or_null (λ p. indexed_json limit symbols modules p.0 p.1) (indexed_crashed t)

@@ -54,8 +54,8 @@ fn counting(cause: &CrashCause) -> Option<&CrashException>
     }
 }
 
-// Returns the words for the reason of the crash.
-fn reason_of(cause: &CrashCause) -> Option<&str>
+/// Returns the words for the reason of the crash.
+pub(crate) fn reason_of(cause: &CrashCause) -> Option<&str>
     ensures { option_copied result
         ≡ option_and_then (λ e. e.reason) (counting_in (cause_of cause.now)) }
 {

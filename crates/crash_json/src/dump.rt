@@ -6,6 +6,7 @@ ghost use Rattle.minidump.specs.Below.Format.StreamType.{stream_type_of, type_na
 ghost use Rattle.minidump.specs.Below.MemoryLists.Unified.{UnifiedRegion, unified_list};
 ghost use Rattle.minidump.specs.Below.MemoryLists.Unified.{unified_region, unified_regions};
 ghost use Rattle.crash.specs.Crash.{crash_of, status_of};
+ghost use Rattle.crash_symbols.specs.Shown.{symbolized_of};
 ghost use Rattle.json_tree.specs.Tree.{Puts};
 ghost use Rattle.crash_json.specs.Minidump.{all_damage_json, damage_json, damage_object};
 ghost use Rattle.crash_json.specs.Minidump.{minidump_json, minidump_object, region_object};
@@ -14,22 +15,32 @@ ghost use Rattle.crash_json.specs.Minidump.{unless_zero};
 
 use crate::cause::{AddressJson, put_exceptions};
 use crate::crashpad::CrashpadJson;
+use crate::point::PointJson;
 use crate::records::{AssertionJson, put_found};
+use crate::signature::signature_in;
 use crate::threads::registers_of;
 use crash::{Crash, Damage, StreamEntry};
+use crash_symbols::Symbolized;
 use json::Writer;
 use json_tree::{
-    ItemJson, Scalar, ToJson, ValueJson, put_array, put_item_or_null, put_object, put_object_of,
-    put_values,
+    ItemJson, Scalar, ToJson, ValueJson, as_text, put_array, put_item_or_null, put_object,
+    put_object_of, put_value_or_null, put_values,
 };
 use minidump::format::MINIDUMP_STREAM_TYPE;
 use minidump::{Error, UnifiedMemory, UnifiedMemoryList};
 use std::alloc::{AllocError, Global};
 
 /// Puts what a minidump says that the schema has no member for.
-pub(crate) fn put_minidump(out: &mut Writer, alloc: Global, crash: &Crash<'_>) -> Result<(), Error>
-    ensures { Puts result out.old out.new (minidump_json (crash_of crash.now)) }
+pub(crate) fn put_minidump(
+    out: &mut Writer,
+    alloc: Global,
+    crash: &Crash<'_>,
+    symbols: Option<&Symbolized<'_, '_>>,
+) -> Result<(), Error>
+    ensures { Puts result out.old out.new (minidump_json
+        (option_map symbolized_of (option_copied symbols.entry)) (crash_of crash.now)) }
 {
+    let signature = signature_in(alloc, crash, symbols)?;
     put_members(
         out,
         alloc,
@@ -37,6 +48,7 @@ pub(crate) fn put_minidump(out: &mut Writer, alloc: Global, crash: &Crash<'_>) -
         unless_zero(crash.directory.written),
         status_of(crash),
         registers_of(&crash.threads),
+        as_text(&signature),
     )
 }
 
@@ -62,9 +74,10 @@ fn put_members<'l>(
     written: Option<u64>,
     status: u64,
     origin: Option<&'l str>,
+    signature: Option<&'l str>,
 ) -> Result<(), Error>
-    ensures { Puts result out.old out.new
-        (minidump_object (crash_of crash.now) written status (option_copied origin.entry)) }
+    ensures { Puts result out.old out.new (minidump_object (crash_of crash.now) written status
+        (option_copied origin.entry) (option_copied signature.entry)) }
 {
     put_object_of(
         out,
@@ -75,6 +88,18 @@ fn put_members<'l>(
                 "uptime",
                 Member::Scalar(Scalar::Number(crash.process.uptime)),
             ),
+            (
+                "command_line",
+                Member::Scalar(Scalar::Optional(&crash.process.command_line)),
+            ),
+            (
+                "comment",
+                Member::Scalar(Scalar::Optional(&crash.process.comments.narrow)),
+            ),
+            (
+                "wide_comment",
+                Member::Scalar(Scalar::Optional(&crash.process.comments.wide)),
+            ),
             ("status", Member::Scalar(Scalar::Number(Some(status)))),
             ("streams", Member::Streams(crash)),
             (
@@ -84,11 +109,13 @@ fn put_members<'l>(
             ("memory", Member::Memory(crash)),
             ("damage", Member::Damage(crash)),
             ("address", Member::Address(crash)),
+            ("point", Member::Point(crash)),
             ("exceptions", Member::Exceptions(crash)),
             (
                 "exception",
                 Member::Scalar(Scalar::Count(crash.cause.counts)),
             ),
+            ("signature", Member::Scalar(Scalar::Text(signature))),
             ("registers_of", Member::Scalar(Scalar::Text(origin))),
             ("assertion", Member::Assertion(crash)),
             ("crashpad", Member::Crashpad(crash)),
@@ -104,6 +131,7 @@ pub(crate) enum Member<'l, 'a> {
     Memory(&'l Crash<'a>),
     Damage(&'l Crash<'a>),
     Address(&'l Crash<'a>),
+    Point(&'l Crash<'a>),
     Exceptions(&'l Crash<'a>),
     Assertion(&'l Crash<'a>),
     Crashpad(&'l Crash<'a>),
@@ -123,6 +151,7 @@ impl ToJson for Member<'_, '_> {
             Member::Address(crash) => {
                 put_item_or_null(out, alloc, &crash.cause.address, &AddressJson)
             }
+            Member::Point(crash) => put_value_or_null(out, alloc, &crash.point, &PointJson),
             Member::Exceptions(crash) => {
                 put_exceptions(out, alloc, crash.cause.exceptions.as_slice())
             }

@@ -1,55 +1,119 @@
-//! The frames of a thread, and the registers of the first one.
-ghost use Rattle.std.specs.Prelude.{◌≡◌, IfOk, map};
+//! The frames of a thread, the registers of the first one, and the names that symbols give.
+ghost use Rattle.std.specs.Prelude.{◌≡◌, ◌++◌, IfOk, map, string_bytes, true};
 ghost use Rattle.std.specs.Option.{option_copied, option_map};
+ghost use Rattle.minidump_bytes.specs.LinuxOsStr.{text_of};
 ghost use Rattle.crash.specs.Contexts.{context_of};
 ghost use Rattle.crash.specs.Modules.{loaded_of};
-ghost use Rattle.json_tree.specs.Tree.{Puts, field_of, or_null};
-ghost use Rattle.crash_json.specs.Frames.{file_at, frame_object, of_first, register_members};
-ghost use Rattle.crash_json.specs.Frames.{registers_json, trust_name};
+ghost use Rattle.crash_symbols.specs.NameParts.{call_of, source_of};
+ghost use Rattle.crash_symbols.specs.Shown.{shown_frame_of};
+ghost use Rattle.json_tree.specs.Tree.{Adds, Puts, field_of, numbered_array_of, or_null};
+ghost use Rattle.crash_json.specs.Frames.{file_at, frame_json, frame_object, inline_object};
+ghost use Rattle.crash_json.specs.Frames.{inlines_json, lossy, name_members, name_object, of_first};
+ghost use Rattle.crash_json.specs.Frames.{place_members, register_members, registers_json};
+ghost use Rattle.crash_json.specs.Frames.{source_file, source_line, trust_name};
 
 use crash::{CrashContext, CrashFrame, CrashModule};
+use crash_symbols::{FrameFunction, InlinedCall, ShownFrame, SourceLine};
 use json::Writer;
-use json_tree::{NumberedJson, Scalar, ToJson, put_object, put_object_of};
+use json_tree::{
+    NumberedJson, Scalar, ToJson, ValueJson, put_fields, put_members, put_numbered_array,
+    put_object, put_values,
+};
 use minidump::Error;
+use minidump_bytes::LinuxOsStr;
 use stack_walk::FrameTrust;
 use std::alloc::{AllocError, Global};
 
-/// What the frames of a thread are written by: the modules, and the registers of the first frame
-/// if they are shown.
+/// What the frames of a thread are written by: the modules, the registers of the first frame if they
+/// are shown, and whether symbols are known.
 #[derive(Clone, Copy)]
 pub(crate) struct EachFrame<'l> {
     pub(crate) modules: &'l [CrashModule],
     pub(crate) context: Option<&'l CrashContext>,
+    pub(crate) has_symbols: bool,
 }
 
-impl NumberedJson<CrashFrame> for EachFrame<'_> {
+impl<'s, 'n> NumberedJson<ShownFrame<'s, 'n>> for EachFrame<'_> {
     ghost use Rattle.std.specs.Prelude.{map};
     ghost use Rattle.std.specs.Option.{option_copied, option_map};
     ghost use Rattle.crash.specs.Contexts.{context_of};
     ghost use Rattle.crash.specs.Modules.{loaded_of};
+    ghost use Rattle.crash_symbols.specs.Shown.{shown_frame_of};
     ghost use Rattle.crash_json.specs.Frames.{frame_json};
 
     ghost json_at = { λ e n f. frame_json (map loaded_of e.modules.now)
-        (option_map context_of (option_copied e.context)) n f };
+        (option_map context_of (option_copied e.context)) e.has_symbols n (shown_frame_of f) };
 
+    #[tactic(auto, using(json_tree::proofs::Tokens::object_of_members))]
     fn put_item_at(
         &self,
         number: usize,
-        item: &CrashFrame,
+        item: &ShownFrame<'s, 'n>,
         out: &mut Writer,
         alloc: Global,
     ) -> Result<(), Error> {
-        put_frame(
-            out,
-            alloc,
-            number,
-            trust_name(item.trust),
-            file_at(self.modules, item.module),
-            offset_of(item.module),
-            item,
-            of_first(number, self.context),
-        )
+        out.begin_object()?;
+        put_frame(out, alloc, self, number, item)?;
+        out.end_object()?;
+        Ok(())
     }
+}
+
+/// Puts frames, each by its number.
+#[tactic(auto, using(crate::proofs::NumberedLemmas::numbered_values))]
+pub(crate) fn put_frames(
+    out: &mut Writer,
+    alloc: Global,
+    by: &EachFrame<'_>,
+    frames: &[ShownFrame<'_, '_>],
+) -> Result<(), Error>
+    ensures { Puts result out.old out.new (numbered_array_of (frame_json
+        (map loaded_of by.now.modules.now)
+        (option_map context_of (option_copied by.now.context)) by.now.has_symbols)
+        (map shown_frame_of frames.now)) }
+{
+    put_numbered_array(out, alloc, frames, by)
+}
+
+// Adds the members of a frame with its number.
+fn put_frame(
+    out: &mut Writer,
+    alloc: Global,
+    by: &EachFrame<'_>,
+    number: usize,
+    shown: &ShownFrame<'_, '_>,
+) -> Result<(), Error>
+    ensures { Adds result out.old out.new (place_members (map loaded_of by.now.modules.now)
+        (option_map context_of (option_copied by.now.context)) number
+        (shown_frame_of shown.now).frame ++ name_members by.now.has_symbols
+        (shown_frame_of shown.now)) }
+{
+    put_place(out, alloc, by, number, &shown.frame)?;
+    put_names_if(out, alloc, by.has_symbols, shown)?;
+    Ok(())
+}
+
+// Adds the members of a frame but its names.
+fn put_place(
+    out: &mut Writer,
+    alloc: Global,
+    by: &EachFrame<'_>,
+    number: usize,
+    frame: &CrashFrame,
+) -> Result<(), Error>
+    ensures { Adds result out.old out.new (place_members (map loaded_of by.now.modules.now)
+        (option_map context_of (option_copied by.now.context)) number frame.now) }
+{
+    put_place_members(
+        out,
+        alloc,
+        number,
+        trust_name(frame.trust),
+        file_at(by.modules, frame.module),
+        offset_of(frame.module),
+        frame,
+        of_first(number, by.context),
+    )
 }
 
 // Returns the word for how a frame was found.
@@ -58,6 +122,7 @@ fn trust_name(trust: FrameTrust) -> &'static str
 {
     match trust {
         FrameTrust::Context => "context",
+        FrameTrust::Cfi => "cfi",
         FrameTrust::FramePointer => "frame_pointer",
         FrameTrust::Scan => "scan",
     }
@@ -72,7 +137,7 @@ fn file_at(modules: &[CrashModule], place: Option<(usize, u64)>) -> Option<&str>
 }
 
 // Returns the offset of a place in its module.
-fn offset_of(place: Option<(usize, u64)>) -> Option<u64>
+pub(crate) fn offset_of(place: Option<(usize, u64)>) -> Option<u64>
     ensures { result ≡ option_map (λ p. p.1) place }
 {
     let (_, offset) = place?;
@@ -88,7 +153,7 @@ fn of_first(number: usize, context: Option<&CrashContext>) -> Option<&CrashConte
 }
 
 #[tactic(auto, unfolding(crate::specs::Frames::frame_object))]
-fn put_frame<'t>(
+fn put_place_members<'t>(
     out: &mut Writer,
     alloc: Global,
     number: usize,
@@ -98,10 +163,10 @@ fn put_frame<'t>(
     frame: &CrashFrame,
     context: Option<&'t CrashContext>,
 ) -> Result<(), Error>
-    ensures { Puts result out.old out.new (frame_object number trust.now (option_copied file.entry)
+    ensures { Adds result out.old out.new (frame_object number trust.now (option_copied file.entry)
         offset frame.now (option_map context_of (option_copied context.entry))) }
 {
-    put_object_of(
+    put_members(
         out,
         alloc,
         &[
@@ -129,12 +194,13 @@ fn put_frame<'t>(
 
 // The value of a member of a frame.
 #[derive(Clone, Copy)]
-pub(crate) enum FrameMember<'l> {
+pub(crate) enum FrameMember<'l, 'n> {
     Scalar(Scalar<'l>),
     Registers(Option<&'l CrashContext>),
+    Inlines(&'l [InlinedCall<'n>]),
 }
 
-impl ToJson for FrameMember<'_> {
+impl ToJson for FrameMember<'_, '_> {
     ghost use Rattle.crash_json.specs.Members.{frame_member};
 
     ghost json = { frame_member };
@@ -143,6 +209,7 @@ impl ToJson for FrameMember<'_> {
         match self {
             FrameMember::Scalar(scalar) => scalar.put(out, alloc),
             FrameMember::Registers(context) => put_registers_or_null(out, alloc, *context),
+            FrameMember::Inlines(calls) => put_inlines(out, alloc, calls),
         }
     }
 }
@@ -172,7 +239,7 @@ fn put_registers(out: &mut Writer, alloc: Global, context: &CrashContext) -> Res
 }
 
 // Returns registers as members.
-fn register_fields(
+pub(crate) fn register_fields(
     alloc: Global,
     registers: &[(&'static str, u64)],
 ) -> Result<Vec<(&'static str, Scalar<'static>)>, AllocError>
@@ -184,4 +251,168 @@ fn register_fields(
         fields.push((*name, Scalar::Hex(Some(*value))))?;
     }
     Ok(fields)
+}
+
+// ---- names
+
+// Adds the members of a frame's names, if symbols are known.
+fn put_names_if(
+    out: &mut Writer,
+    alloc: Global,
+    has_symbols: bool,
+    shown: &ShownFrame<'_, '_>,
+) -> Result<(), Error>
+    ensures { Adds result out.old out.new
+        (name_members has_symbols (shown_frame_of shown.now)) }
+{
+    if has_symbols {
+        put_names(out, alloc, shown)
+    } else {
+        put_fields(out, alloc, &[])
+    }
+}
+
+// Adds the members of a frame's names.
+fn put_names(out: &mut Writer, alloc: Global, shown: &ShownFrame<'_, '_>) -> Result<(), Error>
+    ensures { Adds result out.old out.new (name_members true (shown_frame_of shown.now)) }
+{
+    let function = lossy(alloc, name_of(shown.function))?;
+    let file = lossy(alloc, source_file(shown.line))?;
+    put_name_members(
+        out,
+        alloc,
+        &function,
+        function_offset(shown.function),
+        &file,
+        source_line(shown.line),
+        shown.inlines,
+        shown.function.is_none(),
+    )
+}
+
+#[tactic(auto, unfolding(crate::specs::Frames::name_object))]
+fn put_name_members<'t>(
+    out: &mut Writer,
+    alloc: Global,
+    function: &'t Option<String>,
+    offset: Option<u64>,
+    file: &'t Option<String>,
+    line: Option<u64>,
+    inlines: &'t [InlinedCall<'_>],
+    is_missing: bool,
+) -> Result<(), Error>
+    ensures { Adds result out.old out.new (name_object (option_map string_bytes function.now) offset
+        (option_map string_bytes file.now) line (map call_of inlines.now) is_missing) }
+{
+    put_members(
+        out,
+        alloc,
+        &[
+            ("function", FrameMember::Scalar(Scalar::Optional(function))),
+            ("function_offset", FrameMember::Scalar(Scalar::Hex(offset))),
+            ("file", FrameMember::Scalar(Scalar::Optional(file))),
+            ("line", FrameMember::Scalar(Scalar::Number(line))),
+            ("inlines", FrameMember::Inlines(inlines)),
+            (
+                "missing_symbols",
+                FrameMember::Scalar(Scalar::Flag(is_missing)),
+            ),
+        ],
+    )
+}
+
+// Makes a text of one that Linux wrote.
+fn lossy(alloc: Global, text: Option<LinuxOsStr<'_>>) -> Result<Option<String>, AllocError>
+    ensures { IfOk result (λ copy. option_map string_bytes copy
+        ≡ lossy (option_map text_of text.entry)) }
+{
+    match text {
+        Some(text) => Ok(Some(text.to_string_lossy(alloc)?)),
+        None => Ok(None),
+    }
+}
+
+// Returns the name of a function.
+fn name_of<'n>(function: Option<FrameFunction<'n>>) -> Option<LinuxOsStr<'n>>
+    ensures { option_map text_of result ≡ option_map (λ f. text_of f.name) function.entry }
+{
+    Some(function?.name)
+}
+
+// Returns the offset of a frame in its function.
+fn function_offset(function: Option<FrameFunction<'_>>) -> Option<u64>
+    ensures { result ≡ option_map (λ f. f.offset) function.entry }
+{
+    Some(function?.offset)
+}
+
+// Returns the name of the file of a source line.
+fn source_file<'n>(source: Option<SourceLine<'n>>) -> Option<LinuxOsStr<'n>>
+    ensures { option_map text_of result ≡ source_file (option_map source_of source.entry) }
+{
+    source?.file
+}
+
+// Returns the number of a source line.
+fn source_line(source: Option<SourceLine<'_>>) -> Option<u64>
+    ensures { result ≡ source_line (option_map source_of source.entry) }
+{
+    Some(source?.line as u64)
+}
+
+// Puts calls that the compiler put in place.
+#[tactic(auto, unfolding(crate::specs::Frames::inlines_json))]
+fn put_inlines(out: &mut Writer, alloc: Global, calls: &[InlinedCall<'_>]) -> Result<(), Error>
+    ensures { Puts result out.old out.new (inlines_json (map call_of calls.now)) }
+{
+    put_values(out, alloc, calls, &EachCall)
+}
+
+// A call of a list of those that the compiler put in place.
+#[derive(Clone, Copy)]
+struct EachCall;
+
+impl<'n> ValueJson<InlinedCall<'n>> for EachCall {
+    ghost use Rattle.crash_symbols.specs.NameParts.{call_of};
+    ghost use Rattle.crash_symbols.specs.Names.{CallValue};
+    ghost use Rattle.crash_json.specs.Frames.{inline_json};
+
+    ghost Value = { CallValue };
+
+    ghost value_of = { call_of };
+
+    ghost json_of = { λ _ c. inline_json c };
+
+    fn put_value(
+        &self,
+        item: &InlinedCall<'n>,
+        out: &mut Writer,
+        alloc: Global,
+    ) -> Result<(), Error> {
+        let function = lossy(alloc, item.function)?;
+        let file = lossy(alloc, source_file(item.source))?;
+        put_call(out, alloc, &function, &file, source_line(item.source))
+    }
+}
+
+#[tactic(auto, unfolding(crate::specs::Frames::inline_object))]
+fn put_call<'t>(
+    out: &mut Writer,
+    alloc: Global,
+    function: &'t Option<String>,
+    file: &'t Option<String>,
+    line: Option<u64>,
+) -> Result<(), Error>
+    ensures { Puts result out.old out.new (inline_object (option_map string_bytes function.now)
+        (option_map string_bytes file.now) line) }
+{
+    put_object(
+        out,
+        alloc,
+        &[
+            ("function", Scalar::Optional(function)),
+            ("file", Scalar::Optional(file)),
+            ("line", Scalar::Number(line)),
+        ],
+    )
 }

@@ -9,8 +9,8 @@
 //! `path`, `status`, `system_info`, `crash_info`, `main_module`, `modules`, `unloaded_modules`,
 //! `pid`, `thread_count`, `threads`, `crashing_thread`, `lsb_release`, `mac_crash_info`,
 //! `mac_boot_args`, `handles`, `soft_errors`, `linux_memory_map_count` and `minidump`, in that
-//! order. Other members of the schema, such as all that need symbols, are left out, and so is
-//! `path` if the caller has none.
+//! order. Other members of the schema are left out, and so is `path` if the caller has none, and what
+//! needs symbols if there are none.
 //!
 //! - A member is `null` if the dump lacks what it says; the lists of modules and of threads are
 //!   empty then. Addresses are texts in hexadecimal without leading zeros, as `"0x7ff6"`, on each
@@ -28,15 +28,22 @@
 //!   which a frame is looked up, of a caller the return address less one, and `module_offset` is
 //!   the offset of that address in the module. `registers` are those of the first frame of
 //!   `crashing_thread`, and `null` elsewhere.
-//! - `soft_errors` is the text of the stream, `handles` a list, `mac_boot_args` the arguments
-//!   alone.
+//! - By symbols the frames are those of the backtraces that they give. A frame has its `function` with
+//!   the `function_offset`, the source `file` and `line` in it, the `inlines` that the compiler put in
+//!   place there, the innermost first, and `missing_symbols` if it has no function. A module has
+//!   `loaded_symbols` or, if they were looked for, `missing_symbols` or `corrupt_symbols`. A name that
+//!   isn't UTF-8 has U+FFFD in place of what is malformed.
+//! - `soft_errors` is the value of the stream's text if that is JSON and nests at most 127 deep, else
+//!   the text; `handles` is a list, `mac_boot_args` the arguments alone.
 //! - `minidump`, which the schema doesn't have, has when the dump was `written`, in seconds since
 //!   1970, and the `uptime` of the process in seconds; the `status` with which the dump ends a
 //!   program; the `streams`, the deciding ones by type, each with the name of its `error` if it
 //!   can't be read, or if its type is never read and its bytes are outside the file; how many
 //!   `entries_outside` the file the directory has; the regions of `memory` that the dump holds; the
 //!   `damage`; the `address` of the crash with its module; all `exceptions`, and the index of the
-//!   `exception` that counts; whose context `registers_of` the crashing thread are; the `assertion`
+//!   `exception` that counts; the `signature`, which is the reason and the first three frames of the
+//!   crashing thread that are in a module, by their functions or by the module's file with the offset,
+//!   but no candidates; whose context `registers_of` the crashing thread are; the `assertion`
 //!   with its place; and the annotations of `crashpad`.
 //!
 //! # What is proved
@@ -54,13 +61,14 @@
 //! The text is whole in memory.
 #![tactic(auto)]
 
-ghost use Rattle.std.specs.Prelude.{◌≡◌, ⊤, IfOk, Some};
-ghost use Rattle.std.specs.Option.{option_copied};
+ghost use Rattle.std.specs.Prelude.{◌≡◌, ⊤, IfOk, None, Some};
+ghost use Rattle.std.specs.Option.{option_copied, option_map};
 ghost use Rattle.std.specs.Str.{IsUtf8};
 ghost use Rattle.json.specs.Json.{document};
 ghost use Rattle.minidump.specs.Below.Contexts.Context.{map_ok};
 ghost use Rattle.minidump.specs.Below.Format.Answer.{Gives};
 ghost use Rattle.crash.specs.Crash.{crash_in, crash_of};
+ghost use Rattle.crash_symbols.specs.Shown.{symbolized_of};
 ghost use Rattle.crash_json.specs.Report.{json_of, text_of};
 
 mod cause;
@@ -69,12 +77,16 @@ mod dump;
 mod error_line;
 mod frames;
 mod modules;
+mod point;
 mod records;
 mod report;
+mod signature;
+mod soft_errors;
 mod system;
 mod threads;
 
 use crash::Crash;
+use crash_symbols::Symbolized;
 pub use error_line::error_json;
 use json_tree::text_of;
 use minidump::{CodeNames, Error};
@@ -102,12 +114,12 @@ pub fn crash_json(
     limits: &JsonLimits,
 ) -> Result<Vec<u8>, Error>
     ensures text { Gives (λ text. text.items) ⊤ result
-        (map_ok (text_of limits.now (option_copied path.entry))
+        (map_ok (text_of limits.now (option_copied path.entry) None)
         (crash_in bytes.now names.now scan)) }
     ensures utf8 { IfOk result (λ text. IsUtf8 text.items) }
 {
     let crash = Crash::read(alloc, bytes, names, scan)?;
-    let text = json_of(alloc, path, &crash, limits);
+    let text = json_of(alloc, path, &crash, limits, None);
     crash.close();
     match text {
         Ok(text) => Ok(text),
@@ -115,23 +127,27 @@ pub fn crash_json(
     }
 }
 
-/// Makes the JSON text of a crash. `path` is written as it is.
-pub fn json_of(
+/// Makes the JSON text of a crash: by symbols with the backtraces that they give, and without symbols
+/// with the walks by frame pointers. `path` is written as it is.
+pub fn json_of<'l>(
     alloc: Global,
-    path: Option<&str>,
-    crash: &Crash<'_>,
+    path: Option<&'l str>,
+    crash: &'l Crash<'_>,
     limits: &JsonLimits,
+    symbols: Option<&'l Symbolized<'_, '_>>,
 ) -> Result<Vec<u8>, AllocError>
-    ensures text { IfOk result (λ text. text.items
-        ≡ text_of limits.now (option_copied path.entry) (crash_of crash.now)) }
-    ensures reads { IfOk result (λ text. document text.items
-        ≡ Some (json_of limits.now (option_copied path.entry) (crash_of crash.now))) }
+    ensures text { IfOk result (λ text. text.items ≡ text_of limits.now (option_copied path.entry)
+        (option_map symbolized_of (option_copied symbols.entry)) (crash_of crash.now)) }
+    ensures reads { IfOk result (λ text. document text.items ≡ Some (json_of limits.now
+        (option_copied path.entry) (option_map symbolized_of (option_copied symbols.entry))
+        (crash_of crash.now))) }
     ensures utf8 { IfOk result (λ text. IsUtf8 text.items) }
 {
     let report = Report {
         path,
         crash,
         limits: *limits,
+        symbols,
     };
     match text_of(alloc, &report) {
         Ok(text) => Ok(text),

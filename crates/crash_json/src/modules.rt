@@ -1,26 +1,46 @@
 //! The modules, loaded and unloaded.
-ghost use Rattle.std.specs.Prelude.{◌≡◌, map};
+ghost use Rattle.std.specs.Prelude.{◌≡◌, ◌++◌, map};
+ghost use Rattle.std.specs.Option.{option_copied, option_map};
 ghost use Rattle.crash.specs.Modules.{loaded_of, unloaded_module_of};
-ghost use Rattle.json_tree.specs.Tree.{Puts};
-ghost use Rattle.crash_json.specs.Modules.{all_unloaded_json, main_module, module_json};
-ghost use Rattle.crash_json.specs.Modules.{modules_json, unloaded_json};
+ghost use Rattle.crash_symbols.specs.Shown.{symbolized_of};
+ghost use Rattle.json_tree.specs.Tree.{Adds, Puts};
+ghost use Rattle.crash_json.specs.Modules.{all_unloaded_json, are_corrupt, are_loaded, are_missing};
+ghost use Rattle.crash_json.specs.Modules.{main_module, module_object, modules_json, state_object};
+ghost use Rattle.crash_json.specs.Modules.{symbol_members, unloaded_json};
 
 use crash::{CrashModule, UnloadedModule};
+use crash_symbols::{SymbolState, Symbolized};
 use json::Writer;
-use json_tree::{Scalar, ValueJson, put_object, put_values};
+use json_tree::{
+    NumberedJson, Scalar, ValueJson, put_fields, put_numbered_array, put_object, put_values,
+};
 use minidump::Error;
 use std::alloc::Global;
 
-/// Puts the modules.
-#[tactic(auto, unfolding(crate::specs::Modules::modules_json))]
+/// Puts the modules, with what is known of the symbols of each.
 pub(crate) fn put_modules(
     out: &mut Writer,
     alloc: Global,
+    symbols: Option<&Symbolized<'_, '_>>,
     modules: &[CrashModule],
 ) -> Result<(), Error>
-    ensures { Puts result out.old out.new (modules_json (map loaded_of modules.now)) }
+    ensures { Puts result out.old out.new (modules_json
+        (option_map symbolized_of (option_copied symbols.entry)) (map loaded_of modules.now)) }
 {
-    put_values(out, alloc, modules, &EachModule)
+    put_each_module(out, alloc, &EachModule { symbols }, modules)
+}
+
+#[tactic(auto, unfolding(crate::specs::Modules::modules_json), using(crate::proofs::NumberedLemmas::numbered_values))]
+fn put_each_module(
+    out: &mut Writer,
+    alloc: Global,
+    by: &EachModule<'_, '_, '_>,
+    modules: &[CrashModule],
+) -> Result<(), Error>
+    ensures { Puts result out.old out.new (modules_json
+        (option_map symbolized_of (option_copied by.now.symbols)) (map loaded_of modules.now)) }
+{
+    put_numbered_array(out, alloc, modules, by)
 }
 
 /// Returns the index of the main module, which is the first.
@@ -33,30 +53,57 @@ pub(crate) fn main_module(modules: &[CrashModule]) -> Option<usize>
     }
 }
 
-// A module of a list.
+// What the modules of a list are written by: the symbols, where they are known.
 #[derive(Clone, Copy)]
-struct EachModule;
+struct EachModule<'l, 's, 'n> {
+    symbols: Option<&'l Symbolized<'s, 'n>>,
+}
 
-impl ValueJson<CrashModule> for EachModule {
-    ghost use Rattle.crash.specs.Modules.{LoadedValue, loaded_of};
+impl NumberedJson<CrashModule> for EachModule<'_, '_, '_> {
+    ghost use Rattle.std.specs.Option.{option_copied, option_map};
+    ghost use Rattle.crash.specs.Modules.{loaded_of};
+    ghost use Rattle.crash_symbols.specs.Shown.{symbolized_of};
     ghost use Rattle.crash_json.specs.Modules.{module_json};
 
-    ghost Value = { LoadedValue };
+    ghost json_at = { λ e n m. module_json (option_map symbolized_of (option_copied e.symbols)) n
+        (loaded_of m) };
 
-    ghost value_of = { loaded_of };
-
-    ghost json_of = { λ _ m. module_json m };
-
-    fn put_value(&self, item: &CrashModule, out: &mut Writer, alloc: Global) -> Result<(), Error> {
-        put_module(out, alloc, item)
+    #[tactic(auto, using(json_tree::proofs::Tokens::object_of_members))]
+    fn put_item_at(
+        &self,
+        number: usize,
+        item: &CrashModule,
+        out: &mut Writer,
+        alloc: Global,
+    ) -> Result<(), Error> {
+        out.begin_object()?;
+        put_module(out, alloc, self.symbols, number, item)?;
+        out.end_object()?;
+        Ok(())
     }
 }
 
-#[tactic(auto, unfolding(crate::specs::Modules::module_json))]
-fn put_module(out: &mut Writer, alloc: Global, loaded: &CrashModule) -> Result<(), Error>
-    ensures { Puts result out.old out.new (module_json (loaded_of loaded.now)) }
+// Adds the members of a module with its index.
+fn put_module(
+    out: &mut Writer,
+    alloc: Global,
+    symbols: Option<&Symbolized<'_, '_>>,
+    index: usize,
+    loaded: &CrashModule,
+) -> Result<(), Error>
+    ensures { Adds result out.old out.new (module_object (loaded_of loaded.now)
+        ++ symbol_members (option_map symbolized_of (option_copied symbols.entry)) index) }
 {
-    put_object(
+    put_module_members(out, alloc, loaded)?;
+    put_symbols(out, alloc, symbols, index)?;
+    Ok(())
+}
+
+#[tactic(auto, unfolding(crate::specs::Modules::module_object))]
+fn put_module_members(out: &mut Writer, alloc: Global, loaded: &CrashModule) -> Result<(), Error>
+    ensures { Adds result out.old out.new (module_object (loaded_of loaded.now)) }
+{
+    put_fields(
         out,
         alloc,
         &[
@@ -69,6 +116,61 @@ fn put_module(out: &mut Writer, alloc: Global, loaded: &CrashModule) -> Result<(
             ("version", Scalar::Optional(&loaded.version)),
         ],
     )
+}
+
+// Adds what is known of the symbols of the module of an index, if symbols are known.
+fn put_symbols(
+    out: &mut Writer,
+    alloc: Global,
+    symbols: Option<&Symbolized<'_, '_>>,
+    index: usize,
+) -> Result<(), Error>
+    ensures { Adds result out.old out.new (symbol_members
+        (option_map symbolized_of (option_copied symbols.entry)) index) }
+{
+    match symbols {
+        Some(known) => put_state(out, alloc, known.symbols.state(index)),
+        None => put_fields(out, alloc, &[]),
+    }
+}
+
+#[tactic(auto, unfolding(crate::specs::Modules::state_object))]
+fn put_state(out: &mut Writer, alloc: Global, state: SymbolState) -> Result<(), Error>
+    ensures { Adds result out.old out.new (state_object state) }
+{
+    put_fields(
+        out,
+        alloc,
+        &[
+            ("missing_symbols", Scalar::Flag(are_missing(state))),
+            ("loaded_symbols", Scalar::Flag(are_loaded(state))),
+            ("corrupt_symbols", Scalar::Flag(are_corrupt(state))),
+        ],
+    )
+}
+
+// Tells whether symbols were looked for, and aren't there.
+#[tactic(auto, unfolding(crate::specs::Modules::are_missing))]
+fn are_missing(state: SymbolState) -> bool
+    ensures { result ≡ are_missing state }
+{
+    matches!(state, SymbolState::Missing | SymbolState::OutOfMemory)
+}
+
+// Tells whether symbols are there.
+#[tactic(auto, unfolding(crate::specs::Modules::are_loaded))]
+fn are_loaded(state: SymbolState) -> bool
+    ensures { result ≡ are_loaded state }
+{
+    matches!(state, SymbolState::Loaded)
+}
+
+// Tells whether symbols can't be read, or are those of another module.
+#[tactic(auto, unfolding(crate::specs::Modules::are_corrupt))]
+fn are_corrupt(state: SymbolState) -> bool
+    ensures { result ≡ are_corrupt state }
+{
+    matches!(state, SymbolState::Corrupt)
 }
 
 /// Puts the modules that were unloaded.

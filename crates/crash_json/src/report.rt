@@ -7,6 +7,7 @@ ghost use Rattle.minidump.specs.Promise.{mac_bootargs_stream, soft_errors_stream
 ghost use Rattle.crash.specs.Crash.{crash_of};
 ghost use Rattle.crash.specs.Modules.{loaded_of};
 ghost use Rattle.crash.specs.Threads.{thread_value};
+ghost use Rattle.crash_symbols.specs.Shown.{symbolized_of};
 ghost use Rattle.json_tree.specs.Tree.{Adds};
 ghost use Rattle.crash_json.specs.Report.{all_members, crash_members, crash_object};
 ghost use Rattle.crash_json.specs.Report.{path_members, process_members, process_object};
@@ -17,28 +18,34 @@ use crate::cause::put_crash_info;
 use crate::dump::put_minidump;
 use crate::modules::{main_module, put_all_unloaded, put_modules};
 use crate::records::{HandlesJson, MacCrashJson, put_found};
+use crate::soft_errors::put_soft_errors;
 use crate::system::{ReleaseJson, SystemJson};
 use crate::threads::{put_crashing, put_threads};
 use crash::{Crash, CrashThread};
+use crash_symbols::Symbolized;
 use json::Writer;
 use json_tree::{Scalar, ToJson, as_text, put_fields, put_members, put_value_or_null};
 use minidump::{Error, MinidumpMacBootargs, MinidumpSoftErrors};
 use std::alloc::Global;
 
-/// A crash, with the path of its file if it has one, and how many frames are written.
+/// A crash, with the path of its file if it has one, how many frames are written, and the symbols
+/// where they are known.
 #[derive(Clone, Copy)]
-pub(crate) struct Report<'l, 'a> {
+pub(crate) struct Report<'l, 'a, 's, 'n> {
     pub(crate) path: Option<&'l str>,
     pub(crate) crash: &'l Crash<'a>,
     pub(crate) limits: JsonLimits,
+    pub(crate) symbols: Option<&'l Symbolized<'s, 'n>>,
 }
 
-impl ToJson for Report<'_, '_> {
-    ghost use Rattle.std.specs.Option.{option_copied};
+impl ToJson for Report<'_, '_, '_, '_> {
+    ghost use Rattle.std.specs.Option.{option_copied, option_map};
     ghost use Rattle.crash.specs.Crash.{crash_of};
+    ghost use Rattle.crash_symbols.specs.Shown.{symbolized_of};
     ghost use Rattle.crash_json.specs.Report.{json_of};
 
-    ghost json = { λ r. json_of r.limits (option_copied r.path) (crash_of r.crash.now) };
+    ghost json = { λ r. json_of r.limits (option_copied r.path)
+        (option_map symbolized_of (option_copied r.symbols)) (crash_of r.crash.now) };
 
     #[tactic(auto, using(json_tree::proofs::Tokens::object_of_members))]
     fn put(&self, out: &mut Writer, alloc: Global) -> Result<(), Error> {
@@ -50,14 +57,21 @@ impl ToJson for Report<'_, '_> {
 }
 
 // Adds the members of a report.
-fn put_report(out: &mut Writer, alloc: Global, report: &Report<'_, '_>) -> Result<(), Error>
+fn put_report(out: &mut Writer, alloc: Global, report: &Report<'_, '_, '_, '_>) -> Result<(), Error>
     ensures { Adds result out.old out.new (all_members report.now.limits
-        (option_copied report.now.path) (crash_of report.now.crash.now)) }
+        (option_copied report.now.path) (option_map symbolized_of (option_copied report.now.symbols))
+        (crash_of report.now.crash.now)) }
 {
     put_path(out, alloc, report.path)?;
-    put_crash(out, alloc, report.crash)?;
-    put_process(out, alloc, report.crash, report.limits.frames)?;
-    put_records(out, alloc, report.crash)?;
+    put_crash(out, alloc, report.crash, report.symbols)?;
+    put_process(
+        out,
+        alloc,
+        report.crash,
+        report.limits.frames,
+        report.symbols,
+    )?;
+    put_records(out, alloc, report.crash, report.symbols)?;
     Ok(())
 }
 
@@ -72,21 +86,29 @@ fn put_path(out: &mut Writer, alloc: Global, path: Option<&str>) -> Result<(), E
 }
 
 // Adds the system, the crash and the modules.
-fn put_crash(out: &mut Writer, alloc: Global, crash: &Crash<'_>) -> Result<(), Error>
-    ensures { Adds result out.old out.new (crash_members (crash_of crash.now)) }
-{
-    let main = main_module(crash.modules.loaded.as_slice());
-    put_crash_members(out, alloc, crash, main)
-}
-
-#[tactic(auto, unfolding(crate::specs::Report::crash_object))]
-fn put_crash_members(
+fn put_crash(
     out: &mut Writer,
     alloc: Global,
     crash: &Crash<'_>,
+    symbols: Option<&Symbolized<'_, '_>>,
+) -> Result<(), Error>
+    ensures { Adds result out.old out.new (crash_members
+        (option_map symbolized_of (option_copied symbols.entry)) (crash_of crash.now)) }
+{
+    let main = main_module(crash.modules.loaded.as_slice());
+    put_crash_members(out, alloc, crash, symbols, main)
+}
+
+#[tactic(auto, unfolding(crate::specs::Report::crash_object))]
+fn put_crash_members<'l>(
+    out: &mut Writer,
+    alloc: Global,
+    crash: &'l Crash<'_>,
+    symbols: Option<&'l Symbolized<'_, '_>>,
     main: Option<usize>,
 ) -> Result<(), Error>
-    ensures { Adds result out.old out.new (crash_object (crash_of crash.now) main) }
+    ensures { Adds result out.old out.new (crash_object
+        (option_map symbolized_of (option_copied symbols.entry)) (crash_of crash.now) main) }
 {
     put_members(
         out,
@@ -96,7 +118,7 @@ fn put_crash_members(
             ("system_info", ReportMember::System(crash)),
             ("crash_info", ReportMember::CrashInfo(crash)),
             ("main_module", ReportMember::Scalar(Scalar::Count(main))),
-            ("modules", ReportMember::Modules(crash)),
+            ("modules", ReportMember::Modules(crash, symbols)),
             ("unloaded_modules", ReportMember::Unloaded(crash)),
         ],
     )
@@ -108,11 +130,21 @@ fn put_process(
     alloc: Global,
     crash: &Crash<'_>,
     limit: usize,
+    symbols: Option<&Symbolized<'_, '_>>,
 ) -> Result<(), Error>
-    ensures { Adds result out.old out.new (process_members limit (crash_of crash.now)) }
+    ensures { Adds result out.old out.new (process_members limit
+        (option_map symbolized_of (option_copied symbols.entry)) (crash_of crash.now)) }
 {
     let threads = how_many(crash.threads.threads.as_slice());
-    put_process_members(out, alloc, crash, limit, process_id(crash), threads)
+    put_process_members(
+        out,
+        alloc,
+        crash,
+        limit,
+        symbols,
+        process_id(crash),
+        threads,
+    )
 }
 
 // Returns how many threads there are.
@@ -130,16 +162,17 @@ fn process_id(crash: &Crash<'_>) -> Option<u64>
 }
 
 #[tactic(auto, unfolding(crate::specs::Report::process_object))]
-fn put_process_members(
+fn put_process_members<'l>(
     out: &mut Writer,
     alloc: Global,
-    crash: &Crash<'_>,
+    crash: &'l Crash<'_>,
     limit: usize,
+    symbols: Option<&'l Symbolized<'_, '_>>,
     id: Option<u64>,
     threads: usize,
 ) -> Result<(), Error>
-    ensures { Adds result out.old out.new
-        (process_object limit (crash_of crash.now) id threads) }
+    ensures { Adds result out.old out.new (process_object limit
+        (option_map symbolized_of (option_copied symbols.entry)) (crash_of crash.now) id threads) }
 {
     put_members(
         out,
@@ -150,21 +183,31 @@ fn put_process_members(
                 "thread_count",
                 ReportMember::Scalar(Scalar::Count(Some(threads))),
             ),
-            ("threads", ReportMember::Threads(limit, crash)),
-            ("crashing_thread", ReportMember::Crashing(limit, crash)),
+            ("threads", ReportMember::Threads(limit, crash, symbols)),
+            (
+                "crashing_thread",
+                ReportMember::Crashing(limit, crash, symbols),
+            ),
         ],
     )
 }
 
 // Adds what single streams hold, and what the schema has no member for.
-fn put_records(out: &mut Writer, alloc: Global, crash: &Crash<'_>) -> Result<(), Error>
-    ensures { Adds result out.old out.new (record_members (crash_of crash.now)) }
+fn put_records(
+    out: &mut Writer,
+    alloc: Global,
+    crash: &Crash<'_>,
+    symbols: Option<&Symbolized<'_, '_>>,
+) -> Result<(), Error>
+    ensures { Adds result out.old out.new (record_members
+        (option_map symbolized_of (option_copied symbols.entry)) (crash_of crash.now)) }
 {
     let messages = &crash.contents.messages;
     put_record_members(
         out,
         alloc,
         crash,
+        symbols,
         boot_args(&messages.mac_boot_args),
         soft_errors(&messages.soft_errors),
     )
@@ -196,11 +239,12 @@ fn put_record_members<'l>(
     out: &mut Writer,
     alloc: Global,
     crash: &'l Crash<'_>,
+    symbols: Option<&'l Symbolized<'_, '_>>,
     boot_args: Option<&'l str>,
     soft_errors: Option<&'l str>,
 ) -> Result<(), Error>
-    ensures { Adds result out.old out.new (record_object (crash_of crash.now)
-        (option_copied boot_args.entry) (option_copied soft_errors.entry)) }
+    ensures { Adds result out.old out.new (record_object
+        (option_map symbolized_of (option_copied symbols.entry)) (crash_of crash.now) (option_copied boot_args.entry) (option_copied soft_errors.entry)) }
 {
     put_members(
         out,
@@ -213,36 +257,34 @@ fn put_record_members<'l>(
                 ReportMember::Scalar(Scalar::Text(boot_args)),
             ),
             ("handles", ReportMember::Handles(crash)),
-            (
-                "soft_errors",
-                ReportMember::Scalar(Scalar::Text(soft_errors)),
-            ),
+            ("soft_errors", ReportMember::SoftErrors(soft_errors)),
             (
                 "linux_memory_map_count",
                 ReportMember::Scalar(Scalar::Count(crash.contents.space.map_count)),
             ),
-            ("minidump", ReportMember::Minidump(crash)),
+            ("minidump", ReportMember::Minidump(crash, symbols)),
         ],
     )
 }
 
 // The value of a member, without parts or of a part of the crash.
 #[derive(Clone, Copy)]
-pub(crate) enum ReportMember<'l, 'a> {
+pub(crate) enum ReportMember<'l, 'a, 's, 'n> {
     Scalar(Scalar<'l>),
     System(&'l Crash<'a>),
     CrashInfo(&'l Crash<'a>),
-    Modules(&'l Crash<'a>),
+    Modules(&'l Crash<'a>, Option<&'l Symbolized<'s, 'n>>),
     Unloaded(&'l Crash<'a>),
-    Threads(usize, &'l Crash<'a>),
-    Crashing(usize, &'l Crash<'a>),
+    Threads(usize, &'l Crash<'a>, Option<&'l Symbolized<'s, 'n>>),
+    Crashing(usize, &'l Crash<'a>, Option<&'l Symbolized<'s, 'n>>),
     Release(&'l Crash<'a>),
     MacCrash(&'l Crash<'a>),
     Handles(&'l Crash<'a>),
-    Minidump(&'l Crash<'a>),
+    SoftErrors(Option<&'l str>),
+    Minidump(&'l Crash<'a>, Option<&'l Symbolized<'s, 'n>>),
 }
 
-impl ToJson for ReportMember<'_, '_> {
+impl ToJson for ReportMember<'_, '_, '_, '_> {
     ghost use Rattle.crash_json.specs.Members.{report_member};
 
     ghost json = { report_member };
@@ -254,14 +296,18 @@ impl ToJson for ReportMember<'_, '_> {
                 put_value_or_null(out, alloc, &crash.process.system, &SystemJson)
             }
             ReportMember::CrashInfo(crash) => put_crash_info(out, alloc, crash),
-            ReportMember::Modules(crash) => {
-                put_modules(out, alloc, crash.modules.loaded.as_slice())
+            ReportMember::Modules(crash, symbols) => {
+                put_modules(out, alloc, *symbols, crash.modules.loaded.as_slice())
             }
             ReportMember::Unloaded(crash) => {
                 put_all_unloaded(out, alloc, crash.modules.unloaded.as_slice())
             }
-            ReportMember::Threads(limit, crash) => put_threads(out, alloc, *limit, crash),
-            ReportMember::Crashing(limit, crash) => put_crashing(out, alloc, *limit, crash),
+            ReportMember::Threads(limit, crash, symbols) => {
+                put_threads(out, alloc, *limit, crash, *symbols)
+            }
+            ReportMember::Crashing(limit, crash, symbols) => {
+                put_crashing(out, alloc, *limit, crash, *symbols)
+            }
             ReportMember::Release(crash) => {
                 put_value_or_null(out, alloc, &crash.process.release, &ReleaseJson)
             }
@@ -274,7 +320,8 @@ impl ToJson for ReportMember<'_, '_> {
             ReportMember::Handles(crash) => {
                 put_found(out, alloc, &crash.contents.process.handles, &HandlesJson)
             }
-            ReportMember::Minidump(crash) => put_minidump(out, alloc, crash),
+            ReportMember::SoftErrors(text) => put_soft_errors(out, alloc, *text),
+            ReportMember::Minidump(crash, symbols) => put_minidump(out, alloc, crash, *symbols),
         }
     }
 }

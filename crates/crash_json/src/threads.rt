@@ -3,117 +3,152 @@ ghost use Rattle.std.specs.Prelude.{◌≡◌, ◌∷◌, IfOk, codes, length, m
 ghost use Rattle.std.specs.Option.{option_copied, option_map};
 ghost use Rattle.crash.specs.Contexts.{context_of};
 ghost use Rattle.crash.specs.Crash.{crash_of};
-ghost use Rattle.crash.specs.Frames.{crash_walk_of};
 ghost use Rattle.crash.specs.Modules.{loaded_of};
 ghost use Rattle.crash.specs.Threads.{thread_value, threads_of};
+ghost use Rattle.crash_symbols.specs.Shown.{shown_frame_of, shown_of, symbolized_of};
 ghost use Rattle.json_tree.specs.Tree.{Adds, Puts, count};
 ghost use Rattle.crash_json.specs.Cause.{problem_name};
 ghost use Rattle.crash_json.specs.Threads.{all_frames, crashing_json, end_name};
-ghost use Rattle.crash_json.specs.Threads.{indexed_crashed, indexed_json, range_json, registers_of};
-ghost use Rattle.crash_json.specs.Threads.{short_json, short_of, thread_members, thread_object};
-ghost use Rattle.crash_json.specs.Threads.{threads_json};
+ghost use Rattle.crash_json.specs.Threads.{indexed_crashed, indexed_json, pointer_end_name};
+ghost use Rattle.crash_json.specs.Threads.{range_json, registers_of, short_json, short_of};
+ghost use Rattle.crash_json.specs.Threads.{thread_members, thread_object, threads_json, walk_members};
 
 use crate::cause::problem_name;
-use crate::frames::EachFrame;
+use crate::frames::{EachFrame, put_frames};
 use crash::{
-    ContextOrigin, Crash, CrashContext, CrashFrame, CrashModule, CrashThread, CrashThreads,
-    CrashWalk, ShortContext, StackRange,
+    ContextOrigin, Crash, CrashContext, CrashModule, CrashThread, CrashThreads, ShortContext,
+    StackRange,
 };
+use crash_symbols::{ShownFrame, ShownWalk, Symbolized, shown_walk};
 use json::Writer;
 use json_tree::{
-    ItemJson, Scalar, ToJson, ValueJson, put_fields, put_item_or_null, put_members,
-    put_numbered_array, put_object, put_values,
+    ItemJson, NumberedJson, Scalar, ToJson, put_fields, put_item_or_null, put_members,
+    put_numbered_array, put_object,
 };
 use minidump::Error;
 use stack_walk::WalkEnd;
 use std::alloc::{AllocError, Global};
+use symbol_walk::SymbolWalkEnd;
 
-// What threads are written by: how many frames of each at most, and the modules.
+// What threads are written by: how many frames of each at most, the modules, and the symbols where
+// they are known.
 #[derive(Clone, Copy)]
-struct EachThread<'l> {
+struct EachThread<'l, 's, 'n> {
     limit: usize,
     modules: &'l [CrashModule],
+    symbols: Option<&'l Symbolized<'s, 'n>>,
 }
 
-impl ValueJson<CrashThread> for EachThread<'_> {
+impl NumberedJson<CrashThread> for EachThread<'_, '_, '_> {
     ghost use Rattle.std.specs.Prelude.{map};
+    ghost use Rattle.std.specs.Option.{option_copied, option_map};
     ghost use Rattle.crash.specs.Modules.{loaded_of};
-    ghost use Rattle.crash.specs.Threads.{ThreadValue, thread_value};
+    ghost use Rattle.crash.specs.Threads.{thread_value};
+    ghost use Rattle.crash_symbols.specs.Shown.{symbolized_of};
     ghost use Rattle.crash_json.specs.Threads.{thread_json};
 
-    ghost Value = { ThreadValue };
-
-    ghost value_of = { thread_value };
-
-    ghost json_of = { λ e t. thread_json e.limit (map loaded_of e.modules.now) t };
+    ghost json_at = { λ e n t. thread_json e.limit
+        (option_map symbolized_of (option_copied e.symbols)) (map loaded_of e.modules.now) n
+        (thread_value t) };
 
     #[tactic(auto, using(json_tree::proofs::Tokens::object_of_members))]
-    fn put_value(&self, item: &CrashThread, out: &mut Writer, alloc: Global) -> Result<(), Error> {
+    fn put_item_at(
+        &self,
+        number: usize,
+        item: &CrashThread,
+        out: &mut Writer,
+        alloc: Global,
+    ) -> Result<(), Error> {
         out.begin_object()?;
-        put_thread(out, alloc, self, None, item)?;
+        put_thread(out, alloc, self, None, number, item)?;
         out.end_object()?;
         Ok(())
     }
 }
 
 /// Puts the threads, with at most so many frames each.
-pub(crate) fn put_threads(
+pub(crate) fn put_threads<'l>(
     out: &mut Writer,
     alloc: Global,
     limit: usize,
-    crash: &Crash<'_>,
+    crash: &'l Crash<'_>,
+    symbols: Option<&'l Symbolized<'_, '_>>,
 ) -> Result<(), Error>
-    ensures { Puts result out.old out.new (threads_json limit (crash_of crash.now).modules.loaded
+    ensures { Puts result out.old out.new (threads_json limit
+        (option_map symbolized_of (option_copied symbols.entry)) (crash_of crash.now).modules.loaded
         (crash_of crash.now).threads.threads) }
 {
     let each = EachThread {
         limit,
         modules: crash.modules.loaded.as_slice(),
+        symbols,
     };
     put_each_thread(out, alloc, &each, crash.threads.threads.as_slice())
 }
 
-#[tactic(auto, unfolding(crate::specs::Threads::threads_json))]
+#[tactic(auto, unfolding(crate::specs::Threads::threads_json), using(crate::proofs::NumberedLemmas::numbered_values))]
 fn put_each_thread(
     out: &mut Writer,
     alloc: Global,
-    by: &EachThread<'_>,
+    by: &EachThread<'_, '_, '_>,
     threads: &[CrashThread],
 ) -> Result<(), Error>
-    ensures { Puts result out.old out.new
-        (threads_json by.now.limit (map loaded_of by.now.modules.now)
-        (map thread_value threads.now)) }
+    ensures { Puts result out.old out.new (threads_json by.now.limit
+        (option_map symbolized_of (option_copied by.now.symbols))
+        (map loaded_of by.now.modules.now) (map thread_value threads.now)) }
 {
-    put_values(out, alloc, threads, by)
+    put_numbered_array(out, alloc, threads, by)
 }
 
-// Adds the members of a thread, with the registers of its first frame if they are shown.
+// Adds the members of a thread with its index, with the registers of its first frame if they are
+// shown.
 fn put_thread(
     out: &mut Writer,
     alloc: Global,
-    by: &EachThread<'_>,
+    by: &EachThread<'_, '_, '_>,
     context: Option<&CrashContext>,
+    number: usize,
     thread: &CrashThread,
 ) -> Result<(), Error>
-    ensures { Adds result out.old out.new
-        (thread_members by.now.limit (map loaded_of by.now.modules.now)
-        (option_map context_of (option_copied context.entry)) (thread_value thread.now)) }
+    ensures { Adds result out.old out.new (thread_members by.now.limit
+        (option_map symbolized_of (option_copied by.now.symbols))
+        (map loaded_of by.now.modules.now)
+        (option_map context_of (option_copied context.entry)) number (thread_value thread.now)) }
 {
-    let frames = all_frames(alloc, &thread.walk)?;
+    let walk = shown_walk(alloc, thread, number, by.symbols)?;
     let each = EachFrame {
         modules: by.modules,
         context,
+        has_symbols: by.symbols.is_some(),
     };
+    put_walk(out, alloc, by.limit, each, thread, &walk)
+}
+
+// Adds the members of a thread by what is shown of it.
+fn put_walk(
+    out: &mut Writer,
+    alloc: Global,
+    limit: usize,
+    each: EachFrame<'_>,
+    thread: &CrashThread,
+    walk: &Option<ShownWalk<'_, '_>>,
+) -> Result<(), Error>
+    ensures { Adds result out.old out.new (walk_members limit
+        (map loaded_of each.entry.modules.now)
+        (option_map context_of (option_copied each.entry.context)) each.entry.has_symbols
+        (thread_value thread.now) (option_map shown_of walk.now)) }
+{
+    let frames = all_frames(alloc, walk)?;
     put_thread_members(
         out,
         alloc,
         thread,
         problem_name(thread.context_problem),
-        end_of(&thread.walk),
+        end_of(walk),
         short_of(thread),
-        frames.len(),
+        how_many(frames.as_slice()),
         each,
-        first(frames.as_slice(), by.limit),
+        first_of(frames.as_slice(), limit),
     )
 }
 
@@ -125,9 +160,12 @@ fn short_of(thread: &CrashThread) -> Option<ShortContext>
 }
 
 // Returns what is found in a stack: the frames, and after them the candidates.
-fn all_frames(alloc: Global, walk: &Option<CrashWalk>) -> Result<Vec<CrashFrame>, AllocError>
-    ensures { IfOk result
-        (λ frames. frames.items ≡ all_frames (option_map crash_walk_of walk.now)) }
+fn all_frames<'s, 'n>(
+    alloc: Global,
+    walk: &Option<ShownWalk<'s, 'n>>,
+) -> Result<Vec<ShownFrame<'s, 'n>>, AllocError>
+    ensures { IfOk result (λ frames. map shown_frame_of frames.items
+        ≡ all_frames (option_map shown_of walk.now)) }
 {
     let mut frames = Vec::new(alloc);
     match walk {
@@ -140,17 +178,35 @@ fn all_frames(alloc: Global, walk: &Option<CrashWalk>) -> Result<Vec<CrashFrame>
     }
 }
 
-// Returns the first frames.
-fn first(frames: &[CrashFrame], limit: usize) -> &[CrashFrame]
+// Returns the first frames, at most so many.
+#[tactic(auto, using(crate::proofs::NumberedLemmas::first_values))]
+fn first_of<'f, 's, 'n>(frames: &'f [ShownFrame<'s, 'n>], limit: usize) -> &'f [ShownFrame<'s, 'n>]
+    ensures { map shown_frame_of result.now ≡ take limit (map shown_frame_of frames.now) }
+{
+    first(frames, limit)
+}
+
+fn first<'f, 's, 'n>(frames: &'f [ShownFrame<'s, 'n>], limit: usize) -> &'f [ShownFrame<'s, 'n>]
     ensures { result.now ≡ take limit frames.now }
 {
-    &frames[..frames.len().min(limit)]
+    if limit < frames.len() {
+        &frames[..limit]
+    } else {
+        frames
+    }
+}
+
+// Returns how many frames there are.
+fn how_many(frames: &[ShownFrame<'_, '_>]) -> usize
+    ensures { result ≡ length (map shown_frame_of frames.now) }
+{
+    frames.len()
 }
 
 // Returns the word for why the last frame has no caller.
-fn end_of(walk: &Option<CrashWalk>) -> Option<&'static str>
+fn end_of(walk: &Option<ShownWalk<'_, '_>>) -> Option<&'static str>
     ensures { option_copied result
-        ≡ option_map (λ w. end_name w.end) (option_map crash_walk_of walk.now) }
+        ≡ option_map (λ w. end_name w.end) (option_map shown_of walk.now) }
 {
     match walk {
         Some(walk) => Some(end_name(walk.end)),
@@ -158,8 +214,18 @@ fn end_of(walk: &Option<CrashWalk>) -> Option<&'static str>
     }
 }
 
-fn end_name(end: WalkEnd) -> &'static str
+fn end_name(end: SymbolWalkEnd) -> &'static str
     ensures { result.now ≡ end_name end }
+{
+    match end {
+        SymbolWalkEnd::Walk(end) => pointer_end_name(end),
+        SymbolWalkEnd::NoReturnRule => "no_return_rule",
+        SymbolWalkEnd::ZeroReturnAddress => "zero_return_address",
+    }
+}
+
+fn pointer_end_name(end: WalkEnd) -> &'static str
+    ensures { result.now ≡ pointer_end_name end }
 {
     match end {
         WalkEnd::NoMemory => "no_memory",
@@ -182,12 +248,13 @@ fn put_thread_members<'l>(
     short: Option<ShortContext>,
     frame_count: usize,
     each: EachFrame<'l>,
-    frames: &'l [CrashFrame],
+    frames: &'l [ShownFrame<'_, '_>],
 ) -> Result<(), Error>
     ensures { Adds result out.old out.new (thread_object (thread_value thread.now)
         (option_copied problem.entry) (option_copied end.entry) short frame_count
         (map loaded_of each.entry.modules.now)
-        (option_map context_of (option_copied each.entry.context)) frames.now) }
+        (option_map context_of (option_copied each.entry.context)) each.entry.has_symbols
+        (map shown_frame_of frames.now)) }
 {
     put_members(
         out,
@@ -228,14 +295,14 @@ fn put_thread_members<'l>(
 
 // The value of a member of a thread.
 #[derive(Clone, Copy)]
-pub(crate) enum ThreadMember<'l> {
+pub(crate) enum ThreadMember<'l, 's, 'n> {
     Scalar(Scalar<'l>),
     Range(Option<StackRange>),
     Short(Option<ShortContext>),
-    Frames(EachFrame<'l>, &'l [CrashFrame]),
+    Frames(EachFrame<'l>, &'l [ShownFrame<'s, 'n>]),
 }
 
-impl ToJson for ThreadMember<'_> {
+impl ToJson for ThreadMember<'_, '_, '_> {
     ghost use Rattle.crash_json.specs.Members.{thread_member};
 
     ghost json = { thread_member };
@@ -245,7 +312,7 @@ impl ToJson for ThreadMember<'_> {
             ThreadMember::Scalar(scalar) => scalar.put(out, alloc),
             ThreadMember::Range(range) => put_item_or_null(out, alloc, range, &RangeJson),
             ThreadMember::Short(short) => put_item_or_null(out, alloc, short, &ShortJson),
-            ThreadMember::Frames(each, frames) => put_numbered_array(out, alloc, frames, each),
+            ThreadMember::Frames(each, frames) => put_frames(out, alloc, each, frames),
         }
     }
 }
@@ -307,18 +374,21 @@ fn put_short(out: &mut Writer, alloc: Global, short: ShortContext) -> Result<(),
 }
 
 /// Puts the thread that crashed, with its index and the registers of its first frame, or `null`.
-pub(crate) fn put_crashing(
+pub(crate) fn put_crashing<'l>(
     out: &mut Writer,
     alloc: Global,
     limit: usize,
-    crash: &Crash<'_>,
+    crash: &'l Crash<'_>,
+    symbols: Option<&'l Symbolized<'_, '_>>,
 ) -> Result<(), Error>
-    ensures { Puts result out.old out.new (crashing_json limit (crash_of crash.now).modules.loaded
+    ensures { Puts result out.old out.new (crashing_json limit
+        (option_map symbolized_of (option_copied symbols.entry)) (crash_of crash.now).modules.loaded
         (crash_of crash.now).threads) }
 {
     let each = EachThread {
         limit,
         modules: crash.modules.loaded.as_slice(),
+        symbols,
     };
     put_crashed(out, alloc, &each, &crash.threads)
 }
@@ -326,10 +396,11 @@ pub(crate) fn put_crashing(
 fn put_crashed(
     out: &mut Writer,
     alloc: Global,
-    by: &EachThread<'_>,
+    by: &EachThread<'_, '_, '_>,
     threads: &CrashThreads,
 ) -> Result<(), Error>
     ensures { Puts result out.old out.new (crashing_json by.now.limit
+        (option_map symbolized_of (option_copied by.now.symbols))
         (map loaded_of by.now.modules.now) (threads_of threads.now)) }
 {
     match crashed(threads) {
@@ -339,8 +410,8 @@ fn put_crashed(
     Ok(())
 }
 
-// Returns the thread that crashed, with its index.
-fn crashed(threads: &CrashThreads) -> Option<(usize, &CrashThread)>
+/// Returns the thread that crashed, with its index.
+pub(crate) fn crashed(threads: &CrashThreads) -> Option<(usize, &CrashThread)>
     ensures { option_map (λ p. (p.0, thread_value p.1.now)) result
         ≡ indexed_crashed (threads_of threads.now) }
 {
@@ -354,11 +425,12 @@ fn crashed(threads: &CrashThreads) -> Option<(usize, &CrashThread)>
 fn put_indexed(
     out: &mut Writer,
     alloc: Global,
-    by: &EachThread<'_>,
+    by: &EachThread<'_, '_, '_>,
     index: usize,
     thread: &CrashThread,
 ) -> Result<(), Error>
     ensures { Puts result out.old out.new (indexed_json by.now.limit
+        (option_map symbolized_of (option_copied by.now.symbols))
         (map loaded_of by.now.modules.now) index (thread_value thread.now)) }
 {
     out.begin_object()?;
@@ -370,16 +442,17 @@ fn put_indexed(
 fn put_indexed_members(
     out: &mut Writer,
     alloc: Global,
-    by: &EachThread<'_>,
+    by: &EachThread<'_, '_, '_>,
     index: usize,
     thread: &CrashThread,
 ) -> Result<(), Error>
     ensures { Adds result out.old out.new ((codes "threads_index", count index)
-        ∷ thread_members by.now.limit (map loaded_of by.now.modules.now)
-        (thread_value thread.now).context (thread_value thread.now)) }
+        ∷ thread_members by.now.limit (option_map symbolized_of (option_copied by.now.symbols))
+        (map loaded_of by.now.modules.now) (thread_value thread.now).context index
+        (thread_value thread.now)) }
 {
     put_fields(out, alloc, &[("threads_index", Scalar::Count(Some(index)))])?;
-    put_thread(out, alloc, by, thread.context.as_ref(), thread)?;
+    put_thread(out, alloc, by, thread.context.as_ref(), index, thread)?;
     Ok(())
 }
 

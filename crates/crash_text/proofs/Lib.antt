@@ -1,5 +1,6 @@
 -- What several proofs share.
 pub mod EscapeLemmas
+pub mod FrameLemmas
 pub mod LineLemmas
 pub mod MarkLemmas
 pub mod NumberLemmas

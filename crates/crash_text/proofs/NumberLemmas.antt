@@ -58,11 +58,14 @@ more_lines old now new before lines after is so_far added =
     added ∙ ap (λ t. t ++ flat_map line_of lines) so_far ∙ append_assoc old (flat_map line_of before) (flat_map line_of lines)
     ∙ ap (λ t. old ++ t) (sym (flat_map-append line_of before lines) ∙ ap (flat_map line_of) (sym is))
 
--- the line of an item was appended, with its number
-pub next_row : {X : Type 0} (f : ℕ × X → List ℕ) (xs : List X) (i : ℕ) (d : X) (old now new : List ℕ) → i < length xs
-    → now ≡ old ++ flat_map line_of (map f (enumerate_from 0 (take i xs))) → new ≡ now ++ flat_map line_of (f (i, get_or xs i d) ∷ [])
-    → new ≡ old ++ flat_map line_of (map f (enumerate_from 0 (take (i + 1) xs)))
-next_row f xs i d old now new within so_far added =
-    let is : take (i + 1) xs ≡ take i xs ++ get_or xs i d ∷ [] = rw add-one (take-suc xs i d within) in
-    more_lines old now new (map f (enumerate_from 0 (take i xs))) (f (i, get_or xs i d) ∷ []) (map f (enumerate_from 0 (take (i + 1) xs)))
-    (more_rows f (take i xs) (take (i + 1) xs) i (get_or xs i d) (length_taken xs i within) is) so_far added
+-- the line of the value of an item was appended, with its number
+pub next_value : {X Y : Type 0} (value : X → Y) (f : ℕ × Y → List ℕ) (xs : List X) (i : ℕ) (d : X) (old now new : List ℕ) → i < length xs
+    → now ≡ old ++ flat_map line_of (map f (enumerate_from 0 (map value (take i xs))))
+    → new ≡ now ++ flat_map line_of (f (i, value (get_or xs i d)) ∷ [])
+    → new ≡ old ++ flat_map line_of (map f (enumerate_from 0 (map value (take (i + 1) xs))))
+next_value value f xs i d old now new within so_far added =
+    let x = get_or xs i d in
+    let is : take (i + 1) xs ≡ take i xs ++ x ∷ [] = rw add-one (take-suc xs i d within) in
+    let values : map value (take (i + 1) xs) ≡ map value (take i xs) ++ value x ∷ [] = ap (map value) is ∙ map-append value (take i xs) (x ∷ []) in
+    more_lines old now new (map f (enumerate_from 0 (map value (take i xs)))) (f (i, value x) ∷ []) (map f (enumerate_from 0 (map value (take (i + 1) xs))))
+    (more_rows f (map value (take i xs)) (map value (take (i + 1) xs)) i (value x) (length_values value xs i within) values) so_far added

@@ -11,6 +11,7 @@ use Rattle.crash.specs.Counting.{counted}
 use Rattle.crash.specs.Crash.{CrashValue}
 use Rattle.crash_text.specs.Addresses.{address_lines}
 use Rattle.crash_text.specs.Lines.{if_some}
+use Rattle.crash_text.specs.Point.{point_lines}
 use Rattle.crash_text.specs.Records.{record_text}
 use Rattle.crash_text.specs.Registers.{registers_lines}
 use Rattle.crash_text.specs.Words.{or_empty, unless_empty}
@@ -35,7 +36,7 @@ abbrev pub counted_lines : CrashValue → ExceptionValue → List (List ℕ)
 counted_lines c e = crashed_row e.thread
     ∷ (if_some (address_lines c) c.cause.address
     ++ (if_some (λ reason. reason_row reason ∷ []) e.reason
-    ++ (code_row e.code e.at (record_text e) ∷ registers_lines c e)))
+    ++ (code_row e.code e.at (record_text e) ∷ (registers_lines c e ++ point_lines c))))
 
 -- ---- the exceptions
 

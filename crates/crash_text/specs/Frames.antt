@@ -1,53 +1,131 @@
 -- The lines of frames, and which frames are printed.
-use Rattle.std.specs.Prelude.{ℕ, ◌++◌, ◌-◌, Bool, List, [], ◌∷◌, length, map, nat_lt}
-use Rattle.std.specs.Prelude.{codes, if◌then◌else◌, take, unwrap_or}
+use Rattle.std.specs.Prelude.{ℕ, ◌++◌, ◌-◌, Bool, false, true, List, [], ◌∷◌, length, map, nat_lt}
+use Rattle.std.specs.Prelude.{codes, if◌then◌else◌, take, unwrap_or, Option, Some, None}
 use Rattle.std.specs.Fmt.{decimal}
-use Rattle.std.specs.List.{concat, enumerate_from}
+use Rattle.std.specs.List.{concat, enumerate_from, flat_map}
+use Rattle.std.specs.Option.{option_map}
+use Rattle.std.specs.Str.Lossy.{utf8_lossy}
 use Rattle.stack_walk.specs.declared.end.WalkEnd.{WalkEnd}
 use Rattle.stack_walk.specs.declared.end.WalkEnd.TheVariants.{BelowStackPointer, NoCode}
 use Rattle.stack_walk.specs.declared.end.WalkEnd.TheVariants.{NoFramePointer, NoMemory, NoRecord}
 use Rattle.stack_walk.specs.declared.end.WalkEnd.TheVariants.{UnknownWidth, ZeroFramePointer}
 use Rattle.stack_walk.specs.declared.frame.FrameTrust.{FrameTrust}
-use Rattle.stack_walk.specs.declared.frame.FrameTrust.TheVariants.{Context, FramePointer, Scan}
+use Rattle.stack_walk.specs.declared.frame.FrameTrust.TheVariants.{Context, Cfi, FramePointer, Scan}
 use Rattle.minidump.specs.Below.Bytes.Piece.{hex}
+use Rattle.symbol_walk.specs.declared.walk.SymbolWalkEnd.{SymbolWalkEnd}
+use Rattle.symbol_walk.specs.declared.walk.SymbolWalkEnd.TheVariants.{Walk, NoReturnRule}
+use Rattle.symbol_walk.specs.declared.walk.SymbolWalkEnd.TheVariants.{ZeroReturnAddress}
 use Rattle.crash.specs.declared.frames.CrashFrame.{CrashFrame}
-use Rattle.crash.specs.Frames.{CrashWalkValue}
 use Rattle.crash.specs.Modules.{LoadedValue}
+use Rattle.crash_symbols.specs.Backtraces.{BacktraceValue}
+use Rattle.crash_symbols.specs.Names.{CallValue, NamedFrameValue, SourceValue}
 use Rattle.crash_text.specs.declared.limits.TextLimits.{TextLimits}
 use Rattle.crash_text.specs.Places.{place_text}
+
+-- ---- a frame, and the calls put in place there
+
+-- a frame, or a call that the compiler put in place there: its function, with the offset of the frame
+-- from the function's first, and its source line
+pub record EntryValue : Type 0 where
+  pub frame : CrashFrame
+  pub function : Option (List ℕ)
+  pub offset : Option ℕ
+  pub source : Option SourceValue
+  pub is_inline : Bool
+
+-- a call put in place at a frame
+abbrev pub call_entry : CrashFrame → CallValue → EntryValue
+call_entry f c = record {
+  frame = f;
+  function = c.function;
+  offset = None;
+  source = c.source;
+  is_inline = true;
+}
+
+-- a frame without the calls put in place there
+abbrev pub own_entry : NamedFrameValue → EntryValue
+own_entry f = record {
+  frame = f.frame;
+  function = option_map (λ g. g.name) f.function;
+  offset = option_map (λ g. g.offset) f.function;
+  source = f.line;
+  is_inline = false;
+}
+
+-- the calls put in place at a frame, the innermost first, and then the frame
+abbrev pub entries_of : NamedFrameValue → List EntryValue
+entries_of f = map (call_entry f.frame) f.inlines ++ own_entry f ∷ []
+
+-- those of frames
+unfoldable pub entries_in : List NamedFrameValue → List EntryValue
+entries_in frames = flat_map entries_of frames
+
+-- ---- the line of a frame
 
 -- the words for how a frame was found
 abbrev pub trust_text : FrameTrust → List ℕ
 trust_text Context = codes ", context"
+trust_text Cfi = codes ", call frame information"
 trust_text FramePointer = codes ", frame pointer"
 trust_text Scan = codes ", scan"
+
+-- the same, or that it is a call that the compiler put in place
+abbrev pub found_text : Bool → FrameTrust → List ℕ
+found_text true trust = codes ", inline"
+found_text false trust = trust_text trust
+
+-- the words for an offset in a function
+abbrev pub offset_text : Option ℕ → List ℕ
+offset_text (Some offset) = concat (codes " + " ∷ hex offset ∷ [])
+offset_text None = []
+
+-- the words for a function by its name and an offset in it
+abbrev pub name_text : Option (List ℕ) → Option ℕ → List ℕ
+name_text (Some name) offset = concat (codes " " ∷ utf8_lossy name ∷ offset_text offset ∷ [])
+name_text None offset = []
+
+-- the words for a line of a source file, where the file is known
+abbrev pub line_text : Option (List ℕ) → ℕ → List ℕ
+line_text (Some file) line =
+    concat (codes " at " ∷ utf8_lossy file ∷ codes ":" ∷ decimal line ∷ [])
+line_text None line = []
+
+-- the words for a source line
+abbrev pub source_text : Option SourceValue → List ℕ
+source_text (Some s) = line_text s.file s.line
+source_text None = []
 
 -- the address of a frame: that by which it is looked up, which lies in the call of a caller, or the
 -- instruction where there is none
 abbrev pub printed_address : CrashFrame → ℕ
 printed_address f = unwrap_or f.address f.instruction
 
--- the line of a frame: its number, its address, the words for its module, and how it was found
-unfoldable pub frame_row : ℕ → CrashFrame → List ℕ → List ℕ
-frame_row number f place = concat (codes "    #" ∷ decimal number ∷ codes " "
-    ∷ hex (printed_address f) ∷ place ∷ trust_text f.trust ∷ [])
+-- the line of a frame: its number, its address, the words for its function, its source line and its
+-- module, and how it was found
+unfoldable pub frame_row : ℕ → CrashFrame → List ℕ → List ℕ → List ℕ → List ℕ → List ℕ
+frame_row number f name source place found = concat (codes "    #" ∷ decimal number ∷ codes " "
+    ∷ hex (printed_address f) ∷ name ∷ source ∷ place ∷ found ∷ [])
 
--- the same by the modules
-abbrev pub frame_line : List LoadedValue → ℕ → CrashFrame → List ℕ
-frame_line modules number f =
-    frame_row number f (place_text modules (codes " in no module") f.«module»)
+-- the line of a frame or a call by the modules
+abbrev pub entry_line : List LoadedValue → ℕ → EntryValue → List ℕ
+entry_line modules number e = frame_row number e.frame (name_text e.function e.offset)
+    (source_text e.source) (place_text modules (codes " in no module") e.frame.«module»)
+    (found_text e.is_inline e.frame.trust)
 
--- frames, each with its number
-abbrev pub each_frame : List LoadedValue → List CrashFrame → List (List ℕ)
-each_frame modules frames = map (λ p. frame_line modules p.0 p.1) (enumerate_from 0 frames)
+-- frames and calls, each with its number
+abbrev pub each_entry : List LoadedValue → List EntryValue → List (List ℕ)
+each_entry modules entries = map (λ p. entry_line modules p.0 p.1) (enumerate_from 0 entries)
+
+-- ---- the frames of a thread
 
 -- the frames and the candidates after them
-abbrev pub all_frames : CrashWalkValue → List CrashFrame
+abbrev pub all_frames : BacktraceValue → List NamedFrameValue
 all_frames w = w.frames ++ w.candidates
 
 -- the frames of a thread that are printed: as many as the limit says, of the frames and the
 -- candidates, or the first alone
-abbrev pub printed_frames : TextLimits → Bool → CrashWalkValue → List CrashFrame
+abbrev pub printed_frames : TextLimits → Bool → BacktraceValue → List NamedFrameValue
 printed_frames limits is_whole w =
     if is_whole then take limits.frames (all_frames w) else take 1 w.frames
 
@@ -60,27 +138,33 @@ abbrev pub hidden_lines : ℕ → ℕ → List (List ℕ)
 hidden_lines limit count =
     if nat_lt limit count then hidden_row (count - limit) ∷ [] else []
 
+-- why a walk by frame pointers ends, in words
+abbrev pub pointer_end_text : WalkEnd → List ℕ
+pointer_end_text NoMemory = codes "no memory of its stack"
+pointer_end_text UnknownWidth = codes "unknown width of an address"
+pointer_end_text NoFramePointer = codes "no frame pointer"
+pointer_end_text ZeroFramePointer = codes "frame pointer of 0"
+pointer_end_text BelowStackPointer = codes "frame pointer below the stack pointer"
+pointer_end_text NoRecord = codes "no frame record at the frame pointer"
+pointer_end_text NoCode = codes "return address in no module"
+
 -- why a walk ends, in words
-abbrev pub end_text : WalkEnd → List ℕ
-end_text NoMemory = codes "no memory of its stack"
-end_text UnknownWidth = codes "unknown width of an address"
-end_text NoFramePointer = codes "no frame pointer"
-end_text ZeroFramePointer = codes "frame pointer of 0"
-end_text BelowStackPointer = codes "frame pointer below the stack pointer"
-end_text NoRecord = codes "no frame record at the frame pointer"
-end_text NoCode = codes "return address in no module"
+abbrev pub end_text : SymbolWalkEnd → List ℕ
+end_text (Walk end) = pointer_end_text end
+end_text NoReturnRule = codes "no rule for the return address"
+end_text ZeroReturnAddress = codes "return address of 0"
 
 -- the line of the end of a walk
-unfoldable pub end_row : WalkEnd → List ℕ
+unfoldable pub end_row : SymbolWalkEnd → List ℕ
 end_row end = concat (codes "    end: " ∷ end_text end ∷ [])
 
 -- what comes after the frames of a thread whose frames are all printed
-abbrev pub rest_lines : TextLimits → CrashWalkValue → List (List ℕ)
+abbrev pub rest_lines : TextLimits → BacktraceValue → List (List ℕ)
 rest_lines limits w =
     hidden_lines limits.frames (length (all_frames w)) ++ end_row w.end ∷ []
 
 -- what is found in the stack of a thread
-abbrev pub walk_lines : TextLimits → List LoadedValue → Bool → CrashWalkValue → List (List ℕ)
+abbrev pub walk_lines : TextLimits → List LoadedValue → Bool → BacktraceValue → List (List ℕ)
 walk_lines limits modules is_whole w =
-    each_frame modules (printed_frames limits is_whole w)
+    each_entry modules (entries_in (printed_frames limits is_whole w))
     ++ (if is_whole then rest_lines limits w else [])

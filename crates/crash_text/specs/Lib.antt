@@ -6,10 +6,12 @@ pub mod System
 pub mod Places
 pub mod Records
 pub mod Addresses
+pub mod Point
 pub mod Exceptions
 pub mod Registers
 pub mod Damage
 pub mod Frames
+pub mod Entries
 pub mod Threads
 pub mod Messages
 pub mod Modules

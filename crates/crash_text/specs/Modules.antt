@@ -11,6 +11,11 @@ use Rattle.crash.specs.declared.addresses.AddressFacts.{AddressFacts}
 use Rattle.crash.specs.declared.frames.CrashFrame.{CrashFrame}
 use Rattle.crash.specs.Crash.{CrashValue}
 use Rattle.crash.specs.Modules.{LoadedValue}
+use Rattle.crash_symbols.specs.declared.symbols.SymbolState.{SymbolState}
+use Rattle.crash_symbols.specs.declared.symbols.SymbolState.TheVariants.{Corrupt, Loaded, Missing}
+use Rattle.crash_symbols.specs.declared.symbols.SymbolState.TheVariants.{OutOfMemory, Unwanted}
+use Rattle.crash_symbols.specs.Shown.{SymbolizedValue}
+use Rattle.crash_symbols.specs.Symbols.{state_at}
 use Rattle.crash_text.specs.declared.limits.TextLimits.{TextLimits}
 use Rattle.crash_text.specs.Threads.{frames_in}
 use Rattle.crash_text.specs.Words.{if_missing, or_empty, where_some}
@@ -24,16 +29,31 @@ key_text label (Some file) None = []
 key_text label None id = []
 
 -- the line of a module: its base address, its path, its version, and what a symbol server is asked
--- by: the names and the identifiers of its debug file and of its code file
-unfoldable pub module_row : ℕ → List ℕ → Option (List ℕ) → List ℕ → List ℕ → List ℕ
-module_row base path version debug code = concat (codes "    " ∷ hex base ∷ codes " " ∷ path
-    ∷ where_some (codes ", version ") version ∷ or_empty version ∷ debug ∷ code ∷ [])
+-- by: the names and the identifiers of its debug file and of its code file; and the words for its
+-- symbols
+unfoldable pub module_row : ℕ → List ℕ → Option (List ℕ) → List ℕ → List ℕ → List ℕ → List ℕ
+module_row base path version debug code symbols = concat (codes "    " ∷ hex base ∷ codes " "
+    ∷ path ∷ where_some (codes ", version ") version ∷ or_empty version ∷ debug ∷ code ∷ symbols
+    ∷ [])
 
--- the same by the value
-abbrev pub module_line : LoadedValue → List ℕ
-module_line m = module_row m.base m.path m.version
+-- the words for why a module has no symbols, where they were looked for
+abbrev pub state_text : SymbolState → List ℕ
+state_text Unwanted = []
+state_text Missing = codes ", no symbols"
+state_text Loaded = []
+state_text Corrupt = codes ", symbols of another module or damaged"
+state_text OutOfMemory = codes ", no memory for its symbols"
+
+-- the same by the index of a module
+abbrev pub symbols_text : Option SymbolizedValue → ℕ → List ℕ
+symbols_text (Some s) index = state_text (state_at s.states index)
+symbols_text None index = []
+
+-- the line of a module by its value, with the words for its symbols
+abbrev pub module_line : LoadedValue → List ℕ → List ℕ
+module_line m symbols = module_row m.base m.path m.version
     (key_text (codes ", debug ") m.debug_file m.debug_id)
-    (key_text (codes ", code ") (Some m.file) m.code_id)
+    (key_text (codes ", code ") (Some m.file) m.code_id) symbols
 
 -- ---- those that other lines name
 
@@ -52,17 +72,22 @@ is_named address frames index = is_in index (address_place address)
     || list_any (λ f. is_in index f.«module») frames
 
 -- a module with its index, if all modules are listed or other lines name it
-abbrev pub listed_lines : TextLimits → (ℕ → Bool) → ℕ × LoadedValue → List (List ℕ)
-listed_lines limits named p = if limits.lists || named p.0 then module_line p.1 ∷ [] else []
+abbrev pub listed_lines : TextLimits → Option SymbolizedValue → (ℕ → Bool) → ℕ × LoadedValue
+    → List (List ℕ)
+listed_lines limits symbols named p = if limits.lists || named p.0
+    then module_line p.1 (symbols_text symbols p.0) ∷ [] else []
 
 -- the modules that are listed, by the indices of those that other lines name
-abbrev pub each_module : TextLimits → (ℕ → Bool) → List LoadedValue → List (List ℕ)
-each_module limits named modules = flat_map (listed_lines limits named) (enumerate_from 0 modules)
+abbrev pub each_module : TextLimits → Option SymbolizedValue → (ℕ → Bool) → List LoadedValue
+    → List (List ℕ)
+each_module limits symbols named modules =
+    flat_map (listed_lines limits symbols named) (enumerate_from 0 modules)
 
 -- the modules that are listed, by the address of the crash and by frames
-unfoldable pub named_modules : TextLimits → Option AddressFacts → List CrashFrame → List LoadedValue
-    → List (List ℕ)
-named_modules limits address frames modules = each_module limits (is_named address frames) modules
+unfoldable pub named_modules : TextLimits → Option SymbolizedValue → Option AddressFacts
+    → List CrashFrame → List LoadedValue → List (List ℕ)
+named_modules limits symbols address frames modules =
+    each_module limits symbols (is_named address frames) modules
 
 -- each of so many modules has a mark, that says whether one of these frames is in it
 pub record HasMarks (marks : List Bool) (count : ℕ) (frames : List CrashFrame) : Type 0 where
@@ -80,8 +105,9 @@ unfoldable pub count_row : ℕ → List ℕ
 count_row count = concat (codes "modules " ∷ decimal count ∷ [])
 
 -- the modules, or that their list is missing
-abbrev pub modules_lines : TextLimits → CrashValue → Option Error → List (List ℕ)
-modules_lines limits c None = count_row (length c.modules.loaded)
-    ∷ named_modules limits c.cause.address (frames_in limits c.threads.crashing c.threads.threads)
-    c.modules.loaded
-modules_lines limits c (Some error) = if_missing (codes "no modules") error
+abbrev pub modules_lines : TextLimits → Option SymbolizedValue → CrashValue → Option Error
+    → List (List ℕ)
+modules_lines limits symbols c None = count_row (length c.modules.loaded)
+    ∷ named_modules limits symbols c.cause.address
+    (frames_in limits symbols c.threads.crashing c.threads.threads) c.modules.loaded
+modules_lines limits symbols c (Some error) = if_missing (codes "no modules") error

@@ -1,5 +1,5 @@
 -- The lines of the system, of the date of the dump, and of the process.
-use Rattle.std.specs.Prelude.{ℕ, ◌==◌, ◌++◌, List, [], ◌∷◌, Result, Ok, Err}
+use Rattle.std.specs.Prelude.{ℕ, ◌==◌, ◌++◌, List, [], ◌∷◌, Option, Result, Ok, Err}
 use Rattle.std.specs.Prelude.{codes, if◌then◌else◌}
 use Rattle.std.specs.Fmt.{decimal}
 use Rattle.std.specs.List.{concat}
@@ -10,7 +10,7 @@ use Rattle.minidump.specs.Below.System.Cpu.{cpu_name}
 use Rattle.minidump.specs.Below.System.Dates.{date_text_of}
 use Rattle.minidump.specs.Below.System.Os.{os_name}
 use Rattle.crash.specs.Crash.{CrashValue}
-use Rattle.crash.specs.Process.{SystemValue}
+use Rattle.crash.specs.Process.{ProcessFacts, SystemValue}
 use Rattle.crash.specs.Release.{ReleaseValue}
 use Rattle.crash_text.specs.Lines.{if_some}
 use Rattle.crash_text.specs.Words.{missing_lines, or_empty, unless_empty}
@@ -77,10 +77,24 @@ id_row id = concat (codes "process " ∷ decimal id ∷ codes " (" ∷ hex id �
 unfoldable pub uptime_row : ℕ → List ℕ
 uptime_row seconds = concat (codes "uptime  " ∷ decimal seconds ∷ codes " s" ∷ [])
 
+-- the line of a text after its words
+unfoldable pub text_row : List ℕ → List ℕ → List ℕ
+text_row words text = concat (words ∷ text ∷ [])
+
+-- the same, where there is a text
+abbrev pub text_lines : List ℕ → Option (List ℕ) → List (List ℕ)
+text_lines words text = if_some (λ text. text_row words text ∷ []) text
+
+-- the command line of the process, and the comments of the dump
+abbrev pub said_lines : ProcessFacts → List (List ℕ)
+said_lines p = text_lines (codes "command ") p.command_line
+    ++ (text_lines (codes "comment ") p.comments.narrow
+    ++ text_lines (codes "comment ") p.comments.wide)
+
 -- the process
 abbrev pub process_lines : CrashValue → List (List ℕ)
 process_lines c = if_some (λ id. id_row id ∷ []) c.process.id
-    ++ if_some (λ seconds. uptime_row seconds ∷ []) c.process.uptime
+    ++ (if_some (λ seconds. uptime_row seconds ∷ []) c.process.uptime ++ said_lines c.process)
 
 -- all of them
 abbrev pub head_lines : CrashValue → List (List ℕ)

@@ -1,7 +1,8 @@
 -- The text of a crash: a function of its value.
-use Rattle.std.specs.Prelude.{ℕ, ◌++◌, List}
+use Rattle.std.specs.Prelude.{ℕ, ◌++◌, List, Option}
 use Rattle.std.specs.List.{flat_map}
 use Rattle.crash.specs.Crash.{CrashValue}
+use Rattle.crash_symbols.specs.Shown.{SymbolizedValue}
 use Rattle.crash_text.specs.declared.limits.TextLimits.{TextLimits}
 use Rattle.crash_text.specs.Damage.{damage_lines}
 use Rattle.crash_text.specs.Exceptions.{crash_lines}
@@ -17,18 +18,20 @@ abbrev pub first_lines : CrashValue → List (List ℕ)
 first_lines c = head_lines c ++ (crash_lines c ++ damage_lines c)
 
 -- the thread that crashed, what the process said, and the other threads
-abbrev pub threads_lines : TextLimits → CrashValue → List (List ℕ)
-threads_lines limits c =
-    crashed_lines limits c ++ (messages_lines c.contents.messages ++ others_lines limits c)
+abbrev pub threads_lines : TextLimits → Option SymbolizedValue → CrashValue → List (List ℕ)
+threads_lines limits symbols c = crashed_lines limits symbols c
+    ++ (messages_lines c.contents.messages ++ others_lines limits symbols c)
 
 -- the modules and the other lists
-abbrev pub last_lines : TextLimits → CrashValue → List (List ℕ)
-last_lines limits c = modules_lines limits c c.contents.space.modules_error ++ lists_lines limits c
+abbrev pub last_lines : TextLimits → Option SymbolizedValue → CrashValue → List (List ℕ)
+last_lines limits symbols c =
+    modules_lines limits symbols c c.contents.space.modules_error ++ lists_lines limits c
 
--- the lines of a crash, in their order
-abbrev pub lines_of : TextLimits → CrashValue → List (List ℕ)
-lines_of limits c = first_lines c ++ (threads_lines limits c ++ last_lines limits c)
+-- the lines of a crash, in their order, with symbols where they are known
+abbrev pub lines_of : TextLimits → Option SymbolizedValue → CrashValue → List (List ℕ)
+lines_of limits symbols c =
+    first_lines c ++ (threads_lines limits symbols c ++ last_lines limits symbols c)
 
 -- the text of a crash: its lines, each as it is printed
-abbrev pub text_of : TextLimits → CrashValue → List ℕ
-text_of limits c = flat_map line_of (lines_of limits c)
+abbrev pub text_of : TextLimits → Option SymbolizedValue → CrashValue → List ℕ
+text_of limits symbols c = flat_map line_of (lines_of limits symbols c)

@@ -1,9 +1,9 @@
 -- The lines of threads.
 use Rattle.std.specs.Prelude.{ℕ, ◌++◌, ◌==◌, ◌&&◌, ◌||◌, Bool, false, true, List, [], ◌∷◌, Option}
-use Rattle.std.specs.Prelude.{Some, None, codes, if◌then◌else◌, slice_get}
+use Rattle.std.specs.Prelude.{Some, None, codes, if◌then◌else◌, map, slice_get}
 use Rattle.std.specs.Fmt.{decimal}
 use Rattle.std.specs.List.{concat, enumerate_from, flat_map}
-use Rattle.std.specs.Option.{option_and_then}
+use Rattle.std.specs.Option.{option_and_then, option_map}
 use Rattle.minidump.specs.Below.Bytes.Piece.{hex}
 use Rattle.crash.specs.declared.contexts.ContextProblem.{ContextProblem}
 use Rattle.crash.specs.declared.contexts.ContextProblem.TheVariants.{Outside}
@@ -11,9 +11,10 @@ use Rattle.crash.specs.declared.frames.CrashFrame.{CrashFrame}
 use Rattle.crash.specs.declared.stacks.StackRange.{StackRange}
 use Rattle.crash.specs.Contexts.{ContextValue}
 use Rattle.crash.specs.Crash.{CrashValue}
-use Rattle.crash.specs.Frames.{CrashWalkValue}
 use Rattle.crash.specs.Process.{SystemValue}
 use Rattle.crash.specs.Threads.{ThreadValue}
+use Rattle.crash_symbols.specs.Backtraces.{BacktraceValue}
+use Rattle.crash_symbols.specs.Shown.{SymbolizedValue, shown_in}
 use Rattle.crash_text.specs.declared.limits.TextLimits.{TextLimits}
 use Rattle.crash_text.specs.Frames.{printed_frames, walk_lines}
 use Rattle.crash_text.specs.Lines.{if_some}
@@ -71,18 +72,19 @@ no_walk_row (Some _) problem = problem_row problem
 no_walk_row None problem = codes "    no frames without system information"
 
 -- what is found in the stack of a thread, or why nothing is
-abbrev pub found_lines : TextLimits → CrashValue → Bool → ThreadValue → Option CrashWalkValue
+abbrev pub found_lines : TextLimits → CrashValue → Bool → ThreadValue → Option BacktraceValue
     → List (List ℕ)
 found_lines limits c is_whole t (Some w) = walk_lines limits c.modules.loaded is_whole w
 found_lines limits c is_whole t None = no_walk_row c.process.system t.context_problem ∷ []
 
--- a thread: also its stack, and the end of its walk, if all of its frames are asked for
-abbrev pub thread_lines : TextLimits → CrashValue → Bool → ThreadValue → List (List ℕ)
-thread_lines limits c is_whole t = thread_row t.id t.name (remark t.is_listed)
+-- a thread by its index: also its stack, and the end of its walk, if all of its frames are asked for
+abbrev pub thread_lines : TextLimits → Option SymbolizedValue → CrashValue → Bool → ℕ → ThreadValue
+    → List (List ℕ)
+thread_lines limits symbols c is_whole number t = thread_row t.id t.name (remark t.is_listed)
     ∷ (if_some (λ error. error_row error ∷ []) t.last_error
     ++ (if_some short_lines t.context
     ++ ((if is_whole then stack_lines t else [])
-    ++ found_lines limits c is_whole t t.walk)))
+    ++ found_lines limits c is_whole t (shown_in symbols number t))))
 
 -- ---- threads
 
@@ -91,42 +93,54 @@ abbrev pub is_index : Option ℕ → ℕ → Bool
 is_index (Some index) number = index == number
 is_index None number = false
 
--- the thread that crashed
-abbrev pub crashed_thread : CrashValue → Option ThreadValue
-crashed_thread c = option_and_then (slice_get c.threads.threads) c.threads.crashing
+-- the thread that crashed, with its index
+abbrev pub crashed_thread : CrashValue → Option (ℕ × ThreadValue)
+crashed_thread c = option_and_then
+    (λ number. option_map (λ t. (number, t)) (slice_get c.threads.threads number))
+    c.threads.crashing
 
--- its lines, or that there are no threads
-abbrev pub crashed_lines : TextLimits → CrashValue → List (List ℕ)
-crashed_lines limits c = missing_lines (codes "no threads") c.contents.threads.threads
-    ++ if_some (thread_lines limits c true) (crashed_thread c)
+-- the lines of the thread that crashed, by its index
+abbrev pub indexed_lines : TextLimits → Option SymbolizedValue → CrashValue → ℕ × ThreadValue
+    → List (List ℕ)
+indexed_lines limits symbols c p = thread_lines limits symbols c true p.0 p.1
+
+-- the same, or that there are no threads
+abbrev pub crashed_lines : TextLimits → Option SymbolizedValue → CrashValue → List (List ℕ)
+crashed_lines limits symbols c =
+    missing_lines (codes "no threads") c.contents.threads.threads
+    ++ if_some (indexed_lines limits symbols c) (crashed_thread c)
 
 -- a thread of an index, if it isn't the one that crashed
-abbrev pub other_lines : TextLimits → CrashValue → ℕ → ThreadValue → List (List ℕ)
-other_lines limits c number t = if is_index c.threads.crashing number then []
-    else thread_lines limits c limits.all_threads t
+abbrev pub other_lines : TextLimits → Option SymbolizedValue → CrashValue → ℕ → ThreadValue
+    → List (List ℕ)
+other_lines limits symbols c number t = if is_index c.threads.crashing number then []
+    else thread_lines limits symbols c limits.all_threads number t
 
 -- those of threads that didn't crash
-abbrev pub each_other : TextLimits → CrashValue → List ThreadValue → List (List ℕ)
-each_other limits c threads =
-    flat_map (λ p. other_lines limits c p.0 p.1) (enumerate_from 0 threads)
+abbrev pub each_other : TextLimits → Option SymbolizedValue → CrashValue → List ThreadValue
+    → List (List ℕ)
+each_other limits symbols c threads =
+    flat_map (λ p. other_lines limits symbols c p.0 p.1) (enumerate_from 0 threads)
 
 -- the other threads
-abbrev pub others_lines : TextLimits → CrashValue → List (List ℕ)
-others_lines limits c = each_other limits c c.threads.threads
+abbrev pub others_lines : TextLimits → Option SymbolizedValue → CrashValue → List (List ℕ)
+others_lines limits symbols c = each_other limits symbols c c.threads.threads
 
 -- ---- all frames that are printed
 
 -- those of a walk, if there is one
-abbrev pub frames_of : TextLimits → Bool → Option CrashWalkValue → List CrashFrame
-frames_of limits is_whole (Some w) = printed_frames limits is_whole w
+abbrev pub frames_of : TextLimits → Bool → Option BacktraceValue → List CrashFrame
+frames_of limits is_whole (Some w) = map (λ f. f.frame) (printed_frames limits is_whole w)
 frames_of limits is_whole None = []
 
 -- those of a thread with an index
-abbrev pub frames_at : TextLimits → Option ℕ → ℕ → ThreadValue → List CrashFrame
-frames_at limits crashing number t =
-    frames_of limits (is_index crashing number || limits.all_threads) t.walk
+abbrev pub frames_at : TextLimits → Option SymbolizedValue → Option ℕ → ℕ → ThreadValue
+    → List CrashFrame
+frames_at limits symbols crashing number t = frames_of limits
+    (is_index crashing number || limits.all_threads) (shown_in symbols number t)
 
 -- those of all threads
-abbrev pub frames_in : TextLimits → Option ℕ → List ThreadValue → List CrashFrame
-frames_in limits crashing threads =
-    flat_map (λ p. frames_at limits crashing p.0 p.1) (enumerate_from 0 threads)
+abbrev pub frames_in : TextLimits → Option SymbolizedValue → Option ℕ → List ThreadValue
+    → List CrashFrame
+frames_in limits symbols crashing threads =
+    flat_map (λ p. frames_at limits symbols crashing p.0 p.1) (enumerate_from 0 threads)

@@ -55,7 +55,7 @@ fn push_address_row<'t>(
 }
 
 // Makes the words for what is known of an address.
-fn address_words(
+pub(crate) fn address_words(
     alloc: Global,
     unloaded: &[UnloadedModule],
     threads: &[CrashThread],

@@ -13,6 +13,7 @@ ghost use Rattle.crash_text.specs.Records.{record_text};
 
 use crate::addresses::push_address;
 use crate::lines::push_line;
+use crate::point::push_point;
 use crate::records::record_text;
 use crate::registers::push_registers;
 use crate::words::{or_empty, push_words, unless_empty};
@@ -83,7 +84,8 @@ fn push_counted_lines(
     push_address(out, crash)?;
     push_reason(out, &exception.reason)?;
     push_code(out, exception)?;
-    push_registers(out, crash, exception)
+    push_registers(out, crash, exception)?;
+    push_point(out, crash)
 }
 
 #[rattlefmt::skip]

@@ -1,18 +1,22 @@
 ghost use Rattle.std.specs.Prelude.{◌≡◌, [], ◌∷◌, ◌++◌, IfOk, OnOk, if◌then◌else◌, map, take};
-ghost use Rattle.crash.specs.Frames.{crash_walk_of};
 ghost use Rattle.crash.specs.Modules.{loaded_of};
-ghost use Rattle.crash_text.specs.Frames.{all_frames, each_frame, end_row, end_text, frame_line};
-ghost use Rattle.crash_text.specs.Frames.{frame_row, hidden_lines, printed_address, printed_frames};
-ghost use Rattle.crash_text.specs.Frames.{rest_lines, trust_text, walk_lines};
+ghost use Rattle.crash_symbols.specs.Shown.{shown_frame_of, shown_of};
+ghost use Rattle.crash_text.specs.Entries.{entry_of};
+ghost use Rattle.crash_text.specs.Frames.{all_frames, each_entry, end_row, end_text, entries_in};
+ghost use Rattle.crash_text.specs.Frames.{entry_line, frame_row, hidden_lines, pointer_end_text};
+ghost use Rattle.crash_text.specs.Frames.{printed_address, printed_frames, rest_lines, walk_lines};
 ghost use Rattle.crash_text.specs.Lines.{Adds};
 
+use crate::entries::{FrameEntry, entries_in, found_text, name_text, source_text};
 use crate::limits::TextLimits;
 use crate::lines::push_line;
 use crate::places::place_text;
-use crash::{CrashFrame, CrashModule, CrashWalk};
+use crash::{CrashFrame, CrashModule};
+use crash_symbols::{ShownFrame, ShownWalk};
 use minidump::text::Piece::{Decimal, Hex, Words};
-use stack_walk::{FrameTrust, WalkEnd};
+use stack_walk::WalkEnd;
 use std::alloc::{AllocError, Global};
+use symbol_walk::SymbolWalkEnd;
 
 // Appends what is found in the stack of a thread, and why there is no more if all of its frames are
 // asked for.
@@ -21,10 +25,10 @@ pub(crate) fn push_walk(
     limits: &TextLimits,
     modules: &[CrashModule],
     is_whole: bool,
-    walk: &CrashWalk,
+    walk: &ShownWalk<'_, '_>,
 ) -> Result<(), AllocError>
     ensures { Adds out.old out.new (walk_lines limits.now (map loaded_of modules.now) is_whole
-        (crash_walk_of walk.now)) result }
+        (shown_of walk.now)) result }
 {
     push_printed(out, limits, modules, is_whole, walk)?;
     push_end_if(out, limits, is_whole, walk)
@@ -36,37 +40,71 @@ fn push_printed(
     limits: &TextLimits,
     modules: &[CrashModule],
     is_whole: bool,
-    walk: &CrashWalk,
+    walk: &ShownWalk<'_, '_>,
 ) -> Result<(), AllocError>
-    ensures { Adds out.old out.new (each_frame (map loaded_of modules.now)
-        (printed_frames limits.now is_whole (crash_walk_of walk.now))) result }
+    ensures { Adds out.old out.new (each_entry (map loaded_of modules.now)
+        (entries_in (printed_frames limits.now is_whole (shown_of walk.now)))) result }
 {
-    let mut frames = Vec::new(*out.allocator());
-    push_frames_of(&mut frames, limits, is_whole, walk)?;
-    push_each(out, modules, frames.as_slice())
+    let alloc = *out.allocator();
+    let frames = printed_frames(alloc, limits, is_whole, walk)?;
+    let entries = entries_in(alloc, frames.as_slice())?;
+    push_each(out, modules, entries.as_slice())
 }
 
-// Appends the frames of a walk that are printed to a list.
+// Returns the frames of a walk that are printed.
+#[tactic(auto, using(crate::proofs::FrameLemmas::first_values))]
+fn printed_frames<'s, 'l>(
+    alloc: Global,
+    limits: &TextLimits,
+    is_whole: bool,
+    walk: &ShownWalk<'s, 'l>,
+) -> Result<Vec<ShownFrame<'s, 'l>>, AllocError>
+    ensures { IfOk result (λ frames. map shown_frame_of frames.items
+        ≡ printed_frames limits.now is_whole (shown_of walk.now)) }
+{
+    if is_whole {
+        let all = all_frames(alloc, walk)?;
+        Vec::from_slice(alloc, first_of(all.as_slice(), limits.frames))
+    } else {
+        Vec::from_slice(alloc, first_of(walk.frames.as_slice(), 1))
+    }
+}
+
+// Appends the frames of a walk that are printed, without their names, to a list.
 pub(crate) fn push_frames_of(
     frames: &mut Vec<CrashFrame>,
     limits: &TextLimits,
     is_whole: bool,
-    walk: &CrashWalk,
+    walk: &ShownWalk<'_, '_>,
 ) -> Result<(), AllocError>
     ensures { OnOk result (frames.new.items ≡ frames.old.items
-        ++ printed_frames limits.now is_whole (crash_walk_of walk.now)) }
+        ++ map (λ f. f.frame) (printed_frames limits.now is_whole (shown_of walk.now))) }
 {
-    if is_whole {
-        let all = all_frames(*frames.allocator(), walk)?;
-        frames.extend_from_slice(first_of(all.as_slice(), limits.frames))
-    } else {
-        frames.extend_from_slice(first_of(walk.frames.as_slice(), 1))
+    let printed = printed_frames(*frames.allocator(), limits, is_whole, walk)?;
+    push_unnamed(frames, printed.as_slice())
+}
+
+// Appends frames without their names to a list.
+fn push_unnamed(
+    frames: &mut Vec<CrashFrame>,
+    shown: &[ShownFrame<'_, '_>],
+) -> Result<(), AllocError>
+    ensures { OnOk result (frames.new.items ≡ frames.old.items
+        ++ map (λ f. f.frame) (map shown_frame_of shown.now)) }
+{
+    for frame in shown {
+        frames.push(frame.frame)?;
     }
+    Ok(())
 }
 
 // Returns the frames of a walk, and the candidates after them.
-fn all_frames(alloc: Global, walk: &CrashWalk) -> Result<Vec<CrashFrame>, AllocError>
-    ensures { IfOk result (λ frames. frames.items ≡ all_frames (crash_walk_of walk.now)) }
+fn all_frames<'s, 'l>(
+    alloc: Global,
+    walk: &ShownWalk<'s, 'l>,
+) -> Result<Vec<ShownFrame<'s, 'l>>, AllocError>
+    ensures { IfOk result
+        (λ frames. map shown_frame_of frames.items ≡ all_frames (shown_of walk.now)) }
 {
     let mut frames = Vec::new(alloc);
     frames.extend_from_slice(walk.frames.as_slice())?;
@@ -75,7 +113,7 @@ fn all_frames(alloc: Global, walk: &CrashWalk) -> Result<Vec<CrashFrame>, AllocE
 }
 
 // Returns the first frames, at most so many.
-fn first_of(frames: &[CrashFrame], count: usize) -> &[CrashFrame]
+fn first_of<'f, 's, 'l>(frames: &'f [ShownFrame<'s, 'l>], count: usize) -> &'f [ShownFrame<'s, 'l>]
     ensures { result.now ≡ take count frames.now }
 {
     if count < frames.len() {
@@ -85,48 +123,65 @@ fn first_of(frames: &[CrashFrame], count: usize) -> &[CrashFrame]
     }
 }
 
-// Appends the lines of frames, each with its number.
+// Appends the lines of frames and calls, each with its number.
 fn push_each(
     out: &mut String,
     modules: &[CrashModule],
-    frames: &[CrashFrame],
+    entries: &[FrameEntry<'_>],
 ) -> Result<(), AllocError>
-    ensures { Adds out.old out.new (each_frame (map loaded_of modules.now) frames.now) result }
+    ensures { Adds out.old out.new
+        (each_entry (map loaded_of modules.now) (map entry_of entries.now)) result }
 {
-    for (number, frame) in frames.iter().enumerate() {
-        push_frame(out, modules, number, frame)?;
+    for (number, entry) in entries.iter().enumerate() {
+        push_entry(out, modules, number, entry)?;
     }
     Ok(())
 }
 
-// Appends the line of a frame.
-fn push_frame(
+// Appends the line of a frame or a call.
+fn push_entry(
     out: &mut String,
     modules: &[CrashModule],
     number: usize,
-    frame: &CrashFrame,
+    entry: &FrameEntry<'_>,
 ) -> Result<(), AllocError>
     ensures { Adds out.old out.new
-        (frame_line (map loaded_of modules.now) number frame.now ∷ []) result }
+        (entry_line (map loaded_of modules.now) number (entry_of entry.now) ∷ []) result }
 {
-    let place = place_text(*out.allocator(), modules, " in no module", frame.module)?;
-    push_row(out, number, frame, place.as_str())
+    let alloc = *out.allocator();
+    let name = name_text(alloc, entry.function, entry.offset)?;
+    let source = source_text(alloc, entry.source)?;
+    let place = place_text(alloc, modules, " in no module", entry.frame.module)?;
+    let found = found_text(entry.is_inline, entry.frame.trust);
+    push_row(
+        out,
+        number,
+        &entry.frame,
+        name.as_str(),
+        source.as_str(),
+        place.as_str(),
+        found,
+    )
 }
 
 #[rattlefmt::skip]
 #[tactic(auto, unfolding(crate::specs::Frames::frame_row))]
-fn push_row(
+fn push_row<'x>(
     out: &mut String,
     number: usize,
     frame: &CrashFrame,
-    place: &str,
+    name: &'x str,
+    source: &'x str,
+    place: &'x str,
+    found: &'x str,
 ) -> Result<(), AllocError>
-    ensures { Adds out.old out.new (frame_row number frame.now place.now ∷ []) result }
+    ensures { Adds out.old out.new
+        (frame_row number frame.now name.now source.now place.now found.now ∷ []) result }
 {
     push_line(
         out,
         &[Words("    #"), Decimal(number as u64), Words(" "), Hex(printed_address(frame)),
-            Words(place), Words(trust_text(frame.trust))],
+            Words(name), Words(source), Words(place), Words(found)],
     )
 }
 
@@ -141,26 +196,15 @@ fn printed_address(frame: &CrashFrame) -> u64
     }
 }
 
-// Returns the words for how a frame was found.
-fn trust_text(trust: FrameTrust) -> &'static str
-    ensures { result.now ≡ trust_text trust }
-{
-    match trust {
-        FrameTrust::Context => ", context",
-        FrameTrust::FramePointer => ", frame pointer",
-        FrameTrust::Scan => ", scan",
-    }
-}
-
 // Appends why there are no more frames, if all of them are asked for.
 fn push_end_if(
     out: &mut String,
     limits: &TextLimits,
     is_whole: bool,
-    walk: &CrashWalk,
+    walk: &ShownWalk<'_, '_>,
 ) -> Result<(), AllocError>
     ensures { Adds out.old out.new
-        (if is_whole then rest_lines limits.now (crash_walk_of walk.now) else []) result }
+        (if is_whole then rest_lines limits.now (shown_of walk.now) else []) result }
 {
     if is_whole {
         push_rest(out, limits, walk)
@@ -170,8 +214,12 @@ fn push_end_if(
 }
 
 // Appends how many frames are not printed, and why the walk ends.
-fn push_rest(out: &mut String, limits: &TextLimits, walk: &CrashWalk) -> Result<(), AllocError>
-    ensures { Adds out.old out.new (rest_lines limits.now (crash_walk_of walk.now)) result }
+fn push_rest(
+    out: &mut String,
+    limits: &TextLimits,
+    walk: &ShownWalk<'_, '_>,
+) -> Result<(), AllocError>
+    ensures { Adds out.old out.new (rest_lines limits.now (shown_of walk.now)) result }
 {
     let count = walk.frames.len() + walk.candidates.len();
     push_hidden(out, limits.frames, count)?;
@@ -192,15 +240,26 @@ fn push_hidden(out: &mut String, limit: usize, count: usize) -> Result<(), Alloc
 }
 
 #[tactic(auto, unfolding(crate::specs::Frames::end_row))]
-fn push_end(out: &mut String, end: WalkEnd) -> Result<(), AllocError>
+fn push_end(out: &mut String, end: SymbolWalkEnd) -> Result<(), AllocError>
     ensures { Adds out.old out.new (end_row end ∷ []) result }
 {
     push_line(out, &[Words("    end: "), Words(end_text(end))])
 }
 
 // Returns why a walk ends, in words.
-fn end_text(end: WalkEnd) -> &'static str
+fn end_text(end: SymbolWalkEnd) -> &'static str
     ensures { result.now ≡ end_text end }
+{
+    match end {
+        SymbolWalkEnd::Walk(end) => pointer_end_text(end),
+        SymbolWalkEnd::NoReturnRule => "no rule for the return address",
+        SymbolWalkEnd::ZeroReturnAddress => "return address of 0",
+    }
+}
+
+// Returns why a walk by frame pointers ends, in words.
+fn pointer_end_text(end: WalkEnd) -> &'static str
+    ensures { result.now ≡ pointer_end_text end }
 {
     match end {
         WalkEnd::NoMemory => "no memory of its stack",

@@ -4,11 +4,13 @@
 //! minidump. Its lines are, in this order:
 //!
 //! - the system with its processor, the release of Linux, the arguments with which macOS was
-//!   booted, the date of the dump in UTC, the id of the process, and for how long it ran;
+//!   booted, the date of the dump in UTC, the id of the process, for how long it ran, its command
+//!   line, and the comments of the dump;
 //! - of the exception that counts the thread, the address with its module, the reason, the code and
 //!   where it happened; the registers of the thread, four a row, how much of their context there is
-//!   if it is cut, and why the context of the exception isn't used; then all exceptions, if there
-//!   are several;
+//!   if it is cut, and why the context of the exception isn't used; its flags and segments, its
+//!   instruction pointer, unless it is in a module and may be run, the bytes there, and the words at
+//!   its stack pointer; then all exceptions, if there are several;
 //! - what is there and can't be read, as `can't be read: ThreadListStream: StreamReadFailure`, and
 //!   how many entries of the directory have bytes outside the file;
 //! - the thread that crashed, with its name, its last error, its stack, its frames, and why the
@@ -25,6 +27,12 @@
 //! A frame's line has its number, its address, its module with the offset in it, and how it was
 //! found. The address of a caller is that of its call: the return address less one. The candidates
 //! of the stack follow the frames, numbered on.
+//!
+//! By symbols the frames are those of the backtraces that they give. A frame's line has its function,
+//! with the offset in it, and its source line, where they are known. Before it comes a line for each
+//! call that the compiler put in place there, with the same address, numbered too. A module's line
+//! says if its symbols are missing, can't be read, or are those of another module. A name that isn't
+//! UTF-8 has U+FFFD in place of what is malformed.
 //!
 //! Where the system information, the exception, the threads or the modules are missing, that is a
 //! line, as `no exception`; any other missing stream has none. What [`TextLimits`] leaves out is
@@ -49,6 +57,7 @@
 
 mod addresses;
 mod damage;
+mod entries;
 mod escape;
 mod exceptions;
 mod frames;
@@ -58,6 +67,7 @@ mod lists;
 mod messages;
 mod modules;
 mod places;
+mod point;
 mod records;
 mod registers;
 mod system;

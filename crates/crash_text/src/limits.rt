@@ -1,7 +1,8 @@
 /// How much of a crash its text has.
 #[derive(Clone, Copy, Debug)]
 pub struct TextLimits {
-    /// The most frames of a thread that are printed, with the candidates after them. Of a thread
+    /// The most frames of a thread that are printed, with the candidates after them. Calls that the
+    /// compiler put in place don't count. Of a thread
     /// other than the one that crashed only the first frame is printed, unless
     /// [`all_threads`](TextLimits::all_threads) is set.
     pub frames: usize,

@@ -1,18 +1,20 @@
 ghost use Rattle.std.specs.Prelude.{◌≡◌, [], ◌∷◌, ◌||◌, IfOk, None, Some, codes, false, get_or};
 ghost use Rattle.std.specs.Prelude.{if◌then◌else◌, map, string_bytes};
-ghost use Rattle.std.specs.Option.{option_map};
+ghost use Rattle.std.specs.Option.{option_copied, option_map};
 ghost use Rattle.crash.specs.Crash.{crash_of};
 ghost use Rattle.crash.specs.Modules.{loaded_of};
+ghost use Rattle.crash_symbols.specs.Shown.{symbolized_of};
 ghost use Rattle.crash_text.specs.Lines.{Adds};
 ghost use Rattle.crash_text.specs.Modules.{HasMarks, address_place, count_row, each_module, is_in};
 ghost use Rattle.crash_text.specs.Modules.{is_marked, key_text, module_line, module_row};
-ghost use Rattle.crash_text.specs.Modules.{modules_lines, named_modules};
+ghost use Rattle.crash_text.specs.Modules.{modules_lines, named_modules, state_text, symbols_text};
 
 use crate::limits::TextLimits;
 use crate::lines::push_line;
 use crate::threads::frames_in;
 use crate::words::{or_empty, push_if_missing, where_some};
 use crash::{AddressFacts, Crash, CrashFrame, CrashModule};
+use crash_symbols::{SymbolState, Symbolized};
 use minidump::Error;
 use minidump::text::Piece::{Decimal, Hex, Words};
 use minidump::text::format_pieces;
@@ -23,41 +25,58 @@ pub(crate) fn push_modules(
     out: &mut String,
     crash: &Crash<'_>,
     limits: &TextLimits,
+    symbols: Option<&Symbolized<'_, '_>>,
     error: Option<Error>,
 ) -> Result<(), AllocError>
-    ensures { Adds out.old out.new (modules_lines limits.now (crash_of crash.now) error) result }
+    ensures { Adds out.old out.new (modules_lines limits.now
+        (option_map symbolized_of (option_copied symbols.entry)) (crash_of crash.now) error) result }
 {
     match error {
-        None => push_list(out, crash, limits),
+        None => push_list(out, crash, limits, symbols),
         Some(error) => push_if_missing(out, "no modules", error),
     }
 }
 
 // Appends the number of modules, and those that other lines name.
-fn push_list(out: &mut String, crash: &Crash<'_>, limits: &TextLimits) -> Result<(), AllocError>
-    ensures { Adds out.old out.new (modules_lines limits.now (crash_of crash.now) None) result }
+fn push_list(
+    out: &mut String,
+    crash: &Crash<'_>,
+    limits: &TextLimits,
+    symbols: Option<&Symbolized<'_, '_>>,
+) -> Result<(), AllocError>
+    ensures { Adds out.old out.new (modules_lines limits.now
+        (option_map symbolized_of (option_copied symbols.entry)) (crash_of crash.now) None) result }
 {
     let alloc = *out.allocator();
     let threads = crash.threads.threads.as_slice();
-    let frames = frames_in(alloc, limits, crash.threads.crashing, threads)?;
+    let frames = frames_in(alloc, limits, symbols, crash.threads.crashing, threads)?;
     let modules = crash.modules.loaded.as_slice();
     push_count(out, modules.len())?;
-    push_named(out, limits, crash.cause.address, frames.as_slice(), modules)
+    push_named(
+        out,
+        limits,
+        symbols,
+        crash.cause.address,
+        frames.as_slice(),
+        modules,
+    )
 }
 
 // Appends the lines of the modules that are listed, by the address of the crash and by frames.
 fn push_named(
     out: &mut String,
     limits: &TextLimits,
+    symbols: Option<&Symbolized<'_, '_>>,
     address: Option<AddressFacts>,
     frames: &[CrashFrame],
     modules: &[CrashModule],
 ) -> Result<(), AllocError>
-    ensures { Adds out.old out.new
-        (named_modules limits.now address frames.now (map loaded_of modules.now)) result }
+    ensures { Adds out.old out.new (named_modules limits.now
+        (option_map symbolized_of (option_copied symbols.entry)) address frames.now
+        (map loaded_of modules.now)) result }
 {
     let marks = marks_of(*out.allocator(), modules.len(), frames)?;
-    push_each(out, limits, address, marks.as_slice(), modules)?;
+    push_each(out, limits, symbols, address, marks.as_slice(), modules)?;
     Ok(())
 }
 
@@ -87,15 +106,18 @@ fn push_count(out: &mut String, count: usize) -> Result<(), AllocError>
 fn push_each(
     out: &mut String,
     limits: &TextLimits,
+    symbols: Option<&Symbolized<'_, '_>>,
     address: Option<AddressFacts>,
     marks: &[bool],
     modules: &[CrashModule],
 ) -> Result<(), AllocError>
-    ensures { Adds out.old out.new
-        (each_module limits.now (is_marked address marks.now) (map loaded_of modules.now)) result }
+    ensures { Adds out.old out.new (each_module limits.now
+        (option_map symbolized_of (option_copied symbols.entry)) (is_marked address marks.now)
+        (map loaded_of modules.now)) result }
 {
     for (index, module) in modules.iter().enumerate() {
-        push_if_listed(out, limits, is_marked(address, marks, index), module)?;
+        let words = symbols_text(symbols, index);
+        push_if_listed(out, limits, is_marked(address, marks, index), module, words)?;
     }
     Ok(())
 }
@@ -106,14 +128,38 @@ fn push_if_listed(
     limits: &TextLimits,
     is_named: bool,
     module: &CrashModule,
+    symbols: &str,
 ) -> Result<(), AllocError>
     ensures { Adds out.old out.new (if limits.now.lists || is_named
-        then module_line (loaded_of module.now) ∷ [] else []) result }
+        then module_line (loaded_of module.now) symbols.now ∷ [] else []) result }
 {
     if limits.lists || is_named {
-        push_module(out, module)
+        push_module(out, module, symbols)
     } else {
         Ok(())
+    }
+}
+
+// Returns the words for why the module of an index has no symbols, if they were looked for.
+fn symbols_text(symbols: Option<&Symbolized<'_, '_>>, index: usize) -> &'static str
+    ensures { result.now ≡ symbols_text
+        (option_map symbolized_of (option_copied symbols.entry)) index }
+{
+    match symbols {
+        Some(known) => state_text(known.symbols.state(index)),
+        None => "",
+    }
+}
+
+// Returns the words for why a module has no symbols, by what is known of them.
+fn state_text(state: SymbolState) -> &'static str
+    ensures { result.now ≡ state_text state }
+{
+    match state {
+        SymbolState::Unwanted | SymbolState::Loaded => "",
+        SymbolState::Missing => ", no symbols",
+        SymbolState::Corrupt => ", symbols of another module or damaged",
+        SymbolState::OutOfMemory => ", no memory for its symbols",
     }
 }
 
@@ -151,14 +197,14 @@ fn is_in(index: usize, place: Option<(usize, u64)>) -> bool
     }
 }
 
-// Appends the line of a module.
-fn push_module(out: &mut String, module: &CrashModule) -> Result<(), AllocError>
-    ensures { Adds out.old out.new (module_line (loaded_of module.now) ∷ []) result }
+// Appends the line of a module, with the words for its symbols.
+fn push_module(out: &mut String, module: &CrashModule, symbols: &str) -> Result<(), AllocError>
+    ensures { Adds out.old out.new (module_line (loaded_of module.now) symbols.now ∷ []) result }
 {
     let alloc = *out.allocator();
     let debug = debug_text(alloc, module)?;
     let code = key_text(alloc, ", code ", &module.file, &module.code_id)?;
-    push_row(out, module, debug.as_str(), code.as_str())
+    push_row(out, module, debug.as_str(), code.as_str(), symbols)
 }
 
 #[rattlefmt::skip]
@@ -168,15 +214,16 @@ fn push_row<'t>(
     module: &'t CrashModule,
     debug: &'t str,
     code: &'t str,
+    symbols: &'t str,
 ) -> Result<(), AllocError>
     ensures { Adds out.old out.new (module_row module.now.base (string_bytes module.now.path)
-        (option_map string_bytes module.now.version) debug.now code.now ∷ []) result }
+        (option_map string_bytes module.now.version) debug.now code.now symbols.now ∷ []) result }
 {
     push_line(
         out,
         &[Words("    "), Hex(module.base), Words(" "), Words(module.path.as_str()),
             Words(where_some(", version ", &module.version)), Words(or_empty(&module.version)),
-            Words(debug), Words(code)],
+            Words(debug), Words(code), Words(symbols)],
     )
 }
 

@@ -3,19 +3,19 @@ ghost use Rattle.std.specs.Option.{option_map};
 ghost use Rattle.minidump.specs.Below.Contexts.Context.{map_ok};
 ghost use Rattle.minidump.specs.Promise.{mac_bootargs_stream, system_info_stream};
 ghost use Rattle.crash.specs.Crash.{crash_of};
-ghost use Rattle.crash.specs.Process.{system_of};
+ghost use Rattle.crash.specs.Process.{process_of, system_of};
 ghost use Rattle.crash.specs.Release.{release_of};
 ghost use Rattle.crash_text.specs.Lines.{Adds, if_some};
 ghost use Rattle.crash_text.specs.System.{boot_lines, boot_row, date_lines, date_row, head_lines};
 ghost use Rattle.crash_text.specs.System.{id_row, known_system_lines, known_system_row};
 ghost use Rattle.crash_text.specs.System.{process_lines, processor_row};
 ghost use Rattle.crash_text.specs.System.{release_lines, release_row, system_lines, system_row};
-ghost use Rattle.crash_text.specs.System.{uptime_row};
+ghost use Rattle.crash_text.specs.System.{said_lines, text_lines, uptime_row};
 ghost use Rattle.crash_text.specs.Words.{missing_lines};
 
 use crate::lines::push_line;
 use crate::words::{or_empty, push_if_missing, unless_empty};
-use crash::{Crash, CrashSystem, LsbRelease};
+use crash::{Crash, CrashProcess, CrashSystem, LsbRelease};
 use minidump::text::Piece::{Decimal, Hex, Words};
 use minidump::{Error, MinidumpMacBootargs, MinidumpSystemInfo, date_text};
 use std::alloc::AllocError;
@@ -208,7 +208,29 @@ fn push_process(out: &mut String, crash: &Crash<'_>) -> Result<(), AllocError>
     ensures { Adds out.old out.new (process_lines (crash_of crash.now)) result }
 {
     push_id(out, crash.process.id)?;
-    push_uptime(out, crash.process.uptime)
+    push_uptime(out, crash.process.uptime)?;
+    push_said(out, &crash.process)
+}
+
+// Appends the lines of the command line of the process, and of the comments of the dump.
+fn push_said(out: &mut String, process: &CrashProcess) -> Result<(), AllocError>
+    ensures { Adds out.old out.new (said_lines (process_of process.now)) result }
+{
+    push_text(out, "command ", &process.command_line)?;
+    push_text(out, "comment ", &process.comments.narrow)?;
+    push_text(out, "comment ", &process.comments.wide)
+}
+
+// Appends the line of a text after its words, if there is a text.
+#[tactic(auto, unfolding(crate::specs::System::text_row))]
+fn push_text(out: &mut String, words: &str, text: &Option<String>) -> Result<(), AllocError>
+    ensures { Adds out.old out.new
+        (text_lines words.now (option_map string_bytes text.now)) result }
+{
+    match text {
+        Some(text) => push_line(out, &[Words(words), Words(text.as_str())]),
+        None => Ok(()),
+    }
 }
 
 #[rattlefmt::skip]

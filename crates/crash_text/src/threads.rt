@@ -5,13 +5,12 @@ ghost use Rattle.minidump.specs.Below.Contexts.Context.{map_ok};
 ghost use Rattle.minidump.specs.Promise.{thread_list_stream};
 ghost use Rattle.crash.specs.Contexts.{context_of};
 ghost use Rattle.crash.specs.Crash.{crash_of};
-ghost use Rattle.crash.specs.Frames.{crash_walk_of};
 ghost use Rattle.crash.specs.Process.{system_of};
 ghost use Rattle.crash.specs.Threads.{thread_value};
-ghost use Rattle.crash_text.specs.Frames.{printed_frames};
+ghost use Rattle.crash_symbols.specs.Shown.{shown_in, shown_of, symbolized_of};
 ghost use Rattle.crash_text.specs.Lines.{Adds, if_some};
 ghost use Rattle.crash_text.specs.Threads.{crashed_lines, crashed_thread, each_other, error_row};
-ghost use Rattle.crash_text.specs.Threads.{found_lines};
+ghost use Rattle.crash_text.specs.Threads.{found_lines, indexed_lines};
 ghost use Rattle.crash_text.specs.Threads.{frames_at, frames_in, frames_of, is_index, is_range};
 ghost use Rattle.crash_text.specs.Threads.{memory_lines, no_walk_row, other_lines, others_lines};
 ghost use Rattle.crash_text.specs.Threads.{problem_row, range_row, remark, short_lines, stack_lines};
@@ -24,9 +23,9 @@ use crate::lines::push_line;
 use crate::registers::push_short;
 use crate::words::{or_empty, push_if_missing, push_words, where_some};
 use crash::{
-    ContextProblem, Crash, CrashContext, CrashFrame, CrashSystem, CrashThread, CrashWalk,
-    StackRange,
+    ContextProblem, Crash, CrashContext, CrashFrame, CrashSystem, CrashThread, StackRange,
 };
+use crash_symbols::{ShownWalk, Symbolized, shown_walk};
 use minidump::text::Piece::{Decimal, Hex, Words};
 use minidump::{Error, MinidumpThreadList};
 use std::alloc::{AllocError, Global};
@@ -36,11 +35,13 @@ pub(crate) fn push_crashed(
     out: &mut String,
     crash: &Crash<'_>,
     limits: &TextLimits,
+    symbols: Option<&Symbolized<'_, '_>>,
 ) -> Result<(), AllocError>
-    ensures { Adds out.old out.new (crashed_lines limits.now (crash_of crash.now)) result }
+    ensures { Adds out.old out.new (crashed_lines limits.now
+        (option_map symbolized_of (option_copied symbols.entry)) (crash_of crash.now)) result }
 {
     push_missing(out, &crash.contents.threads.threads)?;
-    push_if_crashed(out, crash, limits, crashed_thread(crash))
+    push_if_crashed(out, crash, limits, symbols, crashed_thread(crash))
 }
 
 // Appends that there are no threads, if their list is missing.
@@ -57,15 +58,14 @@ fn push_missing(
     }
 }
 
-// Returns the thread that crashed.
-fn crashed_thread<'l>(crash: &'l Crash<'_>) -> Option<&'l CrashThread>
-    ensures { option_map thread_value (option_copied result) ≡ crashed_thread (crash_of crash.now) }
+// Returns the thread that crashed, with its index.
+fn crashed_thread<'l>(crash: &'l Crash<'_>) -> Option<(usize, &'l CrashThread)>
+    ensures { option_map (λ p. (p.0, thread_value p.1.now)) result
+        ≡ crashed_thread (crash_of crash.now) }
 {
-    crash
-        .threads
-        .threads
-        .as_slice()
-        .get(crash.threads.crashing?)
+    let number = crash.threads.crashing?;
+    let thread = crash.threads.threads.get(number)?;
+    Some((number, thread))
 }
 
 // Appends the lines of the thread that crashed, if there is one.
@@ -73,13 +73,15 @@ fn push_if_crashed(
     out: &mut String,
     crash: &Crash<'_>,
     limits: &TextLimits,
-    thread: Option<&CrashThread>,
+    symbols: Option<&Symbolized<'_, '_>>,
+    crashed: Option<(usize, &CrashThread)>,
 ) -> Result<(), AllocError>
-    ensures { Adds out.old out.new (if_some (thread_lines limits.now (crash_of crash.now) true)
-        (option_map thread_value (option_copied thread.entry))) result }
+    ensures { Adds out.old out.new (if_some (indexed_lines limits.now
+        (option_map symbolized_of (option_copied symbols.entry)) (crash_of crash.now))
+        (option_map (λ p. (p.0, thread_value p.1.now)) crashed.entry)) result }
 {
-    match thread {
-        Some(thread) => push_thread(out, crash, limits, true, thread),
+    match crashed {
+        Some((number, thread)) => push_thread(out, crash, limits, symbols, true, number, thread),
         None => Ok(()),
     }
 }
@@ -89,10 +91,18 @@ pub(crate) fn push_others(
     out: &mut String,
     crash: &Crash<'_>,
     limits: &TextLimits,
+    symbols: Option<&Symbolized<'_, '_>>,
 ) -> Result<(), AllocError>
-    ensures { Adds out.old out.new (others_lines limits.now (crash_of crash.now)) result }
+    ensures { Adds out.old out.new (others_lines limits.now
+        (option_map symbolized_of (option_copied symbols.entry)) (crash_of crash.now)) result }
 {
-    push_each_other(out, crash, limits, crash.threads.threads.as_slice())
+    push_each_other(
+        out,
+        crash,
+        limits,
+        symbols,
+        crash.threads.threads.as_slice(),
+    )
 }
 
 // Appends the lines of those of the threads that didn't crash.
@@ -100,13 +110,15 @@ fn push_each_other(
     out: &mut String,
     crash: &Crash<'_>,
     limits: &TextLimits,
+    symbols: Option<&Symbolized<'_, '_>>,
     threads: &[CrashThread],
 ) -> Result<(), AllocError>
-    ensures { Adds out.old out.new
-        (each_other limits.now (crash_of crash.now) (map thread_value threads.now)) result }
+    ensures { Adds out.old out.new (each_other limits.now
+        (option_map symbolized_of (option_copied symbols.entry)) (crash_of crash.now)
+        (map thread_value threads.now)) result }
 {
     for (number, thread) in threads.iter().enumerate() {
-        push_other(out, crash, limits, number, thread)?;
+        push_other(out, crash, limits, symbols, number, thread)?;
     }
     Ok(())
 }
@@ -116,16 +128,26 @@ fn push_other(
     out: &mut String,
     crash: &Crash<'_>,
     limits: &TextLimits,
+    symbols: Option<&Symbolized<'_, '_>>,
     number: usize,
     thread: &CrashThread,
 ) -> Result<(), AllocError>
-    ensures { Adds out.old out.new
-        (other_lines limits.now (crash_of crash.now) number (thread_value thread.now)) result }
+    ensures { Adds out.old out.new (other_lines limits.now
+        (option_map symbolized_of (option_copied symbols.entry)) (crash_of crash.now) number
+        (thread_value thread.now)) result }
 {
     if is_index(crash.threads.crashing, number) {
         Ok(())
     } else {
-        push_thread(out, crash, limits, limits.all_threads, thread)
+        push_thread(
+            out,
+            crash,
+            limits,
+            symbols,
+            limits.all_threads,
+            number,
+            thread,
+        )
     }
 }
 
@@ -139,22 +161,26 @@ fn is_index(index: Option<usize>, number: usize) -> bool
     }
 }
 
-// Appends the lines of a thread.
+// Appends the lines of a thread with its index.
 fn push_thread(
     out: &mut String,
     crash: &Crash<'_>,
     limits: &TextLimits,
+    symbols: Option<&Symbolized<'_, '_>>,
     is_whole: bool,
+    number: usize,
     thread: &CrashThread,
 ) -> Result<(), AllocError>
-    ensures { Adds out.old out.new
-        (thread_lines limits.now (crash_of crash.now) is_whole (thread_value thread.now)) result }
+    ensures { Adds out.old out.new (thread_lines limits.now
+        (option_map symbolized_of (option_copied symbols.entry)) (crash_of crash.now) is_whole number
+        (thread_value thread.now)) result }
 {
+    let walk = shown_walk(*out.allocator(), thread, number, symbols)?;
     push_row(out, thread.id, &thread.name, remark(thread.is_listed))?;
     push_error(out, &thread.last_error)?;
     push_if_short(out, &thread.context)?;
     push_stack_if(out, is_whole, thread)?;
-    push_found(out, crash, limits, is_whole, thread)
+    push_found(out, crash, limits, is_whole, thread, &walk)
 }
 
 // Returns the remark at a thread that the list of threads lacks.
@@ -300,11 +326,12 @@ fn push_found(
     limits: &TextLimits,
     is_whole: bool,
     thread: &CrashThread,
+    walk: &Option<ShownWalk<'_, '_>>,
 ) -> Result<(), AllocError>
     ensures { Adds out.old out.new (found_lines limits.now (crash_of crash.now) is_whole
-        (thread_value thread.now) (thread_value thread.now).walk) result }
+        (thread_value thread.now) (option_map shown_of walk.now)) result }
 {
-    match &thread.walk {
+    match walk {
         Some(walk) => push_walk(out, limits, crash.modules.loaded.as_slice(), is_whole, walk),
         None => push_words(
             out,
@@ -339,15 +366,17 @@ fn problem_row(problem: Option<ContextProblem>) -> &'static str
 pub(crate) fn frames_in(
     alloc: Global,
     limits: &TextLimits,
+    symbols: Option<&Symbolized<'_, '_>>,
     crashing: Option<usize>,
     threads: &[CrashThread],
 ) -> Result<Vec<CrashFrame>, AllocError>
-    ensures { IfOk result (λ frames. frames.items
-        ≡ frames_in limits.now crashing (map thread_value threads.now)) }
+    ensures { IfOk result (λ frames. frames.items ≡ frames_in limits.now
+        (option_map symbolized_of (option_copied symbols.entry)) crashing
+        (map thread_value threads.now)) }
 {
     let mut frames = Vec::new(alloc);
     for (number, thread) in threads.iter().enumerate() {
-        push_frames_at(&mut frames, limits, crashing, number, thread)?;
+        push_frames_at(&mut frames, limits, symbols, crashing, number, thread)?;
     }
     Ok(frames)
 }
@@ -356,15 +385,18 @@ pub(crate) fn frames_in(
 fn push_frames_at(
     frames: &mut Vec<CrashFrame>,
     limits: &TextLimits,
+    symbols: Option<&Symbolized<'_, '_>>,
     crashing: Option<usize>,
     number: usize,
     thread: &CrashThread,
 ) -> Result<(), AllocError>
-    ensures { OnOk result (frames.new.items ≡ frames.old.items
-        ++ frames_at limits.now crashing number (thread_value thread.now)) }
+    ensures { OnOk result (frames.new.items ≡ frames.old.items ++ frames_at limits.now
+        (option_map symbolized_of (option_copied symbols.entry)) crashing number
+        (thread_value thread.now)) }
 {
     let is_whole = is_index(crashing, number) || limits.all_threads;
-    push_if_found(frames, limits, is_whole, &thread.walk)
+    let walk = shown_walk(*frames.allocator(), thread, number, symbols)?;
+    push_if_found(frames, limits, is_whole, &walk)
 }
 
 // Appends the frames of a walk that are printed, if there is one.
@@ -372,10 +404,10 @@ fn push_if_found(
     frames: &mut Vec<CrashFrame>,
     limits: &TextLimits,
     is_whole: bool,
-    walk: &Option<CrashWalk>,
+    walk: &Option<ShownWalk<'_, '_>>,
 ) -> Result<(), AllocError>
     ensures { OnOk result (frames.new.items ≡ frames.old.items
-        ++ frames_of limits.now is_whole (option_map crash_walk_of walk.now)) }
+        ++ frames_of limits.now is_whole (option_map shown_of walk.now)) }
 {
     match walk {
         Some(walk) => push_frames_of(frames, limits, is_whole, walk),

@@ -1,11 +1,12 @@
 -- One more.
 use Rattle.std.proofs.Common.{map, string_bytes}
 use Rattle.crash.specs.Modules.{loaded_of}
-use Rattle.crash_text.specs.Frames.{frame_line}
-use Rattle.crash_text.proofs.NumberLemmas.{next_row}
+use Rattle.crash_text.specs.Entries.{entry_of}
+use Rattle.crash_text.specs.Frames.{entry_line}
+use Rattle.crash_text.proofs.NumberLemmas.{next_value}
 use Rattle.crash_text.proofs.frames.push_each.Goals as goal
 
 pub loop-number-preserved : goal.loop-number-preserved
 loop-number-preserved c =
-    next_row (λ p. frame_line (map loaded_of c.args.modules.now) p.0 p.1) c.args.frames.now c.loop-number.number _ (string_bytes c.args.out.now)
-    (string_bytes c.loop-number.out) (string_bytes c.push_frame.new.out) c.loop-number-test.true c.loop-number.invariant c.in_ok-push_frame.ensures
+    next_value entry_of (λ p. entry_line (map loaded_of c.args.modules.now) p.0 p.1) c.args.entries.now c.loop-number.number _ (string_bytes c.args.out.now)
+    (string_bytes c.loop-number.out) (string_bytes c.push_entry.new.out) c.loop-number-test.true c.loop-number.invariant c.in_ok-push_entry.ensures

@@ -1,10 +1,12 @@
--- The lines of the frames so far.
+-- The lines of the frames and calls so far.
 use Rattle.std.proofs.Common.{◌≡◌, ◌++◌, map, string_bytes, take}
 use Rattle.std.specs.List.{flat_map}
 use Rattle.crash.specs.Modules.{loaded_of}
-use Rattle.crash_text.specs.Frames.{each_frame}
+use Rattle.crash_text.specs.Entries.{entry_of}
+use Rattle.crash_text.specs.Frames.{each_entry}
 use Rattle.crash_text.specs.Lines.{line_of}
 use Rattle.crash_text.proofs.frames.push_each.Given as goal
 
 abbrev pub invariant-loop-number : goal.invariant-loop-number
-invariant-loop-number l = string_bytes l.out ≡ string_bytes l.fn.out ++ flat_map line_of (each_frame (map loaded_of l.modules) (take l.number l.frames))
+invariant-loop-number l = string_bytes l.out
+    ≡ string_bytes l.fn.out ++ flat_map line_of (each_entry (map loaded_of l.modules) (map entry_of (take l.number l.entries)))

@@ -1,0 +1,177 @@
+//! The signature of a crash: why it crashed, and in which functions.
+ghost use Rattle.std.specs.Prelude.{◌≡◌, ◌++◌, [], IfOk, OnOk, codes, flat_map, map, string_bytes};
+ghost use Rattle.std.specs.List.{cons_option};
+ghost use Rattle.std.specs.Option.{option_and_then, option_copied, option_map, option_map_or};
+ghost use Rattle.crash.specs.Crash.{crash_of};
+ghost use Rattle.crash.specs.Modules.{loaded_of};
+ghost use Rattle.crash_symbols.specs.NameParts.{function_of};
+ghost use Rattle.crash_symbols.specs.Shown.{shown_frame_of, shown_in, shown_of, symbolized_of};
+ghost use Rattle.crash_json.specs.Signature.{joined, mark_of, mark_text, marks_in, signature_in};
+ghost use Rattle.crash_json.specs.Signature.{with_reason};
+ghost use Rattle.crash_json.specs.Threads.{indexed_crashed};
+
+use crate::cause::reason_of;
+use crate::threads::crashed;
+use crash::{Crash, CrashModule};
+use crash_symbols::{FrameFunction, ShownFrame, ShownWalk, Symbolized, shown_walk};
+use minidump::text::Piece::{Hex, Words};
+use minidump::text::format_pieces;
+use std::alloc::{AllocError, Global};
+
+// How many frames a signature has at most.
+const FRAMES: usize = 3;
+
+/// Makes the signature of a crash, if there is anything to say.
+#[tactic(auto, unfolding(crate::specs::Signature::signature_in))]
+pub(crate) fn signature_in(
+    alloc: Global,
+    crash: &Crash<'_>,
+    symbols: Option<&Symbolized<'_, '_>>,
+) -> Result<Option<String>, AllocError>
+    ensures { IfOk result (λ text. option_map string_bytes text ≡ signature_in
+        (option_map symbolized_of (option_copied symbols.entry)) (crash_of crash.now)) }
+{
+    let walk = crashed_walk(alloc, crash, symbols)?;
+    let marks = crashed_marks(alloc, crash.modules.loaded.as_slice(), &walk)?;
+    joined(alloc, reason_of(&crash.cause), marks.as_slice())
+}
+
+// Returns what is shown of the thread that crashed.
+fn crashed_walk<'s, 'n>(
+    alloc: Global,
+    crash: &Crash<'_>,
+    symbols: Option<&Symbolized<'s, 'n>>,
+) -> Result<Option<ShownWalk<'s, 'n>>, AllocError>
+    ensures { IfOk result (λ walk. option_map shown_of walk ≡ option_and_then
+        (λ p. shown_in (option_map symbolized_of (option_copied symbols.entry)) p.0 p.1)
+        (indexed_crashed (crash_of crash.now).threads)) }
+{
+    match crashed(&crash.threads) {
+        Some((index, thread)) => shown_walk(alloc, thread, index, symbols),
+        None => Ok(None),
+    }
+}
+
+// Makes the words for the first frames of a walk that are in a module, without its candidates.
+#[tactic(auto, unfolding(crate::specs::Signature::marks_in))]
+fn crashed_marks(
+    alloc: Global,
+    modules: &[CrashModule],
+    walk: &Option<ShownWalk<'_, '_>>,
+) -> Result<Vec<String>, AllocError>
+    ensures { IfOk result
+        (λ marks. map string_bytes marks.items ≡ marks_in (map loaded_of modules.now)
+        (option_map_or (λ w. w.frames) (option_map shown_of walk.now) [])) }
+{
+    match walk {
+        Some(walk) => marks_in(alloc, modules, walk.frames.as_slice()),
+        None => Ok(Vec::new(alloc)),
+    }
+}
+
+// Makes the words for the first frames that are in a module.
+fn marks_in(
+    alloc: Global,
+    modules: &[CrashModule],
+    frames: &[ShownFrame<'_, '_>],
+) -> Result<Vec<String>, AllocError>
+    ensures { IfOk result (λ marks. map string_bytes marks.items
+        ≡ marks_in (map loaded_of modules.now) (map shown_frame_of frames.now)) }
+{
+    let mut marks = Vec::new(alloc);
+    for frame in frames {
+        if marks.len() == FRAMES {
+            return Ok(marks);
+        }
+        push_mark(&mut marks, modules, frame)?;
+    }
+    Ok(marks)
+}
+
+// Appends the words for a frame, if it is in a module.
+fn push_mark(
+    marks: &mut Vec<String>,
+    modules: &[CrashModule],
+    frame: &ShownFrame<'_, '_>,
+) -> Result<(), AllocError>
+    ensures { OnOk result (map string_bytes marks.new.items ≡ map string_bytes marks.old.items
+        ++ cons_option (mark_of (map loaded_of modules.now) (shown_frame_of frame.now)) []) }
+{
+    if let Some(mark) = mark_of(*marks.allocator(), modules, frame)? {
+        marks.push(mark)?;
+    }
+    Ok(())
+}
+
+// Makes the words for a frame, if it is in a module.
+fn mark_of(
+    alloc: Global,
+    modules: &[CrashModule],
+    frame: &ShownFrame<'_, '_>,
+) -> Result<Option<String>, AllocError>
+    ensures { IfOk result (λ mark. option_map string_bytes mark
+        ≡ mark_of (map loaded_of modules.now) (shown_frame_of frame.now)) }
+{
+    let Some((index, offset)) = frame.frame.module else {
+        return Ok(None);
+    };
+    match modules.get(index) {
+        Some(module) => Ok(Some(mark_text(alloc, frame.function, module.file.as_str(), offset)?)),
+        None => Ok(None),
+    }
+}
+
+// Makes the words for a frame by its function, and by the file of its module with the offset in it.
+fn mark_text(
+    alloc: Global,
+    function: Option<FrameFunction<'_>>,
+    file: &str,
+    offset: u64,
+) -> Result<String, AllocError>
+    ensures { IfOk result (λ mark. string_bytes mark
+        ≡ mark_text (option_map function_of function.entry) file.now offset) }
+{
+    match function {
+        Some(function) => function.name.to_string_lossy(alloc),
+        None => format_pieces(alloc, &[Words(file), Words("+"), Hex(offset)]),
+    }
+}
+
+// Joins the reason, if there is one, and the words for frames.
+fn joined(
+    alloc: Global,
+    reason: Option<&str>,
+    marks: &[String],
+) -> Result<Option<String>, AllocError>
+    ensures { IfOk result (λ text. option_map string_bytes text
+        ≡ joined (with_reason (option_copied reason.entry) (map string_bytes marks.now))) }
+{
+    match reason {
+        Some(reason) => Ok(Some(text_after(alloc, reason, marks)?)),
+        None => joined_marks(alloc, marks),
+    }
+}
+
+// Joins the words for frames.
+fn joined_marks(alloc: Global, marks: &[String]) -> Result<Option<String>, AllocError>
+    ensures { IfOk result (λ text. option_map string_bytes text
+        ≡ joined (map string_bytes marks.now)) }
+{
+    match marks {
+        [first, rest @ ..] => Ok(Some(text_after(alloc, first.as_str(), rest)?)),
+        [] => Ok(None),
+    }
+}
+
+// Makes a text of a first one and the rest.
+fn text_after(alloc: Global, first: &str, rest: &[String]) -> Result<String, AllocError>
+    ensures { IfOk result (λ text. string_bytes text
+        ≡ first.now ++ flat_map (λ t. codes " | " ++ t) (map string_bytes rest.now)) }
+{
+    let mut text = String::from_str(alloc, first)?;
+    for part in rest {
+        text.push_str(" | ")?;
+        text.push_str(part.as_str())?;
+    }
+    Ok(text)
+}

@@ -1,0 +1,60 @@
+//! Mozilla's soft errors.
+ghost use Rattle.std.specs.Prelude.{◌≡◌, IfOk, IfSome, IsOkUnless};
+ghost use Rattle.std.specs.Option.{option_copied, option_map};
+ghost use Rattle.json.specs.Tree.{HasNumbers};
+ghost use Rattle.json.specs.Value.{value_view};
+ghost use Rattle.json_tree.specs.Tree.{Puts, or_null};
+ghost use Rattle.crash_json.specs.SoftErrors.{soft_json, value_in};
+
+use json::{Reader, Scratch, Value, Writer};
+use minidump::Error;
+use std::alloc::Global;
+
+/// Puts the value of soft errors, or `null`.
+pub(crate) fn put_soft_errors(
+    out: &mut Writer,
+    alloc: Global,
+    text: Option<&str>,
+) -> Result<(), Error>
+    ensures { Puts result out.old out.new (or_null soft_json (option_copied text.entry)) }
+{
+    match text {
+        Some(text) => put_soft(out, alloc, text),
+        None => Ok(out.null()?),
+    }
+}
+
+// Puts the value of a text that is JSON, else the text.
+#[tactic(auto, unfolding(crate::specs::SoftErrors::soft_json))]
+fn put_soft(out: &mut Writer, alloc: Global, text: &str) -> Result<(), Error>
+    ensures { Puts result out.old out.new (soft_json text.now) }
+{
+    let mut scratch = Scratch::new(alloc);
+    match value_in(alloc, text, &mut scratch)? {
+        Some(value) => out.value(&value)?,
+        None => out.string(text)?,
+    }
+    Ok(())
+}
+
+// Returns the value of a text that is JSON.
+fn value_in<'a>(
+    alloc: Global,
+    text: &'a str,
+    scratch: &'a mut Scratch,
+) -> Result<Option<Value<'a>>, Error>
+    ensures value { IfOk result (λ found. option_map value_view found ≡ value_in text.now) }
+    ensures writable { IfOk result (λ found. IfSome found (λ v. HasNumbers (value_view v))) }
+    ensures memory { IsOkUnless result Error.OutOfMemory }
+{
+    let mut reader = Reader::new(text, scratch)?;
+    let value = match Value::read(alloc, &mut reader, 127) {
+        Ok(value) => value,
+        Err(json::Error::Invalid) => return Ok(None),
+        Err(_) => return Err(Error::OutOfMemory),
+    };
+    match reader.next() {
+        None => Ok(Some(value)),
+        Some(_) => Ok(None),
+    }
+}

@@ -1,0 +1,89 @@
+-- The lines of where the thread that crashed stands.
+use Rattle.std.specs.Prelude.{ℕ, ◌++◌, ◌&&◌, Bool, true, List, [], ◌∷◌, codes, is_some, map}
+use Rattle.std.specs.Prelude.{if◌then◌else◌}
+use Rattle.std.specs.List.{concat, flat_map}
+use Rattle.std.specs.Option.{option_map_or}
+use Rattle.minidump.specs.Below.Bytes.Piece.{hex, wide_hex}
+use Rattle.crash.specs.declared.addresses.AddressFacts.{AddressFacts}
+use Rattle.crash.specs.declared.point.StackWord.{StackWord}
+use Rattle.crash.specs.Crash.{CrashValue}
+use Rattle.crash.specs.Modules.{LoadedValue}
+use Rattle.crash.specs.Point.{PointValue}
+use Rattle.crash_text.specs.Addresses.{address_words}
+use Rattle.crash_text.specs.Lines.{if_some}
+use Rattle.crash_text.specs.Places.{place_text}
+
+-- ---- the flags
+
+-- the words for a flags register or a segment: its name and its value
+abbrev pub flag_words : List ℕ × ℕ → List ℕ
+flag_words r = concat (codes "  " ∷ r.0 ∷ codes " " ∷ hex r.1 ∷ [])
+
+-- the line of all of them
+unfoldable pub flags_row : List (List ℕ × ℕ) → List ℕ
+flags_row flags = concat (codes "  " ∷ flat_map flag_words flags ∷ [])
+
+-- ---- the instruction pointer
+
+-- an address is ordinary for code: a module has it, and what is known of its memory is no reason
+-- that it couldn't be run
+abbrev pub is_ordinary : AddressFacts → Bool
+is_ordinary a = is_some a.«module» && option_map_or (λ m. m.is_executable) a.memory true
+
+-- the line of an instruction pointer, with the words for its module and the others
+unfoldable pub instruction_row : ℕ → List ℕ → List ℕ → List ℕ
+instruction_row address place words =
+    concat (codes "instruction " ∷ hex address ∷ place ∷ words ∷ [])
+
+-- the same where it isn't ordinary
+abbrev pub instruction_lines : CrashValue → AddressFacts → List (List ℕ)
+instruction_lines c a = if is_ordinary a then [] else instruction_row a.address
+    (place_text c.modules.loaded (codes " in no module") a.«module»)
+    (address_words c.modules.unloaded c.threads.threads a) ∷ []
+
+-- ---- the code
+
+-- the words for a byte
+abbrev pub byte_words : ℕ → List ℕ
+byte_words b = concat (codes " " ∷ wide_hex 2 b ∷ [])
+
+-- the line of the bytes at an address
+unfoldable pub code_row : ℕ → List ℕ → List ℕ
+code_row address code = concat (codes "bytes at " ∷ hex address ∷ codes ":"
+    ∷ flat_map byte_words code ∷ [])
+
+-- the same where there are any
+abbrev pub code_lines : ℕ → List ℕ → List (List ℕ)
+code_lines address [] = []
+code_lines address (b ∷ bs) = code_row address (b ∷ bs) ∷ []
+
+-- ---- the words
+
+-- the line of a word, with the words for its module
+unfoldable pub word_row : ℕ → ℕ → List ℕ → List ℕ
+word_row address value place =
+    concat (codes "    " ∷ hex address ∷ codes " " ∷ hex value ∷ place ∷ [])
+
+-- the same by the modules
+abbrev pub word_line : List LoadedValue → StackWord → List ℕ
+word_line modules w = word_row w.address w.value (place_text modules [] w.«module»)
+
+-- the heading of words, where there are any
+abbrev pub words_heading : List StackWord → List (List ℕ)
+words_heading [] = []
+words_heading (_ ∷ _) = codes "words at the stack pointer" ∷ []
+
+-- the words of a stack
+abbrev pub words_lines : List LoadedValue → List StackWord → List (List ℕ)
+words_lines modules words = words_heading words ++ map (word_line modules) words
+
+-- ---- all of it
+
+-- where a thread stands
+abbrev pub known_point_lines : CrashValue → PointValue → List (List ℕ)
+known_point_lines c p = flags_row p.flags ∷ (instruction_lines c p.instruction
+    ++ (code_lines p.instruction.address p.code ++ words_lines c.modules.loaded p.words))
+
+-- the same of the thread that crashed
+abbrev pub point_lines : CrashValue → List (List ℕ)
+point_lines c = if_some (known_point_lines c) c.point

@@ -1,0 +1,198 @@
+//! The frames of a backtrace, and the calls that the compiler put in place in their functions.
+ghost use Rattle.std.specs.Prelude.{◌≡◌, ◌++◌, IfOk, OnOk, map, string_bytes};
+ghost use Rattle.std.specs.Option.{option_map};
+ghost use Rattle.minidump_bytes.specs.LinuxOsStr.{text_of};
+ghost use Rattle.crash_symbols.specs.NameParts.{call_of, source_of};
+ghost use Rattle.crash_symbols.specs.Shown.{shown_frame_of};
+ghost use Rattle.crash_text.specs.Entries.{entry_of};
+ghost use Rattle.crash_text.specs.Frames.{call_entry, entries_in, entries_of, found_text, line_text};
+ghost use Rattle.crash_text.specs.Frames.{name_text, offset_text, own_entry, source_text, trust_text};
+
+use crash::CrashFrame;
+use crash_symbols::{FrameFunction, InlinedCall, ShownFrame, SourceLine};
+use minidump::text::Piece::{Decimal, Hex, Words};
+use minidump::text::format_pieces;
+use minidump_bytes::LinuxOsStr;
+use stack_walk::FrameTrust;
+use std::alloc::{AllocError, Global};
+
+// A frame, or a call that the compiler put in place there.
+#[derive(Clone, Copy)]
+pub(crate) struct FrameEntry<'l> {
+    pub(crate) frame: CrashFrame,
+    pub(crate) function: Option<LinuxOsStr<'l>>,
+    // how far the frame is behind the first of the function
+    pub(crate) offset: Option<u64>,
+    pub(crate) source: Option<SourceLine<'l>>,
+    pub(crate) is_inline: bool,
+}
+
+// Returns frames, before each the calls that were put in place there.
+#[tactic(auto, unfolding(crate::specs::Frames::entries_in))]
+pub(crate) fn entries_in<'l>(
+    alloc: Global,
+    frames: &[ShownFrame<'_, 'l>],
+) -> Result<Vec<FrameEntry<'l>>, AllocError>
+    ensures { IfOk result
+        (λ entries. map entry_of entries.items ≡ entries_in (map shown_frame_of frames.now)) }
+{
+    let mut entries = Vec::new(alloc);
+    for frame in frames {
+        push_entries(&mut entries, frame)?;
+    }
+    Ok(entries)
+}
+
+// Appends the calls that were put in place at a frame, and the frame, to a list.
+fn push_entries<'l>(
+    entries: &mut Vec<FrameEntry<'l>>,
+    frame: &ShownFrame<'_, 'l>,
+) -> Result<(), AllocError>
+    ensures { OnOk result (map entry_of entries.new.items ≡ map entry_of entries.old.items
+        ++ entries_of (shown_frame_of frame.now)) }
+{
+    push_calls(entries, frame.frame, frame.inlines)?;
+    entries.push(own_entry(frame))?;
+    Ok(())
+}
+
+// Appends calls that were put in place at a frame to a list.
+fn push_calls<'l>(
+    entries: &mut Vec<FrameEntry<'l>>,
+    frame: CrashFrame,
+    calls: &[InlinedCall<'l>],
+) -> Result<(), AllocError>
+    ensures { OnOk result (map entry_of entries.new.items ≡ map entry_of entries.old.items
+        ++ map (call_entry frame) (map call_of calls.now)) }
+{
+    for call in calls {
+        entries.push(FrameEntry {
+            frame,
+            function: call.function,
+            offset: None,
+            source: call.source,
+            is_inline: true,
+        })?;
+    }
+    Ok(())
+}
+
+// Returns a frame without the calls that were put in place there.
+fn own_entry<'l>(frame: &ShownFrame<'_, 'l>) -> FrameEntry<'l>
+    ensures { entry_of result ≡ own_entry (shown_frame_of frame.now) }
+{
+    FrameEntry {
+        frame: frame.frame,
+        function: name_of(frame.function),
+        offset: offset_of(frame.function),
+        source: frame.line,
+        is_inline: false,
+    }
+}
+
+// Returns the name of a function.
+fn name_of<'l>(function: Option<FrameFunction<'l>>) -> Option<LinuxOsStr<'l>>
+    ensures { option_map text_of result ≡ option_map (λ f. text_of f.name) function.entry }
+{
+    Some(function?.name)
+}
+
+// Returns the offset of a frame in its function.
+fn offset_of(function: Option<FrameFunction<'_>>) -> Option<u64>
+    ensures { result ≡ option_map (λ f. f.offset) function.entry }
+{
+    Some(function?.offset)
+}
+
+// ---- words
+
+// Makes the words for a function by its name and an offset in it.
+pub(crate) fn name_text(
+    alloc: Global,
+    name: Option<LinuxOsStr<'_>>,
+    offset: Option<u64>,
+) -> Result<String, AllocError>
+    ensures { IfOk result (λ words. string_bytes words
+        ≡ name_text (option_map text_of name.entry) offset) }
+{
+    match name {
+        Some(name) => {
+            let name = name.to_string_lossy(alloc)?;
+            let offset = offset_text(alloc, offset)?;
+            format_pieces(
+                alloc,
+                &[Words(" "), Words(name.as_str()), Words(offset.as_str())],
+            )
+        }
+        None => Ok(String::new(alloc)),
+    }
+}
+
+// Makes the words for an offset in a function.
+fn offset_text(alloc: Global, offset: Option<u64>) -> Result<String, AllocError>
+    ensures { IfOk result (λ words. string_bytes words ≡ offset_text offset) }
+{
+    match offset {
+        Some(offset) => format_pieces(alloc, &[Words(" + "), Hex(offset)]),
+        None => Ok(String::new(alloc)),
+    }
+}
+
+// Makes the words for a source line.
+pub(crate) fn source_text(
+    alloc: Global,
+    source: Option<SourceLine<'_>>,
+) -> Result<String, AllocError>
+    ensures { IfOk result (λ words. string_bytes words
+        ≡ source_text (option_map source_of source.entry)) }
+{
+    match source {
+        Some(source) => line_text(alloc, source.file, source.line),
+        None => Ok(String::new(alloc)),
+    }
+}
+
+// Makes the words for a line of a source file, none if the file isn't known.
+fn line_text(alloc: Global, file: Option<LinuxOsStr<'_>>, line: u32) -> Result<String, AllocError>
+    ensures { IfOk result (λ words. string_bytes words
+        ≡ line_text (option_map text_of file.entry) line) }
+{
+    match file {
+        Some(file) => {
+            let file = file.to_string_lossy(alloc)?;
+            format_pieces(
+                alloc,
+                &[
+                    Words(" at "),
+                    Words(file.as_str()),
+                    Words(":"),
+                    Decimal(line as u64),
+                ],
+            )
+        }
+        None => Ok(String::new(alloc)),
+    }
+}
+
+// Returns the words for how a frame was found, or that it is a call that was put in place.
+pub(crate) fn found_text(is_inline: bool, trust: FrameTrust) -> &'static str
+    ensures { result.now ≡ found_text is_inline trust }
+{
+    if is_inline {
+        ", inline"
+    } else {
+        trust_text(trust)
+    }
+}
+
+// Returns the words for how a frame was found.
+fn trust_text(trust: FrameTrust) -> &'static str
+    ensures { result.now ≡ trust_text trust }
+{
+    match trust {
+        FrameTrust::Context => ", context",
+        FrameTrust::Cfi => ", call frame information",
+        FrameTrust::FramePointer => ", frame pointer",
+        FrameTrust::Scan => ", scan",
+    }
+}
