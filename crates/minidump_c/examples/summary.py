@@ -1,80 +1,71 @@
 """Prints the crash that a minidump is of, with the frames of its thread: summary.py LIBRARY FILE
 
-LIBRARY is a shared object, made of the static library and the toolchain's heap:
-cc -shared -o libminidump.so -Wl,--whole-archive libminidump_c.a -Wl,--no-whole-archive liblibc_c.a
+LIBRARY is the shared object libminidump.so, which crates/minidump_c/install makes.
 """
 import ctypes
+import json
 import sys
 
-
-def fields(kind, names):
-    return [(name, kind) for name in names.split()]
-
-
-class Span(ctypes.Structure):
-    _fields_ = fields(ctypes.c_size_t, "offset len")
-
-
-class Crash(ctypes.Structure):
-    _fields_ = fields(ctypes.c_uint64, "address module_offset exception_address uptime")
-    _fields_ += fields(ctypes.c_size_t, "thread_index module register_size frame_count register_count thread_count module_count texts_len")
-    _fields_ += fields(Span, "reason version build cpu_model")
-    _fields_ += fields(ctypes.c_uint32, "thread code process_id written")
-    _fields_ += fields(ctypes.c_uint16, "os cpu processors")
-    _fields_ += fields(ctypes.c_uint8, "has_exception has_address has_module has_thread has_system has_process_id has_uptime context walk_end status")
-
-
-class Frame(ctypes.Structure):
-    _fields_ = fields(ctypes.c_uint64, "address instruction stack_pointer frame_pointer")
-    _fields_ += [("module", ctypes.c_size_t), ("module_offset", ctypes.c_uint64), ("trust", ctypes.c_uint32)]
-    _fields_ += fields(ctypes.c_uint16, "has_frame_pointer has_module")
-
-
-class Module(ctypes.Structure):
-    _fields_ = fields(ctypes.c_uint64, "base end") + fields(Span, "path version code_id debug_file debug_id")
-
-
+VERSION = 5
 BYTES = [ctypes.c_char_p, ctypes.c_size_t]
-TABLE = [ctypes.c_void_p, ctypes.c_size_t]
-library = ctypes.CDLL(sys.argv[1])
-library.minidump_crash.argtypes = [*BYTES, *BYTES, ctypes.c_size_t, ctypes.POINTER(Crash), *(TABLE * 5), ctypes.POINTER(ctypes.c_uint64)]
-library.minidump_crash.restype = ctypes.c_uint32
-library.minidump_error_name.argtypes = [ctypes.c_uint32, *BYTES]
-library.minidump_error_name.restype = ctypes.c_size_t
-
-with open(sys.argv[2], "rb") as file:
-    dump = file.read()
-crash, line = Crash(), ctypes.c_uint64()
+SIZE, LINE = ctypes.POINTER(ctypes.c_size_t), ctypes.POINTER(ctypes.c_uint64)
 
 
-def read(frames, modules, texts):
-    """Reads the crash, with the tables as far as they fit."""
-    status = library.minidump_crash(dump, len(dump), None, 0, 8, crash, frames, len(frames), None, 0, None, 0, modules, len(modules),
-                                    texts, len(texts), line)
-    if status:
-        name = ctypes.create_string_buffer(32)
-        size = library.minidump_error_name(status, name, len(name))
-        sys.exit(name.raw[:size].decode())
+def load(path):
+    """Loads the library, and tells ctypes what its calls take."""
+    library = ctypes.CDLL(path)
+    library.minidump_crash_json.argtypes = [*BYTES, *BYTES, ctypes.c_size_t, ctypes.c_size_t, *BYTES, SIZE, LINE]
+    library.minidump_error_name.argtypes = [ctypes.c_uint32, *BYTES]
+    library.minidump_error_name.restype = ctypes.c_size_t
+    if library.minidump_version() != VERSION:
+        sys.exit("the library is of another version")
+    return library
 
 
-def text(span):
-    return texts.raw[span.offset : span.offset + span.len].decode(errors="replace")
+def crash_of(library, dump):
+    """Returns the crash of a dump, with at most 8 candidates and 100 frames of a thread, or the name of why there is none."""
+    size, line, room = ctypes.c_size_t(1 << 16), ctypes.c_uint64(), 0
+    while size.value > room:
+        room = size.value
+        text = ctypes.create_string_buffer(room)
+        status = library.minidump_crash_json(dump, len(dump), None, 0, 8, 100, text, room, size, line)
+        if status:
+            size = library.minidump_error_name(status, text, room)
+            return None, text.raw[:size].decode()
+    return json.loads(text.raw[: size.value]), None
 
 
-def place(index, offset):
-    return f" in {text(modules[index].path)}+{offset:#x}"
+def place(part):
+    return f" in {part['module']}+{part['module_offset']}" if part["module"] is not None else ""
 
 
-read((Frame * 0)(), (Module * 0)(), ctypes.create_string_buffer(1))  # for the sizes
-frames, modules, texts = (Frame * crash.frame_count)(), (Module * crash.module_count)(), ctypes.create_string_buffer(crash.texts_len + 1)
-read(frames, modules, texts)
-if crash.has_thread:
-    print("thread ", crash.thread)
-if crash.has_address:
-    print(f"address {crash.address:#x}" + (place(crash.module, crash.module_offset) if crash.has_module else ""))
-    print("reason ", text(crash.reason))
-for number, frame in enumerate(frames):
-    where = place(frame.module, frame.module_offset) if frame.has_module else ""
-    print(f"#{number:<2}     {frame.address:#x}{where},", ["", "context", "frame pointer", "scan"][frame.trust])
-if crash.status:
-    print("something of the dump can't be read")
+def summary(crash):
+    """Gives the lines that the other examples print."""
+    info, facts, thread = crash["crash_info"], crash["minidump"]["address"], crash["crashing_thread"]
+    if thread:
+        yield f"thread  {thread['thread_id']}"
+    if facts:
+        near = f", null + {facts['null_offset']}" if facts["null_offset"] else ""
+        names = [module["filename"] for module in crash["modules"]]
+        yield f"address {facts['address']}{near}" + (place(facts | {"module": names[facts["module"]]}) if facts["module"] is not None else "")
+    if info["type"]:
+        yield f"reason  {info['type']}"
+    if crash["minidump"]["exception"] is not None:
+        sender = crash["minidump"]["exceptions"][crash["minidump"]["exception"]]["sender"]
+        if sender:
+            yield f"sent by process {sender['process_id']}"
+    for frame in thread["frames"] if thread else []:
+        yield f"#{frame['frame']:<2}     {frame['offset']}{place(frame)}, {frame['trust'].replace('_', ' ')}"
+    if crash["minidump"]["status"]:
+        yield "something of the dump can't be read"
+
+
+try:
+    with open(sys.argv[2], "rb") as file:
+        dump = file.read()
+except OSError as error:
+    sys.exit(f"{error.filename}: {error.strerror}")
+crash, error = crash_of(load(sys.argv[1]), dump)
+if error:
+    sys.exit(f"{sys.argv[2]}: {error}")
+print(*summary(crash), sep="\n")

@@ -9,8 +9,8 @@
  *
  * A call about a dump returns MINIDUMP_OK or an error, but never MINIDUMP_FILE_NOT_FOUND or MINIDUMP_IO_ERROR. After an
  * error every buffer, number and struct is as it was, but for the line of a malformed text of names. A missing or malformed
- * stream is no error of a call: it counts as none; in a report a malformed one is a line, and minidump_crash has 1 as its
- * status.
+ * stream is no error of a call: it counts as none; in a report a malformed one is a line, and minidump_crash counts it in
+ * damage_count.
  *
  * Names and reasons are UTF-8; a report also has bytes of the dump as they are. A text that is cut may end within a
  * character. No zero is written after a text, and a name may hold zeros.
@@ -21,8 +21,8 @@
  *
  * An end may be 2^64, which is 0 as a number: test `address - base < size`, not `address < base + size`.
  *
- * Link libminidump_c.a, which `rt lib` makes, and the toolchain's liblibc_c.a. Memory is taken by malloc and realloc and
- * given back by free.
+ * Link libminidump_c.a, which `rt lib` makes, and the toolchain's liblibc_c.a, or what `crates/minidump_c/install` makes of
+ * both. Memory is taken by malloc and realloc and given back by free.
  * Numbers are those of the machine, which must be a 64-bit one; on x86-64 it needs SSE4.2 and POPCNT (x86-64-v2),
  * which is not tested. Call from no signal handler, and not after a fork of a process with threads.
  *
@@ -35,12 +35,16 @@
 #include <stddef.h>
 #include <stdint.h>
 
-/* The version of what this header declares. It changes with a struct or a call. */
-#define MINIDUMP_VERSION 4
+/* The version of what this header declares. It changes with a struct or a call. The structs have no padding. */
+#define MINIDUMP_VERSION 5
 
 #ifdef __cplusplus
 extern "C" {
 #endif
+
+/* Returns the version of the library. Only where it is MINIDUMP_VERSION may its other functions be called: a program that
+ * loads the library when it runs asks for it first. */
+uint32_t minidump_version(void);
 
 enum minidump_status {
     MINIDUMP_OK = 0,
@@ -139,11 +143,33 @@ enum minidump_context {
     MINIDUMP_CONTEXT_OF_THREAD = 2     /* the thread's own, from when the dump was written */
 };
 
+/* Why there are no registers in a context. */
+enum minidump_problem {
+    MINIDUMP_PROBLEM_OUTSIDE = 1,     /* its bytes are not in the file */
+    MINIDUMP_PROBLEM_NO_SYSTEM = 2,   /* the system is unknown, whose processor says how to read it */
+    MINIDUMP_PROBLEM_NOT_ACCEPTED = 3 /* it isn't a context of the processor, nor the front of one with all general registers */
+};
+
+/* How memory was accessed. */
+enum minidump_access {
+    MINIDUMP_ACCESS_READ = 1,
+    MINIDUMP_ACCESS_WRITE = 2,
+    MINIDUMP_ACCESS_EXECUTE = 3
+};
+
+/* The state of memory. */
+enum minidump_state {
+    MINIDUMP_STATE_FREE = 1,     /* nothing is there */
+    MINIDUMP_STATE_RESERVED = 2, /* addresses are kept for later, without memory */
+    MINIDUMP_STATE_COMMITTED = 3 /* memory is there */
+};
+
 /* What a frame is known by. */
 enum minidump_trust {
     MINIDUMP_TRUST_CONTEXT = 1,       /* the registers of the thread */
     MINIDUMP_TRUST_FRAME_POINTER = 2, /* the frame pointer of the frame before */
-    MINIDUMP_TRUST_SCAN = 3           /* a word of the stack that may be a return address: a candidate */
+    MINIDUMP_TRUST_SCAN = 3,          /* a word of the stack that may be a return address: a candidate */
+    MINIDUMP_TRUST_CFI = 4            /* call frame information of symbols, which no call of this library reads */
 };
 
 /* Why the last frame has no caller. */
@@ -164,41 +190,78 @@ struct minidump_span {
     size_t len;
 };
 
+/* An exception. What is absent has 0 in has_.., and 0 for its numbers. */
+struct minidump_exception {
+    uint64_t address;         /* at which it happened, as its record has it */
+    uint64_t nested;          /* the address of the record of another exception, during which it happened; 0 if there is none */
+    uint64_t parameters[15];  /* of its record, and zeros after them */
+    uint32_t thread;          /* the id of the thread on which it happened */
+    uint32_t code;            /* on Linux and Android the number of the signal */
+    uint32_t flags;           /* on Linux and Android the si_code of the signal */
+    uint32_t parameter_count; /* how many parameters its record has, at most 15 */
+    uint32_t access;          /* enum minidump_access; 0 but for access violations and in-page errors of Windows */
+    uint32_t sender;          /* the id of the process that sent the signal, on Linux and Android */
+    uint32_t sender_user;     /* the id of the user of that process */
+    uint8_t has_exception;
+    uint8_t has_sender;
+    uint8_t has_sender_user; /* 0 where an address has 32 bits */
+    uint8_t context_problem; /* enum minidump_problem: why its context gives no registers; 0 if it gives some */
+};
+
+/* What is known of an address. What is unknown has 0 in has_.., and 0 for its numbers. */
+struct minidump_facts {
+    uint64_t address;
+    uint64_t null_offset;   /* the address once more, where it is below 0x10000: an offset from a null pointer */
+    uint64_t module_offset; /* of the address in its module */
+    size_t module;          /* the index of the module that contains it, in the table of modules */
+    size_t unloaded;        /* the index of the last unloaded module that contains it, in the table of these */
+    size_t stack_of;        /* the index of the last thread whose stack, as the dump's list has it, contains it */
+    size_t below_stack;     /* the index of the last thread whose stack begins above it, by at most 4,096 bytes */
+    uint32_t memory_state;  /* enum minidump_state, of the memory that contains it */
+    uint8_t has_address;    /* 0 where no exception counts, without a system, and for a signal that a process sent */
+    uint8_t has_null_offset;
+    uint8_t is_canonical; /* 0 for an address of x86-64 whose bits 47 to 63 differ, else 1 */
+    uint8_t has_module;
+    uint8_t has_unloaded;
+    uint8_t has_stack_of;
+    uint8_t has_below_stack;
+    uint8_t has_memory;  /* the dump has information on the memory that contains it */
+    uint8_t is_readable; /* that memory may be read; written; run as code */
+    uint8_t is_writable;
+    uint8_t is_executable;
+    uint8_t is_guarded; /* the first access to it raises an exception */
+};
+
 /* What a dump says of a crash. What is absent has 0 in has_.., and 0 for its numbers. */
 struct minidump_crash {
-    uint64_t address;           /* that the crash is about */
-    uint64_t module_offset;     /* of the address in its module */
-    uint64_t exception_address; /* where the exception happened */
-    uint64_t uptime;            /* for how many seconds the process had run when the dump was written */
-    size_t thread_index;        /* of the thread that crashed, in the table of threads */
-    size_t module;              /* the index of the module that contains the address, in the table of modules */
-    size_t register_size;       /* how many bytes a register has */
-    size_t frame_count;         /* the sizes of the whole tables, and of all texts */
+    struct minidump_exception exception; /* that counts: the last whose code isn't 0, else the last that can be read */
+    struct minidump_facts facts;         /* of the address that the crash is about */
+    uint64_t uptime;     /* for how many seconds the process had run when the dump was written */
+    size_t thread_index; /* of the thread that crashed, in the table of threads */
+    size_t damage_count; /* how many things of the dump are there and can't be read; minidump_crash_json names them */
+    size_t register_size; /* how many bytes a register has */
+    size_t frame_count;   /* the sizes of the whole tables, and of all texts */
     size_t register_count;
     size_t thread_count;
     size_t module_count;
+    size_t unloaded_count;
     size_t texts_len;
     struct minidump_span reason;    /* in words */
     struct minidump_span version;   /* of the operating system, such as 10.0.19041 */
     struct minidump_span build;     /* of that version: on Windows the service pack, on Linux what the kernel says of itself after it */
     struct minidump_span cpu_model; /* the description of the processor */
     uint32_t thread;                /* the id of the thread that crashed */
-    uint32_t code;                  /* of the exception */
     uint32_t process_id;
     uint32_t written; /* when, in seconds since 1970; 0 says nothing */
     uint16_t os;      /* enum minidump_os */
     uint16_t cpu;     /* enum minidump_cpu */
     uint16_t processors; /* how many */
-    uint8_t has_exception; /* an exception counts: the last whose code isn't 0, else the last that can be read */
-    uint8_t has_address;
-    uint8_t has_module;
     uint8_t has_thread;
     uint8_t has_system; /* the three numbers of the system, and its texts */
     uint8_t has_process_id;
     uint8_t has_uptime;
     uint8_t context;  /* enum minidump_context; 0 without registers */
     uint8_t walk_end; /* enum minidump_end; 0 without frames */
-    uint8_t status;   /* 1 where something of the dump is there and can't be read, else 0 */
 };
 
 /* A frame of a stack. */
@@ -227,6 +290,8 @@ struct minidump_thread {
     struct minidump_span name;
     struct minidump_span last_error; /* in words, as Windows keeps it */
     size_t frame_count;              /* how many frames it has, without candidates */
+    size_t short_size;               /* how many bytes its context has, where its writer cut it, else 0 */
+    size_t whole_size;               /* how many a whole one has, where it is cut, else 0 */
     uint32_t id;
     uint16_t has_context; /* 1 where there are registers of the thread, else 0 */
     uint16_t is_listed;   /* 1 for a thread of the dump's list, 0 for that of the exception where the list lacks it */
@@ -243,12 +308,20 @@ struct minidump_module {
     struct minidump_span debug_id;   /* as Breakpad writes it */
 };
 
+/* A module that was unloaded before the dump was written. */
+struct minidump_unloaded {
+    uint64_t base;
+    uint64_t end; /* the address after it, 0 if that has more than 64 bits */
+    struct minidump_span path;
+    struct minidump_span code_id;
+};
+
 /* Reads the crash of a dump, with the names of codes of a text, as in minidump_report_named, and writes its numbers to
  * *crash. To the fronts of the other buffers go, as far as they fit:
  * - to frames, those of the thread that crashed, the innermost first, and after them the candidates, at most scan of them;
  * - to registers, those of that thread;
  * - to threads, those of the dump's list in its order, and after them that of the exception, where the list lacks it;
- * - to modules, those of the dump's list in its order;
+ * - to modules, those of the dump's list in its order, and to unloaded those of the list of unloaded ones;
  * - to texts, all texts, in which the spans lie.
  * The numbers of *crash say how large the whole tables and texts are: to ask for these alone, pass lengths of 0. The dump
  * is read anew at each call, so begin with buffers of a guess, and call again where one was too small.
@@ -260,8 +333,9 @@ struct minidump_module {
 uint32_t minidump_crash(const uint8_t *bytes, size_t len, const uint8_t *names, size_t names_len, size_t scan,
                         struct minidump_crash *crash, struct minidump_frame *frames, size_t frames_len,
                         struct minidump_register *registers, size_t registers_len, struct minidump_thread *threads,
-                        size_t threads_len, struct minidump_module *modules, size_t modules_len, uint8_t *texts,
-                        size_t texts_len, uint64_t *line);
+                        size_t threads_len, struct minidump_module *modules, size_t modules_len,
+                        struct minidump_unloaded *unloaded, size_t unloaded_len, uint8_t *texts, size_t texts_len,
+                        uint64_t *line);
 
 /* Reads the crash of a dump, as minidump_crash does, and writes its JSON text to the front of out, as far as it fits, and the
  * size of the whole text to *size: the line of `whocrashed --json` without the path of a file, with at most frames frames

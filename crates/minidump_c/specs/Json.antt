@@ -10,4 +10,4 @@ use Rattle.crash_json.specs.Report.{text_of}
 -- why the file is no minidump
 abbrev pub json_in : List ℕ → ℕ → ℕ → Lists → Result (List ℕ) Error
 json_in bytes scan frames names =
-    map_ok (text_of (record { frames = frames }) None) (crash_in bytes names scan)
+    map_ok (text_of (record { frames = frames }) None None) (crash_in bytes names scan)

@@ -7,6 +7,8 @@ pub mod Table
 pub mod Spans
 pub mod Frames
 pub mod Tables
+pub mod Exceptions
+pub mod Facts
 pub mod Numbers
 pub mod Rows
 pub mod Json

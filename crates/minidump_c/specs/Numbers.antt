@@ -1,5 +1,5 @@
 -- The numbers of a crash.
-use Rattle.std.specs.Prelude.{ℕ, ◌++◌, List, [], slice_get, Ok, Option, unwrap_or}
+use Rattle.std.specs.Prelude.{ℕ, ◌++◌, List, [], length, slice_get, Option, unwrap_or}
 use Rattle.std.specs.Option.{option_and_then, option_map_or}
 use Rattle.minidump.specs.declared.system_info.Cpu.{Cpu}
 use Rattle.minidump.specs.declared.system_info.Cpu.TheVariants as cpu
@@ -8,7 +8,7 @@ use Rattle.minidump.specs.declared.system_info.Os.TheVariants as os
 use Rattle.crash.specs.Cause.{ExceptionValue}
 use Rattle.crash.specs.Counting.{counted}
 use Rattle.crash.specs.Contexts.{ContextValue}
-use Rattle.crash.specs.Crash.{CrashValue, status_of}
+use Rattle.crash.specs.Crash.{CrashValue}
 use Rattle.crash.specs.Frames.{CrashWalkValue}
 use Rattle.crash.specs.Threads.{ThreadValue}
 use Rattle.crash.specs.declared.contexts.ContextOrigin.{ContextOrigin}
@@ -16,6 +16,8 @@ use Rattle.crash.specs.declared.contexts.ContextOrigin.TheVariants.{OfException,
 use Rattle.minidump_c.specs.declared.numbers.Counts.{Counts}
 use Rattle.minidump_c.specs.declared.numbers.CrashRow.{CrashRow}
 use Rattle.minidump_c.specs.declared.numbers.OwnTexts.{OwnTexts}
+use Rattle.minidump_c.specs.Exceptions.{exception_part}
+use Rattle.minidump_c.specs.Facts.{facts_part}
 use Rattle.minidump_c.specs.Frames.{end_number}
 use Rattle.minidump_c.specs.Spans.{flag, span_after, text_in}
 
@@ -36,10 +38,6 @@ context_of c = option_and_then (λ t. t.context) (crashed c)
 -- what is found in its stack
 abbrev pub walk_of : CrashValue → Option CrashWalkValue
 walk_of c = option_and_then (λ t. t.walk) (crashed c)
-
--- the module that contains the address, by its index, and the offset in that
-abbrev pub place_of : CrashValue → Option (ℕ × ℕ)
-place_of c = option_and_then (λ a. a.module) c.cause.address
 
 -- ---- the texts of the crash itself
 
@@ -105,37 +103,32 @@ origin_number OfThread = 2
 -- absent
 abbrev pub crash_row : CrashValue → OwnTexts → Counts → CrashRow
 crash_row c texts counts = record {
-  address = option_map_or (λ a. a.address) c.cause.address 0;
-  module_offset = option_map_or (λ p. p.1) (place_of c) 0;
-  exception_address = option_map_or (λ e. e.at) (exception_of c) 0;
+  exception = exception_part (exception_of c);
+  facts = facts_part c.cause.address;
   uptime = unwrap_or c.process.uptime 0;
   thread_index = unwrap_or c.threads.crashing 0;
-  «module» = option_map_or (λ p. p.0) (place_of c) 0;
+  damage_count = length c.damage;
   register_size = option_map_or (λ x. x.size) (context_of c) 0;
   frame_count = counts.frames;
   register_count = counts.registers;
   thread_count = counts.threads;
   module_count = counts.modules;
+  unloaded_count = counts.unloaded;
   texts_len = counts.texts;
   reason = texts.reason;
   version = texts.version;
   build = texts.build;
   cpu_model = texts.cpu_model;
   thread = option_map_or (λ t. t.id) (crashed c) 0;
-  code = option_map_or (λ e. e.code) (exception_of c) 0;
   process_id = unwrap_or c.process.id 0;
   written = c.directory.written;
   os = option_map_or (λ s. os_number s.os) c.process.system 0;
   cpu = option_map_or (λ s. cpu_number s.cpu) c.process.system 0;
   processors = option_map_or (λ s. s.processors) c.process.system 0;
-  has_exception = flag (exception_of c);
-  has_address = flag c.cause.address;
-  has_module = flag (place_of c);
   has_thread = flag (crashed c);
   has_system = flag c.process.system;
   has_process_id = flag c.process.id;
   has_uptime = flag c.process.uptime;
   context = option_map_or (λ x. origin_number x.origin) (context_of c) 0;
   walk_end = option_map_or (λ w. end_number w.end) (walk_of c) 0;
-  status = status_of (Ok c);
 }

@@ -12,21 +12,23 @@ use Rattle.minidump_c.specs.declared.rows.Rows.{Rows}
 use Rattle.minidump_c.specs.declared.tables.ModuleRow.{ModuleRow}
 use Rattle.minidump_c.specs.declared.tables.RegisterRow.{RegisterRow}
 use Rattle.minidump_c.specs.declared.tables.ThreadRow.{ThreadRow}
+use Rattle.minidump_c.specs.declared.tables.UnloadedRow.{UnloadedRow}
 use Rattle.minidump_c.specs.Frames.{frame_rows}
 use Rattle.minidump_c.specs.Numbers.{context_of, crash_row, own_spans, own_texts, walk_of}
 use Rattle.minidump_c.specs.Spans.{rows_after, texts_after}
-use Rattle.minidump_c.specs.Tables.{module_row, register_row, thread_row}
-use Rattle.minidump_c.specs.Tables.{with_module, with_register, with_thread}
+use Rattle.minidump_c.specs.Tables.{module_row, register_row, thread_row, unloaded_row}
+use Rattle.minidump_c.specs.Tables.{with_module, with_register, with_thread, with_unloaded}
 use Rattle.minidump_c.specs.Text.{buffer_with}
 
--- the numbers, the frames and registers of the thread that crashed, the threads, the modules, and
--- all texts
+-- the numbers, the frames and registers of the thread that crashed, the threads, the modules, the
+-- unloaded modules, and all texts
 pub record RowsValue : Type 0 where
   pub crash : CrashRow
   pub frames : List FrameRow
   pub registers : List RegisterRow
   pub threads : List ThreadRow
   pub modules : List ModuleRow
+  pub unloaded : List UnloadedRow
   pub texts : List ℕ
 
 -- the same of a `Rows`
@@ -37,6 +39,7 @@ rows_value r = record {
   registers = r.registers.items;
   threads = r.threads.items;
   modules = r.modules.items;
+  unloaded = r.unloaded.items;
   texts = r.texts.items;
 }
 
@@ -46,15 +49,19 @@ rows_value r = record {
 abbrev pub registers_of : CrashValue → List (List ℕ × ℕ)
 registers_of c = option_map_or (λ x. x.registers) (context_of c) []
 
--- the texts of the crash and its registers, and after them those of the threads, and of the modules
+-- the texts of the crash and its registers, and after them those of the threads, of the modules, and
+-- of the unloaded modules
 abbrev pub register_texts : CrashValue → List ℕ
 register_texts c = texts_after with_register (own_texts c) (registers_of c)
 
 abbrev pub thread_texts : CrashValue → List ℕ
 thread_texts c = texts_after with_thread (register_texts c) c.threads.threads
 
+abbrev pub module_texts : CrashValue → List ℕ
+module_texts c = texts_after with_module (thread_texts c) c.modules.loaded
+
 abbrev pub all_texts : CrashValue → List ℕ
-all_texts c = texts_after with_module (thread_texts c) c.modules.loaded
+all_texts c = texts_after with_unloaded (module_texts c) c.modules.unloaded
 
 -- the tables
 abbrev pub frames_of : CrashValue → List FrameRow
@@ -69,6 +76,9 @@ thread_rows c = rows_after thread_row with_thread (register_texts c) c.threads.t
 abbrev pub module_rows : CrashValue → List ModuleRow
 module_rows c = rows_after module_row with_module (thread_texts c) c.modules.loaded
 
+abbrev pub unloaded_rows : CrashValue → List UnloadedRow
+unloaded_rows c = rows_after unloaded_row with_unloaded (module_texts c) c.modules.unloaded
+
 -- their sizes
 abbrev pub counts_of : CrashValue → Counts
 counts_of c = record {
@@ -76,6 +86,7 @@ counts_of c = record {
   registers = length (register_rows c);
   threads = length (thread_rows c);
   modules = length (module_rows c);
+  unloaded = length (unloaded_rows c);
   texts = length (all_texts c);
 }
 
@@ -87,6 +98,7 @@ rows_of c = record {
   registers = register_rows c;
   threads = thread_rows c;
   modules = module_rows c;
+  unloaded = unloaded_rows c;
   texts = all_texts c;
 }
 
@@ -98,13 +110,14 @@ rows_in bytes scan names = map_ok rows_of (crash_in bytes names scan)
 
 -- the contents of the buffers of a call
 abbrev pub buffers : CrashRow → List FrameRow → List RegisterRow → List ThreadRow → List ModuleRow
-    → List ℕ → RowsValue
-buffers crash frames registers threads modules texts = record {
+    → List UnloadedRow → List ℕ → RowsValue
+buffers crash frames registers threads modules unloaded texts = record {
   crash = crash;
   frames = frames;
   registers = registers;
   threads = threads;
   modules = modules;
+  unloaded = unloaded;
   texts = texts;
 }
 
@@ -116,6 +129,7 @@ filled_with rows old = record {
   registers = buffer_with rows.registers old.registers;
   threads = buffer_with rows.threads old.threads;
   modules = buffer_with rows.modules old.modules;
+  unloaded = buffer_with rows.unloaded old.unloaded;
   texts = buffer_with rows.texts old.texts;
 }
 

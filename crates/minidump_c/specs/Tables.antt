@@ -1,11 +1,13 @@
--- The registers, the threads and the modules of a crash, as rows.
-use Rattle.std.specs.Prelude.{ℕ, ◌++◌, List, length, unwrap_or}
-use Rattle.std.specs.Option.{option_map_or}
-use Rattle.crash.specs.Modules.{LoadedValue}
+-- The registers, the threads, the modules and the unloaded modules of a crash, as rows.
+use Rattle.std.specs.Prelude.{ℕ, ◌++◌, List, length, Option, unwrap_or}
+use Rattle.std.specs.Option.{option_and_then, option_map_or}
+use Rattle.crash.specs.Modules.{LoadedValue, UnloadedModuleValue}
 use Rattle.crash.specs.Threads.{ThreadValue}
+use Rattle.crash.specs.declared.contexts.ShortContext.{ShortContext}
 use Rattle.minidump_c.specs.declared.tables.ModuleRow.{ModuleRow}
 use Rattle.minidump_c.specs.declared.tables.RegisterRow.{RegisterRow}
 use Rattle.minidump_c.specs.declared.tables.ThreadRow.{ThreadRow}
+use Rattle.minidump_c.specs.declared.tables.UnloadedRow.{UnloadedRow}
 use Rattle.minidump_c.specs.Spans.{bit, flag, span_after, text_in}
 
 -- a register: its name and its value
@@ -15,7 +17,12 @@ register_row before r = record { value = r.1; name = span_after before r.0 }
 abbrev pub with_register : List ℕ → List ℕ × ℕ → List ℕ
 with_register before r = before ++ r.0
 
--- a thread: 0 for the stack of one without a stack, and for the frames of one without a walk
+-- how much there is of a thread's context, if it is cut
+abbrev pub short_of : ThreadValue → Option ShortContext
+short_of t = option_and_then (λ x. x.short) t.context
+
+-- a thread: 0 for the stack of one without a stack, for the frames of one without a walk, and for the
+-- sizes of a context that is whole
 abbrev pub thread_row : List ℕ → ThreadValue → ThreadRow
 thread_row before t = record {
   stack_base = option_map_or (λ s. s.base) t.stack 0;
@@ -23,6 +30,8 @@ thread_row before t = record {
   name = span_after before (text_in t.name);
   last_error = span_after (before ++ text_in t.name) (text_in t.last_error);
   frame_count = option_map_or (λ w. length w.frames) t.walk 0;
+  short_size = option_map_or (λ s. s.size) (short_of t) 0;
+  whole_size = option_map_or (λ s. s.whole) (short_of t) 0;
   id = t.id;
   has_context = flag t.context;
   is_listed = bit t.is_listed;
@@ -46,3 +55,15 @@ module_row before m = record {
 abbrev pub with_module : List ℕ → LoadedValue → List ℕ
 with_module before m =
     before ++ m.path ++ text_in m.version ++ text_in m.code_id ++ text_in m.debug_file ++ text_in m.debug_id
+
+-- a module that was unloaded
+abbrev pub unloaded_row : List ℕ → UnloadedModuleValue → UnloadedRow
+unloaded_row before m = record {
+  base = m.base;
+  end = unwrap_or m.end 0;
+  path = span_after before m.path;
+  code_id = span_after (before ++ m.path) (text_in m.code_id);
+}
+
+abbrev pub with_unloaded : List ℕ → UnloadedModuleValue → List ℕ
+with_unloaded before m = before ++ m.path ++ text_in m.code_id

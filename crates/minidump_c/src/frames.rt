@@ -88,6 +88,7 @@ fn trust_number(trust: FrameTrust) -> u32
         FrameTrust::Context => 1,
         FrameTrust::FramePointer => 2,
         FrameTrust::Scan => 3,
+        FrameTrust::Cfi => 4,
     }
 }
 

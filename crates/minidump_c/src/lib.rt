@@ -7,6 +7,20 @@
 //! [`minidump_names::NamesError`]. On an error nothing that the caller passed has changed, except
 //! that the number of such a line is written.
 //!
+//! # Installing
+//!
+//! `crates/minidump_c/install PREFIX` makes the library, if it isn't there yet, and puts into the
+//! folder PREFIX the header, the library and the toolchain's heap, on which it stands, as two static
+//! libraries, both of them as the shared object `libminidump.so`, if there is a C compiler, and
+//! `minidump.pc`. With `PREFIX/lib/pkgconfig` in `PKG_CONFIG_PATH` a program is then built by
+//!
+//! ```text
+//! cc program.c $(pkg-config --cflags --libs minidump)
+//! ```
+//!
+//! The folder `examples` has programs in C, Rust and Python that print a backtrace. That in Python
+//! takes the JSON text from the shared object; those in C and Rust take the tables.
+//!
 //! # What is proved
 //!
 //! Of each call, by the bytes of the dump: the status, and what the caller's memory holds after it.
@@ -23,7 +37,7 @@
 //! - The memory at an address: `minidump_memory_at`, `minidump_read_memory`, by `IsRegionAt` and
 //!   `IsReadAt`. The regions that lookups find, ascending by address: `minidump_memory_table`, by
 //!   `IsTableOf`.
-//! - The name of an error: `minidump_error_name`, by `IsNameOf`.
+//! - The name of an error: `minidump_error_name`, by `IsNameOf`. The version: `minidump_version`.
 //!
 //! The proofs use the contracts of `minidump`, `crash`, `crash_json` and `minidump_names`, and nothing
 //! below.
@@ -34,6 +48,8 @@
 //! nothing else writes meanwhile.
 #![tactic(auto)]
 
+mod exceptions;
+mod facts;
 mod frames;
 mod json;
 mod memory;
@@ -46,3 +62,4 @@ mod status;
 mod table;
 mod tables;
 mod text;
+mod version;

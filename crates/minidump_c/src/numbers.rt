@@ -1,17 +1,19 @@
-ghost use Rattle.std.specs.Prelude.{◌≡◌, [], IfOk, Ok, OnOk};
+ghost use Rattle.std.specs.Prelude.{◌≡◌, [], IfOk, OnOk, length};
 ghost use Rattle.std.specs.Option.{option_copied, option_map, option_map_or};
 ghost use Rattle.crash.specs.Cause.{exception_of};
 ghost use Rattle.crash.specs.Contexts.{context_of};
-ghost use Rattle.crash.specs.Crash.{crash_of, status_of};
+ghost use Rattle.crash.specs.Crash.{crash_of};
 ghost use Rattle.crash.specs.Frames.{crash_walk_of};
 ghost use Rattle.crash.specs.Process.{system_of};
 ghost use Rattle.crash.specs.Threads.{thread_value};
 ghost use Rattle.minidump_c.specs.Frames.{end_number};
 ghost use Rattle.minidump_c.specs.Numbers.{build_of, cpu_number, crash_row, crashed, model_of};
 ghost use Rattle.minidump_c.specs.Numbers.{origin_number, os_number, own_spans, own_texts};
-ghost use Rattle.minidump_c.specs.Numbers.{place_of, reason_of, version_of};
+ghost use Rattle.minidump_c.specs.Numbers.{reason_of, version_of};
 ghost use Rattle.minidump_c.specs.Numbers as c;
 
+use crate::exceptions::{ExceptionRow, exception_part};
+use crate::facts::{FactsRow, facts_part};
 use crate::frames::end_number;
 use crate::spans::{Span, bytes_of, flag, push_text};
 use crash::{
@@ -24,18 +26,16 @@ use std::alloc::AllocError;
 #[repr(C)]
 #[derive(Clone, Copy)]
 pub struct CrashRow {
-    /// The address of the crash.
-    pub address: u64,
-    /// The offset of the address in its module.
-    pub module_offset: u64,
-    /// The address at which the exception happened.
-    pub exception_address: u64,
+    /// The exception that counts.
+    pub exception: ExceptionRow,
+    /// What is known of the address of the crash.
+    pub facts: FactsRow,
     /// For how many seconds the process had run when the dump was written.
     pub uptime: u64,
     /// The index of the thread that crashed.
     pub thread_index: usize,
-    /// The index of the module that contains the address.
-    pub module: usize,
+    /// The number of things that are there and can't be read.
+    pub damage_count: usize,
     /// How many bytes a register has.
     pub register_size: usize,
     /// The number of frames and candidates of the thread that crashed.
@@ -46,6 +46,8 @@ pub struct CrashRow {
     pub thread_count: usize,
     /// The number of modules.
     pub module_count: usize,
+    /// The number of unloaded modules.
+    pub unloaded_count: usize,
     /// The number of bytes of all texts.
     pub texts_len: usize,
     /// The reason of the crash in words.
@@ -58,8 +60,6 @@ pub struct CrashRow {
     pub cpu_model: Span,
     /// The id of the thread that crashed.
     pub thread: u32,
-    /// The code of the exception.
-    pub code: u32,
     /// The id of the process.
     pub process_id: u32,
     /// When the dump was written, in seconds since 1970; 0 says nothing.
@@ -70,12 +70,6 @@ pub struct CrashRow {
     pub cpu: u16,
     /// The number of processors.
     pub processors: u16,
-    /// 1 if an exception counts, else 0.
-    pub has_exception: u8,
-    /// 1 if there is an address, else 0.
-    pub has_address: u8,
-    /// 1 if a module contains the address, else 0.
-    pub has_module: u8,
     /// 1 if there is a thread that crashed, else 0.
     pub has_thread: u8,
     /// 1 if there is system information, else 0.
@@ -88,8 +82,6 @@ pub struct CrashRow {
     pub context: u8,
     /// Why the last frame has no caller, as a number; 0 without frames.
     pub walk_end: u8,
-    /// 1 if something of the dump is there and can't be read, else 0.
-    pub status: u8,
 }
 
 /// Where the texts of the crash itself lie.
@@ -108,6 +100,7 @@ pub(crate) struct Counts {
     pub(crate) registers: usize,
     pub(crate) threads: usize,
     pub(crate) modules: usize,
+    pub(crate) unloaded: usize,
     pub(crate) texts: usize,
 }
 
@@ -204,81 +197,42 @@ pub(crate) fn context_of<'l>(crash: &'l Crash<'_>) -> Option<&'l CrashContext>
     crashed(crash)?.context.as_ref()
 }
 
-// Returns the index of the module that contains the address, and the offset in that.
-fn place_of(crash: &Crash<'_>) -> Option<(usize, u64)>
-    ensures { result ≡ place_of (crash_of crash.now) }
-{
-    crash.cause.address?.module
-}
-
 // Returns the numbers of a crash, with the spans of its texts and the sizes of its tables.
 pub(crate) fn crash_row(crash: &Crash<'_>, texts: OwnTexts, counts: Counts) -> CrashRow
     ensures { result ≡ crash_row (crash_of crash.now) texts counts }
 {
-    let exception = exception_of(crash);
-    let (code, exception_address) = exception_numbers(exception);
-    let place = place_of(crash);
-    let (module, module_offset) = place.unwrap_or((0, 0));
     let thread = crashed(crash);
     let (register_size, context) = context_numbers(context_of(crash));
     let (os, cpu, processors) = system_numbers(&crash.process.system);
     CrashRow {
-        address: address_of(crash),
-        module_offset,
-        exception_address,
+        exception: exception_part(exception_of(crash)),
+        facts: facts_part(crash.cause.address),
         uptime: crash.process.uptime.unwrap_or(0),
         thread_index: crash.threads.crashing.unwrap_or(0),
-        module,
+        damage_count: crash.damage.len(),
         register_size,
         frame_count: counts.frames,
         register_count: counts.registers,
         thread_count: counts.threads,
         module_count: counts.modules,
+        unloaded_count: counts.unloaded,
         texts_len: counts.texts,
         reason: texts.reason,
         version: texts.version,
         build: texts.build,
         cpu_model: texts.cpu_model,
         thread: id_of(thread),
-        code,
         process_id: crash.process.id.unwrap_or(0),
         written: crash.directory.written,
         os,
         cpu,
         processors,
-        has_exception: flag(&exception),
-        has_address: flag(&crash.cause.address),
-        has_module: flag(&place),
         has_thread: flag(&thread),
         has_system: flag(&crash.process.system),
         has_process_id: flag(&crash.process.id),
         has_uptime: flag(&crash.process.uptime),
         context,
         walk_end: walk_end(walk_of(crash)),
-        status: status_of(crash),
-    }
-}
-
-// Returns the address of the crash.
-fn address_of(crash: &Crash<'_>) -> u64
-    ensures { result ≡ option_map_or (λ a. a.address) (crash_of crash.now).cause.address 0 }
-{
-    match crash.cause.address {
-        Some(facts) => facts.address,
-        None => 0,
-    }
-}
-
-// Returns the code of an exception, and where it happened.
-fn exception_numbers(exception: Option<&CrashException>) -> (u32, u64)
-    ensures code { result.0 ≡ option_map_or (λ e. e.code)
-        (option_map exception_of (option_copied exception.entry)) 0 }
-    ensures at { result.1 ≡ option_map_or (λ e. e.at)
-        (option_map exception_of (option_copied exception.entry)) 0 }
-{
-    match exception {
-        Some(exception) => (exception.code, exception.at),
-        None => (0, 0),
     }
 }
 
@@ -325,13 +279,6 @@ fn walk_end(walk: Option<&CrashWalk>) -> u8
         Some(walk) => end_number(walk.end),
         None => 0,
     }
-}
-
-// Returns 1 if something of the dump is there and can't be read, else 0.
-fn status_of(crash: &Crash<'_>) -> u8
-    ensures { result ≡ status_of (Ok (crash_of crash.now)) }
-{
-    if crash.damage.is_empty() { 0 } else { 1 }
 }
 
 // Returns the numbers of the operating system and of the architecture, and the number of processors.

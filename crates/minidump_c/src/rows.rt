@@ -13,7 +13,10 @@ use crate::frames::{FrameRow, frames_of};
 use crate::names::CallError;
 use crate::numbers::{Counts, CrashRow, context_of, crash_row, push_own, walk_of};
 use crate::spans::make_rows;
-use crate::tables::{EachModule, EachRegister, EachThread, ModuleRow, RegisterRow, ThreadRow};
+use crate::tables::{
+    EachModule, EachRegister, EachThread, EachUnloaded, ModuleRow, RegisterRow, ThreadRow,
+    UnloadedRow,
+};
 use crate::text::fill;
 use crash::{Crash, CrashContext};
 use minidump::{CodeNames, Error};
@@ -33,6 +36,8 @@ pub(crate) struct Rows {
     pub(crate) threads: Vec<ThreadRow>,
     /// The modules.
     pub(crate) modules: Vec<ModuleRow>,
+    /// The modules that were unloaded.
+    pub(crate) unloaded: Vec<UnloadedRow>,
     /// All texts.
     pub(crate) texts: Vec<u8>,
 }
@@ -40,7 +45,8 @@ pub(crate) struct Rows {
 /// Reads the crash of a minidump, with the names of codes that the text `names` lists and at most
 /// `scan` candidates, and writes its numbers to `crash`. To the fronts of the other buffers go, as
 /// far as they fit: the frames of the thread that crashed and the candidates after them, its
-/// registers, the threads, the modules, and the texts in which their spans lie.
+/// registers, the threads, the modules, the unloaded modules, and the texts in which their spans
+/// lie.
 #[unsafe(no_mangle)]
 pub extern "C" fn minidump_crash(
     alloc: Global,
@@ -52,18 +58,23 @@ pub extern "C" fn minidump_crash(
     registers: &mut [RegisterRow],
     threads: &mut [ThreadRow],
     modules: &mut [ModuleRow],
+    unloaded: &mut [UnloadedRow],
     texts: &mut [u8],
     line: &mut u64,
 ) -> u32
-    ensures { let old = buffers crash.old frames.old registers.old threads.old modules.old texts.old in
-        let new = buffers crash.new frames.new registers.new threads.new modules.new texts.new in
+    ensures { let old = buffers crash.old frames.old registers.old threads.old modules.old
+        unloaded.old texts.old in
+        let new = buffers crash.new frames.new registers.new threads.new modules.new
+        unloaded.new texts.new in
         EndsNamed result names.now line.old line.new
         (λ lists. IsTold (rows_in bytes.now scan lists) old new)
         (λ lists e. GivesError ⊤ e (rows_in bytes.now scan lists)) (new ≡ old) }
 {
     match named_rows(alloc, bytes, names, scan) {
         Ok(rows) => {
-            tell(&rows, crash, frames, registers, threads, modules, texts);
+            tell(
+                &rows, crash, frames, registers, threads, modules, unloaded, texts,
+            );
             0
         }
         Err(error) => error.tell(line),
@@ -78,17 +89,19 @@ fn tell(
     registers: &mut [RegisterRow],
     threads: &mut [ThreadRow],
     modules: &mut [ModuleRow],
+    unloaded: &mut [UnloadedRow],
     texts: &mut [u8],
 )
-    ensures { buffers crash.new frames.new registers.new threads.new modules.new texts.new
-        ≡ filled_with (rows_value rows.now)
-        (buffers crash.old frames.old registers.old threads.old modules.old texts.old) }
+    ensures { buffers crash.new frames.new registers.new threads.new modules.new unloaded.new texts.new
+        ≡ filled_with (rows_value rows.now) (buffers crash.old frames.old registers.old threads.old
+        modules.old unloaded.old texts.old) }
 {
     *crash = rows.crash;
     fill(rows.frames.as_slice(), frames);
     fill(rows.registers.as_slice(), registers);
     fill(rows.threads.as_slice(), threads);
     fill(rows.modules.as_slice(), modules);
+    fill(rows.unloaded.as_slice(), unloaded);
     fill(rows.texts.as_slice(), texts);
 }
 
@@ -136,12 +149,19 @@ fn rows_of(alloc: Global, crash: &Crash<'_>) -> Result<Rows, AllocError>
         crash.modules.loaded.as_slice(),
         &mut texts,
     )?;
+    let unloaded = make_rows(
+        alloc,
+        &EachUnloaded,
+        crash.modules.unloaded.as_slice(),
+        &mut texts,
+    )?;
     let frames = frames_of(alloc, walk_of(crash))?;
     let counts = Counts {
         frames: frames.len(),
         registers: registers.len(),
         threads: threads.len(),
         modules: modules.len(),
+        unloaded: unloaded.len(),
         texts: texts.len(),
     };
     Ok(Rows {
@@ -150,6 +170,7 @@ fn rows_of(alloc: Global, crash: &Crash<'_>) -> Result<Rows, AllocError>
         registers,
         threads,
         modules,
+        unloaded,
         texts,
     })
 }

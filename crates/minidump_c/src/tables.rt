@@ -1,12 +1,16 @@
 ghost use Rattle.std.specs.Prelude.{◌≡◌, IfOk, OnOk, length};
-ghost use Rattle.std.specs.Option.{option_map, option_map_or};
+ghost use Rattle.std.specs.Option.{option_and_then, option_map, option_map_or};
+ghost use Rattle.crash.specs.Contexts.{context_of};
 ghost use Rattle.crash.specs.Frames.{crash_walk_of};
-ghost use Rattle.crash.specs.Modules.{loaded_of};
+ghost use Rattle.crash.specs.Modules.{loaded_of, unloaded_module_of};
 ghost use Rattle.crash.specs.Threads.{thread_value};
-ghost use Rattle.minidump_c.specs.Tables.{module_row, thread_row, with_module, with_thread};
+ghost use Rattle.minidump_c.specs.Tables.{module_row, thread_row, unloaded_row, with_module};
+ghost use Rattle.minidump_c.specs.Tables.{with_thread, with_unloaded};
 
 use crate::spans::{MakeRow, Span, bit, bytes_of, flag, push_text};
-use crash::{CrashModule, CrashThread, CrashWalk, StackRange};
+use crash::{
+    CrashContext, CrashModule, CrashThread, CrashWalk, ShortContext, StackRange, UnloadedModule,
+};
 use std::alloc::AllocError;
 
 /// A register: its value, and its name.
@@ -33,6 +37,10 @@ pub struct ThreadRow {
     pub last_error: Span,
     /// The number of its frames, without candidates.
     pub frame_count: usize,
+    /// How many bytes its context has, if it is cut.
+    pub short_size: usize,
+    /// How many bytes a whole context has, if that is cut.
+    pub whole_size: usize,
     /// The id of the thread.
     pub id: u32,
     /// 1 if there are registers of it, else 0.
@@ -59,6 +67,20 @@ pub struct ModuleRow {
     pub debug_file: Span,
     /// The identifier of its debug file.
     pub debug_id: Span,
+}
+
+/// A module that was unloaded.
+#[repr(C)]
+#[derive(Clone, Copy)]
+pub struct UnloadedRow {
+    /// The first address.
+    pub base: u64,
+    /// The address after it, 0 if that has more than 64 bits.
+    pub end: u64,
+    /// The path of its file.
+    pub path: Span,
+    /// The identifier of its code.
+    pub code_id: Span,
 }
 
 /// The rows of registers.
@@ -123,12 +145,15 @@ fn thread_row(thread: &CrashThread, texts: &mut Vec<u8>) -> Result<ThreadRow, Al
     let name = push_text(texts, bytes_of(&thread.name))?;
     let last_error = push_text(texts, bytes_of(&thread.last_error))?;
     let (stack_base, stack_size) = range_of(thread.stack);
+    let (short_size, whole_size) = short_sizes(short_of(&thread.context));
     Ok(ThreadRow {
         stack_base,
         stack_size,
         name,
         last_error,
         frame_count: frame_count(&thread.walk),
+        short_size,
+        whole_size,
         id: thread.id,
         has_context: flag(&thread.context) as u16,
         is_listed: bit(thread.is_listed) as u16,
@@ -153,6 +178,24 @@ fn frame_count(walk: &Option<CrashWalk>) -> usize
     match walk {
         Some(walk) => walk.frames.len(),
         None => 0,
+    }
+}
+
+// Returns how much there is of a context, if it is cut.
+fn short_of(context: &Option<CrashContext>) -> Option<ShortContext>
+    ensures { result ≡ option_and_then (λ x. x.short) (option_map context_of context.now) }
+{
+    context.as_ref()?.short
+}
+
+// Returns how many bytes a context has, and how many a whole one has, if it is cut.
+fn short_sizes(short: Option<ShortContext>) -> (usize, usize)
+    ensures size { result.0 ≡ option_map_or (λ s. s.size) short 0 }
+    ensures whole { result.1 ≡ option_map_or (λ s. s.whole) short 0 }
+{
+    match short {
+        Some(short) => (short.size, short.whole),
+        None => (0, 0),
     }
 }
 
@@ -197,5 +240,48 @@ fn module_row(loaded: &CrashModule, texts: &mut Vec<u8>) -> Result<ModuleRow, Al
         code_id,
         debug_file,
         debug_id,
+    })
+}
+
+/// The rows of modules that were unloaded.
+#[derive(Clone, Copy)]
+pub(crate) struct EachUnloaded;
+
+impl MakeRow<UnloadedModule> for EachUnloaded {
+    ghost use Rattle.crash.specs.Modules.{UnloadedModuleValue, unloaded_module_of};
+    ghost use Rattle.minidump_c.specs.Tables.{unloaded_row, with_unloaded};
+
+    type Row = UnloadedRow;
+
+    ghost Value = { UnloadedModuleValue };
+
+    ghost value_of = { unloaded_module_of };
+
+    ghost row_after = { unloaded_row };
+
+    ghost with_texts = { with_unloaded };
+
+    fn make_row(
+        &self,
+        item: &UnloadedModule,
+        texts: &mut Vec<u8>,
+    ) -> Result<UnloadedRow, AllocError> {
+        unloaded_row(item, texts)
+    }
+}
+
+fn unloaded_row(gone: &UnloadedModule, texts: &mut Vec<u8>) -> Result<UnloadedRow, AllocError>
+    ensures row { IfOk result
+        (λ row. row ≡ unloaded_row texts.old.items (unloaded_module_of gone.now)) }
+    ensures texts { OnOk result (texts.new.items
+        ≡ with_unloaded texts.old.items (unloaded_module_of gone.now)) }
+{
+    let path = push_text(texts, gone.path.as_bytes())?;
+    let code_id = push_text(texts, bytes_of(&gone.code_id))?;
+    Ok(UnloadedRow {
+        base: gone.base,
+        end: gone.end.unwrap_or(0),
+        path,
+        code_id,
     })
 }

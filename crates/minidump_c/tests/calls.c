@@ -1,6 +1,7 @@
-/* Calls each function of minidump.h, with arguments whose order shows, and prints what it tells of five dumps: one with
- * regions of memory, one of a crash, one with the frames of a stack, one that can't be read in part, and one of a crash on a
- * thread that its list lacks; the last argument is a text of names. */
+/* Calls each function of minidump.h, with arguments whose order shows, and prints what it tells of six dumps: one with
+ * regions of memory, one of a crash, one with the frames of a stack, one that can't be read in part, one of a crash on a
+ * thread that its list lacks, with a context that is cut, and one of a signal that was sent; the last argument is a text of
+ * names. */
 #include "minidump.h"
 
 #include <stdio.h>
@@ -72,6 +73,7 @@ static struct rows {
     struct minidump_register registers[3];
     struct minidump_thread threads[3];
     struct minidump_module modules[3];
+    struct minidump_unloaded unloaded[3];
     uint8_t texts[4096];
     uint64_t line;
 } rows;
@@ -80,7 +82,8 @@ static struct rows {
 static void read_crash(const uint8_t *bytes, size_t len, const char *names, size_t names_len, size_t scan, size_t room, size_t texts) {
     memset(&rows, '#', sizeof rows);
     tell("crash", minidump_crash(bytes, len, (const uint8_t *)names, names_len, scan, &rows.crash, rows.frames, 2 * room,
-                                 rows.registers, room, rows.threads, room, rows.modules, room, rows.texts, texts, &rows.line));
+                                 rows.registers, room, rows.threads, room, rows.modules, room, rows.unloaded, room, rows.texts, texts,
+                                 &rows.line));
 }
 
 /* A text with ? for each control character, where the buffer has it. */
@@ -101,16 +104,37 @@ static int is_left(const char *name, const void *row, size_t size) {
     return 1;
 }
 
+static void print_exception(const struct minidump_exception *e) {
+    printf("exception %u thread %u 0x%x 0x%x at 0x%llx nested 0x%llx; access %u; sender %u %u %u %u; problem %u; parameters %u:",
+           e->has_exception, e->thread, e->code, e->flags, (number)e->address, (number)e->nested, e->access, e->has_sender, e->sender,
+           e->has_sender_user, e->sender_user, e->context_problem, e->parameter_count);
+    for (int i = 0; i < 15; i++) printf(" 0x%llx", (number)e->parameters[i]);
+    printf("\n");
+}
+
+static void print_facts(const struct minidump_facts *a) {
+    printf("address %u 0x%llx; null %u 0x%llx; canonical %u; module %u %zu 0x%llx; unloaded %u %zu; stack %u %zu below %u %zu; ",
+           a->has_address, (number)a->address, a->has_null_offset, (number)a->null_offset, a->is_canonical, a->has_module, a->module,
+           (number)a->module_offset, a->has_unloaded, a->unloaded, a->has_stack_of, a->stack_of, a->has_below_stack, a->below_stack);
+    printf("memory %u %u %u%u%u%u\n", a->has_memory, a->memory_state, a->is_readable, a->is_writable, a->is_executable, a->is_guarded);
+}
+
+static void print_crash(const struct minidump_crash *c) {
+    print_exception(&c->exception);
+    print_facts(&c->facts);
+    printf("thread %u %zu %u; context %u %zu; end %u; damage %zu; ", c->has_thread, c->thread_index, c->thread, c->context,
+           c->register_size, c->walk_end, c->damage_count);
+    printf("system %u %u %u %u; process %u %u; uptime %u %llu; written %u\n", c->has_system, c->os, c->cpu, c->processors,
+           c->has_process_id, c->process_id, c->has_uptime, (number)c->uptime, c->written);
+    printf("frames %zu registers %zu threads %zu modules %zu unloaded %zu texts %zu\n", c->frame_count, c->register_count,
+           c->thread_count, c->module_count, c->unloaded_count, c->texts_len);
+}
+
 static void crash(const uint8_t *bytes, size_t len, const char *names, size_t names_len, size_t scan, size_t room, size_t texts) {
     read_crash(bytes, len, names, names_len, scan, room, texts);
     struct minidump_crash *c = &rows.crash;
     if (is_left("crash", &rows, sizeof rows)) return;
-    printf("exception %u 0x%x 0x%llx; address %u 0x%llx; module %u %zu 0x%llx; thread %u %zu %u; context %u %zu; end %u; status %u\n",
-           c->has_exception, c->code, (number)c->exception_address, c->has_address, (number)c->address, c->has_module, c->module,
-           (number)c->module_offset, c->has_thread, c->thread_index, c->thread, c->context, c->register_size, c->walk_end, c->status);
-    printf("system %u %u %u %u; process %u %u; uptime %u %llu; written %u; frames %zu registers %zu threads %zu modules %zu texts %zu\n",
-           c->has_system, c->os, c->cpu, c->processors, c->has_process_id, c->process_id, c->has_uptime, (number)c->uptime,
-           c->written, c->frame_count, c->register_count, c->thread_count, c->module_count, c->texts_len);
+    print_crash(c);
     print_text("reason", c->reason);
     print_text("version", c->version);
     print_text("build", c->build);
@@ -132,8 +156,8 @@ static void crash(const uint8_t *bytes, size_t len, const char *names, size_t na
     for (int i = 0; i < 3; i++) {
         struct minidump_thread *t = &rows.threads[i];
         if (is_left("thread", t, sizeof *t)) continue;
-        printf("  thread %u %u %u 0x%llx 0x%llx %zu", t->id, t->has_context, t->is_listed, (number)t->stack_base, (number)t->stack_size,
-               t->frame_count);
+        printf("  thread %u %u %u 0x%llx 0x%llx %zu %zu %zu", t->id, t->has_context, t->is_listed, (number)t->stack_base,
+               (number)t->stack_size, t->frame_count, t->short_size, t->whole_size);
         print_text("name", t->name);
         print_text("last_error", t->last_error);
         printf("\n");
@@ -147,6 +171,14 @@ static void crash(const uint8_t *bytes, size_t len, const char *names, size_t na
         print_text("code_id", m->code_id);
         print_text("debug_file", m->debug_file);
         print_text("debug_id", m->debug_id);
+        printf("\n");
+    }
+    for (int i = 0; i < 3; i++) {
+        struct minidump_unloaded *u = &rows.unloaded[i];
+        if (is_left("unloaded", u, sizeof *u)) continue;
+        printf("  unloaded 0x%llx 0x%llx", (number)u->base, (number)u->end);
+        print_text("path", u->path);
+        print_text("code_id", u->code_id);
         printf("\n");
     }
     printf("%llx %.8s\n", (number)rows.line, (char *)rows.texts);
@@ -194,23 +226,25 @@ static void nulls(const uint8_t *bytes, size_t len) {
     printf(" %u", minidump_read_memory(bytes, len, 0x12f000, NULL, 0, &size[3]));
     printf(" %u", minidump_memory_table(bytes, len, NULL, 0, &size[4]));
     printf(" %u", minidump_crash_json(bytes, len, NULL, 0, 8, 10, NULL, 0, &size[5], &line));
-    printf(" %u:", minidump_crash(bytes, len, NULL, 0, 8, &c, NULL, 0, NULL, 0, NULL, 0, NULL, 0, NULL, 0, &line));
+    printf(" %u:", minidump_crash(bytes, len, NULL, 0, 8, &c, NULL, 0, NULL, 0, NULL, 0, NULL, 0, NULL, 0, NULL, 0, &line));
     for (int i = 0; i < 5; i++) printf(" %zu", size[i]);
     printf(" %d", size[5] > 1000);
     printf(" %zu %zu %zu %llu\n", c.frame_count, c.module_count, c.texts_len, (number)line);
     printf("%u", minidump_dir(NULL, 0, NULL, 0, &size[0]));
     printf(" %u", minidump_report(NULL, 0, NULL, 0, &size[1]));
-    printf(" %u", minidump_crash(NULL, 0, NULL, 0, 0, &c, NULL, 0, NULL, 0, NULL, 0, NULL, 0, NULL, 0, &line));
+    printf(" %u", minidump_crash(NULL, 0, NULL, 0, 0, &c, NULL, 0, NULL, 0, NULL, 0, NULL, 0, NULL, 0, NULL, 0, &line));
     printf(" %u\n", minidump_memory_at(NULL, 0, 0, &region));
 }
 
 int main(int argc, char **argv) {
-    if (argc != 7) return 2;
-    size_t len = 0, dump_len = 0, trace_len = 0, damaged_len = 0, unlisted_len = 0, names_len = 0;
+    if (argc != 8) return 2;
+    size_t len = 0, dump_len = 0, trace_len = 0, damaged_len = 0, unlisted_len = 0, sent_len = 0, names_len = 0;
     uint8_t *regions = load(argv[1], &len), *dump = load(argv[2], &dump_len), *trace = load(argv[3], &trace_len);
     uint8_t *damaged = load(argv[4], &damaged_len), *unlisted = load(argv[5], &unlisted_len);
-    char *names = (char *)load(argv[6], &names_len);
+    uint8_t *sent = load(argv[6], &sent_len);
+    char *names = (char *)load(argv[7], &names_len);
 
+    printf("version %d\n", minidump_version() == MINIDUMP_VERSION);
     for (uint32_t status = 0; status <= 18; status++) tell("error_name", status);
     text("dir", minidump_dir, regions, len);
     text("report", minidump_report, regions, len);
@@ -226,6 +260,7 @@ int main(int argc, char **argv) {
     crash(trace, trace_len, names, names_len, 0, 2, sizeof rows.texts);
     crash(damaged, damaged_len, "", 0, 8, 3, sizeof rows.texts);
     crash(unlisted, unlisted_len, "", 0, 8, 3, sizeof rows.texts);
+    crash(sent, sent_len, "", 0, 8, 3, sizeof rows.texts);
     crash(regions, len, "", 0, 8, 3, sizeof rows.texts);
     crash(dump, 31, "", 0, 8, 3, sizeof rows.texts);
     json(dump, dump_len, names, names_len, 1 << 15);
@@ -245,6 +280,7 @@ int main(int argc, char **argv) {
     free(trace);
     free(damaged);
     free(unlisted);
+    free(sent);
     free(names);
     return 0;
 }

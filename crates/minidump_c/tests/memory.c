@@ -45,6 +45,7 @@ static struct written {
     struct minidump_register registers[32];
     struct minidump_thread threads[8];
     struct minidump_module modules[8];
+    struct minidump_unloaded unloaded[8];
     uint64_t line;
 } written, whole, before;
 
@@ -58,7 +59,7 @@ static uint32_t call(int which) {
     case 3: return minidump_memory_table(bytes, len, w->regions, 64, &w->size);
     case 4: return minidump_report_named(bytes, len, names, sizeof names - 1, w->text, sizeof w->text, &w->size, &w->line);
     case 5: return minidump_crash(bytes, len, names, sizeof names - 1, 8, &w->crash, w->frames, 8, w->registers, 32, w->threads, 8,
-                                  w->modules, 8, w->text, sizeof w->text, &w->line);
+                                  w->modules, 8, w->unloaded, 8, w->text, sizeof w->text, &w->line);
     case 6: return minidump_crash_json(bytes, len, names, sizeof names - 1, 8, 10, w->text, sizeof w->text, &w->size, &w->line);
     default: return minidump_read_memory(bytes, len, 0x12f000, w->text, sizeof w->text, &w->size);
     }

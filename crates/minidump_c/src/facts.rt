@@ -1,0 +1,167 @@
+ghost use Rattle.std.specs.Prelude.{◌≡◌};
+ghost use Rattle.std.specs.Option.{option_map_or};
+ghost use Rattle.minidump_c.specs.Facts.{facts_part, facts_row, no_facts, state_number};
+ghost use Rattle.minidump_c.specs.Spans.{bit};
+
+use crate::spans::{bit, flag};
+use crash::{AddressFacts, AddressMemory, RegionState};
+
+/// What is known of an address. A number that is absent is 0.
+#[repr(C)]
+#[derive(Clone, Copy)]
+pub struct FactsRow {
+    /// The address.
+    pub address: u64,
+    /// The same if it is near 0.
+    pub null_offset: u64,
+    /// The offset of the address in its module.
+    pub module_offset: u64,
+    /// The index of the module that contains it.
+    pub module: usize,
+    /// The index of the last unloaded module that contains it.
+    pub unloaded: usize,
+    /// The index of the last thread whose stack contains it.
+    pub stack_of: usize,
+    /// The index of the last thread whose stack begins a little above it.
+    pub below_stack: usize,
+    /// The state of the memory that contains it, as a number; 0 of an unknown one.
+    pub memory_state: u32,
+    /// 1 if there is an address, else 0.
+    pub has_address: u8,
+    /// 1 if it is near 0, else 0.
+    pub has_null_offset: u8,
+    /// 1 if the processor can access it, else 0.
+    pub is_canonical: u8,
+    /// 1 if a module contains it, else 0.
+    pub has_module: u8,
+    /// 1 if an unloaded module contains it, else 0.
+    pub has_unloaded: u8,
+    /// 1 if a stack contains it, else 0.
+    pub has_stack_of: u8,
+    /// 1 if a stack begins a little above it, else 0.
+    pub has_below_stack: u8,
+    /// 1 if it is known which memory contains it, else 0.
+    pub has_memory: u8,
+    /// 1 if that memory may be read, else 0.
+    pub is_readable: u8,
+    /// 1 if that memory may be written, else 0.
+    pub is_writable: u8,
+    /// 1 if that memory may be run as code, else 0.
+    pub is_executable: u8,
+    /// 1 if the first access to that memory raises an exception, else 0.
+    pub is_guarded: u8,
+}
+
+// What is known of memory, as numbers.
+#[derive(Clone, Copy)]
+struct MemoryNumbers {
+    state: u32,
+    is_readable: u8,
+    is_writable: u8,
+    is_executable: u8,
+    is_guarded: u8,
+}
+
+// Returns what is known of the address of a crash, zeros without one.
+pub(crate) fn facts_part(facts: Option<AddressFacts>) -> FactsRow
+    ensures { result ≡ facts_part facts }
+{
+    match facts {
+        Some(facts) => facts_row(facts),
+        None => no_facts(),
+    }
+}
+
+fn facts_row(facts: AddressFacts) -> FactsRow
+    ensures { result ≡ facts_row facts }
+{
+    let (module, module_offset) = facts.module.unwrap_or((0, 0));
+    let memory = memory_numbers(facts.memory);
+    FactsRow {
+        address: facts.address,
+        null_offset: facts.null_offset.unwrap_or(0),
+        module_offset,
+        module,
+        unloaded: facts.unloaded.unwrap_or(0),
+        stack_of: facts.stack_of.unwrap_or(0),
+        below_stack: facts.below_stack.unwrap_or(0),
+        memory_state: memory.state,
+        has_address: 1,
+        has_null_offset: flag(&facts.null_offset),
+        is_canonical: bit(facts.is_canonical),
+        has_module: flag(&facts.module),
+        has_unloaded: flag(&facts.unloaded),
+        has_stack_of: flag(&facts.stack_of),
+        has_below_stack: flag(&facts.below_stack),
+        has_memory: flag(&facts.memory),
+        is_readable: memory.is_readable,
+        is_writable: memory.is_writable,
+        is_executable: memory.is_executable,
+        is_guarded: memory.is_guarded,
+    }
+}
+
+// Returns what is known of memory, zeros if nothing is.
+fn memory_numbers(memory: Option<AddressMemory>) -> MemoryNumbers
+    ensures state { result.state ≡ option_map_or (λ m. state_number m.state) memory 0 }
+    ensures readable { result.is_readable ≡ option_map_or (λ m. bit m.is_readable) memory 0 }
+    ensures writable { result.is_writable ≡ option_map_or (λ m. bit m.is_writable) memory 0 }
+    ensures executable { result.is_executable ≡ option_map_or (λ m. bit m.is_executable) memory 0 }
+    ensures guarded { result.is_guarded ≡ option_map_or (λ m. bit m.is_guarded) memory 0 }
+{
+    match memory {
+        Some(memory) => MemoryNumbers {
+            state: state_number(memory.state),
+            is_readable: bit(memory.is_readable),
+            is_writable: bit(memory.is_writable),
+            is_executable: bit(memory.is_executable),
+            is_guarded: bit(memory.is_guarded),
+        },
+        None => MemoryNumbers {
+            state: 0,
+            is_readable: 0,
+            is_writable: 0,
+            is_executable: 0,
+            is_guarded: 0,
+        },
+    }
+}
+
+// Returns the number of a state of memory.
+fn state_number(state: RegionState) -> u32
+    ensures { result ≡ state_number state }
+{
+    match state {
+        RegionState::Free => 1,
+        RegionState::Reserved => 2,
+        RegionState::Committed => 3,
+    }
+}
+
+// Returns the numbers of no address.
+fn no_facts() -> FactsRow
+    ensures { result ≡ no_facts }
+{
+    FactsRow {
+        address: 0,
+        null_offset: 0,
+        module_offset: 0,
+        module: 0,
+        unloaded: 0,
+        stack_of: 0,
+        below_stack: 0,
+        memory_state: 0,
+        has_address: 0,
+        has_null_offset: 0,
+        is_canonical: 0,
+        has_module: 0,
+        has_unloaded: 0,
+        has_stack_of: 0,
+        has_below_stack: 0,
+        has_memory: 0,
+        is_readable: 0,
+        is_writable: 0,
+        is_executable: 0,
+        is_guarded: 0,
+    }
+}
