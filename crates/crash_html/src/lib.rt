@@ -4,8 +4,9 @@
 //! [`page`] puts the JSON between the two parts of the page, as data that the page's own script
 //! reads. The characters by which a text could end that data, or begin an element or a reference of
 //! HTML, are written as escapes of JSON, as `\u003c`. In JSON they occur only within texts, so the
-//! value stays the same. The script shows what the JSON says as text, and makes no elements,
-//! attributes or links of it.
+//! value stays the same. The script shows what the JSON says as text, and makes no elements, styles
+//! or links of it. It lists the frames, with functions and lines where the JSON has them, and draws
+//! the address space. Without scripts, the page shows the JSON itself.
 //!
 //! # Errors
 //!

@@ -1,109 +1,167 @@
-//! The page after the JSON: its script.
+//! The page after the JSON: the part of its script that shows what the JSON says.
 
 /// The text after the JSON.
 pub(crate) const TAIL: &str = r##"</script>
 <script>
 "use strict";
-// What the dump says is shown as text alone: no element, attribute or link is made of it.
-
-const SVG = "http://www.w3.org/2000/svg";
-const WIDTH = 1000;
-const LANES = { module: 20, stack: 65, memory: 110 };
-const HEIGHT = 32;
-const PAGE = 4096n;
-// Ranges that are closer to one another than this lie in one stretch.
-const NEAR = 1n << 24n;
+// The most rows that a list has before it is opened, and the most rows of folded lists that are made before they are.
+const MOST = 200;
+let ahead = 300;
 
 const crash = JSON.parse(document.getElementById("crash").textContent);
-const list = (value) => (Array.isArray(value) ? value : []);
+const minidump = part(crash, "minidump");
+const thread = part(crash, "crashing_thread");
+const exceptions = list(part(minidump, "exceptions"));
+const counting = exceptions[part(minidump, "exception")] ?? null;
+const point = part(minidump, "point");
 
-// Returns a member of an object, or null if there is none.
-function part(value, name) {
-  return value !== null && typeof value === "object" && Object.hasOwn(value, name) ? value[name] : null;
-}
+// ---- Sections and tables
 
-// Returns a text with its control characters and marks of direction as escapes.
-function shown(value) {
-  const text = value === null || value === undefined ? "" : String(value);
-  return text.replace(/[\0-\x1f\x7f-\x9f\u061c\u200e\u200f\u2028-\u202e\u2066-\u2069]/g,
-    (c) => "\\u{" + c.codePointAt(0).toString(16) + "}");
-}
-
-// Returns the number of a text in hexadecimal, or null.
-function address(value) {
-  return typeof value === "string" && /^0x[0-9a-f]{1,16}$/i.test(value) ? BigInt(value) : null;
-}
-
-function hex(n) {
-  return "0x" + n.toString(16);
-}
-
-function last(path) {
-  return String(path === null ? "" : path).split(/[\/\\]/).pop();
-}
-
-// Makes an element with a text, in a class of the page's own.
-function element(name, text, kind) {
-  const made = document.createElement(name);
-  if (kind) made.className = kind;
-  if (text !== undefined) made.appendChild(document.createTextNode(shown(text)));
+// Makes a section of the page with a heading.
+function section(id, heading, kind) {
+  const made = element("section", undefined, kind);
+  made.id = id;
+  made.appendChild(element("h2", heading));
+  document.getElementById("page").appendChild(made);
   return made;
 }
 
-// Makes a shape. Its attributes are numbers, and words of this script.
-function shape(name, attributes, text) {
-  const made = document.createElementNS(SVG, name);
-  for (const key of Object.keys(attributes)) made.setAttribute(key, String(attributes[key]));
-  if (text !== undefined) made.appendChild(document.createTextNode(shown(text)));
-  return made;
-}
-
-// Fills a place of the page with a table. A cell is a text, or an element.
-function table(place, heads, rows, kinds) {
-  const body = document.createElement("tbody");
-  for (const row of rows) {
-    const line = document.createElement("tr");
-    row.forEach((cell, i) => {
-      const made = element("td", undefined, kinds[i]);
-      made.appendChild(cell instanceof Node ? cell : document.createTextNode(shown(cell)));
-      line.appendChild(made);
-    });
-    body.appendChild(line);
-  }
-  const head = document.createElement("tr");
-  for (const name of heads) {
-    const made = element("th", name);
-    made.setAttribute("scope", "col");
-    head.appendChild(made);
-  }
-  const top = document.createElement("thead");
-  top.appendChild(head);
-  const made = document.createElement("table");
-  made.appendChild(top);
-  made.appendChild(body);
+// Makes a part under a heading that opens it, filled at once if it is small. Returns what opens it.
+function folded(place, words, count, fill) {
+  const made = element("details");
+  made.appendChild(element("summary", words));
   place.appendChild(made);
-  return body;
+  let isFilled = false;
+  const ensure = () => {
+    if (!isFilled) fill(made);
+    isFilled = true;
+  };
+  ahead -= Math.min(count, MOST);
+  if (ahead >= 0) ensure();
+  else made.addEventListener("toggle", ensure);
+  return () => {
+    ensure();
+    made.open = true;
+  };
 }
 
-// ---- What the dump says
+// Makes items, of many the first, and a button that makes the others.
+function some(place, items, make) {
+  items.slice(0, MOST).forEach(make);
+  if (items.length <= MOST) return;
+  const all = button("Show all " + counted(items.length), () => {
+    place.removeChild(all);
+    items.slice(MOST).forEach((item, i) => make(item, i + MOST));
+  });
+  place.appendChild(all);
+}
 
-// Returns the modules, the stacks and the regions of memory, ascending.
-function rangesOf(report) {
-  const found = [];
-  const add = (kind, ends, name) => {
-    if (ends !== null && ends[0] !== null && ends[1] !== null && ends[0] < ends[1]) {
-      found.push({ kind, start: ends[0], end: ends[1], name });
+// A table of some rows. A cell is a value, or makes an element; a column without any is left out.
+class Table {
+  constructor(place, columns, rows, kinds = []) {
+    this.kinds = kinds;
+    this.rows = rows;
+    this.columns = columns.map((column, i) => ({ name: column[0], kind: column[1], i }))
+      .filter(({ i }) => rows.some((row) => row[i] !== null && row[i] !== undefined && row[i] !== ""));
+    this.body = element("tbody");
+    this.body.setAttribute("role", "rowgroup");
+    const made = element("table");
+    made.setAttribute("role", "table");
+    made.appendChild(this.head());
+    made.appendChild(this.body);
+    const scroll = element("div", undefined, "scroll");
+    scroll.appendChild(made);
+    place.appendChild(scroll);
+    this.from = 0;
+    this.lines = [];
+    some(place, rows, (row, i) => this.add(row, i));
+  }
+
+  head() {
+    const line = element("tr");
+    for (const { name } of this.columns) {
+      const made = element("th", name);
+      made.setAttribute("scope", "col");
+      line.appendChild(made);
     }
-  };
-  for (const module of list(part(report, "modules"))) {
-    const ends = [address(part(module, "base_addr")), address(part(module, "end_addr"))];
-    add("module", ends, part(module, "filename"));
+    const head = element("thead");
+    head.appendChild(line);
+    return head;
   }
-  for (const thread of list(part(report, "threads"))) {
-    add("stack", endsOf(part(thread, "stack")), "thread " + threadName(thread));
+
+  add(row, number) {
+    const line = element("tr", undefined, this.kinds[number]);
+    line.setAttribute("role", "row");
+    for (const { name, kind, i } of this.columns) {
+      const made = element("td", undefined, typeof row[i] !== "function" && isLong(row[i]) ? "long" : kind);
+      made.setAttribute("role", "cell");
+      made.setAttribute("data-label", name);
+      if (typeof row[i] === "function") made.appendChild(row[i]());
+      else put(made, row[i]);
+      line.appendChild(made);
+    }
+    this.body.appendChild(line);
+    this.lines[number] = line;
   }
-  for (const region of list(part(part(report, "minidump"), "memory"))) add("memory", endsOf(region), "");
-  return found.sort((a, b) => (a.start < b.start ? -1 : a.start > b.start ? 1 : 0));
+
+  // Marks a row, and no other. Where it isn't there yet, the rows about it take the place of the others.
+  mark(number) {
+    if (this.lines[number] === undefined) {
+      this.body.replaceChildren();
+      this.lines = [];
+      const from = number - (number % MOST);
+      this.rows.slice(from, from + MOST).forEach((row, i) => this.add(row, from + i));
+    }
+    this.lines.forEach((line, i) => line.setAttribute("class", i === number ? "marked" : ""));
+  }
+}
+
+// Adds a section with a list of names and values, but for those that are absent.
+function addFacts(id, heading, facts) {
+  const there = facts.filter(([, value]) => value !== null && value !== undefined && value !== "");
+  if (there.length === 0) return;
+  const made = element("dl");
+  for (const [name, value] of there) {
+    made.appendChild(element("dt", name));
+    made.appendChild(element("dd", value));
+  }
+  section(id, heading).appendChild(made);
+}
+
+// ---- Words
+
+// Joins words that are not absent.
+function joined(words, between) {
+  return words.filter((word) => word !== null && word !== undefined && word !== "").join(between);
+}
+
+function labelled(label, value) {
+  return value === null || value === "" ? null : label + value;
+}
+
+// Returns members of an object, one after another.
+function membersOf(value, names) {
+  return joined(names.map((name) => part(value, name)), " ");
+}
+
+// Returns rows of the members of the objects of a list.
+function rowsOf(value, names) {
+  return list(value).map((one) => names.map((name) => part(one, name)));
+}
+
+// Returns a text in hexadecimal, or null if it is that of 0.
+function unlessZero(value) {
+  return value === "0x0" ? null : value;
+}
+
+// Returns the frame of the crash, or null.
+function firstFrame() {
+  return list(part(thread, "frames"))[0] ?? null;
+}
+
+function threadName(thread) {
+  const name = part(thread, "thread_name");
+  return String(part(thread, "thread_id")) + (name === null || name === "" ? "" : " \u201c" + String(name) + "\u201d");
 }
 
 // Returns the ends of a region, or null.
@@ -113,236 +171,10 @@ function endsOf(region) {
   return start === null || !Number.isInteger(size) ? null : [start, start + BigInt(size)];
 }
 
-function registersOf(thread) {
-  const registers = part(list(part(thread, "frames"))[0], "registers");
-  return registers === null ? {} : registers;
+function rangeWords(range) {
+  const base = part(range, "base_addr");
+  return base === null ? null : base + ", " + counted(part(range, "size")) + " bytes";
 }
-
-function threadName(thread) {
-  const name = part(thread, "thread_name");
-  const id = part(thread, "thread_id");
-  return String(id) + (name === null || name === "" ? "" : " \u201c" + String(name) + "\u201d");
-}
-
-function marksOf(report, thread) {
-  const marks = [];
-  const add = (kind, name, at) => {
-    if (at !== null) marks.push({ kind, name, at });
-  };
-  add("instruction", "instruction pointer", address(part(list(part(thread, "frames"))[0], "offset")));
-  add("address", "crash address", address(part(part(report, "crash_info"), "address")));
-  return marks;
-}
-
-// ---- The axis: stretches of addresses with shortened gaps between them
-
-// Returns the stretches that contain the ranges and the marks, each with its place and its width on the axis.
-function stretchesOf(ranges, marks) {
-  const all = ranges.map((r) => [r.start, r.end]);
-  for (const mark of marks) all.push([mark.at - (mark.at % PAGE), mark.at - (mark.at % PAGE) + PAGE]);
-  all.sort((a, b) => (a[0] < b[0] ? -1 : a[0] > b[0] ? 1 : 0));
-  const stretches = [];
-  for (const [start, end] of all) {
-    const before = stretches[stretches.length - 1];
-    if (before !== undefined && start <= before.end + NEAR) {
-      if (before.end < end) before.end = end;
-    } else {
-      stretches.push({ start, end });
-    }
-  }
-  let place = 0.5;
-  for (const stretch of stretches) {
-    stretch.place = place;
-    stretch.width = Math.log2(Number(stretch.end - stretch.start) + 1);
-    place += stretch.width + 1;
-  }
-  return stretches;
-}
-
-function lengthOf(stretches) {
-  const end = stretches[stretches.length - 1];
-  return end === undefined ? 1 : end.place + end.width + 0.5;
-}
-
-// Returns the place of an address on the axis.
-function placeOf(stretches, at) {
-  let before = null;
-  for (const stretch of stretches) {
-    if (at < stretch.start) break;
-    before = stretch;
-  }
-  if (before === null) return 0;
-  if (at > before.end) return before.place + before.width;
-  return before.place + before.width * (Number(at - before.start) / Number(before.end - before.start));
-}
-
-// Returns the address at a place of the axis, or that of the nearest end of a stretch.
-function addressAt(stretches, place) {
-  let at = null;
-  for (const stretch of stretches) {
-    if (at !== null && place < stretch.place) break;
-    const share = Math.min(1, Math.max(0, (place - stretch.place) / stretch.width));
-    at = stretch.start + BigInt(Math.floor(share * Number(stretch.end - stretch.start)));
-    if (at > stretch.end) at = stretch.end;
-  }
-  return at;
-}
-
-// ---- The drawing
-
-const thread = part(crash, "crashing_thread");
-const minidump = part(crash, "minidump");
-const ranges = rangesOf(crash);
-const marks = marksOf(crash, thread);
-const stretches = stretchesOf(ranges, marks);
-const whole = lengthOf(stretches);
-const view = { from: 0, to: whole };
-const space = document.getElementById("space");
-
-function x(place) {
-  return ((place - view.from) / (view.to - view.from)) * WIDTH;
-}
-
-function isSeen(left, right) {
-  return right >= 0 && left <= WIDTH;
-}
-
-function drawRange(range, drawn) {
-  const left = x(placeOf(stretches, range.start));
-  const right = x(placeOf(stretches, range.end));
-  // A range that is too narrow to tell from the one before is drawn by that one.
-  if (!isSeen(left, right) || (right - left < 1 && right < drawn[range.kind])) return;
-  const width = Math.max(right - left, 1);
-  drawn[range.kind] = left + width;
-  const top = LANES[range.kind];
-  const box = shape("rect", { class: range.kind, x: left, y: top, width, height: HEIGHT });
-  const words = range.kind === "memory" ? "memory" : range.name;
-  box.appendChild(shape("title", {}, words + " " + hex(range.start) + " to " + hex(range.end)));
-  space.appendChild(box);
-  const name = shown(range.kind === "module" ? last(range.name) : words);
-  const from = Math.max(left, 0);
-  if (Math.min(right, WIDTH) - from > 8 + 7 * name.length) {
-    space.appendChild(shape("text", { class: "name", x: from + 4, y: top + 20 }, name));
-  }
-}
-
-function drawStretch(stretch, i) {
-  const left = x(stretch.place);
-  const right = x(stretch.place + stretch.width);
-  const before = i === 0 ? 0 : stretches[i - 1].place + stretches[i - 1].width;
-  if (isSeen(x(before), left)) {
-    space.appendChild(shape("rect", { class: "gap", x: x(before), y: 0, width: left - x(before), height: 160 }));
-  }
-  if (!isSeen(left, right)) return;
-  space.appendChild(shape("line", { class: "axis", x1: left, y1: 150, x2: right, y2: 150 }));
-  if (right - left > 90) {
-    const from = Math.max(left, 0);
-    const at = addressAt(stretches, view.from + (from / WIDTH) * (view.to - view.from));
-    space.appendChild(shape("text", { x: from, y: 165 }, hex(at)));
-  }
-}
-
-function drawMark(mark, i) {
-  const at = x(placeOf(stretches, mark.at));
-  if (!isSeen(at, at)) return;
-  const line = shape("line", { class: mark.kind, x1: at, y1: 4, x2: at, y2: 156 });
-  line.appendChild(shape("title", {}, mark.name + " " + hex(mark.at)));
-  space.appendChild(line);
-  const side = at > WIDTH - 240 ? "end" : "start";
-  const place = { x: side === "end" ? at - 4 : at + 4, y: 13 + 170 * i, "text-anchor": side };
-  space.appendChild(shape("text", place, mark.name + " " + hex(mark.at)));
-}
-
-function draw() {
-  space.replaceChildren();
-  const drawn = { module: 0, stack: 0, memory: 0 };
-  stretches.forEach(drawStretch);
-  for (const range of ranges) drawRange(range, drawn);
-  marks.forEach(drawMark);
-  const first = addressAt(stretches, view.from);
-  const end = addressAt(stretches, view.to);
-  document.getElementById("view").textContent = first === null ? "The dump has no ranges." : hex(first) + " to " + hex(end);
-}
-
-// Shows a part of the axis, and no more than all of it.
-function show(from, to) {
-  const width = Math.min(Math.max(to - from, 1e-6), whole);
-  view.from = Math.min(Math.max(from, 0), whole - width);
-  view.to = view.from + width;
-  draw();
-}
-
-// Zooms by a factor about a place of the axis.
-function zoom(factor, about) {
-  show(about - (about - view.from) * factor, about + (view.to - about) * factor);
-}
-
-function middle() {
-  return (view.from + view.to) / 2;
-}
-
-function move(share) {
-  const by = (view.to - view.from) * share;
-  show(view.from + by, view.to + by);
-}
-
-function showRange(start, end) {
-  const left = placeOf(stretches, start);
-  const right = placeOf(stretches, end);
-  const margin = Math.max((right - left) / 2, 1e-6);
-  show(left - margin, right + margin);
-}
-
-// ---- The tools
-
-function button(words, act, label) {
-  const made = element("button", words);
-  made.type = "button";
-  if (label) made.setAttribute("aria-label", label);
-  made.addEventListener("click", act);
-  return made;
-}
-
-const TOOLS = [
-  ["+", () => zoom(0.5, middle()), "Zoom in"],
-  ["\u2212", () => zoom(2, middle()), "Zoom out"],
-  ["\u2190", () => move(-0.25), "Lower addresses"],
-  ["\u2192", () => move(0.25), "Higher addresses"],
-  ["All", () => show(0, whole), "Show all"],
-];
-
-function addTools() {
-  const tools = document.getElementById("tools");
-  for (const [words, act, label] of TOOLS) tools.appendChild(button(words, act, label));
-  for (const mark of marks) {
-    const page = mark.at - (mark.at % PAGE);
-    tools.appendChild(button(mark.name, () => showRange(page, page + PAGE)));
-  }
-  for (const kind of Object.keys(LANES)) {
-    const sign = document.createElement("span");
-    const swatch = shape("svg", { class: "swatch", width: 12, height: 12 });
-    swatch.appendChild(shape("rect", { class: kind, width: 12, height: 12 }));
-    sign.appendChild(swatch);
-    sign.appendChild(document.createTextNode(" " + kind));
-    tools.appendChild(sign);
-  }
-}
-
-space.addEventListener("wheel", (event) => {
-  event.preventDefault();
-  const box = space.getBoundingClientRect();
-  const about = view.from + ((event.clientX - box.left) / box.width) * (view.to - view.from);
-  zoom(event.deltaY < 0 ? 0.8 : 1.25, about);
-}, { passive: false });
-
-space.addEventListener("keydown", (event) => {
-  const keys = { "+": 0, "-": 1, ArrowLeft: 2, ArrowRight: 3, Home: 4 };
-  if (!Object.hasOwn(keys, event.key)) return;
-  event.preventDefault();
-  TOOLS[keys[event.key]][1]();
-});
-
-// ---- The lists
 
 function streamName(number) {
   const stream = list(part(minidump, "streams")).find((one) => part(one, "type") === number);
@@ -352,39 +184,15 @@ function streamName(number) {
 // Returns words for something that is there and can't be read.
 function damageWords(damage) {
   const thread = part(damage, "thread_id");
+  const error = part(damage, "error");
   switch (part(damage, "what")) {
-    case "stream": return "can't be read: " + streamName(part(damage, "number")) + ": " + part(damage, "error");
-    case "exception": return "can't be read: an exception before the last: " + part(damage, "error");
-    case "exception_context": return "outside the file: the context of the exception on thread " + thread;
-    case "thread_context": return "outside the file: the context of thread " + thread;
-    default: return "outside the file: the stack of thread " + thread;
+    case "stream": return joined([streamName(part(damage, "number")), error], ": ");
+    case "exception": return joined(["an exception before the last", error], ": ");
+    case "exception_context": return joined(["the context of the exception on thread " + thread + ", outside the file", error], ": ");
+    case "thread_context": return joined(["the context of thread " + thread + ", outside the file", error], ": ");
+    case "stack": return joined(["the stack of thread " + thread + ", outside the file", error], ": ");
+    default: return shown(damage);
   }
-}
-
-// Returns words that are not absent, one after another.
-function joined(words, between) {
-  return words.filter((word) => word !== null && word !== undefined && word !== "").join(between);
-}
-
-function labelled(label, value) {
-  return value === null || value === "" ? null : label + value;
-}
-
-// Returns the address of the crash, where it lies, and what is known of it.
-function addressWords() {
-  const at = part(minidump, "address");
-  const module = list(part(crash, "modules"))[part(at, "module")] ?? null;
-  const unloaded = list(part(crash, "unloaded_modules"))[part(at, "unloaded_module")] ?? null;
-  const place = module === null ? null : "in " + last(part(module, "filename")) + "+" + part(at, "module_offset");
-  return joined([
-    joined([part(part(crash, "crash_info"), "address"), place], " "),
-    labelled("null + ", part(at, "null_offset")),
-    part(at, "is_canonical") === false ? "not canonical" : null,
-    unloaded === null ? null : "in unloaded " + last(part(unloaded, "filename")),
-    stackWords("in the stack of thread ", part(at, "stack_of")),
-    stackWords("below the stack of thread ", part(at, "below_stack")),
-    memoryWords(part(at, "memory")),
-  ], ", ");
 }
 
 // Returns words and the thread of an index, or null.
@@ -402,16 +210,31 @@ function memoryWords(memory) {
   return "memory " + letters + (part(memory, "is_guarded") === true ? " guarded" : "");
 }
 
+// Returns the module that has an address and the offset in it, or null.
+function placeWords(facts) {
+  const module = list(part(crash, "modules"))[part(facts, "module")] ?? null;
+  return module === null ? null : last(part(module, "filename")) + "+" + part(facts, "module_offset");
+}
+
+// Returns an address, where it lies, and what is known of it.
+function addressWords(at, facts) {
+  const unloaded = list(part(crash, "unloaded_modules"))[part(facts, "unloaded_module")] ?? null;
+  return joined([
+    joined([at, labelled("in ", placeWords(facts))], " "),
+    labelled("null + ", part(facts, "null_offset")),
+    part(facts, "is_canonical") === false ? "not canonical" : null,
+    unloaded === null ? null : "in unloaded " + last(part(unloaded, "filename")),
+    stackWords("in the stack of thread ", part(facts, "stack_of")),
+    stackWords("below the stack of thread ", part(facts, "below_stack")),
+    memoryWords(part(facts, "memory")),
+  ], ", ");
+}
+
 // Returns the process that sent a signal, and its user, or null.
 function senderWords(exception) {
   const sender = part(exception, "sender");
   if (sender === null) return null;
   return joined(["process " + part(sender, "process_id"), labelled("user ", part(sender, "user_id"))], ", ");
-}
-
-// Returns a text in hexadecimal, or null if it is that of 0.
-function unlessZero(value) {
-  return value === "0x0" ? null : value;
 }
 
 function parametersOf(exception) {
@@ -420,10 +243,9 @@ function parametersOf(exception) {
 
 function assertionWords() {
   const assertion = part(minidump, "assertion");
-  if (assertion === null) return null;
-  const kind = part(assertion, "kind");
+  if (assertion === null) return part(part(crash, "crash_info"), "assertion");
   return joined([
-    joined([kind === null ? null : "(" + kind + ")", part(assertion, "expression")], " "),
+    joined([labelled("", part(assertion, "kind")) && "(" + part(assertion, "kind") + ")", part(assertion, "expression")], " "),
     labelled("function ", part(assertion, "function")),
     labelled("file ", part(assertion, "file")),
     labelled("line ", part(assertion, "line")),
@@ -435,22 +257,39 @@ function timeWords(seconds) {
   return seconds === null ? null : new Date(seconds * 1000).toISOString().replace(".000", "");
 }
 
-function namesOf(value, names) {
-  return joined(names.map((name) => part(value, name)), " ");
+// ---- The crash
+
+// Returns what the page is about: the reason, or why there is none.
+function titleOf() {
+  const reason = part(part(crash, "crash_info"), "type");
+  if (reason !== null) return reason;
+  const isThere = exceptions.length > 0 || list(part(minidump, "damage")).some((one) => streamName(part(one, "number")) === "ExceptionStream");
+  return isThere ? "Exception that can\u2019t be read" : "No exception";
 }
 
-function facts() {
-  const system = part(crash, "system_info");
-  const info = part(crash, "crash_info");
-  const counting = list(part(minidump, "exceptions"))[part(minidump, "exception")] ?? null;
-  const problem = part(counting, "context_problem");
+function addTitle() {
+  const title = shown(titleOf());
+  document.title = joined([title, last(part(crash, "path"))], ", ");
+  document.getElementById("what").textContent = title;
+}
+
+function addDamage() {
+  const damage = list(part(minidump, "damage"));
   const outside = part(minidump, "entries_outside");
-  const words = list(part(minidump, "damage")).map((damage) => ["Damage", damageWords(damage)]);
-  words.push(
-    ["Status", part(crash, "status")],
-    ["Exit status", part(minidump, "status")],
+  if (damage.length === 0 && !outside) return;
+  const lines = element("ul");
+  if (outside) lines.appendChild(element("li", "entries of the directory that lie outside the file: " + counted(outside)));
+  const place = section("damage", "Can\u2019t be read", "damage");
+  place.appendChild(lines);
+  some(place, damage, (one) => lines.appendChild(element("li", damageWords(one))));
+}
+
+function crashFacts() {
+  const info = part(crash, "crash_info");
+  return [
     ["Reason", part(info, "type")],
-    ["Address", addressWords()],
+    ["Address", addressWords(part(info, "address"), part(minidump, "address"))],
+    ["Signature", part(crash, "signature") ?? part(minidump, "signature")],
     ["Code", counting === null ? null : part(counting, "code") + " at " + part(counting, "exception_address")],
     ["Flags", unlessZero(part(counting, "flags"))],
     ["Nested record", unlessZero(part(counting, "nested"))],
@@ -459,37 +298,38 @@ function facts() {
     ["Parameters", parametersOf(counting)],
     ["Assertion", assertionWords()],
     ["Thread", thread === null ? null : threadName(thread)],
+    ["Instruction pointer", addressWords(part(firstFrame(), "offset"), part(point, "instruction"))],
+    ["Bytes there", list(part(point, "code")).map((byte) => Number(byte).toString(16).padStart(2, "0")).join(" ")],
     ["Registers", labelled("of the context of the ", part(minidump, "registers_of"))],
-    ["Exception\u2019s context", labelled("not used: ", problem)],
-    ["System", namesOf(system, ["os", "os_ver", "cpu_arch"])],
-    ["Processor", part(system, "cpu_info")],
-    ["Processors", part(system, "cpu_count")],
-    ["Release", namesOf(part(crash, "lsb_release"), ["id", "release", "codename", "description"])],
-    ["Dumped", timeWords(part(minidump, "written"))],
-    ["Process", part(crash, "pid")],
-    ["Uptime", part(minidump, "uptime") === null ? null : part(minidump, "uptime") + " s"],
-    ["Boot arguments", part(crash, "mac_boot_args")],
-    ["Soft errors", part(crash, "soft_errors")],
-    ["Maps", part(crash, "linux_memory_map_count")],
-    ["Entries outside", outside === 0 ? null : outside],
-  );
-  const place = document.getElementById("facts");
-  for (const [name, value] of words) {
-    if (value === null || value === "") continue;
-    place.appendChild(element("dt", name));
-    place.appendChild(element("dd", value));
-  }
-  const reason = part(info, "type");
-  if (reason !== null) {
-    document.getElementById("what").textContent = shown(reason);
-    document.title = shown(reason);
-  }
+    ["Exception\u2019s context", labelled("not used: ", part(counting, "context_problem"))],
+  ];
 }
 
-function rangeWords(range) {
-  const base = part(range, "base_addr");
-  return base === null ? null : base + ", " + part(range, "size") + " bytes";
+function systemFacts() {
+  const system = part(crash, "system_info");
+  const uptime = part(minidump, "uptime");
+  const main = list(part(crash, "modules"))[part(crash, "main_module")] ?? null;
+  return [
+    ["Dump", part(crash, "path")],
+    ["Program", part(main, "filename")],
+    ["Command line", part(minidump, "command_line")],
+    ["Comment", part(minidump, "comment")],
+    ["Wide comment", part(minidump, "wide_comment")],
+    ["System", membersOf(system, ["os", "os_ver", "cpu_arch"])],
+    ["Processor", part(system, "cpu_info")],
+    ["Processors", part(system, "cpu_count")],
+    ["Release", membersOf(part(crash, "lsb_release"), ["id", "release", "codename", "description"])],
+    ["Dumped", timeWords(part(minidump, "written"))],
+    ["Process", part(crash, "pid")],
+    ["Uptime", uptime === null ? null : uptime + " s"],
+    ["Boot arguments", part(crash, "mac_boot_args")],
+    ["Soft errors", part(crash, "soft_errors")],
+    ["Lines of the memory map", part(crash, "linux_memory_map_count")],
+    ["Status", joined([part(crash, "status"), labelled("exit status ", part(minidump, "status"))], ", ")],
+  ];
 }
+
+// ---- Threads and modules
 
 // Returns how much of the context of a thread's registers there is, or null if it is whole.
 function shortWords(short) {
@@ -498,7 +338,6 @@ function shortWords(short) {
 
 // Adds what is known of a thread besides its frames.
 function addThreadFacts(place, of) {
-  const end = part(of, "end");
   const stack = rangeWords(part(of, "stack"));
   const memory = rangeWords(part(of, "stack_memory"));
   const words = joined([
@@ -508,77 +347,126 @@ function addThreadFacts(place, of) {
     shortWords(part(of, "short_context")),
     labelled("stack ", stack),
     memory === stack ? null : labelled("stack memory ", memory),
-    end === null ? null : "end: " + end.replaceAll("_", " "),
+    labelled("end: ", part(of, "end") === null ? null : String(part(of, "end")).replaceAll("_", " ")),
   ], "; ");
   if (words !== "") place.appendChild(element("p", words));
 }
 
+// Returns a file and a line of it.
+function sourceWords(place) {
+  return joined([part(place, "file"), part(place, "line")], ":");
+}
+
+function functionWords(frame) {
+  const name = part(frame, "function");
+  if (name === null) return part(frame, "missing_symbols") === true ? "no symbols" : null;
+  const offset = part(frame, "function_offset");
+  return name + (offset === null ? "" : " + " + (typeof offset === "number" ? "0x" + offset.toString(16) : offset));
+}
+
+const TRUST = { cfi: "call frame information", frame_pointer: "frame pointer" };
+
+// Returns the rows of a frame: the calls put in place there, innermost first, and the frame itself.
+function rowsOfFrame(frame) {
+  const at = part(frame, "offset");
+  const rows = list(part(frame, "inlines")).map((call) => [at, part(call, "function"), sourceWords(call), null, "inline"]);
+  const offset = part(frame, "module_offset");
+  const module = joined([part(frame, "module") ?? "no module", offset], "+");
+  const trust = part(frame, "trust");
+  const pointers = ["instruction", "stack_pointer", "frame_pointer"].map((name) => part(frame, name));
+  rows.push([at, functionWords(frame), sourceWords(frame), module, Object.hasOwn(TRUST, trust) ? TRUST[trust] : trust, ...pointers]);
+  return rows;
+}
+
+const FRAME = [["Frame", "code"], ["Address", "code"], ["Function", ""], ["Line", ""], ["Module", ""], ["Known by", "word"],
+  ["Instruction", "code"], ["Stack", "code"], ["Frame pointer", "code"]];
+
+// Adds a table of frames, numbered from a number on, and returns the number of the next.
+function addRows(place, frames, from) {
+  const rows = frames.flatMap(rowsOfFrame).map((row, i) => ["#" + (from + i), ...row]);
+  const kinds = rows.map((row) => (row[5] === "inline" ? "inline" : ""));
+  if (rows.length > 0) new Table(place, FRAME, rows, kinds);
+  return from + rows.length;
+}
+
+// Adds the frames of a thread, and its candidates under a heading that opens them.
 function addFrames(place, of) {
   addThreadFacts(place, of);
   const frames = list(part(of, "frames"));
-  if (frames.length === 0) {
-    place.appendChild(element("p", "No frames."));
-    return;
+  const isCandidate = (frame) => part(frame, "trust") === "scan";
+  const callers = frames.filter((frame) => !isCandidate(frame));
+  const candidates = frames.filter(isCandidate);
+  const count = part(of, "frame_count") ?? frames.length;
+  const next = addRows(place, callers, 0);
+  if (frames.length === 0) place.appendChild(element("p", count === 0 ? "No frames." : "No frames are listed."));
+  if (count > frames.length) place.appendChild(element("p", "Listed are " + counted(frames.length) + " of " + counted(count) + " frames and candidates."));
+  if (candidates.length > 0) {
+    folded(place, "Candidates: " + counted(candidates.length), candidates.length, (made) => addRows(made, candidates, next));
   }
-  const rows = frames.map((frame, i) => {
-    const module = part(frame, "module") ?? "no module";
-    const offset = part(frame, "module_offset");
-    const place = module + (offset === null ? "" : "+" + offset);
-    const pointers = ["instruction", "stack_pointer", "frame_pointer"].map((name) => part(frame, name));
-    return ["#" + i, part(frame, "offset"), place, part(frame, "trust"), ...pointers];
-  });
-  const heads = ["Frame", "Address", "Module", "Known by", "Instruction", "Stack", "Frame pointer"];
-  table(place, heads, rows, ["code", "code", "", "", "code", "code", "code"]);
+}
+
+// Adds a list of registers, if there are any.
+function addRegisters(place, heading, registers) {
+  const all = Object.entries(registers ?? {});
+  if (all.length === 0) return;
+  const lines = element("ul", undefined, "registers");
+  for (const [name, value] of all) lines.appendChild(element("li", name.padEnd(6) + " " + shown(value)));
+  place.appendChild(element("h3", heading));
+  place.appendChild(lines);
+}
+
+function addCrashed() {
+  if (thread === null) return;
+  const place = section("crashed", "Crashing thread: " + threadName(thread));
+  addFrames(place, thread);
+  addRegisters(place, "Registers", part(firstFrame(), "registers"));
+  addRegisters(place, "Flags and segments", part(point, "flags"));
+  const words = list(part(point, "words"));
+  if (words.length === 0) return;
+  folded(place, "Words from the stack pointer up: " + counted(words.length), words.length, (made) => new Table(made,
+    [["Address", "code"], ["Value", "code"], ["Module", ""]],
+    words.map((word) => [part(word, "address"), part(word, "value"), placeWords(word)])));
 }
 
 function addThreads() {
-  const place = document.getElementById("threads");
   const others = list(part(crash, "threads")).filter((_, i) => i !== part(thread, "threads_index"));
-  for (const other of others) {
-    const made = document.createElement("details");
+  if (others.length === 0) return;
+  const place = section("threads", (thread === null ? "Threads: " : "Other threads: ") + counted(others.length));
+  const lines = element("div");
+  place.appendChild(lines);
+  some(place, others, (other) => {
     const frames = list(part(other, "frames"));
-    const first = part(frames[0], "module");
-    const where = first === null ? "" : ", in " + last(first);
-    made.appendChild(element("summary", threadName(other) + where + ", frames: " + frames.length));
-    addFrames(made, other);
-    place.appendChild(made);
-  }
-  if (others.length === 0) place.appendChild(element("p", "None."));
+    const first = part(frames[0], "function") ?? part(frames[0], "module");
+    const words = threadName(other) + (first === null ? "" : ", in " + last(first)) + ", frames: " + (part(other, "frame_count") ?? frames.length);
+    folded(lines, words, frames.length, (made) => addFrames(made, other));
+  });
 }
 
-function addRegisters() {
-  const place = document.getElementById("registers");
-  const registers = registersOf(thread);
-  for (const name of Object.keys(registers)) {
-    place.appendChild(element("li", name.padEnd(4) + " " + String(registers[name])));
-  }
+// Returns words for what is known of the symbols of a module.
+function symbolWords(module) {
+  const states = [["loaded_symbols", "loaded"], ["missing_symbols", "missing"], ["corrupt_symbols", "corrupt"]];
+  return joined(states.map(([name, words]) => (part(module, name) === true ? words : null)), ", ");
 }
 
 function addModules() {
-  const rows = list(part(crash, "modules")).map((module) => [
-    part(module, "base_addr"),
-    part(module, "end_addr"),
-    part(module, "filename"),
-    part(module, "version"),
-    [part(module, "debug_file"), part(module, "debug_id")].filter((word) => word !== null && word !== "").join(" "),
-    part(module, "code_id"),
+  const modules = list(part(crash, "modules"));
+  if (modules.length === 0) return;
+  const main = part(crash, "main_module");
+  const rows = modules.map((module, i) => [
+    part(module, "base_addr"), part(module, "end_addr"), part(module, "filename"), part(module, "version"), symbolWords(module),
+    membersOf(module, ["debug_file", "debug_id"]), part(module, "code_id"), i === main ? "main" : null,
   ]);
-  table(document.getElementById("modules"), ["Base", "End", "File", "Version", "Debug file", "Code"], rows,
-    ["code", "code", "", "", "", ""]);
+  new Table(section("modules", "Modules: " + counted(modules.length)), [["Base", "code"], ["End", "code"], ["File", ""], ["Version", ""],
+    ["Symbols", ""], ["Debug file", ""], ["Code", ""], ["Program", ""]], rows);
 }
+
+// ---- Other lists
 
 // Adds a table under a heading that opens it, if it has rows.
-function addMore(name, heads, rows, kinds) {
+function addMore(name, columns, rows) {
   if (rows.length === 0) return;
-  const made = document.createElement("details");
-  made.appendChild(element("summary", name + ": " + rows.length));
-  table(made, heads, rows, kinds);
-  document.getElementById("more").appendChild(made);
-}
-
-// Returns rows of the members of the objects of a list.
-function rowsOf(value, names) {
-  return list(value).map((one) => names.map((name) => part(one, name)));
+  const place = document.getElementById("more") ?? section("more", "Lists");
+  folded(place, name + ": " + counted(rows.length), rows.length, (made) => new Table(made, columns, rows));
 }
 
 // Returns the annotations of Crashpad, each with its name and whose it is.
@@ -593,54 +481,175 @@ function annotationsOf() {
   return rows;
 }
 
+function addExceptions() {
+  const names = ["thread_id", "code", "flags", "exception_address", "nested", "access", "address", "type", "context_problem", "error"];
+  const rows = rowsOf(exceptions, names).map((row, i) => [exceptions[i] === counting ? "counts" : "", ...row, parametersOf(exceptions[i]), senderWords(exceptions[i])]);
+  addMore("Exceptions", [["Counts", ""], ["Thread", ""], ["Code", "code"], ["Flags", "code"], ["At", "code"], ["Nested record", "code"], ["Access", ""],
+    ["Address", "code"], ["Reason", ""], ["Context", ""], ["Error", ""], ["Parameters", ""], ["Sent by", ""]], rows);
+}
+
 function addLists() {
-  const exceptions = list(part(minidump, "exceptions"));
-  const rows = rowsOf(exceptions, ["thread_id", "code", "flags", "exception_address", "nested", "access", "address",
-    "type", "context_problem", "error"]);
-  addMore("Exceptions", ["", "Thread", "Code", "Flags", "At", "Nested record", "Access", "Address", "Reason", "Context",
-    "Error", "Parameters", "Sent by"],
-    rows.map((row, i) => [i === part(minidump, "exception") ? "counts" : "", ...row, parametersOf(exceptions[i]),
-      senderWords(exceptions[i])]),
-    ["", "", "code", "code", "code", "code", "", "code", "", "", "", "code", ""]);
-  addMore("Annotations", ["Of", "Name", "Value"], annotationsOf(), ["", "", ""]);
+  addExceptions();
+  addMore("Annotations", [["Of", ""], ["Name", ""], ["Value", ""]], annotationsOf());
   const mac = ["module", "message", "message2", "signature_string", "backtrace", "thread", "dialog_mode", "abort_cause"];
-  addMore("macOS\u2019s crash information",
-    ["Module", "Message", "Second message", "Signature", "Backtrace", "Thread", "Dialog mode", "Abort cause"],
-    rowsOf(part(part(crash, "mac_crash_info"), "records"), mac), mac.map(() => ""));
-  addMore("Handles", ["Handle", "Type", "Name"],
-    rowsOf(part(crash, "handles"), ["handle", "type_name", "object_name"]), ["code", "", ""]);
-  addMore("Unloaded modules", ["Base", "End", "File", "Code"],
-    rowsOf(part(crash, "unloaded_modules"), ["base_addr", "end_addr", "filename", "code_id"]), ["code", "code", "", ""]);
-  addMore("Streams", ["Type", "Name", "Bytes", "At", "Error"],
-    rowsOf(part(minidump, "streams"), ["type", "name", "size", "rva", "error"]), ["code", "", "", "code", ""]);
+  const heads = ["Module", "Message", "Second message", "Signature", "Backtrace", "Thread", "Dialog mode", "Abort cause"];
+  addMore("macOS\u2019s crash information", heads.map((head) => [head, ""]), rowsOf(part(part(crash, "mac_crash_info"), "records"), mac));
+  addMore("Handles", [["Handle", "code"], ["Type", ""], ["Name", ""]], rowsOf(part(crash, "handles"), ["handle", "type_name", "object_name"]));
+  addMore("Unloaded modules", [["Base", "code"], ["End", "code"], ["File", ""], ["Code", ""]],
+    rowsOf(part(crash, "unloaded_modules"), ["base_addr", "end_addr", "filename", "code_id"]));
+  addMore("Streams", [["Type", "code"], ["Name", ""], ["Bytes", ""], ["At", "code"], ["Error", ""]],
+    rowsOf(part(minidump, "streams"), ["type", "name", "size", "rva", "error"]));
+  addMore("Other members", [["Member", ""], ["Value", ""]], otherMembers());
 }
 
-function addRanges() {
+// The members that have a place of their own on the page, by the object that they are of.
+const KNOWN = {
+  "": "path status system_info crash_info main_module modules unloaded_modules pid thread_count threads crashing_thread lsb_release mac_crash_info "
+    + "mac_boot_args handles soft_errors linux_memory_map_count minidump signature",
+  system_info: "os os_ver cpu_arch cpu_info cpu_count",
+  crash_info: "type address crashing_thread assertion",
+  minidump: "written uptime status streams entries_outside memory damage address exceptions exception registers_of assertion crashpad signature "
+    + "command_line comment wide_comment point",
+  "minidump.point": "instruction code words flags",
+  "minidump.address": "address module module_offset null_offset is_canonical unloaded_module stack_of below_stack memory",
+  crashing_thread: "threads_index thread_id thread_name is_listed last_error_value stack stack_memory context_problem short_context frame_count "
+    + "end frames",
+  mac_crash_info: "num_records records",
+};
+
+// Returns the members that have no place of their own, with their values.
+function otherMembers() {
+  return Object.keys(KNOWN).flatMap((path) => {
+    const names = KNOWN[path].split(" ");
+    const value = path.split(".").reduce((value, name) => (name === "" ? value : part(value, name)), crash);
+    return Object.entries(value ?? {}).filter(([name, one]) => !names.includes(name) && one !== null)
+      .map(([name, one]) => [joined([path, name], "."), one]);
+  });
+}
+
+// ---- The address space
+
+// Returns the modules, the stacks and the regions of memory, ascending.
+function rangesOf() {
+  const found = [];
+  const add = (kind, ends, name) => {
+    if (ends === null || ends[0] === null || ends[1] === null || ends[0] >= ends[1]) return;
+    found.push({ kind, start: ends[0], end: ends[1], name, rights: rightsOf(ends) });
+  };
+  for (const module of list(part(crash, "modules"))) {
+    add("module", [address(part(module, "base_addr")), address(part(module, "end_addr"))], part(module, "filename"));
+  }
+  for (const one of list(part(crash, "threads"))) add("stack", endsOf(part(one, "stack")), "thread " + threadName(one));
+  for (const region of list(part(minidump, "memory"))) add("memory", endsOf(region), "");
+  return found.sort((a, b) => (a.start < b.start ? -1 : a.start > b.start ? 1 : 0));
+}
+
+// Returns the rights of the memory between two addresses, where it is known of one of them, or null.
+function rightsOf([start, end]) {
+  const known = [
+    ["crash address", part(part(crash, "crash_info"), "address"), part(minidump, "address")],
+    ["instruction pointer", part(firstFrame(), "offset"), part(point, "instruction")],
+  ];
+  const words = known.map(([name, text, facts]) => {
+    const at = address(text);
+    return at === null || at < start || at >= end ? null : labelled(name + ": ", memoryWords(part(facts, "memory")));
+  });
+  return joined(words, ", ");
+}
+
+function marksOf() {
+  const frame = firstFrame();
+  return [
+    ["instruction", "instruction pointer", part(frame, "offset")],
+    ["address", "crash address", part(part(crash, "crash_info"), "address")],
+    ["pointer", "stack pointer", part(frame, "stack_pointer")],
+  ].map(([kind, name, at]) => ({ kind, name, at: address(at) })).filter((mark) => mark.at !== null);
+}
+
+function swatch(kind, name) {
+  const made = shape("svg", { width: 14, height: 14, "aria-hidden": "true" });
+  made.appendChild(KINDS.includes(kind) ? shape("rect", { class: kind, width: 14, height: 14 })
+    : shape("line", { class: kind, x1: 7, y1: 0, x2: 7, y2: 14 }));
+  const sign = element("span");
+  sign.appendChild(made);
+  sign.appendChild(document.createTextNode(" " + name));
+  return sign;
+}
+
+// Adds the buttons of the map, and what its colours mean.
+function addTools(place, map) {
+  const tools = element("div", undefined, "tools");
+  tools.id = "tools";
+  const acts = [["+", () => map.zoom(0.5), "Zoom in"], ["\u2212", () => map.zoom(2), "Zoom out"], ["\u2190", () => map.move(-0.25), "Lower addresses"],
+    ["\u2192", () => map.move(0.25), "Higher addresses"], ["All", () => map.showAll(), "Show all"]];
+  for (const [words, act, label] of acts) tools.appendChild(button(words, act, label));
+  for (const mark of map.marks) {
+    const page = mark.at - (mark.at % PAGE);
+    const made = button("", () => map.showRange(page, page + PAGE), "Show the " + mark.name);
+    made.appendChild(swatch(mark.kind, mark.name));
+    tools.appendChild(made);
+  }
+  for (const lane of map.lanes) tools.appendChild(swatch(lane[0].kind, lane[0].kind));
+  place.appendChild(tools);
+}
+
+// Adds the map, and returns it, or null if there is nothing to draw.
+function addMap(ranges, chosen) {
+  if (ranges.length === 0) return null;
+  const place = section("addresses", "Address space");
+  const space = shape("svg", { id: "space", role: "group", "aria-label": "Address space: modules, stacks, and the memory that the dump holds" });
+  const map = new AddressMap(space, ranges, marksOf(), chosen);
+  addTools(place, map);
+  place.appendChild(space);
+  for (const [id, live] of [["view", "off"], ["choice", "polite"]]) {
+    const line = element("p", "", id === "view" ? "note" : "");
+    line.id = id;
+    line.setAttribute("aria-live", live);
+    place.appendChild(line);
+  }
+  place.appendChild(element("p", "Gaps are shortened; within a stretch between two gaps, widths are in proportion. On a block, the arrow keys go to "
+    + "the next one, + and \u2212 zoom, Enter shows it, and Home shows all.", "note"));
+  map.draw();
+  return map;
+}
+
+// Adds the list of the ranges, and returns what marks the row of a range, and opens the list.
+function addRanges(ranges, show) {
+  if (ranges.length === 0) return () => {};
+  const columns = [["Map", ""], ["Kind", ""], ["From", "code"], ["To", "code"], ["Bytes", ""], ["Name", ""], ["Rights", ""]];
   const rows = ranges.map((range) => [
-    button("Show", () => {
-      showRange(range.start, range.end);
-      space.focus();
-    }, "Show " + shown(range.kind === "memory" ? "memory" : range.name) + " at " + hex(range.start)),
-    range.kind,
-    hex(range.start),
-    hex(range.end),
-    String(range.end - range.start),
-    range.name,
+    () => button("Show", () => show(range), "Show " + joined([range.kind, shown(range.name)], " ") + " at " + hex(range.start)),
+    range.kind, hex(range.start), hex(range.end), counted(range.end - range.start), range.name, range.rights,
   ]);
-  for (const mark of marks) rows.push(["", mark.name, hex(mark.at), "", "", ""]);
-  table(document.getElementById("ranges"), ["", "Kind", "From", "To", "Bytes", "Name"], rows,
-    ["", "", "code", "code", "code", ""]);
+  let table = null;
+  const open = folded(section("ranges", "Ranges: " + counted(ranges.length)), "Modules, stacks and memory, by address", ranges.length,
+    (made) => table = new Table(made, columns, rows));
+  return (range) => {
+    open();
+    table.mark(ranges.indexOf(range));
+  };
 }
 
-facts();
-addTools();
-draw();
-addFrames(document.getElementById("crashed"), thread);
-addRegisters();
-addThreads();
-addModules();
-addLists();
-addRanges();
+function addAll() {
+  addTitle();
+  addDamage();
+  addFacts("facts", "Crash", crashFacts());
+  addCrashed();
+  addFacts("system", "System", systemFacts());
+  const ranges = rangesOf();
+  let mark = () => {};
+  const map = addMap(ranges, (range) => mark(range));
+  addThreads();
+  addModules();
+  addLists();
+  mark = addRanges(ranges, (range) => {
+    map.choose(range);
+    map.showRange(range.start, range.end);
+    map.focus();
+  });
+}
+
+addAll();
 </script>
 </body>
 </html>
