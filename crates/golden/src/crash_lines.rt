@@ -1,20 +1,45 @@
 use crash::{
-    Crash, CrashCause, CrashDirectory, CrashException, CrashProcess, CrashSystem, CrashThread,
-    CrashThreads, Damage, LsbRelease, ShortContext,
+    Crash, CrashCause, CrashDirectory, CrashException, CrashPoint, CrashProcess, CrashSystem,
+    CrashThread, CrashThreads, Damage, LsbRelease, ShortContext,
 };
 use minidump::Error;
 use std::io;
 use std::io::Write;
 
 /// Appends the lines of a crash: the directory, the process, the exceptions, the threads, the
-/// damage and the status.
+/// damage, the status, the texts of the process, and where the thread that crashed stands.
 pub fn push_crash(crash: &Crash<'_>, status: u8, out: &mut Vec<u8>) -> io::Result<()> {
     push_directory(&crash.directory, out)?;
     push_process(&crash.process, out)?;
     push_cause(&crash.cause, out)?;
     push_threads(&crash.threads, out)?;
     push_damage(crash.damage.as_slice(), out)?;
-    writeln!(out, "status {status}")
+    writeln!(out, "status {status}")?;
+    push_texts(&crash.process, out)?;
+    push_point(&crash.point, out)
+}
+
+// Appends a line for the command line, and one for the comments.
+fn push_texts(process: &CrashProcess, out: &mut Vec<u8>) -> io::Result<()> {
+    let command = process.command_line.as_deref().unwrap_or("none");
+    let narrow = process.comments.narrow.as_deref().unwrap_or("none");
+    let wide = process.comments.wide.as_deref().unwrap_or("none");
+    writeln!(out, "command {command}")?;
+    writeln!(out, "comments {narrow}, {wide}")
+}
+
+// Appends the lines of where a thread stands.
+fn push_point(point: &Option<CrashPoint<'_>>, out: &mut Vec<u8>) -> io::Result<()> {
+    let Some(point) = point else {
+        return writeln!(out, "point none");
+    };
+    let (code, flags) = (point.code, point.flags.as_slice());
+    writeln!(out, "point {:?}", point.instruction)?;
+    writeln!(out, "code {code:?} {flags:?}")?;
+    for word in &point.words {
+        writeln!(out, "{word:?}")?;
+    }
+    Ok(())
 }
 
 fn push_damage(damage: &[Damage], out: &mut Vec<u8>) -> io::Result<()> {

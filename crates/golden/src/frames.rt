@@ -39,6 +39,7 @@ fn push_frame(
 ) -> io::Result<()> {
     let trust = match trust {
         FrameTrust::Context => "context",
+        FrameTrust::Cfi => "call frame information",
         FrameTrust::FramePointer => "frame pointer",
         FrameTrust::Scan => "scan",
     };

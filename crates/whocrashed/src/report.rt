@@ -97,7 +97,7 @@ impl Reporter<'_, '_> {
     fn form_of(&self, path: &str, crash: &Crash<'_>) -> Result<Vec<u8>, AllocError> {
         let alloc = self.rt.alloc();
         match self.form {
-            Form::Lines => Ok(text_of(alloc, crash, &self.limits)?.into_bytes()),
+            Form::Lines => Ok(text_of(alloc, crash, &self.limits, None)?.into_bytes()),
             Form::Json => end_line(self.json_of(path, crash)?),
             Form::Html => {
                 let json = self.json_of(path, crash)?;
@@ -112,7 +112,7 @@ impl Reporter<'_, '_> {
         let limits = JsonLimits {
             frames: self.limits.frames,
         };
-        json_of(self.rt.alloc(), Some(path), crash, &limits)
+        json_of(self.rt.alloc(), Some(path), crash, &limits, None)
     }
 
     // Reports why bytes are no dump. Running out of memory is an error.
