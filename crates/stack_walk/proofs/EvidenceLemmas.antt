@@ -1,6 +1,6 @@
 -- Each caller and each candidate has its evidence.
 use Rattle.std.proofs.Common.{◌≡◌, ◌∙◌, ℕ, ◌+◌, ◌-◌, ◌*◌, ◌^◌, List, [], ◌∷◌, ◌++◌, true, Option, Some, None, refl, ap, sym, arith}
-use Rattle.std.specs.Prelude.{All, nat_le, nat_lt, ◌&&◌, if◌then◌else◌}
+use Rattle.std.specs.Prelude.{All, nat_le, nat_lt, if◌then◌else◌}
 use Rattle.std.specs.List.{cons_option, filter_map, range_with_len}
 use Rattle.std.specs.Option.{option_and_then}
 use Rattle.std.proofs.lemmas.Bool.Decides.{nat_tests}
@@ -10,9 +10,10 @@ use Rattle.minidump.specs.Below.System.Cpu.{pointer_bytes}
 use Rattle.stack_walk.specs.declared.frame.FrameTrust.TheVariants.{Scan}
 use Rattle.stack_walk.specs.declared.frame.StackFrame.{StackFrame}
 use Rattle.stack_walk.specs.Evidence.{HasEvidence}
-use Rattle.stack_walk.specs.Frames.{AreCallers, AreFrames, StackValue, candidate_at, candidate_by, context_frame, may_have_called, pointer_at, scan, word_candidate, words_from}
+use Rattle.stack_walk.specs.Frames.{AreCallers, AreFrames, StackValue, candidate_at, candidate_by, context_frame, firsts, may_have_called, pointer_at, scan, word_candidate, word_candidates, words_above, words_below}
 use Rattle.stack_walk.specs.Lookups.{call_site}
 use Rattle.stack_walk.proofs.CallerLemmas.{Record, has_record, passed, step}
+use Rattle.stack_walk.proofs.FoundLemmas.{All-firsts}
 
 -- a word below a stack pointer
 below : (address size : ℕ) → (if nat_le size (address + size) then Some (address + size - size) else None) ≡ Some address
@@ -82,20 +83,24 @@ all_callers s f [] last callers = All-nil (HasEvidence s)
 all_callers s f (g ∷ gs) last callers =
     All-cons (HasEvidence s) g gs (of_caller s f g (has_record s f g callers.0)) (all_callers s g gs last callers.1)
 
-all_candidates : (s : StackValue) (from limit : ℕ) → All (HasEvidence s) (scan s from limit)
-all_candidates s from limit =
-    All-take (HasEvidence s) limit _
-    (all_given (HasEvidence s) (λ index. word_candidate s ((words_from s from).0 + index)) (λ index f is. of_candidate s _ f is)
-    (range_with_len 0 (words_from s from).1))
+of_words : (s : StackValue) (words : ℕ × ℕ) → All (HasEvidence s) (word_candidates s words)
+of_words s words = all_given (HasEvidence s) (word_candidate s) (of_candidate s) (range_with_len words.0 words.1)
+
+all_candidates : (s : StackValue) (frames : List StackFrame) (limit : ℕ) → All (HasEvidence s) (scan s frames limit)
+all_candidates s frames limit =
+    let below = word_candidates s (words_below s frames) in
+    let above = word_candidates s (words_above s frames) in
+    All-take (HasEvidence s) limit (firsts (below ++ above))
+    (All-firsts (HasEvidence s) (below ++ above)
+    (All-append (HasEvidence s) below above (of_words s (words_below s frames)) (of_words s (words_above s frames))))
 
 -- each frame but the first
 pub all_evidence : (s : StackValue) (c : MinidumpContext) (limit : ℕ) (first : StackFrame) (rest : List StackFrame)
     → AreFrames s c limit (first ∷ rest) → All (HasEvidence s) rest
 all_evidence s c limit first rest x =
-    let whole : first ∷ rest ≡ context_frame c ∷ (x.is_walk.callers ++ scan s x.last.stack_pointer limit) =
-    x.whole ∙ ap (λ w. w ++ scan s x.last.stack_pointer limit) x.is_walk.whole
-    in
-    let same : x.is_walk.callers ++ scan s x.last.stack_pointer limit ≡ rest = cc in
+    let candidates = scan s x.walk limit in
+    let whole : first ∷ rest ≡ context_frame c ∷ (x.is_walk.callers ++ candidates) = x.whole ∙ ap (λ w. w ++ candidates) x.is_walk.whole in
+    let same : x.is_walk.callers ++ candidates ≡ rest = cc in
     rw (sym same)
-    (All-append (HasEvidence s) x.is_walk.callers (scan s x.last.stack_pointer limit)
-    (all_callers s (context_frame c) x.is_walk.callers x.last x.is_walk.are_callers) (all_candidates s x.last.stack_pointer limit))
+    (All-append (HasEvidence s) x.is_walk.callers candidates
+    (all_callers s (context_frame c) x.is_walk.callers x.last x.is_walk.are_callers) (all_candidates s x.walk limit))

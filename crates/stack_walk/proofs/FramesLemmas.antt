@@ -16,10 +16,7 @@ frames_by s c limit frames =
     let first = context_frame c in
     let callers = callers_in s first in
     let last = outermost first callers in (
-      λ x.
-          let walk = walk_is s first x.walk x.last x.is_walk in
-          x.whole ∙ ap (λ w. w ++ scan s x.last.stack_pointer limit) walk.0
-          ∙ ap (λ (l : StackFrame). (first ∷ callers) ++ scan s l.stack_pointer limit) walk.1,
+      λ x. x.whole ∙ ap (λ (w : List StackFrame). w ++ scan s w limit) (walk_is s first x.walk x.last x.is_walk).0,
       λ is. record {
         walk = first ∷ callers;
         last = last;
@@ -36,8 +33,8 @@ pub few_frames : (s : StackValue) (c : MinidumpContext) (limit : ℕ) (frames : 
     → 8 * length frames ≤ length (stack_bytes s) + 8 * (1 + limit)
 few_frames s c limit frames x =
     let callers = few_callers s (context_frame c) x.is_walk.callers x.last x.is_walk.are_callers in
-    let candidates : length (scan s x.last.stack_pointer limit) ≤ limit = at_most limit _ in
-    let whole : frames ≡ (context_frame c ∷ x.is_walk.callers) ++ scan s x.last.stack_pointer limit =
-    x.whole ∙ ap (λ w. w ++ scan s x.last.stack_pointer limit) x.is_walk.whole
+    let candidates : length (scan s x.walk limit) ≤ limit = at_most limit _ in
+    let whole : frames ≡ (context_frame c ∷ x.is_walk.callers) ++ scan s x.walk limit =
+    x.whole ∙ ap (λ w. w ++ scan s x.walk limit) x.is_walk.whole
     in
-    omega (arith, callers, candidates, ap length whole, length-append (context_frame c ∷ x.is_walk.callers) (scan s x.last.stack_pointer limit))
+    omega (arith, callers, candidates, ap length whole, length-append (context_frame c ∷ x.is_walk.callers) (scan s x.walk limit))

@@ -7,3 +7,4 @@ pub mod UpLemmas
 pub mod EvidenceLemmas
 pub mod ScanLemmas
 pub mod StackLemmas
+pub mod FoundLemmas

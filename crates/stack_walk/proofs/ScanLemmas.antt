@@ -1,11 +1,13 @@
--- The scan leaves out no aligned word that has a candidate.
-use Rattle.std.proofs.Common.{◌≡◌, ℕ, zero, suc, ◌+◌, ◌-◌, ◌*◌, ◌<◌, ◌≤◌, ◌⊎◌, inl, inr, List, [], ◌∷◌, length, Option, Some, None, refl, sym, arith}
-use Rattle.std.specs.Prelude.{Contains, max}
-use Rattle.std.specs.List.{cons_option, filter_map, range_with_len}
-use Rattle.std.specs.Option.{option_and_then}
+-- The scan leaves out no return address of an aligned word that has a candidate, and has none twice.
+use Rattle.std.proofs.Common.{◌≡◌, ◌∙◌, ℕ, zero, suc, ◌+◌, ◌-◌, ◌*◌, ◌<◌, ◌≤◌, ◌⊎◌, inl, inr, List, [], ◌∷◌, ◌++◌, length, map, take, get_or, Bool, true, false, cond, Option, Some, None, refl, ap, sym, subst, arith, length-append}
+use Rattle.std.specs.Prelude.{Contains, filter, max, not, slice_get, ◌==◌}
+use Rattle.std.specs.List.{AllByRecursion, IsDistinct, cons_option, filter_map, range_with_len}
+use Rattle.std.specs.Option.{option_and_then, option_map_or}
 use Rattle.std.proofs.lemmas.Bool.{cases_lt}
+use Rattle.std.proofs.lemmas.Bool.Decides.{nat_tests}
 use Rattle.std.proofs.lemmas.Grind.{div_ceil_times}
 use Rattle.std.proofs.lemmas.List.{take_all}
+use Rattle.std.proofs.lemmas.List.Elements.{Contains-append_left, Contains-append_right}
 use Rattle.std.proofs.lemmas.List.FromFn.{length-range_with_len}
 use Rattle.minidump.specs.declared.system_info.Cpu.{Cpu}
 use Rattle.minidump.specs.declared.system_info.PointerWidth.{PointerWidth}
@@ -14,8 +16,10 @@ use Rattle.minidump.specs.Below.MemoryLists.Unified.{UnifiedRegion, UnifiedRegio
 use Rattle.minidump.specs.Below.MemoryLists.UnifiedInfo.{InfoRegion}
 use Rattle.minidump.specs.Below.Modules.Module.{ModuleValue}
 use Rattle.minidump.specs.Below.System.Cpu.{pointer_bytes}
+use Rattle.stack_walk.specs.declared.frame.FrameTrust.{FrameTrust}
+use Rattle.stack_walk.specs.declared.frame.FrameTrust.TheVariants.{FramePointer}
 use Rattle.stack_walk.specs.declared.frame.StackFrame.{StackFrame}
-use Rattle.stack_walk.specs.Frames.{StackValue, candidate_at, candidate_by, pointer_at, scan, stack_bytes, word_candidate, words_from}
+use Rattle.stack_walk.specs.Frames.{StackValue, candidate_at, candidate_by, firsts, is_other, pointer_at, record_by, scan, stack_bytes, word_candidate, word_candidates, words_above, words_below, words_between, words_from}
 use Rattle.stack_walk.proofs.CallerLemmas.{base_of, end_of, in_stack, passed, step, wide}
 
 -- ---- what is given of the numbers of a range
@@ -49,13 +53,13 @@ few_given h (n ∷ ns) = by (h n) (few_given h ns)
 abbrev OnStack : ℕ → ℕ → ℕ → StackValue → Type 0
 OnStack from number size s = (base_of s ≤ number * size) × (number * size + size ≤ end_of s) × (from ≤ number * size)
 
-abbrev IsWithin : ℕ → ℕ → StackValue → Type 0
-IsWithin from number s = ((words_from s from).0 ≤ number) × (number < (words_from s from).0 + (words_from s from).1)
+abbrev IsWithin : ℕ × ℕ → ℕ → Type 0
+IsWithin words number = (words.0 ≤ number) × (number < words.0 + words.1)
 
 within : (region : Option UnifiedRegion) (modules : List ModuleValue) (memory : UnifiedRegions) (infos : List InfoRegion) (cpu : Cpu) (width : PointerWidth) (from number size : ℕ)
     → pointer_bytes width ≡ Some size
     → OnStack from number size (record { region = region; modules = modules; memory = memory; infos = infos; cpu = cpu; width = width })
-    → IsWithin from number (record { region = region; modules = modules; memory = memory; infos = infos; cpu = cpu; width = width })
+    → IsWithin (words_from (record { region = region; modules = modules; memory = memory; infos = infos; cpu = cpu; width = width }) from) number
 within None modules memory infos cpu width from number size is on = absurd (omega (arith, on.1, wide width size is))
 within (Some r) modules memory infos cpu Bits32 from number size is on =
     let k : 4 ≡ size = cc in
@@ -69,13 +73,86 @@ within (Some r) modules memory infos cpu Bits64 from number size is on =
     (omega (arith, there.0, there.1, there.2, c.0, c.1), omega (arith, there.0, there.1, there.2, c.0, c.1))
 within (Some r) modules memory infos cpu Unknown from number size is on = cc
 
+-- a word below an address
+below : (region : Option UnifiedRegion) (modules : List ModuleValue) (memory : UnifiedRegions) (infos : List InfoRegion) (cpu : Cpu) (width : PointerWidth) (from until number size : ℕ)
+    → pointer_bytes width ≡ Some size
+    → IsWithin (words_from (record { region = region; modules = modules; memory = memory; infos = infos; cpu = cpu; width = width }) from) number
+    → number * size + size ≤ until
+    → IsWithin (words_between (record { region = region; modules = modules; memory = memory; infos = infos; cpu = cpu; width = width }) from until) number
+below region modules memory infos cpu Bits32 from until number size is on high =
+    let k : 4 ≡ size = cc in
+    let there = rw (sym k) at high in
+    (on.0, omega (arith, on.0, on.1, there))
+below region modules memory infos cpu Bits64 from until number size is on high =
+    let k : 8 ≡ size = cc in
+    let there = rw (sym k) at high in
+    (on.0, omega (arith, on.0, on.1, there))
+below region modules memory infos cpu Unknown from until number size is on high = cc
+
+-- ---- how many there are
+
 few_words : (region : Option UnifiedRegion) (modules : List ModuleValue) (memory : UnifiedRegions) (infos : List InfoRegion) (cpu : Cpu) (width : PointerWidth) (from : ℕ)
-    → (words_from (record { region = region; modules = modules; memory = memory; infos = infos; cpu = cpu; width = width }) from).1
+    → 2 * (words_from (record { region = region; modules = modules; memory = memory; infos = infos; cpu = cpu; width = width }) from).1
     ≤ length (stack_bytes (record { region = region; modules = modules; memory = memory; infos = infos; cpu = cpu; width = width }))
 few_words None modules memory infos cpu width from = omega arith
 few_words (Some r) modules memory infos cpu Bits32 from = omega arith
 few_words (Some r) modules memory infos cpu Bits64 from = omega arith
 few_words (Some r) modules memory infos cpu Unknown from = omega arith
+
+abbrev AreHalf : StackValue → ℕ × ℕ → Type 0
+AreHalf s words = 2 * words.1 ≤ length (stack_bytes s)
+
+half_from : (s : StackValue) (from : ℕ) → AreHalf s (words_from s from)
+half_from s from = few_words s.region s.modules s.memory s.infos s.cpu s.width from
+
+half_between : (s : StackValue) (from until : ℕ) → AreHalf s (words_between s from until)
+half_between s from until = omega (arith, half_from s from)
+
+half_above : (s : StackValue) (frames : List StackFrame) → AreHalf s (words_above s frames)
+half_above s frames = by (slice_get frames (length frames - 1))
+  where
+    by : (o : Option StackFrame) → AreHalf s (option_map_or (λ last. words_from s last.stack_pointer) o (0, 0))
+    by None = omega arith
+    by (Some last) = half_from s last.stack_pointer
+
+half_below : (s : StackValue) (frames : List StackFrame) → AreHalf s (words_below s frames)
+unfolding words_below
+half_below s [] = omega arith
+half_below s (first ∷ []) = omega arith
+half_below s (first ∷ caller ∷ callers) = by (record_by caller.trust first)
+  where
+    by : (o : Option ℕ) → AreHalf s (option_map_or (words_between s first.stack_pointer) o (0, 0))
+    by None = omega arith
+    by (Some until) = half_between s first.stack_pointer until
+
+few_candidates : (s : StackValue) (words : ℕ × ℕ) → length (word_candidates s words) ≤ words.1
+few_candidates s words =
+    omega (arith, few_given (word_candidate s) (range_with_len words.0 words.1), length-range_with_len words.0 words.1)
+
+filter_few : {X : Type 0} (test : X → Bool) (xs : List X) → length (filter test xs) ≤ length xs
+filter_few test [] = omega arith
+filter_few test (x ∷ xs) = by (test x) (filter_few test xs)
+  where
+    by : (b : Bool) → length (filter test xs) ≤ length xs → length (cond b (x ∷ filter test xs) (filter test xs)) ≤ length (x ∷ xs)
+    by true few = omega (arith, few)
+    by false few = omega (arith, few)
+
+firsts_few : (fs : List StackFrame) → length (firsts fs) ≤ length fs
+firsts_few [] = omega arith
+firsts_few (f ∷ fs) = omega (arith, filter_few (is_other f) (firsts fs), firsts_few fs)
+
+-- all candidates of a walk, without a limit
+abbrev candidates_of : StackValue → List StackFrame → List StackFrame
+candidates_of s frames = word_candidates s (words_below s frames) ++ word_candidates s (words_above s frames)
+
+-- they are no more than the stack has bytes
+all_taken : (s : StackValue) (frames : List StackFrame) (limit : ℕ) → length (stack_bytes s) ≤ limit
+    → scan s frames limit ≡ firsts (candidates_of s frames)
+all_taken s frames limit enough =
+    let below = words_below s frames in
+    let above = words_above s frames in
+    take_all limit (firsts (candidates_of s frames))
+    (omega (arith, enough, half_below s frames, half_above s frames, few_candidates s below, few_candidates s above, firsts_few (candidates_of s frames), length-append (word_candidates s below) (word_candidates s above)))
 
 -- a candidate's word lies on the stack
 on_stack : (s : StackValue) (size address : ℕ) (f : StackFrame) → pointer_bytes s.width ≡ Some size → candidate_at s size address ≡ Some f
@@ -90,17 +167,159 @@ candidate_of : (s : StackValue) (number size : ℕ) (f : StackFrame) → pointer
 unfolding word_candidate
 candidate_of s number size f is e = rw is at e
 
--- each word from an address on whose candidate is asked for
-pub each_word : (s : StackValue) (from limit number size : ℕ) (f : StackFrame) → pointer_bytes s.width ≡ Some size → from ≤ number * size
-    → word_candidate s number ≡ Some f → length (stack_bytes s) ≤ limit → Contains (scan s from limit) f
-each_word s from limit number size f is above e enough =
-    let words = words_from s from in
-    let on = on_stack s size (number * size) f is (candidate_of s number size f is e) in
-    let here = within s.region s.modules s.memory s.infos s.cpu s.width from number size is (on.0, on.1, above) in
-    let there : words.0 + (number - words.0) ≡ number = omega (arith, here.0) in
-    let h = λ (index : ℕ). word_candidate s (words.0 + index) in
-    let found = given h f words.1 0 (number - words.0) (omega arith) (omega (arith, here.0, here.1)) (rw there e) in
-    let few : length (filter_map h (range_with_len 0 words.1)) ≤ limit =
-    omega (arith, few_given h (range_with_len 0 words.1), length-range_with_len 0 words.1, few_words s.region s.modules s.memory s.infos s.cpu s.width from, enough)
+-- ---- return addresses
+
+-- the return addresses of frames
+abbrev words_of : List StackFrame → List ℕ
+words_of fs = map (λ (f : StackFrame). f.instruction) fs
+
+-- one that is not the address of a frame is left by it
+left : (f : StackFrame) (gs : List StackFrame) (word : ℕ) → (f.instruction == word) ≡ false → Contains (words_of gs) word
+    → Contains (words_of (filter (is_other f) gs)) word
+left f [] word other c = absurd (let few = c.1 in omega (arith, few))
+left f (g ∷ gs) word other (k, lt, at) = by k lt at (left f gs word other)
+  where
+    rest : (b : Bool) → Contains (words_of (filter (is_other f) gs)) word
+        → Contains (words_of (cond (not b) (g ∷ filter (is_other f) gs) (filter (is_other f) gs))) word
+    rest true c = c
+    rest false c = later (Some g.instruction) word (words_of (filter (is_other f) gs)) c
+
+    here : (b : Bool) → (f.instruction == g.instruction) ≡ b → g.instruction ≡ word
+        → Contains (words_of (cond (not b) (g ∷ filter (is_other f) gs) (filter (is_other f) gs))) word
+    here true e is = (let k : true ≡ false = sym e ∙ ap (λ w. f.instruction == w) is ∙ other in cc)
+    here false e is =
+        subst (λ (w : ℕ). Contains (words_of (g ∷ filter (is_other f) gs)) w) is (first g.instruction (words_of (filter (is_other f) gs)))
+
+    by : (k : ℕ) → k < length (words_of (g ∷ gs)) → get_or (words_of (g ∷ gs)) k word ≡ word
+        → (Contains (words_of gs) word → Contains (words_of (filter (is_other f) gs)) word)
+        → Contains (words_of (filter (is_other f) (g ∷ gs))) word
+    by zero lt at more = here (f.instruction == g.instruction) refl at
+    by (suc k) lt at more = rest (f.instruction == g.instruction) (more (k, omega (arith, lt), at))
+
+-- the first ones have the return addresses of all
+kept : (fs : List StackFrame) (f : StackFrame) → Contains fs f → Contains (words_of (firsts fs)) f.instruction
+kept [] f c = absurd (let few = c.1 in omega (arith, few))
+kept (g ∷ fs) f (k, lt, at) = by k lt at (kept fs f)
+  where
+    same : g.instruction ≡ f.instruction → Contains (words_of (g ∷ filter (is_other g) (firsts fs))) f.instruction
+    same is =
+        subst (λ (w : ℕ). Contains (words_of (g ∷ filter (is_other g) (firsts fs))) w) is
+        (first g.instruction (words_of (filter (is_other g) (firsts fs))))
+
+    rest : (b : Bool) → (g.instruction == f.instruction) ≡ b → Contains (words_of (firsts fs)) f.instruction
+        → Contains (words_of (g ∷ filter (is_other g) (firsts fs))) f.instruction
+    rest true e c = same (grind (arith, nat_tests, e))
+    rest false e c = later (Some g.instruction) f.instruction (words_of (filter (is_other g) (firsts fs))) (left g (firsts fs) f.instruction e c)
+
+    by : (k : ℕ) → k < length (g ∷ fs) → get_or (g ∷ fs) k f ≡ f → (Contains fs f → Contains (words_of (firsts fs)) f.instruction)
+        → Contains (words_of (firsts (g ∷ fs))) f.instruction
+    by zero lt at more = same (let is : g ≡ f = at in ap (λ (h : StackFrame). h.instruction) is)
+    by (suc k) lt at more = rest (g.instruction == f.instruction) refl (more (k, omega (arith, lt), at))
+
+-- each word of some whose candidate is asked for
+of_words : (s : StackValue) (words : ℕ × ℕ) (number : ℕ) (f : StackFrame) → IsWithin words number → word_candidate s number ≡ Some f
+    → Contains (word_candidates s words) f
+of_words s words number f on e = given (word_candidate s) f words.1 words.0 number on.0 on.1 e
+
+-- a word of a stack that has a candidate
+abbrev IsCandidate : StackValue → ℕ → ℕ → StackFrame → Type 0
+IsCandidate s size number f = (pointer_bytes s.width ≡ Some size) × (word_candidate s number ≡ Some f)
+
+from_there : (s : StackValue) (from number size : ℕ) (f : StackFrame) → IsCandidate s size number f → from ≤ number * size
+    → IsWithin (words_from s from) number
+from_there s from number size f is above =
+    let on = on_stack s size (number * size) f is.0 (candidate_of s number size f is.0 is.1) in
+    within s.region s.modules s.memory s.infos s.cpu s.width from number size is.0 (on.0, on.1, above)
+
+-- each word from the last frame's stack pointer on
+pub each_above : (s : StackValue) (frames : List StackFrame) (last : StackFrame) (limit number size : ℕ) (f : StackFrame)
+    → slice_get frames (length frames - 1) ≡ Some last → pointer_bytes s.width ≡ Some size → last.stack_pointer ≤ number * size
+    → word_candidate s number ≡ Some f → length (stack_bytes s) ≤ limit → Contains (words_of (scan s frames limit)) f.instruction
+each_above s frames last limit number size f is_last is above e enough =
+    let on = from_there s last.stack_pointer number size f (is, e) above in
+    let words : words_above s frames ≡ words_from s last.stack_pointer =
+    ap (λ (o : Option StackFrame). option_map_or (λ last. words_from s last.stack_pointer) o (0, 0)) is_last
     in
-    rw (take_all limit (filter_map h (range_with_len 0 words.1)) few) found
+    rw (all_taken s frames limit enough)
+    (kept (candidates_of s frames) f
+    (Contains-append_right (word_candidates s (words_below s frames)) (word_candidates s (words_above s frames)) f
+    (of_words s (words_above s frames) number f (rw words on) e)))
+
+words_of_first : (s : StackValue) (first caller : StackFrame) (callers : List StackFrame) (until : ℕ) → caller.trust ≡ FramePointer
+    → first.frame_pointer ≡ Some until → words_below s (first ∷ caller ∷ callers) ≡ words_between s first.stack_pointer until
+unfolding words_below
+words_of_first s first caller callers until trust points =
+    ap (λ (t : FrameTrust). option_map_or (words_between s first.stack_pointer) (record_by t first) (0, 0)) trust
+    ∙ ap (λ (o : Option ℕ). option_map_or (words_between s first.stack_pointer) o (0, 0)) points
+
+-- each word of the first frame below its until
+pub each_below : (s : StackValue) (first caller : StackFrame) (callers : List StackFrame) (until limit number size : ℕ) (f : StackFrame)
+    → caller.trust ≡ FramePointer → first.frame_pointer ≡ Some until → pointer_bytes s.width ≡ Some size
+    → first.stack_pointer ≤ number * size → number * size + size ≤ until → word_candidate s number ≡ Some f
+    → length (stack_bytes s) ≤ limit → Contains (words_of (scan s (first ∷ caller ∷ callers) limit)) f.instruction
+each_below s first caller callers until limit number size f trust points is above high e enough =
+    let frames = first ∷ caller ∷ callers in
+    let on = below s.region s.modules s.memory s.infos s.cpu s.width first.stack_pointer until number size is (from_there s first.stack_pointer number size f (is, e) above) high in
+    rw (all_taken s frames limit enough)
+    (kept (candidates_of s frames) f
+    (Contains-append_left (word_candidates s (words_below s frames)) (word_candidates s (words_above s frames)) f
+    (of_words s (words_below s frames) number f (rw (words_of_first s first caller callers until trust points) on) e)))
+
+-- ---- none twice
+
+AllWords : (p : ℕ → Bool) (test : StackFrame → Bool) (fs : List StackFrame) → ((f : StackFrame) → test f ≡ true → p f.instruction ≡ false)
+    → AllByRecursion (λ w. p w ≡ false) (words_of (filter test fs))
+AllWords p test [] passes = tt
+AllWords p test (f ∷ fs) passes = by (test f) refl (AllWords p test fs passes)
+  where
+    by : (b : Bool) → test f ≡ b → AllByRecursion (λ w. p w ≡ false) (words_of (filter test fs))
+        → AllByRecursion (λ w. p w ≡ false) (words_of (cond b (f ∷ filter test fs) (filter test fs)))
+    by true e rest = (passes f e, rest)
+    by false e rest = rest
+
+not_true : (b : Bool) → not b ≡ true → b ≡ false
+not_true true e = cc
+not_true false e = refl
+
+each_left : (test : StackFrame → Bool) (p : ℕ → Bool) (fs : List StackFrame) → AllByRecursion (λ w. p w ≡ false) (words_of fs)
+    → AllByRecursion (λ w. p w ≡ false) (words_of (filter test fs))
+each_left test p [] all = tt
+each_left test p (f ∷ fs) all = by (test f) (each_left test p fs all.1)
+  where
+    by : (b : Bool) → AllByRecursion (λ w. p w ≡ false) (words_of (filter test fs))
+        → AllByRecursion (λ w. p w ≡ false) (words_of (cond b (f ∷ filter test fs) (filter test fs)))
+    by true rest = (all.0, rest)
+    by false rest = rest
+
+distinct_left : (test : StackFrame → Bool) (fs : List StackFrame) → IsDistinct ◌==◌ (words_of fs) → IsDistinct ◌==◌ (words_of (filter test fs))
+unfolding IsDistinct
+distinct_left test [] d = tt
+distinct_left test (f ∷ fs) d = by (test f) (distinct_left test fs d.1)
+  where
+    by : (b : Bool) → IsDistinct ◌==◌ (words_of (filter test fs)) → IsDistinct ◌==◌ (words_of (cond b (f ∷ filter test fs) (filter test fs)))
+    by true rest = (each_left test (λ w. f.instruction == w) fs d.0, rest)
+    by false rest = rest
+
+distinct_firsts : (fs : List StackFrame) → IsDistinct ◌==◌ (words_of (firsts fs))
+unfolding IsDistinct
+distinct_firsts [] = tt
+distinct_firsts (f ∷ fs) = (
+  AllWords (λ w. f.instruction == w) (is_other f) (firsts fs) (λ g passes. not_true (f.instruction == g.instruction) passes),
+  distinct_left (is_other f) (firsts fs) (distinct_firsts fs),
+)
+
+each_taken : (p : ℕ → Bool) (n : ℕ) (fs : List StackFrame) → AllByRecursion (λ w. p w ≡ false) (words_of fs)
+    → AllByRecursion (λ w. p w ≡ false) (words_of (take n fs))
+each_taken p zero fs all = tt
+each_taken p (suc n) [] all = tt
+each_taken p (suc n) (f ∷ fs) all = (all.0, each_taken p n fs all.1)
+
+distinct_taken : (n : ℕ) (fs : List StackFrame) → IsDistinct ◌==◌ (words_of fs) → IsDistinct ◌==◌ (words_of (take n fs))
+unfolding IsDistinct
+distinct_taken zero fs d = tt
+distinct_taken (suc n) [] d = tt
+distinct_taken (suc n) (f ∷ fs) d = (each_taken (λ w. f.instruction == w) n fs d.0, distinct_taken n fs d.1)
+
+-- no return address twice
+pub distinct_scan : (s : StackValue) (frames : List StackFrame) (limit : ℕ) → IsDistinct ◌==◌ (words_of (scan s frames limit))
+distinct_scan s frames limit = distinct_taken limit (firsts (candidates_of s frames)) (distinct_firsts (candidates_of s frames))

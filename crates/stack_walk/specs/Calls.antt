@@ -1,6 +1,6 @@
 -- Which addresses may be returned to: those after a call, past the headers of a module, where
 -- memory may be run.
-use Rattle.std.specs.Prelude.{ℕ, ◌+◌, ◌-◌, ◌*◌, ◌==◌, ◌/◌, ◌%◌, ◌&&◌, ◌||◌, Bool, true, false, nat_le, nat_lt}
+use Rattle.std.specs.Prelude.{ℕ, ◌+◌, ◌-◌, ◌==◌, ◌/◌, ◌%◌, ◌&&◌, ◌||◌, Bool, true, false, nat_le, nat_lt}
 use Rattle.std.specs.Prelude.{length, List, [], ◌∷◌, Option, Some, None, if◌then◌else◌, slice_range}
 use Rattle.std.specs.Option.{option_and_then, option_map_or}
 use Rattle.minidump.specs.declared.system_info.Cpu.{Cpu}

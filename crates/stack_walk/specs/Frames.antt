@@ -1,9 +1,10 @@
 -- The frames of a thread: that of its context, its callers by the frame records that the stack
 -- holds, and the words of the stack that may be return addresses.
-use Rattle.std.specs.Prelude.{◌≡◌, ℕ, ◌+◌, ◌*◌, ◌/◌, ◌^◌, max, nat_lt, ◌&&◌, Bool, List, [], ◌∷◌, ◌++◌}
-use Rattle.std.specs.Prelude.{codes, length, take, Option, Some, None, if◌then◌else◌, unwrap_or}
+use Rattle.std.specs.Prelude.{◌≡◌, ℕ, ◌+◌, ◌-◌, ◌*◌, ◌/◌, ◌^◌, ◌==◌, max, min, nat_lt, ◌&&◌, not, Bool}
+use Rattle.std.specs.Prelude.{List, [], ◌∷◌, ◌++◌, codes, length, take, slice_get, Option, Some, None}
+use Rattle.std.specs.Prelude.{if◌then◌else◌, unwrap_or}
 use Rattle.std.specs.Int.{div_ceil}
-use Rattle.std.specs.List.{filter_map, range_with_len}
+use Rattle.std.specs.List.{filter, filter_map, range_with_len}
 use Rattle.std.specs.Option.{option_and_then, option_map, option_map_or}
 use Rattle.minidump.specs.declared.MinidumpContext.{MinidumpContext}
 use Rattle.minidump.specs.declared.MinidumpRawContext.{MinidumpRawContext}
@@ -20,7 +21,8 @@ use Rattle.minidump.specs.Below.MemoryLists.UnifiedInfo.{InfoRegion, info_list, 
 use Rattle.minidump.specs.Below.Modules.Module.{ModuleValue}
 use Rattle.minidump.specs.Below.System.Cpu.{pointer_bytes}
 use Rattle.minidump.specs.Promise.{module_list_stream}
-use Rattle.stack_walk.specs.declared.frame.FrameTrust.TheVariants.{Context, FramePointer, Scan}
+use Rattle.stack_walk.specs.declared.frame.FrameTrust.{FrameTrust}
+use Rattle.stack_walk.specs.declared.frame.FrameTrust.TheVariants.{Context, Cfi, FramePointer, Scan}
 use Rattle.stack_walk.specs.declared.frame.StackFrame.{StackFrame}
 use Rattle.stack_walk.specs.declared.stack.Stack.{Stack}
 use Rattle.stack_walk.specs.Calls.{is_past_headers, may_end_call}
@@ -161,11 +163,21 @@ candidate_at s size address =
     if nat_lt (address + size) (2 ^ 64) then option_and_then (candidate_by s (address + size))
     (pointer_at s address) else None
 
+-- the same, where the width of an address is known
+abbrev pub address_candidate : StackValue → ℕ → Option StackFrame
+address_candidate s address =
+    option_and_then (λ size. candidate_at s size address) (pointer_bytes s.width)
+
 -- the candidate of an aligned word, by its number: how many words lie below it in the space of
 -- addresses
 unfoldable pub word_candidate : StackValue → ℕ → Option StackFrame
 word_candidate s number = option_and_then (λ size. candidate_at s size (number * size))
     (pointer_bytes s.width)
+
+-- the candidates of aligned words, in their order: of as many as the second number says from the
+-- first on
+abbrev pub word_candidates : StackValue → ℕ × ℕ → List StackFrame
+word_candidates s words = filter_map (word_candidate s) (range_with_len words.0 words.1)
 
 -- the number of the first aligned word at or above an address in a region, and at most how many
 -- words the region has from there
@@ -178,19 +190,57 @@ words_in width region from = option_map_or
 abbrev pub words_from : StackValue → ℕ → ℕ × ℕ
 words_from s from = option_map_or (λ region. words_in s.width region from) s.region (0, 0)
 
--- the candidates of the aligned words from an address on, in their order, at most so many
-abbrev pub scan : StackValue → ℕ → ℕ → List StackFrame
-scan s from limit =
-    let words = words_from s from in take limit
-    (filter_map (λ index. word_candidate s (words.0 + index)) (range_with_len 0 words.1))
+-- how many aligned words lie below an address in the space of addresses
+abbrev words_until : PointerWidth → ℕ → ℕ
+words_until width address = option_map_or (λ size. address / size) (pointer_bytes width) 0
+
+-- the aligned words of a stack from an address on that lie below another
+abbrev pub words_between : StackValue → ℕ → ℕ → ℕ × ℕ
+words_between s from until =
+    let words = words_from s from in (words.0, min words.1 (words_until s.width until - words.0))
+
+-- the address of a frame's record, where its caller is by that
+abbrev pub record_by : FrameTrust → StackFrame → Option ℕ
+record_by Context f = None
+record_by Cfi f = None
+record_by FramePointer f = f.frame_pointer
+record_by Scan f = None
+
+-- the words of the first frame of a walk below its record, where its caller is by that: a function
+-- without a record of its own has the frame pointer of a caller further out, and the return
+-- addresses between them stand there
+unfoldable pub words_below : StackValue → List StackFrame → ℕ × ℕ
+words_below s (first ∷ caller ∷ callers) = option_map_or (words_between s first.stack_pointer)
+    (record_by caller.trust first) (0, 0)
+words_below s _ = (0, 0)
+
+-- the words from the stack pointer of the last frame of a walk on
+abbrev pub words_above : StackValue → List StackFrame → ℕ × ℕ
+words_above s frames = option_map_or (λ last. words_from s last.stack_pointer)
+    (slice_get frames (length frames - 1)) (0, 0)
+
+-- whether a frame has another return address
+abbrev pub is_other : StackFrame → StackFrame → Bool
+is_other f g = not (f.instruction == g.instruction)
+
+-- of frames with one return address the first
+abbrev pub firsts : List StackFrame → List StackFrame
+firsts [] = []
+firsts (f ∷ fs) = f ∷ filter (is_other f) (firsts fs)
+
+-- the candidates of a walk with these frames, each return address once and at most so many: those
+-- of the words of the first frame below its record, and then those from the last frame's stack
+-- pointer on
+abbrev pub scan : StackValue → List StackFrame → ℕ → List StackFrame
+scan s frames limit = take limit (firsts (word_candidates s (words_below s frames)
+    ++ word_candidates s (words_above s frames)))
 
 -- ---- both
 
--- the frames of a context: its own, its callers, and the candidates from the last one's stack
--- pointer on, at most so many
+-- the frames of a context: its own, its callers, and the candidates of these, at most so many
 pub record AreFrames (s : StackValue) (c : MinidumpContext) (limit : ℕ)
     (frames : List StackFrame) : Type 0 where
   pub walk : List StackFrame
   pub last : StackFrame
   pub is_walk : IsWalk s (context_frame c) walk last
-  pub whole : frames ≡ walk ++ scan s last.stack_pointer limit
+  pub whole : frames ≡ walk ++ scan s walk limit

@@ -5,4 +5,5 @@ pub mod Frames
 pub mod WalkEnd
 pub mod Walk
 pub mod Evidence
+pub mod Found
 pub mod Threads

@@ -2,6 +2,7 @@
 -- memory.
 use Rattle.std.specs.Prelude.{ℕ, ◌-◌, Bool, true, is_some, nat_le, List, Option, Some, None}
 use Rattle.std.specs.Prelude.{if◌then◌else◌}
+use Rattle.std.specs.List.{enumerate_from}
 use Rattle.std.specs.Option.{option_and_then, option_map, option_map_or}
 use Rattle.minidump.specs.Below.Index.Lookup.{looked_up}
 use Rattle.minidump.specs.Below.MemoryLists.UnifiedInfo.{InfoRegion, range_of_info_region}
@@ -30,6 +31,11 @@ lookup_address f = lookup_by f.trust f.instruction
 -- the kept module that contains an address
 abbrev pub module_at : List ModuleValue → Option ℕ → Option ModuleValue
 module_at modules address = option_and_then (looked_up range_of_module modules) address
+
+-- the index of the kept module that contains an address, and the offset in that
+abbrev pub module_place : List ModuleValue → ℕ → Option (ℕ × ℕ)
+module_place modules address = option_map (λ p. (p.0, address - p.1.raw.base_of_image))
+    (looked_up (λ p. range_of_module p.1) (enumerate_from 0 modules) address)
 
 -- the offset of an address in that module
 abbrev pub module_offset_at : List ModuleValue → Option ℕ → Option ℕ

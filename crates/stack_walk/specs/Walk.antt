@@ -60,15 +60,14 @@ walk_of w = record {
   end = w.end;
 }
 
--- the walk of a context: its frame and the callers, the candidates from the last one's stack
--- pointer on, at most so many, and why there is no further caller
+-- the walk of a context: its frame and the callers, the candidates of these, at most so many, and
+-- why there is no further caller
 abbrev pub walk_in : StackValue → MinidumpContext → ℕ → WalkValue
 walk_in s c limit =
-    let callers = callers_in s (context_frame c) in
-    let last = outermost (context_frame c) callers in record {
+    let callers = callers_in s (context_frame c) in record {
       frames = context_frame c ∷ callers;
-      candidates = scan s last.stack_pointer limit;
-      end = walk_end s last;
+      candidates = scan s (context_frame c ∷ callers) limit;
+      end = walk_end s (outermost (context_frame c) callers);
     }
 
 -- all frames of a walk, the candidates last

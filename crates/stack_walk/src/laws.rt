@@ -1,6 +1,7 @@
 //! Laws of frames, over the definitions that the contract of [`crate::frames`] names.
-ghost use Rattle.std.specs.Prelude.{◌≡◌, ◌↔◌, ◌≤◌, ◌+◌, ◌*◌, ℕ, All, Contains, List, ◌∷◌, Some};
-ghost use Rattle.std.specs.Prelude.{length};
+ghost use Rattle.std.specs.Prelude.{◌≡◌, ◌↔◌, ◌≤◌, ◌+◌, ◌-◌, ◌*◌, ◌==◌, ℕ, All, Contains, List, ◌∷◌};
+ghost use Rattle.std.specs.Prelude.{Some, length, map, slice_get};
+ghost use Rattle.std.specs.List.{IsDistinct};
 ghost use Rattle.minidump.specs.declared.MinidumpContext.{MinidumpContext};
 ghost use Rattle.minidump.specs.Below.Bytes.Exact.{IsExact};
 ghost use Rattle.minidump.specs.Below.System.Cpu.{pointer_bytes};
@@ -10,6 +11,7 @@ ghost use Rattle.minidump.specs.declared.MinidumpRawContext.{MinidumpRawContext}
 ghost use Rattle.stack_walk.specs.Frames.{AreFrames, StackValue, instruction_pointer_in, scan, stack_bytes};
 ghost use Rattle.stack_walk.specs.Frames.{stack_pointer_in, word_candidate};
 ghost use Rattle.stack_walk.specs.Walk.{frames_in};
+ghost use Rattle.stack_walk.specs.declared.frame.FrameTrust.TheVariants.{FramePointer};
 ghost use Rattle.stack_walk.specs.declared.frame.StackFrame.{StackFrame};
 
 use crate::{FrameTrust, StackFrame, WalkEnd};
@@ -46,13 +48,30 @@ pub fn frames_are_few()
         → 8 * length frames ≤ length (stack_bytes s) + 8 * (1 + limit) }
 {}
 
-/// The scan from an address on leaves out no aligned word at or above it that has a candidate, if
-/// as many are asked for as the stack has bytes.
+/// The candidates of a walk leave out no return address of an aligned word from the last frame's
+/// stack pointer on, if as many are asked for as the stack has bytes; nor of one of the first frame
+/// below its record, where its caller is by that.
 pub fn each_aligned_word_is_scanned()
-    ensures { (s : StackValue) (from limit number size : ℕ) (f : StackFrame) → pointer_bytes s.width
-        ≡ Some size
-        → from ≤ number * size → word_candidate s number ≡ Some f → length (stack_bytes s) ≤ limit
-        → Contains (scan s from limit) f }
+    ensures above { (s : StackValue) (frames : List StackFrame) (last : StackFrame)
+        (limit number size : ℕ) (f : StackFrame)
+        → slice_get frames (length frames - 1) ≡ Some last → pointer_bytes s.width ≡ Some size
+        → last.stack_pointer ≤ number * size → word_candidate s number ≡ Some f
+        → length (stack_bytes s) ≤ limit
+        → Contains (map (λ g. g.instruction) (scan s frames limit)) f.instruction }
+    ensures below { (s : StackValue) (first caller : StackFrame) (callers : List StackFrame)
+        (record_address limit number size : ℕ) (f : StackFrame)
+        → caller.trust ≡ FramePointer → first.frame_pointer ≡ Some record_address
+        → pointer_bytes s.width ≡ Some size → first.stack_pointer ≤ number * size
+        → number * size + size ≤ record_address → word_candidate s number ≡ Some f
+        → length (stack_bytes s) ≤ limit
+        → Contains (map (λ g. g.instruction) (scan s (first ∷ caller ∷ callers) limit))
+        f.instruction }
+{}
+
+/// No two candidates of a walk have the same return address.
+pub fn each_return_address_is_once()
+    ensures { (s : StackValue) (frames : List StackFrame) (limit : ℕ)
+        → IsDistinct ◌==◌ (map (λ g. g.instruction) (scan s frames limit)) }
 {}
 
 /// A frame equals the same frame alone, and a clone of it is the same frame. The same holds of how

@@ -2,7 +2,7 @@
 //!
 //! - The first frame is that of the thread's context: [`FrameTrust::Context`].
 //! - Its callers follow by frame pointers: [`FrameTrust::FramePointer`].
-//! - After the last of them, the words of the stack that may be return addresses are candidates:
+//! - Words of the stack that may be return addresses, and that no record leads to, are candidates:
 //!   [`FrameTrust::Scan`].
 //!
 //! [`walk_stack`] finds them by a context and a [`Stack`], [`walk_thread`] those of a thread, by what
@@ -24,11 +24,12 @@
 //!   pointer: [`laws::each_caller_has_its_evidence`].
 //! - The walk ends on every stack, and its length is bounded by that of the stack:
 //!   [`laws::frames_are_few`].
-//! - The scan takes the first candidates, as many as are asked for, and leaves out none if that is
-//!   enough: [`laws::each_aligned_word_is_scanned`].
+//! - The scan takes the first candidates, as many as are asked for, and leaves out no return address
+//!   if that is enough: [`laws::each_aligned_word_is_scanned`]. None is there twice:
+//!   [`laws::each_return_address_is_once`].
 //! - The module of a frame and the offset in it are looked up by the instruction pointer of a
 //!   context, or by the address one below a return address: [`StackFrame::module`],
-//!   [`StackFrame::module_offset`].
+//!   [`StackFrame::module_offset`]. [`module_place`] gives the index of a module for an address.
 //!
 //! The proofs use the contracts and the laws of `minidump`, and nothing below.
 #![tactic(auto)]
@@ -42,12 +43,14 @@ mod end;
 mod frame;
 pub mod laws;
 mod lookups;
+mod scan;
 mod stack;
 mod thread;
 mod walk;
 
 pub use end::WalkEnd;
 pub use frame::{FrameTrust, StackFrame};
+pub use lookups::module_place;
 use minidump::{Error, MinidumpContext};
 pub use stack::Stack;
 use std::alloc::Global;
@@ -55,17 +58,24 @@ pub use thread::{Process, thread_frames, walk_context, walk_thread};
 pub use walk::{Walk, walk_stack};
 
 /// Returns the frames of the thread that has this context and this stack: that of the context, its
-/// callers by frame pointers, and after them at most `limit` candidates.
+/// callers by frame pointers, and after them at most `limit` candidates, in the order of the stack.
 ///
 /// - The frame pointer is `ebp`, `rbp`, or ARM's `fp`. It points to the frame record, two words of
 ///   the stack: the saved frame pointer, and the return address, which a kept module contains. A
 ///   record lies at or above the stack pointer of its frame, which for a caller is the address
 ///   after the record that leads to it. The last frame is the one whose frame pointer leads to no
 ///   record. Bits by which ARM64 authenticates a return address are kept.
-/// - A candidate is an aligned word from the last frame's stack pointer on that may be a return
-///   address: a kept module contains it, past its first page, which has the module's headers; the
-///   memory there may be run, as far as is known of it; and on x86, x86-64 and ARM64 a call ends
-///   before it, as far as the dump has these bytes.
+/// - A candidate is an aligned word that may be a return address: a kept module contains it, past its
+///   first page, which has the module's headers; the memory there may be run, as far as is known of
+///   it; and on x86, x86-64 and ARM64 a call ends before it, as far as the dump has these bytes.
+/// - The words from the last frame's stack pointer on are looked at, and before them those of the
+///   first frame below its record, if it has a caller: the frame pointer of a function without a
+///   record of its own is that of a caller further out, and the return addresses of the callers
+///   between them stand there.
+/// - Of words that hold one return address the lowest alone is a candidate, and `limit` counts no
+///   other.
+///   [`Stack::candidates`] finds them in one pass over these words, with a look-up in the return
+///   addresses that it has for each candidate.
 ///
 /// A module contains a return address if it contains the address before it, which lies in the call.
 /// The only error is `OutOfMemory`.

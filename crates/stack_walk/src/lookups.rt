@@ -3,8 +3,9 @@ ghost use Rattle.minidump.specs.Below.MemoryLists.UnifiedInfo.{info_list, info_r
 ghost use Rattle.minidump.specs.Promise.{module_list_stream};
 ghost use Rattle.stack_walk.specs.Calls.{is_past_headers};
 ghost use Rattle.stack_walk.specs.Lookups.{call_site, is_code, may_be_run, module_offset_at};
+ghost use Rattle.stack_walk.specs.Lookups.{module_place};
 
-use minidump::{MinidumpModuleList, UnifiedMemoryInfoList};
+use minidump::{MinidumpModuleList, Module, UnifiedMemoryInfoList};
 
 // Returns the address before a return address, which lies in the call.
 pub(crate) fn call_site(address: u64) -> Option<u64>
@@ -19,6 +20,15 @@ pub(crate) fn offset_at(modules: &MinidumpModuleList, address: u64) -> Option<u6
 {
     let module = modules.module_at_address(address)?;
     Some(address - module.raw.base_of_image)
+}
+
+/// Returns the index of the kept module that contains an address in the list of modules, and the
+/// offset in that, or `None` if no kept module does.
+pub fn module_place(modules: &MinidumpModuleList, address: u64) -> Option<(usize, u64)>
+    ensures { result ≡ module_place (module_list_stream.value modules.now) address }
+{
+    let (index, module) = modules.numbered_module_at_address(address)?;
+    Some((index, address.saturating_sub(module.base_address())))
 }
 
 // Tells whether a kept module contains an address.

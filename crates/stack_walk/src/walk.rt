@@ -11,7 +11,8 @@ use std::alloc::{AllocError, Global};
 pub struct Walk {
     /// The frame of the context and its callers by frame pointers, the innermost first.
     pub frames: Vec<StackFrame>,
-    /// The words from the last frame's stack pointer on that may be return addresses.
+    /// The candidates: words of the stack that may be return addresses, as [`frames`](crate::frames)
+    /// says.
     pub candidates: Vec<StackFrame>,
     /// Why the last frame has no caller.
     pub end: WalkEnd,
@@ -41,7 +42,7 @@ pub fn walk_stack(
     ensures memory { IsOkUnless result Error.OutOfMemory }
 {
     let (frames, last) = climb(alloc, stack, StackFrame::of_context(context))?;
-    let candidates = stack.candidates(alloc, last.stack_pointer, limit)?;
+    let candidates = stack.candidates(alloc, frames.as_slice(), limit)?;
     Ok(Walk {
         frames,
         candidates,

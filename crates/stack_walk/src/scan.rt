@@ -1,0 +1,206 @@
+//! The candidates of a walk.
+ghost use Rattle.std.specs.Prelude.{◌≡◌, ◌+◌, ◌++◌, ◌∷◌, [], ℕ, List, true, cond, if◌then◌else◌};
+ghost use Rattle.std.specs.Prelude.{IfOk, OnOk};
+ghost use Rattle.std.specs.BTreeMap.{is_at};
+ghost use Rattle.std.specs.BTreeSet.{contains};
+ghost use Rattle.std.specs.Ordering.{nat_cmp};
+ghost use Rattle.stack_walk.specs.declared.frame.StackFrame.{StackFrame};
+ghost use Rattle.stack_walk.specs.Found.{AreFound};
+ghost use Rattle.stack_walk.specs.Frames.{address_candidate, candidate_at, may_have_called};
+ghost use Rattle.stack_walk.specs.Frames.{record_by, scan, stack_of, word_candidate};
+ghost use Rattle.stack_walk.specs.Frames.{word_candidates, words_above, words_below};
+ghost use Rattle.stack_walk.specs.Frames.{words_between, words_from};
+
+use crate::calls::may_end_call;
+use crate::lookups::{call_site, is_past_headers, may_be_run};
+use crate::{FrameTrust, Stack, StackFrame};
+use minidump::system_info::PointerWidth;
+use std::alloc::{AllocError, Global};
+use std::collections::BTreeSet;
+
+impl Stack<'_, '_> {
+    /// Returns the candidate of the word at an address: the frame that the word may be the return
+    /// address of. A walk asks for those at multiples of the width of an address.
+    pub fn candidate_at(&self, address: u64) -> Option<StackFrame>
+        ensures { result ≡ address_candidate (stack_of self.now) address }
+    {
+        let size = self.width.size_in_bytes()?;
+        candidate_of(self, size as u64, address)
+    }
+
+    /// Returns at most `limit` candidates of a walk with these frames, each return address once, by
+    /// the lowest word that holds it: of the aligned words of the first frame below its record, if
+    /// its caller is by that, and then of those from the last frame's stack pointer on. The only
+    /// error is that no memory is left.
+    pub fn candidates(
+        &self,
+        alloc: Global,
+        frames: &[StackFrame],
+        limit: usize,
+    ) -> Result<Vec<StackFrame>, AllocError>
+        ensures { IfOk result (λ found. found.items ≡ scan (stack_of self.now) frames.now limit) }
+    {
+        let mut found = Found {
+            frames: Vec::new(alloc),
+            seen: BTreeSet::new(alloc),
+        };
+        found.add_words(self, words_below(self, frames), limit)?;
+        found.add_words(self, words_above(self, frames), limit)?;
+        Ok(found.frames)
+    }
+}
+
+// The candidates so far, and their return addresses.
+#[derive(Drop)]
+struct Found {
+    frames: Vec<StackFrame>,
+    seen: BTreeSet<u64>,
+}
+
+impl Found {
+    // Adds the candidates of aligned words, by the number of the first and how many there are, up
+    // to a limit of all.
+    fn add_words(
+        &mut self,
+        stack: &Stack<'_, '_>,
+        words: (u64, usize),
+        limit: usize,
+    ) -> Result<(), AllocError>
+        ensures { OnOk result ((before : List StackFrame) → AreFound limit before self.old
+            → AreFound limit (before ++ word_candidates (stack_of stack.now) words) self.new) }
+    {
+        let (first, count) = words;
+        for index in 0..count {
+            if self.frames.len() >= limit {
+                return Ok(());
+            }
+            if let Some(candidate) = word_candidate(stack, first, index) {
+                self.add(candidate)?;
+            }
+        }
+        Ok(())
+    }
+
+    // Adds a candidate, if none with its return address is there.
+    fn add(&mut self, candidate: StackFrame) -> Result<(), AllocError>
+        ensures frames { OnOk result (self.new.frames.items ≡ self.old.frames.items
+            ++ (if contains nat_cmp self.old.seen candidate.instruction then []
+            else candidate ∷ [])) }
+        ensures seen { OnOk result ((word : ℕ) → contains nat_cmp self.new.seen word
+            ≡ cond (is_at (nat_cmp candidate.instruction) word) true
+            (contains nat_cmp self.old.seen word)) }
+    {
+        if self.seen.insert(candidate.instruction)? {
+            self.frames.push(candidate)?;
+        }
+        Ok(())
+    }
+}
+
+// ---- the words
+
+// Returns the aligned words of the first frame of a walk below its record, by the number of the
+// first and how many there are.
+#[tactic(auto, unfolding(crate::specs::Frames::words_below))]
+fn words_below(stack: &Stack<'_, '_>, frames: &[StackFrame]) -> (u64, usize)
+    ensures { result ≡ words_below (stack_of stack.now) frames.now }
+{
+    match frames {
+        [first, caller, ..] => match record_by(caller.trust, first) {
+            Some(record) => words_between(stack, first.stack_pointer, record),
+            None => (0, 0),
+        },
+        _ => (0, 0),
+    }
+}
+
+// Returns the address of a frame's record, if its caller is by that.
+fn record_by(trust: FrameTrust, frame: &StackFrame) -> Option<u64>
+    ensures { result ≡ record_by trust frame.now }
+{
+    match trust {
+        FrameTrust::FramePointer => frame.frame_pointer,
+        FrameTrust::Context | FrameTrust::Cfi | FrameTrust::Scan => None,
+    }
+}
+
+// Returns the aligned words from the last frame's stack pointer on.
+fn words_above(stack: &Stack<'_, '_>, frames: &[StackFrame]) -> (u64, usize)
+    ensures { result ≡ words_above (stack_of stack.now) frames.now }
+{
+    match frames.last() {
+        Some(last) => words_from(stack, last.stack_pointer),
+        None => (0, 0),
+    }
+}
+
+// Returns the aligned words from an address on that lie below another.
+fn words_between(stack: &Stack<'_, '_>, from: u64, until: u64) -> (u64, usize)
+    ensures { result ≡ words_between (stack_of stack.now) from until }
+{
+    let (first, count) = words_from(stack, from);
+    let below = match stack.width {
+        PointerWidth::Bits32 => until / 4,
+        PointerWidth::Bits64 => until / 8,
+        PointerWidth::Unknown => 0,
+    };
+    let most = below.saturating_sub(first);
+    (first, (count as u64).min(most) as usize)
+}
+
+// Returns the number of the first aligned word from an address on, and how many words there may be
+// from there.
+fn words_from(stack: &Stack<'_, '_>, from: u64) -> (u64, usize)
+    ensures { result ≡ words_from (stack_of stack.now) from }
+{
+    let Some(memory) = stack.memory else {
+        return (0, 0);
+    };
+    let from = from.max(memory.base_address());
+    let len = memory.bytes().len();
+    match stack.width {
+        PointerWidth::Bits32 => (from.div_ceil(4), len / 4),
+        PointerWidth::Bits64 => (from.div_ceil(8), len / 8),
+        PointerWidth::Unknown => (0, 0),
+    }
+}
+
+// ---- the candidate of a word
+
+// Returns the candidate of the aligned word that so many words come before.
+#[tactic(auto, unfolding(crate::specs::Frames::word_candidate))]
+fn word_candidate(stack: &Stack<'_, '_>, first: u64, index: usize) -> Option<StackFrame>
+    ensures { result ≡ word_candidate (stack_of stack.now) (first + index) }
+{
+    let size = stack.width.size_in_bytes()? as u64;
+    let number = first.checked_add(index as u64)?;
+    candidate_of(stack, size, number.checked_mul(size)?)
+}
+
+// Returns the candidate of the word at an address, if it may be a return address.
+fn candidate_of(stack: &Stack<'_, '_>, size: u64, address: u64) -> Option<StackFrame>
+    ensures { result ≡ candidate_at (stack_of stack.now) size address }
+{
+    let stack_pointer = address.checked_add(size)?;
+    let word = stack.word_at(address)?;
+    let call = call_site(word)?;
+    if may_have_called(stack, call) {
+        Some(StackFrame {
+            instruction: word,
+            stack_pointer,
+            frame_pointer: None,
+            trust: FrameTrust::Scan,
+        })
+    } else {
+        None
+    }
+}
+
+// Tells whether the last byte of a call may stand at an address.
+fn may_have_called(stack: &Stack<'_, '_>, call: u64) -> bool
+    ensures { result ≡ may_have_called (stack_of stack.now) call }
+{
+    is_past_headers(stack.modules, call)
+        && may_be_run(stack.infos, call)
+        && may_end_call(stack.cpu, stack.code, call)
+}
