@@ -5,3 +5,5 @@ pub mod ReachLemmas
 pub mod UpLemmas
 pub mod WithoutLemmas
 pub mod FewLemmas
+pub mod RestartLemmas
+pub mod PlainLemmas

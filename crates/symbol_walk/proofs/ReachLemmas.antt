@@ -1,5 +1,5 @@
 -- The caller of a frame stands on the stack, above it, or for a context's frame at it.
-use Rattle.std.proofs.Common.{◌≡◌, ◌∙◌, ◌<◌, ◌≤◌, ◌+◌, ◌-◌, ◌*◌, ◌^◌, ◌∷◌, [], ℕ, zero, suc, List, Option, Some, None, Bool, true, false, ap, length, refl, sym, subst, take, arith, ◌⊎◌, inl, inr}
+use Rattle.std.proofs.Common.{◌≡◌, ◌∙◌, ◌<◌, ◌≤◌, ◌+◌, ◌-◌, ◌*◌, ◌^◌, ◌∷◌, [], ℕ, List, Option, Some, None, Bool, true, false, ap, length, refl, sym, subst, arith, ◌⊎◌, inl, inr}
 use Rattle.std.specs.Prelude.{cond, nat_le, nat_lt, is_some, ◌&&◌, if◌then◌else◌}
 use Rattle.std.specs.List.{cons_option, filter_map, find, range_with_len}
 use Rattle.std.specs.Option.{option_and_then, option_map, option_map_or, option_or}
@@ -9,7 +9,7 @@ use Rattle.minidump.specs.Below.System.Cpu.{pointer_bytes}
 use Rattle.stack_walk.specs.declared.frame.FrameTrust.{FrameTrust}
 use Rattle.stack_walk.specs.declared.frame.FrameTrust.TheVariants.{Context, Cfi, FramePointer, Scan}
 use Rattle.stack_walk.specs.declared.frame.StackFrame.{StackFrame}
-use Rattle.stack_walk.specs.Frames.{StackValue, candidate_at, candidate_by, may_have_called, pointer_at, scan, word_candidate, words_from}
+use Rattle.stack_walk.specs.Frames.{StackValue, candidate_at, candidate_by, may_have_called, pointer_at, word_candidate, word_candidates}
 use Rattle.stack_walk.specs.Frames.{caller_of as pointer_caller}
 use Rattle.stack_walk.specs.Lookups.{call_site}
 use Rattle.stack_walk.proofs.CallerLemmas.{base_of, climbs, end_of, failed, has_record, passed, step}
@@ -17,7 +17,7 @@ use Rattle.symbol_walk.specs.declared.rules.Return.{Return}
 use Rattle.symbol_walk.specs.Frames.{IsByRules}
 use Rattle.symbol_walk.specs.Registers.{known_by, known_frame_pointer, known_stack_pointer}
 use Rattle.symbol_walk.specs.Rules.{caller_by, caller_value, caller_with, goes_on, is_above, is_of_context, is_on_stack, returns, rules_at}
-use Rattle.symbol_walk.specs.Scan.{is_called, restart_of, restarts, scanned_words}
+use Rattle.symbol_walk.specs.Scan.{is_called, next_words, restart_of, restarts}
 use Rattle.symbol_walk.specs.Unwinder.{FrameValue, UnwinderValue, pointer_frame}
 use Rattle.symbol_walk.specs.Walk.{caller_by_rules, caller_of, caller_without, end_by_rules}
 
@@ -183,11 +183,6 @@ each_given : {X Y : Type 0} (P : Y → Type 0) (h : X → Option Y) → ((x : X)
 each_given P h gives [] = tt
 each_given P h gives (x ∷ xs) = each_more P (h x) (filter_map h xs) (gives x) (each_given P h gives xs)
 
-each_taken : {X : Type 0} (P : X → Type 0) (n : ℕ) (xs : List X) → Each P xs → Each P (take n xs)
-each_taken P zero xs each = tt
-each_taken P (suc n) [] each = tt
-each_taken P (suc n) (x ∷ xs) each = (each.0, each_taken P n xs each.1)
-
 -- what is found has passed the test, and is one of the list
 found_passes : {X : Type 0} (P : X → Type 0) (test : X → Bool) (xs : List X) (y : X) → Each P xs → find test xs ≡ Some y → (test y ≡ true) × P y
 found_passes P test [] y each e = cc
@@ -230,28 +225,20 @@ of_number s number f e =
     let word = step (candidate_by s (number * size.0 + size.0)) (pointer_at s (number * size.0)) f low.1 in
     by_word s (number * size.0 + size.0) word.0 f word.2
 
-each_scanned : (s : StackValue) (from limit : ℕ) → Each IsScanned (scan s from limit)
-each_scanned s from limit =
-    each_taken IsScanned limit _
-    (each_given IsScanned (λ index. word_candidate s ((words_from s from).0 + index)) (λ index f is. of_number s _ f is)
-    (range_with_len 0 (words_from s from).1))
+each_scanned : (s : StackValue) (words : ℕ × ℕ) → Each IsScanned (word_candidates s words)
+each_scanned s words = each_given IsScanned (word_candidate s) (of_number s) (range_with_len words.0 words.1)
 
-restarts_there : (u : UnwinderValue) (f : StackFrame) (size : ℕ) (g : StackFrame) → restarts u f size g ≡ true → goes_on u.stack f g.stack_pointer ≡ true
+restarts_there : (u : UnwinderValue) (f g : StackFrame) → restarts u f g ≡ true → goes_on u.stack f g.stack_pointer ≡ true
 unfolding restarts
-restarts_there u f size g e =
-    (both (goes_on u.stack f g.stack_pointer) (nat_le (g.stack_pointer - f.stack_pointer) (scanned_words f.trust * size) && is_called u g) e).0
+restarts_there u f g e = (both (goes_on u.stack f g.stack_pointer) (is_called u g) e).0
 
 by_scan : (u : UnwinderValue) (f g : StackFrame) → restart_of u f ≡ Some g → Reached u f g × (is_cfi g.trust ≡ false)
 unfolding restart_of
 by_scan u f g e =
-    let size =
-    step (λ size. find (restarts u f size) (scan u.stack f.stack_pointer (scanned_words f.trust))) (pointer_bytes u.stack.width) g e
-    in
-    let is =
-    found_passes IsScanned (restarts u f size.0) (scan u.stack f.stack_pointer (scanned_words f.trust)) g
-    (each_scanned u.stack f.stack_pointer (scanned_words f.trust)) size.2
-    in
-    let there = goes u.stack f g.stack_pointer (restarts_there u f size.0 g is.0) in
+    let size = step (λ size. find (restarts u f) (word_candidates u.stack (next_words f size))) (pointer_bytes u.stack.width) g e in
+    let words = next_words f size.0 in
+    let is = found_passes IsScanned (restarts u f) (word_candidates u.stack words) g (each_scanned u.stack words) size.2 in
+    let there = goes u.stack f g.stack_pointer (restarts_there u f g is.0) in
     let by = is.1 in
     (record { on = there.0; above = there.1; found = rw by refl }, rw by refl)
 

@@ -1,16 +1,16 @@
 -- Without symbols a walk is that by frame pointers.
-use Rattle.std.proofs.Common.{◌≡◌, ◌∙◌, ℕ, ◌-◌, ◌*◌, List, [], ◌∷◌, map, Bool, true, false, Option, Some, None, refl, ap, sym}
-use Rattle.std.specs.Prelude.{◌&&◌, cond, is_some, nat_le, if◌then◌else◌, unwrap_or}
+use Rattle.std.proofs.Common.{◌≡◌, ◌∙◌, ℕ, List, [], ◌∷◌, map, Bool, true, false, Option, Some, None, refl, ap, sym}
+use Rattle.std.specs.Prelude.{◌&&◌, cond, is_some, if◌then◌else◌, unwrap_or}
 use Rattle.std.specs.List.{find}
 use Rattle.std.specs.Option.{option_and_then, option_map, option_map_or, option_or}
 use Rattle.minidump.specs.declared.MinidumpContext.{MinidumpContext}
 use Rattle.minidump.specs.Below.Modules.Module.{ModuleValue}
 use Rattle.minidump.specs.Below.System.Cpu.{pointer_bytes}
 use Rattle.stack_walk.specs.declared.frame.StackFrame.{StackFrame}
-use Rattle.stack_walk.specs.Frames.{StackValue, scan}
+use Rattle.stack_walk.specs.Frames.{StackValue, scan, word_candidates}
 use Rattle.stack_walk.specs.Frames.{AreCallers as ArePointerCallers}
 use Rattle.stack_walk.specs.Frames.{caller_of as pointer_caller}
-use Rattle.stack_walk.specs.Lookups.{lookup_address}
+use Rattle.stack_walk.specs.Lookups.{lookup_address, module_place}
 use Rattle.stack_walk.specs.Walk.{callers_in as pointer_callers}
 use Rattle.stack_walk.specs.Walk.{outermost as pointer_last}
 use Rattle.stack_walk.specs.Walk.{walk_in}
@@ -22,8 +22,8 @@ use Rattle.symbol_walk.specs.declared.walk.SymbolWalkEnd.TheVariants.{Walk}
 use Rattle.symbol_walk.specs.Frames.{AreCallers, HaveNone}
 use Rattle.symbol_walk.specs.Registers.{register_table}
 use Rattle.symbol_walk.specs.Rules.{address_bits, caller_by, end_by, goes_on, rules_at, rules_by}
-use Rattle.symbol_walk.specs.Scan.{in_function, is_called, restart_of, restarts, scanned_words}
-use Rattle.symbol_walk.specs.Symbols.{has_function, module_place, symbols_at, symbols_of_module}
+use Rattle.symbol_walk.specs.Scan.{in_function, is_called, next_words, restart_of, restarts}
+use Rattle.symbol_walk.specs.Symbols.{has_function, symbols_at, symbols_of_module}
 use Rattle.symbol_walk.specs.Unwinder.{FrameValue, UnwinderValue, first_frame, pointer_frame}
 use Rattle.symbol_walk.specs.Walk.{caller_by_rules, caller_of, caller_without, callers_in, end_by_rules, outermost, symbol_walk_in}
 use Rattle.symbol_walk.proofs.ReachLemmas.{mapped}
@@ -78,17 +78,15 @@ not_called u candidate none = by (lookup_address candidate)
     by None = refl
     by (Some address) = no_function u address none
 
-last_fails : (a b : Bool) → (a && (b && false)) ≡ false
-last_fails true true = refl
-last_fails true false = refl
-last_fails false b = refl
+last_fails : (a : Bool) → (a && false) ≡ false
+last_fails true = refl
+last_fails false = refl
 
-no_restart : (u : UnwinderValue) (f : StackFrame) (size : ℕ) (candidate : StackFrame) → HaveNone u.symbols → restarts u f size candidate ≡ false
+no_restart : (u : UnwinderValue) (f candidate : StackFrame) → HaveNone u.symbols → restarts u f candidate ≡ false
 unfolding restarts
-no_restart u f size candidate none =
-    ap (λ (b : Bool). goes_on u.stack f candidate.stack_pointer
-    && (nat_le (candidate.stack_pointer - f.stack_pointer) (scanned_words f.trust * size) && b)) (not_called u candidate none)
-    ∙ last_fails (goes_on u.stack f candidate.stack_pointer) (nat_le (candidate.stack_pointer - f.stack_pointer) (scanned_words f.trust * size))
+no_restart u f candidate none =
+    ap (λ (b : Bool). goes_on u.stack f candidate.stack_pointer && b) (not_called u candidate none)
+    ∙ last_fails (goes_on u.stack f candidate.stack_pointer)
 
 none_passes : {X : Type 0} (test : X → Bool) (xs : List X) → ((x : X) → test x ≡ false) → find test xs ≡ None
 none_passes test [] fails = refl
@@ -98,10 +96,9 @@ none_found : (u : UnwinderValue) (f : StackFrame) → HaveNone u.symbols → res
 unfolding restart_of
 none_found u f none = by (pointer_bytes u.stack.width)
   where
-    by : (o : Option ℕ) → option_and_then (λ size. find (restarts u f size) (scan u.stack f.stack_pointer (scanned_words f.trust))) o ≡ None
+    by : (o : Option ℕ) → option_and_then (λ size. find (restarts u f) (word_candidates u.stack (next_words f size))) o ≡ None
     by None = refl
-    by (Some size) =
-        none_passes (restarts u f size) (scan u.stack f.stack_pointer (scanned_words f.trust)) (λ candidate. no_restart u f size candidate none)
+    by (Some size) = none_passes (restarts u f) (word_candidates u.stack (next_words f size)) (λ candidate. no_restart u f candidate none)
 
 or_none : {A : Type 0} (o : Option A) → option_or o None ≡ o
 or_none None = refl
@@ -157,7 +154,7 @@ same_frames s symbols c limit none = (pointers_alone (by_context s symbols c) (f
 pub same_candidates : (s : StackValue) (symbols : List (Option SymbolsValue)) (c : MinidumpContext) (limit : ℕ) → HaveNone symbols
     → (symbol_walk_in s symbols c limit).candidates ≡ (walk_in s c limit).candidates
 same_candidates s symbols c limit none =
-    ap (λ (f : StackFrame). scan s f.stack_pointer limit) (pointers_alone (by_context s symbols c) (first_frame c) none).1
+    ap (λ (fs : List StackFrame). scan s fs limit) (pointers_alone (by_context s symbols c) (first_frame c) none).0
 
 pub same_end : (s : StackValue) (symbols : List (Option SymbolsValue)) (c : MinidumpContext) (limit : ℕ) → HaveNone symbols
     → (symbol_walk_in s symbols c limit).end ≡ Walk (walk_in s c limit).end

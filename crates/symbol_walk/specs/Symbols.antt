@@ -1,19 +1,14 @@
 -- What an address is looked up in: the modules of a process, and their symbols.
-use Rattle.std.specs.Prelude.{ℕ, ◌-◌, Bool, is_some, List, Option, slice_get}
-use Rattle.std.specs.List.{enumerate_from}
+use Rattle.std.specs.Prelude.{ℕ, Bool, is_some, List, Option, slice_get}
 use Rattle.std.specs.Option.{option_and_then, option_map}
-use Rattle.minidump.specs.Below.Modules.Module.{ModuleValue, range_of_module}
+use Rattle.minidump.specs.Below.Modules.Module.{ModuleValue}
 use Rattle.minidump_index.specs.declared.range.Range.{Range}
 use Rattle.minidump_index.specs.Lookup.{looked_up}
 use Rattle.minidump_index.specs.Overlap.{range_of}
+use Rattle.stack_walk.specs.Lookups.{module_place}
 use Rattle.breakpad_symbols.specs.Cfi.{CfiValue}
 use Rattle.breakpad_symbols.specs.Function.{FunctionValue}
 use Rattle.breakpad_symbols.specs.SymbolFile.{SymbolsValue}
-
--- the index of the kept module that contains an address, and the offset in that
-abbrev pub module_place : List ModuleValue → ℕ → Option (ℕ × ℕ)
-module_place modules address = option_map (λ p. (p.0, address - p.1.raw.base_of_image))
-    (looked_up (λ p. range_of_module p.1) (enumerate_from 0 modules) address)
 
 -- the symbols of the module with an index: none, where the list has none for it
 abbrev pub symbols_of_module : List (Option SymbolsValue) → ℕ → Option SymbolsValue

@@ -91,15 +91,18 @@ symbol_walk_of w = record {
   end = w.end;
 }
 
--- the walk from a frame: it and its callers, the candidates from the last one's stack pointer on, at
--- most so many, and why there is no further caller
+-- the frames alone
+abbrev pub plain_frames : List FrameValue → List StackFrame
+plain_frames frames = map (λ f. f.frame) frames
+
+-- the walk from a frame: it and its callers, the candidates of these, at most so many, and why there
+-- is no further caller
 abbrev pub walk_from : UnwinderValue → FrameValue → ℕ → SymbolWalkValue
 walk_from u first limit =
-    let callers = callers_in u first in
-    let last = outermost first callers in record {
+    let callers = callers_in u first in record {
       frames = first ∷ callers;
-      candidates = scan u.stack last.frame.stack_pointer limit;
-      end = end_of u last;
+      candidates = scan u.stack (plain_frames (first ∷ callers)) limit;
+      end = end_of u (outermost first callers);
     }
 
 -- the walk of a context on a stack, by the symbols of the modules

@@ -23,8 +23,15 @@
 //! caller has its value in the callee, and any other isn't known.
 //!
 //! The stack pointer of a caller lies on the stack or right after it, above that of its callee, or for a
-//! context's frame not below it: there a return address may be in a register. A candidate has to lie
-//! within 40 words of the stack pointer of a context's frame, and within 30 of another's.
+//! context's frame not below it: there a return address may be in a register. The walk starts again at
+//! one of the 40 aligned words from the stack pointer of a context's frame on, or of the 30 from that of
+//! another; no other word is looked at for this.
+//!
+//! # The candidates
+//!
+//! They are those that [`stack_walk`] has for these frames: of the words from the last frame's stack
+//! pointer on, and, where the caller of the first frame is by its frame pointer, of those of the first
+//! frame below its record. Where rules say where the caller stands, no word of the frame is one.
 //!
 //! [`StackFrame::lookup_address`]: stack_walk::StackFrame::lookup_address
 //!

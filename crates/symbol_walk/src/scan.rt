@@ -1,61 +1,62 @@
 //! Where a walk starts again.
-ghost use Rattle.std.specs.Prelude.{◌≡◌, IfOk};
+ghost use Rattle.std.specs.Prelude.{◌≡◌, ◌+◌};
 ghost use Rattle.std.specs.List.{find};
-ghost use Rattle.std.specs.Option.{option_copied};
-ghost use Rattle.symbol_walk.specs.Scan.{is_called, restart_of, restarts, scanned_words};
+ghost use Rattle.minidump.specs.Below.System.Cpu.{pointer_bytes};
+ghost use Rattle.stack_walk.specs.Frames.{stack_of, word_candidate, word_candidates};
+ghost use Rattle.symbol_walk.specs.Scan.{is_called, restart_at, restart_of, restarts};
+ghost use Rattle.symbol_walk.specs.Scan.{scanned_words};
 ghost use Rattle.symbol_walk.specs.Unwinder.{unwinder_of};
 
 use crate::rules::goes_on;
 use crate::unwinder::Unwinder;
-use stack_walk::{FrameTrust, StackFrame};
-use std::alloc::{AllocError, Global};
+use minidump::system_info::PointerWidth;
+use stack_walk::{FrameTrust, Stack, StackFrame};
 
 impl Unwinder<'_, '_, '_, '_> {
     // Returns the first candidate after a frame from which the walk goes on.
     #[tactic(auto, unfolding(crate::specs::Scan::restart_of))]
-    pub(crate) fn restart_of(
-        &self,
-        alloc: Global,
-        frame: &StackFrame,
-    ) -> Result<Option<StackFrame>, AllocError>
-        ensures { IfOk result (λ found. found ≡ restart_of (unwinder_of self.now) frame.now) }
+    pub(crate) fn restart_of(&self, frame: &StackFrame) -> Option<StackFrame>
+        ensures { result ≡ restart_of (unwinder_of self.now) frame.now }
     {
-        let Some(size) = self.stack.width.size_in_bytes() else {
-            return Ok(None);
-        };
-        let words = scanned_words(frame);
-        let candidates = self
-            .stack
-            .candidates(alloc, frame.stack_pointer, words as usize)?;
-        match self.first_restart(frame, size as u64, candidates.as_slice()) {
-            Some(candidate) => Ok(Some(*candidate)),
-            None => Ok(None),
+        match self.stack.width {
+            PointerWidth::Bits32 => self.first_restart(frame, frame.stack_pointer.div_ceil(4)),
+            PointerWidth::Bits64 => self.first_restart(frame, frame.stack_pointer.div_ceil(8)),
+            PointerWidth::Unknown => None,
         }
     }
 
-    fn first_restart<'c>(
-        &self,
-        frame: &StackFrame,
-        size: u64,
-        candidates: &'c [StackFrame],
-    ) -> Option<&'c StackFrame>
-        ensures { option_copied result
-            ≡ find (λ c. restarts (unwinder_of self.now) frame.now size c) candidates.now }
+    // Returns the first candidate among the next words, from a number of an aligned word on.
+    fn first_restart(&self, frame: &StackFrame, first: u64) -> Option<StackFrame>
+        ensures { result ≡ find (restarts (unwinder_of self.now) frame.now)
+            (word_candidates (unwinder_of self.now).stack (first, scanned_words frame.now.trust)) }
     {
-        candidates
-            .iter()
-            .find(|candidate| self.restarts(frame, size, candidate))
+        for index in 0..scanned_words(frame) {
+            if let Some(candidate) = self.restart_at(frame, first, index) {
+                return Some(candidate);
+            }
+        }
+        None
+    }
+
+    // Returns the candidate of the aligned word that so many words come before, if the walk goes on
+    // from it.
+    fn restart_at(&self, frame: &StackFrame, first: u64, index: u64) -> Option<StackFrame>
+        ensures { result ≡ restart_at (unwinder_of self.now) frame.now (first + index) }
+    {
+        let candidate = word_candidate(self.stack, first, index)?;
+        if self.restarts(frame, &candidate) {
+            Some(candidate)
+        } else {
+            None
+        }
     }
 
     // Tells whether the walk goes on from a candidate after a frame.
     #[tactic(auto, unfolding(crate::specs::Scan::restarts))]
-    fn restarts(&self, frame: &StackFrame, size: u64, candidate: &StackFrame) -> bool
-        ensures { result ≡ restarts (unwinder_of self.now) frame.now size candidate.now }
+    fn restarts(&self, frame: &StackFrame, candidate: &StackFrame) -> bool
+        ensures { result ≡ restarts (unwinder_of self.now) frame.now candidate.now }
     {
-        let passed = candidate.stack_pointer.saturating_sub(frame.stack_pointer);
-        goes_on(self.stack, frame, candidate.stack_pointer)
-            && passed <= scanned_words(frame).saturating_mul(size)
-            && self.is_called(candidate)
+        goes_on(self.stack, frame, candidate.stack_pointer) && self.is_called(candidate)
     }
 
     // Tells whether the call of a candidate lies in a function of the symbols.
@@ -67,6 +68,16 @@ impl Unwinder<'_, '_, '_, '_> {
             None => false,
         }
     }
+}
+
+// Returns the candidate of the aligned word that so many words come before.
+#[tactic(auto, unfolding(stack_walk::specs::Frames::word_candidate))]
+fn word_candidate(stack: &Stack<'_, '_>, first: u64, index: u64) -> Option<StackFrame>
+    ensures { result ≡ word_candidate (stack_of stack.now) (first + index) }
+{
+    let size = stack.width.size_in_bytes()?;
+    let number = first.checked_add(index)?;
+    stack.candidate_at(number.checked_mul(size as u64)?)
 }
 
 // Returns how many words from the stack pointer of a frame on are looked at.

@@ -1,18 +1,17 @@
 //! What the frames of a thread are found by.
 ghost use Rattle.std.specs.Prelude.{◌≡◌, map};
 ghost use Rattle.std.specs.Option.{option_copied, option_map};
-ghost use Rattle.minidump.specs.Promise.{module_list_stream};
 ghost use Rattle.breakpad_symbols.specs.Cfi.{cfi_of};
 ghost use Rattle.breakpad_symbols.specs.SymbolFile.{symbols_of};
 ghost use Rattle.symbol_walk.specs.Scan.{in_function};
-ghost use Rattle.symbol_walk.specs.Symbols.{cfi_at, has_function, module_place, symbols_at};
+ghost use Rattle.symbol_walk.specs.Symbols.{cfi_at, has_function, symbols_at};
 ghost use Rattle.symbol_walk.specs.Symbols.{symbols_of_module};
 ghost use Rattle.symbol_walk.specs.Unwinder.{unwinder_of};
 
 use crate::registers::Register;
 use breakpad_symbols::{CfiRecord, SymbolFile};
-use minidump::{MinidumpModuleList, Module, Steps};
-use stack_walk::Stack;
+use minidump::Steps;
+use stack_walk::{Stack, module_place};
 
 // The stack of a thread, the symbols of its modules by their index, and the registers of its
 // processor.
@@ -45,14 +44,6 @@ impl<'w, 's> Unwinder<'w, '_, '_, 's> {
             None => false,
         }
     }
-}
-
-// Returns the index of the kept module that contains an address, and the offset in that.
-fn module_place(modules: &MinidumpModuleList, address: u64) -> Option<(usize, u64)>
-    ensures { result ≡ module_place (module_list_stream.value modules.now) address }
-{
-    let (index, module) = modules.numbered_module_at_address(address)?;
-    Some((index, address.saturating_sub(module.base_address())))
 }
 
 // Returns the symbols of the module with an index.

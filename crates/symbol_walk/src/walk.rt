@@ -6,7 +6,7 @@ ghost use Rattle.breakpad_symbols.specs.SymbolFile.{symbols_of};
 ghost use Rattle.symbol_walk.specs.Unwinder.{frame_of, unwinder_of};
 ghost use Rattle.symbol_walk.specs.Walk.{caller_by_rules, caller_of, caller_without, callers_in};
 ghost use Rattle.symbol_walk.specs.Walk.{end_by_rules, end_of, outermost, symbol_walk_in};
-ghost use Rattle.symbol_walk.specs.Walk.{symbol_walk_of, walk_from};
+ghost use Rattle.symbol_walk.specs.Walk.{plain_frames, symbol_walk_of, walk_from};
 
 use crate::KnownFrame;
 use crate::registers::register_table;
@@ -34,16 +34,16 @@ pub enum SymbolWalkEnd {
 pub struct SymbolWalk {
     /// The frame of the context and its callers, the innermost first.
     pub frames: Vec<KnownFrame>,
-    /// The words from the last frame's stack pointer on that may be return addresses.
+    /// The candidates of the frames: words of the stack that may be return addresses.
     pub candidates: Vec<StackFrame>,
     /// Why the last frame has no caller.
     pub end: SymbolWalkEnd,
 }
 
 /// Returns the frames of the thread that has this context and this stack by the symbols of its modules:
-/// that of the context, and its callers; and at most `limit` candidates from the last one's stack
-/// pointer on. `symbols` has those of each module by its index in the list of modules; a shorter one
-/// has none for the rest. The only error is `OutOfMemory`.
+/// that of the context, and its callers; and at most `limit` candidates of these. `symbols` has those of
+/// each module by its index in the list of modules; a shorter one has none for the rest. The only error
+/// is `OutOfMemory`.
 pub fn walk_by_symbols(
     alloc: Global,
     stack: &Stack<'_, '_>,
@@ -72,10 +72,9 @@ impl Unwinder<'_, '_, '_, '_> {
     {
         let (mut frames, last) = self.climb(alloc, first)?;
         let end = self.end_of(alloc, &last)?;
-        let candidates = self
-            .stack
-            .candidates(alloc, last.frame.stack_pointer, limit)?;
         frames.push(last)?;
+        let plain = plain_frames(alloc, frames.as_slice())?;
+        let candidates = self.stack.candidates(alloc, plain.as_slice(), limit)?;
         Ok(SymbolWalk {
             frames,
             candidates,
@@ -148,7 +147,7 @@ impl Unwinder<'_, '_, '_, '_> {
         if let Some(caller) = self.stack.caller_of(&known.frame) {
             return Ok(Some(self.pointer_frame(alloc, caller)?));
         }
-        match self.restart_of(alloc, &known.frame)? {
+        match self.restart_of(&known.frame) {
             Some(caller) => Ok(Some(self.pointer_frame(alloc, caller)?)),
             None => Ok(None),
         }
@@ -179,4 +178,15 @@ impl Unwinder<'_, '_, '_, '_> {
             None => Ok(SymbolWalkEnd::Walk(self.stack.end_at(&known.frame))),
         }
     }
+}
+
+// Returns the frames alone.
+fn plain_frames(alloc: Global, frames: &[KnownFrame]) -> Result<Vec<StackFrame>, AllocError>
+    ensures { IfOk result (λ plain. plain.items ≡ plain_frames (map frame_of frames.now)) }
+{
+    let mut plain = Vec::new(alloc);
+    for known in frames {
+        plain.push(known.frame)?;
+    }
+    Ok(plain)
 }
