@@ -15,7 +15,7 @@ use Rattle.crash.specs.Threads.{ThreadsValue, threads_in}
 pub parts_are_crash : (names : Lists) (scan : ℕ) (d : Dump) (c : ContentsValue) (directory : DirectoryValue) (process : ProcessFacts) (cause : CauseValue)
     (threads : ThreadsValue) (point : Option PointValue) (modules : ModulesValue) (damage : List Damage) → c ≡ contents_in d → directory ≡ directory_in d c
     → process ≡ process_in d c → cause ≡ cause_in names c → threads ≡ threads_in names scan c
-    → point ≡ point_in c threads.crashing → modules ≡ modules_in c
+    → point ≡ point_in c threads.crashing → modules ≡ modules_in d c
     → damage ≡ damage_in directory cause threads
     → ◌≡◌ {A = CrashValue} (record { contents = c; directory = directory; process = process; cause = cause; threads = threads; point = point; modules = modules; damage = damage })
     (crash_by names scan d (contents_in d))

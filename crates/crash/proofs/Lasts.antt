@@ -7,7 +7,7 @@ use Rattle.std.proofs.Common.{length, map, refl, reverse, sym, take}
 use Rattle.std.proofs.lemmas.List.{length-map, length-take-le, map-append, reverse-append, take_all, take_more}
 use Rattle.crash.specs.Last.{last_index}
 
-numbered_end : {X : Type 0} (n : ℕ) (xs : List X) (x : X) → enumerate_from n (xs ++ (x ∷ [])) ≡ enumerate_from n xs ++ ((n + length xs, x) ∷ [])
+pub numbered_end : {X : Type 0} (n : ℕ) (xs : List X) (x : X) → enumerate_from n (xs ++ (x ∷ [])) ≡ enumerate_from n xs ++ ((n + length xs, x) ∷ [])
 numbered_end n [] x = let same : n ≡ n + 0 = omega arith in ap (λ k. (k, x) ∷ []) same
 numbered_end n (y ∷ xs) x =
     let same : n + 1 + length xs ≡ n + suc (length xs) = omega arith in

@@ -5,6 +5,9 @@ pub mod DirectoryLemmas
 pub mod Found
 pub mod LastLemmas
 pub mod Lasts
+pub mod LinuxLemmas
 pub mod Mapped
+pub mod NumberedFound
 pub mod PaddedLemmas
+pub mod TallyLemmas
 pub mod ThreadLemmas

@@ -70,16 +70,19 @@ stack_above threads address =
 
 -- ---- memory
 
--- the state of a region: winnt.h's MEM_FREE and MEM_RESERVE, and committed with any other number,
--- as MEM_COMMIT, and as a line of the maps
+-- a state by its number: winnt.h's MEM_FREE and MEM_RESERVE, and committed with any other, as
+-- MEM_COMMIT
+abbrev pub state_of_number : ℕ → RegionState
+state_of_number n = if n == 0x1_0000 then Free else (if n == 0x2000 then Reserved else Committed)
+
+-- the state of a region: that of its number, and committed as a line of the maps
 abbrev pub state_of : InfoRegion → RegionState
-state_of (OfInfo m) = if m.raw.state == 0x1_0000 then Free
-    else (if m.raw.state == 0x2000 then Reserved else Committed)
+state_of (OfInfo m) = state_of_number m.raw.state
 state_of (OfMaps m) = Committed
 
 -- a region is guarded: winnt.h's PAGE_GUARD
 abbrev pub is_guarded : InfoRegion → Bool
-is_guarded (OfInfo m) = has_flag m.raw.protection 0x100
+is_guarded (OfInfo m) = has_flag m.protection 0x100
 is_guarded (OfMaps m) = false
 
 -- what is known of the memory of a region

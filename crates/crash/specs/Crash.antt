@@ -55,7 +55,7 @@ crash_with d c directory cause threads = record {
   cause = cause;
   threads = threads;
   point = point_in c threads.crashing;
-  modules = modules_in c;
+  modules = modules_in d c;
   damage = damage_in directory cause threads;
 }
 

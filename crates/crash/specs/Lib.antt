@@ -7,6 +7,8 @@ pub mod Last
 pub mod Directory
 pub mod Release
 pub mod ProcessTexts
+pub mod HandleKinds
+pub mod Linux
 pub mod Process
 pub mod Contexts
 pub mod Counting
@@ -17,6 +19,7 @@ pub mod Cause
 pub mod Frames
 pub mod Threads
 pub mod Point
+pub mod UnreadableModules
 pub mod Modules
 pub mod Damage
 pub mod Crash

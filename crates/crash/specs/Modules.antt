@@ -9,11 +9,14 @@ use Rattle.minidump.specs.Below.Modules.DebugId.{breakpad_text}
 use Rattle.minidump.specs.Below.Modules.Identity.{Identity}
 use Rattle.minidump.specs.Below.Modules.Module.{ModuleValue, identity_of}
 use Rattle.minidump.specs.Below.Modules.UnloadedModule.{UnloadedValue}
+use Rattle.minidump.specs.Dump.{Dump}
 use Rattle.crash.specs.FileName.{file_name}
 use Rattle.crash.specs.declared.modules.CrashModule.{CrashModule}
 use Rattle.crash.specs.declared.modules.CrashModules.{CrashModules}
 use Rattle.crash.specs.declared.modules.UnloadedModule.{UnloadedModule}
+use Rattle.crash.specs.declared.unreadable_modules.UnreadableModule.{UnreadableModule}
 use Rattle.crash.specs.Contents.{ContentsValue}
+use Rattle.crash.specs.UnreadableModules.{unreadable_by}
 
 -- a module: its addresses, its file, and its version and identifiers, where it has them
 pub record LoadedValue : Type 0 where
@@ -34,9 +37,10 @@ pub record UnloadedModuleValue : Type 0 where
   pub file : List ℕ
   pub code_id : Option (List ℕ)
 
--- the modules
+-- the modules, and the entries of their list that can't be read, where these lose it
 pub record ModulesValue : Type 0 where
   pub loaded : List LoadedValue
+  pub unreadable : List UnreadableModule
   pub unloaded : List UnloadedModuleValue
 
 -- ---- the value of the structs
@@ -65,6 +69,7 @@ unloaded_module_of m = record {
 abbrev pub modules_of : CrashModules → ModulesValue
 modules_of m = record {
   loaded = map loaded_of m.loaded.items;
+  unreadable = m.unreadable.items;
   unloaded = map unloaded_module_of m.unloaded.items;
 }
 
@@ -110,5 +115,9 @@ abbrev pub unloaded_in : Result (List UnloadedValue) Error → List UnloadedModu
 unloaded_in list = map unloaded_module_in (unwrap_or (result_ok list) [])
 
 -- all of them
-abbrev pub modules_in : ContentsValue → ModulesValue
-modules_in c = record { loaded = loaded_in c; unloaded = unloaded_in c.space.unloaded }
+abbrev pub modules_in : Dump → ContentsValue → ModulesValue
+modules_in d c = record {
+  loaded = loaded_in c;
+  unreadable = unreadable_by d c.space.modules_error;
+  unloaded = unloaded_in c.space.unloaded;
+}

@@ -1,5 +1,5 @@
 -- What is known of a process, and of the system on which it ran.
-use Rattle.std.specs.Prelude.{ℕ, ◌-◌, ◌==◌, List, nat_le, Option, Some, None, Result}
+use Rattle.std.specs.Prelude.{ℕ, ◌-◌, ◌==◌, List, codes, map, nat_le, Option, Some, None, Result}
 use Rattle.std.specs.Prelude.{if◌then◌else◌, string_bytes}
 use Rattle.std.specs.Option.{option_and_then, option_map, option_or}
 use Rattle.std.specs.Result.{result_ok}
@@ -14,12 +14,13 @@ use Rattle.minidump.specs.Dump.{Dump}
 use Rattle.crash.specs.declared.process.CrashProcess.{CrashProcess}
 use Rattle.crash.specs.declared.process.CrashSystem.{CrashSystem}
 use Rattle.crash.specs.Contents.{ContentsValue}
+use Rattle.crash.specs.HandleKinds.{KindValue, kind_of, kinds_in}
 use Rattle.crash.specs.ProcessTexts.{CommentsValue, command_line_in, comments_in, comments_of}
-use Rattle.crash.specs.ProcessTexts.{status_id}
+use Rattle.crash.specs.ProcessTexts.{cpu_text, status_number, status_size}
 use Rattle.crash.specs.Release.{ReleaseValue, release_in, release_of}
 
 -- a system: its kind, that of its processors and how many there are, its version with the build,
--- and the description of the processor
+-- the description of the processor, and the version of its microcode
 pub record SystemValue : Type 0 where
   pub os : Os
   pub cpu : Cpu
@@ -27,16 +28,21 @@ pub record SystemValue : Type 0 where
   pub version : List ℕ
   pub build : Option (List ℕ)
   pub cpu_model : Option (List ℕ)
+  pub microcode : Option (List ℕ)
 
--- a process: its system, its id, for how many seconds it had run, the release of its Linux, its
--- command line, and the comments of the dump
+-- a process: its system, its id and that of its parent, for how many seconds it had run, how many
+-- bytes of it were in memory, the release of its Linux, its command line, the comments of the dump,
+-- and the kinds of its handles
 pub record ProcessFacts : Type 0 where
   pub system : Option SystemValue
   pub id : Option ℕ
+  pub parent : Option ℕ
   pub uptime : Option ℕ
+  pub resident : Option ℕ
   pub release : Option ReleaseValue
   pub command_line : Option (List ℕ)
   pub comments : CommentsValue
+  pub handle_kinds : List KindValue
 
 -- ---- the value of the structs
 
@@ -48,16 +54,20 @@ system_of s = record {
   version = string_bytes s.version;
   build = option_map string_bytes s.build;
   cpu_model = option_map string_bytes s.cpu_model;
+  microcode = option_map string_bytes s.microcode;
 }
 
 abbrev pub process_of : CrashProcess → ProcessFacts
 process_of p = record {
   system = option_map system_of p.system;
   id = p.id;
+  parent = p.parent;
   uptime = p.uptime;
+  resident = p.resident;
   release = option_map release_of p.release;
   command_line = option_map string_bytes p.command_line;
   comments = comments_of p.comments;
+  handle_kinds = map kind_of p.handle_kinds.items;
 }
 
 -- ---- the value of the streams
@@ -67,20 +77,25 @@ abbrev version_and_build : System → List ℕ × Option (List ℕ)
 version_and_build s = os_parts_of s.raw.major_version s.raw.minor_version s.raw.build_number
     s.raw.platform_id s.csd_version
 
--- a system by its information
-abbrev pub system_by : System → SystemValue
-system_by s = record {
+-- the description of the processor by the system's information, else by that of Linux
+abbrev pub cpu_model : System → Result (List ℕ) Error → Option (List ℕ)
+cpu_model s cpu = option_or s.cpu_info (cpu_text (codes "model name") cpu)
+
+-- a system by its information, and by Linux's description of the processors
+abbrev pub system_by : Result (List ℕ) Error → System → SystemValue
+system_by cpu s = record {
   os = s.os;
   cpu = s.cpu;
   processors = s.raw.number_of_processors;
   version = (version_and_build s).0;
   build = (version_and_build s).1;
-  cpu_model = s.cpu_info;
+  cpu_model = cpu_model s cpu;
+  microcode = cpu_text (codes "microcode") cpu;
 }
 
 -- the same, where the information can be read
-abbrev pub system_in : Result System Error → Option SystemValue
-system_in system = option_map system_by (result_ok system)
+abbrev pub system_in : Result System Error → Result (List ℕ) Error → Option SystemValue
+system_in system cpu = option_map (system_by cpu) (result_ok system)
 
 -- the id of the process by the misc information
 abbrev pub misc_id : Result RawMiscInfo Error → Option ℕ
@@ -88,7 +103,7 @@ misc_id misc = option_and_then process_id (result_ok misc)
 
 -- the same, else that of Linux's status
 abbrev pub id_in : Result RawMiscInfo Error → Result (List ℕ) Error → Option ℕ
-id_in misc status = option_or (misc_id misc) (status_id status)
+id_in misc status = option_or (misc_id misc) (status_number (codes "Pid") status)
 
 -- how many seconds after the process began the dump was written, where both times are there, that
 -- of the beginning isn't 0, and they are in order
@@ -103,10 +118,13 @@ uptime_in stamp misc = uptime stamp (option_and_then process_create_time (result
 -- the process of a dump with these contents
 abbrev pub process_in : Dump → ContentsValue → ProcessFacts
 process_in d c = record {
-  system = system_in c.system.system;
+  system = system_in c.system.system c.system.cpu_info;
   id = id_in c.system.misc c.process.status;
+  parent = status_number (codes "PPid") c.process.status;
   uptime = uptime_in d.header.time_date_stamp c.system.misc;
+  resident = status_size (codes "VmRSS") c.process.status;
   release = release_in c.system.lsb_release;
   command_line = command_line_in d;
   comments = comments_in d;
+  handle_kinds = kinds_in c.process.handles;
 }

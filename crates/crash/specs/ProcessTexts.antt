@@ -1,6 +1,7 @@
--- The texts of a process: its id in Linux's status, its command line, and the comments of the dump.
-use Rattle.std.specs.Prelude.{ℕ, ◌/◌, ◌==◌, List, bytes_eq, codes, find, length, map, Option, Result}
-use Rattle.std.specs.Prelude.{if◌then◌else◌, string_bytes}
+-- The texts of a process: what Linux's files say of it, its command line, and the comments of the
+-- dump.
+use Rattle.std.specs.Prelude.{ℕ, ◌*◌, ◌/◌, ◌^◌, ◌==◌, List, bytes_eq, codes, find, length, map, nat_lt}
+use Rattle.std.specs.Prelude.{Option, Some, None, Result, if◌then◌else◌, string_bytes}
 use Rattle.std.specs.List.{before_first}
 use Rattle.std.specs.Option.{option_and_then, option_map}
 use Rattle.std.specs.Result.{result_ok}
@@ -8,26 +9,43 @@ use Rattle.std.specs.Str.Lossy.{utf8_lossy}
 use Rattle.minidump.specs.declared.Endian.{Endian}
 use Rattle.minidump.specs.declared.Error.{Error}
 use Rattle.minidump.specs.Below.Bytes.Digits.{number_of_digits}
-use Rattle.minidump.specs.Below.Bytes.LinuxOsStr.{trimmed}
+use Rattle.minidump.specs.Below.Bytes.LinuxOsStr.{before_suffix, trimmed}
 use Rattle.minidump.specs.Below.Bytes.Text16.{text_before_nul, units_at}
 use Rattle.minidump.specs.Below.Records.Pairs.{pairs_of}
 use Rattle.minidump.specs.Dump.{Dump, raw_stream}
 use Rattle.crash.specs.declared.process_texts.Comments.{Comments}
 
--- ---- the id
+-- ---- Linux's files
 
--- the value of the first pair whose key is Pid
-abbrev pub pid_in : List (List ℕ × List ℕ) → Option (List ℕ)
-pid_in pairs = option_map (λ p. p.1) (find (λ p. bytes_eq p.0 (codes "Pid")) pairs)
+-- the value of the first pair that has a key
+abbrev pub value_in : List ℕ → List (List ℕ × List ℕ) → Option (List ℕ)
+value_in key pairs = option_map (λ p. p.1) (find (λ p. bytes_eq p.0 key) pairs)
 
--- the same of the lines of a status
-abbrev pub pid_value : List ℕ → Option (List ℕ)
-pid_value status = pid_in (pairs_of 0x3a status)
+-- the same of the lines of a status or of a description of the processors, each a key and a value
+-- around a colon: none where the stream can't be read
+abbrev pub value_of : List ℕ → Result (List ℕ) Error → Option (List ℕ)
+value_of key text = option_and_then (λ text. value_in key (pairs_of 0x3a text)) (result_ok text)
 
--- the number that it writes
-abbrev pub status_id : Result (List ℕ) Error → Option ℕ
-status_id status =
-    option_and_then (number_of_digits 10 32) (option_and_then pid_value (result_ok status))
+-- the number that a value of a status writes
+abbrev pub status_number : List ℕ → Result (List ℕ) Error → Option ℕ
+status_number key status = option_and_then (number_of_digits 10 32) (value_of key status)
+
+-- the number of bytes of so many kB, each of 1,024 bytes: none where it has more than 64 bits
+abbrev pub bytes_of_kb : ℕ → Option ℕ
+bytes_of_kb kb = if nat_lt (kb * 1024) (2 ^ 64) then Some (kb * 1024) else None
+
+-- the number of bytes of a size that a text writes in kB
+abbrev pub size_of_text : List ℕ → Option ℕ
+size_of_text text = option_and_then bytes_of_kb
+    (option_and_then (number_of_digits 10 64) (before_suffix (codes " kB") text))
+
+-- that of a value of a status
+abbrev pub status_size : List ℕ → Result (List ℕ) Error → Option ℕ
+status_size key status = option_and_then size_of_text (value_of key status)
+
+-- the text of a value of a description of the processors, with U+FFFD for what isn't UTF-8
+abbrev pub cpu_text : List ℕ → Result (List ℕ) Error → Option (List ℕ)
+cpu_text key cpu = option_map utf8_lossy (value_of key cpu)
 
 -- ---- the command line
 

@@ -1,6 +1,6 @@
 -- What the record of an exception says by its system: the parameters, how memory was accessed, and
 -- who sent a signal.
-use Rattle.std.specs.Prelude.{ℕ, ◌%◌, ◌/◌, ◌^◌, ◌==◌, ◌||◌, ◌&&◌, nat_le, nat_lt, not, Bool, List, min}
+use Rattle.std.specs.Prelude.{ℕ, codes, true, ◌%◌, ◌/◌, ◌^◌, ◌==◌, ◌||◌, ◌&&◌, nat_le, nat_lt, not, Bool, List, min}
 use Rattle.std.specs.Prelude.{slice_index, take, Option, Some, None, if◌then◌else◌}
 use Rattle.std.specs.Option.{option_and_then}
 use Rattle.minidump.specs.declared.format.MINIDUMP_EXCEPTION.{MINIDUMP_EXCEPTION}
@@ -14,6 +14,8 @@ use Rattle.minidump.specs.Below.System.System.{System}
 use Rattle.crash.specs.declared.records.Access.{Access}
 use Rattle.crash.specs.declared.records.Access.TheVariants.{Execute, Read, Write}
 use Rattle.crash.specs.declared.records.Sender.{Sender}
+use Rattle.crash.specs.declared.records.SignalCode.{SignalCode}
+use Rattle.crash.specs.declared.records.SignalCode.TheVariants.{Queue, Tkill, User}
 
 -- the parameters: NumberParameters of them, at most the 15 that a record has
 abbrev pub parameters_in : MINIDUMP_EXCEPTION → List ℕ
@@ -43,23 +45,40 @@ access_in system r = option_and_then (λ s. access_on s.os r) system
 
 -- ---- signals
 
+-- the `si_code` of a signal that a process sends: Linux's SI_USER, SI_QUEUE, -1, and SI_TKILL, -6
+abbrev pub signal_code : ℕ → Option SignalCode
+signal_code n = if n == 0 then Some User
+    else (if n == 0xffff_ffff then Some Queue else (if n == 0xffff_fffa then Some Tkill else None))
+
+-- its name in Linux's headers
+abbrev pub signal_code_name : SignalCode → List ℕ
+signal_code_name User = codes "SI_USER"
+signal_code_name Queue = codes "SI_QUEUE"
+signal_code_name Tkill = codes "SI_TKILL"
+
 -- the process that sent a signal and its user, by the union of Linux's siginfo, whose bytes are the
 -- address of a fault else: `si_pid`, and after it `si_uid`, which an address of 32 bits lacks
-abbrev pub sender_at : PointerWidth → ℕ → Sender
-sender_at Bits32 address = record { process = address % 2 ^ 32; user = None }
-sender_at _ address = record { process = address % 2 ^ 32; user = Some (address / 2 ^ 32) }
+abbrev pub sender_at : SignalCode → PointerWidth → ℕ → Sender
+sender_at code Bits32 address = record { code = code; process = address % 2 ^ 32; user = None }
+sender_at code _ address = record {
+  code = code;
+  process = address % 2 ^ 32;
+  user = Some (address / 2 ^ 32);
+}
 
 -- the same by the first two parameters, where Crashpad has them for a signal that is no fault
-abbrev pub sender_of_parameters : List ℕ → Sender
-sender_of_parameters parameters = record {
+abbrev pub sender_of_parameters : SignalCode → List ℕ → Sender
+sender_of_parameters code parameters = record {
+  code = code;
   process = slice_index parameters 0 % 2 ^ 32;
   user = Some (slice_index parameters 1 % 2 ^ 32);
 }
 
 -- the same by the parameters, where there is no address, else by the address
-abbrev pub sender_by : PointerWidth → MINIDUMP_EXCEPTION → Sender
-sender_by width r = if r.exception_address == 0 && nat_le 2 r.number_parameters
-    then sender_of_parameters r.exception_information else sender_at width r.exception_address
+abbrev pub sender_by : SignalCode → PointerWidth → MINIDUMP_EXCEPTION → Sender
+sender_by code width r = if r.exception_address == 0 && nat_le 2 r.number_parameters
+    then sender_of_parameters code r.exception_information
+    else sender_at code width r.exception_address
 
 -- Linux numbers its signals from 1 to 64, and its processes from 1 to 2^22 - 1
 abbrev pub is_signal : ℕ → Bool
@@ -74,21 +93,26 @@ abbrev pub is_low_access : MINIDUMP_EXCEPTION → Bool
 is_low_access r =
     (r.exception_code == 7 || r.exception_code == 11) && is_process r.exception_address
 
--- a process sent a signal: its `si_code` is SI_QUEUE, -1, or SI_TKILL, -6; or SI_USER, 0, as of a
--- writer that has no `si_code`, and the sender can be a process, unless that is an access near 0
-abbrev pub is_sent : MINIDUMP_EXCEPTION → Sender → Bool
-is_sent r s = r.exception_flags == 0xffff_ffff || r.exception_flags == 0xffff_fffa
-    || (r.exception_flags == 0 && is_process s.process && not (is_low_access r))
+-- a process sent a signal. SI_USER is 0, as of a writer that has no `si_code`: then the sender must
+-- be one that can be a process, and the record not one of an access near 0
+abbrev pub is_sent : SignalCode → MINIDUMP_EXCEPTION → ℕ → Bool
+is_sent User r process = is_process process && not (is_low_access r)
+is_sent _ r process = true
 
--- the sender, where there is one. The record's code is the signal, its flags are the `si_code`
+-- the sender, where there is one: the record's code is the signal
 abbrev pub sender_if_sent : MINIDUMP_EXCEPTION → Sender → Option Sender
 sender_if_sent r s =
-    if is_signal r.exception_code && is_sent r s then Some s else None
+    if is_signal r.exception_code && is_sent s.code r s.process then Some s else None
+
+-- the same by the record's flags, which are the `si_code`
+abbrev pub sender_with : PointerWidth → MINIDUMP_EXCEPTION → Option Sender
+sender_with width r = option_and_then (λ code. sender_if_sent r (sender_by code width r))
+    (signal_code r.exception_flags)
 
 -- the process that sent the signal of a record on an operating system
 abbrev pub sender_on : Os → Cpu → MINIDUMP_EXCEPTION → Option Sender
-sender_on Linux cpu r = sender_if_sent r (sender_by (width_of cpu) r)
-sender_on Android cpu r = sender_if_sent r (sender_by (width_of cpu) r)
+sender_on Linux cpu r = sender_with (width_of cpu) r
+sender_on Android cpu r = sender_with (width_of cpu) r
 sender_on _ cpu r = None
 
 -- the same where the system is known

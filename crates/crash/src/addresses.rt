@@ -11,24 +11,20 @@ ghost use Rattle.minidump.specs.Thread.{thread_of};
 ghost use Rattle.crash.specs.Addresses.{canonical_on, facts_of, has_stack, is_below_stack};
 ghost use Rattle.crash.specs.Addresses.{is_canonical, is_guarded, memory_at, memory_of};
 ghost use Rattle.crash.specs.Addresses.{module_place, null_offset, stack_above, stack_at, state_of};
-ghost use Rattle.crash.specs.Addresses.{unloaded_at};
+ghost use Rattle.crash.specs.Addresses.{state_of_number, unloaded_at};
 ghost use Rattle.crash.specs.Contents.{contents_of};
 ghost use Rattle.crash.specs.Contexts.{system_of};
 
 use crate::contents::Contents;
 use crate::last::{Choose, last_index};
 use crate::stacks::{StackRange, named_stack};
+use bitflags::Flags;
+use minidump::format::{MemoryProtection, MemoryState};
 use minidump::system_info::Cpu;
 use minidump::{
     Error, MinidumpModuleList, MinidumpThread, MinidumpThreadList, MinidumpUnloadedModule,
     MinidumpUnloadedModuleList, Module, Region, UnifiedMemoryInfo,
 };
-
-const MEM_FREE: u32 = 0x1_0000;
-
-const MEM_RESERVE: u32 = 0x2000;
-
-const PAGE_GUARD: u32 = 0x100;
 
 /// What is known of an address.
 #[derive(Clone, Copy, Debug)]
@@ -282,9 +278,21 @@ fn state_of(region: UnifiedMemoryInfo<'_, '_>) -> RegionState
     ensures { result ≡ state_of (info_region region.entry) }
 {
     match region {
-        UnifiedMemoryInfo::Info(info) if info.raw.state == MEM_FREE => RegionState::Free,
-        UnifiedMemoryInfo::Info(info) if info.raw.state == MEM_RESERVE => RegionState::Reserved,
-        UnifiedMemoryInfo::Info(_) | UnifiedMemoryInfo::Map(_) => RegionState::Committed,
+        UnifiedMemoryInfo::Info(info) => state_of_number(info.raw.state),
+        UnifiedMemoryInfo::Map(_) => RegionState::Committed,
+    }
+}
+
+// Returns a state by its number.
+fn state_of_number(number: u32) -> RegionState
+    ensures { result ≡ state_of_number number }
+{
+    if number == MemoryState::MEM_FREE.bits() {
+        RegionState::Free
+    } else if number == MemoryState::MEM_RESERVE.bits() {
+        RegionState::Reserved
+    } else {
+        RegionState::Committed
     }
 }
 
@@ -293,7 +301,7 @@ fn is_guarded(region: UnifiedMemoryInfo<'_, '_>) -> bool
     ensures { result ≡ is_guarded (info_region region.entry) }
 {
     match region {
-        UnifiedMemoryInfo::Info(info) => info.raw.protection & PAGE_GUARD == PAGE_GUARD,
+        UnifiedMemoryInfo::Info(info) => info.protection.contains(MemoryProtection::PAGE_GUARD),
         UnifiedMemoryInfo::Map(_) => false,
     }
 }

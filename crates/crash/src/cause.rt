@@ -50,8 +50,10 @@ pub struct CrashException {
     pub access: Option<Access>,
     /// The process that sent the signal, if one did, on Linux and Android. The address of the record
     /// then has the ids of the process, in the low 32 bits, and of its user, in the high ones, or is
-    /// 0, and the first two parameters have them. A SIGSEGV or SIGBUS whose `si_code` is 0 and whose
-    /// address is from 1 to 0x3fffff has no sender: that is taken for the address of an access.
+    /// 0, and the first two parameters have them. By SI_USER, which is 0 as where there is no
+    /// `si_code`, a signal has no sender if the id isn't from 1 to 0x3fffff, as that of a process
+    /// outside of the receiver's namespace; and if it is SIGSEGV or SIGBUS and the address is in that
+    /// range: that is taken for the address of an access.
     pub sender: Option<Sender>,
     /// The address of the crash: the one that was accessed where the record has it, else that of
     /// the record, in as many bits as a pointer has. `None` without system information, and for a
@@ -59,8 +61,8 @@ pub struct CrashException {
     pub address: Option<u64>,
     /// The reason of the crash in words, or `None` without system information.
     pub reason: Option<String>,
-    /// Why its context gives no registers, or `None` if it gives some, also where those of the
-    /// thread's own are used.
+    /// Why its context can't give registers, or `None` if it can, whole or cut short: also where
+    /// those of the thread's own are used, as beside one that is cut short.
     pub context_problem: Option<ContextProblem>,
 }
 

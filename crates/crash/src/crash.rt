@@ -106,7 +106,7 @@ fn crash_of_dump<'a>(
     let cause = cause_of(alloc, &contents, names)?;
     let threads = threads_of(alloc, &contents, names, scan)?;
     let point = point_of(alloc, &contents, threads.crashing)?;
-    let modules = modules_of(alloc, &contents)?;
+    let modules = modules_of(alloc, file, dump, &contents)?;
     let damage = damage_in(alloc, &directory, &cause, &threads)?;
     Ok(Crash {
         contents,

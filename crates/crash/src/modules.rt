@@ -5,6 +5,8 @@ ghost use Rattle.minidump.specs.Below.Modules.CodeId.{text_of};
 ghost use Rattle.minidump.specs.Below.Modules.DebugId.{breakpad_text};
 ghost use Rattle.minidump.specs.Below.Modules.Module.{module_of};
 ghost use Rattle.minidump.specs.Below.Modules.UnloadedModule.{unloaded_of};
+ghost use Rattle.minidump.specs.Dump.{dump_in};
+ghost use Rattle.minidump.specs.DumpValue.{dump_of};
 ghost use Rattle.minidump.specs.Promise.{module_list_stream, unloaded_module_list_stream};
 ghost use Rattle.crash.specs.FileName.{file_name};
 ghost use Rattle.crash.specs.Contents.{contents_of};
@@ -14,9 +16,10 @@ ghost use Rattle.crash.specs.Modules.{unloaded_in, unloaded_module_in, unloaded_
 use crate::contents::Contents;
 use crate::each::{MakeItem, make_items};
 use crate::file_names::file_name;
+use crate::unreadable_modules::{UnreadableModule, unreadable_of};
 use minidump::{
-    CodeId, DebugId, Error, MinidumpModule, MinidumpUnloadedModule, MinidumpUnloadedModuleList,
-    Module,
+    CodeId, DebugId, Error, Minidump, MinidumpModule, MinidumpUnloadedModule,
+    MinidumpUnloadedModuleList, Module,
 };
 use std::alloc::{AllocError, Global};
 
@@ -25,6 +28,9 @@ use std::alloc::{AllocError, Global};
 pub struct CrashModules {
     /// The modules that were loaded, in the order of their list; none if it can't be read.
     pub loaded: Vec<CrashModule>,
+    /// The entries of that list that can't be read: one is enough for the whole list to be an error.
+    /// None if the list can be read, and if it can't be told where its entries are.
+    pub unreadable: Vec<UnreadableModule>,
     /// The modules that were unloaded before, in the order of their list; none if it can't be read.
     pub unloaded: Vec<UnloadedModule>,
 }
@@ -66,14 +72,25 @@ pub struct UnloadedModule {
 }
 
 // Returns the modules of a process.
-pub(crate) fn modules_of(alloc: Global, contents: &Contents<'_>) -> Result<CrashModules, Error>
+pub(crate) fn modules_of(
+    alloc: Global,
+    file: &[u8],
+    dump: &Minidump<'_>,
+    contents: &Contents<'_>,
+) -> Result<CrashModules, Error>
+    requires { dump_in file.now ≡ Ok (dump_of dump.now) }
     ensures modules { IfOk result (λ modules. modules_of modules
-        ≡ modules_in (contents_of contents.now)) }
+        ≡ modules_in (dump_of dump.now) (contents_of contents.now)) }
     ensures memory { IsOkUnless result Error.OutOfMemory }
 {
     let loaded = loaded_of(alloc, contents)?;
+    let unreadable = unreadable_of(alloc, file, dump, contents.space.modules_error)?;
     let unloaded = unloaded_of(alloc, &contents.space.unloaded)?;
-    Ok(CrashModules { loaded, unloaded })
+    Ok(CrashModules {
+        loaded,
+        unreadable,
+        unloaded,
+    })
 }
 
 // Returns the modules that were loaded.

@@ -2,17 +2,23 @@ ghost use Rattle.std.specs.Prelude.{◌≡◌, IfOk, IsOkUnless, string_bytes};
 ghost use Rattle.std.specs.Option.{option_copied, option_map};
 ghost use Rattle.minidump.specs.Below.Contexts.Context.{map_ok};
 ghost use Rattle.minidump.specs.DumpValue.{dump_of};
-ghost use Rattle.minidump.specs.Promise.{linux_proc_status_stream, misc_info_stream};
-ghost use Rattle.minidump.specs.Promise.{system_info_stream};
+ghost use Rattle.minidump.specs.Promise.{linux_cpu_info_stream, linux_proc_status_stream};
+ghost use Rattle.minidump.specs.Promise.{misc_info_stream, system_info_stream};
 ghost use Rattle.crash.specs.Contents.{contents_of};
-ghost use Rattle.crash.specs.Process.{id_in, misc_id, process_in, process_of, system_by, system_in};
-ghost use Rattle.crash.specs.Process.{system_of, uptime, uptime_in};
+ghost use Rattle.crash.specs.Process.{cpu_model, id_in, misc_id, process_in, process_of, system_by};
+ghost use Rattle.crash.specs.Process.{system_in, system_of, uptime, uptime_in};
 
 use crate::contents::Contents;
-use crate::process_texts::{Comments, command_line_of, comments_of, status_id};
+use crate::handle_kinds::{HandleKind, kinds_of};
+use crate::process_texts::{
+    Comments, command_line_of, comments_of, cpu_text, status_number, status_size,
+};
 use crate::release::{LsbRelease, release_of};
 use minidump::system_info::{Cpu, Os};
-use minidump::{Error, Minidump, MinidumpLinuxProcStatus, MinidumpMiscInfo, MinidumpSystemInfo};
+use minidump::{
+    Error, Minidump, MinidumpLinuxCpuInfo, MinidumpLinuxProcStatus, MinidumpMiscInfo,
+    MinidumpSystemInfo,
+};
 use std::alloc::{AllocError, Global};
 
 /// What is known of a process, and of the system on which it ran.
@@ -22,9 +28,14 @@ pub struct CrashProcess {
     pub system: Option<CrashSystem>,
     /// The id, by the misc information, else by Linux's status.
     pub id: Option<u32>,
+    /// The id of its parent, `PPid` of Linux's status; 0 if that is outside of the process's
+    /// namespace.
+    pub parent: Option<u32>,
     /// For how many seconds it had run when the dump was written, or `None` if one of the times
     /// isn't there, is 0, or they are not in order.
     pub uptime: Option<u64>,
+    /// How many bytes of it were in memory: `VmRSS` of Linux's status, which is in kB of 1,024 bytes.
+    pub resident: Option<u64>,
     /// The release of Linux, or `None` if its stream can't be read.
     pub release: Option<LsbRelease>,
     /// The arguments of its command line, as the copy of Linux's `/proc/PID/cmdline` has them, with a
@@ -32,6 +43,9 @@ pub struct CrashProcess {
     pub command_line: Option<String>,
     /// The comments of the dump.
     pub comments: Comments,
+    /// The kinds of its handles, ascending by the bytes of their names; none if the stream can't be
+    /// read. A handle whose type has no name is of no kind.
+    pub handle_kinds: Vec<HandleKind>,
 }
 
 /// The system on which a process ran.
@@ -47,8 +61,12 @@ pub struct CrashSystem {
     pub version: String,
     /// The build of that version.
     pub build: Option<String>,
-    /// The description of the processor.
+    /// The description of the processor, by the system information, else the first `model name` of
+    /// Linux's `/proc/cpuinfo`, with U+FFFD for what isn't UTF-8.
     pub cpu_model: Option<String>,
+    /// The version of the processor's microcode: the first `microcode` of Linux's `/proc/cpuinfo`, as
+    /// `0xde`, with U+FFFD for what isn't UTF-8.
+    pub microcode: Option<String>,
 }
 
 // Returns what is known of the process of a dump with these contents.
@@ -61,17 +79,21 @@ pub(crate) fn process_of(
         ≡ process_in (dump_of dump.now) (contents_of contents.now)) }
     ensures memory { IsOkUnless result Error.OutOfMemory }
 {
-    let system = system_of(alloc, &contents.system.system)?;
+    let system = system_of(alloc, &contents.system.system, &contents.system.cpu_info)?;
     let release = release_of(alloc, &contents.system.lsb_release)?;
     let command_line = command_line_of(alloc, dump)?;
     let comments = comments_of(alloc, dump)?;
+    let handle_kinds = kinds_of(alloc, &contents.process.handles)?;
     Ok(CrashProcess {
         system,
         id: id_of(&contents.system.misc, &contents.process.status),
+        parent: status_number(&contents.process.status, b"PPid"),
         uptime: uptime_of(dump.header.time_date_stamp, &contents.system.misc),
+        resident: status_size(&contents.process.status, b"VmRSS"),
         release,
         command_line,
         comments,
+        handle_kinds,
     })
 }
 
@@ -79,25 +101,33 @@ pub(crate) fn process_of(
 fn system_of(
     alloc: Global,
     system: &Result<MinidumpSystemInfo, Error>,
+    cpu: &Result<MinidumpLinuxCpuInfo<'_>, Error>,
 ) -> Result<Option<CrashSystem>, Error>
     ensures system { IfOk result (λ found. option_map system_of found
-        ≡ system_in (map_ok system_info_stream.value system.now)) }
+        ≡ system_in (map_ok system_info_stream.value system.now)
+        (map_ok linux_cpu_info_stream.value cpu.now)) }
     ensures memory { IsOkUnless result Error.OutOfMemory }
 {
     match system {
-        Ok(system) => Ok(Some(system_by(alloc, system)?)),
+        Ok(system) => Ok(Some(system_by(alloc, system, cpu)?)),
         Err(_) => Ok(None),
     }
 }
 
-// Returns a system by its information.
-fn system_by(alloc: Global, system: &MinidumpSystemInfo) -> Result<CrashSystem, Error>
+// Returns a system by its information, and by Linux's description of the processors.
+fn system_by(
+    alloc: Global,
+    system: &MinidumpSystemInfo,
+    cpu: &Result<MinidumpLinuxCpuInfo<'_>, Error>,
+) -> Result<CrashSystem, Error>
     ensures system { IfOk result
-        (λ s. system_of s ≡ system_by (system_info_stream.value system.now)) }
+        (λ s. system_of s ≡ system_by (map_ok linux_cpu_info_stream.value cpu.now)
+        (system_info_stream.value system.now)) }
     ensures memory { IsOkUnless result Error.OutOfMemory }
 {
     let (version, build) = system.os_parts(alloc)?;
-    let cpu_model = copy(alloc, system.cpu_info())?;
+    let cpu_model = cpu_model_of(alloc, system, cpu)?;
+    let microcode = cpu_text(alloc, cpu, b"microcode")?;
     Ok(CrashSystem {
         os: system.os,
         cpu: system.cpu,
@@ -105,7 +135,24 @@ fn system_by(alloc: Global, system: &MinidumpSystemInfo) -> Result<CrashSystem, 
         version,
         build,
         cpu_model,
+        microcode,
     })
+}
+
+// Copies the description of the processor.
+fn cpu_model_of(
+    alloc: Global,
+    system: &MinidumpSystemInfo,
+    cpu: &Result<MinidumpLinuxCpuInfo<'_>, Error>,
+) -> Result<Option<String>, AllocError>
+    ensures { IfOk result (λ model. option_map string_bytes model
+        ≡ cpu_model (system_info_stream.value system.now)
+        (map_ok linux_cpu_info_stream.value cpu.now)) }
+{
+    match system.cpu_info() {
+        Some(model) => Ok(Some(String::from_str(alloc, model)?)),
+        None => cpu_text(alloc, cpu, b"model name"),
+    }
 }
 
 // Copies a text that may be absent.
@@ -126,7 +173,7 @@ fn id_of(
     ensures { result ≡ id_in (map_ok misc_info_stream.value misc.now)
         (map_ok linux_proc_status_stream.value status.now) }
 {
-    misc_id(misc).or(status_id(status))
+    misc_id(misc).or(status_number(status, b"Pid"))
 }
 
 // Returns the id of the process by the misc information.

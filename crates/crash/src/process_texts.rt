@@ -1,4 +1,5 @@
-//! The texts of a process: its id in Linux's status, its command line, and the comments of the dump.
+//! The texts of a process: what Linux's files say of it, its command line, and the comments of the
+//! dump.
 ghost use Rattle.std.specs.Prelude.{◌≡◌, ◌/◌, ◌==◌, IfOk, length, string_bytes};
 ghost use Rattle.std.specs.List.{before_first, position};
 ghost use Rattle.std.specs.Option.{option_map};
@@ -6,15 +7,19 @@ ghost use Rattle.minidump.specs.Below.Bytes.LinuxOsStr.{text_of};
 ghost use Rattle.minidump.specs.Below.Bytes.Text16.{units_at};
 ghost use Rattle.minidump.specs.Below.Contexts.Context.{map_ok};
 ghost use Rattle.minidump.specs.DumpValue.{dump_of};
-ghost use Rattle.minidump.specs.Promise.{linux_proc_status_stream};
-ghost use Rattle.crash.specs.ProcessTexts.{command_line_in, command_text, comment_text, comments_in};
-ghost use Rattle.crash.specs.ProcessTexts.{comments_of, pid_value, spaced, status_id, wide_text};
+ghost use Rattle.minidump.specs.Promise.{linux_cpu_info_stream, linux_proc_status_stream};
+ghost use Rattle.crash.specs.ProcessTexts.{bytes_of_kb, command_line_in, command_text, comment_text};
+ghost use Rattle.crash.specs.ProcessTexts.{comments_in, comments_of, cpu_text, size_of_text, spaced};
+ghost use Rattle.crash.specs.ProcessTexts.{status_number, status_size, value_in, value_of, wide_text};
 
 use minidump::format::MINIDUMP_STREAM_TYPE;
 use minidump::own_streams::text_before_nul;
 use minidump::strings::LinuxOsStr;
-use minidump::{Endian, Error, Minidump, MinidumpLinuxProcStatus, Source, Steps};
-use minidump_bytes::number_32;
+use minidump::{
+    Endian, Error, LinuxPairs, Minidump, MinidumpLinuxCpuInfo, MinidumpLinuxProcStatus, Source,
+    Steps,
+};
+use minidump_bytes::{number_32, number_64};
 use std::alloc::{AllocError, Global};
 
 /// The comments of a dump, by whoever wrote it.
@@ -28,24 +33,92 @@ pub struct Comments {
     pub wide: Option<String>,
 }
 
-// ---- the id
+// ---- Linux's files
 
-// Returns the id of the process, as Linux's status has it.
-pub(crate) fn status_id(status: &Result<MinidumpLinuxProcStatus<'_>, Error>) -> Option<u32>
-    ensures { result ≡ status_id (map_ok linux_proc_status_stream.value status.now) }
+// Returns the number that a value of Linux's status writes.
+pub(crate) fn status_number(
+    status: &Result<MinidumpLinuxProcStatus<'_>, Error>,
+    key: &[u8],
+) -> Option<u32>
+    ensures { result ≡ status_number key.now (map_ok linux_proc_status_stream.value status.now) }
+{
+    number_32(status_value(status, key)?.as_bytes(), 10)
+}
+
+// Returns the number of bytes that a value of Linux's status writes in kB.
+pub(crate) fn status_size(
+    status: &Result<MinidumpLinuxProcStatus<'_>, Error>,
+    key: &[u8],
+) -> Option<u64>
+    ensures { result ≡ status_size key.now (map_ok linux_proc_status_stream.value status.now) }
+{
+    size_of_text(status_value(status, key)?)
+}
+
+// Returns the number of bytes of a size that a text writes in kB.
+fn size_of_text(text: LinuxOsStr<'_>) -> Option<u64>
+    ensures { result ≡ size_of_text (text_of text.entry) }
+{
+    let digits = text.strip_suffix(b" kB")?;
+    bytes_of_kb(number_64(digits.as_bytes(), 10)?)
+}
+
+// Returns the number of bytes of so many kB.
+fn bytes_of_kb(kb: u64) -> Option<u64>
+    ensures { result ≡ bytes_of_kb kb }
+{
+    kb.checked_mul(1024)
+}
+
+// Copies a value of Linux's description of the processors.
+pub(crate) fn cpu_text(
+    alloc: Global,
+    cpu: &Result<MinidumpLinuxCpuInfo<'_>, Error>,
+    key: &[u8],
+) -> Result<Option<String>, AllocError>
+    ensures { IfOk result (λ text. option_map string_bytes text
+        ≡ cpu_text key.now (map_ok linux_cpu_info_stream.value cpu.now)) }
+{
+    match cpu_value(cpu, key) {
+        Some(value) => Ok(Some(value.to_string_lossy(alloc)?)),
+        None => Ok(None),
+    }
+}
+
+// Returns a value of Linux's status.
+fn status_value<'a>(
+    status: &Result<MinidumpLinuxProcStatus<'a>, Error>,
+    key: &[u8],
+) -> Option<LinuxOsStr<'a>>
+    ensures { option_map text_of result
+        ≡ value_of key.now (map_ok linux_proc_status_stream.value status.now) }
 {
     match status {
-        Ok(status) => number_32(pid_value(status)?.as_bytes(), 10),
+        Ok(status) => value_in(status.iter(), key),
         Err(_) => None,
     }
 }
 
-// Returns the value of the first line of a status whose key is Pid.
-fn pid_value<'a>(status: &MinidumpLinuxProcStatus<'a>) -> Option<LinuxOsStr<'a>>
-    ensures { option_map text_of result ≡ pid_value (linux_proc_status_stream.value status.now) }
+// Returns a value of Linux's description of the processors.
+fn cpu_value<'a>(
+    cpu: &Result<MinidumpLinuxCpuInfo<'a>, Error>,
+    key: &[u8],
+) -> Option<LinuxOsStr<'a>>
+    ensures { option_map text_of result
+        ≡ value_of key.now (map_ok linux_cpu_info_stream.value cpu.now) }
 {
-    for (name, value) in status.iter() {
-        if name.as_bytes() == b"Pid".as_slice() {
+    match cpu {
+        Ok(cpu) => value_in(cpu.iter(), key),
+        Err(_) => None,
+    }
+}
+
+// Returns the value of the first pair that has a key.
+fn value_in<'a>(pairs: LinuxPairs<'a>, key: &[u8]) -> Option<LinuxOsStr<'a>>
+    ensures { option_map text_of result ≡ value_in key.now pairs.entry }
+{
+    for (name, value) in pairs {
+        if name.as_bytes() == key {
             return Some(value);
         }
     }

@@ -5,7 +5,7 @@ ghost use Rattle.minidump.specs.Promise.{system_info_stream};
 ghost use Rattle.crash.specs.Records.{access_in, access_of_number, access_on, is_process};
 ghost use Rattle.crash.specs.Records.{is_low_access, is_sent, is_signal};
 ghost use Rattle.crash.specs.Records.{parameters_in, sender_at, sender_by, sender_if_sent, sender_in};
-ghost use Rattle.crash.specs.Records.{sender_on};
+ghost use Rattle.crash.specs.Records.{sender_on, sender_with, signal_code, signal_code_name};
 
 use minidump::MinidumpSystemInfo;
 use minidump::format::MINIDUMP_EXCEPTION;
@@ -37,10 +37,37 @@ pub enum Access {
     Execute,
 }
 
+/// The `si_code` of a signal that a process sent.
+#[derive(Clone, Copy, Debug, PartialEq, Eq)]
+pub enum SignalCode {
+    /// It was sent by `kill`: SI_USER, 0.
+    User,
+    /// It was sent by `sigqueue`: SI_QUEUE, -1.
+    Queue,
+    /// It was sent to a thread, as by `tgkill` or `raise`: SI_TKILL, -6.
+    Tkill,
+}
+
+impl SignalCode {
+    /// Returns its name in Linux's headers, as `SI_USER`.
+    pub fn name(self) -> &'static str
+        ensures { result.now ≡ signal_code_name self }
+    {
+        match self {
+            SignalCode::User => "SI_USER",
+            SignalCode::Queue => "SI_QUEUE",
+            SignalCode::Tkill => "SI_TKILL",
+        }
+    }
+}
+
 /// The process that sent a signal.
 #[derive(Clone, Copy, Debug, PartialEq, Eq)]
 pub struct Sender {
-    /// The id of the process, `si_pid`: of one outside of the receiver's namespace 0.
+    /// The `si_code`, which is the flags of the record.
+    pub code: SignalCode,
+    /// The id of the process, `si_pid`: 0 if it is outside of the receiver's namespace. By SI_USER
+    /// it is never 0, since a record that has no `si_code` has 0 there, too.
     pub process: u32,
     /// The id of its user, `si_uid`, or `None` where the record has no room for it: in an address of
     /// 32 bits.
@@ -111,7 +138,27 @@ fn sender_on(os: Os, cpu: Cpu, raw: &MINIDUMP_EXCEPTION) -> Option<Sender>
     ensures { result ≡ sender_on os cpu raw.now }
 {
     match os {
-        Os::Linux | Os::Android => sender_if_sent(raw, sender_by(cpu.pointer_width(), raw)),
+        Os::Linux | Os::Android => sender_with(cpu.pointer_width(), raw),
+        _ => None,
+    }
+}
+
+// Returns the same by the width of a pointer.
+fn sender_with(width: PointerWidth, raw: &MINIDUMP_EXCEPTION) -> Option<Sender>
+    ensures { result ≡ sender_with width raw.now }
+{
+    let code = signal_code(raw.exception_flags)?;
+    sender_if_sent(raw, sender_by(code, width, raw))
+}
+
+// Returns the code of a signal that a process sends.
+fn signal_code(si_code: u32) -> Option<SignalCode>
+    ensures { result ≡ signal_code si_code }
+{
+    match si_code {
+        SI_USER => Some(SignalCode::User),
+        SI_QUEUE => Some(SignalCode::Queue),
+        SI_TKILL => Some(SignalCode::Tkill),
         _ => None,
     }
 }
@@ -120,7 +167,7 @@ fn sender_on(os: Os, cpu: Cpu, raw: &MINIDUMP_EXCEPTION) -> Option<Sender>
 fn sender_if_sent(raw: &MINIDUMP_EXCEPTION, sender: Sender) -> Option<Sender>
     ensures { result ≡ sender_if_sent raw.now sender }
 {
-    if is_signal(raw.exception_code) && is_sent(raw, sender) {
+    if is_signal(raw.exception_code) && is_sent(sender.code, raw, sender.process) {
         Some(sender)
     } else {
         None
@@ -134,14 +181,14 @@ fn is_signal(number: u32) -> bool
     number >= 1 && number <= 64
 }
 
-// Tells whether a process sent the signal of a record, by its sender.
-fn is_sent(raw: &MINIDUMP_EXCEPTION, sender: Sender) -> bool
-    ensures { result ≡ is_sent raw.now sender }
+// Tells whether a process sent the signal of a record, by its code and the number of the process.
+fn is_sent(code: SignalCode, raw: &MINIDUMP_EXCEPTION, process: u32) -> bool
+    ensures { result ≡ is_sent code raw.now process }
 {
-    let si_code = raw.exception_flags;
-    si_code == SI_QUEUE
-        || si_code == SI_TKILL
-        || (si_code == SI_USER && is_process(sender.process) && !is_low_access(raw))
+    match code {
+        SignalCode::User => is_process(process) && !is_low_access(raw),
+        SignalCode::Queue | SignalCode::Tkill => true,
+    }
 }
 
 // Tells whether a record can be that of an access near 0.
@@ -160,29 +207,34 @@ fn is_process(number: u32) -> bool
 }
 
 // Returns the sender of a signal, if it was sent.
-fn sender_by(width: PointerWidth, raw: &MINIDUMP_EXCEPTION) -> Sender
-    ensures { result ≡ sender_by width raw.now }
+fn sender_by(code: SignalCode, width: PointerWidth, raw: &MINIDUMP_EXCEPTION) -> Sender
+    ensures { result ≡ sender_by code width raw.now }
 {
     if raw.exception_address == 0 && raw.number_parameters >= 2 {
         Sender {
+            code,
             process: low(raw.exception_information[0]),
             user: Some(low(raw.exception_information[1])),
         }
     } else {
-        sender_at(width, raw.exception_address)
+        sender_at(code, width, raw.exception_address)
     }
 }
 
 // Returns the same by the address.
-fn sender_at(width: PointerWidth, address: u64) -> Sender
-    ensures { result ≡ sender_at width address }
+fn sender_at(code: SignalCode, width: PointerWidth, address: u64) -> Sender
+    ensures { result ≡ sender_at code width address }
 {
     let process = low(address);
     let user = match width {
         PointerWidth::Bits32 => None,
         _ => Some(high(address)),
     };
-    Sender { process, user }
+    Sender {
+        code,
+        process,
+        user,
+    }
 }
 
 // Returns the low half of a number.

@@ -53,8 +53,8 @@ pub struct CrashThread {
     /// or of the thread's own, by the first of these that is whole, else by the first that is cut
     /// after its general registers.
     pub context: Option<CrashContext>,
-    /// Why its own context gives no registers, or `None` if it gives some, and for a thread that the
-    /// list lacks.
+    /// Why its own context can't give registers, or `None` if it can, whole or cut short, and for a
+    /// thread that the list lacks.
     pub context_problem: Option<ContextProblem>,
     /// Where its stack is, as its entry names it; `None` if that has no bytes.
     pub stack: Option<StackRange>,

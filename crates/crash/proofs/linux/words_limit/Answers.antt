@@ -1,0 +1,16 @@
+-- The words before the first limit, and those from it on.
+use Rattle.std.proofs.lemmas.List.{drop-map, take-map}
+use Rattle.minidump.specs.Below.Bytes.LinuxOsStr.{text_of}
+use Rattle.crash.proofs.linux.words_limit.Goals as goal
+
+pub returns-in-Some : goal.returns-in-Some
+returns-in-Some c =
+    rw (
+      ← c.first_limit.ensures,
+      c.in-Some.is,
+      take-map text_of c.in-Some.at c.args.words.now,
+      drop-map text_of c.in-Some.at c.args.words.now,
+      ← c.split_at.ensures.front,
+      ← c.split_at.ensures.back,
+    )
+    c.limit_from.ensures
