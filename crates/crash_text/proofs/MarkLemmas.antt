@@ -9,14 +9,14 @@ use Rattle.crash.specs.Modules.{LoadedValue, loaded_of}
 use Rattle.crash_symbols.specs.Shown.{SymbolizedValue}
 use Rattle.crash_text.specs.declared.limits.TextLimits.{TextLimits}
 use Rattle.crash_text.specs.Lines.{line_of}
-use Rattle.crash_text.specs.Modules.{HasMarks, address_place, each_module, is_in, is_marked, is_named, listed_lines, module_line, named_modules, symbols_text}
+use Rattle.crash_text.specs.Modules.{HasMarks, address_place, all_modules, each_module, is_in, is_marked, is_named, listed_lines, module_line, named_modules, symbols_text}
 
 same_listed : (limits : TextLimits) (symbols : Option SymbolizedValue) (f g : ℕ → Bool) (n : ℕ) (ms : List LoadedValue) → ((i : ℕ) → i < n + length ms → f i ≡ g i)
     → flat_map (listed_lines limits symbols f) (enumerate_from n ms) ≡ flat_map (listed_lines limits symbols g) (enumerate_from n ms)
 same_listed limits symbols f g n [] same = refl
 same_listed limits symbols f g n (m ∷ ms) same =
     let first : n < n + length (m ∷ ms) = omega arith in
-    ap (λ b. (if limits.lists || b then module_line m (symbols_text symbols n) ∷ [] else []) ++ flat_map (listed_lines limits symbols f) (enumerate_from (n + 1) ms)) (same n first)
+    ap (λ b. (if all_modules limits || b then module_line (all_modules limits) m (symbols_text symbols n) ∷ [] else []) ++ flat_map (listed_lines limits symbols f) (enumerate_from (n + 1) ms)) (same n first)
     ∙ ap (λ rest. listed_lines limits symbols g (n, m) ++ rest) (same_listed limits symbols f g (n + 1) ms (λ i within. same i (omega (arith, within))))
 
 -- what has a mark is named

@@ -10,6 +10,9 @@ use Rattle.minidump.specs.Below.Format.StreamType.{stream_type_of, type_name}
 use Rattle.crash.specs.declared.damage.Damage.{Damage}
 use Rattle.crash.specs.declared.damage.Damage.TheVariants.{Exception, ExceptionContext, Stack, Stream}
 use Rattle.crash.specs.declared.damage.Damage.TheVariants.{ThreadContext}
+use Rattle.crash.specs.declared.unreadable_modules.ModulePart.{ModulePart}
+use Rattle.crash.specs.declared.unreadable_modules.ModulePart.TheVariants.{CodeView, Name}
+use Rattle.crash.specs.declared.unreadable_modules.UnreadableModule.{UnreadableModule}
 use Rattle.crash.specs.Crash.{CrashValue}
 
 -- the name of a type of stream, where it has one
@@ -39,6 +42,20 @@ damage_row (ExceptionContext thread) =
 damage_row (ThreadContext thread) = outside_row (codes "the context of thread") thread
 damage_row (Stack thread) = outside_row (codes "the stack of thread") thread
 
+-- the words for a part of a module's entry
+abbrev pub part_words : ModulePart → List ℕ
+part_words Name = codes "the name of module "
+part_words CodeView = codes "the CodeView record of module "
+
+-- the line of a module of which a part can't be read, by the words for the part
+unfoldable pub unreadable_row : List ℕ → UnreadableModule → List ℕ
+unreadable_row part m = concat (codes "can't be read: " ∷ part ∷ decimal m.index ∷ codes " at "
+    ∷ hex m.base ∷ codes ", " ∷ hex m.size ∷ codes " bytes" ∷ [])
+
+-- the same by its value
+abbrev pub unreadable_line : UnreadableModule → List ℕ
+unreadable_line m = unreadable_row (part_words m.part) m
+
 -- the line of the number of entries whose bytes are not all in the file
 unfoldable pub entries_row : ℕ → List ℕ
 entries_row count = concat (codes "entries of the directory outside the file: " ∷ decimal count
@@ -50,4 +67,5 @@ entries_lines count = if nat_lt 0 count then entries_row count ∷ [] else []
 
 -- all of it
 abbrev pub damage_lines : CrashValue → List (List ℕ)
-damage_lines c = map damage_row c.damage ++ entries_lines c.directory.entries_outside
+damage_lines c = map damage_row c.damage ++ (map unreadable_line c.modules.unreadable
+    ++ entries_lines c.directory.entries_outside)

@@ -82,6 +82,5 @@ none_lines (_ ∷ _) = []
 
 -- the crash, and the exceptions of the dump
 abbrev pub crash_lines : CrashValue → List (List ℕ)
-crash_lines c = none_lines c.cause.exceptions
-    ++ (if_some (counted_lines c) (counted c.cause.exceptions c.cause.counts)
-    ++ several_lines c.cause.exceptions c.cause.counts)
+crash_lines c = if_some (counted_lines c) (counted c.cause.exceptions c.cause.counts)
+    ++ several_lines c.cause.exceptions c.cause.counts

@@ -1,8 +1,9 @@
 -- The lines of the lists of a dump: how many items each has and, if lists are asked for, the items.
-use Rattle.std.specs.Prelude.{ℕ, ◌++◌, ◌||◌, is_none, List, [], ◌∷◌, length, map, Option}
+use Rattle.std.specs.Prelude.{ℕ, ◌++◌, ◌||◌, Bool, is_none, List, [], ◌∷◌, length, map, Option}
 use Rattle.std.specs.Prelude.{Some, None, Result, Ok, Err, codes, if◌then◌else◌}
 use Rattle.std.specs.Fmt.{decimal}
 use Rattle.std.specs.List.{concat}
+use Rattle.std.specs.Str.Lossy.{utf8_lossy}
 use Rattle.minidump.specs.declared.Error.{Error}
 use Rattle.minidump.specs.Below.Bytes.Piece.{hex}
 use Rattle.minidump.specs.Below.Format.Error.{name_of_error}
@@ -10,13 +11,17 @@ use Rattle.minidump.specs.Below.MemoryLists.Unified.{UnifiedRegion, unified_regi
 use Rattle.minidump.specs.Below.Modules.UnloadedModule.{UnloadedValue}
 use Rattle.minidump.specs.Below.Records.Descriptor.{handle}
 use Rattle.minidump.specs.Below.Records.Handles.{Handle}
+use Rattle.minidump.specs.Below.Records.Pairs.{pairs_of}
 use Rattle.crash.specs.declared.directory.StreamEntry.{StreamEntry}
+use Rattle.crash.specs.Contents.{ProcessStreamValues}
 use Rattle.crash.specs.Crash.{CrashValue}
+use Rattle.crash.specs.HandleKinds.{KindValue}
+use Rattle.crash.specs.Linux.{LimitValue, limits_in}
 use Rattle.crash.specs.Modules.{UnloadedModuleValue}
 use Rattle.crash_text.specs.declared.limits.TextLimits.{TextLimits}
 use Rattle.crash_text.specs.Damage.{stream_text}
 use Rattle.crash_text.specs.Lines.{if_some}
-use Rattle.crash_text.specs.Modules.{key_text}
+use Rattle.crash_text.specs.Modules.{all_modules, key_text}
 use Rattle.crash_text.specs.Words.{or_empty, where_some}
 
 -- the line of the number of something
@@ -24,10 +29,9 @@ unfoldable pub count_row : List ℕ → ℕ → List ℕ
 count_row what count = concat (what ∷ codes " " ∷ decimal count ∷ [])
 
 -- the number of items, and the lines of them if they are asked for
-abbrev pub list_lines : {X : Type 0} → TextLimits → List ℕ → (X → List ℕ) → List X
-    → List (List ℕ)
-list_lines limits what row items =
-    count_row what (length items) ∷ (if limits.lists then map row items else [])
+abbrev pub list_lines : {X : Type 0} → Bool → List ℕ → (X → List ℕ) → List X → List (List ℕ)
+list_lines is_asked what row items =
+    count_row what (length items) ∷ (if is_asked then map row items else [])
 
 -- ---- streams
 
@@ -66,7 +70,7 @@ unloaded_line m = unloaded_row m.base m.path (key_text (codes ", code ") (Some m
 abbrev pub unloaded_lines : TextLimits → List UnloadedModuleValue
     → Result (List UnloadedValue) Error → List (List ℕ)
 unloaded_lines limits modules (Ok _) =
-    list_lines limits (codes "unloaded modules") unloaded_line modules
+    list_lines (all_modules limits) (codes "unloaded modules") unloaded_line modules
 unloaded_lines limits modules (Err _) = []
 
 -- ---- memory
@@ -84,7 +88,7 @@ region_line r = region_row r.base_address r.size
 abbrev pub memory_lines : TextLimits → List UnifiedRegion → Option Error × Option Error
     → List (List ℕ)
 memory_lines limits regions errors = if is_none errors.0 || is_none errors.1
-    then list_lines limits (codes "memory regions") region_line regions else []
+    then list_lines limits.lists (codes "memory regions") region_line regions else []
 
 -- ---- handles
 
@@ -103,18 +107,72 @@ handle_row value type_name name = concat (codes "    " ∷ value ∷ where_some 
 abbrev pub handle_line : Handle → List ℕ
 handle_line h = handle_row (value_text (handle h.raw)) h.type_name h.object_name
 
--- the handles, where their list can be read
-abbrev pub handles_lines : TextLimits → Result (List Handle) Error → List (List ℕ)
-handles_lines limits (Ok handles) = list_lines limits (codes "handles") handle_line handles
-handles_lines limits (Err _) = []
+-- all handles are asked for
+abbrev pub all_handles : TextLimits → Bool
+all_handles limits = limits.lists || limits.handles
+
+-- the line of a kind of handles: the name of their type, and how many there are
+unfoldable pub kind_row : List ℕ → ℕ → List ℕ
+kind_row type_name count = concat (codes "    " ∷ type_name ∷ codes " " ∷ decimal count ∷ [])
+
+-- the same by the value
+abbrev pub kind_line : KindValue → List ℕ
+kind_line k = kind_row k.type_name k.count
+
+-- the handles, where their list can be read: how many there are, each kind, and all of them if they
+-- are asked for
+abbrev pub handles_lines : TextLimits → List KindValue → Result (List Handle) Error
+    → List (List ℕ)
+handles_lines limits kinds (Ok handles) = count_row (codes "handles") (length handles)
+    ∷ (map kind_line kinds ++ (if all_handles limits then map handle_line handles else []))
+handles_lines limits kinds (Err _) = []
+
+-- ---- Linux's limits of the process
+
+-- the line of a limit: its name, the soft and the hard one, and what they count
+unfoldable pub limit_row : List ℕ → List ℕ → List ℕ → Option (List ℕ) → List ℕ
+limit_row name soft hard unit = concat (codes "    " ∷ name ∷ codes " soft " ∷ soft
+    ∷ codes " hard " ∷ hard ∷ where_some (codes " ") unit ∷ or_empty unit ∷ [])
+
+-- the same by the value
+abbrev pub limit_line : LimitValue → List ℕ
+limit_line l = limit_row l.name l.soft l.hard l.unit
+
+-- the limits, where their stream can be read
+abbrev pub limits_lines : TextLimits → Result (List ℕ) Error → List (List ℕ)
+limits_lines limits (Ok text) = list_lines limits.lists (codes "limits") limit_line (limits_in text)
+limits_lines limits (Err _) = []
+
+-- ---- Linux's environment
+
+-- the line of a variable of the environment
+unfoldable pub variable_row : List ℕ → List ℕ → List ℕ
+variable_row name value = concat (codes "environment " ∷ name ∷ codes "=" ∷ value ∷ [])
+
+-- the same by the variable, with U+FFFD for what isn't UTF-8
+abbrev pub variable_line : List ℕ × List ℕ → List ℕ
+variable_line p = variable_row (utf8_lossy p.0) (utf8_lossy p.1)
+
+-- the environment, where its stream can be read: the number of variables, and only if they are asked
+-- for themselves their lines
+abbrev pub environment_lines : TextLimits → Result (List ℕ) Error → List (List ℕ)
+environment_lines limits (Ok text) = list_lines limits.environment (codes "environment variables")
+    variable_line (pairs_of 0x3d text)
+environment_lines limits (Err _) = []
 
 -- ---- all of them
+
+-- those of the process, by the kinds of its handles
+abbrev pub process_lists_lines : TextLimits → List KindValue → ProcessStreamValues
+    → List (List ℕ)
+process_lists_lines limits kinds p = handles_lines limits kinds p.handles
+    ++ (limits_lines limits p.limits ++ environment_lines limits p.environ)
 
 -- the lists after the modules
 abbrev pub lists_lines : TextLimits → CrashValue → List (List ℕ)
 lists_lines limits c =
     unloaded_lines limits c.modules.unloaded c.contents.space.unloaded
-    ++ (list_lines limits (codes "streams") entry_line c.directory.entries
+    ++ (list_lines limits.lists (codes "streams") entry_line c.directory.entries
     ++ (memory_lines limits (unified_regions c.contents.space.memory) c.contents.space.memory_errors
     ++ (if_some (λ count. count_row (codes "maps") count ∷ []) c.contents.space.map_count
-    ++ handles_lines limits c.contents.process.handles)))
+    ++ process_lists_lines limits c.process.handle_kinds c.contents.process)))

@@ -1,7 +1,7 @@
 -- The lines of modules: how many there are, and those that other lines name, with what a symbol
 -- server is asked by.
-use Rattle.std.specs.Prelude.{ℕ, ◌≡◌, ◌<◌, ◌==◌, ◌||◌, Bool, false, List, [], ◌∷◌, get_or, length, Option}
-use Rattle.std.specs.Prelude.{Some, None, codes, if◌then◌else◌}
+use Rattle.std.specs.Prelude.{ℕ, ◌≡◌, ◌<◌, ◌==◌, ◌||◌, Bool, false, true, List, [], ◌∷◌, bytes_eq}
+use Rattle.std.specs.Prelude.{get_or, length, Option, Some, None, codes, if◌then◌else◌}
 use Rattle.std.specs.Fmt.{decimal}
 use Rattle.std.specs.List.{concat, enumerate_from, flat_map, list_any}
 use Rattle.std.specs.Option.{option_and_then}
@@ -18,7 +18,7 @@ use Rattle.crash_symbols.specs.Shown.{SymbolizedValue}
 use Rattle.crash_symbols.specs.Symbols.{state_at}
 use Rattle.crash_text.specs.declared.limits.TextLimits.{TextLimits}
 use Rattle.crash_text.specs.Threads.{frames_in}
-use Rattle.crash_text.specs.Words.{if_missing, or_empty, where_some}
+use Rattle.crash_text.specs.Words.{if_missing}
 
 -- ---- a module
 
@@ -28,13 +28,28 @@ key_text label (Some file) (Some id) = concat (label ∷ file ∷ codes "/" ∷ 
 key_text label (Some file) None = []
 key_text label None id = []
 
--- the line of a module: its base address, its path, its version, and what a symbol server is asked
--- by: the names and the identifiers of its debug file and of its code file; and the words for its
--- symbols
-unfoldable pub module_row : ℕ → List ℕ → Option (List ℕ) → List ℕ → List ℕ → List ℕ → List ℕ
-module_row base path version debug code symbols = concat (codes "    " ∷ hex base ∷ codes " "
-    ∷ path ∷ where_some (codes ", version ") version ∷ or_empty version ∷ debug ∷ code ∷ symbols
-    ∷ [])
+-- the words for a version, where there is one; 0.0.0.0 says nothing
+abbrev pub version_text : Option (List ℕ) → List ℕ
+version_text (Some version) = if bytes_eq version (codes "0.0.0.0") then []
+    else concat (codes ", version " ∷ version ∷ [])
+version_text None = []
+
+-- all modules are asked for
+abbrev pub all_modules : TextLimits → Bool
+all_modules limits = limits.lists || limits.modules
+
+-- the words for the address after a module, where all modules are asked for and it is known
+abbrev pub end_text : Bool → Option ℕ → List ℕ
+end_text true (Some end) = concat (codes "-" ∷ hex end ∷ [])
+end_text true None = []
+end_text false end = []
+
+-- the line of a module: its base address, the words for its end, its path, its version, and what a
+-- symbol server is asked by: the names and the identifiers of its debug file and of its code file;
+-- and the words for its symbols
+unfoldable pub module_row : ℕ → List ℕ → List ℕ → List ℕ → List ℕ → List ℕ → List ℕ → List ℕ
+module_row base end path version debug code symbols = concat (codes "    " ∷ hex base ∷ end
+    ∷ codes " " ∷ path ∷ version ∷ debug ∷ code ∷ symbols ∷ [])
 
 -- the words for why a module has no symbols, where they were looked for
 abbrev pub state_text : SymbolState → List ℕ
@@ -49,10 +64,11 @@ abbrev pub symbols_text : Option SymbolizedValue → ℕ → List ℕ
 symbols_text (Some s) index = state_text (state_at s.states index)
 symbols_text None index = []
 
--- the line of a module by its value, with the words for its symbols
-abbrev pub module_line : LoadedValue → List ℕ → List ℕ
-module_line m symbols = module_row m.base m.path m.version
-    (key_text (codes ", debug ") m.debug_file m.debug_id)
+-- the line of a module by its value, with its end where all modules are asked for, and with the words
+-- for its symbols
+abbrev pub module_line : Bool → LoadedValue → List ℕ → List ℕ
+module_line is_asked m symbols = module_row m.base (end_text is_asked m.end) m.path
+    (version_text m.version) (key_text (codes ", debug ") m.debug_file m.debug_id)
     (key_text (codes ", code ") (Some m.file) m.code_id) symbols
 
 -- ---- those that other lines name
@@ -71,11 +87,11 @@ abbrev pub is_named : Option AddressFacts → List CrashFrame → ℕ → Bool
 is_named address frames index = is_in index (address_place address)
     || list_any (λ f. is_in index f.«module») frames
 
--- a module with its index, if all modules are listed or other lines name it
+-- a module with its index, if all modules are asked for or other lines name it
 abbrev pub listed_lines : TextLimits → Option SymbolizedValue → (ℕ → Bool) → ℕ × LoadedValue
     → List (List ℕ)
-listed_lines limits symbols named p = if limits.lists || named p.0
-    then module_line p.1 (symbols_text symbols p.0) ∷ [] else []
+listed_lines limits symbols named p = if all_modules limits || named p.0
+    then module_line (all_modules limits) p.1 (symbols_text symbols p.0) ∷ [] else []
 
 -- the modules that are listed, by the indices of those that other lines name
 abbrev pub each_module : TextLimits → Option SymbolizedValue → (ℕ → Bool) → List LoadedValue

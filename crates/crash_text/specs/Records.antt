@@ -7,7 +7,9 @@ use Rattle.minidump.specs.Below.Bytes.Piece.{hex}
 use Rattle.crash.specs.declared.records.Access.{Access}
 use Rattle.crash.specs.declared.records.Access.TheVariants.{Execute, Read, Write}
 use Rattle.crash.specs.declared.records.Sender.{Sender}
+use Rattle.crash.specs.declared.records.SignalCode.{SignalCode}
 use Rattle.crash.specs.Cause.{ExceptionValue}
+use Rattle.crash.specs.Records.{signal_code_name}
 
 -- a number after these words, and nothing for 0
 abbrev pub unless_zero : List ℕ → ℕ → List ℕ
@@ -30,9 +32,13 @@ abbrev pub process_words : ℕ → List ℕ
 process_words id = concat (codes ", sent by process " ∷ decimal id ∷ codes " (" ∷ hex id
     ∷ codes ")" ∷ [])
 
--- the same, and its user
+-- how it was sent, by the name of its `si_code`
+abbrev pub code_words : SignalCode → List ℕ
+code_words code = concat (codes ", " ∷ signal_code_name code ∷ [])
+
+-- the process, its user, and how it was sent
 abbrev pub sender_words : Option Sender → List ℕ
-sender_words (Some s) = process_words s.process ++ user_words s.user
+sender_words (Some s) = process_words s.process ++ (user_words s.user ++ code_words s.code)
 sender_words None = []
 
 -- a parameter after another one

@@ -30,9 +30,15 @@ known_system_row s =
 unfoldable pub processor_row : List ℕ → List ℕ
 processor_row model = concat (codes "processor " ∷ model ∷ [])
 
+-- the line of the version of its microcode
+unfoldable pub microcode_row : List ℕ → List ℕ
+microcode_row version = concat (codes "microcode " ∷ version ∷ [])
+
 -- the lines of a system
 abbrev pub known_system_lines : SystemValue → List (List ℕ)
-known_system_lines s = known_system_row s ∷ if_some (λ model. processor_row model ∷ []) s.cpu_model
+known_system_lines s = known_system_row s
+    ∷ (if_some (λ model. processor_row model ∷ []) s.cpu_model
+    ++ if_some (λ version. microcode_row version ∷ []) s.microcode)
 
 -- the system, or that its information is missing
 abbrev pub system_lines : CrashValue → List (List ℕ)
@@ -73,9 +79,17 @@ date_lines stamp = if stamp == 0 then [] else date_row stamp ∷ []
 unfoldable pub id_row : ℕ → List ℕ
 id_row id = concat (codes "process " ∷ decimal id ∷ codes " (" ∷ hex id ∷ codes ")" ∷ [])
 
+-- the line of the id of its parent
+unfoldable pub parent_row : ℕ → List ℕ
+parent_row id = concat (codes "parent  " ∷ decimal id ∷ codes " (" ∷ hex id ∷ codes ")" ∷ [])
+
 -- for how many seconds it ran
 unfoldable pub uptime_row : ℕ → List ℕ
 uptime_row seconds = concat (codes "uptime  " ∷ decimal seconds ∷ codes " s" ∷ [])
+
+-- how many bytes of it were in memory
+unfoldable pub resident_row : ℕ → List ℕ
+resident_row size = concat (codes "resident " ∷ decimal size ∷ codes " bytes" ∷ [])
 
 -- the line of a text after its words
 unfoldable pub text_row : List ℕ → List ℕ → List ℕ
@@ -91,10 +105,16 @@ said_lines p = text_lines (codes "command ") p.command_line
     ++ (text_lines (codes "comment ") p.comments.narrow
     ++ text_lines (codes "comment ") p.comments.wide)
 
+-- its numbers: its id and that of its parent, for how long it ran, and how much of it was in memory
+abbrev pub number_lines : ProcessFacts → List (List ℕ)
+number_lines p = if_some (λ id. id_row id ∷ []) p.id
+    ++ (if_some (λ id. parent_row id ∷ []) p.parent
+    ++ (if_some (λ seconds. uptime_row seconds ∷ []) p.uptime
+    ++ if_some (λ size. resident_row size ∷ []) p.resident))
+
 -- the process
 abbrev pub process_lines : CrashValue → List (List ℕ)
-process_lines c = if_some (λ id. id_row id ∷ []) c.process.id
-    ++ (if_some (λ seconds. uptime_row seconds ∷ []) c.process.uptime ++ said_lines c.process)
+process_lines c = number_lines c.process ++ said_lines c.process
 
 -- all of them
 abbrev pub head_lines : CrashValue → List (List ℕ)

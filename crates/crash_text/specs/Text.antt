@@ -5,7 +5,7 @@ use Rattle.crash.specs.Crash.{CrashValue}
 use Rattle.crash_symbols.specs.Shown.{SymbolizedValue}
 use Rattle.crash_text.specs.declared.limits.TextLimits.{TextLimits}
 use Rattle.crash_text.specs.Damage.{damage_lines}
-use Rattle.crash_text.specs.Exceptions.{crash_lines}
+use Rattle.crash_text.specs.Exceptions.{crash_lines, none_lines}
 use Rattle.crash_text.specs.Lines.{line_of}
 use Rattle.crash_text.specs.Lists.{lists_lines}
 use Rattle.crash_text.specs.Messages.{messages_lines}
@@ -13,9 +13,10 @@ use Rattle.crash_text.specs.Modules.{modules_lines}
 use Rattle.crash_text.specs.System.{head_lines}
 use Rattle.crash_text.specs.Threads.{crashed_lines, others_lines}
 
--- the system, the process and the crash
+-- that nothing crashed, the system, the process and the crash
 abbrev pub first_lines : CrashValue → List (List ℕ)
-first_lines c = head_lines c ++ (crash_lines c ++ damage_lines c)
+first_lines c = none_lines c.cause.exceptions
+    ++ (head_lines c ++ (crash_lines c ++ damage_lines c))
 
 -- the thread that crashed, what the process said, and the other threads
 abbrev pub threads_lines : TextLimits → Option SymbolizedValue → CrashValue → List (List ℕ)

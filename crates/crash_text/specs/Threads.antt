@@ -1,6 +1,6 @@
 -- The lines of threads.
 use Rattle.std.specs.Prelude.{ℕ, ◌++◌, ◌==◌, ◌&&◌, ◌||◌, Bool, false, true, List, [], ◌∷◌, Option}
-use Rattle.std.specs.Prelude.{Some, None, codes, if◌then◌else◌, map, slice_get}
+use Rattle.std.specs.Prelude.{Some, None, codes, if◌then◌else◌, is_none, map, slice_get}
 use Rattle.std.specs.Fmt.{decimal}
 use Rattle.std.specs.List.{concat, enumerate_from, flat_map}
 use Rattle.std.specs.Option.{option_and_then, option_map}
@@ -110,11 +110,15 @@ crashed_lines limits symbols c =
     missing_lines (codes "no threads") c.contents.threads.threads
     ++ if_some (indexed_lines limits symbols c) (crashed_thread c)
 
+-- whether all frames of each thread are printed: where they are asked for, or none crashed
+abbrev pub shows_all : TextLimits → Option ℕ → Bool
+shows_all limits crashing = limits.all_threads || is_none crashing
+
 -- a thread of an index, if it isn't the one that crashed
 abbrev pub other_lines : TextLimits → Option SymbolizedValue → CrashValue → ℕ → ThreadValue
     → List (List ℕ)
 other_lines limits symbols c number t = if is_index c.threads.crashing number then []
-    else thread_lines limits symbols c limits.all_threads number t
+    else thread_lines limits symbols c (shows_all limits c.threads.crashing) number t
 
 -- those of threads that didn't crash
 abbrev pub each_other : TextLimits → Option SymbolizedValue → CrashValue → List ThreadValue
@@ -137,7 +141,7 @@ frames_of limits is_whole None = []
 abbrev pub frames_at : TextLimits → Option SymbolizedValue → Option ℕ → ℕ → ThreadValue
     → List CrashFrame
 frames_at limits symbols crashing number t = frames_of limits
-    (is_index crashing number || limits.all_threads) (shown_in symbols number t)
+    (is_index crashing number || shows_all limits crashing) (shown_in symbols number t)
 
 -- those of all threads
 abbrev pub frames_in : TextLimits → Option SymbolizedValue → Option ℕ → List ThreadValue

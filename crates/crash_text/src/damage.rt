@@ -1,11 +1,12 @@
 ghost use Rattle.std.specs.Prelude.{◌≡◌, [], ◌∷◌, IfOk, None, map, string_bytes};
 ghost use Rattle.crash.specs.Crash.{crash_of};
 ghost use Rattle.crash_text.specs.Damage.{damage_lines, damage_row, entries_lines, name_of_type};
-ghost use Rattle.crash_text.specs.Damage.{outside_row, stream_row, stream_text};
+ghost use Rattle.crash_text.specs.Damage.{outside_row, part_words, stream_row, stream_text};
+ghost use Rattle.crash_text.specs.Damage.{unreadable_line, unreadable_row};
 ghost use Rattle.crash_text.specs.Lines.{Adds};
 
 use crate::lines::push_line;
-use crash::{Crash, Damage};
+use crash::{Crash, Damage, ModulePart, UnreadableModule};
 use minidump::format::MINIDUMP_STREAM_TYPE;
 use minidump::text::Piece::{Decimal, Hex, Words};
 use minidump::text::format_pieces;
@@ -16,6 +17,7 @@ pub(crate) fn push_damage(out: &mut String, crash: &Crash<'_>) -> Result<(), All
     ensures { Adds out.old out.new (damage_lines (crash_of crash.now)) result }
 {
     push_each(out, crash.damage.as_slice())?;
+    push_each_module(out, crash.modules.unreadable.as_slice())?;
     push_entries(out, crash.directory.entries_outside)
 }
 
@@ -68,6 +70,38 @@ fn push_outside(out: &mut String, what: &str, thread: u32) -> Result<(), AllocEr
         out,
         &[Words("outside the file: "), Words(what), Words(" "), Decimal(thread as u64), Words(" ("),
             Hex(thread as u64), Words(")")],
+    )
+}
+
+// Appends the line of each module of which a part can't be read.
+fn push_each_module(out: &mut String, modules: &[UnreadableModule]) -> Result<(), AllocError>
+    ensures { Adds out.old out.new (map unreadable_line modules.now) result }
+{
+    for module in modules {
+        push_module(out, part_words(module.part), module)?;
+    }
+    Ok(())
+}
+
+// Returns the words for a part of a module's entry.
+fn part_words(part: ModulePart) -> &'static str
+    ensures { result.now ≡ part_words part }
+{
+    match part {
+        ModulePart::Name => "the name of module ",
+        ModulePart::CodeView => "the CodeView record of module ",
+    }
+}
+
+#[rattlefmt::skip]
+#[tactic(auto, unfolding(crate::specs::Damage::unreadable_row))]
+fn push_module(out: &mut String, part: &str, found: &UnreadableModule) -> Result<(), AllocError>
+    ensures { Adds out.old out.new (unreadable_row part.now found.now ∷ []) result }
+{
+    push_line(
+        out,
+        &[Words("can't be read: "), Words(part), Decimal(found.index as u64), Words(" at "),
+            Hex(found.base), Words(", "), Hex(found.size as u64), Words(" bytes")],
     )
 }
 

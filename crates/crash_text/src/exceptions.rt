@@ -26,13 +26,12 @@ use std::alloc::AllocError;
 pub(crate) fn push_crash(out: &mut String, crash: &Crash<'_>) -> Result<(), AllocError>
     ensures { Adds out.old out.new (crash_lines (crash_of crash.now)) result }
 {
-    push_none(out, crash.cause.exceptions.as_slice())?;
     push_counted(out, crash, counted(&crash.cause))?;
     push_several(out, crash.cause.exceptions.as_slice(), crash.cause.counts)
 }
 
 // Appends that there is no exception, if there is none.
-fn push_none(
+pub(crate) fn push_none(
     out: &mut String,
     exceptions: &[Result<CrashException, Error>],
 ) -> Result<(), AllocError>

@@ -3,26 +3,31 @@
 //! [`text_of`] makes the text of a [`crash::Crash`], and [`crash_text`] that of the bytes of a
 //! minidump. Its lines are, in this order:
 //!
-//! - the system with its processor, the release of Linux, the arguments with which macOS was
-//!   booted, the date of the dump in UTC, the id of the process, for how long it ran, its command
-//!   line, and the comments of the dump;
+//! - `no exception`, if the dump has none;
+//! - the system with its processor and the microcode of that, the release of Linux, the arguments
+//!   with which macOS was booted, the date of the dump in UTC, the id of the process and that of its
+//!   parent, for how long it ran, how much of it was in memory, its command line, and the comments of
+//!   the dump;
 //! - of the exception that counts the thread, the address with its module, the reason, the code and
 //!   where it happened; the registers of the thread, four a row, how much of their context there is
 //!   if it is cut, and why the context of the exception isn't used; its flags and segments, its
 //!   instruction pointer, unless it is in a module and may be run, the bytes there, and the words at
 //!   its stack pointer; then all exceptions, if there are several;
-//! - what is there and can't be read, as `can't be read: ThreadListStream: StreamReadFailure`, and
-//!   how many entries of the directory have bytes outside the file;
+//! - what is there and can't be read, as `can't be read: ThreadListStream: StreamReadFailure`, the
+//!   modules for which their list can't be read, and how many entries of the directory have bytes
+//!   outside the file;
 //! - the thread that crashed, with its name, its last error, its stack, its frames, and why the
 //!   last of them has no caller;
 //! - what the process itself said: an assertion, Crashpad's annotations, macOS's messages and
 //!   Mozilla's soft errors;
 //! - each other thread with its name, its last error and its first frame, or as the one that
-//!   crashed if all threads are asked for;
+//!   crashed if all threads are asked for, or none crashed;
 //! - the number of modules; then each that a line before names, in the order of the list: its base
-//!   address, its path, its version, and what a symbol server needs: the name and the identifier of
-//!   its debug file and of its code file;
-//! - the numbers of unloaded modules, streams, regions of memory, maps and handles.
+//!   address, its path, its version unless that is 0.0.0.0, and what a symbol server needs: the name
+//!   and the identifier of its debug file and of its code file. Where all modules are asked for, the
+//!   address after each follows its base address, as `0x400000-0x410000`;
+//! - the numbers of unloaded modules, streams, regions of memory, maps and handles, with a line for
+//!   each kind of handles, and Linux's numbers of limits and of variables of the environment.
 //!
 //! A frame's line has its number, its address, its module with the offset in it, and how it was
 //! found. The address of a caller is that of its call: the return address less one. The candidates
@@ -68,6 +73,7 @@ mod messages;
 mod modules;
 mod places;
 mod point;
+mod process_lists;
 mod records;
 mod registers;
 mod system;

@@ -7,9 +7,17 @@ pub struct TextLimits {
     /// [`all_threads`](TextLimits::all_threads) is set.
     pub frames: usize,
     /// Whether all threads are printed as the one that crashed is: with their stacks, their frames
-    /// and the end of their walks.
+    /// and the end of their walks. They are, too, if none crashed.
     pub all_threads: bool,
-    /// Whether the items of lists are printed, and not only their numbers: all modules, the
-    /// unloaded ones, the streams, the regions of memory and the handles.
+    /// Whether the items of lists are printed, and not only their numbers: all modules with their
+    /// ends, the unloaded ones, the streams, the regions of memory, the handles and the limits of
+    /// the process, but not the environment.
     pub lists: bool,
+    /// Whether all modules are printed, as [`lists`](TextLimits::lists) does, and the unloaded ones.
+    pub modules: bool,
+    /// Whether the handles are printed, as [`lists`](TextLimits::lists) does.
+    pub handles: bool,
+    /// Whether the variables of the environment are printed, and not only their number. They may
+    /// hold secrets, such as passwords.
+    pub environment: bool,
 }

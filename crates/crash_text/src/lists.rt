@@ -1,4 +1,4 @@
-ghost use Rattle.std.specs.Prelude.{◌≡◌, [], ◌∷◌, ◌||◌, IfOk, codes, if◌then◌else◌, is_none, map};
+ghost use Rattle.std.specs.Prelude.{◌≡◌, [], ◌∷◌, ◌||◌, IfOk, Ok, codes, if◌then◌else◌, is_none, map};
 ghost use Rattle.std.specs.Prelude.{string_bytes};
 ghost use Rattle.std.specs.Option.{option_map};
 ghost use Rattle.minidump.specs.Below.Contexts.Context.{map_ok};
@@ -6,20 +6,26 @@ ghost use Rattle.minidump.specs.Below.MemoryLists.Unified.{unified_list, unified
 ghost use Rattle.minidump.specs.Below.MemoryLists.Unified.{unified_regions};
 ghost use Rattle.minidump.specs.Below.Records.Handles.{handle_of};
 ghost use Rattle.minidump.specs.Promise.{handle_data_stream, unloaded_module_list_stream};
+ghost use Rattle.crash.specs.Contents.{process_streams_of};
 ghost use Rattle.crash.specs.Crash.{crash_of};
+ghost use Rattle.crash.specs.HandleKinds.{kind_of};
 ghost use Rattle.crash.specs.Modules.{unloaded_module_of};
 ghost use Rattle.crash_text.specs.Lines.{Adds, if_some};
-ghost use Rattle.crash_text.specs.Lists.{before_error, count_row, entry_line, entry_row, error_text};
-ghost use Rattle.crash_text.specs.Lists.{handle_line, handle_row, handles_lines, list_lines};
-ghost use Rattle.crash_text.specs.Lists.{lists_lines, memory_lines, region_line, region_row};
+ghost use Rattle.crash_text.specs.Lists.{all_handles, before_error, count_row, entry_line};
+ghost use Rattle.crash_text.specs.Lists.{entry_row, error_text, handle_line, handle_row};
+ghost use Rattle.crash_text.specs.Lists.{handles_lines, kind_line, kind_row, list_lines};
+ghost use Rattle.crash_text.specs.Lists.{lists_lines, memory_lines};
+ghost use Rattle.crash_text.specs.Lists.{process_lists_lines, region_line, region_row};
 ghost use Rattle.crash_text.specs.Lists.{unloaded_line, unloaded_lines, unloaded_row, value_text};
+ghost use Rattle.crash_text.specs.Modules.{all_modules};
 
 use crate::damage::stream_text;
 use crate::limits::TextLimits;
 use crate::lines::push_line;
-use crate::modules::key_text;
+use crate::modules::{all_modules, key_text};
+use crate::process_lists::{push_environment, push_limits};
 use crate::words::{or_empty, where_some};
-use crash::{Crash, StreamEntry, UnloadedModule};
+use crash::{Crash, HandleKind, ProcessStreams, StreamEntry, UnloadedModule};
 use minidump::text::Piece::{Decimal, Hex, Words};
 use minidump::text::format_pieces;
 use minidump::{
@@ -46,11 +52,16 @@ pub(crate) fn push_lists(
     push_streams(out, limits, crash.directory.entries.as_slice())?;
     push_memory(out, limits, &space.memory, space.memory_errors)?;
     push_maps(out, space.map_count)?;
-    push_handles(out, limits, &crash.contents.process.handles)
+    push_process_lists(
+        out,
+        limits,
+        crash.process.handle_kinds.as_slice(),
+        &crash.contents.process,
+    )
 }
 
 #[tactic(auto, unfolding(crate::specs::Lists::count_row))]
-fn push_count(out: &mut String, what: &str, count: usize) -> Result<(), AllocError>
+pub(crate) fn push_count(out: &mut String, what: &str, count: usize) -> Result<(), AllocError>
     ensures { Adds out.old out.new (count_row what.now count ∷ []) result }
 {
     push_line(out, &[Words(what), Words(" "), Decimal(count as u64)])
@@ -84,17 +95,17 @@ fn push_unloaded(
     }
 }
 
-// Appends the number of modules that were unloaded, and their lines if lists are asked for.
+// Appends the number of modules that were unloaded, and their lines if they are asked for.
 fn push_unloaded_modules(
     out: &mut String,
     limits: &TextLimits,
     modules: &[UnloadedModule],
 ) -> Result<(), AllocError>
-    ensures { Adds out.old out.new (list_lines limits.now (codes "unloaded modules") unloaded_line
-        (map unloaded_module_of modules.now)) result }
+    ensures { Adds out.old out.new (list_lines (all_modules limits.now) (codes "unloaded modules")
+        unloaded_line (map unloaded_module_of modules.now)) result }
 {
     push_count(out, "unloaded modules", modules.len())?;
-    if limits.lists {
+    if all_modules(limits) {
         push_each_unloaded(out, modules)
     } else {
         Ok(())
@@ -133,7 +144,7 @@ fn push_streams(
     entries: &[StreamEntry],
 ) -> Result<(), AllocError>
     ensures { Adds out.old out.new
-        (list_lines limits.now (codes "streams") entry_line entries.now) result }
+        (list_lines limits.now.lists (codes "streams") entry_line entries.now) result }
 {
     push_count(out, "streams", entries.len())?;
     if limits.lists {
@@ -217,8 +228,8 @@ fn push_regions(
     limits: &TextLimits,
     memory: &UnifiedMemoryList<'_>,
 ) -> Result<(), AllocError>
-    ensures { Adds out.old out.new (list_lines limits.now (codes "memory regions") region_line
-        (unified_regions (unified_list memory.now))) result }
+    ensures { Adds out.old out.new (list_lines limits.now.lists (codes "memory regions")
+        region_line (unified_regions (unified_list memory.now))) result }
 {
     push_count(out, "memory regions", memory.len())?;
     if limits.lists {
@@ -258,36 +269,86 @@ fn push_region(out: &mut String, base: u64, size: u64) -> Result<(), AllocError>
     push_line(out, &[Words("    "), Hex(base), Words(", "), Hex(size), Words(" bytes")])
 }
 
+// Appends the lists of the process, by the kinds of its handles.
+fn push_process_lists(
+    out: &mut String,
+    limits: &TextLimits,
+    kinds: &[HandleKind],
+    process: &ProcessStreams<'_>,
+) -> Result<(), AllocError>
+    ensures { Adds out.old out.new (process_lists_lines limits.now (map kind_of kinds.now)
+        (process_streams_of process.now)) result }
+{
+    push_handles(out, limits, kinds, &process.handles)?;
+    push_limits(out, limits, &process.limits)?;
+    push_environment(out, limits, &process.environ)
+}
+
 // Appends the handles, if their list can be read.
 fn push_handles(
     out: &mut String,
     limits: &TextLimits,
+    kinds: &[HandleKind],
     found: &Result<MinidumpHandleDataStream, Error>,
 ) -> Result<(), AllocError>
-    ensures { Adds out.old out.new
-        (handles_lines limits.now (map_ok handle_data_stream.value found.now)) result }
+    ensures { Adds out.old out.new (handles_lines limits.now (map kind_of kinds.now)
+        (map_ok handle_data_stream.value found.now)) result }
 {
     match found {
-        Ok(stream) => push_handle_list(out, limits, stream.handles.as_slice()),
+        Ok(stream) => push_handle_list(out, limits, kinds, stream.handles.as_slice()),
         Err(_) => Ok(()),
     }
 }
 
-// Appends the number of handles, and their lines if lists are asked for.
+// Appends the number of handles, the lines of their kinds, and their own if they are asked for.
 fn push_handle_list(
     out: &mut String,
     limits: &TextLimits,
+    kinds: &[HandleKind],
     handles: &[MinidumpHandleDescriptor],
 ) -> Result<(), AllocError>
-    ensures { Adds out.old out.new (list_lines limits.now (codes "handles") handle_line
-        (map handle_of handles.now)) result }
+    ensures { Adds out.old out.new (handles_lines limits.now (map kind_of kinds.now)
+        (Ok (map handle_of handles.now))) result }
 {
     push_count(out, "handles", handles.len())?;
-    if limits.lists {
+    push_each_kind(out, kinds)?;
+    if all_handles(limits) {
         push_each_handle(out, handles)
     } else {
         Ok(())
     }
+}
+
+// Appends the lines of kinds of handles.
+fn push_each_kind(out: &mut String, kinds: &[HandleKind]) -> Result<(), AllocError>
+    ensures { Adds out.old out.new (map kind_line (map kind_of kinds.now)) result }
+{
+    for kind in kinds {
+        push_kind(out, kind)?;
+    }
+    Ok(())
+}
+
+#[tactic(auto, unfolding(crate::specs::Lists::kind_row))]
+fn push_kind(out: &mut String, kind: &HandleKind) -> Result<(), AllocError>
+    ensures { Adds out.old out.new (kind_line (kind_of kind.now) ∷ []) result }
+{
+    push_line(
+        out,
+        &[
+            Words("    "),
+            Words(kind.type_name.as_str()),
+            Words(" "),
+            Decimal(kind.count as u64),
+        ],
+    )
+}
+
+// Tells whether all handles are asked for.
+fn all_handles(limits: &TextLimits) -> bool
+    ensures { result ≡ all_handles limits.now }
+{
+    limits.lists || limits.handles
 }
 
 // Appends the lines of handles.

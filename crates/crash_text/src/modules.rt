@@ -5,14 +5,15 @@ ghost use Rattle.crash.specs.Crash.{crash_of};
 ghost use Rattle.crash.specs.Modules.{loaded_of};
 ghost use Rattle.crash_symbols.specs.Shown.{symbolized_of};
 ghost use Rattle.crash_text.specs.Lines.{Adds};
-ghost use Rattle.crash_text.specs.Modules.{HasMarks, address_place, count_row, each_module, is_in};
-ghost use Rattle.crash_text.specs.Modules.{is_marked, key_text, module_line, module_row};
-ghost use Rattle.crash_text.specs.Modules.{modules_lines, named_modules, state_text, symbols_text};
+ghost use Rattle.crash_text.specs.Modules.{HasMarks, address_place, all_modules, count_row};
+ghost use Rattle.crash_text.specs.Modules.{each_module, end_text, is_in, is_marked, key_text};
+ghost use Rattle.crash_text.specs.Modules.{module_line, module_row, modules_lines, named_modules};
+ghost use Rattle.crash_text.specs.Modules.{state_text, symbols_text, version_text};
 
 use crate::limits::TextLimits;
 use crate::lines::push_line;
 use crate::threads::frames_in;
-use crate::words::{or_empty, push_if_missing, where_some};
+use crate::words::push_if_missing;
 use crash::{AddressFacts, Crash, CrashFrame, CrashModule};
 use crash_symbols::{SymbolState, Symbolized};
 use minidump::Error;
@@ -122,7 +123,7 @@ fn push_each(
     Ok(())
 }
 
-// Appends the line of a module, if all modules are listed or other lines name it.
+// Appends the line of a module, if all modules are asked for or other lines name it.
 fn push_if_listed(
     out: &mut String,
     limits: &TextLimits,
@@ -130,14 +131,23 @@ fn push_if_listed(
     module: &CrashModule,
     symbols: &str,
 ) -> Result<(), AllocError>
-    ensures { Adds out.old out.new (if limits.now.lists || is_named
-        then module_line (loaded_of module.now) symbols.now ∷ [] else []) result }
+    ensures { Adds out.old out.new (if all_modules limits.now || is_named
+        then module_line (all_modules limits.now) (loaded_of module.now) symbols.now ∷ [] else [])
+        result }
 {
-    if limits.lists || is_named {
-        push_module(out, module, symbols)
+    let is_asked = all_modules(limits);
+    if is_asked || is_named {
+        push_module(out, is_asked, module, symbols)
     } else {
         Ok(())
     }
+}
+
+// Tells whether all modules are asked for.
+pub(crate) fn all_modules(limits: &TextLimits) -> bool
+    ensures { result ≡ all_modules limits.now }
+{
+    limits.lists || limits.modules
 }
 
 // Returns the words for why the module of an index has no symbols, if they were looked for.
@@ -197,14 +207,31 @@ fn is_in(index: usize, place: Option<(usize, u64)>) -> bool
     }
 }
 
-// Appends the line of a module, with the words for its symbols.
-fn push_module(out: &mut String, module: &CrashModule, symbols: &str) -> Result<(), AllocError>
-    ensures { Adds out.old out.new (module_line (loaded_of module.now) symbols.now ∷ []) result }
+// Appends the line of a module, with its end if all modules are asked for, and with the words for its
+// symbols.
+fn push_module(
+    out: &mut String,
+    is_asked: bool,
+    module: &CrashModule,
+    symbols: &str,
+) -> Result<(), AllocError>
+    ensures { Adds out.old out.new
+        (module_line is_asked (loaded_of module.now) symbols.now ∷ []) result }
 {
     let alloc = *out.allocator();
+    let end = end_text(alloc, is_asked, module.end)?;
+    let version = version_text(alloc, &module.version)?;
     let debug = debug_text(alloc, module)?;
     let code = key_text(alloc, ", code ", &module.file, &module.code_id)?;
-    push_row(out, module, debug.as_str(), code.as_str(), symbols)
+    push_row(
+        out,
+        module,
+        end.as_str(),
+        version.as_str(),
+        debug.as_str(),
+        code.as_str(),
+        symbols,
+    )
 }
 
 #[rattlefmt::skip]
@@ -212,19 +239,43 @@ fn push_module(out: &mut String, module: &CrashModule, symbols: &str) -> Result<
 fn push_row<'t>(
     out: &mut String,
     module: &'t CrashModule,
+    end: &'t str,
+    version: &'t str,
     debug: &'t str,
     code: &'t str,
     symbols: &'t str,
 ) -> Result<(), AllocError>
-    ensures { Adds out.old out.new (module_row module.now.base (string_bytes module.now.path)
-        (option_map string_bytes module.now.version) debug.now code.now symbols.now ∷ []) result }
+    ensures { Adds out.old out.new (module_row module.now.base end.now
+        (string_bytes module.now.path) version.now debug.now code.now symbols.now ∷ []) result }
 {
     push_line(
         out,
-        &[Words("    "), Hex(module.base), Words(" "), Words(module.path.as_str()),
-            Words(where_some(", version ", &module.version)), Words(or_empty(&module.version)),
-            Words(debug), Words(code), Words(symbols)],
+        &[Words("    "), Hex(module.base), Words(end), Words(" "), Words(module.path.as_str()),
+            Words(version), Words(debug), Words(code), Words(symbols)],
     )
+}
+
+// Makes the words for the address after a module, none if they aren't asked for.
+fn end_text(alloc: Global, is_asked: bool, end: Option<u64>) -> Result<String, AllocError>
+    ensures { IfOk result (λ words. string_bytes words ≡ end_text is_asked end) }
+{
+    match end {
+        Some(end) if is_asked => format_pieces(alloc, &[Words("-"), Hex(end)]),
+        _ => Ok(String::new(alloc)),
+    }
+}
+
+// Makes the words for a version, none if it says nothing.
+fn version_text(alloc: Global, version: &Option<String>) -> Result<String, AllocError>
+    ensures { IfOk result (λ words. string_bytes words
+        ≡ version_text (option_map string_bytes version.now)) }
+{
+    match version {
+        Some(version) if version.as_str() != "0.0.0.0" => {
+            format_pieces(alloc, &[Words(", version "), Words(version.as_str())])
+        }
+        _ => Ok(String::new(alloc)),
+    }
 }
 
 // Makes the words for the debug file of a module, none if it lacks the name or the identifier.

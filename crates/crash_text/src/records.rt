@@ -2,11 +2,11 @@
 ghost use Rattle.std.specs.Prelude.{◌≡◌, ◌++◌, IfOk, OnOk, string_bytes};
 ghost use Rattle.std.specs.List.{flat_map};
 ghost use Rattle.crash.specs.Cause.{exception_of};
-ghost use Rattle.crash_text.specs.Records.{access_words, parameter_words, parameters_words};
-ghost use Rattle.crash_text.specs.Records.{process_words, record_text, sender_words, unless_zero};
-ghost use Rattle.crash_text.specs.Records.{user_words};
+ghost use Rattle.crash_text.specs.Records.{access_words, code_words, parameter_words};
+ghost use Rattle.crash_text.specs.Records.{parameters_words, process_words, record_text};
+ghost use Rattle.crash_text.specs.Records.{sender_words, unless_zero, user_words};
 
-use crash::{Access, CrashException, Sender};
+use crash::{Access, CrashException, Sender, SignalCode};
 use minidump::text::Piece::{Decimal, Hex, Words};
 use minidump::text::push_pieces;
 use std::alloc::{AllocError, Global};
@@ -49,7 +49,7 @@ fn access_words(access: Option<Access>) -> &'static str
     }
 }
 
-// Appends the process that sent a signal with its user, if one did.
+// Appends the process that sent a signal with its user and how, if one did.
 fn push_sender(words: &mut String, sender: Option<Sender>) -> Result<(), AllocError>
     ensures { OnOk result
         (string_bytes words.new ≡ string_bytes words.old ++ sender_words sender) }
@@ -57,7 +57,8 @@ fn push_sender(words: &mut String, sender: Option<Sender>) -> Result<(), AllocEr
     match sender {
         Some(sender) => {
             push_process(words, sender.process)?;
-            push_user(words, sender.user)
+            push_user(words, sender.user)?;
+            push_code(words, sender.code)
         }
         None => Ok(()),
     }
@@ -82,6 +83,13 @@ fn push_user(words: &mut String, user: Option<u32>) -> Result<(), AllocError>
         Some(user) => push_pieces(words, &[Words(", user "), Decimal(user as u64)]),
         None => Ok(()),
     }
+}
+
+// Appends how a signal was sent.
+fn push_code(words: &mut String, code: SignalCode) -> Result<(), AllocError>
+    ensures { OnOk result (string_bytes words.new ≡ string_bytes words.old ++ code_words code) }
+{
+    push_pieces(words, &[Words(", "), Words(code.name())])
 }
 
 // Appends the parameters, if there are any.

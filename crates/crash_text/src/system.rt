@@ -8,9 +8,10 @@ ghost use Rattle.crash.specs.Release.{release_of};
 ghost use Rattle.crash_text.specs.Lines.{Adds, if_some};
 ghost use Rattle.crash_text.specs.System.{boot_lines, boot_row, date_lines, date_row, head_lines};
 ghost use Rattle.crash_text.specs.System.{id_row, known_system_lines, known_system_row};
-ghost use Rattle.crash_text.specs.System.{process_lines, processor_row};
-ghost use Rattle.crash_text.specs.System.{release_lines, release_row, system_lines, system_row};
-ghost use Rattle.crash_text.specs.System.{said_lines, text_lines, uptime_row};
+ghost use Rattle.crash_text.specs.System.{microcode_row, number_lines, parent_row, process_lines};
+ghost use Rattle.crash_text.specs.System.{processor_row, release_lines, release_row, resident_row};
+ghost use Rattle.crash_text.specs.System.{said_lines, system_lines, system_row, text_lines};
+ghost use Rattle.crash_text.specs.System.{uptime_row};
 ghost use Rattle.crash_text.specs.Words.{missing_lines};
 
 use crate::lines::push_line;
@@ -69,7 +70,8 @@ fn push_system_lines(out: &mut String, system: &CrashSystem) -> Result<(), Alloc
     ensures { Adds out.old out.new (known_system_lines (system_of system.now)) result }
 {
     push_system_row(out, system)?;
-    push_processor(out, &system.cpu_model)
+    push_processor(out, &system.cpu_model)?;
+    push_microcode(out, &system.microcode)
 }
 
 // Appends the line of a system.
@@ -116,6 +118,18 @@ fn push_processor(out: &mut String, model: &Option<String>) -> Result<(), AllocE
 {
     match model {
         Some(model) => push_line(out, &[Words("processor "), Words(model.as_str())]),
+        None => Ok(()),
+    }
+}
+
+// Appends the version of the processor's microcode, if it is known.
+#[tactic(auto, unfolding(crate::specs::System::microcode_row))]
+fn push_microcode(out: &mut String, version: &Option<String>) -> Result<(), AllocError>
+    ensures { Adds out.old out.new (if_some (λ version. microcode_row version ∷ [])
+        (option_map string_bytes version.now)) result }
+{
+    match version {
+        Some(version) => push_line(out, &[Words("microcode "), Words(version.as_str())]),
         None => Ok(()),
     }
 }
@@ -207,9 +221,18 @@ fn push_date(out: &mut String, stamp: u32) -> Result<(), AllocError>
 fn push_process(out: &mut String, crash: &Crash<'_>) -> Result<(), AllocError>
     ensures { Adds out.old out.new (process_lines (crash_of crash.now)) result }
 {
-    push_id(out, crash.process.id)?;
-    push_uptime(out, crash.process.uptime)?;
+    push_numbers(out, &crash.process)?;
     push_said(out, &crash.process)
+}
+
+// Appends the lines of the numbers of the process.
+fn push_numbers(out: &mut String, process: &CrashProcess) -> Result<(), AllocError>
+    ensures { Adds out.old out.new (number_lines (process_of process.now)) result }
+{
+    push_id(out, process.id)?;
+    push_parent(out, process.parent)?;
+    push_uptime(out, process.uptime)?;
+    push_resident(out, process.resident)
 }
 
 // Appends the lines of the command line of the process, and of the comments of the dump.
@@ -243,6 +266,30 @@ fn push_id(out: &mut String, id: Option<u32>) -> Result<(), AllocError>
             out,
             &[Words("process "), Decimal(id as u64), Words(" ("), Hex(id as u64), Words(")")],
         ),
+        None => Ok(()),
+    }
+}
+
+#[rattlefmt::skip]
+#[tactic(auto, unfolding(crate::specs::System::parent_row))]
+fn push_parent(out: &mut String, id: Option<u32>) -> Result<(), AllocError>
+    ensures { Adds out.old out.new (if_some (λ id. parent_row id ∷ []) id) result }
+{
+    match id {
+        Some(id) => push_line(
+            out,
+            &[Words("parent  "), Decimal(id as u64), Words(" ("), Hex(id as u64), Words(")")],
+        ),
+        None => Ok(()),
+    }
+}
+
+#[tactic(auto, unfolding(crate::specs::System::resident_row))]
+fn push_resident(out: &mut String, size: Option<u64>) -> Result<(), AllocError>
+    ensures { Adds out.old out.new (if_some (λ size. resident_row size ∷ []) size) result }
+{
+    match size {
+        Some(size) => push_line(out, &[Words("resident "), Decimal(size), Words(" bytes")]),
         None => Ok(()),
     }
 }

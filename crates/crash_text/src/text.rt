@@ -10,7 +10,7 @@ ghost use Rattle.crash_text.specs.Lines.{Adds};
 ghost use Rattle.crash_text.specs.Text.{first_lines, last_lines, lines_of, text_of, threads_lines};
 
 use crate::damage::push_damage;
-use crate::exceptions::push_crash;
+use crate::exceptions::{push_crash, push_none};
 use crate::limits::TextLimits;
 use crate::lists::push_lists;
 use crate::messages::push_messages;
@@ -80,10 +80,11 @@ fn push_lines(
     push_last(out, crash, limits, symbols)
 }
 
-// Appends the system, the process, the crash, and what can't be read.
+// Appends that nothing crashed, the system, the process, the crash, and what can't be read.
 fn push_first(out: &mut String, crash: &Crash<'_>) -> Result<(), AllocError>
     ensures { Adds out.old out.new (first_lines (crash_of crash.now)) result }
 {
+    push_none(out, crash.cause.exceptions.as_slice())?;
     push_head(out, crash)?;
     push_crash(out, crash)?;
     push_damage(out, crash)

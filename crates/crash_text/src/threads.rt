@@ -15,6 +15,7 @@ ghost use Rattle.crash_text.specs.Threads.{frames_at, frames_in, frames_of, is_i
 ghost use Rattle.crash_text.specs.Threads.{memory_lines, no_walk_row, other_lines, others_lines};
 ghost use Rattle.crash_text.specs.Threads.{problem_row, range_row, remark, short_lines, stack_lines};
 ghost use Rattle.crash_text.specs.Threads.{thread_lines, thread_row};
+ghost use Rattle.crash_text.specs.Threads.{shows_all};
 ghost use Rattle.crash_text.specs.Words.{missing_lines};
 
 use crate::frames::{push_frames_of, push_walk};
@@ -144,11 +145,18 @@ fn push_other(
             crash,
             limits,
             symbols,
-            limits.all_threads,
+            shows_all(limits, crash.threads.crashing),
             number,
             thread,
         )
     }
+}
+
+// Tells whether all frames of each thread are printed: if they are asked for, or none crashed.
+fn shows_all(limits: &TextLimits, crashing: Option<usize>) -> bool
+    ensures { result ≡ shows_all limits.now crashing }
+{
+    limits.all_threads || crashing.is_none()
 }
 
 // Tells whether an index is this one.
@@ -394,7 +402,7 @@ fn push_frames_at(
         (option_map symbolized_of (option_copied symbols.entry)) crashing number
         (thread_value thread.now)) }
 {
-    let is_whole = is_index(crashing, number) || limits.all_threads;
+    let is_whole = is_index(crashing, number) || shows_all(limits, crashing);
     let walk = shown_walk(*frames.allocator(), thread, number, symbols)?;
     push_if_found(frames, limits, is_whole, &walk)
 }

@@ -5,7 +5,7 @@ use Rattle.std.specs.Option.{option_copied, option_map}
 use Rattle.crash.specs.Modules.{loaded_of}
 use Rattle.crash_text.specs.Lines.{line_of}
 use Rattle.crash_symbols.specs.Shown.{symbolized_of}
-use Rattle.crash_text.specs.Modules.{each_module, is_marked, listed_lines, module_line}
+use Rattle.crash_text.specs.Modules.{all_modules, each_module, is_marked, listed_lines, module_line}
 use Rattle.crash_text.proofs.NumberLemmas.{length_values, more_items, more_lines, took_values}
 use Rattle.crash_text.proofs.modules.push_each.Goals as goal
 
@@ -22,5 +22,5 @@ loop-index-preserved c =
     (took_values loaded_of modules i x c.loop-index-test.true c.index-modules-index.is))
     c.loop-index.invariant
     (c.in_ok-push_if_listed.ensures
-    ∙ ap (λ b. string_bytes c.loop-index.out ++ flat_map line_of (if c.args.limits.now.lists || b then module_line (loaded_of x) c.symbols_text-words.result.now ∷ [] else [])) c.is_marked.ensures
-    ∙ ap (λ words. string_bytes c.loop-index.out ++ flat_map line_of (if c.args.limits.now.lists || named i then module_line (loaded_of x) words ∷ [] else [])) c.symbols_text-words.ensures)
+    ∙ ap (λ b. string_bytes c.loop-index.out ++ flat_map line_of (if all_modules c.args.limits.now || b then module_line (all_modules c.args.limits.now) (loaded_of x) c.symbols_text-words.result.now ∷ [] else [])) c.is_marked.ensures
+    ∙ ap (λ words. string_bytes c.loop-index.out ++ flat_map line_of (if all_modules c.args.limits.now || named i then module_line (all_modules c.args.limits.now) (loaded_of x) words ∷ [] else [])) c.symbols_text-words.ensures)
