@@ -7,7 +7,7 @@ pub(crate) const HEAD: &str = r##"<!DOCTYPE html>
 <head>
 <meta charset="utf-8">
 <meta http-equiv="Content-Security-Policy" content="default-src 'none'; base-uri 'none'; form-action 'none';
- script-src 'sha256-TvSX3lFQTlqW8RxLG0tNes1msr4bWsx/dekBPM1J3mk=' 'sha256-oaI8YoRoRcVUAw7630wFXjhvJs9XsPf7EkP9agEn2ik=';
+ script-src 'sha256-TvSX3lFQTlqW8RxLG0tNes1msr4bWsx/dekBPM1J3mk=' 'sha256-a046niWnzPcAtnmAF0zCfoemWlc4/TRnqmZ5x4P982Y=';
  style-src 'sha256-GJUB4qCjTeIIX6oDAkFUA2yJWZCo2pGZzfEUp9/EVRY=' 'sha256-sPHmrOm/UuubxpQb78f/WQ8zZl3stHOYMbsktkrfNJQ='">
 <meta name="viewport" content="width=device-width, initial-scale=1">
 <title>Crash</title>

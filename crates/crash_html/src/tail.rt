@@ -195,6 +195,12 @@ function damageWords(damage) {
   }
 }
 
+// Returns words for a module of whose entry a part can't be read.
+function unreadableWords(module) {
+  const what = part(module, "part") === "name" ? "the name of module " : "the CodeView record of module ";
+  return what + joined([part(module, "index"), rangeWords(module)], " at ");
+}
+
 // Returns words and the thread of an index, or null.
 function stackWords(words, index) {
   const found = list(part(crash, "threads"))[index] ?? null;
@@ -230,11 +236,11 @@ function addressWords(at, facts) {
   ], ", ");
 }
 
-// Returns the process that sent a signal, and its user, or null.
+// Returns the process that sent a signal, its user and how, or null.
 function senderWords(exception) {
   const sender = part(exception, "sender");
   if (sender === null) return null;
-  return joined(["process " + part(sender, "process_id"), labelled("user ", part(sender, "user_id"))], ", ");
+  return joined(["process " + part(sender, "process_id"), labelled("user ", part(sender, "user_id")), part(sender, "code")], ", ");
 }
 
 function parametersOf(exception) {
@@ -275,13 +281,14 @@ function addTitle() {
 
 function addDamage() {
   const damage = list(part(minidump, "damage"));
+  const unreadable = list(part(minidump, "unreadable_modules"));
   const outside = part(minidump, "entries_outside");
-  if (damage.length === 0 && !outside) return;
+  if (damage.length === 0 && unreadable.length === 0 && !outside) return;
   const lines = element("ul");
   if (outside) lines.appendChild(element("li", "entries of the directory that lie outside the file: " + counted(outside)));
   const place = section("damage", "Can\u2019t be read", "damage");
   place.appendChild(lines);
-  some(place, damage, (one) => lines.appendChild(element("li", damageWords(one))));
+  some(place, [...damage.map(damageWords), ...unreadable.map(unreadableWords)], (words) => lines.appendChild(element("li", words)));
 }
 
 function crashFacts() {
@@ -308,6 +315,7 @@ function crashFacts() {
 function systemFacts() {
   const system = part(crash, "system_info");
   const uptime = part(minidump, "uptime");
+  const resident = part(minidump, "resident_size");
   const main = list(part(crash, "modules"))[part(crash, "main_module")] ?? null;
   return [
     ["Dump", part(crash, "path")],
@@ -317,10 +325,13 @@ function systemFacts() {
     ["Wide comment", part(minidump, "wide_comment")],
     ["System", membersOf(system, ["os", "os_ver", "cpu_arch"])],
     ["Processor", part(system, "cpu_info")],
+    ["Microcode", part(system, "cpu_microcode_version")],
     ["Processors", part(system, "cpu_count")],
     ["Release", membersOf(part(crash, "lsb_release"), ["id", "release", "codename", "description"])],
     ["Dumped", timeWords(part(minidump, "written"))],
     ["Process", part(crash, "pid")],
+    ["Parent process", part(minidump, "parent_process_id")],
+    ["Resident memory", resident === null ? null : counted(resident) + " bytes"],
     ["Uptime", uptime === null ? null : uptime + " s"],
     ["Boot arguments", part(crash, "mac_boot_args")],
     ["Soft errors", part(crash, "soft_errors")],
@@ -494,7 +505,11 @@ function addLists() {
   const mac = ["module", "message", "message2", "signature_string", "backtrace", "thread", "dialog_mode", "abort_cause"];
   const heads = ["Module", "Message", "Second message", "Signature", "Backtrace", "Thread", "Dialog mode", "Abort cause"];
   addMore("macOS\u2019s crash information", heads.map((head) => [head, ""]), rowsOf(part(part(crash, "mac_crash_info"), "records"), mac));
+  addMore("Kinds of handles", [["Type", ""], ["Handles", ""]], rowsOf(part(minidump, "handle_kinds"), ["type_name", "count"]));
   addMore("Handles", [["Handle", "code"], ["Type", ""], ["Name", ""]], rowsOf(part(crash, "handles"), ["handle", "type_name", "object_name"]));
+  addMore("Limits of the process", [["Name", ""], ["Soft", ""], ["Hard", ""], ["Unit", ""]],
+    rowsOf(part(part(crash, "proc_limits"), "limits"), ["name", "soft", "hard", "unit"]));
+  addMore("Environment", [["Name", ""], ["Value", ""]], rowsOf(part(minidump, "environment"), ["name", "value"]));
   addMore("Unloaded modules", [["Base", "code"], ["End", "code"], ["File", ""], ["Code", ""]],
     rowsOf(part(crash, "unloaded_modules"), ["base_addr", "end_addr", "filename", "code_id"]));
   addMore("Streams", [["Type", "code"], ["Name", ""], ["Bytes", ""], ["At", "code"], ["Error", ""]],
@@ -505,16 +520,17 @@ function addLists() {
 // The members that have a place of their own on the page, by the object that they are of.
 const KNOWN = {
   "": "path status system_info crash_info main_module modules unloaded_modules pid thread_count threads crashing_thread lsb_release mac_crash_info "
-    + "mac_boot_args handles soft_errors linux_memory_map_count minidump signature",
-  system_info: "os os_ver cpu_arch cpu_info cpu_count",
+    + "mac_boot_args handles soft_errors linux_memory_map_count proc_limits minidump signature",
+  system_info: "os os_ver cpu_arch cpu_info cpu_count cpu_microcode_version",
   crash_info: "type address crashing_thread assertion",
   minidump: "written uptime status streams entries_outside memory damage address exceptions exception registers_of assertion crashpad signature "
-    + "command_line comment wide_comment point",
+    + "command_line comment wide_comment point environment parent_process_id resident_size handle_kinds unreadable_modules",
   "minidump.point": "instruction code words flags",
   "minidump.address": "address module module_offset null_offset is_canonical unloaded_module stack_of below_stack memory",
   crashing_thread: "threads_index thread_id thread_name is_listed last_error_value stack stack_memory context_problem short_context frame_count "
     + "end frames",
   mac_crash_info: "num_records records",
+  proc_limits: "limits",
 };
 
 // Returns the members that have no place of their own, with their values.

@@ -16,6 +16,7 @@ use Rattle.minidump.specs.Below.Records.Annotations.{Annotation}
 use Rattle.minidump.specs.Below.Records.Crashpad.{Crashpad, Module}
 use Rattle.minidump.specs.Below.Records.CrashpadText.{annotation_text}
 use Rattle.minidump.specs.Below.Records.Handles.{Handle}
+use Rattle.minidump.specs.Below.Records.Pairs.{pairs_of}
 use Rattle.minidump.specs.Below.Records.Record.{MacRecord}
 use Rattle.crash.specs.declared.addresses.AddressFacts.{AddressFacts}
 use Rattle.crash.specs.declared.addresses.AddressMemory.{AddressMemory}
@@ -26,9 +27,12 @@ use Rattle.crash.specs.declared.frames.CrashFrame.{CrashFrame}
 use Rattle.crash.specs.declared.contexts.ShortContext.{ShortContext}
 use Rattle.crash.specs.declared.point.StackWord.{StackWord}
 use Rattle.crash.specs.declared.stacks.StackRange.{StackRange}
+use Rattle.crash.specs.declared.unreadable_modules.UnreadableModule.{UnreadableModule}
 use Rattle.crash.specs.Cause.{ExceptionValue}
 use Rattle.crash.specs.Contexts.{ContextValue}
 use Rattle.crash.specs.Crash.{CrashValue}
+use Rattle.crash.specs.HandleKinds.{KindValue}
+use Rattle.crash.specs.Linux.{LimitValue, limits_in}
 use Rattle.crash.specs.Modules.{LoadedValue, UnloadedModuleValue}
 use Rattle.crash.specs.Point.{PointValue}
 use Rattle.crash.specs.Process.{SystemValue}
@@ -43,10 +47,11 @@ use Rattle.crash_json.specs.declared.JsonLimits.{JsonLimits}
 use Rattle.crash_json.specs.Cause.{address_json, address_object, crash_info_json, crash_object, exception_json, exception_object, exceptions_json, memory_json, memory_object, sender_json, sender_object, unread_object}
 use Rattle.crash_json.specs.Crashpad.{annotation_json, annotations_json, crashpad_json, crashpad_module_json, crashpad_modules_json, objects_json, texts_json}
 use Rattle.crash_json.specs.Frames.{frame_json, frame_object, inline_json, inline_object, inlines_json, name_members, name_object, place_members, register_members, registers_json}
+use Rattle.crash_json.specs.Linux.{environment_json, limit_json, limit_list_json, limits_json, proc_limits_json, variable_json, variables_json}
 use Rattle.crash_json.specs.Minidump.{all_damage_json, damage_json, damage_object, minidump_json, minidump_object, region_object, region_json, regions_json, stream_json, stream_object, streams_json}
-use Rattle.crash_json.specs.Modules.{all_unloaded_json, main_module, module_json, module_object, modules_json, state_object, symbol_members, unloaded_json}
+use Rattle.crash_json.specs.Modules.{all_unloaded_json, all_unreadable_json, main_module, module_json, module_object, modules_json, state_object, symbol_members, unloaded_json, unreadable_json, unreadable_object}
 use Rattle.crash_json.specs.Point.{code_json, flags_json, point_json, word_json, word_object, words_json}
-use Rattle.crash_json.specs.Records.{assertion_json, assertion_object, handle_json, handle_object, handles_json, mac_crash_json, mac_members, mac_object, mac_record_json}
+use Rattle.crash_json.specs.Records.{assertion_json, assertion_object, handle_json, handle_object, handles_json, kind_json, kinds_json, mac_crash_json, mac_members, mac_object, mac_record_json}
 use Rattle.crash_json.specs.Report.{all_members, crash_members, error_json, json_of, path_members, process_members, process_object, record_members, record_object}
 use Rattle.crash_json.specs.Report as report
 use Rattle.crash_json.specs.SoftErrors.{soft_depth, soft_json}
@@ -63,12 +68,13 @@ both_within (m ∷ a) b bound first second = omega (arith, both_within a b bound
 
 -- ---- the system, the crash and the modules
 
-system_object_depth : (os version cpu : List ℕ) (cpu_model : Option (List ℕ)) (processors : ℕ) → depth (system_object os version cpu cpu_model processors) ≤ 1
+system_object_depth : (os version cpu : List ℕ) (cpu_model : Option (List ℕ)) (processors : ℕ) (microcode : Option (List ℕ))
+    → depth (system_object os version cpu cpu_model processors microcode) ≤ 1
 unfolding system_object
-system_object_depth os version cpu cpu_model processors = omega (arith, flat_text cpu_model)
+system_object_depth os version cpu cpu_model processors microcode = omega (arith, flat_text cpu_model, flat_text microcode)
 
 system_depth : (s : SystemValue) → depth (system_json s) ≤ 1
-system_depth s = system_object_depth _ _ _ _ _
+system_depth s = system_object_depth _ _ _ _ _ _
 
 release_depth : (r : ReleaseValue) → depth (release_json r) ≤ 1
 unfolding release_json
@@ -108,6 +114,14 @@ unloaded_depth m = omega (arith, flat_hex m.end, flat_text m.code_id)
 all_unloaded_depth : (ms : List UnloadedModuleValue) → depth (all_unloaded_json ms) ≤ 2
 unfolding all_unloaded_json
 all_unloaded_depth ms = array_within unloaded_json 1 ms unloaded_depth
+
+unreadable_object_depth : (m : UnreadableModule) (part : List ℕ) → depth (unreadable_object m part) ≤ 1
+unfolding unreadable_object
+unreadable_object_depth m part = omega arith
+
+all_unreadable_depth : (ms : List UnreadableModule) → depth (all_unreadable_json ms) ≤ 2
+unfolding all_unreadable_json
+all_unreadable_depth ms = array_within unreadable_json 1 ms (λ m. unreadable_object_depth m _)
 
 -- ---- threads
 
@@ -205,6 +219,14 @@ handles_depth : (hs : List Handle) → depth (handles_json hs) ≤ 2
 unfolding handles_json
 handles_depth hs = array_within handle_json 1 hs (λ h. handle_object_depth _ _ _)
 
+kind_depth : (k : KindValue) → depth (kind_json k) ≤ 1
+unfolding kind_json
+kind_depth k = omega arith
+
+kinds_depth : (ks : List KindValue) → depth (kinds_json ks) ≤ 2
+unfolding kinds_json
+kinds_depth ks = array_within kind_json 1 ks kind_depth
+
 mac_object_depth : (thread dialog_mode abort_cause : Option ℕ) (module_path message signature backtrace message2 : Option (List ℕ))
     → depth (mac_object thread dialog_mode abort_cause module_path message signature backtrace message2) ≤ 1
 unfolding mac_object
@@ -259,11 +281,37 @@ crashpad_depth : (c : Crashpad) → depth (crashpad_json c) ≤ 5
 unfolding crashpad_json
 crashpad_depth c = omega (arith, annotations_depth c.simple_annotations, crashpad_modules_depth c.module_list)
 
+-- ---- Linux's limits and environment
+
+limit_depth : (l : LimitValue) → depth (limit_json l) ≤ 1
+unfolding limit_json
+limit_depth l = omega (arith, flat_text l.unit)
+
+limit_list_depth : (ls : List LimitValue) → depth (limit_list_json ls) ≤ 2
+unfolding limit_list_json
+limit_list_depth ls = array_within limit_json 1 ls limit_depth
+
+limits_depth : (ls : List LimitValue) → depth (limits_json ls) ≤ 3
+unfolding limits_json
+limits_depth ls = omega (arith, limit_list_depth ls)
+
+proc_limits_depth : (text : Result (List ℕ) Error) → depth (proc_limits_json text) ≤ 3
+proc_limits_depth text = or_null_within limits_json 3 (option_map limits_in (result_ok text)) limits_depth
+
+variables_depth : (ps : List (List ℕ × List ℕ)) → depth (variables_json ps) ≤ 2
+unfolding variables_json
+variables_depth ps = array_within variable_json 1 ps (λ p. annotation_depth _)
+
+environment_depth : (is_asked : Bool) (text : Result (List ℕ) Error) → depth (environment_json is_asked text) ≤ 2
+environment_depth true (Ok text) = variables_depth (pairs_of 0x3d text)
+environment_depth true (Err e) = omega arith
+environment_depth false text = omega arith
+
 -- ---- what the schema has no member for
 
-sender_object_depth : (process : ℕ) (user : Option ℕ) → depth (sender_object process user) ≤ 1
+sender_object_depth : (process : ℕ) (user : Option ℕ) (code : List ℕ) → depth (sender_object process user code) ≤ 1
 unfolding sender_object
-sender_object_depth process user = omega (arith, flat_count user)
+sender_object_depth process user code = omega (arith, flat_count user)
 
 exception_object_depth : (e : ExceptionValue) (parameters : List ℕ) (access problem : Option (List ℕ)) → depth (exception_object e parameters access problem) ≤ 2
 unfolding exception_object
@@ -272,7 +320,7 @@ exception_object_depth e parameters access problem =
       arith,
       array_within hex_string 0 parameters (λ n. omega arith),
       flat_text access,
-      or_null_within sender_json 1 e.sender (λ s. sender_object_depth _ _),
+      or_null_within sender_json 1 e.sender (λ s. sender_object_depth _ _ _),
       flat_hex e.address,
       flat_text e.reason,
       flat_text problem,
@@ -360,20 +408,25 @@ point_depth p =
     let instruction : depth (address_json p.instruction) ≤ 2 = address_object_depth p.instruction _ _ in
     omega (arith, instruction, code_depth p.code, words_depth p.words, flags_depth p.flags)
 
-minidump_object_depth : (c : CrashValue) (written : Option ℕ) (status : ℕ) (origin signature : Option (List ℕ))
-    → depth (minidump_object c written status origin signature) ≤ 6
+minidump_object_depth : (environment : Bool) (c : CrashValue) (written parent : Option ℕ) (status : ℕ) (origin signature : Option (List ℕ))
+    → depth (minidump_object environment c written parent status origin signature) ≤ 6
 unfolding minidump_object
-minidump_object_depth c written status origin signature =
+minidump_object_depth environment c written parent status origin signature =
     omega (
       arith,
       flat_count written,
       flat_count c.process.uptime,
+      flat_count parent,
+      flat_count c.process.resident,
       flat_text c.process.command_line,
+      environment_depth environment c.contents.process.environ,
       flat_text c.process.comments.narrow,
       flat_text c.process.comments.wide,
       streams_depth c.directory.entries,
       regions_depth (unified_regions c.contents.space.memory),
       all_damage_depth c.damage,
+      all_unreadable_depth c.modules.unreadable,
+      kinds_depth c.process.handle_kinds,
       or_null_within address_json 2 c.cause.address (λ a. address_object_depth a _ _),
       or_null_within point_json 3 c.point point_depth,
       exceptions_depth c.cause.exceptions,
@@ -384,8 +437,8 @@ minidump_object_depth c written status origin signature =
       or_null_within crashpad_json 5 (result_ok c.contents.messages.crashpad) crashpad_depth,
     )
 
-minidump_depth : (symbols : Option SymbolizedValue) (c : CrashValue) → depth (minidump_json symbols c) ≤ 6
-minidump_depth symbols c = minidump_object_depth c _ _ _ _
+minidump_depth : (environment : Bool) (symbols : Option SymbolizedValue) (c : CrashValue) → depth (minidump_json environment symbols c) ≤ 6
+minidump_depth environment symbols c = minidump_object_depth environment c _ _ _ _ _
 
 -- ---- the soft errors
 
@@ -424,10 +477,10 @@ process_within limit symbols c id threads =
       crashing_depth limit symbols c.modules.loaded c.threads,
     )
 
-record_within : (symbols : Option SymbolizedValue) (c : CrashValue) (boot_args soft_errors : Option (List ℕ))
-    → members_depth (members_of (record_object symbols c boot_args soft_errors)) ≤ soft_depth
+record_within : (environment : Bool) (symbols : Option SymbolizedValue) (c : CrashValue) (boot_args soft_errors : Option (List ℕ))
+    → members_depth (members_of (record_object environment symbols c boot_args soft_errors)) ≤ soft_depth
 unfolding record_object
-record_within symbols c boot_args soft_errors =
+record_within environment symbols c boot_args soft_errors =
     omega (
       arith,
       or_null_within release_json 1 c.process.release release_depth,
@@ -436,7 +489,8 @@ record_within symbols c boot_args soft_errors =
       or_null_within handles_json 2 (result_ok c.contents.process.handles) handles_depth,
       or_null_within soft_json soft_depth soft_errors soft_within,
       flat_count c.contents.space.map_count,
-      minidump_depth symbols c,
+      proc_limits_depth c.contents.process.limits,
+      minidump_depth environment symbols c,
     )
 
 path_within : (path : Option (List ℕ)) → members_depth (members_of (path_members path)) ≤ soft_depth
@@ -446,10 +500,10 @@ path_within (Some path) = omega arith
 pub line_depth : (limits : JsonLimits) (path : Option (List ℕ)) (symbols : Option SymbolizedValue) (c : CrashValue)
     → depth (json_of limits path symbols c) ≤ max_depth
 line_depth limits path symbols c =
-    let records : members_depth (members_of (record_members symbols c)) ≤ soft_depth = record_within symbols c _ _ in
+    let records : members_depth (members_of (record_members limits.environment symbols c)) ≤ soft_depth = record_within limits.environment symbols c _ _ in
     let all = both_within (path_members path) _ soft_depth (path_within path)
     (both_within (crash_members symbols c) _ soft_depth (crash_within symbols c _)
-    (both_within (process_members limits.frames symbols c) (record_members symbols c) soft_depth (process_within limits.frames symbols c _ _) records)) in
+    (both_within (process_members limits.frames symbols c) (record_members limits.environment symbols c) soft_depth (process_within limits.frames symbols c _ _) records)) in
     omega (arith, all)
 
 pub error_depth : (path status : List ℕ) → depth (error_json path status) ≤ max_depth

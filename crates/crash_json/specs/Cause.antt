@@ -19,6 +19,7 @@ use Rattle.crash.specs.declared.records.Sender.{Sender}
 use Rattle.crash.specs.Cause.{CauseValue, ExceptionValue}
 use Rattle.crash.specs.Counting.{counted}
 use Rattle.crash.specs.Crash.{CrashValue}
+use Rattle.crash.specs.Records.{signal_code_name}
 use Rattle.json_tree.specs.Tree.{array_of, count, hex_string, object_of, or_null}
 
 -- ---- the crash
@@ -61,14 +62,17 @@ access_name Read = codes "read"
 access_name Write = codes "write"
 access_name Execute = codes "execute"
 
--- the process that sent a signal, and its user
-unfoldable pub sender_object : ℕ → Option ℕ → Json
-sender_object process user = object_of (
-    (codes "process_id", count process) ∷ (codes "user_id", or_null count user) ∷ [])
+-- the process that sent a signal, its user, and the name of the signal's `si_code`
+unfoldable pub sender_object : ℕ → Option ℕ → List ℕ → Json
+sender_object process user code = object_of (
+    (codes "process_id", count process)
+    ∷ (codes "user_id", or_null count user)
+    ∷ (codes "code", string code)
+    ∷ [])
 
 -- a sender
 abbrev pub sender_json : Sender → Json
-sender_json s = sender_object s.process s.user
+sender_json s = sender_object s.process s.user (signal_code_name s.code)
 
 -- an exception by its parameters, and by the words for how memory was accessed and for why its
 -- context isn't used

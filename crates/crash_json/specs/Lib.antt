@@ -7,6 +7,7 @@ pub mod Threads
 pub mod Signature
 pub mod Records
 pub mod Crashpad
+pub mod Linux
 pub mod Point
 pub mod Minidump
 pub mod SoftErrors

@@ -10,6 +10,7 @@ use Rattle.minidump.specs.Below.Records.Dictionary.{entries_of}
 use Rattle.minidump.specs.Below.Records.Record.{mac_record_of}
 use Rattle.crash.specs.Contexts.{context_of}
 use Rattle.crash.specs.Crash.{crash_of}
+use Rattle.crash.specs.Linux.{limit_of}
 use Rattle.crash.specs.Modules.{loaded_of}
 use Rattle.crash_symbols.specs.NameParts.{call_of}
 use Rattle.crash_symbols.specs.Shown.{shown_frame_of, symbolized_of}
@@ -26,6 +27,8 @@ use Rattle.crash_json.specs.declared.frames.FrameMember.{FrameMember}
 use Rattle.crash_json.specs.declared.frames.FrameMember.TheVariants as frame
 use Rattle.crash_json.specs.declared.dump.Member.{Member}
 use Rattle.crash_json.specs.declared.dump.Member.TheVariants as dump
+use Rattle.crash_json.specs.declared.linux.LimitsMember.{LimitsMember}
+use Rattle.crash_json.specs.declared.linux.LimitsMember.TheVariants as limits
 use Rattle.crash_json.specs.declared.point.PointMember.{PointMember}
 use Rattle.crash_json.specs.declared.point.PointMember.TheVariants as point
 use Rattle.crash_json.specs.declared.records.MacMember.{MacMember}
@@ -39,10 +42,12 @@ use Rattle.crash_json.specs.Cause.{sender_json}
 use Rattle.crash_json.specs.Crashpad.{annotations_json, crashpad_json, crashpad_modules_json}
 use Rattle.crash_json.specs.Crashpad.{objects_json, texts_json}
 use Rattle.crash_json.specs.Frames.{frame_json, inlines_json, registers_json}
+use Rattle.crash_json.specs.Linux.{environment_json, limit_list_json, proc_limits_json}
 use Rattle.crash_json.specs.Minidump.{all_damage_json, minidump_json, regions_json, streams_json}
-use Rattle.crash_json.specs.Modules.{all_unloaded_json, modules_json}
+use Rattle.crash_json.specs.Modules.{all_unloaded_json, all_unreadable_json, modules_json}
 use Rattle.crash_json.specs.Point.{code_json, flags_json, point_json, words_json}
-use Rattle.crash_json.specs.Records.{assertion_json, handles_json, mac_crash_json, mac_record_json}
+use Rattle.crash_json.specs.Records.{assertion_json, handles_json, kinds_json, mac_crash_json}
+use Rattle.crash_json.specs.Records.{mac_record_json}
 use Rattle.crash_json.specs.SoftErrors.{soft_json}
 use Rattle.crash_json.specs.System.{release_json, system_json}
 use Rattle.crash_json.specs.Threads.{crashing_json, range_json, short_json, threads_json}
@@ -80,6 +85,10 @@ point_member (point.Code code) = code_json code.now
 point_member (point.Words words) = words_json words.now
 point_member (point.Flags flags) = flags_json (map (λ r. (r.0.now, r.1)) flags.now)
 
+-- the member of limits
+abbrev pub limits_member : LimitsMember → Json
+limits_member (limits.List items) = limit_list_json (map limit_of items.now)
+
 -- a member of macOS's crash information
 abbrev pub mac_member : MacMember → Json
 mac_member (mac.Scalar s) = scalar_json s
@@ -114,6 +123,10 @@ minidump_member (dump.Assertion c) =
     or_null assertion_json (result_ok (crash_of c.now).contents.messages.assertion)
 minidump_member (dump.Crashpad c) =
     or_null crashpad_json (result_ok (crash_of c.now).contents.messages.crashpad)
+minidump_member (dump.Unreadable c) = all_unreadable_json (crash_of c.now).modules.unreadable
+minidump_member (dump.Kinds c) = kinds_json (crash_of c.now).process.handle_kinds
+minidump_member (dump.Environment is_asked c) =
+    environment_json is_asked (crash_of c.now).contents.process.environ
 
 -- a member of the whole
 abbrev pub report_member : ReportMember → Json
@@ -135,5 +148,6 @@ report_member (report.MacCrash c) =
 report_member (report.Handles c) =
     or_null handles_json (result_ok (crash_of c.now).contents.process.handles)
 report_member (report.SoftErrors text) = or_null soft_json (option_copied text)
-report_member (report.Minidump c s) =
-    minidump_json (option_map symbolized_of (option_copied s)) (crash_of c.now)
+report_member (report.Limits c) = proc_limits_json (crash_of c.now).contents.process.limits
+report_member (report.Minidump environment c s) =
+    minidump_json environment (option_map symbolized_of (option_copied s)) (crash_of c.now)

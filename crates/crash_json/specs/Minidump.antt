@@ -1,5 +1,5 @@
 -- What a minidump says that the schema has no member for, as JSON.
-use Rattle.std.specs.Prelude.{ℕ, ◌==◌, List, [], ◌∷◌, codes, Option, Some, None, Ok}
+use Rattle.std.specs.Prelude.{ℕ, ◌==◌, Bool, List, [], ◌∷◌, codes, Option, Some, None, Ok}
 use Rattle.std.specs.Prelude.{if◌then◌else◌}
 use Rattle.std.specs.Option.{option_map}
 use Rattle.std.specs.Result.{result_ok}
@@ -16,8 +16,10 @@ use Rattle.crash_symbols.specs.Shown.{SymbolizedValue}
 use Rattle.json_tree.specs.Tree.{array_of, count, hex_string, object_of, or_null}
 use Rattle.crash_json.specs.Cause.{address_json, exceptions_json}
 use Rattle.crash_json.specs.Crashpad.{crashpad_json}
+use Rattle.crash_json.specs.Linux.{environment_json}
+use Rattle.crash_json.specs.Modules.{all_unreadable_json}
 use Rattle.crash_json.specs.Point.{point_json}
-use Rattle.crash_json.specs.Records.{assertion_json}
+use Rattle.crash_json.specs.Records.{assertion_json, kinds_json}
 use Rattle.crash_json.specs.Signature.{signature_in}
 use Rattle.crash_json.specs.Threads.{registers_of}
 
@@ -90,14 +92,18 @@ all_damage_json damage = array_of damage_json damage
 abbrev pub unless_zero : ℕ → Option ℕ
 unless_zero n = if n == 0 then None else Some n
 
--- the members by the crash, when the dump was written, the status with which it ends a program, the
--- word for whose context the registers are of, and the signature
-unfoldable pub minidump_object : CrashValue → Option ℕ → ℕ → Option (List ℕ) → Option (List ℕ)
-    → Json
-minidump_object c written status origin signature = object_of (
+-- the members by whether the environment is asked for, the crash, when the dump was written, the id of
+-- the process's parent, the status with which the dump ends a program, the word for whose context the
+-- registers are of, and the signature
+unfoldable pub minidump_object : Bool → CrashValue → Option ℕ → Option ℕ → ℕ → Option (List ℕ)
+    → Option (List ℕ) → Json
+minidump_object environment c written parent status origin signature = object_of (
     (codes "written", or_null count written)
     ∷ (codes "uptime", or_null count c.process.uptime)
+    ∷ (codes "parent_process_id", or_null count parent)
+    ∷ (codes "resident_size", or_null count c.process.resident)
     ∷ (codes "command_line", or_null string c.process.command_line)
+    ∷ (codes "environment", environment_json environment c.contents.process.environ)
     ∷ (codes "comment", or_null string c.process.comments.narrow)
     ∷ (codes "wide_comment", or_null string c.process.comments.wide)
     ∷ (codes "status", count status)
@@ -105,17 +111,20 @@ minidump_object c written status origin signature = object_of (
     ∷ (codes "entries_outside", count c.directory.entries_outside)
     ∷ (codes "memory", regions_json (unified_regions c.contents.space.memory))
     ∷ (codes "damage", all_damage_json c.damage)
+    ∷ (codes "unreadable_modules", all_unreadable_json c.modules.unreadable)
     ∷ (codes "address", or_null address_json c.cause.address)
     ∷ (codes "point", or_null point_json c.point)
     ∷ (codes "exceptions", exceptions_json c.cause.exceptions)
     ∷ (codes "exception", or_null count c.cause.counts)
     ∷ (codes "signature", or_null string signature)
     ∷ (codes "registers_of", or_null string origin)
+    ∷ (codes "handle_kinds", kinds_json c.process.handle_kinds)
     ∷ (codes "assertion", or_null assertion_json (result_ok c.contents.messages.assertion))
     ∷ (codes "crashpad", or_null crashpad_json (result_ok c.contents.messages.crashpad))
     ∷ [])
 
--- what the schema has no member for
-abbrev pub minidump_json : Option SymbolizedValue → CrashValue → Json
-minidump_json symbols c = minidump_object c (unless_zero c.directory.written) (status_of (Ok c))
+-- what the schema has no member for, by whether the environment is asked for
+abbrev pub minidump_json : Bool → Option SymbolizedValue → CrashValue → Json
+minidump_json environment symbols c = minidump_object environment c
+    (unless_zero c.directory.written) c.process.parent (status_of (Ok c))
     (registers_of c.threads) (signature_in symbols c)

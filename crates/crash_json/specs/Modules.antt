@@ -1,13 +1,16 @@
 -- Modules as JSON, loaded and unloaded.
 use Rattle.std.specs.Prelude.{ℕ, ◌++◌, Bool, false, true, List, [], ◌∷◌, codes, Option, Some, None}
 use Rattle.json.specs.Json.{Json, boolean, string}
+use Rattle.crash.specs.declared.unreadable_modules.ModulePart.{ModulePart}
+use Rattle.crash.specs.declared.unreadable_modules.ModulePart.TheVariants.{CodeView, Name}
+use Rattle.crash.specs.declared.unreadable_modules.UnreadableModule.{UnreadableModule}
 use Rattle.crash.specs.Modules.{LoadedValue, UnloadedModuleValue}
 use Rattle.crash_symbols.specs.declared.symbols.SymbolState.{SymbolState}
 use Rattle.crash_symbols.specs.declared.symbols.SymbolState.TheVariants.{Corrupt, Loaded, Missing}
 use Rattle.crash_symbols.specs.declared.symbols.SymbolState.TheVariants.{OutOfMemory, Unwanted}
 use Rattle.crash_symbols.specs.Shown.{SymbolizedValue}
 use Rattle.crash_symbols.specs.Symbols.{state_at}
-use Rattle.json_tree.specs.Tree.{array_of, hex_string, numbered_array_of, object_of, or_null}
+use Rattle.json_tree.specs.Tree.{array_of, count, hex_string, numbered_array_of, object_of, or_null}
 
 -- the members of a module
 unfoldable pub module_object : LoadedValue → List (List ℕ × Json)
@@ -69,6 +72,32 @@ module_json symbols index m = object_of (module_object m ++ symbol_members symbo
 -- the modules
 unfoldable pub modules_json : Option SymbolizedValue → List LoadedValue → Json
 modules_json symbols modules = numbered_array_of (module_json symbols) modules
+
+-- ---- entries that can't be read
+
+-- the word for a part of a module's entry
+abbrev pub part_name : ModulePart → List ℕ
+part_name Name = codes "name"
+part_name CodeView = codes "code_view"
+
+-- a module of which a part can't be read, by the word for the part
+unfoldable pub unreadable_object : UnreadableModule → List ℕ → Json
+unreadable_object m part = object_of (
+    (codes "index", count m.index)
+    ∷ (codes "base_addr", hex_string m.base)
+    ∷ (codes "size", count m.size)
+    ∷ (codes "part", string part)
+    ∷ [])
+
+-- the same by its value
+abbrev pub unreadable_json : UnreadableModule → Json
+unreadable_json m = unreadable_object m (part_name m.part)
+
+-- the modules of which a part can't be read
+unfoldable pub all_unreadable_json : List UnreadableModule → Json
+all_unreadable_json modules = array_of unreadable_json modules
+
+-- ---- others
 
 -- the index of the main module, which is the first
 abbrev pub main_module : List LoadedValue → Option ℕ

@@ -8,6 +8,7 @@ use Rattle.minidump.specs.Below.Records.Descriptor.{handle}
 use Rattle.minidump.specs.Below.Records.Handles.{Handle}
 use Rattle.minidump.specs.Below.Records.Record as mac
 use Rattle.minidump.specs.Below.Records.Record.{MacRecord, text_of}
+use Rattle.crash.specs.HandleKinds.{KindValue}
 use Rattle.json_tree.specs.Tree.{array_of, count, hex_string, object_of, or_null}
 
 -- ---- handles
@@ -27,6 +28,15 @@ handle_json h = handle_object (handle h.raw) h.type_name h.object_name
 -- the handles
 unfoldable pub handles_json : List Handle → Json
 handles_json handles = array_of handle_json handles
+
+-- a kind of handles: the name of their type, and how many there are
+unfoldable pub kind_json : KindValue → Json
+kind_json k = object_of (
+    (codes "type_name", string k.type_name) ∷ (codes "count", count k.count) ∷ [])
+
+-- the kinds of handles
+unfoldable pub kinds_json : List KindValue → Json
+kinds_json kinds = array_of kind_json kinds
 
 -- ---- macOS's crash information
 

@@ -1,5 +1,5 @@
 -- A crash as JSON, in the schema of `minidump-stackwalk --json`: a JSON value for each crash.
-use Rattle.std.specs.Prelude.{ℕ, List, [], ◌∷◌, ◌++◌, codes, length, Option, Some, None}
+use Rattle.std.specs.Prelude.{ℕ, Bool, List, [], ◌∷◌, ◌++◌, codes, length, Option, Some, None}
 use Rattle.std.specs.Option.{option_and_then}
 use Rattle.std.specs.Result.{result_ok}
 use Rattle.json.specs.Json.{Json, string}
@@ -10,6 +10,7 @@ use Rattle.crash_symbols.specs.Shown.{SymbolizedValue}
 use Rattle.json_tree.specs.Tree.{count, object_of, or_null}
 use Rattle.crash_json.specs.declared.JsonLimits.{JsonLimits}
 use Rattle.crash_json.specs.Cause.{crash_info_json}
+use Rattle.crash_json.specs.Linux.{proc_limits_json}
 use Rattle.crash_json.specs.Minidump.{minidump_json}
 use Rattle.crash_json.specs.Modules.{all_unloaded_json, main_module, modules_json}
 use Rattle.crash_json.specs.Records.{handles_json, mac_crash_json}
@@ -55,22 +56,23 @@ process_members limit symbols c =
     process_object limit symbols c c.process.id (length c.threads.threads)
 
 -- what single streams hold, with the arguments of macOS's boot and the soft errors, and what the
--- schema has no member for
-unfoldable pub record_object : Option SymbolizedValue → CrashValue → Option (List ℕ)
+-- schema has no member for, by whether the environment is asked for
+unfoldable pub record_object : Bool → Option SymbolizedValue → CrashValue → Option (List ℕ)
     → Option (List ℕ) → List (List ℕ × Json)
-record_object symbols c boot_args soft_errors =
+record_object environment symbols c boot_args soft_errors =
     (codes "lsb_release", or_null release_json c.process.release)
     ∷ (codes "mac_crash_info", or_null mac_crash_json (result_ok c.contents.messages.mac_crash_info))
     ∷ (codes "mac_boot_args", or_null string boot_args)
     ∷ (codes "handles", or_null handles_json (result_ok c.contents.process.handles))
     ∷ (codes "soft_errors", or_null soft_json soft_errors)
     ∷ (codes "linux_memory_map_count", or_null count c.contents.space.map_count)
-    ∷ (codes "minidump", minidump_json symbols c)
+    ∷ (codes "proc_limits", proc_limits_json c.contents.process.limits)
+    ∷ (codes "minidump", minidump_json environment symbols c)
     ∷ []
 
 -- what single streams hold, and what the schema has no member for
-abbrev pub record_members : Option SymbolizedValue → CrashValue → List (List ℕ × Json)
-record_members symbols c = record_object symbols c
+abbrev pub record_members : Bool → Option SymbolizedValue → CrashValue → List (List ℕ × Json)
+record_members environment symbols c = record_object environment symbols c
     (option_and_then (λ b. b.text) (result_ok c.contents.messages.mac_boot_args))
     (result_ok c.contents.messages.soft_errors)
 
@@ -79,7 +81,7 @@ abbrev pub all_members : JsonLimits → Option (List ℕ) → Option SymbolizedV
     → List (List ℕ × Json)
 all_members limits path symbols c = path_members path
     ++ (crash_members symbols c
-    ++ (process_members limits.frames symbols c ++ record_members symbols c))
+    ++ (process_members limits.frames symbols c ++ record_members limits.environment symbols c))
 
 -- a crash, with the path of its file, where it has one, and with symbols, where they are known
 abbrev pub json_of : JsonLimits → Option (List ℕ) → Option SymbolizedValue → CrashValue → Json

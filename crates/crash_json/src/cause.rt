@@ -248,7 +248,7 @@ impl ItemJson<Sender> for SenderJson {
     ghost json_of = { λ _ s. sender_json s };
 
     fn put_item(&self, item: &Sender, out: &mut Writer, alloc: Global) -> Result<(), Error> {
-        put_sender(out, alloc, item.process, user_of(item))
+        put_sender(out, alloc, item.process, user_of(item), item.code.name())
     }
 }
 
@@ -260,8 +260,14 @@ fn user_of(sender: &Sender) -> Option<u64>
 }
 
 #[tactic(auto, unfolding(crate::specs::Cause::sender_object))]
-fn put_sender(out: &mut Writer, alloc: Global, process: u32, user: Option<u64>) -> Result<(), Error>
-    ensures { Puts result out.old out.new (sender_object process user) }
+fn put_sender(
+    out: &mut Writer,
+    alloc: Global,
+    process: u32,
+    user: Option<u64>,
+    code: &str,
+) -> Result<(), Error>
+    ensures { Puts result out.old out.new (sender_object process user code.now) }
 {
     put_object(
         out,
@@ -269,6 +275,7 @@ fn put_sender(out: &mut Writer, alloc: Global, process: u32, user: Option<u64>) 
         &[
             ("process_id", Scalar::Number(Some(process as u64))),
             ("user_id", Scalar::Number(user)),
+            ("code", Scalar::Text(Some(code))),
         ],
     )
 }

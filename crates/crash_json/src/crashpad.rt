@@ -240,8 +240,9 @@ impl<'l> ValueJson<(&'l String, &'l String)> for EachAnnotation {
     }
 }
 
+/// Puts a name and a value.
 #[tactic(auto, unfolding(crate::specs::Crashpad::annotation_json))]
-fn put_annotation<'t>(
+pub(crate) fn put_annotation<'t>(
     out: &mut Writer,
     alloc: Global,
     name: &'t str,

@@ -15,8 +15,10 @@ ghost use Rattle.crash_json.specs.Minidump.{unless_zero};
 
 use crate::cause::{AddressJson, put_exceptions};
 use crate::crashpad::CrashpadJson;
+use crate::linux::put_environment;
+use crate::modules::put_all_unreadable;
 use crate::point::PointJson;
-use crate::records::{AssertionJson, put_found};
+use crate::records::{AssertionJson, put_found, put_kinds};
 use crate::signature::signature_in;
 use crate::threads::registers_of;
 use crash::{Crash, Damage, StreamEntry};
@@ -30,26 +32,37 @@ use minidump::format::MINIDUMP_STREAM_TYPE;
 use minidump::{Error, UnifiedMemory, UnifiedMemoryList};
 use std::alloc::{AllocError, Global};
 
-/// Puts what a minidump says that the schema has no member for.
+/// Puts what a minidump says that the schema has no member for, with the environment if it is asked
+/// for.
 pub(crate) fn put_minidump(
     out: &mut Writer,
     alloc: Global,
+    environment: bool,
     crash: &Crash<'_>,
     symbols: Option<&Symbolized<'_, '_>>,
 ) -> Result<(), Error>
-    ensures { Puts result out.old out.new (minidump_json
+    ensures { Puts result out.old out.new (minidump_json environment
         (option_map symbolized_of (option_copied symbols.entry)) (crash_of crash.now)) }
 {
     let signature = signature_in(alloc, crash, symbols)?;
     put_members(
         out,
         alloc,
+        environment,
         crash,
         unless_zero(crash.directory.written),
+        parent_of(crash),
         status_of(crash),
         registers_of(&crash.threads),
         as_text(&signature),
     )
+}
+
+// Returns the id of the process's parent.
+fn parent_of(crash: &Crash<'_>) -> Option<u64>
+    ensures { result ≡ (crash_of crash.now).process.parent }
+{
+    Some(crash.process.parent? as u64)
 }
 
 // Returns a time, of which 0 says nothing.
@@ -70,14 +83,16 @@ fn status_of(crash: &Crash<'_>) -> u64
 fn put_members<'l>(
     out: &mut Writer,
     alloc: Global,
+    environment: bool,
     crash: &'l Crash<'_>,
     written: Option<u64>,
+    parent: Option<u64>,
     status: u64,
     origin: Option<&'l str>,
     signature: Option<&'l str>,
 ) -> Result<(), Error>
-    ensures { Puts result out.old out.new (minidump_object (crash_of crash.now) written status
-        (option_copied origin.entry) (option_copied signature.entry)) }
+    ensures { Puts result out.old out.new (minidump_object environment (crash_of crash.now) written
+        parent status (option_copied origin.entry) (option_copied signature.entry)) }
 {
     put_object_of(
         out,
@@ -88,10 +103,16 @@ fn put_members<'l>(
                 "uptime",
                 Member::Scalar(Scalar::Number(crash.process.uptime)),
             ),
+            ("parent_process_id", Member::Scalar(Scalar::Number(parent))),
+            (
+                "resident_size",
+                Member::Scalar(Scalar::Number(crash.process.resident)),
+            ),
             (
                 "command_line",
                 Member::Scalar(Scalar::Optional(&crash.process.command_line)),
             ),
+            ("environment", Member::Environment(environment, crash)),
             (
                 "comment",
                 Member::Scalar(Scalar::Optional(&crash.process.comments.narrow)),
@@ -108,6 +129,7 @@ fn put_members<'l>(
             ),
             ("memory", Member::Memory(crash)),
             ("damage", Member::Damage(crash)),
+            ("unreadable_modules", Member::Unreadable(crash)),
             ("address", Member::Address(crash)),
             ("point", Member::Point(crash)),
             ("exceptions", Member::Exceptions(crash)),
@@ -117,6 +139,7 @@ fn put_members<'l>(
             ),
             ("signature", Member::Scalar(Scalar::Text(signature))),
             ("registers_of", Member::Scalar(Scalar::Text(origin))),
+            ("handle_kinds", Member::Kinds(crash)),
             ("assertion", Member::Assertion(crash)),
             ("crashpad", Member::Crashpad(crash)),
         ],
@@ -135,6 +158,9 @@ pub(crate) enum Member<'l, 'a> {
     Exceptions(&'l Crash<'a>),
     Assertion(&'l Crash<'a>),
     Crashpad(&'l Crash<'a>),
+    Unreadable(&'l Crash<'a>),
+    Kinds(&'l Crash<'a>),
+    Environment(bool, &'l Crash<'a>),
 }
 
 impl ToJson for Member<'_, '_> {
@@ -163,6 +189,13 @@ impl ToJson for Member<'_, '_> {
             ),
             Member::Crashpad(crash) => {
                 put_found(out, alloc, &crash.contents.messages.crashpad, &CrashpadJson)
+            }
+            Member::Unreadable(crash) => {
+                put_all_unreadable(out, alloc, crash.modules.unreadable.as_slice())
+            }
+            Member::Kinds(crash) => put_kinds(out, alloc, crash.process.handle_kinds.as_slice()),
+            Member::Environment(is_asked, crash) => {
+                put_environment(out, alloc, *is_asked, &crash.contents.process.environ)
             }
         }
     }

@@ -8,8 +8,8 @@
 //!
 //! `path`, `status`, `system_info`, `crash_info`, `main_module`, `modules`, `unloaded_modules`,
 //! `pid`, `thread_count`, `threads`, `crashing_thread`, `lsb_release`, `mac_crash_info`,
-//! `mac_boot_args`, `handles`, `soft_errors`, `linux_memory_map_count` and `minidump`, in that
-//! order. Other members of the schema are left out, and so is `path` if the caller has none, and what
+//! `mac_boot_args`, `handles`, `soft_errors`, `linux_memory_map_count`, `proc_limits` and `minidump`,
+//! in that order. Other members of the schema are left out, and so is `path` if the caller has none, and what
 //! needs symbols if there are none.
 //!
 //! - A member is `null` if the dump lacks what it says; the lists of modules and of threads are
@@ -34,13 +34,16 @@
 //!   `loaded_symbols` or, if they were looked for, `missing_symbols` or `corrupt_symbols`. A name that
 //!   isn't UTF-8 has U+FFFD in place of what is malformed.
 //! - `soft_errors` is the value of the stream's text if that is JSON and nests at most 127 deep, else
-//!   the text; `handles` is a list, `mac_boot_args` the arguments alone.
+//!   the text; `handles` is a list, `mac_boot_args` the arguments alone. The limits of `proc_limits` are
+//!   texts.
 //! - `minidump`, which the schema doesn't have, has when the dump was `written`, in seconds since
-//!   1970, and the `uptime` of the process in seconds; the `status` with which the dump ends a
-//!   program; the `streams`, the deciding ones by type, each with the name of its `error` if it
+//!   1970; of the process the `uptime` in seconds, the `parent_process_id`, the `resident_size` in
+//!   bytes, and the `environment` if [`JsonLimits::environment`] asks for it; the `status` with which
+//!   the dump ends a program; the `streams`, the deciding ones by type, each with the name of its `error` if it
 //!   can't be read, or if its type is never read and its bytes are outside the file; how many
 //!   `entries_outside` the file the directory has; the regions of `memory` that the dump holds; the
-//!   `damage`; the `address` of the crash with its module; all `exceptions`, and the index of the
+//!   `damage`, and the `unreadable_modules` for which the list of modules can't be read; the
+//!   `handle_kinds`; the `address` of the crash with its module; all `exceptions`, and the index of the
 //!   `exception` that counts; the `signature`, which is the reason and the first three frames of the
 //!   crashing thread that are in a module, by their functions or by the module's file with the offset,
 //!   but no candidates; whose context `registers_of` the crashing thread are; the `assertion`
@@ -76,6 +79,7 @@ mod crashpad;
 mod dump;
 mod error_line;
 mod frames;
+mod linux;
 mod modules;
 mod point;
 mod records;
@@ -98,6 +102,9 @@ use std::alloc::{AllocError, Global};
 pub struct JsonLimits {
     /// How many frames of a thread are written at most.
     pub frames: usize,
+    /// Whether the variables of the environment are written. They may hold secrets, such as
+    /// passwords.
+    pub environment: bool,
 }
 
 /// Makes the JSON text of the crash of a minidump, whose bytes are `bytes`. The names of codes are

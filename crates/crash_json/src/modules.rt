@@ -4,15 +4,17 @@ ghost use Rattle.std.specs.Option.{option_copied, option_map};
 ghost use Rattle.crash.specs.Modules.{loaded_of, unloaded_module_of};
 ghost use Rattle.crash_symbols.specs.Shown.{symbolized_of};
 ghost use Rattle.json_tree.specs.Tree.{Adds, Puts};
-ghost use Rattle.crash_json.specs.Modules.{all_unloaded_json, are_corrupt, are_loaded, are_missing};
-ghost use Rattle.crash_json.specs.Modules.{main_module, module_object, modules_json, state_object};
-ghost use Rattle.crash_json.specs.Modules.{symbol_members, unloaded_json};
+ghost use Rattle.crash_json.specs.Modules.{all_unloaded_json, all_unreadable_json, are_corrupt};
+ghost use Rattle.crash_json.specs.Modules.{are_loaded, are_missing, main_module, module_object};
+ghost use Rattle.crash_json.specs.Modules.{modules_json, part_name, state_object, symbol_members};
+ghost use Rattle.crash_json.specs.Modules.{unloaded_json, unreadable_object};
 
-use crash::{CrashModule, UnloadedModule};
+use crash::{CrashModule, ModulePart, UnloadedModule, UnreadableModule};
 use crash_symbols::{SymbolState, Symbolized};
 use json::Writer;
 use json_tree::{
-    NumberedJson, Scalar, ValueJson, put_fields, put_numbered_array, put_object, put_values,
+    ItemJson, NumberedJson, Scalar, ValueJson, put_array, put_fields, put_numbered_array,
+    put_object, put_values,
 };
 use minidump::Error;
 use std::alloc::Global;
@@ -224,4 +226,66 @@ fn put_unloaded(out: &mut Writer, alloc: Global, unloaded: &UnloadedModule) -> R
             ("code_id", Scalar::Optional(&unloaded.code_id)),
         ],
     )
+}
+
+/// Puts the modules of which a part can't be read.
+#[tactic(auto, unfolding(crate::specs::Modules::all_unreadable_json))]
+pub(crate) fn put_all_unreadable(
+    out: &mut Writer,
+    alloc: Global,
+    modules: &[UnreadableModule],
+) -> Result<(), Error>
+    ensures { Puts result out.old out.new (all_unreadable_json modules.now) }
+{
+    put_array(out, alloc, modules, &EachUnreadableModule)
+}
+
+// A module of a list of which a part can't be read.
+#[derive(Clone, Copy)]
+struct EachUnreadableModule;
+
+impl ItemJson<UnreadableModule> for EachUnreadableModule {
+    ghost use Rattle.crash_json.specs.Modules.{unreadable_json};
+
+    ghost json_of = { λ _ m. unreadable_json m };
+
+    fn put_item(
+        &self,
+        item: &UnreadableModule,
+        out: &mut Writer,
+        alloc: Global,
+    ) -> Result<(), Error> {
+        put_unreadable(out, alloc, item, part_name(item.part))
+    }
+}
+
+#[tactic(auto, unfolding(crate::specs::Modules::unreadable_object))]
+fn put_unreadable(
+    out: &mut Writer,
+    alloc: Global,
+    found: &UnreadableModule,
+    part: &str,
+) -> Result<(), Error>
+    ensures { Puts result out.old out.new (unreadable_object found.now part.now) }
+{
+    put_object(
+        out,
+        alloc,
+        &[
+            ("index", Scalar::Count(Some(found.index))),
+            ("base_addr", Scalar::Hex(Some(found.base))),
+            ("size", Scalar::Number(Some(found.size as u64))),
+            ("part", Scalar::Text(Some(part))),
+        ],
+    )
+}
+
+// Returns the word for a part of a module's entry.
+fn part_name(part: ModulePart) -> &'static str
+    ensures { result.now ≡ part_name part }
+{
+    match part {
+        ModulePart::Name => "name",
+        ModulePart::CodeView => "code_view",
+    }
 }

@@ -16,6 +16,7 @@ ghost use Rattle.crash_json.specs.Report.{record_members, record_object};
 use crate::JsonLimits;
 use crate::cause::put_crash_info;
 use crate::dump::put_minidump;
+use crate::linux::put_proc_limits;
 use crate::modules::{main_module, put_all_unloaded, put_modules};
 use crate::records::{HandlesJson, MacCrashJson, put_found};
 use crate::soft_errors::put_soft_errors;
@@ -28,8 +29,8 @@ use json_tree::{Scalar, ToJson, as_text, put_fields, put_members, put_value_or_n
 use minidump::{Error, MinidumpMacBootargs, MinidumpSoftErrors};
 use std::alloc::Global;
 
-/// A crash, with the path of its file if it has one, how many frames are written, and the symbols
-/// where they are known.
+/// A crash, with the path of its file if it has one, how much is written, and the symbols where they
+/// are known.
 #[derive(Clone, Copy)]
 pub(crate) struct Report<'l, 'a, 's, 'n> {
     pub(crate) path: Option<&'l str>,
@@ -71,7 +72,13 @@ fn put_report(out: &mut Writer, alloc: Global, report: &Report<'_, '_, '_, '_>) 
         report.limits.frames,
         report.symbols,
     )?;
-    put_records(out, alloc, report.crash, report.symbols)?;
+    put_records(
+        out,
+        alloc,
+        report.limits.environment,
+        report.crash,
+        report.symbols,
+    )?;
     Ok(())
 }
 
@@ -196,16 +203,18 @@ fn put_process_members<'l>(
 fn put_records(
     out: &mut Writer,
     alloc: Global,
+    environment: bool,
     crash: &Crash<'_>,
     symbols: Option<&Symbolized<'_, '_>>,
 ) -> Result<(), Error>
-    ensures { Adds result out.old out.new (record_members
+    ensures { Adds result out.old out.new (record_members environment
         (option_map symbolized_of (option_copied symbols.entry)) (crash_of crash.now)) }
 {
     let messages = &crash.contents.messages;
     put_record_members(
         out,
         alloc,
+        environment,
         crash,
         symbols,
         boot_args(&messages.mac_boot_args),
@@ -238,13 +247,15 @@ fn soft_errors<'a>(found: &Result<MinidumpSoftErrors<'a>, Error>) -> Option<&'a 
 fn put_record_members<'l>(
     out: &mut Writer,
     alloc: Global,
+    environment: bool,
     crash: &'l Crash<'_>,
     symbols: Option<&'l Symbolized<'_, '_>>,
     boot_args: Option<&'l str>,
     soft_errors: Option<&'l str>,
 ) -> Result<(), Error>
-    ensures { Adds result out.old out.new (record_object
-        (option_map symbolized_of (option_copied symbols.entry)) (crash_of crash.now) (option_copied boot_args.entry) (option_copied soft_errors.entry)) }
+    ensures { Adds result out.old out.new (record_object environment
+        (option_map symbolized_of (option_copied symbols.entry)) (crash_of crash.now)
+        (option_copied boot_args.entry) (option_copied soft_errors.entry)) }
 {
     put_members(
         out,
@@ -262,7 +273,11 @@ fn put_record_members<'l>(
                 "linux_memory_map_count",
                 ReportMember::Scalar(Scalar::Count(crash.contents.space.map_count)),
             ),
-            ("minidump", ReportMember::Minidump(crash, symbols)),
+            ("proc_limits", ReportMember::Limits(crash)),
+            (
+                "minidump",
+                ReportMember::Minidump(environment, crash, symbols),
+            ),
         ],
     )
 }
@@ -281,7 +296,8 @@ pub(crate) enum ReportMember<'l, 'a, 's, 'n> {
     MacCrash(&'l Crash<'a>),
     Handles(&'l Crash<'a>),
     SoftErrors(Option<&'l str>),
-    Minidump(&'l Crash<'a>, Option<&'l Symbolized<'s, 'n>>),
+    Limits(&'l Crash<'a>),
+    Minidump(bool, &'l Crash<'a>, Option<&'l Symbolized<'s, 'n>>),
 }
 
 impl ToJson for ReportMember<'_, '_, '_, '_> {
@@ -321,7 +337,12 @@ impl ToJson for ReportMember<'_, '_, '_, '_> {
                 put_found(out, alloc, &crash.contents.process.handles, &HandlesJson)
             }
             ReportMember::SoftErrors(text) => put_soft_errors(out, alloc, *text),
-            ReportMember::Minidump(crash, symbols) => put_minidump(out, alloc, crash, *symbols),
+            ReportMember::Limits(crash) => {
+                put_proc_limits(out, alloc, &crash.contents.process.limits)
+            }
+            ReportMember::Minidump(environment, crash, symbols) => {
+                put_minidump(out, alloc, *environment, crash, *symbols)
+            }
         }
     }
 }

@@ -47,6 +47,7 @@ fn put_system(out: &mut Writer, alloc: Global, system: &CrashSystem) -> Result<(
         cpu.as_str(),
         &system.cpu_model,
         system.processors,
+        &system.microcode,
     )
 }
 
@@ -80,9 +81,11 @@ fn put_texts<'t>(
     cpu: &'t str,
     cpu_model: &'t Option<String>,
     processors: u8,
+    microcode: &'t Option<String>,
 ) -> Result<(), Error>
     ensures { Puts result out.old out.new (system_object os.now version.now cpu.now
-        (option_map string_bytes cpu_model.now) processors) }
+        (option_map string_bytes cpu_model.now) processors
+        (option_map string_bytes microcode.now)) }
 {
     put_object(
         out,
@@ -93,6 +96,7 @@ fn put_texts<'t>(
             ("cpu_arch", Scalar::Text(Some(cpu))),
             ("cpu_info", Scalar::Optional(cpu_model)),
             ("cpu_count", Scalar::Number(Some(processors as u64))),
+            ("cpu_microcode_version", Scalar::Optional(microcode)),
         ],
     )
 }

@@ -54,6 +54,9 @@ fn named_json(
 {
     let table = NameTable::read(alloc, names)?;
     let lists = table.lists(alloc)?;
-    let limits = JsonLimits { frames };
+    let limits = JsonLimits {
+        frames,
+        environment: false,
+    };
     Ok(crash_json(alloc, None, bytes, &lists.code_names(), scan, &limits)?)
 }
