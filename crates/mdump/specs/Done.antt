@@ -1,6 +1,6 @@
 -- What the program writes.
-use Rattle.std.specs.Prelude.{◌≡◌, ◌↔◌, ◌⊎◌, ℕ, ◌<◌, ◌≤◌, ◌++◌, List, [], codes, length, Bool, true}
-use Rattle.std.specs.Prelude.{Option, Some, None, Result, Ok, Err}
+use Rattle.std.specs.Prelude.{◌≡◌, ◌↔◌, ◌⊎◌, ℕ, ◌≤◌, ◌++◌, List, [], ◌∷◌, bytes_eq, codes, Bool, true}
+use Rattle.std.specs.Prelude.{if◌then◌else◌, Option, Some, None, Result, Ok, Err}
 use Rattle.std.specs.Option.{option_map}
 use Rattle.std.specs.Result.{result_ok}
 use Rattle.minidump.specs.declared.Told.{Told}
@@ -27,9 +27,24 @@ use Rattle.mdump.specs.declared.command.Command.TheVariants.{Dir, At, Report}
 use Rattle.mdump.specs.Command.{IsCommand, IsCommandOf}
 use Rattle.mdump.specs.Lines.{IsLookedUpIn, IsJoinOf, info_line, memory_line, module_line}
 
--- the help that is printed without arguments
+-- the help
 abbrev pub usage : List ℕ
 usage = codes "usage: mdump dir FILE | at FILE HEXADDRESS | report FILE\n"
+
+-- the name of the program, and its version
+abbrev pub version : List ℕ
+version = codes "mdump 0.27.0+rattle.1\n"
+
+-- the text that one word asks for
+abbrev pub told_by : List ℕ → Option (List ℕ)
+told_by word = if bytes_eq word (codes "--help") then Some usage
+    else if bytes_eq word (codes "--version") then Some version else None
+
+-- the text that words ask for without a file: without words the usage
+abbrev pub told_of : List (List ℕ) → Option (List ℕ)
+told_of [] = Some usage
+told_of (word ∷ []) = told_by word
+told_of (word ∷ next ∷ words) = None
 
 -- Below, `opens path answer` says what opening a path returns, and `left` which bytes a file has
 -- left, where they are known.
@@ -101,11 +116,11 @@ IsTextOf opens left (Dir path) text = IsDirectoryText opens left path.now text
 IsTextOf opens left (At path address) text = AreLines opens left path.now address text
 IsTextOf opens left (Report path) text = IsReportText opens left path.now text
 
--- the text that words ask for: that of the command that they mean, and of no words the usage
+-- the text that words ask for: the usage or the version, or that of the command that they mean
 abbrev pub IsAnswer : {F : Type 0} → (List ℕ → Option F → Type 0) → (F → Option (List ℕ))
     → List (List ℕ) → List ℕ → Type 0
 IsAnswer opens left words text =
-    ((words ≡ []) × (text ≡ usage)) ⊎ ((command : Command) × IsCommandOf words command
+    (told_of words ≡ Some text) ⊎ ((command : Command) × IsCommandOf words command
     × IsTextOf opens left command text)
 
 -- the device took all of one of the texts
@@ -140,12 +155,12 @@ path_of (Dir path) = path.now
 path_of (At path address) = path.now
 path_of (Report path) = path.now
 
--- an error of the words: that of their command, and of no words only that the output has failed
+-- an error of the words: that of their command, and of others only that the output has failed
 abbrev pub IsCommandError : {F D : Type 0} → (List ℕ → Option F → Type 0) → (F → Option (List ℕ))
     → (F → Bool) → List (List ℕ) → Told D → Told D → Error
     → Type 0
 IsCommandError opens left failed words old new e =
-    ((words ≡ []) × (e ≡ IoError) × (has_failed new ≡ true))
+    ((text : List ℕ) × (told_of words ≡ Some text) × (e ≡ IoError) × (has_failed new ≡ true))
     ⊎ ((command : Command) × IsCommandOf words command
     × IsFileError opens left failed (path_of command) old new e)
 
@@ -154,12 +169,26 @@ abbrev pub IsTold : {D : Type 0} → (D → Option (List ℕ)) → Told D → To
 IsTold contents old new text =
     PutsAll contents old new text ⊎ (PutsPrefix contents old new text × (has_failed new ≡ true))
 
--- the name of an error, as a line
+-- what an error of these words is said of: the path of their command, or else the program
+abbrev pub subject_of : List (List ℕ) → List ℕ
+subject_of [] = codes "mdump"
+subject_of (word ∷ []) = codes "mdump"
+subject_of (word ∷ path ∷ words) = path
+
+-- the name of an error, which ends a line
 abbrev pub name_line : Error → List ℕ
 name_line e = name_of_error e ++ codes "\n"
 
+-- the same after what it is said of
+abbrev pub named_line : Error → List ℕ
+named_line e = codes ": " ++ name_line e
+
+-- the line of an error: what it is said of, and its name
+abbrev pub error_line : List ℕ → Error → List ℕ
+error_line subject e = subject ++ named_line e
+
 -- What a run of the program with these words wrote, by its status. 0: the output took what the
--- words ask for. 1: there was an error, whose name standard error took. The output is as it was, or
+-- words ask for. 1: there was an error, whose line standard error took. The output is as it was, or
 -- took a prefix of what the words ask for. 2: the words are no command, and standard error took the
 -- usage.
 pub record IsRun {F O E : Type 0} (opens : List ℕ → Option F → Type 0) (left : F → Option (List ℕ))
@@ -172,16 +201,16 @@ pub record IsRun {F O E : Type 0} (opens : List ℕ → Option F → Type 0) (le
   pub failure : status ≡ 1
       → TookPrefix (IsAnswer opens left words) output out_old out_new
       × ((e : Error) × IsCommandError opens left failed words out_old out_new e
-      × IsTold errors err_old err_new (name_line e))
+      × IsTold errors err_old err_new (error_line (subject_of words) e))
   pub usage : status ≡ 2 → (out_new ≡ out_old) × IsTold errors err_old err_new usage
-  pub bad : status ≡ 2 ↔ ((0 < length words) × ¬ (IsCommand words))
+  pub bad : status ≡ 2 ↔ ((told_of words ≡ None) × ¬ (IsCommand words))
 
--- there was no memory for the list of the process's arguments: standard error took the name
+-- there was no memory for the list of the process's arguments: standard error took the line of
 -- `OutOfMemory`, and the output nothing
 abbrev pub IsOutOfMemory : {O E : Type 0} → (E → Option (List ℕ)) → Told O → Told O → Told E
     → Told E → ℕ → Type 0
 IsOutOfMemory errors out_old out_new err_old err_new status =
-    (status ≡ 1) × (out_new ≡ out_old) × IsTold errors err_old err_new (name_line OutOfMemory)
+    (status ≡ 1) × (out_new ≡ out_old) × IsTold errors err_old err_new (error_line (codes "mdump") OutOfMemory)
 
 -- the words are no command: standard error took the usage, and the output nothing
 abbrev pub IsNoCommand : {O E : Type 0} → (E → Option (List ℕ)) → Told O → Told O → Told E → Told E

@@ -8,18 +8,18 @@
 //!   malformed, or `info none`.
 //! - `mdump report FILE` writes all that is read of the dump: the header and the directory, each
 //!   stream, and where and why the process crashed, without names of codes.
-//! - `mdump` alone writes its usage.
+//! - `mdump --help` and `mdump` alone write the usage, `mdump --version` the version.
 //!
 //! # Errors
 //!
-//! Status 1: the dump, the file or the output failed, and the name of the error goes to standard
-//! error. Status 2: the arguments are no command, and the usage goes to standard error.
+//! Status 1: the dump, the file or the output failed, and a line `FILE: NAME` with the name of the
+//! error goes to standard error, or `mdump: NAME` where there is no file. Status 2: the arguments are no command, and the usage goes to standard error.
 //!
 //! # What is proved
 //!
 //! - The status is 0, 1 or 2, and 2 exactly where the arguments are no command. At 0 the output
 //!   took the text that they ask for; at 1 a prefix of it; at 2 nothing: `run`, by `IsRun`.
-//! - Standard error took the name of one error at 1, the usage at 2, and nothing at 0; only its own
+//! - Standard error took the line of one error at 1, the usage at 2, and nothing at 0; only its own
 //!   failure cuts it short.
 //! - At 1 the error is that of the path, and the output is as it was: `FileNotFound` only if it
 //!   opens no file, `IoError` only if a read of the file failed, `MissingHeader` and the like only

@@ -1,10 +1,12 @@
-ghost use Rattle.std.specs.Prelude.{◌≡◌, ◌<◌, IfErr, IfNone, IfSome, length, map, string_bytes};
+ghost use Rattle.std.specs.Prelude.{◌≡◌, IfErr, IfNone, IfSome, None, map, string_bytes};
+ghost use Rattle.std.specs.Option.{option_map};
 ghost use Rattle.minidump.specs.Below.Format.Print.{Prints, out_of_memory};
 ghost use Rattle.minidump.specs.DumpValue.{dump_of};
 ghost use Rattle.mdump.specs.Command.{IsCommand};
 ghost use Rattle.mdump.specs.Done.{AreLastLines, AreLines, AreLinesOf, IsAnswer, IsDirectoryText};
 ghost use Rattle.mdump.specs.Done.{IsFileError, IsCommandError, IsReportText, IsRun};
-ghost use Rattle.mdump.specs.Done.{IsTextOf, IsTold, Writes, path_of, name_line, usage};
+ghost use Rattle.mdump.specs.Done.{IsTextOf, IsTold, Writes, error_line, name_line, named_line, path_of};
+ghost use Rattle.mdump.specs.Done.{subject_of, told_of, usage};
 
 use crate::command::Command;
 use crate::info::info_line;
@@ -17,17 +19,20 @@ use std::io::Write;
 
 const USAGE: &str = "usage: mdump dir FILE | at FILE HEXADDRESS | report FILE\n";
 
+const VERSION: &str = "mdump 0.27.0+rattle.1\n";
+
 /// Runs the program with its arguments, without its own name, and returns the status.
 ///
-/// - No arguments: writes the usage to `out`. The status is 0.
+/// - No arguments, or `--help`: writes the usage to `out`. The status is 0.
+/// - `--version`: writes the name of the program and its version to `out`. The status is 0.
 /// - `dir FILE`: writes the header and the directory of the file to `out`. The status is 0.
 /// - `at FILE HEXADDRESS`: writes the region of memory that contains the address to `out`, then the
 ///   module, and then the region by the memory information or the maps, each as a line. The address
 ///   is 1 to 16 hexadecimal digits, alone or after `0x`. The status is 0.
 /// - `report FILE`: writes the report on the file to `out`, as [`minidump::write_report`] does
 ///   without names of codes. The status is 0.
-/// - An error: writes its name to `err`. The status is 1. A failure of `out` is the error
-///   `IoError`.
+/// - An error: writes `FILE: NAME` with its name to `err`, without a file `mdump: NAME`. The status
+///   is 1. A failure of `out` is the error `IoError`.
 /// - Other arguments: writes the usage to `err`. The status is 2.
 ///
 /// A failure of `err` does not change the status.
@@ -45,8 +50,30 @@ pub fn run<R: OpenPath + AllocGlobal, O: Write, E: Write>(
         None => bad_arguments(err),
         Some(answer) => match answer {
             Ok(()) => 0,
-            Err(error) => fail_with(error, err),
+            Err(error) => fail_with(subject_of(words), error, err),
         },
+    }
+}
+
+// Returns what an error of these words is said of: the path of their command, or else the program.
+fn subject_of(words: &[String]) -> &str
+    ensures { result.now ≡ subject_of (map string_bytes words.now) }
+{
+    match words {
+        [_word, path, ..] => path.as_str(),
+        _ => "mdump",
+    }
+}
+
+// Returns what words ask for that are no command: the usage or the version.
+fn told_of(words: &[String]) -> Option<&'static str>
+    ensures { option_map (λ text. text.now) result ≡ told_of (map string_bytes words.now) }
+{
+    match words {
+        [] => Some(USAGE),
+        [word] if word.as_str() == "--help" => Some(USAGE),
+        [word] if word.as_str() == "--version" => Some(VERSION),
+        _ => None,
     }
 }
 
@@ -63,13 +90,14 @@ fn answer<R: OpenPath + AllocGlobal, O: Write>(
         (IsCommandError (R.opens rt.now) R.File.left R.File.failed
         (map string_bytes words.now) out.old out.new)) }
     ensures command { IfSome result
-        (λ _. (0 < length words.now) → ¬ (IsCommand (map string_bytes words.now)) → ⊥) }
-    ensures none { IfNone result ((0 < length words.now)
+        (λ _. (told_of (map string_bytes words.now) ≡ None)
+        → ¬ (IsCommand (map string_bytes words.now)) → ⊥) }
+    ensures none { IfNone result ((told_of (map string_bytes words.now) ≡ None)
         × ¬ (IsCommand (map string_bytes words.now))
         × (out.new ≡ out.old)) }
 {
-    if words.is_empty() {
-        return Some(put_text(out, USAGE));
+    if let Some(text) = told_of(words) {
+        return Some(put_text(out, text));
     }
     let command = Command::parse(words)?;
     Some(obey(rt, command, out))
@@ -175,13 +203,34 @@ fn last_lines<O: Write>(
     info_line(dump, alloc, address, out)
 }
 
-/// Writes the name of an error to `err`, and returns the status.
-pub(crate) fn fail_with<E: Write>(error: Error, err: &mut Told<E>) -> u8
+/// Writes the name of an error to `err`, after what it is said of, and returns the status.
+pub(crate) fn fail_with<E: Write>(subject: &str, error: Error, err: &mut Told<E>) -> u8
     ensures status { result ≡ 1 }
-    ensures named { IsTold E.contents err.old err.new (name_line error) }
+    ensures named { IsTold E.contents err.old err.new (error_line subject.now error) }
 {
-    let _ = put_name(error, err);
+    let _ = put_error(subject, error, err);
     1
+}
+
+fn put_error<E: Write>(subject: &str, error: Error, err: &mut Told<E>) -> Result<(), Error>
+    ensures prints { Prints E.contents err.old err.new (error_line subject.now error) result }
+    ensures error { IfErr result (λ e. e ≡ Error.IoError) }
+{
+    match put_text(err, subject) {
+        Ok(()) => put_named(error, err),
+        Err(failure) => Err(failure),
+    }
+}
+
+// Writes the rest of such a line after what it is said of.
+fn put_named<E: Write>(error: Error, err: &mut Told<E>) -> Result<(), Error>
+    ensures prints { Prints E.contents err.old err.new (named_line error) result }
+    ensures error { IfErr result (λ e. e ≡ Error.IoError) }
+{
+    match put_text(err, ": ") {
+        Ok(()) => put_name(error, err),
+        Err(failure) => Err(failure),
+    }
 }
 
 fn put_name<E: Write>(error: Error, err: &mut Told<E>) -> Result<(), Error>

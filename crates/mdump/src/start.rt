@@ -30,7 +30,9 @@ pub(crate) fn run_arguments<R: OpenPath + AllocGlobal, O: Write, E: Write>(
 {
     let status = match args {
         Ok(args) => run(rt, words(args.as_slice()), out, err),
-        Err(error) if error.kind() == ErrorKind::OutOfMemory => fail_with(Error::OutOfMemory, err),
+        Err(error) if error.kind() == ErrorKind::OutOfMemory => {
+            fail_with("mdump", Error::OutOfMemory, err)
+        }
         // An argument that is not UTF-8 is part of no command.
         Err(_) => bad_arguments(err),
     };
