@@ -1,1 +1,5 @@
+mod BelongLemmas
+mod LimitLemmas
 mod NumberLemmas
+mod Utf8Lemmas
+mod PathLemmas

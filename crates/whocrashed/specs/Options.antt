@@ -1,8 +1,8 @@
 -- What an option says, by the text that clap found for it.
-use Rattle.std.specs.Prelude.{◌≡◌, ◌<◌, ◌^◌, ℕ, Bool, false, true, List, Some, None, codes}
+use Rattle.std.specs.Prelude.{◌≡◌, ◌<◌, ◌^◌, ℕ, Bool, false, true, List, [], Some, None, codes, option_map, unwrap_or}
 use Rattle.std.specs.Prelude.{if◌then◌else◌}
 use Rattle.std.specs.Str.Parse.{IsNumeral, digits_value, without_leading_plus}
-use Rattle.clap.specs.Words.{one_text}
+use Rattle.clap.specs.Words.{matched_of, one_text, raw_values}
 use Rattle.clap.specs.declared.parser.matches.Found.{Found}
 use Rattle.whocrashed.specs.declared.options.Form.{Form}
 use Rattle.whocrashed.specs.declared.options.Form.TheVariants.{Html, Json, Lines}
@@ -20,6 +20,10 @@ IsNumber found id n = (text : List ℕ) → one_text found id ≡ Some text
     → IsNumeral 10 (without_leading_plus text)
     → digits_value 10 (without_leading_plus text) < 2 ^ 64
     → n ≡ digits_value 10 (without_leading_plus text)
+
+-- the values of an argument, in their order: none where it isn't there
+abbrev pub values_in : Found → List ℕ → List (List ℕ)
+values_in found id = unwrap_or (option_map raw_values (matched_of found id)) []
 
 -- the form that the flags --json and --html ask for
 abbrev pub form_by : Bool → Bool → Form

@@ -1,19 +1,36 @@
 use crash_text::push_line;
 use minidump::text::Piece;
+use std::alloc::AllocError;
 use std::io;
 
+/// Prints a text to standard error. Its failure changes nothing of the run.
+pub(crate) fn say(rt: &HostRuntime, text: &str) {
+    match eprint!(rt; "{text}") {
+        Ok(()) | Err(_) => (),
+    }
+}
+
 /// Prints a line on a path to standard error.
-pub(crate) fn complain<'w>(rt: &HostRuntime, path: &'w str, words: &'w str) -> io::Result<()> {
+pub(crate) fn complain<'w>(
+    rt: &HostRuntime,
+    path: &'w str,
+    words: &'w str,
+) -> Result<(), AllocError> {
     let mut text = String::new(rt.alloc());
     push_line(
         &mut text,
         &[Piece::Words(path), Piece::Words(": "), Piece::Words(words)],
     )?;
-    eprint!(rt; "{text}")
+    say(rt, text.as_str());
+    Ok(())
 }
 
 /// Prints a line on a path and an error to standard error.
-pub(crate) fn complain_of(rt: &HostRuntime, path: &str, error: &io::Error) -> io::Result<()> {
+pub(crate) fn complain_of(
+    rt: &HostRuntime,
+    path: &str,
+    error: &io::Error,
+) -> Result<(), AllocError> {
     complain(rt, path, format!(in rt.alloc(); "{error}")?.as_str())
 }
 
@@ -21,8 +38,6 @@ pub(crate) fn complain_of(rt: &HostRuntime, path: &str, error: &io::Error) -> io
 /// too.
 pub(crate) fn complain_at_end(rt: &HostRuntime, error: &io::Error) {
     if complain_of(rt, "whocrashed", error).is_err() {
-        match eprint!(rt; "whocrashed: Out of memory\n") {
-            Ok(()) | Err(_) => (),
-        }
+        say(rt, "whocrashed: Out of memory\n");
     }
 }

@@ -2,34 +2,49 @@
 //! example of a program on `minidump`, the crates above it and `clap`. The README shows its output.
 //! `whocrashed --help` prints its options.
 //!
-//! Of each dump, in the order of the arguments, it prints
+//! Of each dump, in the order of the arguments, and then of the paths that `--stdin-paths` takes from
+//! standard input, it prints
 //!
 //! - the lines of [`crash_text::text_of`], under the dump's path if there are several;
 //! - with `--json` the line of JSON of [`crash_json::json_of`]. A file that can't be read, or is
 //!   no dump, has a line too, whose `status` says why, so that there are as many lines as dumps;
 //! - with `--html`, which takes one dump, the page of [`crash_html::page`].
 //!
-//! A dump is read once, into a [`crash::Crash`], and all three are made of that. Codes have the names of [`known_names::text`], or instead those of the file of `--names`.
+//! A dump is read once, into a [`crash::Crash`], and all three are made of that. `-` is the dump on
+//! standard input. Codes have the names of [`known_names::text`], unless `--only-names` leaves these
+//! out, and those of the files of `--names`.
+//!
+//! With `--symbols` frames have functions and source lines, by [`crash_symbols`]. The backtraces are
+//! found with the symbol files that are known so far, the files of the modules in which frames then
+//! lie are read, and so on until none is wanted, at most 64 times. A word at a module says that its
+//! file is missing or damaged. A symbol file that was read is kept until the run ends.
 //!
 //! # Errors
 //!
-//! Status 1: a file can't be read or is no dump, which is said on standard error, or in its line of
-//! JSON; or a stream, a context or a stack can't be read, in each of the three forms. The other
-//! dumps are printed all the same. Status 2: the arguments are malformed, or one isn't UTF-8. A
-//! closed pipe ends the program quietly, with status 0.
+//! Status 1: a file can't be read, has more bytes than `--limit`, or is no dump, which is said on
+//! standard error, or in its line of JSON; or a stream, a context or a stack can't be read, in each
+//! of the three forms. The other dumps are printed all the same. Status 2: the arguments are
+//! malformed, or one isn't UTF-8. A closed pipe ends the program quietly, with the status of the dumps
+//! before.
 //!
 //! # What is proved
 //!
-//! The dumps are the values of the argument `DUMP`, in their order: `dumps_of`. The status of a dump
-//! is that of the crash that its bytes hold, whatever the form: `report_bytes`. No status is above
-//! 2: `run`. What is made of a crash is proved in the crates below; that it is what is printed is
-//! not.
+//! The dumps are the values of the argument `DUMP`, and after them the paths of the list, both in their
+//! order: `dumps_of`, `dumps_in`. What is read of a file is all of it, or nothing if it has more bytes
+//! than the limit: `read_to_limit`. The status of a dump is that of the crash that its bytes hold,
+//! whatever the form: `report_bytes`. No status is above 2: `run`. A symbol file says what its text
+//! says, and stands only at modules whose file it is: `kept`, `SymbolCache::find`. What is made of a
+//! crash is proved in the crates below; that it is what is printed is not.
 #![tactic(auto)]
 
 mod complain;
+mod form;
+mod input;
+mod names;
 mod options;
 mod program;
 mod report;
+mod symbols;
 
 use std::alloc::AllocError;
 use std::env;

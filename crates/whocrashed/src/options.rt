@@ -1,6 +1,6 @@
-ghost use Rattle.std.specs.Prelude.{◌≡◌, [], Bool, IfOk, codes, map, option_map, unwrap_or};
-ghost use Rattle.clap.specs.Words.{found_of, matched_of, raw_values};
-ghost use Rattle.whocrashed.specs.Options.{IsFlag, IsNumber, form_by};
+ghost use Rattle.std.specs.Prelude.{◌≡◌, Bool, IfOk, codes, map};
+ghost use Rattle.clap.specs.Words.{found_of};
+ghost use Rattle.whocrashed.specs.Options.{IsFlag, IsNumber, form_by, values_in};
 
 use clap::error::ErrorKind;
 use clap::{Arg, ArgAction, ArgMatches, Command, Error, value_parser};
@@ -15,17 +15,21 @@ these lines name, with what a symbol server is asked by.";
 
 const EXAMPLES: &str = "Examples:
   whocrashed crash.dmp
-  whocrashed --all-threads --frames 100 crash.dmp
+  whocrashed --symbols symbols --all-threads --frames 100 crash.dmp
   whocrashed --html crash.dmp > crash.html
-  find dumps -name '*.dmp' -print0 | xargs -0 -n 64 whocrashed --json > crashes.jsonl
+  curl -s https://example.org/crash.dmp | whocrashed -
+  find dumps -name '*.dmp' -print0 | whocrashed --json --stdin-paths > crashes.jsonl
 
-The exit status is 0; 1 if a file can't be read or is no minidump, if a stream of it is there and can't be read, or if
-the bytes of a context or a stack are outside the file; 2 if the arguments are refused.";
+The exit status is 0; 1 if a file can't be read, is too large or is no minidump, if a stream of it is there and can't be
+read, or if the bytes of a context or a stack are outside the file; 2 if the arguments are refused. What is missing of
+symbols doesn't change it. If the pipe that is written to is closed, the run ends with the status of the dumps before.";
 
-// The defaults of --frames and --scan.
+// The defaults of --frames and --scan, and of --limit and --symbols-limit.
 const FRAMES: &str = "64";
 
 const SCAN: &str = "16";
+
+const GIBIBYTE: &str = "1073741824";
 
 /// What is printed of a dump.
 #[derive(Clone, Copy, Debug, PartialEq, Eq)]
@@ -38,15 +42,45 @@ pub(crate) enum Form {
     Html,
 }
 
+/// Which names codes have.
+#[derive(Drop)]
+pub(crate) struct NameOptions<'w> {
+    /// The files of names. Of two names of a code that of the later file counts.
+    pub(crate) files: Vec<&'w str>,
+    /// Whether the names that are compiled in are left out.
+    pub(crate) only_files: bool,
+}
+
+/// Where symbol files are looked for.
+#[derive(Drop)]
+pub(crate) struct SymbolOptions<'w> {
+    /// The directories of symbol files, of which the first that has a file counts.
+    pub(crate) dirs: Vec<&'w str>,
+    /// The most bytes of a symbol file.
+    pub(crate) limit: usize,
+}
+
+/// Which dumps are read.
+#[derive(Drop)]
+pub(crate) struct DumpOptions<'w> {
+    /// The arguments, where `-` is the dump on standard input.
+    pub(crate) paths: Vec<&'w str>,
+    /// Whether the paths of further dumps stand on standard input.
+    pub(crate) are_listed: bool,
+    /// The most bytes of a dump.
+    pub(crate) limit: usize,
+}
+
 /// What the arguments ask for.
 #[derive(Drop)]
 pub(crate) struct Options<'w> {
     pub(crate) form: Form,
     pub(crate) limits: TextLimits,
     pub(crate) scan: usize,
-    pub(crate) names: Option<&'w str>,
+    pub(crate) names: NameOptions<'w>,
+    pub(crate) symbols: SymbolOptions<'w>,
     pub(crate) shows_progress: bool,
-    pub(crate) dumps: Vec<&'w str>,
+    pub(crate) dumps: DumpOptions<'w>,
 }
 
 impl<'w> Options<'w> {
@@ -54,16 +88,31 @@ impl<'w> Options<'w> {
     pub(crate) fn read(alloc: Global, words: &'w [String]) -> Result<Options<'w>, Error> {
         let mut command = command(alloc)?;
         let options = options_in(alloc, &mut command, words)?;
-        if is_page_of_several(&options) {
-            return Err(command.error(ErrorKind::TooManyValues, "--html takes one DUMP")?);
+        match refusal(&options) {
+            Some((kind, words)) => Err(command.error(kind, words)?),
+            None => Ok(options),
         }
-        Ok(options)
     }
 }
 
-// Tells whether a page is asked for of several dumps.
-fn is_page_of_several(options: &Options<'_>) -> bool {
-    options.form == Form::Html && options.dumps.len() > 1
+// Returns why options that were read are refused, if they are.
+fn refusal(options: &Options<'_>) -> Option<(ErrorKind, &'static str)> {
+    if options.form == Form::Html && options.dumps.paths.len() > 1 {
+        return Some((ErrorKind::TooManyValues, "--html takes one DUMP"));
+    }
+    if has_several_inputs(&options.dumps) {
+        return Some((
+            ErrorKind::ArgumentConflict,
+            "standard input is read once, by one of - and --stdin-paths",
+        ));
+    }
+    None
+}
+
+// Tells whether standard input is asked for more than once.
+fn has_several_inputs(dumps: &DumpOptions<'_>) -> bool {
+    let inputs = dumps.paths.iter().filter(|path| **path == "-").count();
+    inputs > 1 || inputs == 1 && dumps.are_listed
 }
 
 // Returns what the arguments ask for, by the command.
@@ -78,13 +127,56 @@ fn options_in<'w>(
 
 // Returns what the matches ask for.
 fn options_of<'w>(alloc: Global, matches: &ArgMatches<'w>) -> Result<Options<'w>, AllocError> {
+    let names = names_of(alloc, matches)?;
+    let symbols = symbols_of(alloc, matches)?;
+    let dumps = dumps_of(alloc, matches)?;
     Ok(Options {
         form: form_of(matches),
         limits: limits_of(matches),
         scan: scan_of(matches),
-        names: matches.get_str("names"),
+        names,
+        symbols,
         shows_progress: matches.get_flag("progress"),
-        dumps: dumps_of(alloc, matches)?,
+        dumps,
+    })
+}
+
+fn names_of<'w>(alloc: Global, matches: &ArgMatches<'w>) -> Result<NameOptions<'w>, AllocError>
+    ensures files { IfOk result (λ names. map (λ f. f.now) names.files.items
+        ≡ values_in (found_of matches.now) (codes "names")) }
+    ensures only { IfOk result (λ names. IsFlag (found_of matches.now) (codes "only-names")
+        names.only_files) }
+{
+    Ok(NameOptions {
+        files: values_of(alloc, matches, "names")?,
+        only_files: matches.get_flag("only-names"),
+    })
+}
+
+fn symbols_of<'w>(alloc: Global, matches: &ArgMatches<'w>) -> Result<SymbolOptions<'w>, AllocError>
+    ensures dirs { IfOk result (λ symbols. map (λ d. d.now) symbols.dirs.items
+        ≡ values_in (found_of matches.now) (codes "symbols")) }
+    ensures limit { IfOk result (λ symbols. IsNumber (found_of matches.now) (codes "symbols-limit")
+        symbols.limit) }
+{
+    Ok(SymbolOptions {
+        dirs: values_of(alloc, matches, "symbols")?,
+        limit: number_of(matches, "symbols-limit"),
+    })
+}
+
+fn dumps_of<'w>(alloc: Global, matches: &ArgMatches<'w>) -> Result<DumpOptions<'w>, AllocError>
+    ensures paths { IfOk result (λ dumps. map (λ d. d.now) dumps.paths.items
+        ≡ values_in (found_of matches.now) (codes "dumps")) }
+    ensures listed { IfOk result (λ dumps. IsFlag (found_of matches.now) (codes "stdin-paths")
+        dumps.are_listed) }
+    ensures limit { IfOk result (λ dumps. IsNumber (found_of matches.now) (codes "limit")
+        dumps.limit) }
+{
+    Ok(DumpOptions {
+        paths: values_of(alloc, matches, "dumps")?,
+        are_listed: matches.get_flag("stdin-paths"),
+        limit: number_of(matches, "limit"),
     })
 }
 
@@ -112,11 +204,17 @@ fn limits_of(matches: &ArgMatches<'_>) -> TextLimits
     ensures frames { IsNumber (found_of matches.now) (codes "frames") result.frames }
     ensures all_threads { IsFlag (found_of matches.now) (codes "all-threads") result.all_threads }
     ensures lists { IsFlag (found_of matches.now) (codes "lists") result.lists }
+    ensures modules { IsFlag (found_of matches.now) (codes "modules") result.modules }
+    ensures handles { IsFlag (found_of matches.now) (codes "handles") result.handles }
+    ensures environment { IsFlag (found_of matches.now) (codes "environment") result.environment }
 {
     TextLimits {
         frames: number_of(matches, "frames"),
         all_threads: matches.get_flag("all-threads"),
         lists: matches.get_flag("lists"),
+        modules: matches.get_flag("modules"),
+        handles: matches.get_flag("handles"),
+        environment: matches.get_flag("environment"),
     }
 }
 
@@ -134,22 +232,28 @@ fn number_of(matches: &ArgMatches<'_>, id: &str) -> usize
     matches.get_one::<usize>(id).unwrap_or(0)
 }
 
-// Copies the paths of the dumps, in their order.
-fn dumps_of<'w>(alloc: Global, matches: &ArgMatches<'w>) -> Result<Vec<&'w str>, AllocError>
-    ensures { IfOk result (λ dumps. map (λ d. d.now) dumps.items
-        ≡ unwrap_or (option_map raw_values (matched_of (found_of matches.now) (codes "dumps")))
-        []) }
+// Copies the values of an argument, in their order.
+fn values_of<'w>(
+    alloc: Global,
+    matches: &ArgMatches<'w>,
+    id: &str,
+) -> Result<Vec<&'w str>, AllocError>
+    ensures { IfOk result (λ values. map (λ v. v.now) values.items
+        ≡ values_in (found_of matches.now) id.now) }
 {
-    match matches.get_strs("dumps") {
-        Some(paths) => Vec::from_slice(alloc, paths),
+    match matches.get_strs(id) {
+        Some(values) => Vec::from_slice(alloc, values),
         None => Ok(Vec::new(alloc)),
     }
 }
 
 // Makes the command, which knows the options.
 fn command<'w>(alloc: Global) -> Result<Command<'w>, AllocError> {
-    let args = args(alloc)?;
-    described(alloc).args(args)
+    described(alloc)
+        .args(read_args(alloc)?)?
+        .args(text_args(alloc)?)?
+        .args(form_args(alloc)?)?
+        .args(dump_args(alloc)?)
 }
 
 // Makes the command without its options.
@@ -161,11 +265,39 @@ fn described<'w>(alloc: Global) -> Command<'w> {
         .after_help(EXAMPLES)
 }
 
-// Makes the options, and the argument for the dumps.
-fn args<'w>(alloc: Global) -> Result<Vec<Arg<'w>>, AllocError> {
-    let html = flag(alloc, "html", "Print a page in HTML on the one DUMP").conflicts_with("json")?;
+// Makes the options for what is read beside the dumps.
+fn read_args<'w>(alloc: Global) -> Result<Vec<Arg<'w>>, AllocError> {
     Ok(vec![in alloc;
-        names(alloc),
+        files(
+            alloc,
+            "symbols",
+            "DIR",
+            "Name frames by Breakpad's symbol files in DIR; of several DIRs the first that has a file counts",
+        ),
+        number(
+            alloc,
+            "symbols-limit",
+            "BYTES",
+            GIBIBYTE,
+            "Read no symbol file with more than BYTES",
+        ),
+        files(
+            alloc,
+            "names",
+            "FILE",
+            "Add the names of codes in FILE; of two names of a code that of the last FILE counts",
+        ),
+        flag(
+            alloc,
+            "only-names",
+            "Leave out the names of codes that are compiled in",
+        ),
+    ]?)
+}
+
+// Makes the options for what is printed.
+fn text_args<'w>(alloc: Global) -> Result<Vec<Arg<'w>>, AllocError> {
+    Ok(vec![in alloc;
         flag(
             alloc,
             "all-threads",
@@ -174,20 +306,42 @@ fn args<'w>(alloc: Global) -> Result<Vec<Arg<'w>>, AllocError> {
         flag(
             alloc,
             "lists",
-            "Print all streams, modules, regions of memory and handles in the lines of text",
+            "Print all streams, modules, regions of memory, handles and limits in the lines of text",
+        ),
+        flag(
+            alloc,
+            "modules",
+            "Print all modules in the lines of text, those that were unloaded too",
+        ),
+        flag(alloc, "handles", "Print all handles in the lines of text",),
+        flag(
+            alloc,
+            "environment",
+            "Print the variables of Linux's environment, which may hold secrets",
         ),
         number(
             alloc,
             "frames",
+            "N",
             FRAMES,
             "Print at most N frames of a thread",
         ),
         number(
             alloc,
             "scan",
+            "N",
             SCAN,
             "Print at most N candidates among the words of a stack",
         ),
+    ]?)
+}
+
+// Makes the options for the form.
+fn form_args<'w>(alloc: Global) -> Result<Vec<Arg<'w>>, AllocError> {
+    let html = flag(alloc, "html", "Print a page in HTML on the one DUMP")
+        .conflicts_with("json")?
+        .conflicts_with("stdin-paths")?;
+    Ok(vec![in alloc;
         flag(alloc, "json", "Print a line of JSON for each DUMP"),
         html,
         flag(
@@ -195,24 +349,45 @@ fn args<'w>(alloc: Global) -> Result<Vec<Arg<'w>>, AllocError> {
             "progress",
             "Say on standard error how many dumps are done",
         ),
-        dumps(alloc),
     ]?)
 }
 
-fn names<'w>(alloc: Global) -> Arg<'w> {
-    Arg::new(alloc, "names")
-        .long("names")
-        .value_name("FILE")
-        .help("Take the names of codes from FILE, in place of those that are compiled in")
+// Makes the options for the dumps, and the argument.
+fn dump_args<'w>(alloc: Global) -> Result<Vec<Arg<'w>>, AllocError> {
+    let dumps = dumps(alloc)?;
+    Ok(vec![in alloc;
+        flag(
+            alloc,
+            "stdin-paths",
+            "Take paths of dumps from standard input too, with NULs or else line feeds between them",
+        ),
+        number(
+            alloc,
+            "limit",
+            "BYTES",
+            GIBIBYTE,
+            "Read no dump, and no list of paths, with more than BYTES",
+        ),
+        dumps,
+    ]?)
 }
 
-fn dumps<'w>(alloc: Global) -> Arg<'w> {
+fn dumps<'w>(alloc: Global) -> Result<Arg<'w>, AllocError> {
     Arg::new(alloc, "dumps")
         .value_name("DUMP")
-        .help("A minidump")
+        .help("A minidump, or - for the one on standard input")
         .action(ArgAction::Append)
         .num_args(1..)
-        .required(true)
+        .required_unless_present("stdin-paths")
+}
+
+// Makes an option that may be given more than once, with a path each time.
+fn files<'w>(alloc: Global, id: &'w str, value: &'w str, help: &'w str) -> Arg<'w> {
+    Arg::new(alloc, id)
+        .long(id)
+        .value_name(value)
+        .action(ArgAction::Append)
+        .help(help)
 }
 
 // Makes an option without a value.
@@ -224,10 +399,16 @@ fn flag<'w>(alloc: Global, id: &'w str, help: &'w str) -> Arg<'w> {
 }
 
 // Makes an option whose value is a number.
-fn number<'w>(alloc: Global, id: &'w str, default: &'w str, help: &'w str) -> Arg<'w> {
+fn number<'w>(
+    alloc: Global,
+    id: &'w str,
+    value: &'w str,
+    default: &'w str,
+    help: &'w str,
+) -> Arg<'w> {
     Arg::new(alloc, id)
         .long(id)
-        .value_name("N")
+        .value_name(value)
         .value_parser(value_parser!(usize))
         .default_value(default)
         .help(help)

@@ -1,14 +1,18 @@
 ghost use Rattle.std.specs.Prelude.{◌≡◌, ◌<◌, ◌≤◌, IfOk};
 
-use crate::complain::{complain, complain_at_end, complain_of};
-use crate::options::{Form, Options};
+use crate::complain::{complain, complain_at_end, complain_of, say};
+use crate::input::{Dump, dumps_in, read_input};
+use crate::names::names_text;
+use crate::options::Options;
 use crate::report::Reporter;
+use crate::symbols::{SymbolCache, SymbolDirs};
 use clap::Error;
 use clap::error::ErrorKind;
 use crash_text::push_line;
+use minidump::CodeNames;
 use minidump::text::Piece;
 use minidump_names::NameTable;
-use std::{fs, io};
+use std::io;
 
 /// Runs the program with its arguments, without its own name, and returns the status: 0; 1 where a
 /// dump, a file or the output failed, or a stream that was wanted can't be read; 2 for arguments
@@ -56,7 +60,7 @@ fn answer(rt: &HostRuntime, error: &Error) -> io::Result<u8>
         print!(rt; "{text}")?;
         return Ok(0);
     }
-    eprint!(rt; "{text}")?;
+    say(rt, text.as_str());
     Ok(if error.kind() == ErrorKind::OutOfMemory {
         1
     } else {
@@ -64,57 +68,117 @@ fn answer(rt: &HostRuntime, error: &Error) -> io::Result<u8>
     })
 }
 
-// Reports on the dumps, with the names of the options' file or else those that are compiled in.
-// Returns the status.
+// Reports on the dumps, with the names that the options ask for. Returns the status.
 fn obey(rt: &HostRuntime, options: &Options<'_>) -> io::Result<u8>
     ensures { IfOk result (λ status. status < 2) }
 {
-    let Some(path) = options.names else {
-        let text = known_names::text(rt.alloc())?;
-        return report_all(rt, options, "names of codes", text.as_bytes());
-    };
-    match fs::read(rt, path) {
-        Ok(text) => report_all(rt, options, path, &text),
-        Err(error) => {
-            complain_of(rt, path, &error)?;
-            Ok(1)
-        }
+    match names_text(rt, &options.names)? {
+        Some(text) => report_all(rt, options, text.as_bytes()),
+        None => Ok(1),
     }
 }
 
-// Reports on the dumps with the names of a text, which has a name of its own.
-fn report_all(rt: &HostRuntime, options: &Options<'_>, path: &str, text: &[u8]) -> io::Result<u8>
+// Reports on the dumps with the names of a text.
+fn report_all(rt: &HostRuntime, options: &Options<'_>, text: &[u8]) -> io::Result<u8>
     ensures { IfOk result (λ status. status < 2) }
 {
     let table = match NameTable::read(rt.alloc(), text) {
         Ok(table) => table,
         Err(error) => {
-            complain(rt, path, format!(in rt.alloc(); "{error}")?.as_str())?;
+            complain(
+                rt,
+                "names of codes",
+                format!(in rt.alloc(); "{error}")?.as_str(),
+            )?;
             return Ok(1);
         }
     };
     let lists = table.lists(rt.alloc())?;
     let names = lists.code_names();
+    report_with(rt, options, &names)
+}
+
+// Reports on the dumps with these names.
+fn report_with(rt: &HostRuntime, options: &Options<'_>, names: &CodeNames<'_>) -> io::Result<u8>
+    ensures { IfOk result (λ status. status < 2) }
+{
     let reporter = Reporter {
         rt,
-        names: &names,
+        names,
         limits: options.limits,
         scan: options.scan,
         form: options.form,
-        is_one: options.dumps.len() == 1,
+        limit: options.dumps.limit,
+        is_one: options.dumps.paths.len() == 1 && !options.dumps.are_listed,
     };
-    report_each(&reporter, options)
+    report_dumps(&reporter, options)
 }
 
-// Reports on each dump, and returns the greatest of their statuses.
-fn report_each(reporter: &Reporter<'_, '_>, options: &Options<'_>) -> io::Result<u8>
+// Reports on the dumps of the arguments, and on those of the list on standard input if there is one.
+// Returns the greatest of their statuses, or 1 if the list can't be read.
+fn report_dumps(reporter: &Reporter<'_, '_>, options: &Options<'_>) -> io::Result<u8>
+    ensures { IfOk result (λ status. status < 2) }
+{
+    if !options.dumps.are_listed {
+        return report_listed(reporter, options, &[]);
+    }
+    match read_list(reporter)? {
+        Some(list) => report_listed(reporter, options, &list),
+        None => {
+            report_listed(reporter, options, &[])?;
+            Ok(1)
+        }
+    }
+}
+
+// Reads the list of paths on standard input. Returns `None` if it can't be read, which it says.
+fn read_list(reporter: &Reporter<'_, '_>) -> io::Result<Option<Vec<u8>>> {
+    let name = "standard input";
+    match read_input(reporter.rt, reporter.limit) {
+        Ok(Some(list)) => return Ok(Some(list)),
+        Ok(None) => complain(reporter.rt, name, "the list of paths is too large")?,
+        Err(error) => complain_of(reporter.rt, name, &error)?,
+    }
+    Ok(None)
+}
+
+// Reports on the dumps of the arguments, and on those of a list.
+fn report_listed(reporter: &Reporter<'_, '_>, options: &Options<'_>, list: &[u8]) -> io::Result<u8>
+    ensures { IfOk result (λ status. status < 2) }
+{
+    let dumps = dumps_in(reporter.rt.alloc(), options.dumps.paths.as_slice(), list)?;
+    let mut cache = SymbolCache::new(SymbolDirs {
+        rt: reporter.rt,
+        paths: options.symbols.dirs.as_slice(),
+        limit: options.symbols.limit,
+    });
+    report_each(
+        reporter,
+        dumps.as_slice(),
+        &mut cache,
+        options.shows_progress,
+    )
+}
+
+// Reports on each dump, and returns the greatest of their statuses. A closed pipe ends the run: then
+// those of the dumps before it count.
+fn report_each(
+    reporter: &Reporter<'_, '_>,
+    dumps: &[Dump<'_>],
+    cache: &mut SymbolCache<'_>,
+    shows_progress: bool,
+) -> io::Result<u8>
     ensures { IfOk result (λ status. status < 2) }
 {
     let mut worst = 0;
-    for (i, path) in options.dumps.iter().enumerate() {
-        worst = reporter.report(*path)?.max(worst);
-        if options.shows_progress {
-            show_progress(reporter.rt, i, options.dumps.len())?;
+    for (i, dump) in dumps.iter().enumerate() {
+        match reporter.report(*dump, cache) {
+            Ok(status) => worst = status.max(worst),
+            Err(error) if error.kind() == io::ErrorKind::BrokenPipe => return Ok(worst),
+            Err(error) => return Err(error),
+        }
+        if shows_progress {
+            show_progress(reporter.rt, i, dumps.len());
         }
     }
     Ok(worst)
@@ -122,10 +186,11 @@ fn report_each(reporter: &Reporter<'_, '_>, options: &Options<'_>) -> io::Result
 
 // Prints how many dumps are done of how many, after each hundredth part of them and the last one.
 // `last` is the number of dumps before the last that is done.
-fn show_progress(rt: &HostRuntime, last: usize, all: usize) -> io::Result<()> {
+fn show_progress(rt: &HostRuntime, last: usize, all: usize) {
     let done = last.saturating_add(1);
     if done == all || done % (all / 100 + 1) == 0 {
-        eprintln!(rt; "{done} of {all}")?;
+        match eprintln!(rt; "{done} of {all}") {
+            Ok(()) | Err(_) => (),
+        }
     }
-    Ok(())
 }

@@ -1,15 +1,18 @@
 ghost use Rattle.std.specs.Prelude.{◌≡◌, ◌≢◌, ◌<◌, IfOk, IsOk};
 ghost use Rattle.crash.specs.Crash.{crash_in, status_of};
 
-use crate::complain::{complain, complain_of};
+use crate::complain::{complain, complain_of, say};
+use crate::form::end_line;
+use crate::input::{Dump, read_file, read_input};
 use crate::options::Form;
+use crate::symbols::SymbolCache;
 use crash::{Crash, status_of};
-use crash_json::{JsonLimits, error_json, json_of};
-use crash_text::{TextLimits, push_line, text_of};
+use crash_json::error_json;
+use crash_text::{TextLimits, push_line};
 use minidump::text::Piece;
 use minidump::{CodeNames, Error};
-use std::alloc::{AllocError, Global};
-use std::{fs, io, str};
+use std::alloc::AllocError;
+use std::io;
 
 const NO_MEMORY: &str = "{\"path\":null,\"status\":\"OutOfMemory\"}\n";
 
@@ -21,17 +24,35 @@ pub(crate) struct Reporter<'l, 'n> {
     pub(crate) limits: TextLimits,
     pub(crate) scan: usize,
     pub(crate) form: Form,
+    // the most bytes of a dump
+    pub(crate) limit: usize,
     // whether there is no other dump
     pub(crate) is_one: bool,
 }
 
 impl Reporter<'_, '_> {
-    /// Reports on a dump, and returns the status: that of the crash of its bytes, or 1 if the file
-    /// can't be read. Running out of memory is a line, and ends nothing.
-    pub(crate) fn report(&self, path: &str) -> io::Result<u8>
+    /// Reports on a dump, and returns the status: that of the crash of its bytes, or 1 if it can't be
+    /// read or is too large. Running out of memory is a line, and ends nothing.
+    pub(crate) fn report(&self, dump: Dump<'_>, cache: &mut SymbolCache<'_>) -> io::Result<u8>
         ensures { IfOk result (λ status. status < 2) }
     {
-        match self.report_file(path) {
+        match dump {
+            Dump::Input => self.report_read("-", read_input(self.rt, self.limit), cache),
+            Dump::File(path) => self.report_read(path, read_file(self.rt, path, self.limit), cache),
+            Dump::Malformed(path) => self.report_malformed(path),
+        }
+    }
+
+    // Reports on what was read at a path. Running out of memory is a line.
+    fn report_read(
+        &self,
+        path: &str,
+        read: io::Result<Option<Vec<u8>>>,
+        cache: &mut SymbolCache<'_>,
+    ) -> io::Result<u8>
+        ensures { IfOk result (λ status. status < 2) }
+    {
+        match self.report_file(path, read, cache) {
             Err(error) if error.kind() == io::ErrorKind::OutOfMemory => {
                 self.complain_of_memory(path, &error)?;
                 Ok(1)
@@ -40,12 +61,18 @@ impl Reporter<'_, '_> {
         }
     }
 
-    // Reports on the dump in a file.
-    fn report_file(&self, path: &str) -> io::Result<u8>
+    // Reports on what was read at a path. Running out of memory is an error.
+    fn report_file(
+        &self,
+        path: &str,
+        read: io::Result<Option<Vec<u8>>>,
+        cache: &mut SymbolCache<'_>,
+    ) -> io::Result<u8>
         ensures { IfOk result (λ status. status < 2) }
     {
-        match fs::read(self.rt, path) {
-            Ok(bytes) => self.report_bytes(path, &bytes),
+        match read {
+            Ok(Some(bytes)) => self.report_bytes(path, &bytes, cache),
+            Ok(None) => self.report_large(path),
             Err(error) => self.report_unread(path, &error),
         }
     }
@@ -55,17 +82,15 @@ impl Reporter<'_, '_> {
         if self.form == Form::Json {
             return self.print_error(path, Error::OutOfMemory.name());
         }
-        match complain_of(self.rt, path, error) {
-            Err(error) if error.kind() == io::ErrorKind::OutOfMemory => {
-                eprint!(self.rt; "whocrashed: Out of memory\n")
-            }
-            result => result,
+        if complain_of(self.rt, path, error).is_err() {
+            say(self.rt, "whocrashed: Out of memory\n");
         }
+        Ok(())
     }
 
     // Reports on a dump, whose bytes are `bytes`, and returns its status. Running out of memory is
     // an error.
-    fn report_bytes(&self, path: &str, bytes: &[u8]) -> io::Result<u8>
+    fn report_bytes(&self, path: &str, bytes: &[u8], cache: &mut SymbolCache<'_>) -> io::Result<u8>
         ensures { IfOk result (λ status. status
             ≡ status_of (crash_in bytes.now self.now.names.now self.now.scan)) }
     {
@@ -74,7 +99,7 @@ impl Reporter<'_, '_> {
         let status = status_of(&crash);
         match crash {
             Ok(crash) => {
-                let form = self.form_of(path, &crash);
+                let form = self.form_of(path, &crash, cache);
                 crash.close();
                 self.rt.write_all(&form?)?;
             }
@@ -93,28 +118,6 @@ impl Reporter<'_, '_> {
         Ok(())
     }
 
-    // Makes the form of a crash that is asked for.
-    fn form_of(&self, path: &str, crash: &Crash<'_>) -> Result<Vec<u8>, AllocError> {
-        let alloc = self.rt.alloc();
-        match self.form {
-            Form::Lines => Ok(text_of(alloc, crash, &self.limits, None)?.into_bytes()),
-            Form::Json => end_line(self.json_of(path, crash)?),
-            Form::Html => {
-                let json = self.json_of(path, crash)?;
-                let page = crash_html::page(alloc, str::from_utf8(&json).unwrap_or("null"))?;
-                Ok(page.into_bytes())
-            }
-        }
-    }
-
-    // Makes the JSON of a crash.
-    fn json_of(&self, path: &str, crash: &Crash<'_>) -> Result<Vec<u8>, AllocError> {
-        let limits = JsonLimits {
-            frames: self.limits.frames,
-        };
-        json_of(self.rt.alloc(), Some(path), crash, &limits, None)
-    }
-
     // Reports why bytes are no dump. Running out of memory is an error.
     fn report_error(&self, path: &str, error: Error) -> io::Result<()>
         ensures { IsOk result → error ≢ Error.OutOfMemory }
@@ -123,33 +126,53 @@ impl Reporter<'_, '_> {
             (Error::OutOfMemory, _) => Err(io::Error::from(io::ErrorKind::OutOfMemory)),
             (error, Form::Json) => self.print_error(path, error.name()),
             (error, Form::Lines | Form::Html) => {
-                complain(
+                Ok(complain(
                     self.rt,
                     path,
                     format!(in self.rt.alloc(); "{error}")?.as_str(),
-                )
+                )?)
             }
         }
+    }
+
+    // Reports that a path isn't UTF-8. Its other bytes are printed.
+    fn report_malformed(&self, path: &[u8]) -> io::Result<u8>
+        ensures { IfOk result (λ status. status ≡ 1) }
+    {
+        let path = String::from_utf8_lossy(self.rt.alloc(), path)?;
+        self.report_failure(path.as_str(), "the path isn't UTF-8")
+    }
+
+    // Reports that a file has more bytes than are read.
+    fn report_large(&self, path: &str) -> io::Result<u8>
+        ensures { IfOk result (λ status. status ≡ 1) }
+    {
+        let limit = self.limit;
+        let words = format!(in self.rt.alloc(); "larger than {limit} bytes")?;
+        self.report_failure(path, words.as_str())
     }
 
     // Reports that a file can't be read.
     fn report_unread(&self, path: &str, error: &io::Error) -> io::Result<u8>
         ensures { IfOk result (λ status. status ≡ 1) }
     {
-        if self.form != Form::Json {
-            complain_of(self.rt, path, error)?;
-        } else if error.kind() == io::ErrorKind::OutOfMemory {
-            self.print_error(path, Error::OutOfMemory.name())?;
-        } else {
-            self.print_unread(path, error)?;
+        if self.form == Form::Json && error.kind() == io::ErrorKind::OutOfMemory {
+            return self.report_failure(path, Error::OutOfMemory.name());
         }
-        Ok(1)
+        let words = format!(in self.rt.alloc(); "{error}")?;
+        self.report_failure(path, words.as_str())
     }
 
-    // Prints the line of JSON of a file that can't be read.
-    fn print_unread(&self, path: &str, error: &io::Error) -> io::Result<()> {
-        let reason = format!(in self.rt.alloc(); "{error}")?;
-        self.print_error(path, reason.as_str())
+    // Prints why there is no report on a file: on standard error, or as its line of JSON.
+    fn report_failure(&self, path: &str, words: &str) -> io::Result<u8>
+        ensures { IfOk result (λ status. status ≡ 1) }
+    {
+        if self.form == Form::Json {
+            self.print_error(path, words)?;
+        } else {
+            complain(self.rt, path, words)?;
+        }
+        Ok(1)
     }
 
     // Prints the line of JSON of a file without a report in one write, or a line that takes no
@@ -168,10 +191,4 @@ impl Reporter<'_, '_> {
             Err(_) => Err(AllocError),
         }
     }
-}
-
-// Ends a line.
-fn end_line(mut line: Vec<u8>) -> Result<Vec<u8>, AllocError> {
-    line.push(b'\n')?;
-    Ok(line)
 }

@@ -1,0 +1,40 @@
+-- What is known of a module's symbol file after it was looked for.
+use Rattle.std.specs.Prelude.{◌≡◌, ◌≢◌, ℕ, ◌<◌, true, List, length, slice_get, slice_index_or}
+use Rattle.std.specs.Prelude.{Option, Some, None, Result, Ok, Err, if◌then◌else◌}
+use Rattle.std.specs.Borrow.{Bor}
+use Rattle.breakpad_symbols.specs.SymbolFile.{SymbolsValue, symbols_of}
+use Rattle.breakpad_symbols.specs.declared.symbol_file.SymbolFile.{SymbolFile}
+use Rattle.crash.specs.Modules.{LoadedValue}
+use Rattle.crash_symbols.specs.Modules.{is_of_module}
+use Rattle.crash_symbols.specs.declared.symbols.SymbolState.{SymbolState}
+use Rattle.crash_symbols.specs.declared.symbols.SymbolState.TheVariants.{Corrupt, Loaded, Unwanted}
+
+-- why a module that was looked for has no symbol file: it is missing or damaged, or memory ran out
+abbrev pub IsReason : SymbolState → Type 0
+IsReason state = (state ≢ Unwanted) × (state ≢ Loaded)
+
+-- what a symbol file says that was looked for
+abbrev pub value_read : Result (Bor SymbolFile) SymbolState → Option SymbolsValue
+value_read (Ok file) = Some (symbols_of file.now)
+value_read (Err state) = None
+
+-- its state
+abbrev pub state_read : Result (Bor SymbolFile) SymbolState → SymbolState
+state_read (Ok file) = Loaded
+state_read (Err state) = state
+
+-- symbols, if they are those of a module
+abbrev pub of_module : Option SymbolsValue → LoadedValue → Option SymbolsValue
+of_module (Some s) m = if is_of_module s m then Some s else None
+of_module None m = None
+
+-- the state of symbols as those of a module: damaged if they are another's
+abbrev pub state_of_module : Option SymbolsValue → SymbolState → LoadedValue → SymbolState
+state_of_module (Some s) state m = if is_of_module s m then Loaded else Corrupt
+state_of_module None state m = state
+
+-- each symbol file that is known, by the index of a module, is that module's
+abbrev pub Belong : List LoadedValue → List (Option SymbolsValue) → Type 0
+Belong modules files = (k : ℕ) (s : SymbolsValue) → k < length files
+    → slice_index_or files k None ≡ Some s
+    → (m : LoadedValue) × (slice_get modules k ≡ Some m) × (is_of_module s m ≡ true)

@@ -1,0 +1,138 @@
+ghost use Rattle.std.specs.Prelude.{◌≡◌, ◌==◌, ◌∷◌, ◌++◌, [], IfOk, IfSome, OnOk, filter, map, vec_items};
+ghost use Rattle.std.specs.List.{slice_split};
+ghost use Rattle.std.specs.Option.{option_map};
+ghost use Rattle.whocrashed.specs.Input.{asked_in, asked_of, by_argument, by_list, is_path};
+ghost use Rattle.whocrashed.specs.Input.{separator_of, within};
+
+use std::alloc::{AllocError, Global};
+use std::fs::File;
+use std::io::Read;
+use std::{io, str};
+
+/// A dump that is asked for.
+#[derive(Clone, Copy)]
+pub(crate) enum Dump<'l> {
+    /// The one on standard input.
+    Input,
+    /// The one in the file of a path.
+    File(&'l str),
+    /// A path that isn't UTF-8, in a list on standard input.
+    Malformed(&'l [u8]),
+}
+
+/// Returns the dumps of the arguments, where `-` is standard input, and then those of a list of
+/// paths.
+pub(crate) fn dumps_in<'l>(
+    alloc: Global,
+    arguments: &[&'l str],
+    list: &'l [u8],
+) -> Result<Vec<Dump<'l>>, AllocError>
+    ensures { IfOk result (λ dumps. map asked_of dumps.items
+        ≡ map (λ a. by_argument a.now) arguments.now ++ asked_in list.now) }
+{
+    let parts = parts_of(alloc, list)?;
+    let mut dumps = dumps_of(alloc, arguments)?;
+    push_listed(&mut dumps, parts.as_slice())?;
+    Ok(dumps)
+}
+
+// Returns the dumps of the arguments.
+fn dumps_of<'l>(alloc: Global, arguments: &[&'l str]) -> Result<Vec<Dump<'l>>, AllocError>
+    ensures { IfOk result (λ dumps. map asked_of dumps.items
+        ≡ map (λ a. by_argument a.now) arguments.now) }
+{
+    let mut dumps = Vec::new(alloc);
+    for path in arguments {
+        dumps.push(argument(*path))?;
+    }
+    Ok(dumps)
+}
+
+// Cuts a list of paths into its parts.
+fn parts_of(alloc: Global, list: &[u8]) -> Result<Vec<&[u8]>, AllocError>
+    ensures { IfOk result (λ parts. map (λ p. p.now) parts.items
+        ≡ slice_split (λ b. b == separator_of list.now) list.now) }
+{
+    let separator = separator_of(list);
+    list.split(|byte| *byte == separator).collect(alloc)
+}
+
+// Appends the dumps of the parts of a list.
+fn push_listed<'l>(dumps: &mut Vec<Dump<'l>>, parts: &[&'l [u8]]) -> Result<(), AllocError>
+    ensures { OnOk result (map asked_of dumps.new.items ≡ map asked_of dumps.old.items
+        ++ map by_list (filter is_path (map (λ p. p.now) parts.now))) }
+{
+    for path in parts {
+        push_path(dumps, *path)?;
+    }
+    Ok(())
+}
+
+// Appends the dump of a path, unless the path is empty.
+fn push_path<'l>(dumps: &mut Vec<Dump<'l>>, path: &'l [u8]) -> Result<(), AllocError>
+    ensures { OnOk result (map asked_of dumps.new.items ≡ map asked_of dumps.old.items
+        ++ map by_list (filter is_path (path.now ∷ []))) }
+{
+    if !path.is_empty() {
+        dumps.push(listed(path))?;
+    }
+    Ok(())
+}
+
+// Returns the dump of an argument.
+fn argument(path: &str) -> Dump<'_>
+    ensures { asked_of result ≡ by_argument path.now }
+{
+    if path == "-" {
+        Dump::Input
+    } else {
+        Dump::File(path)
+    }
+}
+
+// Returns the dump of a path in a list.
+fn listed(path: &[u8]) -> Dump<'_>
+    ensures { asked_of result ≡ by_list path.now }
+{
+    match str::from_utf8(path) {
+        Ok(path) => Dump::File(path),
+        Err(_) => Dump::Malformed(path),
+    }
+}
+
+// Returns what stands between the paths of a list: NULs if it has one, and else line feeds.
+fn separator_of(list: &[u8]) -> u8
+    ensures { result ≡ separator_of list.now }
+{
+    if list.contains(&0) { 0 } else { b'\n' }
+}
+
+/// Reads a file, or returns `None` if it has more bytes than the limit.
+pub(crate) fn read_file(rt: &HostRuntime, path: &str, limit: usize) -> io::Result<Option<Vec<u8>>> {
+    read_to_limit(rt.alloc(), File::open(rt, path)?, limit)
+}
+
+/// Reads standard input, or returns `None` if it has more bytes than the limit.
+pub(crate) fn read_input(rt: &HostRuntime, limit: usize) -> io::Result<Option<Vec<u8>>> {
+    read_to_limit(rt.alloc(), rt.stdin(), limit)
+}
+
+// Reads to the end, or returns `None` if there are more bytes than the limit.
+fn read_to_limit<R: Read + Drop>(
+    alloc: Global,
+    input: R,
+    limit: usize,
+) -> io::Result<Option<Vec<u8>>>
+    ensures { IfOk result (λ read. IfSome (R.remaining input)
+        (λ bytes. option_map vec_items read ≡ within limit bytes)) }
+{
+    let mut bytes = Vec::new(alloc);
+    input
+        .take((limit as u64).saturating_add(1))
+        .read_to_end(&mut bytes)?;
+    if bytes.len() > limit {
+        Ok(None)
+    } else {
+        Ok(Some(bytes))
+    }
+}

@@ -1,0 +1,120 @@
+use crate::complain::{complain, complain_of};
+use crate::options::NameOptions;
+use minidump_names::NameTable;
+use std::alloc::{AllocError, Global};
+use std::collections::BTreeMap;
+use std::{fs, io, str};
+
+/// Returns the text of the names that are asked for: those that are compiled in, unless they are left
+/// out, and those of each file. Of two names of a code that of the later file counts. Returns `None`
+/// if a file can't be read, or isn't one of names, which it says on standard error.
+pub(crate) fn names_text(
+    rt: &HostRuntime,
+    options: &NameOptions<'_>,
+) -> io::Result<Option<String>> {
+    let alloc = rt.alloc();
+    let known = known_text(alloc, options.only_files)?;
+    if options.files.is_empty() {
+        return Ok(Some(known));
+    }
+    match read_texts(rt, options.files.as_slice())? {
+        Some(texts) => Ok(Some(merged(alloc, known.as_str(), texts.as_slice())?)),
+        None => Ok(None),
+    }
+}
+
+// Returns the text of the names that are compiled in, or an empty one if they are left out.
+fn known_text(alloc: Global, are_left_out: bool) -> Result<String, AllocError> {
+    if are_left_out {
+        Ok(String::new(alloc))
+    } else {
+        known_names::text(alloc)
+    }
+}
+
+// Reads files of names. Returns `None` if one of them can't be read or isn't one.
+fn read_texts(rt: &HostRuntime, paths: &[&str]) -> io::Result<Option<Vec<Vec<u8>>>> {
+    let mut texts = Vec::new(rt.alloc());
+    for path in paths {
+        match read_text(rt, *path)? {
+            Some(text) => texts.push(text)?,
+            None => return Ok(None),
+        }
+    }
+    Ok(Some(texts))
+}
+
+// Reads a file of names. Returns `None` if it can't be read or isn't one.
+fn read_text(rt: &HostRuntime, path: &str) -> io::Result<Option<Vec<u8>>> {
+    match fs::read(rt, path) {
+        Ok(text) => {
+            if is_accepted(rt, path, &text)? {
+                Ok(Some(text))
+            } else {
+                Ok(None)
+            }
+        }
+        Err(error) => {
+            complain_of(rt, path, &error)?;
+            Ok(None)
+        }
+    }
+}
+
+// Tells whether a text is one of names, and says why if it isn't.
+fn is_accepted(rt: &HostRuntime, path: &str, text: &[u8]) -> io::Result<bool> {
+    match NameTable::read(rt.alloc(), text) {
+        Ok(_) => Ok(true),
+        Err(error) => {
+            complain(rt, path, format!(in rt.alloc(); "{error}")?.as_str())?;
+            Ok(false)
+        }
+    }
+}
+
+// Makes one text of several, all of them of names. Of two names of a code the last counts.
+fn merged(alloc: Global, first: &str, others: &[Vec<u8>]) -> Result<String, AllocError> {
+    let mut names = BTreeMap::new(alloc);
+    put_names(&mut names, first.as_bytes())?;
+    for text in others {
+        put_names(&mut names, text)?;
+    }
+    let mut out = String::new(alloc);
+    for ((family, number), name) in names.iter() {
+        write!(out, "{family} {number} {name}\n")?;
+    }
+    Ok(out)
+}
+
+// Puts the names of a text into a map, by their families and numbers.
+fn put_names<'t>(
+    names: &mut BTreeMap<(&'t str, u32), &'t str>,
+    text: &'t [u8],
+) -> Result<(), AllocError> {
+    for line in text.split(|byte| *byte == b'\n') {
+        if let Some((family, number, name)) = name_in(line) {
+            names.insert((family, number), name)?;
+        }
+    }
+    Ok(())
+}
+
+// Returns the family, the number and the name that a line of names has, or `None` of a comment and an
+// empty line.
+fn name_in(line: &[u8]) -> Option<(&str, u32, &str)> {
+    if line.starts_with(b"#") {
+        return None;
+    }
+    let line = str::from_utf8(line).ok()?;
+    let (family, rest) = line.split_once(' ')?;
+    let (number, name) = rest.split_once(' ')?;
+    Some((family, number_in(number)?, name))
+}
+
+// Returns the number that a text writes, in decimal, or in hexadecimal after `0x`.
+fn number_in(text: &str) -> Option<u32> {
+    match text.strip_prefix("0x") {
+        Some(digits) => u32::from_str_radix(digits, 16).ok(),
+        None => text.parse::<u32>().ok(),
+    }
+}
