@@ -50,8 +50,8 @@ pub(crate) const FAMILIES: [CodeFamily; 42] = [
     CodeFamily::WindowsInPageError,
 ];
 
-// Returns the name of a family in a line: that of its variant.
-fn family_name(family: CodeFamily) -> &'static str
+/// Returns the name of a family in a line: that of its variant.
+pub fn family_name(family: CodeFamily) -> &'static str
     ensures { result.now ≡ family_name family }
 {
     match family {

@@ -3,6 +3,7 @@
 //! - [`NameTable`] holds the names of a text, borrowed from it.
 //! - [`NameLists`] borrows the lists of a table, and lends them as
 //!   [`CodeNames`](minidump_reason::CodeNames), which `minidump` takes wherever it names a code.
+//! - [`listing_in`] reads one line, for a program that puts several texts together.
 //!
 //! ```text
 //! # Exceptions of Windows, and the kinds of access of the first of them.
@@ -24,7 +25,7 @@
 //! - An error of a text is that of its first malformed line: one that is no line of names, or whose
 //!   number is not above each earlier one of its family. The error has the number of that line:
 //!   `NameTable::read`, by `IsNamesTextError`.
-//! - A line lists what its grammar says: `laws::lines_are_the_grammar`.
+//! - A line lists what its grammar says: `listing_in`, `laws::lines_are_the_grammar`.
 //!
 //! What isn't: where memory may run out.
 #![tactic(auto)]
@@ -37,4 +38,6 @@ mod table;
 mod text;
 
 pub use error::NamesError;
+pub use family::family_name;
+pub use line::{Listing, listing_in};
 pub use table::{NameLists, NameTable};

@@ -7,17 +7,21 @@ use crate::family::family_in;
 use minidump_bytes::{LinuxOsStr, number_32};
 use minidump_reason::CodeFamily;
 
-// A code with its name, which is borrowed from its line.
+/// A code with its name, which is borrowed from its line.
 #[derive(Clone, Copy)]
-pub(crate) struct Listing<'t> {
-    pub(crate) family: CodeFamily,
-    pub(crate) number: u32,
-    pub(crate) name: &'t str,
+pub struct Listing<'t> {
+    /// The family of the code.
+    pub family: CodeFamily,
+    /// The code.
+    pub number: u32,
+    /// Its name.
+    pub name: &'t str,
 }
 
-// Reads the code that a line lists, or returns `None` if it lists none.
+/// Reads the code that a line lists, without the line feed that ends it, or returns `None` if it
+/// lists none: a comment, an empty line, or a malformed one.
 #[tactic(auto, unfolding(crate::specs::NameLine::listing_in))]
-pub(crate) fn listing_in(line: &[u8]) -> Option<Listing<'_>>
+pub fn listing_in(line: &[u8]) -> Option<Listing<'_>>
     ensures { option_map listing_of result ≡ listing_in line.now }
 {
     let (family, rest) = LinuxOsStr(line).split_once(b' ')?;

@@ -1,9 +1,9 @@
 use crate::complain::{complain, complain_of};
 use crate::options::NameOptions;
-use minidump_names::NameTable;
+use minidump_names::{NameTable, family_name, listing_in};
 use std::alloc::{AllocError, Global};
 use std::collections::BTreeMap;
-use std::{fs, io, str};
+use std::{fs, io};
 
 /// Returns the text of the names that are asked for: those that are compiled in, unless they are left
 /// out, and those of each file. Of two names of a code that of the later file counts. Returns `None`
@@ -86,35 +86,15 @@ fn merged(alloc: Global, first: &str, others: &[Vec<u8>]) -> Result<String, Allo
     Ok(out)
 }
 
-// Puts the names of a text into a map, by their families and numbers.
+// Puts the names of a text into a map, by the names of their families and their numbers.
 fn put_names<'t>(
     names: &mut BTreeMap<(&'t str, u32), &'t str>,
     text: &'t [u8],
 ) -> Result<(), AllocError> {
     for line in text.split(|byte| *byte == b'\n') {
-        if let Some((family, number, name)) = name_in(line) {
-            names.insert((family, number), name)?;
+        if let Some(listing) = listing_in(line) {
+            names.insert((family_name(listing.family), listing.number), listing.name)?;
         }
     }
     Ok(())
-}
-
-// Returns the family, the number and the name that a line of names has, or `None` of a comment and an
-// empty line.
-fn name_in(line: &[u8]) -> Option<(&str, u32, &str)> {
-    if line.starts_with(b"#") {
-        return None;
-    }
-    let line = str::from_utf8(line).ok()?;
-    let (family, rest) = line.split_once(' ')?;
-    let (number, name) = rest.split_once(' ')?;
-    Some((family, number_in(number)?, name))
-}
-
-// Returns the number that a text writes, in decimal, or in hexadecimal after `0x`.
-fn number_in(text: &str) -> Option<u32> {
-    match text.strip_prefix("0x") {
-        Some(digits) => u32::from_str_radix(digits, 16).ok(),
-        None => text.parse::<u32>().ok(),
-    }
 }
