@@ -15,9 +15,9 @@
 //! out, and those of the files of `--names`.
 //!
 //! With `--symbols` frames have functions and source lines, by [`crash_symbols`]. The backtraces are
-//! found with the symbol files that are known so far, the files of the modules in which frames then
-//! lie are read, and so on until none is wanted, at most 64 times. A word at a module says that its
-//! file is missing or damaged. A symbol file that was read is kept until the run ends.
+//! found with the symbol files that are known so far, the files of the modules in which frames or
+//! candidates then lie are read, and so on until none is wanted, at most 64 times. A word at a module
+//! says that its file is missing or damaged. A symbol file that was read is kept until the run ends.
 //!
 //! # Errors
 //!
