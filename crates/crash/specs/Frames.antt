@@ -1,5 +1,5 @@
--- What is found in the stack of a thread: its frames, each with its module, the candidates after
--- them, and why there is no further caller.
+-- What is found in the stack of a thread: its frames, each with its module, the candidates, and
+-- why there is no further caller.
 use Rattle.std.specs.Prelude.{ℕ, List, map, Option, Some}
 use Rattle.std.specs.Option.{option_and_then, option_map}
 use Rattle.std.specs.Result.{result_ok}

@@ -26,7 +26,7 @@ use std::alloc::{AllocError, Global};
 pub struct CrashWalk {
     /// The frames: that of the context, and then its callers by frame pointers.
     pub frames: Vec<CrashFrame>,
-    /// The words of the stack after them that may be return addresses.
+    /// Other words of the stack that may be return addresses, each of these once.
     pub candidates: Vec<CrashFrame>,
     /// Why the last of the frames has no caller.
     pub end: WalkEnd,

@@ -32,7 +32,7 @@ pub struct Backtraces<'l> {
 pub struct Backtrace<'l> {
     /// The frames: that of the context, and then its callers.
     pub frames: Vec<NamedFrame<'l>>,
-    /// The words of the stack after them that may be return addresses.
+    /// Other words of the stack that may be return addresses, each of these once.
     pub candidates: Vec<NamedFrame<'l>>,
     /// Why the last of the frames has no caller.
     pub end: SymbolWalkEnd,

@@ -30,7 +30,7 @@ pub struct ShownFrame<'s, 'l> {
 pub struct ShownWalk<'s, 'l> {
     /// The frames: that of the context, and then its callers.
     pub frames: Vec<ShownFrame<'s, 'l>>,
-    /// The words of the stack after them that may be return addresses.
+    /// Other words of the stack that may be return addresses, each of these once.
     pub candidates: Vec<ShownFrame<'s, 'l>>,
     /// Why the last of the frames has no caller.
     pub end: SymbolWalkEnd,

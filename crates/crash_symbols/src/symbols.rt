@@ -10,7 +10,7 @@ use std::alloc::Global;
 /// What is known of the symbol file of a module.
 #[derive(Clone, Copy, Debug, PartialEq, Eq)]
 pub enum SymbolState {
-    /// Nothing: it wasn't looked for, since no frame lies in the module.
+    /// Nothing: it wasn't looked for.
     Unwanted,
     /// There is none.
     Missing,
