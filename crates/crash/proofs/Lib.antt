@@ -7,6 +7,8 @@ pub mod LastLemmas
 pub mod Lasts
 pub mod LinuxLemmas
 pub mod Mapped
+pub mod ModuleOrder
+pub mod NamedLemmas
 pub mod NumberedFound
 pub mod PaddedLemmas
 pub mod TallyLemmas

@@ -1,6 +1,6 @@
 -- What is known of an address: where it lies among the modules, the stacks and the regions.
 use Rattle.std.specs.Prelude.{ℕ, ◌-◌, ◌^◌, ◌==◌, ◌&&◌, ◌||◌, nat_le, nat_lt, Bool, true, false, List, []}
-use Rattle.std.specs.Prelude.{Option, Some, None, unwrap_or, if◌then◌else◌}
+use Rattle.std.specs.Prelude.{Option, Some, None, is_some, unwrap_or, if◌then◌else◌}
 use Rattle.std.specs.List.{enumerate_from}
 use Rattle.std.specs.Option.{option_map, option_map_or}
 use Rattle.std.specs.Result.{result_ok}
@@ -101,6 +101,10 @@ memory_at c address = option_map memory_of
     (looked_up range_of_info_region (info_regions c.space.infos) address)
 
 -- ---- all of it
+
+-- an address lies in a module, an unloaded module, or the stack of a thread
+abbrev pub is_placed : AddressFacts → Bool
+is_placed f = is_some f.«module» || is_some f.unloaded || is_some f.stack_of
 
 -- what is known of an address
 abbrev pub facts_of : ContentsValue → ℕ → AddressFacts

@@ -20,11 +20,12 @@ use Rattle.crash.specs.Addresses.{facts_of}
 use Rattle.crash.specs.Contents.{ContentsValue}
 use Rattle.crash.specs.Contexts.{problem_in, system_of}
 use Rattle.crash.specs.Counting.{counted, counting}
-use Rattle.crash.specs.Records.{access_in, parameters_in, sender_in}
+use Rattle.crash.specs.Records.{access_in, description_in, parameters_in, sender_in}
 
 -- an exception: its thread, its code and flags, where it happened, where the record of another one
--- is, and its parameters; where the system is known, how memory was accessed, who sent the signal,
--- the address and the reason of the crash; and why its context isn't used
+-- is, its parameters, and LLDB's text over them; where the system is known, how memory was
+-- accessed, who sent the signal, the address and the reason of the crash; and why its context isn't
+-- used
 pub record ExceptionValue : Type 0 where
   pub thread : ℕ
   pub code : ℕ
@@ -32,6 +33,7 @@ pub record ExceptionValue : Type 0 where
   pub at : ℕ
   pub nested : ℕ
   pub parameters : List ℕ
+  pub description : Option (List ℕ)
   pub access : Option Access
   pub sender : Option Sender
   pub address : Option ℕ
@@ -55,6 +57,7 @@ exception_of e = record {
   at = e.at;
   nested = e.nested;
   parameters = e.parameters.items;
+  description = option_map string_bytes e.description;
   access = e.access;
   sender = e.sender;
   address = e.address;
@@ -95,6 +98,7 @@ exception_in names system e = record {
   at = e.raw.exception_record.exception_address;
   nested = e.raw.exception_record.exception_record;
   parameters = parameters_in e.raw.exception_record;
+  description = description_in e.raw.exception_record;
   access = access_in system e.raw.exception_record;
   sender = sender_in system e.raw.exception_record;
   address = address_in system e;

@@ -157,10 +157,14 @@ abbrev pub found_in : ContentsValue → Option Exception → Thread
 found_in c e t = first_found (on_thread c e t.raw.thread_id)
     (any_context (system_of c) t.order t.context)
 
+-- the values of the registers of a context by their names, in the order of the processor
+abbrev pub register_values : MinidumpRawContext → List (List ℕ × ℕ)
+register_values raw = valid_registers_from All (registers_of raw) 0
+
 -- the registers of a context, with whose it is and how much of it there is, where it is cut
 abbrev pub registers_in : ContextOrigin → Option ShortContext → MinidumpRawContext → ContextValue
 registers_in origin short raw = record {
-  registers = valid_registers_from All (registers_of raw) 0;
+  registers = register_values raw;
   size = (registers_of raw).size;
   origin = origin;
   short = short;

@@ -18,6 +18,7 @@ pub mod Addresses
 pub mod Cause
 pub mod Frames
 pub mod Threads
+pub mod SetFlags
 pub mod Point
 pub mod UnreadableModules
 pub mod Modules

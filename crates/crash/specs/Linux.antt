@@ -1,6 +1,6 @@
 -- The limits of a process, as Linux's `/proc/PID/limits` has them: a line has the words of a name, the
 -- soft and the hard limit, and what they count.
-use Rattle.std.specs.Prelude.{ℕ, ◌++◌, ◌||◌, Bool, List, [], ◌∷◌, bytes_eq, codes, drop, length, take}
+use Rattle.std.specs.Prelude.{ℕ, ◌++◌, ◌||◌, Bool, List, [], ◌∷◌, bytes_eq, codes, drop, take}
 use Rattle.std.specs.Prelude.{Option, Some, None, if◌then◌else◌, string_bytes}
 use Rattle.std.specs.Char.{is_ascii_digit}
 use Rattle.std.specs.List.{filter_map, flat_map, list_all, position}

@@ -1,7 +1,11 @@
 -- The modules of a process: where each was, and what symbol tools ask of it.
 use Rattle.std.specs.Prelude.{ℕ, ◌+◌, ◌^◌, List, [], map, nat_lt, Option, Some, None, Result}
 use Rattle.std.specs.Prelude.{if◌then◌else◌, string_bytes, unwrap_or}
+use Rattle.std.specs.declared.cmp.Ordering.{Ordering}
+use Rattle.std.specs.FinMap.{from_entries, values}
+use Rattle.std.specs.List.{enumerate_from}
 use Rattle.std.specs.Option.{option_map}
+use Rattle.std.specs.Ordering.{nat_cmp, ordering_then}
 use Rattle.std.specs.Result.{result_ok}
 use Rattle.minidump.specs.declared.Error.{Error}
 use Rattle.minidump.specs.Below.Modules.CodeId.{stamp_form}
@@ -37,9 +41,11 @@ pub record UnloadedModuleValue : Type 0 where
   pub file : List ℕ
   pub code_id : Option (List ℕ)
 
--- the modules, and the entries of their list that can't be read, where these lose it
+-- the modules, their indices in the order of their addresses, and the entries of their list that can't
+-- be read, where these lose it
 pub record ModulesValue : Type 0 where
   pub loaded : List LoadedValue
+  pub by_address : List ℕ
   pub unreadable : List UnreadableModule
   pub unloaded : List UnloadedModuleValue
 
@@ -69,6 +75,7 @@ unloaded_module_of m = record {
 abbrev pub modules_of : CrashModules → ModulesValue
 modules_of m = record {
   loaded = map loaded_of m.loaded.items;
+  by_address = m.by_address.items;
   unreadable = m.unreadable.items;
   unloaded = map unloaded_module_of m.unloaded.items;
 }
@@ -110,6 +117,24 @@ unloaded_module_in m = record {
 abbrev pub loaded_in : ContentsValue → List LoadedValue
 loaded_in c = map module_in c.space.modules
 
+-- ---- the order of their addresses
+
+-- pairs of a base address and an index, compared by the address, and by the index where that is the
+-- same
+abbrev pub pair_cmp : ℕ × ℕ → ℕ × ℕ → Ordering
+pair_cmp p q = ordering_then (nat_cmp p.0 q.0) (nat_cmp p.1 q.1)
+
+-- the base address of each module with the index of the module
+abbrev pub bases_of : List LoadedValue → List (ℕ × ℕ)
+bases_of modules = map (λ p. (p.1.base, p.0)) (enumerate_from 0 modules)
+
+-- the indices of modules, ascending by base address, then by index: a finite map has its keys in their
+-- order, and these are its values, from each pair of base and index to the index
+unfoldable pub by_address : List LoadedValue → List ℕ
+by_address modules = values (from_entries {R = pair_cmp} (map (λ p. (p, p.1)) (bases_of modules)))
+
+-- ---- the others
+
 -- those that were unloaded: none where their list can't be read
 abbrev pub unloaded_in : Result (List UnloadedValue) Error → List UnloadedModuleValue
 unloaded_in list = map unloaded_module_in (unwrap_or (result_ok list) [])
@@ -118,6 +143,7 @@ unloaded_in list = map unloaded_module_in (unwrap_or (result_ok list) [])
 abbrev pub modules_in : Dump → ContentsValue → ModulesValue
 modules_in d c = record {
   loaded = loaded_in c;
+  by_address = by_address (loaded_in c);
   unreadable = unreadable_by d c.space.modules_error;
   unloaded = unloaded_in c.space.unloaded;
 }

@@ -1,7 +1,7 @@
--- Where a thread stands: what is known of its instruction pointer, the code there, the words from its
--- stack pointer up, and the flags and the segments of its processor.
+-- Where a thread stands: what is known of its instruction pointer and of its registers, the code there,
+-- the words from its stack pointer up, and the flags and the segments of its processor.
 use Rattle.std.specs.Prelude.{ℕ, ◌+◌, ◌-◌, ◌*◌, ◌^◌, List, [], ◌∷◌, codes, drop, length, map, nat_lt}
-use Rattle.std.specs.Prelude.{take}
+use Rattle.std.specs.Prelude.{Bool, bytes_eq, filter, not, take}
 use Rattle.std.specs.Prelude.{Option, None, if◌then◌else◌}
 use Rattle.std.specs.List.{filter_map, range_with_len}
 use Rattle.std.specs.Option.{option_and_then, option_map, option_map_or}
@@ -18,25 +18,47 @@ use Rattle.crash.specs.declared.point.CrashPoint.{CrashPoint}
 use Rattle.crash.specs.declared.point.StackWord.{StackWord}
 use Rattle.crash.specs.Addresses.{facts_of, module_place}
 use Rattle.crash.specs.Contents.{ContentsValue}
+use Rattle.crash.specs.Contexts.{register_values}
 use Rattle.crash.specs.Frames.{memory_at}
+use Rattle.crash.specs.SetFlags.{set_flags}
 use Rattle.crash.specs.Threads.{walked_at}
 
--- what is known of an instruction pointer, the bytes from there on, the words from the stack pointer
--- up, and the flags and the segments by their names
+-- what is known of an instruction pointer and of each register that may hold an address, by its name,
+-- the bytes from the instruction pointer on, the words from the stack pointer up, the flags and the segments by their
+-- names, and the names of the flags that are set
 pub record PointValue : Type 0 where
   pub instruction : AddressFacts
+  pub registers : List (List ℕ × AddressFacts)
   pub code : List ℕ
   pub words : List StackWord
   pub flags : List (List ℕ × ℕ)
+  pub set_flags : List (List ℕ)
 
 -- the same of a `CrashPoint`
 abbrev pub point_of : CrashPoint → PointValue
 point_of p = record {
   instruction = p.instruction;
+  registers = map (λ r. (r.0.now, r.1)) p.registers.items;
   code = p.code.now;
   words = p.words.items;
   flags = map (λ r. (r.0.now, r.1)) p.flags.items;
+  set_flags = map (λ n. n.now) p.set_flags.items;
 }
+
+-- ---- the registers
+
+-- a register may hold an address: all but eflags, which is among the registers of x86
+abbrev pub holds_address : List ℕ → Bool
+holds_address name = not (bytes_eq name (codes "eflags"))
+
+-- what is known of the value of each register that may hold an address, as an address
+abbrev pub facts_of_each : ContentsValue → List (List ℕ × ℕ) → List (List ℕ × AddressFacts)
+facts_of_each c registers =
+    map (λ r. (r.0, facts_of c r.1)) (filter (λ r. holds_address r.0) registers)
+
+-- the same of the registers of a context, in the order of the processor
+abbrev pub register_facts : ContentsValue → MinidumpRawContext → List (List ℕ × AddressFacts)
+register_facts c raw = facts_of_each c (register_values raw)
 
 -- ---- the code
 
@@ -91,9 +113,11 @@ flags_of (OldArm64 c) = (codes "cpsr", c.cpsr) ∷ []
 abbrev pub point_by : ContentsValue → StackValue → MinidumpContext → PointValue
 point_by c s context = record {
   instruction = facts_of c (instruction_pointer_in context.raw);
+  registers = register_facts c context.raw;
   code = code_at c.space.memory (instruction_pointer_in context.raw);
   words = words_from s (stack_pointer_in context.raw) 16;
   flags = flags_of context.raw;
+  set_flags = set_flags context.raw;
 }
 
 -- that of the thread of an index, which has a walk

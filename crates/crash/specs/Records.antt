@@ -1,8 +1,11 @@
--- What the record of an exception says by its system: the parameters, how memory was accessed, and
--- who sent a signal.
+-- What the record of an exception says: the parameters, LLDB's text over them, and by its system
+-- how memory was accessed, and who sent a signal.
 use Rattle.std.specs.Prelude.{ℕ, codes, true, ◌%◌, ◌/◌, ◌^◌, ◌==◌, ◌||◌, ◌&&◌, nat_le, nat_lt, not, Bool, List, min}
-use Rattle.std.specs.Prelude.{slice_index, take, Option, Some, None, if◌then◌else◌}
+use Rattle.std.specs.Prelude.{slice_index, take, length, Option, Some, None, if◌then◌else◌}
+use Rattle.std.specs.Int.{to_le_bytes, w64}
+use Rattle.std.specs.List.{before_first, flat_map}
 use Rattle.std.specs.Option.{option_and_then}
+use Rattle.std.specs.Str.Lossy.{utf8_lossy}
 use Rattle.minidump.specs.declared.format.MINIDUMP_EXCEPTION.{MINIDUMP_EXCEPTION}
 use Rattle.minidump.specs.declared.system_info.Cpu.{Cpu}
 use Rattle.minidump.specs.declared.system_info.Os.{Os}
@@ -20,6 +23,22 @@ use Rattle.crash.specs.declared.records.SignalCode.TheVariants.{Queue, Tkill, Us
 -- the parameters: NumberParameters of them, at most the 15 that a record has
 abbrev pub parameters_in : MINIDUMP_EXCEPTION → List ℕ
 parameters_in r = take (min r.number_parameters 15) r.exception_information
+
+-- ---- the text of LLDB
+
+-- the bytes of all parameters, each from its lowest byte on
+abbrev pub parameter_bytes : MINIDUMP_EXCEPTION → List ℕ
+parameter_bytes r = flat_map (to_le_bytes w64) r.exception_information
+
+-- a text, with U+FFFD for what isn't UTF-8: none where there are no bytes
+abbrev pub text_unless_empty : List ℕ → Option (List ℕ)
+text_unless_empty bytes = if length bytes == 0 then None else Some (utf8_lossy bytes)
+
+-- the text that LLDB writes over the parameters, before its first 0, if there is one: the flags are then
+-- LLDB_FLAG of llvm's BinaryFormat/Minidump.h, C's constant 'LLDB'
+abbrev pub description_in : MINIDUMP_EXCEPTION → Option (List ℕ)
+description_in r = if r.exception_flags == 0x4c4c_4442
+    then text_unless_empty (before_first (λ b. b == 0) (parameter_bytes r)) else None
 
 -- ---- accesses
 

@@ -1,6 +1,6 @@
 -- The entries of the list of modules that can't be read. The format has no list then: one such entry
 -- makes it an error.
-use Rattle.std.specs.Prelude.{ℕ, Bool, List, [], is_none, is_some, Option, Some, None}
+use Rattle.std.specs.Prelude.{ℕ, List, [], is_none, is_some, Option, Some, None}
 use Rattle.std.specs.Prelude.{if◌then◌else◌, unwrap_or}
 use Rattle.std.specs.List.{enumerate_from, filter_map}
 use Rattle.std.specs.Option.{option_map}

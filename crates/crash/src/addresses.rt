@@ -1,15 +1,14 @@
 //! What is known of an address.
-ghost use Rattle.std.specs.Prelude.{◌≡◌, [], map, unwrap_or};
-ghost use Rattle.std.specs.Option.{option_map};
+ghost use Rattle.std.specs.Prelude.{◌≡◌, [], unwrap_or};
 ghost use Rattle.std.specs.Result.{result_ok};
 ghost use Rattle.minidump.specs.Below.Contexts.Context.{map_ok};
-ghost use Rattle.minidump.specs.Below.MemoryLists.UnifiedInfo.{info_list, info_region, info_regions};
+ghost use Rattle.minidump.specs.Below.MemoryLists.UnifiedInfo.{info_region};
 ghost use Rattle.minidump.specs.Below.Modules.UnloadedModule.{unloaded_of};
 ghost use Rattle.minidump.specs.Promise.{module_list_stream, thread_list_stream};
 ghost use Rattle.minidump.specs.Promise.{unloaded_module_list_stream};
 ghost use Rattle.minidump.specs.Thread.{thread_of};
 ghost use Rattle.crash.specs.Addresses.{canonical_on, facts_of, has_stack, is_below_stack};
-ghost use Rattle.crash.specs.Addresses.{is_canonical, is_guarded, memory_at, memory_of};
+ghost use Rattle.crash.specs.Addresses.{is_canonical, is_guarded, is_placed, memory_at, memory_of};
 ghost use Rattle.crash.specs.Addresses.{module_place, null_offset, stack_above, stack_at, state_of};
 ghost use Rattle.crash.specs.Addresses.{state_of_number, unloaded_at};
 ghost use Rattle.crash.specs.Contents.{contents_of};
@@ -23,7 +22,7 @@ use minidump::format::{MemoryProtection, MemoryState};
 use minidump::system_info::Cpu;
 use minidump::{
     Error, MinidumpModuleList, MinidumpThread, MinidumpThreadList, MinidumpUnloadedModule,
-    MinidumpUnloadedModuleList, Module, Region, UnifiedMemoryInfo,
+    MinidumpUnloadedModuleList, Region, UnifiedMemoryInfo,
 };
 
 /// What is known of an address.
@@ -47,6 +46,15 @@ pub struct AddressFacts {
     pub below_stack: Option<usize>,
     /// The memory that contains it, by the memory information, else by the maps of Linux.
     pub memory: Option<AddressMemory>,
+}
+
+impl AddressFacts {
+    /// Tells whether it lies in a module, an unloaded module, or the stack of a thread.
+    pub fn is_placed(&self) -> bool
+        ensures { result ≡ is_placed self.now }
+    {
+        self.module.is_some() || self.unloaded.is_some() || self.stack_of.is_some()
+    }
 }
 
 /// What is known of the memory that contains an address.
@@ -126,8 +134,7 @@ fn canonical_on(cpu: Cpu, address: u64) -> bool
 pub(crate) fn module_place(modules: &MinidumpModuleList, address: u64) -> Option<(usize, u64)>
     ensures { result ≡ module_place (module_list_stream.value modules.now) address }
 {
-    let (index, module) = modules.numbered_module_at_address(address)?;
-    Some((index, address.saturating_sub(module.base_address())))
+    stack_walk::module_place(modules, address)
 }
 
 // ---- unloaded modules

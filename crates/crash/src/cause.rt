@@ -13,7 +13,7 @@ use crate::contents::Contents;
 use crate::contexts::{self, ContextProblem, context_at};
 use crate::counting::counting;
 use crate::each::{MakeItem, make_items};
-use crate::records::{Access, Sender, access_of, parameters_of, sender_of};
+use crate::records::{Access, Sender, access_of, description_of, parameters_of, sender_of};
 use minidump::{CodeNames, Error, MinidumpException, MinidumpSystemInfo};
 use std::alloc::Global;
 
@@ -46,6 +46,10 @@ pub struct CrashException {
     pub nested: u64,
     /// The parameters of its record, as many as it says, but at most the 15 that it has.
     pub parameters: Vec<u64>,
+    /// What LLDB says of the exception. It writes a text over the parameters, whose numbers then mean
+    /// nothing, and `LLDB` (0x4c4c4442) in the flags; `None` for other flags, and for an empty text. The
+    /// text ends before its first NUL, or has all 120 bytes; U+FFFD stands for what isn't UTF-8.
+    pub description: Option<String>,
     /// How memory was accessed, if it is an access violation or an in-page error of Windows.
     pub access: Option<Access>,
     /// The process that sent the signal, if one did, on Linux and Android. The address of the record
@@ -157,6 +161,7 @@ fn exception_of(
     let reason = reason_of(alloc, exception, system, names)?;
     let record = &exception.raw.exception_record;
     let parameters = parameters_of(alloc, record)?;
+    let description = description_of(alloc, record)?;
     let sender = sender_of(system, record);
     Ok(CrashException {
         thread: exception.thread_id,
@@ -165,6 +170,7 @@ fn exception_of(
         at: record.exception_address,
         nested: record.exception_record,
         parameters,
+        description,
         access: access_of(system, record),
         sender,
         address: address_unless(sender, exception, system),

@@ -1,15 +1,15 @@
-ghost use Rattle.std.specs.Prelude.{◌≡◌, ◌≤◌, ◌<◌, IfOk, IfSome, Some, is_some, length, map, min, replicate};
+ghost use Rattle.std.specs.Prelude.{◌≡◌, ◌≤◌, ◌<◌, IfOk, IfSome, Some, is_some, length, map};
 ghost use Rattle.std.specs.Option.{option_copied, option_map, option_or};
 ghost use Rattle.minidump.specs.Below.Bytes.Span.{record_at};
 ghost use Rattle.minidump.specs.Below.Format.ContextArm64.{context_arm64_old};
 ghost use Rattle.minidump.specs.Promise.{exception_stream, system_info_stream};
 ghost use Rattle.minidump.specs.Thread.{accepted_context, known_context, thread_of};
 ghost use Rattle.crash.specs.Contents.{contents_of};
-ghost use Rattle.crash.specs.Contexts.{any_context, context_at, context_by, context_in, context_of};
+ghost use Rattle.crash.specs.Contexts.{any_context, context_at, context_by, context_of};
 ghost use Rattle.crash.specs.Contexts.{first_found, first_of, found_in, has_general, lengths};
 ghost use Rattle.crash.specs.Contexts.{of_origin, old_arm64, old_context, old_on};
 ghost use Rattle.crash.specs.Contexts.{on_thread, padded, problem_by, registers_in, short_by};
-ghost use Rattle.crash.specs.Contexts.{short_context};
+ghost use Rattle.crash.specs.Contexts.{register_values, short_context};
 ghost use Rattle.crash.specs.Contexts.{system_of, whole_context, whole_only};
 
 use crate::contents::Contents;
@@ -383,13 +383,24 @@ fn context_by(
 ) -> Result<CrashContext, AllocError>
     ensures { IfOk result (λ c. context_of c ≡ registers_in origin short context.now.raw) }
 {
-    let registers: Vec<(&'static str, u64)> = context.registers().collect(alloc)?;
+    let registers = register_values(alloc, context)?;
     Ok(CrashContext {
         registers,
         size: context.register_size(),
         origin,
         short,
     })
+}
+
+// Returns the values of the registers of a context, each with its name, in the order of the processor.
+pub(crate) fn register_values(
+    alloc: Global,
+    context: &MinidumpContext,
+) -> Result<Vec<(&'static str, u64)>, AllocError>
+    ensures { IfOk result (λ registers. map (λ r. (r.0.now, r.1)) registers.items
+        ≡ register_values context.now.raw) }
+{
+    context.registers().collect(alloc)
 }
 
 // ---- why there are none

@@ -5,7 +5,7 @@ ghost use Rattle.minidump.specs.Below.Format.Answer.{Gives};
 ghost use Rattle.minidump.specs.Dump.{dump_in};
 ghost use Rattle.minidump.specs.DumpValue.{dump_of};
 ghost use Rattle.crash.specs.Cause.{cause_of};
-ghost use Rattle.crash.specs.Contents.{contents_in, contents_of};
+ghost use Rattle.crash.specs.Contents.{contents_in};
 ghost use Rattle.crash.specs.Crash.{crash_by, crash_in, crash_of, damage_in, status_of};
 ghost use Rattle.crash.specs.Crash.{walked_in};
 ghost use Rattle.crash.specs.Frames.{walked_of};

@@ -10,10 +10,12 @@
 //!   [`SpaceStreams`] chooses between the lists of memory, and between the lists of what is known of
 //!   its regions.
 //! - [`CrashDirectory`] has the entries that decide, each with the error of its stream.
-//! - [`CrashProcess`] has the process and the system on which it ran, [`CrashCause`] the exceptions
-//!   and the address of the crash, [`CrashThreads`] the threads with their registers and frames,
-//!   [`CrashPoint`] the code and the words of the stack where the thread that crashed stands,
-//!   [`CrashModules`] the modules.
+//! - [`CrashProcess`] has the process and the system on which it ran, [`CrashCause`] the exceptions,
+//!   with the text that LLDB writes in them, and the address of the crash, [`CrashThreads`] the
+//!   threads with their registers and frames, [`CrashPoint`] the code and the words of the stack where
+//!   the thread that crashed stands, what is known of the value of each of its registers as an
+//!   address, and which flags of its processor are set, [`CrashModules`] the modules, and their order
+//!   by address.
 //! - [`Damage`] is something that is there and can't be read. [`status_of`] is the status with which
 //!   a dump ends a program.
 //!
@@ -62,6 +64,7 @@ mod process;
 mod process_texts;
 mod records;
 mod release;
+mod set_flags;
 mod space;
 mod stacks;
 mod thread_facts;

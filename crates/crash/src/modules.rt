@@ -1,5 +1,5 @@
 ghost use Rattle.std.specs.Prelude.{◌≡◌, IfOk, IsOkUnless, Ok, map, string_bytes};
-ghost use Rattle.std.specs.Option.{option_copied, option_map};
+ghost use Rattle.std.specs.Option.{option_map};
 ghost use Rattle.minidump.specs.Below.Contexts.Context.{map_ok};
 ghost use Rattle.minidump.specs.Below.Modules.CodeId.{text_of};
 ghost use Rattle.minidump.specs.Below.Modules.DebugId.{breakpad_text};
@@ -7,10 +7,11 @@ ghost use Rattle.minidump.specs.Below.Modules.Module.{module_of};
 ghost use Rattle.minidump.specs.Below.Modules.UnloadedModule.{unloaded_of};
 ghost use Rattle.minidump.specs.Dump.{dump_in};
 ghost use Rattle.minidump.specs.DumpValue.{dump_of};
-ghost use Rattle.minidump.specs.Promise.{module_list_stream, unloaded_module_list_stream};
+ghost use Rattle.minidump.specs.Promise.{unloaded_module_list_stream};
 ghost use Rattle.crash.specs.FileName.{file_name};
 ghost use Rattle.crash.specs.Contents.{contents_of};
-ghost use Rattle.crash.specs.Modules.{loaded_in, loaded_of, module_in, modules_in, modules_of};
+ghost use Rattle.crash.specs.Modules.{by_address, loaded_in, loaded_of, module_in, modules_in};
+ghost use Rattle.crash.specs.Modules.{modules_of};
 ghost use Rattle.crash.specs.Modules.{unloaded_in, unloaded_module_in, unloaded_module_of};
 
 use crate::contents::Contents;
@@ -22,12 +23,16 @@ use minidump::{
     MinidumpUnloadedModuleList, Module,
 };
 use std::alloc::{AllocError, Global};
+use std::collections::BTreeSet;
 
 /// The modules of a process.
 #[derive(Drop)]
 pub struct CrashModules {
     /// The modules that were loaded, in the order of their list; none if it can't be read.
     pub loaded: Vec<CrashModule>,
+    /// The indices of `loaded`, ascending by base address, those of one base address in the order of
+    /// the list.
+    pub by_address: Vec<usize>,
     /// The entries of that list that can't be read: one is enough for the whole list to be an error.
     /// None if the list can be read, and if it can't be told where its entries are.
     pub unreadable: Vec<UnreadableModule>,
@@ -84,10 +89,12 @@ pub(crate) fn modules_of(
     ensures memory { IsOkUnless result Error.OutOfMemory }
 {
     let loaded = loaded_of(alloc, contents)?;
+    let by_address = by_address(alloc, loaded.as_slice())?;
     let unreadable = unreadable_of(alloc, file, dump, contents.space.modules_error)?;
     let unloaded = unloaded_of(alloc, &contents.space.unloaded)?;
     Ok(CrashModules {
         loaded,
+        by_address,
         unreadable,
         unloaded,
     })
@@ -100,6 +107,33 @@ fn loaded_of(alloc: Global, contents: &Contents<'_>) -> Result<Vec<CrashModule>,
     ensures memory { IsOkUnless result Error.OutOfMemory }
 {
     make_items(alloc, &EachModule, contents.space.modules.as_slice())
+}
+
+// Returns the indices of modules in the order of their base addresses.
+fn by_address(alloc: Global, modules: &[CrashModule]) -> Result<Vec<usize>, AllocError>
+    ensures { IfOk result (λ indices. indices.items ≡ by_address (map loaded_of modules.now)) }
+{
+    let bases = bases_of(alloc, modules)?;
+    indices_of(alloc, &bases)
+}
+
+// Returns the base address of each module with the index of the module, ascending.
+fn bases_of(alloc: Global, modules: &[CrashModule]) -> Result<BTreeSet<(u64, usize)>, AllocError>
+    ensures { IfOk result
+        (λ bases. map (λ p. p.1) bases.keys ≡ by_address (map loaded_of modules.now)) }
+{
+    modules
+        .iter()
+        .enumerate()
+        .map(|(index, module)| (module.base, index))
+        .collect(alloc)
+}
+
+// Returns the indices of pairs.
+fn indices_of(alloc: Global, bases: &BTreeSet<(u64, usize)>) -> Result<Vec<usize>, AllocError>
+    ensures { IfOk result (λ indices. indices.items ≡ map (λ p. p.1) bases.now.keys) }
+{
+    bases.iter().map(|pair| pair.1).collect(alloc)
 }
 
 // Returns the modules that were unloaded.

@@ -4,15 +4,20 @@ ghost use Rattle.std.specs.Option.{option_and_then, option_map};
 ghost use Rattle.minidump.specs.Below.MemoryLists.Unified.{unified_list, unified_region};
 ghost use Rattle.minidump.specs.Promise.{module_list_stream};
 ghost use Rattle.stack_walk.specs.Frames.{instruction_pointer_in, stack_bytes, stack_of, stack_pointer_in};
+ghost use Rattle.crash.specs.Addresses.{facts_of};
 ghost use Rattle.crash.specs.Contents.{contents_of};
 ghost use Rattle.crash.specs.Frames.{walked_of};
 ghost use Rattle.crash.specs.Threads.{walked_at};
 ghost use Rattle.crash.specs.Point.{code_at, code_of, flags_of, point_by, point_in, point_of};
-ghost use Rattle.crash.specs.Point.{word_at, word_by, word_in, words_from};
+ghost use Rattle.crash.specs.Point.{facts_of_each, holds_address, register_facts, word_at};
+ghost use Rattle.crash.specs.Point.{word_by, word_in, words_from};
+ghost use Rattle.crash.specs.SetFlags.{set_flags};
 
 use crate::addresses::{AddressFacts, facts_of, module_place};
 use crate::contents::Contents;
+use crate::contexts::register_values;
 use crate::frames::memory_at;
+use crate::set_flags::set_flags_of;
 use crate::threads::walked_at;
 use minidump::{
     MinidumpContext, MinidumpModuleList, MinidumpRawContext, UnifiedMemory, UnifiedMemoryList,
@@ -25,6 +30,10 @@ use std::alloc::{AllocError, Global};
 pub struct CrashPoint<'a> {
     /// What is known of its instruction pointer.
     pub instruction: AddressFacts,
+    /// What is known of the value of each register that may hold an address, which on x86 `eflags`
+    /// can't, each with its name, in the order of the processor. The registers are those of the context
+    /// by which the thread is walked.
+    pub registers: Vec<(&'static str, AddressFacts)>,
     /// The bytes from the instruction pointer on, at most 16; none if the dump lacks them.
     pub code: &'a [u8],
     /// The words from its stack pointer up, at most 16, as far as its stack has them.
@@ -33,6 +42,12 @@ pub struct CrashPoint<'a> {
     /// `cs`, `ss`, `ds`, `es`, `fs` and `gs`, on x86 those without `eflags`, which is among the
     /// registers, on ARM and ARM64 `cpsr`.
     pub flags: Vec<(&'static str, u64)>,
+    /// The names of the flags of its processor that are set. On x86 and x86-64 those of `eflags`, by
+    /// Intel's names, from the lowest bit up: CF, PF, AF, ZF, SF, TF, IF, DF, OF, NT, RF, VM, AC, VIF,
+    /// VIP and ID. On ARM and ARM64 those of `cpsr`, by Arm's names, from the highest bit down: N, Z, C
+    /// and V, then on ARM Q, J, SSBS, PAN, DIT, E, A, I, F and T, and on ARM64 TCO, DIT, UAO, PAN, SS,
+    /// IL, ALLINT, SSBS, D, A, I and F. Fields of more bits, as IOPL and the mode, are none.
+    pub set_flags: Vec<&'static str>,
 }
 
 /// A word of a stack.
@@ -84,13 +99,17 @@ fn point_by<'a>(
         ≡ point_by (contents_of contents.now) (stack_of stack.now) context.now) }
 {
     let instruction = instruction_pointer_of(context);
+    let registers = register_facts(alloc, contents, context)?;
     let words = words_from(alloc, stack, stack_pointer_of(context), 16)?;
     let flags = flags_of(alloc, &context.raw)?;
+    let set_flags = set_flags_of(alloc, &context.raw)?;
     Ok(CrashPoint {
         instruction: facts_of(contents, instruction),
+        registers,
         code: code_at(&contents.space.memory, instruction),
         words,
         flags,
+        set_flags,
     })
 }
 
@@ -106,6 +125,44 @@ fn stack_pointer_of(context: &MinidumpContext) -> u64
     ensures { result ≡ stack_pointer_in context.now.raw }
 {
     context.get_stack_pointer()
+}
+
+// ---- the registers
+
+// Returns what is known of the value of each register of a context, as an address.
+fn register_facts(
+    alloc: Global,
+    contents: &Contents<'_>,
+    context: &MinidumpContext,
+) -> Result<Vec<(&'static str, AddressFacts)>, AllocError>
+    ensures { IfOk result (λ registers. map (λ r. (r.0.now, r.1)) registers.items
+        ≡ register_facts (contents_of contents.now) context.now.raw) }
+{
+    let values = register_values(alloc, context)?;
+    facts_of_each(alloc, contents, values.as_slice())
+}
+
+// Returns what is known of the values of the registers that may hold an address.
+fn facts_of_each(
+    alloc: Global,
+    contents: &Contents<'_>,
+    values: &[(&'static str, u64)],
+) -> Result<Vec<(&'static str, AddressFacts)>, AllocError>
+    ensures { IfOk result (λ registers. map (λ r. (r.0.now, r.1)) registers.items
+        ≡ facts_of_each (contents_of contents.now) (map (λ r. (r.0.now, r.1)) values.now)) }
+{
+    values
+        .iter()
+        .filter(|register| holds_address(register.0))
+        .map(|register| (register.0, facts_of(contents, register.1)))
+        .collect(alloc)
+}
+
+// Tells whether the register of a name may hold an address.
+fn holds_address(name: &str) -> bool
+    ensures { result ≡ holds_address name.now }
+{
+    name != "eflags"
 }
 
 // ---- the code

@@ -12,7 +12,6 @@ ghost use Rattle.crash.specs.ProcessTexts.{bytes_of_kb, command_line_in, command
 ghost use Rattle.crash.specs.ProcessTexts.{comments_in, comments_of, cpu_text, size_of_text, spaced};
 ghost use Rattle.crash.specs.ProcessTexts.{status_number, status_size, value_in, value_of, wide_text};
 
-use minidump::format::MINIDUMP_STREAM_TYPE;
 use minidump::own_streams::text_before_nul;
 use minidump::strings::LinuxOsStr;
 use minidump::{
@@ -188,7 +187,7 @@ fn comment_text(alloc: Global, bytes: &[u8]) -> Result<String, AllocError>
 }
 
 // Returns the bytes before the first 0, or all if none is 0.
-fn before_nul(bytes: &[u8]) -> &[u8]
+pub(crate) fn before_nul(bytes: &[u8]) -> &[u8]
     ensures { result.now ≡ before_first (λ b. b == 0) bytes.now }
 {
     match first_nul(bytes) {

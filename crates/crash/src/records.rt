@@ -1,20 +1,26 @@
-//! What the record of an exception says by its system.
-ghost use Rattle.std.specs.Prelude.{◌≡◌, ◌%◌, ◌/◌, ◌^◌, IfOk};
+//! What the record of an exception says, by itself and by its system.
+ghost use Rattle.std.specs.Prelude.{◌≡◌, ◌%◌, ◌/◌, ◌^◌, IfOk, string_bytes};
 ghost use Rattle.std.specs.Option.{option_copied, option_map};
 ghost use Rattle.minidump.specs.Promise.{system_info_stream};
-ghost use Rattle.crash.specs.Records.{access_in, access_of_number, access_on, is_process};
+ghost use Rattle.crash.specs.Records.{access_in, access_of_number, access_on, description_in};
+ghost use Rattle.crash.specs.Records.{is_process, parameter_bytes, text_unless_empty};
 ghost use Rattle.crash.specs.Records.{is_low_access, is_sent, is_signal};
 ghost use Rattle.crash.specs.Records.{parameters_in, sender_at, sender_by, sender_if_sent, sender_in};
 ghost use Rattle.crash.specs.Records.{sender_on, sender_with, signal_code, signal_code_name};
 
+use crate::process_texts::before_nul;
 use minidump::MinidumpSystemInfo;
 use minidump::format::MINIDUMP_EXCEPTION;
+use minidump::strings::LinuxOsStr;
 use minidump::system_info::{Cpu, Os, PointerWidth};
 use std::alloc::{AllocError, Global};
 
 const EXCEPTION_ACCESS_VIOLATION: u32 = 0xc000_0005;
 
 const EXCEPTION_IN_PAGE_ERROR: u32 = 0xc000_0006;
+
+// The flags of a record of LLDB, which is llvm's `LLDB_FLAG`.
+const LLDB_FLAG: u32 = 0x4c4c_4442;
 
 const SIGBUS: u32 = 7;
 
@@ -82,6 +88,41 @@ pub(crate) fn parameters_of(alloc: Global, raw: &MINIDUMP_EXCEPTION) -> Result<V
     let mut parameters = Vec::new(alloc);
     parameters.extend_from_slice(&raw.exception_information[..count])?;
     Ok(parameters)
+}
+
+// Makes the text that LLDB writes in the parameters of a record, if it wrote the record.
+pub(crate) fn description_of(
+    alloc: Global,
+    raw: &MINIDUMP_EXCEPTION,
+) -> Result<Option<String>, AllocError>
+    ensures { IfOk result (λ text. option_map string_bytes text ≡ description_in raw.now) }
+{
+    if raw.exception_flags != LLDB_FLAG {
+        return Ok(None);
+    }
+    let bytes = parameter_bytes(alloc, raw)?;
+    text_unless_empty(alloc, before_nul(bytes.as_slice()))
+}
+
+// Returns the bytes of all parameters of a record, each from its lowest byte on.
+fn parameter_bytes(alloc: Global, raw: &MINIDUMP_EXCEPTION) -> Result<Vec<u8>, AllocError>
+    ensures { IfOk result (λ bytes. bytes.items ≡ parameter_bytes raw.now) }
+{
+    let mut bytes = Vec::new(alloc);
+    for parameter in &raw.exception_information {
+        bytes.extend_from_slice(&parameter.to_le_bytes())?;
+    }
+    Ok(bytes)
+}
+
+// Makes the text of bytes, if there are any.
+fn text_unless_empty(alloc: Global, bytes: &[u8]) -> Result<Option<String>, AllocError>
+    ensures { IfOk result (λ text. option_map string_bytes text ≡ text_unless_empty bytes.now) }
+{
+    if bytes.is_empty() {
+        return Ok(None);
+    }
+    Ok(Some(LinuxOsStr::from_bytes(bytes).to_string_lossy(alloc)?))
 }
 
 // Returns how memory was accessed, if the record says it.

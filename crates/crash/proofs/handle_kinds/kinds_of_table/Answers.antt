@@ -1,7 +1,4 @@
 -- One kind more, and the end.
-use Rattle.std.proofs.Common.{◌∙◌, ap, map}
-use Rattle.minidump.specs.Below.Records.Dictionary.{entries_of}
-use Rattle.crash.specs.HandleKinds.{kind_by}
 use Rattle.crash.proofs.TallyLemmas.{last_kind, next_kind}
 use Rattle.crash.proofs.handle_kinds.kinds_of_table.Goals as goal
 

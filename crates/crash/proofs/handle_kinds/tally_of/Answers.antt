@@ -1,5 +1,5 @@
 -- One handle more, and the end.
-use Rattle.std.proofs.Common.{◌∙◌, arith}
+use Rattle.std.proofs.Common.{arith}
 use Rattle.minidump.specs.Below.Records.Dictionary.{entries_of}
 use Rattle.crash.proofs.TallyLemmas.{all_handles, few_times, next_handle, none_yet}
 use Rattle.crash.proofs.handle_kinds.tally_of.Goals as goal
