@@ -144,6 +144,11 @@ function membersOf(value, names) {
   return joined(names.map((name) => part(value, name)), " ");
 }
 
+// Compares two numbers, as a sort asks for it.
+function ascending(a, b) {
+  return a < b ? -1 : a > b ? 1 : 0;
+}
+
 // Returns rows of the members of the objects of a list.
 function rowsOf(value, names) {
   return list(value).map((one) => names.map((name) => part(one, name)));
@@ -298,6 +303,7 @@ function crashFacts() {
     ["Address", addressWords(part(info, "address"), part(minidump, "address"))],
     ["Signature", part(crash, "signature") ?? part(minidump, "signature")],
     ["Code", counting === null ? null : part(counting, "code") + " at " + part(counting, "exception_address")],
+    ["Description", part(counting, "description")],
     ["Flags", unlessZero(part(counting, "flags"))],
     ["Nested record", unlessZero(part(counting, "nested"))],
     ["Access", part(counting, "access")],
@@ -416,12 +422,16 @@ function addFrames(place, of) {
   }
 }
 
-// Adds a list of registers, if there are any.
+// Adds a list of registers, each with the module or the stack that its value lies in, if there are any.
 function addRegisters(place, heading, registers) {
   const all = Object.entries(registers ?? {});
   if (all.length === 0) return;
   const lines = element("ul", undefined, "registers");
-  for (const [name, value] of all) lines.appendChild(element("li", name.padEnd(6) + " " + shown(value)));
+  for (const [name, value] of all) {
+    const words = name.padEnd(6) + " " + shown(value);
+    const facts = list(part(point, "registers")).find((one) => part(one, "name") === name);
+    lines.appendChild(element("li", facts === undefined ? words : addressWords(words, facts)));
+  }
   place.appendChild(element("h3", heading));
   place.appendChild(lines);
 }
@@ -432,6 +442,8 @@ function addCrashed() {
   addFrames(place, thread);
   addRegisters(place, "Registers", part(firstFrame(), "registers"));
   addRegisters(place, "Flags and segments", part(point, "flags"));
+  const set = list(part(point, "set_flags"));
+  if (set.length > 0) place.appendChild(element("p", "Flags set: " + set.join(" ")));
   const words = list(part(point, "words"));
   if (words.length === 0) return;
   folded(place, "Words from the stack pointer up: " + counted(words.length), words.length, (made) => new Table(made,
@@ -466,7 +478,7 @@ function addModules() {
   const rows = modules.map((module, i) => [
     part(module, "base_addr"), part(module, "end_addr"), part(module, "filename"), part(module, "version"), symbolWords(module),
     membersOf(module, ["debug_file", "debug_id"]), part(module, "code_id"), i === main ? "main" : null,
-  ]);
+  ]).sort((a, b) => ascending(address(a[0]), address(b[0])));
   new Table(section("modules", "Modules: " + counted(modules.length)), [["Base", "code"], ["End", "code"], ["File", ""], ["Version", ""],
     ["Symbols", ""], ["Debug file", ""], ["Code", ""], ["Program", ""]], rows);
 }
@@ -493,10 +505,10 @@ function annotationsOf() {
 }
 
 function addExceptions() {
-  const names = ["thread_id", "code", "flags", "exception_address", "nested", "access", "address", "type", "context_problem", "error"];
+  const names = ["thread_id", "code", "flags", "exception_address", "nested", "access", "address", "type", "description", "context_problem", "error"];
   const rows = rowsOf(exceptions, names).map((row, i) => [exceptions[i] === counting ? "counts" : "", ...row, parametersOf(exceptions[i]), senderWords(exceptions[i])]);
   addMore("Exceptions", [["Counts", ""], ["Thread", ""], ["Code", "code"], ["Flags", "code"], ["At", "code"], ["Nested record", "code"], ["Access", ""],
-    ["Address", "code"], ["Reason", ""], ["Context", ""], ["Error", ""], ["Parameters", ""], ["Sent by", ""]], rows);
+    ["Address", "code"], ["Reason", ""], ["Description", ""], ["Context", ""], ["Error", ""], ["Parameters", ""], ["Sent by", ""]], rows);
 }
 
 function addLists() {
@@ -525,7 +537,7 @@ const KNOWN = {
   crash_info: "type address crashing_thread assertion",
   minidump: "written uptime status streams entries_outside memory damage address exceptions exception registers_of assertion crashpad signature "
     + "command_line comment wide_comment point environment parent_process_id resident_size handle_kinds unreadable_modules",
-  "minidump.point": "instruction code words flags",
+  "minidump.point": "instruction registers code words flags set_flags",
   "minidump.address": "address module module_offset null_offset is_canonical unloaded_module stack_of below_stack memory",
   crashing_thread: "threads_index thread_id thread_name is_listed last_error_value stack stack_memory context_problem short_context frame_count "
     + "end frames",
@@ -557,7 +569,7 @@ function rangesOf() {
   }
   for (const one of list(part(crash, "threads"))) add("stack", endsOf(part(one, "stack")), "thread " + threadName(one));
   for (const region of list(part(minidump, "memory"))) add("memory", endsOf(region), "");
-  return found.sort((a, b) => (a.start < b.start ? -1 : a.start > b.start ? 1 : 0));
+  return found.sort((a, b) => ascending(a.start, b.start));
 }
 
 // Returns the rights of the memory between two addresses, where it is known of one of them, or null.

@@ -1,4 +1,4 @@
--- The line of the address of a crash, with what is known of it.
+-- The line of an address, with what is known of it.
 use Rattle.std.specs.Prelude.{ℕ, ◌++◌, Bool, true, false, List, [], ◌∷◌, codes, slice_get}
 use Rattle.std.specs.Prelude.{Option, Some, None}
 use Rattle.std.specs.Fmt.{decimal}
@@ -74,11 +74,17 @@ address_words unloaded threads a = null_words a.null_offset ++ (canonical_words 
     ++ (thread_words (codes ", below the stack of thread ")
     (option_and_then (slice_get threads) a.below_stack) ++ memory_words a.memory))))
 
--- the line of the address, with the words for its module and the others
-unfoldable pub address_row : ℕ → List ℕ → List ℕ → List ℕ
-address_row address place words = concat (codes "address " ∷ hex address ∷ place ∷ words ∷ [])
+-- the line of an address after its name, with the words for its module and the others
+unfoldable pub address_row : List ℕ → List ℕ → ℕ → List ℕ → List ℕ → List ℕ
+address_row indent name address place words =
+    concat (indent ∷ name ∷ codes " " ∷ hex address ∷ place ∷ words ∷ [])
 
--- the same by the crash
+-- the same by the crash, with these words where no module has it
+abbrev pub address_line : CrashValue → List ℕ → List ℕ → List ℕ → AddressFacts → List ℕ
+address_line c indent name nowhere a = address_row indent name a.address
+    (place_text c.modules.loaded nowhere a.«module»)
+    (address_words c.modules.unloaded c.threads.threads a)
+
+-- the line of the address of the crash
 abbrev pub address_lines : CrashValue → AddressFacts → List (List ℕ)
-address_lines c a = address_row a.address (place_text c.modules.loaded [] a.«module»)
-    (address_words c.modules.unloaded c.threads.threads a) ∷ []
+address_lines c a = address_line c [] (codes "address") [] a ∷ []

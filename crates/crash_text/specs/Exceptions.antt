@@ -14,7 +14,7 @@ use Rattle.crash_text.specs.Lines.{if_some}
 use Rattle.crash_text.specs.Point.{point_lines}
 use Rattle.crash_text.specs.Records.{record_text}
 use Rattle.crash_text.specs.Registers.{registers_lines}
-use Rattle.crash_text.specs.Words.{or_empty, unless_empty}
+use Rattle.crash_text.specs.Words.{or_empty, text_lines, unless_empty}
 
 -- ---- the crash
 
@@ -23,20 +23,17 @@ unfoldable pub crashed_row : ℕ → List ℕ
 crashed_row id = concat (codes "crashed thread " ∷ decimal id ∷ codes " (" ∷ hex id ∷ codes ")"
     ∷ [])
 
--- the line of the reason, in words
-unfoldable pub reason_row : List ℕ → List ℕ
-reason_row reason = concat (codes "reason  " ∷ reason ∷ [])
-
 -- the line of the code of an exception, of where it happened, and of what else its record says
 unfoldable pub code_row : ℕ → ℕ → List ℕ → List ℕ
 code_row code at said = concat (codes "code    " ∷ hex code ∷ codes " at " ∷ hex at ∷ said ∷ [])
 
--- the crash, by the exception that counts
+-- the crash, by the exception that counts, with LLDB's description of it
 abbrev pub counted_lines : CrashValue → ExceptionValue → List (List ℕ)
 counted_lines c e = crashed_row e.thread
     ∷ (if_some (address_lines c) c.cause.address
-    ++ (if_some (λ reason. reason_row reason ∷ []) e.reason
-    ++ (code_row e.code e.at (record_text e) ∷ (registers_lines c e ++ point_lines c))))
+    ++ (text_lines (codes "reason  ") e.reason
+    ++ (code_row e.code e.at (record_text e)
+    ∷ (text_lines (codes "description ") e.description ++ (registers_lines c e ++ point_lines c)))))
 
 -- ---- the exceptions
 

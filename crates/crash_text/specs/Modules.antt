@@ -1,16 +1,16 @@
--- The lines of modules: how many there are, and those that other lines name, with what a symbol
--- server is asked by.
+-- The lines of modules: how many there are, and those that other lines name, in the order of their
+-- addresses, with what a symbol server is asked by.
 use Rattle.std.specs.Prelude.{ℕ, ◌≡◌, ◌<◌, ◌==◌, ◌||◌, Bool, false, true, List, [], ◌∷◌, bytes_eq}
-use Rattle.std.specs.Prelude.{get_or, length, Option, Some, None, codes, if◌then◌else◌}
+use Rattle.std.specs.Prelude.{get_or, length, Option, Some, None, codes, if◌then◌else◌, slice_get}
 use Rattle.std.specs.Fmt.{decimal}
-use Rattle.std.specs.List.{concat, enumerate_from, flat_map, list_any}
+use Rattle.std.specs.List.{concat, flat_map, list_any}
 use Rattle.std.specs.Option.{option_and_then}
 use Rattle.minidump.specs.declared.Error.{Error}
 use Rattle.minidump.specs.Below.Bytes.Piece.{hex}
 use Rattle.crash.specs.declared.addresses.AddressFacts.{AddressFacts}
 use Rattle.crash.specs.declared.frames.CrashFrame.{CrashFrame}
 use Rattle.crash.specs.Crash.{CrashValue}
-use Rattle.crash.specs.Modules.{LoadedValue}
+use Rattle.crash.specs.Modules.{LoadedValue, ModulesValue}
 use Rattle.crash_symbols.specs.declared.symbols.SymbolState.{SymbolState}
 use Rattle.crash_symbols.specs.declared.symbols.SymbolState.TheVariants.{Corrupt, Loaded, Missing}
 use Rattle.crash_symbols.specs.declared.symbols.SymbolState.TheVariants.{OutOfMemory, Unwanted}
@@ -87,23 +87,29 @@ abbrev pub is_named : Option AddressFacts → List CrashFrame → ℕ → Bool
 is_named address frames index = is_in index (address_place address)
     || list_any (λ f. is_in index f.«module») frames
 
--- a module with its index, if all modules are asked for or other lines name it
-abbrev pub listed_lines : TextLimits → Option SymbolizedValue → (ℕ → Bool) → ℕ × LoadedValue
-    → List (List ℕ)
-listed_lines limits symbols named p = if all_modules limits || named p.0
-    then module_line (all_modules limits) p.1 (symbols_text symbols p.0) ∷ [] else []
+-- a module with the words for its symbols, if all modules are asked for or other lines name it
+abbrev pub listed_lines : TextLimits → Bool → Option LoadedValue → List ℕ → List (List ℕ)
+listed_lines limits named (Some m) symbols = if all_modules limits || named
+    then module_line (all_modules limits) m symbols ∷ [] else []
+listed_lines limits named None symbols = []
 
--- the modules that are listed, by the indices of those that other lines name
-abbrev pub each_module : TextLimits → Option SymbolizedValue → (ℕ → Bool) → List LoadedValue
+-- the same of the module of an index, by the indices of those that other lines name
+abbrev pub module_at : TextLimits → Option SymbolizedValue → (ℕ → Bool) → List LoadedValue → ℕ
     → List (List ℕ)
-each_module limits symbols named modules =
-    flat_map (listed_lines limits symbols named) (enumerate_from 0 modules)
+module_at limits symbols named modules index =
+    listed_lines limits (named index) (slice_get modules index) (symbols_text symbols index)
+
+-- the modules of these indices that are listed
+abbrev pub each_module : TextLimits → Option SymbolizedValue → (ℕ → Bool) → List LoadedValue
+    → List ℕ → List (List ℕ)
+each_module limits symbols named modules indices =
+    flat_map (module_at limits symbols named modules) indices
 
 -- the modules that are listed, by the address of the crash and by frames
 unfoldable pub named_modules : TextLimits → Option SymbolizedValue → Option AddressFacts
-    → List CrashFrame → List LoadedValue → List (List ℕ)
-named_modules limits symbols address frames modules =
-    each_module limits symbols (is_named address frames) modules
+    → List CrashFrame → ModulesValue → List (List ℕ)
+named_modules limits symbols address frames m =
+    each_module limits symbols (is_named address frames) m.loaded m.by_address
 
 -- each of so many modules has a mark, that says whether one of these frames is in it
 pub record HasMarks (marks : List Bool) (count : ℕ) (frames : List CrashFrame) : Type 0 where
@@ -125,5 +131,5 @@ abbrev pub modules_lines : TextLimits → Option SymbolizedValue → CrashValue 
     → List (List ℕ)
 modules_lines limits symbols c None = count_row (length c.modules.loaded)
     ∷ named_modules limits symbols c.cause.address
-    (frames_in limits symbols c.threads.crashing c.threads.threads) c.modules.loaded
+    (frames_in limits symbols c.threads.crashing c.threads.threads) c.modules
 modules_lines limits symbols c (Some error) = if_missing (codes "no modules") error

@@ -1,15 +1,16 @@
 -- The lines of where the thread that crashed stands.
 use Rattle.std.specs.Prelude.{ℕ, ◌++◌, ◌&&◌, Bool, true, List, [], ◌∷◌, codes, is_some, map}
 use Rattle.std.specs.Prelude.{if◌then◌else◌}
-use Rattle.std.specs.List.{concat, flat_map}
+use Rattle.std.specs.List.{concat, flat_map, list_any}
 use Rattle.std.specs.Option.{option_map_or}
 use Rattle.minidump.specs.Below.Bytes.Piece.{hex, wide_hex}
 use Rattle.crash.specs.declared.addresses.AddressFacts.{AddressFacts}
 use Rattle.crash.specs.declared.point.StackWord.{StackWord}
+use Rattle.crash.specs.Addresses.{is_placed}
 use Rattle.crash.specs.Crash.{CrashValue}
 use Rattle.crash.specs.Modules.{LoadedValue}
 use Rattle.crash.specs.Point.{PointValue}
-use Rattle.crash_text.specs.Addresses.{address_words}
+use Rattle.crash_text.specs.Addresses.{address_line}
 use Rattle.crash_text.specs.Lines.{if_some}
 use Rattle.crash_text.specs.Places.{place_text}
 
@@ -23,6 +24,33 @@ flag_words r = concat (codes "  " ∷ r.0 ∷ codes " " ∷ hex r.1 ∷ [])
 unfoldable pub flags_row : List (List ℕ × ℕ) → List ℕ
 flags_row flags = concat (codes "  " ∷ flat_map flag_words flags ∷ [])
 
+-- the words for a flag that is set
+abbrev pub set_words : List ℕ → List ℕ
+set_words name = concat (codes " " ∷ name ∷ [])
+
+-- the line of the flags that are set
+unfoldable pub set_row : List (List ℕ) → List ℕ
+set_row names = concat (codes "    flags set:" ∷ flat_map set_words names ∷ [])
+
+-- the same where there are any
+abbrev pub set_lines : List (List ℕ) → List (List ℕ)
+set_lines [] = []
+set_lines (name ∷ names) = set_row (name ∷ names) ∷ []
+
+-- ---- the registers
+
+-- the line of a register, where its value lies in a module or a stack
+abbrev pub placed_lines : CrashValue → List ℕ × AddressFacts → List (List ℕ)
+placed_lines c r = if is_placed r.1 then address_line c (codes "    ") r.0 [] r.1 ∷ [] else []
+
+-- the registers whose values lie there, after a heading where there are any
+abbrev pub placed_heading : List (List ℕ × AddressFacts) → List (List ℕ)
+placed_heading registers = if list_any (λ r. is_placed r.1) registers
+    then codes "registers in a module or a stack" ∷ [] else []
+
+unfoldable pub registers_lines : CrashValue → List (List ℕ × AddressFacts) → List (List ℕ)
+registers_lines c registers = placed_heading registers ++ flat_map (placed_lines c) registers
+
 -- ---- the instruction pointer
 
 -- an address is ordinary for code: a module has it, and what is known of its memory is no reason
@@ -30,16 +58,10 @@ flags_row flags = concat (codes "  " ∷ flat_map flag_words flags ∷ [])
 abbrev pub is_ordinary : AddressFacts → Bool
 is_ordinary a = is_some a.«module» && option_map_or (λ m. m.is_executable) a.memory true
 
--- the line of an instruction pointer, with the words for its module and the others
-unfoldable pub instruction_row : ℕ → List ℕ → List ℕ → List ℕ
-instruction_row address place words =
-    concat (codes "instruction " ∷ hex address ∷ place ∷ words ∷ [])
-
--- the same where it isn't ordinary
+-- the line of an instruction pointer that isn't ordinary
 abbrev pub instruction_lines : CrashValue → AddressFacts → List (List ℕ)
-instruction_lines c a = if is_ordinary a then [] else instruction_row a.address
-    (place_text c.modules.loaded (codes " in no module") a.«module»)
-    (address_words c.modules.unloaded c.threads.threads a) ∷ []
+instruction_lines c a = if is_ordinary a then []
+    else address_line c [] (codes "instruction") (codes " in no module") a ∷ []
 
 -- ---- the code
 
@@ -79,10 +101,19 @@ words_lines modules words = words_heading words ++ map (word_line modules) words
 
 -- ---- all of it
 
+-- the flags and the registers
+abbrev pub processor_lines : CrashValue → PointValue → List (List ℕ)
+processor_lines c p =
+    flags_row p.flags ∷ (set_lines p.set_flags ++ registers_lines c p.registers)
+
+-- the instruction pointer, the code and the words
+abbrev pub memory_lines : CrashValue → PointValue → List (List ℕ)
+memory_lines c p = instruction_lines c p.instruction
+    ++ (code_lines p.instruction.address p.code ++ words_lines c.modules.loaded p.words)
+
 -- where a thread stands
 abbrev pub known_point_lines : CrashValue → PointValue → List (List ℕ)
-known_point_lines c p = flags_row p.flags ∷ (instruction_lines c p.instruction
-    ++ (code_lines p.instruction.address p.code ++ words_lines c.modules.loaded p.words))
+known_point_lines c p = processor_lines c p ++ memory_lines c p
 
 -- the same of the thread that crashed
 abbrev pub point_lines : CrashValue → List (List ℕ)

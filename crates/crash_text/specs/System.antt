@@ -1,5 +1,5 @@
 -- The lines of the system, of the date of the dump, and of the process.
-use Rattle.std.specs.Prelude.{ℕ, ◌==◌, ◌++◌, List, [], ◌∷◌, Option, Result, Ok, Err}
+use Rattle.std.specs.Prelude.{ℕ, ◌==◌, ◌++◌, List, [], ◌∷◌, Result, Ok, Err}
 use Rattle.std.specs.Prelude.{codes, if◌then◌else◌}
 use Rattle.std.specs.Fmt.{decimal}
 use Rattle.std.specs.List.{concat}
@@ -13,7 +13,7 @@ use Rattle.crash.specs.Crash.{CrashValue}
 use Rattle.crash.specs.Process.{ProcessFacts, SystemValue}
 use Rattle.crash.specs.Release.{ReleaseValue}
 use Rattle.crash_text.specs.Lines.{if_some}
-use Rattle.crash_text.specs.Words.{missing_lines, or_empty, unless_empty}
+use Rattle.crash_text.specs.Words.{missing_lines, or_empty, text_lines, unless_empty}
 
 -- the line of a system: its name, its version and its build, the processor, and how many there are
 unfoldable pub system_row : List ℕ → List ℕ → List ℕ → List ℕ → ℕ → List ℕ
@@ -26,19 +26,10 @@ abbrev pub known_system_row : SystemValue → List ℕ
 known_system_row s =
     system_row (os_name s.os) s.version (or_empty s.build) (cpu_name s.cpu) s.processors
 
--- the line of the description of a processor
-unfoldable pub processor_row : List ℕ → List ℕ
-processor_row model = concat (codes "processor " ∷ model ∷ [])
-
--- the line of the version of its microcode
-unfoldable pub microcode_row : List ℕ → List ℕ
-microcode_row version = concat (codes "microcode " ∷ version ∷ [])
-
--- the lines of a system
+-- the lines of a system, with the description of its processor and the version of the microcode
 abbrev pub known_system_lines : SystemValue → List (List ℕ)
 known_system_lines s = known_system_row s
-    ∷ (if_some (λ model. processor_row model ∷ []) s.cpu_model
-    ++ if_some (λ version. microcode_row version ∷ []) s.microcode)
+    ∷ (text_lines (codes "processor ") s.cpu_model ++ text_lines (codes "microcode ") s.microcode)
 
 -- the system, or that its information is missing
 abbrev pub system_lines : CrashValue → List (List ℕ)
@@ -58,13 +49,9 @@ abbrev pub release_lines : ReleaseValue → List (List ℕ)
 release_lines r = release_row (or_empty r.id) (or_empty r.release) (or_empty r.codename)
     (or_empty r.description) ∷ []
 
--- the line of the arguments with which macOS was booted
-unfoldable pub boot_row : List ℕ → List ℕ
-boot_row arguments = concat (codes "boot arguments " ∷ arguments ∷ [])
-
--- the same, where they are there
+-- the arguments with which macOS was booted, where they are there
 abbrev pub boot_lines : Result BootArgs Error → List (List ℕ)
-boot_lines (Ok b) = if_some (λ text. boot_row text ∷ []) b.text
+boot_lines (Ok b) = text_lines (codes "boot arguments ") b.text
 boot_lines (Err _) = []
 
 -- the line of the date of a time stamp
@@ -90,14 +77,6 @@ uptime_row seconds = concat (codes "uptime  " ∷ decimal seconds ∷ codes " s"
 -- how many bytes of it were in memory
 unfoldable pub resident_row : ℕ → List ℕ
 resident_row size = concat (codes "resident " ∷ decimal size ∷ codes " bytes" ∷ [])
-
--- the line of a text after its words
-unfoldable pub text_row : List ℕ → List ℕ → List ℕ
-text_row words text = concat (words ∷ text ∷ [])
-
--- the same, where there is a text
-abbrev pub text_lines : List ℕ → Option (List ℕ) → List (List ℕ)
-text_lines words text = if_some (λ text. text_row words text ∷ []) text
 
 -- the command line of the process, and the comments of the dump
 abbrev pub said_lines : ProcessFacts → List (List ℕ)

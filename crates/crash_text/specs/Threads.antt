@@ -19,7 +19,7 @@ use Rattle.crash_text.specs.declared.limits.TextLimits.{TextLimits}
 use Rattle.crash_text.specs.Frames.{printed_frames, walk_lines}
 use Rattle.crash_text.specs.Lines.{if_some}
 use Rattle.crash_text.specs.Registers.{short_row}
-use Rattle.crash_text.specs.Words.{missing_lines, or_empty, where_some}
+use Rattle.crash_text.specs.Words.{missing_lines, or_empty, text_lines, where_some}
 
 -- ---- a thread
 
@@ -32,10 +32,6 @@ remark false = codes ", not in the list of threads"
 unfoldable pub thread_row : ℕ → Option (List ℕ) → List ℕ → List ℕ
 thread_row id name words = concat (codes "thread " ∷ decimal id ∷ codes " (" ∷ hex id ∷ codes ")"
     ∷ where_some (codes " \"") name ∷ or_empty name ∷ where_some (codes "\"") name ∷ words ∷ [])
-
--- the line of its last error
-unfoldable pub error_row : List ℕ → List ℕ
-error_row error = concat (codes "    last error " ∷ error ∷ [])
 
 -- how much there is of the context of its registers, where that is cut
 abbrev pub short_lines : ContextValue → List (List ℕ)
@@ -81,7 +77,7 @@ found_lines limits c is_whole t None = no_walk_row c.process.system t.context_pr
 abbrev pub thread_lines : TextLimits → Option SymbolizedValue → CrashValue → Bool → ℕ → ThreadValue
     → List (List ℕ)
 thread_lines limits symbols c is_whole number t = thread_row t.id t.name (remark t.is_listed)
-    ∷ (if_some (λ error. error_row error ∷ []) t.last_error
+    ∷ (text_lines (codes "    last error ") t.last_error
     ++ (if_some short_lines t.context
     ++ ((if is_whole then stack_lines t else [])
     ++ found_lines limits c is_whole t (shown_in symbols number t))))

@@ -1,8 +1,10 @@
 -- Words of lines.
 use Rattle.std.specs.Prelude.{ℕ, List, [], ◌∷◌, Option, Some, None, Result, Ok, Err}
 use Rattle.std.specs.Prelude.{if◌then◌else◌, unwrap_or}
+use Rattle.std.specs.List.{concat}
 use Rattle.minidump.specs.declared.Error.{Error}
 use Rattle.crash.specs.Missing.{is_missing}
+use Rattle.crash_text.specs.Lines.{if_some}
 
 -- a text, or an empty one where there is none
 abbrev pub or_empty : Option (List ℕ) → List ℕ
@@ -17,6 +19,14 @@ unless_empty words (_ ∷ _) = words
 abbrev pub where_some : List ℕ → Option (List ℕ) → List ℕ
 where_some words (Some _) = words
 where_some words None = []
+
+-- the line of a text after its words
+unfoldable pub text_row : List ℕ → List ℕ → List ℕ
+text_row words text = concat (words ∷ text ∷ [])
+
+-- the same, where there is a text
+abbrev pub text_lines : List ℕ → Option (List ℕ) → List (List ℕ)
+text_lines words text = if_some (λ text. text_row words text ∷ []) text
 
 -- the line of an error if the error says that something is missing
 abbrev pub if_missing : List ℕ → Error → List (List ℕ)

@@ -1,13 +1,13 @@
-//! The line of the address of a crash.
+//! The line of an address.
 ghost use Rattle.std.specs.Prelude.{◌≡◌, ◌++◌, ◌∷◌, [], IfOk, OnOk, map, slice_get, string_bytes};
 ghost use Rattle.std.specs.Option.{option_and_then, option_copied, option_map};
 ghost use Rattle.crash.specs.Crash.{crash_of};
 ghost use Rattle.crash.specs.Modules.{unloaded_module_of};
 ghost use Rattle.crash.specs.Threads.{thread_value};
-ghost use Rattle.crash_text.specs.Addresses.{address_lines, address_row, address_words};
-ghost use Rattle.crash_text.specs.Addresses.{canonical_words, guard_words, memory_words, null_words};
-ghost use Rattle.crash_text.specs.Addresses.{path_words, right_letter, rights_words, thread_words};
-ghost use Rattle.crash_text.specs.Addresses.{unloaded_words};
+ghost use Rattle.crash_text.specs.Addresses.{address_line, address_lines, address_row};
+ghost use Rattle.crash_text.specs.Addresses.{address_words, canonical_words, guard_words};
+ghost use Rattle.crash_text.specs.Addresses.{memory_words, null_words, path_words, right_letter};
+ghost use Rattle.crash_text.specs.Addresses.{rights_words, thread_words, unloaded_words};
 ghost use Rattle.crash_text.specs.Lines.{Adds, if_some};
 
 use crate::lines::push_line;
@@ -17,45 +17,59 @@ use minidump::text::Piece::{Decimal, Hex, Words};
 use minidump::text::push_pieces;
 use std::alloc::{AllocError, Global};
 
-// Appends the line of the address, if it is known.
+// Appends the line of the address of the crash, if it is known.
 pub(crate) fn push_address(out: &mut String, crash: &Crash<'_>) -> Result<(), AllocError>
     ensures { Adds out.old out.new (if_some (address_lines (crash_of crash.now))
         (crash_of crash.now).cause.address) result }
 {
     match &crash.cause.address {
-        Some(facts) => push_facts(out, crash, facts),
+        Some(facts) => push_address_line(out, crash, "", "address", "", facts),
         None => Ok(()),
     }
 }
 
-// Appends the line of an address.
-fn push_facts(out: &mut String, crash: &Crash<'_>, facts: &AddressFacts) -> Result<(), AllocError>
-    ensures { Adds out.old out.new (address_lines (crash_of crash.now) facts.now) result }
+// Appends the line of an address after its name, with `nowhere` if no module has it.
+#[rattlefmt::skip]
+pub(crate) fn push_address_line(
+    out: &mut String,
+    crash: &Crash<'_>,
+    indent: &str,
+    name: &str,
+    nowhere: &str,
+    facts: &AddressFacts,
+) -> Result<(), AllocError>
+    ensures { Adds out.old out.new (address_line (crash_of crash.now) indent.now name.now
+        nowhere.now facts.now ∷ []) result }
 {
     let alloc = *out.allocator();
-    let place = place_text(alloc, crash.modules.loaded.as_slice(), "", facts.module)?;
+    let modules = crash.modules.loaded.as_slice();
+    let place = place_text(alloc, modules, nowhere, facts.module)?;
     let (unloaded, threads) = (&crash.modules.unloaded, &crash.threads.threads);
     let words = address_words(alloc, unloaded.as_slice(), threads.as_slice(), facts)?;
-    push_address_row(out, facts.address, place.as_str(), words.as_str())
+    push_row(out, indent, name, facts.address, place.as_str(), words.as_str())
 }
 
+#[rattlefmt::skip]
 #[tactic(auto, unfolding(crate::specs::Addresses::address_row))]
-fn push_address_row<'t>(
+fn push_row<'t>(
     out: &mut String,
+    indent: &'t str,
+    name: &'t str,
     address: u64,
     place: &'t str,
     words: &'t str,
 ) -> Result<(), AllocError>
-    ensures { Adds out.old out.new (address_row address place.now words.now ∷ []) result }
+    ensures { Adds out.old out.new
+        (address_row indent.now name.now address place.now words.now ∷ []) result }
 {
     push_line(
         out,
-        &[Words("address "), Hex(address), Words(place), Words(words)],
+        &[Words(indent), Words(name), Words(" "), Hex(address), Words(place), Words(words)],
     )
 }
 
 // Makes the words for what is known of an address.
-pub(crate) fn address_words(
+fn address_words(
     alloc: Global,
     unloaded: &[UnloadedModule],
     threads: &[CrashThread],

@@ -6,7 +6,7 @@ ghost use Rattle.crash.specs.Counting.{counted};
 ghost use Rattle.crash.specs.Crash.{crash_of};
 ghost use Rattle.crash_text.specs.Exceptions.{code_row, counted_lines};
 ghost use Rattle.crash_text.specs.Exceptions.{crash_lines, crashed_row, each_exception};
-ghost use Rattle.crash_text.specs.Exceptions.{exception_line, exception_row, none_lines, reason_row};
+ghost use Rattle.crash_text.specs.Exceptions.{exception_line, exception_row, none_lines};
 ghost use Rattle.crash_text.specs.Exceptions.{several_lines, several_row, unread_row};
 ghost use Rattle.crash_text.specs.Lines.{Adds, if_some};
 ghost use Rattle.crash_text.specs.Records.{record_text};
@@ -16,7 +16,7 @@ use crate::lines::push_line;
 use crate::point::push_point;
 use crate::records::record_text;
 use crate::registers::push_registers;
-use crate::words::{or_empty, push_words, unless_empty};
+use crate::words::{or_empty, push_text, push_words, unless_empty};
 use crash::{Crash, CrashCause, CrashException};
 use minidump::Error;
 use minidump::text::Piece::{Decimal, Hex, Words};
@@ -81,8 +81,9 @@ fn push_counted_lines(
 {
     push_crashed(out, exception.thread)?;
     push_address(out, crash)?;
-    push_reason(out, &exception.reason)?;
+    push_text(out, "reason  ", &exception.reason)?;
     push_code(out, exception)?;
+    push_text(out, "description ", &exception.description)?;
     push_registers(out, crash, exception)?;
     push_point(out, crash)
 }
@@ -96,17 +97,6 @@ fn push_crashed(out: &mut String, id: u32) -> Result<(), AllocError>
         out,
         &[Words("crashed thread "), Decimal(id as u64), Words(" ("), Hex(id as u64), Words(")")],
     )
-}
-
-#[tactic(auto, unfolding(crate::specs::Exceptions::reason_row))]
-fn push_reason(out: &mut String, reason: &Option<String>) -> Result<(), AllocError>
-    ensures { Adds out.old out.new (if_some (λ reason. reason_row reason ∷ [])
-        (option_map string_bytes reason.now)) result }
-{
-    match reason {
-        Some(reason) => push_line(out, &[Words("reason  "), Words(reason.as_str())]),
-        None => Ok(()),
-    }
 }
 
 // Appends the code of an exception, where it happened, and what else its record says.

@@ -9,10 +9,11 @@
 //!   parent, for how long it ran, how much of it was in memory, its command line, and the comments of
 //!   the dump;
 //! - of the exception that counts the thread, the address with its module, the reason, the code and
-//!   where it happened; the registers of the thread, four a row, how much of their context there is
-//!   if it is cut, and why the context of the exception isn't used; its flags and segments, its
-//!   instruction pointer, unless it is in a module and may be run, the bytes there, and the words at
-//!   its stack pointer; then all exceptions, if there are several;
+//!   where it happened, and the description by LLDB; the registers of the thread, four a row, how much
+//!   of their context there is if it is cut, and why the context of the exception isn't used; its
+//!   flags and segments, the flags that are set, the registers whose values lie in a module or a
+//!   stack, its instruction pointer, unless it is in a module and may be run, the bytes there, and the
+//!   words at its stack pointer; then all exceptions, if there are several;
 //! - what is there and can't be read, as `can't be read: ThreadListStream: StreamReadFailure`, the
 //!   modules for which their list can't be read, and how many entries of the directory have bytes
 //!   outside the file;
@@ -22,10 +23,10 @@
 //!   Mozilla's soft errors;
 //! - each other thread with its name, its last error and its first frame, or as the one that
 //!   crashed if all threads are asked for, or none crashed;
-//! - the number of modules; then each that a line before names, in the order of the list: its base
-//!   address, its path, its version unless that is 0.0.0.0, and what a symbol server needs: the name
-//!   and the identifier of its debug file and of its code file. Where all modules are asked for, the
-//!   address after each follows its base address, as `0x400000-0x410000`;
+//! - the number of modules; then each that a line before names, in the order of their addresses: its
+//!   base address, its path, its version unless that is 0.0.0.0, and what a symbol server needs: the
+//!   name and the identifier of its debug file and of its code file. Where all modules are asked for,
+//!   the address after each follows its base address, as `0x400000-0x410000`;
 //! - the numbers of unloaded modules, streams, regions of memory, maps and handles, with a line for
 //!   each kind of handles, and Linux's numbers of limits and of variables of the environment.
 //!

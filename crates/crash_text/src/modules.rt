@@ -1,20 +1,21 @@
-ghost use Rattle.std.specs.Prelude.{◌≡◌, [], ◌∷◌, ◌||◌, IfOk, None, Some, codes, false, get_or};
-ghost use Rattle.std.specs.Prelude.{if◌then◌else◌, map, string_bytes};
+ghost use Rattle.std.specs.Prelude.{◌≡◌, [], ◌∷◌, IfOk, None, Some, codes, false, get_or, map};
+ghost use Rattle.std.specs.Prelude.{string_bytes};
 ghost use Rattle.std.specs.Option.{option_copied, option_map};
 ghost use Rattle.crash.specs.Crash.{crash_of};
-ghost use Rattle.crash.specs.Modules.{loaded_of};
+ghost use Rattle.crash.specs.Modules.{loaded_of, modules_of};
 ghost use Rattle.crash_symbols.specs.Shown.{symbolized_of};
 ghost use Rattle.crash_text.specs.Lines.{Adds};
 ghost use Rattle.crash_text.specs.Modules.{HasMarks, address_place, all_modules, count_row};
 ghost use Rattle.crash_text.specs.Modules.{each_module, end_text, is_in, is_marked, key_text};
-ghost use Rattle.crash_text.specs.Modules.{module_line, module_row, modules_lines, named_modules};
+ghost use Rattle.crash_text.specs.Modules.{listed_lines, module_at, module_line, module_row};
+ghost use Rattle.crash_text.specs.Modules.{modules_lines, named_modules};
 ghost use Rattle.crash_text.specs.Modules.{state_text, symbols_text, version_text};
 
 use crate::limits::TextLimits;
 use crate::lines::push_line;
 use crate::threads::frames_in;
 use crate::words::push_if_missing;
-use crash::{AddressFacts, Crash, CrashFrame, CrashModule};
+use crash::{AddressFacts, Crash, CrashFrame, CrashModule, CrashModules};
 use crash_symbols::{SymbolState, Symbolized};
 use minidump::Error;
 use minidump::text::Piece::{Decimal, Hex, Words};
@@ -51,33 +52,35 @@ fn push_list(
     let alloc = *out.allocator();
     let threads = crash.threads.threads.as_slice();
     let frames = frames_in(alloc, limits, symbols, crash.threads.crashing, threads)?;
-    let modules = crash.modules.loaded.as_slice();
-    push_count(out, modules.len())?;
+    push_count(out, crash.modules.loaded.len())?;
     push_named(
         out,
         limits,
         symbols,
         crash.cause.address,
         frames.as_slice(),
-        modules,
+        &crash.modules,
     )
 }
 
 // Appends the lines of the modules that are listed, by the address of the crash and by frames.
+#[rattlefmt::skip]
 fn push_named(
     out: &mut String,
     limits: &TextLimits,
     symbols: Option<&Symbolized<'_, '_>>,
     address: Option<AddressFacts>,
     frames: &[CrashFrame],
-    modules: &[CrashModule],
+    modules: &CrashModules,
 ) -> Result<(), AllocError>
     ensures { Adds out.old out.new (named_modules limits.now
         (option_map symbolized_of (option_copied symbols.entry)) address frames.now
-        (map loaded_of modules.now)) result }
+        (modules_of modules.now)) result }
 {
-    let marks = marks_of(*out.allocator(), modules.len(), frames)?;
-    push_each(out, limits, symbols, address, marks.as_slice(), modules)?;
+    let loaded = modules.loaded.as_slice();
+    let marks = marks_of(*out.allocator(), loaded.len(), frames)?;
+    let indices = modules.by_address.as_slice();
+    push_each(out, limits, symbols, address, marks.as_slice(), loaded, indices)?;
     Ok(())
 }
 
@@ -103,7 +106,8 @@ fn push_count(out: &mut String, count: usize) -> Result<(), AllocError>
     push_line(out, &[Words("modules "), Decimal(count as u64)])
 }
 
-// Appends the lines of the modules that are listed, by the address of the crash and by marks.
+// Appends the lines of the modules of indices that are listed, by the address of the crash and by
+// marks.
 fn push_each(
     out: &mut String,
     limits: &TextLimits,
@@ -111,16 +115,35 @@ fn push_each(
     address: Option<AddressFacts>,
     marks: &[bool],
     modules: &[CrashModule],
+    indices: &[usize],
 ) -> Result<(), AllocError>
     ensures { Adds out.old out.new (each_module limits.now
         (option_map symbolized_of (option_copied symbols.entry)) (is_marked address marks.now)
-        (map loaded_of modules.now)) result }
+        (map loaded_of modules.now) indices.now) result }
 {
-    for (index, module) in modules.iter().enumerate() {
-        let words = symbols_text(symbols, index);
-        push_if_listed(out, limits, is_marked(address, marks, index), module, words)?;
+    for index in indices {
+        push_at(out, limits, symbols, address, marks, modules, *index)?;
     }
     Ok(())
+}
+
+// Appends the line of the module of an index, if it is listed.
+fn push_at(
+    out: &mut String,
+    limits: &TextLimits,
+    symbols: Option<&Symbolized<'_, '_>>,
+    address: Option<AddressFacts>,
+    marks: &[bool],
+    modules: &[CrashModule],
+    index: usize,
+) -> Result<(), AllocError>
+    ensures { Adds out.old out.new (module_at limits.now
+        (option_map symbolized_of (option_copied symbols.entry)) (is_marked address marks.now)
+        (map loaded_of modules.now) index) result }
+{
+    let is_named = is_marked(address, marks, index);
+    let words = symbols_text(symbols, index);
+    push_if_listed(out, limits, is_named, modules.get(index), words)
 }
 
 // Appends the line of a module, if all modules are asked for or other lines name it.
@@ -128,18 +151,16 @@ fn push_if_listed(
     out: &mut String,
     limits: &TextLimits,
     is_named: bool,
-    module: &CrashModule,
+    module: Option<&CrashModule>,
     symbols: &str,
 ) -> Result<(), AllocError>
-    ensures { Adds out.old out.new (if all_modules limits.now || is_named
-        then module_line (all_modules limits.now) (loaded_of module.now) symbols.now ∷ [] else [])
-        result }
+    ensures { Adds out.old out.new (listed_lines limits.now is_named
+        (option_map loaded_of (option_copied module.entry)) symbols.now) result }
 {
     let is_asked = all_modules(limits);
-    if is_asked || is_named {
-        push_module(out, is_asked, module, symbols)
-    } else {
-        Ok(())
+    match module {
+        Some(module) if is_asked || is_named => push_module(out, is_asked, module, symbols),
+        _ => Ok(()),
     }
 }
 

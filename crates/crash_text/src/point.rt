@@ -1,16 +1,18 @@
 //! The lines of where the thread that crashed stands.
 ghost use Rattle.std.specs.Prelude.{◌≡◌, ◌++◌, ◌∷◌, [], IfOk, OnOk, map, string_bytes};
-ghost use Rattle.std.specs.List.{flat_map};
+ghost use Rattle.std.specs.List.{flat_map, list_any};
+ghost use Rattle.crash.specs.Addresses.{is_placed};
 ghost use Rattle.crash.specs.Crash.{crash_of};
 ghost use Rattle.crash.specs.Modules.{loaded_of};
 ghost use Rattle.crash.specs.Point.{point_of};
 ghost use Rattle.crash_text.specs.Lines.{Adds};
 ghost use Rattle.crash_text.specs.Point.{byte_words, code_lines, code_row, flag_words, flags_row};
-ghost use Rattle.crash_text.specs.Point.{instruction_lines, instruction_row, is_ordinary};
-ghost use Rattle.crash_text.specs.Point.{known_point_lines, point_lines, word_line, word_row};
-ghost use Rattle.crash_text.specs.Point.{words_heading, words_lines};
+ghost use Rattle.crash_text.specs.Point.{instruction_lines, is_ordinary, known_point_lines};
+ghost use Rattle.crash_text.specs.Point.{memory_lines, placed_heading, placed_lines, point_lines};
+ghost use Rattle.crash_text.specs.Point.{processor_lines, registers_lines, set_lines, set_row};
+ghost use Rattle.crash_text.specs.Point.{set_words, word_line, word_row, words_heading, words_lines};
 
-use crate::addresses::address_words;
+use crate::addresses::push_address_line;
 use crate::lines::push_line;
 use crate::places::place_text;
 use crate::words::push_words;
@@ -38,7 +40,34 @@ fn push_known_point(
     ensures { Adds out.old out.new
         (known_point_lines (crash_of crash.now) (point_of point.now)) result }
 {
+    push_processor(out, crash, point)?;
+    push_memory(out, crash, point)
+}
+
+// Appends the lines of the flags and the registers of a thread.
+fn push_processor(
+    out: &mut String,
+    crash: &Crash<'_>,
+    point: &CrashPoint<'_>,
+) -> Result<(), AllocError>
+    ensures { Adds out.old out.new
+        (processor_lines (crash_of crash.now) (point_of point.now)) result }
+{
     push_flags(out, point.flags.as_slice())?;
+    push_set(out, point.set_flags.as_slice())?;
+    push_registers(out, crash, point.registers.as_slice())?;
+    Ok(())
+}
+
+// Appends the lines of the instruction pointer, the code and the words.
+fn push_memory(
+    out: &mut String,
+    crash: &Crash<'_>,
+    point: &CrashPoint<'_>,
+) -> Result<(), AllocError>
+    ensures { Adds out.old out.new
+        (memory_lines (crash_of crash.now) (point_of point.now)) result }
+{
     push_instruction(out, crash, &point.instruction)?;
     push_code(out, point.instruction.address, point.code)?;
     push_stack_words(out, crash.modules.loaded.as_slice(), point.words.as_slice())
@@ -75,6 +104,106 @@ fn push_flag(words: &mut String, name: &str, value: u64) -> Result<(), AllocErro
     push_pieces(words, &[Words("  "), Words(name), Words(" "), Hex(value)])
 }
 
+// Appends the line of the flags that are set, if there are any.
+fn push_set(out: &mut String, names: &[&'static str]) -> Result<(), AllocError>
+    ensures { Adds out.old out.new (set_lines (map (λ name. name.now) names.now)) result }
+{
+    match names {
+        [] => Ok(()),
+        _ => push_set_row(out, names),
+    }
+}
+
+#[tactic(auto, unfolding(crate::specs::Point::set_row))]
+fn push_set_row(out: &mut String, names: &[&'static str]) -> Result<(), AllocError>
+    ensures { Adds out.old out.new (set_row (map (λ name. name.now) names.now) ∷ []) result }
+{
+    let words = set_words(*out.allocator(), names)?;
+    push_line(out, &[Words("    flags set:"), Words(words.as_str())])
+}
+
+// Makes the words for flags that are set.
+fn set_words(alloc: Global, names: &[&'static str]) -> Result<String, AllocError>
+    ensures { IfOk result (λ words. string_bytes words
+        ≡ flat_map set_words (map (λ name. name.now) names.now)) }
+{
+    let mut words = String::new(alloc);
+    for name in names {
+        push_pieces(&mut words, &[Words(" "), Words(name)])?;
+    }
+    Ok(words)
+}
+
+// ---- the registers
+
+// Appends the registers whose values lie in a module or a stack, after a heading if there are any.
+#[tactic(auto, unfolding(crate::specs::Point::registers_lines))]
+fn push_registers(
+    out: &mut String,
+    crash: &Crash<'_>,
+    registers: &[(&'static str, AddressFacts)],
+) -> Result<(), AllocError>
+    ensures { Adds out.old out.new (registers_lines (crash_of crash.now)
+        (map (λ r. (r.0.now, r.1)) registers.now)) result }
+{
+    push_placed_heading(out, registers)?;
+    push_each_placed(out, crash, registers)
+}
+
+// Appends the heading of registers, if the value of one lies in a module or a stack.
+fn push_placed_heading(
+    out: &mut String,
+    registers: &[(&'static str, AddressFacts)],
+) -> Result<(), AllocError>
+    ensures { Adds out.old out.new
+        (placed_heading (map (λ r. (r.0.now, r.1)) registers.now)) result }
+{
+    if has_placed(registers) {
+        push_words(out, "registers in a module or a stack")
+    } else {
+        Ok(())
+    }
+}
+
+// Tells whether the value of one of registers lies in a module or a stack.
+fn has_placed(registers: &[(&'static str, AddressFacts)]) -> bool
+    ensures { result ≡ list_any (λ r. is_placed r.1) registers.now }
+{
+    registers.iter().any(|register| register.1.is_placed())
+}
+
+// Appends the lines of those registers.
+fn push_each_placed(
+    out: &mut String,
+    crash: &Crash<'_>,
+    registers: &[(&'static str, AddressFacts)],
+) -> Result<(), AllocError>
+    ensures { Adds out.old out.new (flat_map (placed_lines (crash_of crash.now))
+        (map (λ r. (r.0.now, r.1)) registers.now)) result }
+{
+    for register in registers {
+        push_if_placed(out, crash, register.0, &register.1)?;
+    }
+    Ok(())
+}
+
+// Appends the line of a register, if its value lies in a module or a stack.
+fn push_if_placed(
+    out: &mut String,
+    crash: &Crash<'_>,
+    name: &str,
+    facts: &AddressFacts,
+) -> Result<(), AllocError>
+    ensures { Adds out.old out.new
+        (placed_lines (crash_of crash.now) (name.now, facts.now)) result }
+{
+    if facts.is_placed() {
+        push_address_line(out, crash, "    ", name, "", facts)
+    } else {
+        Ok(())
+    }
+}
+
 // ---- the instruction pointer
 
 // Appends the line of an instruction pointer, unless it is ordinary.
@@ -86,14 +215,10 @@ fn push_instruction(
     ensures { Adds out.old out.new (instruction_lines (crash_of crash.now) facts.now) result }
 {
     if is_ordinary(facts) {
-        return Ok(());
+        Ok(())
+    } else {
+        push_address_line(out, crash, "", "instruction", " in no module", facts)
     }
-    let alloc = *out.allocator();
-    let modules = crash.modules.loaded.as_slice();
-    let place = place_text(alloc, modules, " in no module", facts.module)?;
-    let (unloaded, threads) = (&crash.modules.unloaded, &crash.threads.threads);
-    let words = address_words(alloc, unloaded.as_slice(), threads.as_slice(), facts)?;
-    push_instruction_row(out, facts.address, place.as_str(), words.as_str())
 }
 
 // Tells whether an address is ordinary for code.
@@ -105,26 +230,6 @@ fn is_ordinary(facts: &AddressFacts) -> bool
         (Some(_), None) => true,
         (None, _) => false,
     }
-}
-
-#[tactic(auto, unfolding(crate::specs::Point::instruction_row))]
-fn push_instruction_row<'t>(
-    out: &mut String,
-    address: u64,
-    place: &'t str,
-    words: &'t str,
-) -> Result<(), AllocError>
-    ensures { Adds out.old out.new (instruction_row address place.now words.now ∷ []) result }
-{
-    push_line(
-        out,
-        &[
-            Words("instruction "),
-            Hex(address),
-            Words(place),
-            Words(words),
-        ],
-    )
 }
 
 // ---- the code

@@ -6,16 +6,15 @@ ghost use Rattle.crash.specs.Crash.{crash_of};
 ghost use Rattle.crash.specs.Process.{process_of, system_of};
 ghost use Rattle.crash.specs.Release.{release_of};
 ghost use Rattle.crash_text.specs.Lines.{Adds, if_some};
-ghost use Rattle.crash_text.specs.System.{boot_lines, boot_row, date_lines, date_row, head_lines};
-ghost use Rattle.crash_text.specs.System.{id_row, known_system_lines, known_system_row};
-ghost use Rattle.crash_text.specs.System.{microcode_row, number_lines, parent_row, process_lines};
-ghost use Rattle.crash_text.specs.System.{processor_row, release_lines, release_row, resident_row};
-ghost use Rattle.crash_text.specs.System.{said_lines, system_lines, system_row, text_lines};
+ghost use Rattle.crash_text.specs.System.{boot_lines, date_lines, date_row, head_lines, id_row};
+ghost use Rattle.crash_text.specs.System.{known_system_lines, known_system_row, number_lines};
+ghost use Rattle.crash_text.specs.System.{parent_row, process_lines, release_lines, release_row};
+ghost use Rattle.crash_text.specs.System.{resident_row, said_lines, system_lines, system_row};
 ghost use Rattle.crash_text.specs.System.{uptime_row};
 ghost use Rattle.crash_text.specs.Words.{missing_lines};
 
 use crate::lines::push_line;
-use crate::words::{or_empty, push_if_missing, unless_empty};
+use crate::words::{or_empty, push_if_missing, push_text, unless_empty};
 use crash::{Crash, CrashProcess, CrashSystem, LsbRelease};
 use minidump::text::Piece::{Decimal, Hex, Words};
 use minidump::{Error, MinidumpMacBootargs, MinidumpSystemInfo, date_text};
@@ -70,8 +69,8 @@ fn push_system_lines(out: &mut String, system: &CrashSystem) -> Result<(), Alloc
     ensures { Adds out.old out.new (known_system_lines (system_of system.now)) result }
 {
     push_system_row(out, system)?;
-    push_processor(out, &system.cpu_model)?;
-    push_microcode(out, &system.microcode)
+    push_text(out, "processor ", &system.cpu_model)?;
+    push_text(out, "microcode ", &system.microcode)
 }
 
 // Appends the line of a system.
@@ -108,30 +107,6 @@ fn push_row<'t>(
             Words(unless_empty(" ", build)), Words(build), Words(" on "), Words(cpu),
             Words(", processors: "), Decimal(system.processors as u64)],
     )
-}
-
-// Appends the description of the processor, if there is one.
-#[tactic(auto, unfolding(crate::specs::System::processor_row))]
-fn push_processor(out: &mut String, model: &Option<String>) -> Result<(), AllocError>
-    ensures { Adds out.old out.new (if_some (λ model. processor_row model ∷ [])
-        (option_map string_bytes model.now)) result }
-{
-    match model {
-        Some(model) => push_line(out, &[Words("processor "), Words(model.as_str())]),
-        None => Ok(()),
-    }
-}
-
-// Appends the version of the processor's microcode, if it is known.
-#[tactic(auto, unfolding(crate::specs::System::microcode_row))]
-fn push_microcode(out: &mut String, version: &Option<String>) -> Result<(), AllocError>
-    ensures { Adds out.old out.new (if_some (λ version. microcode_row version ∷ [])
-        (option_map string_bytes version.now)) result }
-{
-    match version {
-        Some(version) => push_line(out, &[Words("microcode "), Words(version.as_str())]),
-        None => Ok(()),
-    }
 }
 
 // Appends the release of Linux, if it is there.
@@ -180,27 +155,9 @@ fn push_boot(
         (boot_lines (map_ok mac_bootargs_stream.value arguments.now)) result }
 {
     match arguments {
-        Ok(arguments) => push_arguments(out, &arguments.bootargs),
+        Ok(arguments) => push_text(out, "boot arguments ", &arguments.bootargs),
         Err(_) => Ok(()),
     }
-}
-
-// Appends the arguments, if there are some.
-fn push_arguments(out: &mut String, arguments: &Option<String>) -> Result<(), AllocError>
-    ensures { Adds out.old out.new
-        (if_some (λ text. boot_row text ∷ []) (option_map string_bytes arguments.now)) result }
-{
-    match arguments {
-        Some(text) => push_boot_row(out, text.as_str()),
-        None => Ok(()),
-    }
-}
-
-#[tactic(auto, unfolding(crate::specs::System::boot_row))]
-fn push_boot_row(out: &mut String, arguments: &str) -> Result<(), AllocError>
-    ensures { Adds out.old out.new (boot_row arguments.now ∷ []) result }
-{
-    push_line(out, &[Words("boot arguments "), Words(arguments)])
 }
 
 // Appends the date of the dump, by the time stamp of its header.
@@ -242,18 +199,6 @@ fn push_said(out: &mut String, process: &CrashProcess) -> Result<(), AllocError>
     push_text(out, "command ", &process.command_line)?;
     push_text(out, "comment ", &process.comments.narrow)?;
     push_text(out, "comment ", &process.comments.wide)
-}
-
-// Appends the line of a text after its words, if there is a text.
-#[tactic(auto, unfolding(crate::specs::System::text_row))]
-fn push_text(out: &mut String, words: &str, text: &Option<String>) -> Result<(), AllocError>
-    ensures { Adds out.old out.new
-        (text_lines words.now (option_map string_bytes text.now)) result }
-{
-    match text {
-        Some(text) => push_line(out, &[Words(words), Words(text.as_str())]),
-        None => Ok(()),
-    }
 }
 
 #[rattlefmt::skip]

@@ -9,7 +9,7 @@ ghost use Rattle.crash.specs.Process.{system_of};
 ghost use Rattle.crash.specs.Threads.{thread_value};
 ghost use Rattle.crash_symbols.specs.Shown.{shown_in, shown_of, symbolized_of};
 ghost use Rattle.crash_text.specs.Lines.{Adds, if_some};
-ghost use Rattle.crash_text.specs.Threads.{crashed_lines, crashed_thread, each_other, error_row};
+ghost use Rattle.crash_text.specs.Threads.{crashed_lines, crashed_thread, each_other};
 ghost use Rattle.crash_text.specs.Threads.{found_lines, indexed_lines};
 ghost use Rattle.crash_text.specs.Threads.{frames_at, frames_in, frames_of, is_index, is_range};
 ghost use Rattle.crash_text.specs.Threads.{memory_lines, no_walk_row, other_lines, others_lines};
@@ -22,7 +22,7 @@ use crate::frames::{push_frames_of, push_walk};
 use crate::limits::TextLimits;
 use crate::lines::push_line;
 use crate::registers::push_short;
-use crate::words::{or_empty, push_if_missing, push_words, where_some};
+use crate::words::{or_empty, push_if_missing, push_text, push_words, where_some};
 use crash::{
     ContextProblem, Crash, CrashContext, CrashFrame, CrashSystem, CrashThread, StackRange,
 };
@@ -185,7 +185,7 @@ fn push_thread(
 {
     let walk = shown_walk(*out.allocator(), thread, number, symbols)?;
     push_row(out, thread.id, &thread.name, remark(thread.is_listed))?;
-    push_error(out, &thread.last_error)?;
+    push_text(out, "    last error ", &thread.last_error)?;
     push_if_short(out, &thread.context)?;
     push_stack_if(out, is_whole, thread)?;
     push_found(out, crash, limits, is_whole, thread, &walk)
@@ -219,24 +219,6 @@ fn push_row<'x>(
             Words(where_some(" \"", name)), Words(or_empty(name)), Words(where_some("\"", name)),
             Words(words)],
     )
-}
-
-// Appends the last error of a thread, if it has one.
-fn push_error(out: &mut String, error: &Option<String>) -> Result<(), AllocError>
-    ensures { Adds out.old out.new (if_some (λ error. error_row error ∷ [])
-        (option_map string_bytes error.now)) result }
-{
-    match error {
-        Some(error) => push_error_row(out, error.as_str()),
-        None => Ok(()),
-    }
-}
-
-#[tactic(auto, unfolding(crate::specs::Threads::error_row))]
-fn push_error_row(out: &mut String, error: &str) -> Result<(), AllocError>
-    ensures { Adds out.old out.new (error_row error.now ∷ []) result }
-{
-    push_line(out, &[Words("    last error "), Words(error)])
 }
 
 // Appends how much there is of the context of a thread's registers, if that is cut.

@@ -2,7 +2,7 @@
 ghost use Rattle.std.specs.Prelude.{◌≡◌, [], ◌∷◌, string_bytes};
 ghost use Rattle.std.specs.Option.{option_map};
 ghost use Rattle.crash_text.specs.Lines.{Adds};
-ghost use Rattle.crash_text.specs.Words.{if_missing, or_empty, unless_empty, where_some};
+ghost use Rattle.crash_text.specs.Words.{if_missing, or_empty, text_lines, unless_empty, where_some};
 
 use crate::lines::push_line;
 use crash::is_missing;
@@ -37,6 +37,22 @@ pub(crate) fn where_some<'t>(words: &'t str, text: &Option<String>) -> &'t str
     match text {
         Some(_) => words,
         None => "",
+    }
+}
+
+// Appends the line of a text after its words, if there is a text.
+#[tactic(auto, unfolding(crate::specs::Words::text_row))]
+pub(crate) fn push_text(
+    out: &mut String,
+    words: &str,
+    text: &Option<String>,
+) -> Result<(), AllocError>
+    ensures { Adds out.old out.new
+        (text_lines words.now (option_map string_bytes text.now)) result }
+{
+    match text {
+        Some(text) => push_line(out, &[Words(words), Words(text.as_str())]),
+        None => Ok(()),
     }
 }
 

@@ -12,4 +12,4 @@ abbrev pub invariant-loop-index : goal.invariant-loop-index
 invariant-loop-index l =
     string_bytes l.out
     ≡ string_bytes l.fn.out
-    ++ flat_map line_of (each_module l.limits (option_map symbolized_of (option_copied l.symbols)) (is_marked l.address l.marks) (map loaded_of (take l.index l.modules)))
+    ++ flat_map line_of (each_module l.limits (option_map symbolized_of (option_copied l.symbols)) (is_marked l.address l.marks) (map loaded_of l.modules) (take l.index-index l.indices))
