@@ -30,7 +30,7 @@ use Rattle.crash.specs.declared.stacks.StackRange.{StackRange}
 use Rattle.crash.specs.declared.unreadable_modules.UnreadableModule.{UnreadableModule}
 use Rattle.crash.specs.Cause.{ExceptionValue}
 use Rattle.crash.specs.Contexts.{ContextValue}
-use Rattle.crash.specs.Crash.{CrashValue}
+use Rattle.crash.specs.Crash.{CrashValue, status_of}
 use Rattle.crash.specs.HandleKinds.{KindValue}
 use Rattle.crash.specs.Linux.{LimitValue, limits_in}
 use Rattle.crash.specs.Modules.{LoadedValue, UnloadedModuleValue}
@@ -44,19 +44,20 @@ use Rattle.crash_symbols.specs.Shown.{SymbolizedValue}
 use Rattle.json_tree.specs.Tree.{array_of, count, hex_string, members_of, object_of, or_null}
 use Rattle.json_tree.proofs.Depth.{array_within, flat_count, flat_hex, flat_text, numbered_array_within, or_null_within}
 use Rattle.crash_json.specs.declared.JsonLimits.{JsonLimits}
-use Rattle.crash_json.specs.Cause.{address_json, address_object, crash_info_json, crash_object, exception_json, exception_object, exceptions_json, memory_json, memory_object, sender_json, sender_object, unread_object}
+use Rattle.crash_json.specs.Cause.{address_json, address_object, crash_info_json, crash_object, exception_json, exception_object, memory_json, memory_object, sender_json, sender_object, unread_object}
 use Rattle.crash_json.specs.Crashpad.{annotation_json, annotations_json, crashpad_json, crashpad_module_json, crashpad_modules_json, objects_json, texts_json}
 use Rattle.crash_json.specs.Frames.{frame_json, frame_object, inline_json, inline_object, inlines_json, name_members, name_object, place_members, register_members, registers_json}
 use Rattle.crash_json.specs.Linux.{environment_json, limit_json, limit_list_json, limits_json, proc_limits_json, variable_json, variables_json}
-use Rattle.crash_json.specs.Minidump.{all_damage_json, damage_json, damage_object, minidump_json, minidump_object, region_object, region_json, regions_json, stream_json, stream_object, streams_json}
-use Rattle.crash_json.specs.Modules.{all_unloaded_json, all_unreadable_json, main_module, module_json, module_object, modules_json, state_object, symbol_members, unloaded_json, unreadable_json, unreadable_object}
-use Rattle.crash_json.specs.Point.{code_json, flags_json, point_json, word_json, word_object, words_json}
-use Rattle.crash_json.specs.Records.{assertion_json, assertion_object, handle_json, handle_object, handles_json, kind_json, kinds_json, mac_crash_json, mac_members, mac_object, mac_record_json}
+use Rattle.crash_json.specs.Minidump.{crash_part, damage_json, damage_object, file_part, minidump_json, process_part, region_object, region_json, stream_json, stream_object, unless_zero}
+use Rattle.crash_json.specs.Modules.{main_module, module_json, module_object, modules_json, state_object, symbol_members, unloaded_json, unreadable_json, unreadable_object}
+use Rattle.crash_json.specs.Point.{flags_json, placed_json, point_json, register_json, word_json, word_object}
+use Rattle.crash_json.specs.Records.{assertion_json, assertion_object, handle_json, handle_object, handles_json, kind_json, mac_crash_json, mac_members, mac_object, mac_record_json}
 use Rattle.crash_json.specs.Report.{all_members, crash_members, error_json, json_of, path_members, process_members, process_object, record_members, record_object}
 use Rattle.crash_json.specs.Report as report
+use Rattle.crash_json.specs.Signature.{signature_in}
 use Rattle.crash_json.specs.SoftErrors.{soft_depth, soft_json}
 use Rattle.crash_json.specs.System.{release_json, system_json, system_object}
-use Rattle.crash_json.specs.Threads.{crashing_json, indexed_crashed, indexed_json, range_json, short_json, thread_json, thread_members, thread_object, threads_json}
+use Rattle.crash_json.specs.Threads.{crashing_json, indexed_crashed, indexed_json, range_json, registers_of, short_json, thread_json, thread_members, thread_object, threads_json}
 
 -- ---- members
 
@@ -111,16 +112,14 @@ unloaded_depth : (m : UnloadedModuleValue) → depth (unloaded_json m) ≤ 1
 unfolding unloaded_json
 unloaded_depth m = omega (arith, flat_hex m.end, flat_text m.code_id)
 
-all_unloaded_depth : (ms : List UnloadedModuleValue) → depth (all_unloaded_json ms) ≤ 2
-unfolding all_unloaded_json
+all_unloaded_depth : (ms : List UnloadedModuleValue) → depth (array_of unloaded_json ms) ≤ 2
 all_unloaded_depth ms = array_within unloaded_json 1 ms unloaded_depth
 
 unreadable_object_depth : (m : UnreadableModule) (part : List ℕ) → depth (unreadable_object m part) ≤ 1
 unfolding unreadable_object
 unreadable_object_depth m part = omega arith
 
-all_unreadable_depth : (ms : List UnreadableModule) → depth (all_unreadable_json ms) ≤ 2
-unfolding all_unreadable_json
+all_unreadable_depth : (ms : List UnreadableModule) → depth (array_of unreadable_json ms) ≤ 2
 all_unreadable_depth ms = array_within unreadable_json 1 ms (λ m. unreadable_object_depth m _)
 
 -- ---- threads
@@ -223,8 +222,7 @@ kind_depth : (k : KindValue) → depth (kind_json k) ≤ 1
 unfolding kind_json
 kind_depth k = omega arith
 
-kinds_depth : (ks : List KindValue) → depth (kinds_json ks) ≤ 2
-unfolding kinds_json
+kinds_depth : (ks : List KindValue) → depth (array_of kind_json ks) ≤ 2
 kinds_depth ks = array_within kind_json 1 ks kind_depth
 
 mac_object_depth : (thread dialog_mode abort_cause : Option ℕ) (module_path message signature backtrace message2 : Option (List ℕ))
@@ -323,6 +321,7 @@ exception_object_depth e parameters access problem =
       or_null_within sender_json 1 e.sender (λ s. sender_object_depth _ _ _),
       flat_hex e.address,
       flat_text e.reason,
+      flat_text e.description,
       flat_text problem,
     )
 
@@ -334,15 +333,14 @@ exception_depth : (e : Result ExceptionValue Error) → depth (exception_json e)
 exception_depth (Ok e) = exception_object_depth e _ _ _
 exception_depth (Err e) = omega (arith, unread_object_depth (name_of_error e))
 
-exceptions_depth : (es : List (Result ExceptionValue Error)) → depth (exceptions_json es) ≤ 3
-unfolding exceptions_json
+exceptions_depth : (es : List (Result ExceptionValue Error)) → depth (array_of exception_json es) ≤ 3
 exceptions_depth es = array_within exception_json 2 es exception_depth
 
 memory_object_depth : (state : List ℕ) (m : AddressMemory) → depth (memory_object state m) ≤ 1
 unfolding memory_object
 memory_object_depth state m = omega arith
 
-address_object_depth : (a : AddressFacts) (index offset : Option ℕ) → depth (address_object a index offset) ≤ 2
+address_object_depth : (a : AddressFacts) (index offset : Option ℕ) → members_depth (members_of (address_object a index offset)) ≤ 1
 unfolding address_object
 address_object_depth a index offset =
     omega (
@@ -356,20 +354,21 @@ address_object_depth a index offset =
       or_null_within memory_json 1 a.memory (λ m. memory_object_depth _ m),
     )
 
+address_depth : (a : AddressFacts) → depth (address_json a) ≤ 2
+address_depth a = omega (arith, address_object_depth a (option_map (λ p. p.0) a.module) (option_map (λ p. p.1) a.module))
+
 stream_object_depth : (number : ℕ) (name : Option (List ℕ)) (size rva : ℕ) (error : Option (List ℕ)) → depth (stream_object number name size rva error) ≤ 1
 unfolding stream_object
 stream_object_depth number name size rva error = omega (arith, flat_text name, flat_text error)
 
-streams_depth : (es : List StreamEntry) → depth (streams_json es) ≤ 2
-unfolding streams_json
+streams_depth : (es : List StreamEntry) → depth (array_of stream_json es) ≤ 2
 streams_depth es = array_within stream_json 1 es (λ e. stream_object_depth _ _ _ _ _)
 
 region_object_depth : (base size : ℕ) → depth (region_object base size) ≤ 1
 unfolding region_object
 region_object_depth base size = omega arith
 
-regions_depth : (rs : List UnifiedRegion) → depth (regions_json rs) ≤ 2
-unfolding regions_json
+regions_depth : (rs : List UnifiedRegion) → depth (array_of region_json rs) ≤ 2
 regions_depth rs = array_within region_json 1 rs (λ r. region_object_depth _ _)
 
 damage_object_depth : (what : List ℕ) (number thread : Option ℕ) (error : Option (List ℕ)) → depth (damage_object what number thread error) ≤ 1
@@ -383,35 +382,39 @@ damage_depth (ExceptionContext id) = damage_object_depth _ _ _ _
 damage_depth (ThreadContext id) = damage_object_depth _ _ _ _
 damage_depth (Stack id) = damage_object_depth _ _ _ _
 
-all_damage_depth : (ds : List Damage) → depth (all_damage_json ds) ≤ 2
-unfolding all_damage_json
+all_damage_depth : (ds : List Damage) → depth (array_of damage_json ds) ≤ 2
 all_damage_depth ds = array_within damage_json 1 ds damage_depth
 
 word_object_depth : (w : StackWord) (index offset : Option ℕ) → depth (word_object w index offset) ≤ 1
 unfolding word_object
 word_object_depth w index offset = omega (arith, flat_count index, flat_hex offset)
 
-words_depth : (ws : List StackWord) → depth (words_json ws) ≤ 2
-unfolding words_json
-words_depth ws = array_within word_json 1 ws (λ w. word_object_depth w _ _)
+register_depth : (r : List ℕ × AddressFacts) → depth (register_json r) ≤ 2
+register_depth r = omega (arith, address_object_depth r.1 (option_map (λ p. p.0) r.1.module) (option_map (λ p. p.1) r.1.module))
 
-code_depth : (bytes : List ℕ) → depth (code_json bytes) ≤ 1
-unfolding code_json
-code_depth bytes = array_within count 0 bytes (λ b. omega arith)
+placed_depth : (rs : List (List ℕ × AddressFacts)) → depth (placed_json rs) ≤ 3
+placed_depth rs = array_within register_json 2 _ register_depth
 
 flags_depth : (flags : List (List ℕ × ℕ)) → depth (flags_json flags) ≤ 1
 flags_depth flags = omega (arith, fields_within flags)
 
-point_depth : (p : PointValue) → depth (point_json p) ≤ 3
+point_depth : (p : PointValue) → depth (point_json p) ≤ 4
 unfolding point_json
 point_depth p =
-    let instruction : depth (address_json p.instruction) ≤ 2 = address_object_depth p.instruction _ _ in
-    omega (arith, instruction, code_depth p.code, words_depth p.words, flags_depth p.flags)
+    omega (
+      arith,
+      address_depth p.instruction,
+      array_within count 0 p.code (λ b. omega arith),
+      array_within word_json 1 p.words (λ w. word_object_depth w _ _),
+      placed_depth p.registers,
+      flags_depth p.flags,
+      array_within string 0 p.set_flags (λ t. omega arith),
+    )
 
-minidump_object_depth : (environment : Bool) (c : CrashValue) (written parent : Option ℕ) (status : ℕ) (origin signature : Option (List ℕ))
-    → depth (minidump_object environment c written parent status origin signature) ≤ 6
-unfolding minidump_object
-minidump_object_depth environment c written parent status origin signature =
+process_part_depth : (environment : Bool) (c : CrashValue) (written parent : Option ℕ)
+    → members_depth (members_of (process_part environment c written parent)) ≤ 5
+unfolding process_part
+process_part_depth environment c written parent =
     omega (
       arith,
       flat_count written,
@@ -422,23 +425,42 @@ minidump_object_depth environment c written parent status origin signature =
       environment_depth environment c.contents.process.environ,
       flat_text c.process.comments.narrow,
       flat_text c.process.comments.wide,
+    )
+
+file_part_depth : (c : CrashValue) (status : ℕ) → members_depth (members_of (file_part c status)) ≤ 5
+unfolding file_part
+file_part_depth c status =
+    omega (
+      arith,
       streams_depth c.directory.entries,
       regions_depth (unified_regions c.contents.space.memory),
       all_damage_depth c.damage,
       all_unreadable_depth c.modules.unreadable,
-      kinds_depth c.process.handle_kinds,
-      or_null_within address_json 2 c.cause.address (λ a. address_object_depth a _ _),
-      or_null_within point_json 3 c.point point_depth,
+    )
+
+crash_part_depth : (c : CrashValue) (signature origin : Option (List ℕ)) → members_depth (members_of (crash_part c signature origin)) ≤ 5
+unfolding crash_part
+crash_part_depth c signature origin =
+    omega (
+      arith,
+      or_null_within address_json 2 c.cause.address address_depth,
+      or_null_within point_json 4 c.point point_depth,
       exceptions_depth c.cause.exceptions,
       flat_count c.cause.counts,
       flat_text signature,
       flat_text origin,
+      kinds_depth c.process.handle_kinds,
       or_null_within assertion_json 1 (result_ok c.contents.messages.assertion) (λ a. assertion_object_depth _ _ _ _ _),
       or_null_within crashpad_json 5 (result_ok c.contents.messages.crashpad) crashpad_depth,
     )
 
 minidump_depth : (environment : Bool) (symbols : Option SymbolizedValue) (c : CrashValue) → depth (minidump_json environment symbols c) ≤ 6
-minidump_depth environment symbols c = minidump_object_depth environment c _ _ _ _ _
+minidump_depth environment symbols c =
+    let process = process_part environment c (unless_zero c.directory.written) c.process.parent in
+    let file = file_part c (status_of (Ok c)) in
+    let crash = crash_part c (signature_in symbols c) (registers_of c.threads) in
+    let rest = both_within file crash 5 (file_part_depth c (status_of (Ok c))) (crash_part_depth c (signature_in symbols c) (registers_of c.threads)) in
+    omega (arith, both_within process (file ++ crash) 5 (process_part_depth environment c (unless_zero c.directory.written) c.process.parent) rest)
 
 -- ---- the soft errors
 

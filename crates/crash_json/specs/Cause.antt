@@ -88,6 +88,7 @@ exception_object e parameters access problem = object_of (
     ∷ (codes "sender", or_null sender_json e.sender)
     ∷ (codes "address", or_null hex_string e.address)
     ∷ (codes "type", or_null string e.reason)
+    ∷ (codes "description", or_null string e.description)
     ∷ (codes "context_problem", or_null string problem)
     ∷ (codes "error", null)
     ∷ [])
@@ -105,6 +106,7 @@ unread_object error = object_of (
     ∷ (codes "sender", null)
     ∷ (codes "address", null)
     ∷ (codes "type", null)
+    ∷ (codes "description", null)
     ∷ (codes "context_problem", null)
     ∷ (codes "error", string error)
     ∷ [])
@@ -114,10 +116,6 @@ abbrev pub exception_json : Result ExceptionValue Error → Json
 exception_json (Ok e) = exception_object e e.parameters (option_map access_name e.access)
     (option_map problem_name e.context_problem)
 exception_json (Err error) = unread_object (name_of_error error)
-
--- the exceptions
-unfoldable pub exceptions_json : List (Result ExceptionValue Error) → Json
-exceptions_json exceptions = array_of exception_json exceptions
 
 -- ---- the address
 
@@ -142,8 +140,8 @@ abbrev pub memory_json : AddressMemory → Json
 memory_json m = memory_object (state_name m.state) m
 
 -- an address by the index of its module and the offset in that
-unfoldable pub address_object : AddressFacts → Option ℕ → Option ℕ → Json
-address_object a index offset = object_of (
+unfoldable pub address_object : AddressFacts → Option ℕ → Option ℕ → List (List ℕ × Json)
+address_object a index offset =
     (codes "address", hex_string a.address)
     ∷ (codes "null_offset", or_null hex_string a.null_offset)
     ∷ (codes "is_canonical", boolean a.is_canonical)
@@ -153,9 +151,13 @@ address_object a index offset = object_of (
     ∷ (codes "stack_of", or_null count a.stack_of)
     ∷ (codes "below_stack", or_null count a.below_stack)
     ∷ (codes "memory", or_null memory_json a.memory)
-    ∷ [])
+    ∷ []
+
+-- what is known of an address, as members
+abbrev pub address_members : AddressFacts → List (List ℕ × Json)
+address_members a =
+    address_object a (option_map (λ p. p.0) a.module) (option_map (λ p. p.1) a.module)
 
 -- what is known of an address
 abbrev pub address_json : AddressFacts → Json
-address_json a =
-    address_object a (option_map (λ p. p.0) a.module) (option_map (λ p. p.1) a.module)
+address_json a = object_of (address_members a)

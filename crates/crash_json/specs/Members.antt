@@ -2,7 +2,7 @@
 use Rattle.std.specs.Prelude.{map, string_bytes}
 use Rattle.std.specs.Option.{option_copied, option_map}
 use Rattle.std.specs.Result.{result_ok}
-use Rattle.json.specs.Json.{Json}
+use Rattle.json.specs.Json.{Json, string}
 use Rattle.minidump.specs.Below.MemoryLists.Unified.{unified_regions}
 use Rattle.minidump.specs.Below.Records.Annotations.{annotation_of}
 use Rattle.minidump.specs.Below.Records.Crashpad.{module_of}
@@ -14,7 +14,7 @@ use Rattle.crash.specs.Linux.{limit_of}
 use Rattle.crash.specs.Modules.{loaded_of}
 use Rattle.crash_symbols.specs.NameParts.{call_of}
 use Rattle.crash_symbols.specs.Shown.{shown_frame_of, symbolized_of}
-use Rattle.json_tree.specs.Tree.{array_of, hex_string, numbered_array_of, or_null, scalar_json}
+use Rattle.json_tree.specs.Tree.{array_of, count, hex_string, numbered_array_of, or_null, scalar_json}
 use Rattle.crash_json.specs.declared.cause.AddressMember.{AddressMember}
 use Rattle.crash_json.specs.declared.cause.AddressMember.TheVariants as address
 use Rattle.crash_json.specs.declared.cause.ExceptionMember.{ExceptionMember}
@@ -37,16 +37,16 @@ use Rattle.crash_json.specs.declared.report.ReportMember.{ReportMember}
 use Rattle.crash_json.specs.declared.report.ReportMember.TheVariants as report
 use Rattle.crash_json.specs.declared.threads.ThreadMember.{ThreadMember}
 use Rattle.crash_json.specs.declared.threads.ThreadMember.TheVariants as thread
-use Rattle.crash_json.specs.Cause.{address_json, crash_info_json, exceptions_json, memory_json}
+use Rattle.crash_json.specs.Cause.{address_json, crash_info_json, exception_json, memory_json}
 use Rattle.crash_json.specs.Cause.{sender_json}
 use Rattle.crash_json.specs.Crashpad.{annotations_json, crashpad_json, crashpad_modules_json}
 use Rattle.crash_json.specs.Crashpad.{objects_json, texts_json}
 use Rattle.crash_json.specs.Frames.{frame_json, inlines_json, registers_json}
 use Rattle.crash_json.specs.Linux.{environment_json, limit_list_json, proc_limits_json}
-use Rattle.crash_json.specs.Minidump.{all_damage_json, minidump_json, regions_json, streams_json}
-use Rattle.crash_json.specs.Modules.{all_unloaded_json, all_unreadable_json, modules_json}
-use Rattle.crash_json.specs.Point.{code_json, flags_json, point_json, words_json}
-use Rattle.crash_json.specs.Records.{assertion_json, handles_json, kinds_json, mac_crash_json}
+use Rattle.crash_json.specs.Minidump.{damage_json, minidump_json, region_json, stream_json}
+use Rattle.crash_json.specs.Modules.{modules_json, unloaded_json, unreadable_json}
+use Rattle.crash_json.specs.Point.{flags_json, placed_json, point_json, word_json}
+use Rattle.crash_json.specs.Records.{assertion_json, handles_json, kind_json, mac_crash_json}
 use Rattle.crash_json.specs.Records.{mac_record_json}
 use Rattle.crash_json.specs.SoftErrors.{soft_json}
 use Rattle.crash_json.specs.System.{release_json, system_json}
@@ -81,9 +81,11 @@ address_member (address.Memory m) = or_null memory_json m
 -- a member of where a thread stands
 abbrev pub point_member : PointMember → Json
 point_member (point.Instruction a) = address_json a.now
-point_member (point.Code code) = code_json code.now
-point_member (point.Words words) = words_json words.now
+point_member (point.Registers registers) = placed_json (map (λ r. (r.0.now, r.1)) registers.now)
+point_member (point.Code code) = array_of count code.now
+point_member (point.Words words) = array_of word_json words.now
 point_member (point.Flags flags) = flags_json (map (λ r. (r.0.now, r.1)) flags.now)
+point_member (point.SetFlags names) = array_of string (map (λ name. name.now) names.now)
 
 -- the member of limits
 abbrev pub limits_member : LimitsMember → Json
@@ -112,19 +114,19 @@ module_member (annotations.Objects objects) =
 -- a member that the schema doesn't have
 abbrev pub minidump_member : Member → Json
 minidump_member (dump.Scalar s) = scalar_json s
-minidump_member (dump.Streams c) = streams_json (crash_of c.now).directory.entries
+minidump_member (dump.Streams c) = array_of stream_json (crash_of c.now).directory.entries
 minidump_member (dump.Memory c) =
-    regions_json (unified_regions (crash_of c.now).contents.space.memory)
-minidump_member (dump.Damage c) = all_damage_json (crash_of c.now).damage
+    array_of region_json (unified_regions (crash_of c.now).contents.space.memory)
+minidump_member (dump.Damage c) = array_of damage_json (crash_of c.now).damage
 minidump_member (dump.Address c) = or_null address_json (crash_of c.now).cause.address
 minidump_member (dump.Point c) = or_null point_json (crash_of c.now).point
-minidump_member (dump.Exceptions c) = exceptions_json (crash_of c.now).cause.exceptions
+minidump_member (dump.Exceptions c) = array_of exception_json (crash_of c.now).cause.exceptions
 minidump_member (dump.Assertion c) =
     or_null assertion_json (result_ok (crash_of c.now).contents.messages.assertion)
 minidump_member (dump.Crashpad c) =
     or_null crashpad_json (result_ok (crash_of c.now).contents.messages.crashpad)
-minidump_member (dump.Unreadable c) = all_unreadable_json (crash_of c.now).modules.unreadable
-minidump_member (dump.Kinds c) = kinds_json (crash_of c.now).process.handle_kinds
+minidump_member (dump.Unreadable c) = array_of unreadable_json (crash_of c.now).modules.unreadable
+minidump_member (dump.Kinds c) = array_of kind_json (crash_of c.now).process.handle_kinds
 minidump_member (dump.Environment is_asked c) =
     environment_json is_asked (crash_of c.now).contents.process.environ
 
@@ -135,7 +137,7 @@ report_member (report.System c) = or_null system_json (crash_of c.now).process.s
 report_member (report.CrashInfo c) = crash_info_json (crash_of c.now)
 report_member (report.Modules c s) = modules_json (option_map symbolized_of (option_copied s))
     (crash_of c.now).modules.loaded
-report_member (report.Unloaded c) = all_unloaded_json (crash_of c.now).modules.unloaded
+report_member (report.Unloaded c) = array_of unloaded_json (crash_of c.now).modules.unloaded
 report_member (report.Threads limit c s) =
     threads_json limit (option_map symbolized_of (option_copied s))
     (crash_of c.now).modules.loaded (crash_of c.now).threads.threads

@@ -1,5 +1,5 @@
 -- What a minidump says that the schema has no member for, as JSON.
-use Rattle.std.specs.Prelude.{ℕ, ◌==◌, Bool, List, [], ◌∷◌, codes, Option, Some, None, Ok}
+use Rattle.std.specs.Prelude.{ℕ, ◌==◌, ◌++◌, Bool, List, [], ◌∷◌, codes, Option, Some, None, Ok}
 use Rattle.std.specs.Prelude.{if◌then◌else◌}
 use Rattle.std.specs.Option.{option_map}
 use Rattle.std.specs.Result.{result_ok}
@@ -14,12 +14,12 @@ use Rattle.crash.specs.declared.directory.StreamEntry.{StreamEntry}
 use Rattle.crash.specs.Crash.{CrashValue, status_of}
 use Rattle.crash_symbols.specs.Shown.{SymbolizedValue}
 use Rattle.json_tree.specs.Tree.{array_of, count, hex_string, object_of, or_null}
-use Rattle.crash_json.specs.Cause.{address_json, exceptions_json}
+use Rattle.crash_json.specs.Cause.{address_json, exception_json}
 use Rattle.crash_json.specs.Crashpad.{crashpad_json}
 use Rattle.crash_json.specs.Linux.{environment_json}
-use Rattle.crash_json.specs.Modules.{all_unreadable_json}
+use Rattle.crash_json.specs.Modules.{unreadable_json}
 use Rattle.crash_json.specs.Point.{point_json}
-use Rattle.crash_json.specs.Records.{assertion_json, kinds_json}
+use Rattle.crash_json.specs.Records.{assertion_json, kind_json}
 use Rattle.crash_json.specs.Signature.{signature_in}
 use Rattle.crash_json.specs.Threads.{registers_of}
 
@@ -40,10 +40,6 @@ abbrev pub stream_json : StreamEntry → Json
 stream_json s = stream_object s.number (option_map type_name (stream_type_of s.number)) s.size s.rva
     (option_map name_of_error s.error)
 
--- the streams
-unfoldable pub streams_json : List StreamEntry → Json
-streams_json entries = array_of stream_json entries
-
 -- ---- memory
 
 -- a region by its first address and its size
@@ -54,10 +50,6 @@ region_object base size =
 -- a region of memory
 abbrev pub region_json : UnifiedRegion → Json
 region_json r = region_object r.base_address r.size
-
--- the regions of memory
-unfoldable pub regions_json : List UnifiedRegion → Json
-regions_json regions = array_of region_json regions
 
 -- ---- damage
 
@@ -82,22 +74,16 @@ damage_json (ExceptionContext id) =
 damage_json (ThreadContext id) = damage_object (codes "thread_context") None (Some id) None
 damage_json (Stack id) = damage_object (codes "stack") None (Some id) None
 
--- all that is there and can't be read
-unfoldable pub all_damage_json : List Damage → Json
-all_damage_json damage = array_of damage_json damage
-
 -- ---- all of it
 
 -- a time, of which 0 says nothing
 abbrev pub unless_zero : ℕ → Option ℕ
 unless_zero n = if n == 0 then None else Some n
 
--- the members by whether the environment is asked for, the crash, when the dump was written, the id of
--- the process's parent, the status with which the dump ends a program, the word for whose context the
--- registers are of, and the signature
-unfoldable pub minidump_object : Bool → CrashValue → Option ℕ → Option ℕ → ℕ → Option (List ℕ)
-    → Option (List ℕ) → Json
-minidump_object environment c written parent status origin signature = object_of (
+-- the process by whether its environment is asked for, when the dump was written, and the id of its
+-- parent
+unfoldable pub process_part : Bool → CrashValue → Option ℕ → Option ℕ → List (List ℕ × Json)
+process_part environment c written parent =
     (codes "written", or_null count written)
     ∷ (codes "uptime", or_null count c.process.uptime)
     ∷ (codes "parent_process_id", or_null count parent)
@@ -106,25 +92,40 @@ minidump_object environment c written parent status origin signature = object_of
     ∷ (codes "environment", environment_json environment c.contents.process.environ)
     ∷ (codes "comment", or_null string c.process.comments.narrow)
     ∷ (codes "wide_comment", or_null string c.process.comments.wide)
-    ∷ (codes "status", count status)
-    ∷ (codes "streams", streams_json c.directory.entries)
+    ∷ []
+
+-- what the dump holds, and what of it can't be read, by the status with which it ends a program
+unfoldable pub file_part : CrashValue → ℕ → List (List ℕ × Json)
+file_part c status =
+    (codes "status", count status)
+    ∷ (codes "streams", array_of stream_json c.directory.entries)
     ∷ (codes "entries_outside", count c.directory.entries_outside)
-    ∷ (codes "memory", regions_json (unified_regions c.contents.space.memory))
-    ∷ (codes "damage", all_damage_json c.damage)
-    ∷ (codes "unreadable_modules", all_unreadable_json c.modules.unreadable)
-    ∷ (codes "address", or_null address_json c.cause.address)
+    ∷ (codes "memory", array_of region_json (unified_regions c.contents.space.memory))
+    ∷ (codes "damage", array_of damage_json c.damage)
+    ∷ (codes "unreadable_modules", array_of unreadable_json c.modules.unreadable)
+    ∷ []
+
+-- the crash by its signature, and the word for whose context the registers are of
+unfoldable pub crash_part : CrashValue → Option (List ℕ) → Option (List ℕ) → List (List ℕ × Json)
+crash_part c signature origin =
+    (codes "address", or_null address_json c.cause.address)
     ∷ (codes "point", or_null point_json c.point)
-    ∷ (codes "exceptions", exceptions_json c.cause.exceptions)
+    ∷ (codes "exceptions", array_of exception_json c.cause.exceptions)
     ∷ (codes "exception", or_null count c.cause.counts)
     ∷ (codes "signature", or_null string signature)
     ∷ (codes "registers_of", or_null string origin)
-    ∷ (codes "handle_kinds", kinds_json c.process.handle_kinds)
+    ∷ (codes "handle_kinds", array_of kind_json c.process.handle_kinds)
     ∷ (codes "assertion", or_null assertion_json (result_ok c.contents.messages.assertion))
     ∷ (codes "crashpad", or_null crashpad_json (result_ok c.contents.messages.crashpad))
-    ∷ [])
+    ∷ []
+
+-- the members, by whether the environment is asked for
+abbrev pub minidump_members : Bool → Option SymbolizedValue → CrashValue → List (List ℕ × Json)
+minidump_members environment symbols c =
+    process_part environment c (unless_zero c.directory.written) c.process.parent
+    ++ (file_part c (status_of (Ok c))
+    ++ crash_part c (signature_in symbols c) (registers_of c.threads))
 
 -- what the schema has no member for, by whether the environment is asked for
 abbrev pub minidump_json : Bool → Option SymbolizedValue → CrashValue → Json
-minidump_json environment symbols c = minidump_object environment c
-    (unless_zero c.directory.written) c.process.parent (status_of (Ok c))
-    (registers_of c.threads) (signature_in symbols c)
+minidump_json environment symbols c = object_of (minidump_members environment symbols c)

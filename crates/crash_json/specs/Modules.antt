@@ -93,10 +93,6 @@ unreadable_object m part = object_of (
 abbrev pub unreadable_json : UnreadableModule → Json
 unreadable_json m = unreadable_object m (part_name m.part)
 
--- the modules of which a part can't be read
-unfoldable pub all_unreadable_json : List UnreadableModule → Json
-all_unreadable_json modules = array_of unreadable_json modules
-
 -- ---- others
 
 -- the index of the main module, which is the first
@@ -112,7 +108,3 @@ unloaded_json m = object_of (
     ∷ (codes "filename", string m.file)
     ∷ (codes "code_id", or_null string m.code_id)
     ∷ [])
-
--- the modules that were unloaded
-unfoldable pub all_unloaded_json : List UnloadedModuleValue → Json
-all_unloaded_json modules = array_of unloaded_json modules

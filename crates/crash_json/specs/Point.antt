@@ -1,11 +1,13 @@
 -- Where the thread that crashed stands, as JSON.
-use Rattle.std.specs.Prelude.{ℕ, List, [], ◌∷◌, codes, Option}
+use Rattle.std.specs.Prelude.{ℕ, List, [], ◌∷◌, codes, filter, Option}
 use Rattle.std.specs.Option.{option_map}
-use Rattle.json.specs.Json.{Json}
+use Rattle.json.specs.Json.{Json, string}
+use Rattle.crash.specs.declared.addresses.AddressFacts.{AddressFacts}
 use Rattle.crash.specs.declared.point.StackWord.{StackWord}
+use Rattle.crash.specs.Addresses.{is_placed}
 use Rattle.crash.specs.Point.{PointValue}
 use Rattle.json_tree.specs.Tree.{array_of, count, hex_string, object_of, or_null}
-use Rattle.crash_json.specs.Cause.{address_json}
+use Rattle.crash_json.specs.Cause.{address_json, address_members}
 use Rattle.crash_json.specs.Frames.{register_members}
 
 -- a word by the index of the module that contains its value, and the offset in that
@@ -21,13 +23,13 @@ word_object w index offset = object_of (
 abbrev pub word_json : StackWord → Json
 word_json w = word_object w (option_map (λ p. p.0) w.module) (option_map (λ p. p.1) w.module)
 
--- the words of a stack
-unfoldable pub words_json : List StackWord → Json
-words_json words = array_of word_json words
+-- a register by its name, and what is known of its value as an address
+abbrev pub register_json : List ℕ × AddressFacts → Json
+register_json r = object_of ((codes "name", string r.0) ∷ address_members r.1)
 
--- bytes, each a number
-unfoldable pub code_json : List ℕ → Json
-code_json bytes = array_of count bytes
+-- the registers whose values lie in a module, an unloaded module or the stack of a thread
+abbrev pub placed_json : List (List ℕ × AddressFacts) → Json
+placed_json registers = array_of register_json (filter (λ r. is_placed r.1) registers)
 
 -- flags and segments, each by its name
 abbrev pub flags_json : List (List ℕ × ℕ) → Json
@@ -37,7 +39,9 @@ flags_json flags = object_of (register_members flags)
 unfoldable pub point_json : PointValue → Json
 point_json p = object_of (
     (codes "instruction", address_json p.instruction)
-    ∷ (codes "code", code_json p.code)
-    ∷ (codes "words", words_json p.words)
+    ∷ (codes "registers", placed_json p.registers)
+    ∷ (codes "code", array_of count p.code)
+    ∷ (codes "words", array_of word_json p.words)
     ∷ (codes "flags", flags_json p.flags)
+    ∷ (codes "set_flags", array_of string p.set_flags)
     ∷ [])

@@ -34,10 +34,6 @@ unfoldable pub kind_json : KindValue → Json
 kind_json k = object_of (
     (codes "type_name", string k.type_name) ∷ (codes "count", count k.count) ∷ [])
 
--- the kinds of handles
-unfoldable pub kinds_json : List KindValue → Json
-kinds_json kinds = array_of kind_json kinds
-
 -- ---- macOS's crash information
 
 -- a record of macOS's crash information by its numbers and its texts

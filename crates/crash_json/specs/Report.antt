@@ -7,12 +7,12 @@ use Rattle.json.specs.Print.{print}
 use Rattle.json.specs.Tree.{json_tokens}
 use Rattle.crash.specs.Crash.{CrashValue}
 use Rattle.crash_symbols.specs.Shown.{SymbolizedValue}
-use Rattle.json_tree.specs.Tree.{count, object_of, or_null}
+use Rattle.json_tree.specs.Tree.{array_of, count, object_of, or_null}
 use Rattle.crash_json.specs.declared.JsonLimits.{JsonLimits}
 use Rattle.crash_json.specs.Cause.{crash_info_json}
 use Rattle.crash_json.specs.Linux.{proc_limits_json}
 use Rattle.crash_json.specs.Minidump.{minidump_json}
-use Rattle.crash_json.specs.Modules.{all_unloaded_json, main_module, modules_json}
+use Rattle.crash_json.specs.Modules.{main_module, modules_json, unloaded_json}
 use Rattle.crash_json.specs.Records.{handles_json, mac_crash_json}
 use Rattle.crash_json.specs.SoftErrors.{soft_json}
 use Rattle.crash_json.specs.System.{release_json, system_json}
@@ -32,7 +32,7 @@ crash_object symbols c main =
     ∷ (codes "crash_info", crash_info_json c)
     ∷ (codes "main_module", or_null count main)
     ∷ (codes "modules", modules_json symbols c.modules.loaded)
-    ∷ (codes "unloaded_modules", all_unloaded_json c.modules.unloaded)
+    ∷ (codes "unloaded_modules", array_of unloaded_json c.modules.unloaded)
     ∷ []
 
 -- the system, the crash and the modules

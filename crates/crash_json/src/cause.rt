@@ -6,21 +6,21 @@ ghost use Rattle.minidump.specs.Below.Format.Error.{name_of_error};
 ghost use Rattle.minidump.specs.Promise.{assertion_stream};
 ghost use Rattle.crash.specs.Cause.{cause_of, exception_of};
 ghost use Rattle.crash.specs.Crash.{crash_of};
-ghost use Rattle.json_tree.specs.Tree.{Puts};
-ghost use Rattle.crash_json.specs.Cause.{access_name, address_json, address_object, counting_in};
-ghost use Rattle.crash_json.specs.Cause.{crash_info_json, crash_object, exception_json};
-ghost use Rattle.crash_json.specs.Cause.{exception_object, exceptions_json, expression_in};
-ghost use Rattle.crash_json.specs.Cause.{memory_json, memory_object, problem_name, sender_object, state_name};
-ghost use Rattle.crash_json.specs.Cause.{unread_object};
+ghost use Rattle.json_tree.specs.Tree.{Adds, Puts};
+ghost use Rattle.crash_json.specs.Cause.{access_name, address_members, address_object, counting_in};
+ghost use Rattle.crash_json.specs.Cause.{crash_info_json, crash_object, exception_object};
+ghost use Rattle.crash_json.specs.Cause.{expression_in, memory_object, problem_name, sender_object};
+ghost use Rattle.crash_json.specs.Cause.{state_name, unread_object};
 
+use crate::frames::{index_of, offset_of};
 use crash::{
     Access, AddressFacts, AddressMemory, ContextProblem, Crash, CrashCause, CrashException,
     RegionState, Sender,
 };
 use json::Writer;
 use json_tree::{
-    ItemJson, Scalar, ToJson, ValueJson, as_text, put_array, put_item_or_null, put_object,
-    put_object_of, put_values,
+    ItemJson, Scalar, ToJson, ValueJson, as_text, put_array, put_item_or_null, put_members,
+    put_object, put_object_of,
 };
 use minidump::{Error, MinidumpAssertion};
 use std::alloc::Global;
@@ -108,22 +108,9 @@ fn put_crash<'t>(
     )
 }
 
-/// Puts the exceptions.
-#[tactic(auto, unfolding(crate::specs::Cause::exceptions_json))]
-pub(crate) fn put_exceptions(
-    out: &mut Writer,
-    alloc: Global,
-    exceptions: &[Result<CrashException, Error>],
-) -> Result<(), Error>
-    ensures { Puts result out.old out.new
-        (exceptions_json (map (map_ok exception_of) exceptions.now)) }
-{
-    put_values(out, alloc, exceptions, &EachException)
-}
-
-// An exception of a list.
+/// An exception of a list, or why it can't be read.
 #[derive(Clone, Copy)]
-struct EachException;
+pub(crate) struct EachException;
 
 impl ValueJson<Result<CrashException, Error>> for EachException {
     ghost use Rattle.std.specs.Prelude.{Result};
@@ -144,28 +131,17 @@ impl ValueJson<Result<CrashException, Error>> for EachException {
         out: &mut Writer,
         alloc: Global,
     ) -> Result<(), Error> {
-        put_exception(out, alloc, item)
-    }
-}
-
-// Puts an exception, or why it can't be read.
-fn put_exception(
-    out: &mut Writer,
-    alloc: Global,
-    exception: &Result<CrashException, Error>,
-) -> Result<(), Error>
-    ensures { Puts result out.old out.new (exception_json (map_ok exception_of exception.now)) }
-{
-    match exception {
-        Ok(exception) => put_read(
-            out,
-            alloc,
-            exception,
-            exception.parameters.as_slice(),
-            access_name(exception.access),
-            problem_name(exception.context_problem),
-        ),
-        Err(error) => put_unread(out, alloc, error.name()),
+        match item {
+            Ok(exception) => put_read(
+                out,
+                alloc,
+                exception,
+                exception.parameters.as_slice(),
+                access_name(exception.access),
+                problem_name(exception.context_problem),
+            ),
+            Err(error) => put_unread(out, alloc, error.name()),
+        }
     }
 }
 
@@ -196,6 +172,7 @@ fn put_read<'l>(
             ("sender", ExceptionMember::Sender(exception.sender)),
             ("address", ExceptionMember::Scalar(Scalar::Hex(exception.address))),
             ("type", ExceptionMember::Scalar(Scalar::Optional(&exception.reason))),
+            ("description", ExceptionMember::Scalar(Scalar::Optional(&exception.description))),
             ("context_problem", ExceptionMember::Scalar(Scalar::Text(problem))),
             ("error", ExceptionMember::Scalar(Scalar::Null)),
         ],
@@ -298,6 +275,7 @@ fn put_unread(out: &mut Writer, alloc: Global, error: &str) -> Result<(), Error>
             ("sender", Scalar::Null),
             ("address", Scalar::Null),
             ("type", Scalar::Null),
+            ("description", Scalar::Null),
             ("context_problem", Scalar::Null),
             ("error", Scalar::Text(Some(error))),
         ],
@@ -335,39 +313,39 @@ impl ItemJson<AddressFacts> for AddressJson {
 
     ghost json_of = { λ _ a. address_json a };
 
+    #[tactic(auto, using(json_tree::proofs::Tokens::object_of_members))]
     fn put_item(&self, item: &AddressFacts, out: &mut Writer, alloc: Global) -> Result<(), Error> {
-        put_address(out, alloc, item, index_of(item), offset_of(item))
+        out.begin_object()?;
+        put_address(out, alloc, item)?;
+        out.end_object()?;
+        Ok(())
     }
 }
 
-// Returns the index of the module of an address.
-fn index_of(address: &AddressFacts) -> Option<usize>
-    ensures { result ≡ option_map (λ p. p.0) address.now.module }
+/// Adds what is known of an address.
+pub(crate) fn put_address(
+    out: &mut Writer,
+    alloc: Global,
+    facts: &AddressFacts,
+) -> Result<(), Error>
+    ensures { Adds result out.old out.new (address_members facts.now) }
 {
-    let (index, _) = address.module?;
-    Some(index)
-}
-
-// Returns the offset of an address in its module.
-fn offset_of(address: &AddressFacts) -> Option<u64>
-    ensures { result ≡ option_map (λ p. p.1) address.now.module }
-{
-    let (_, offset) = address.module?;
-    Some(offset)
+    let index = index_of(facts.module);
+    put_address_members(out, alloc, facts, index, offset_of(facts.module))
 }
 
 #[rattlefmt::skip]
 #[tactic(auto, unfolding(crate::specs::Cause::address_object))]
-fn put_address(
+fn put_address_members(
     out: &mut Writer,
     alloc: Global,
     facts: &AddressFacts,
     index: Option<usize>,
     offset: Option<u64>,
 ) -> Result<(), Error>
-    ensures { Puts result out.old out.new (address_object facts.now index offset) }
+    ensures { Adds result out.old out.new (address_object facts.now index offset) }
 {
-    put_object_of(
+    put_members(
         out,
         alloc,
         &[

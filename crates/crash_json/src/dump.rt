@@ -3,30 +3,29 @@ ghost use Rattle.std.specs.Prelude.{◌≡◌, IfOk, Ok, map};
 ghost use Rattle.std.specs.Option.{option_copied, option_map};
 ghost use Rattle.minidump.specs.Below.Format.Error.{name_of_error};
 ghost use Rattle.minidump.specs.Below.Format.StreamType.{stream_type_of, type_name};
-ghost use Rattle.minidump.specs.Below.MemoryLists.Unified.{UnifiedRegion, unified_list};
-ghost use Rattle.minidump.specs.Below.MemoryLists.Unified.{unified_region, unified_regions};
+ghost use Rattle.minidump.specs.Below.MemoryLists.Unified.{unified_list, unified_region};
+ghost use Rattle.minidump.specs.Below.MemoryLists.Unified.{unified_regions};
 ghost use Rattle.crash.specs.Crash.{crash_of, status_of};
 ghost use Rattle.crash_symbols.specs.Shown.{symbolized_of};
-ghost use Rattle.json_tree.specs.Tree.{Puts};
-ghost use Rattle.crash_json.specs.Minidump.{all_damage_json, damage_json, damage_object};
-ghost use Rattle.crash_json.specs.Minidump.{minidump_json, minidump_object, region_object};
-ghost use Rattle.crash_json.specs.Minidump.{regions_json, stream_object, streams_json};
-ghost use Rattle.crash_json.specs.Minidump.{unless_zero};
+ghost use Rattle.json_tree.specs.Tree.{Adds, Puts, array_of};
+ghost use Rattle.crash_json.specs.Minidump.{crash_part, damage_object, file_part, minidump_json};
+ghost use Rattle.crash_json.specs.Minidump.{minidump_members, process_part, region_json};
+ghost use Rattle.crash_json.specs.Minidump.{region_object, stream_object, unless_zero};
 
-use crate::cause::{AddressJson, put_exceptions};
+use crate::cause::{AddressJson, EachException};
 use crate::crashpad::CrashpadJson;
 use crate::linux::put_environment;
-use crate::modules::put_all_unreadable;
+use crate::modules::EachUnreadable;
 use crate::point::PointJson;
-use crate::records::{AssertionJson, put_found, put_kinds};
+use crate::records::{AssertionJson, EachKind, put_found};
 use crate::signature::signature_in;
 use crate::threads::registers_of;
 use crash::{Crash, Damage, StreamEntry};
 use crash_symbols::Symbolized;
 use json::Writer;
 use json_tree::{
-    ItemJson, Scalar, ToJson, ValueJson, as_text, put_array, put_item_or_null, put_object,
-    put_object_of, put_value_or_null, put_values,
+    ItemJson, Scalar, ToJson, ValueJson, as_text, put_array, put_item_or_null, put_members,
+    put_object, put_value_or_null, put_values,
 };
 use minidump::format::MINIDUMP_STREAM_TYPE;
 use minidump::{Error, UnifiedMemory, UnifiedMemoryList};
@@ -34,6 +33,7 @@ use std::alloc::{AllocError, Global};
 
 /// Puts what a minidump says that the schema has no member for, with the environment if it is asked
 /// for.
+#[tactic(auto, using(json_tree::proofs::Tokens::object_of_members))]
 pub(crate) fn put_minidump(
     out: &mut Writer,
     alloc: Global,
@@ -44,18 +44,30 @@ pub(crate) fn put_minidump(
     ensures { Puts result out.old out.new (minidump_json environment
         (option_map symbolized_of (option_copied symbols.entry)) (crash_of crash.now)) }
 {
+    out.begin_object()?;
+    put_parts(out, alloc, environment, crash, symbols)?;
+    out.end_object()?;
+    Ok(())
+}
+
+// Adds the members, a part at a time.
+fn put_parts(
+    out: &mut Writer,
+    alloc: Global,
+    environment: bool,
+    crash: &Crash<'_>,
+    symbols: Option<&Symbolized<'_, '_>>,
+) -> Result<(), Error>
+    ensures { Adds result out.old out.new (minidump_members environment
+        (option_map symbolized_of (option_copied symbols.entry)) (crash_of crash.now)) }
+{
+    let written = unless_zero(crash.directory.written);
+    put_process(out, alloc, environment, crash, written, parent_of(crash))?;
+    put_file(out, alloc, crash, status_of(crash))?;
     let signature = signature_in(alloc, crash, symbols)?;
-    put_members(
-        out,
-        alloc,
-        environment,
-        crash,
-        unless_zero(crash.directory.written),
-        parent_of(crash),
-        status_of(crash),
-        registers_of(&crash.threads),
-        as_text(&signature),
-    )
+    let origin = registers_of(&crash.threads);
+    put_crash(out, alloc, crash, as_text(&signature), origin)?;
+    Ok(())
 }
 
 // Returns the id of the process's parent.
@@ -79,48 +91,43 @@ fn status_of(crash: &Crash<'_>) -> u64
     if crash.damage.is_empty() { 0 } else { 1 }
 }
 
-#[tactic(auto, unfolding(crate::specs::Minidump::minidump_object))]
-fn put_members<'l>(
+#[rattlefmt::skip]
+#[tactic(auto, unfolding(crate::specs::Minidump::process_part))]
+fn put_process(
     out: &mut Writer,
     alloc: Global,
     environment: bool,
-    crash: &'l Crash<'_>,
+    crash: &Crash<'_>,
     written: Option<u64>,
     parent: Option<u64>,
-    status: u64,
-    origin: Option<&'l str>,
-    signature: Option<&'l str>,
 ) -> Result<(), Error>
-    ensures { Puts result out.old out.new (minidump_object environment (crash_of crash.now) written
-        parent status (option_copied origin.entry) (option_copied signature.entry)) }
+    ensures { Adds result out.old out.new
+        (process_part environment (crash_of crash.now) written parent) }
 {
-    put_object_of(
+    put_members(
         out,
         alloc,
         &[
             ("written", Member::Scalar(Scalar::Number(written))),
-            (
-                "uptime",
-                Member::Scalar(Scalar::Number(crash.process.uptime)),
-            ),
+            ("uptime", Member::Scalar(Scalar::Number(crash.process.uptime))),
             ("parent_process_id", Member::Scalar(Scalar::Number(parent))),
-            (
-                "resident_size",
-                Member::Scalar(Scalar::Number(crash.process.resident)),
-            ),
-            (
-                "command_line",
-                Member::Scalar(Scalar::Optional(&crash.process.command_line)),
-            ),
+            ("resident_size", Member::Scalar(Scalar::Number(crash.process.resident))),
+            ("command_line", Member::Scalar(Scalar::Optional(&crash.process.command_line))),
             ("environment", Member::Environment(environment, crash)),
-            (
-                "comment",
-                Member::Scalar(Scalar::Optional(&crash.process.comments.narrow)),
-            ),
-            (
-                "wide_comment",
-                Member::Scalar(Scalar::Optional(&crash.process.comments.wide)),
-            ),
+            ("comment", Member::Scalar(Scalar::Optional(&crash.process.comments.narrow))),
+            ("wide_comment", Member::Scalar(Scalar::Optional(&crash.process.comments.wide))),
+        ],
+    )
+}
+
+#[tactic(auto, unfolding(crate::specs::Minidump::file_part))]
+fn put_file(out: &mut Writer, alloc: Global, crash: &Crash<'_>, status: u64) -> Result<(), Error>
+    ensures { Adds result out.old out.new (file_part (crash_of crash.now) status) }
+{
+    put_members(
+        out,
+        alloc,
+        &[
             ("status", Member::Scalar(Scalar::Number(Some(status)))),
             ("streams", Member::Streams(crash)),
             (
@@ -130,6 +137,25 @@ fn put_members<'l>(
             ("memory", Member::Memory(crash)),
             ("damage", Member::Damage(crash)),
             ("unreadable_modules", Member::Unreadable(crash)),
+        ],
+    )
+}
+
+#[tactic(auto, unfolding(crate::specs::Minidump::crash_part))]
+fn put_crash<'l>(
+    out: &mut Writer,
+    alloc: Global,
+    crash: &'l Crash<'_>,
+    signature: Option<&'l str>,
+    origin: Option<&'l str>,
+) -> Result<(), Error>
+    ensures { Adds result out.old out.new (crash_part (crash_of crash.now)
+        (option_copied signature.entry) (option_copied origin.entry)) }
+{
+    put_members(
+        out,
+        alloc,
+        &[
             ("address", Member::Address(crash)),
             ("point", Member::Point(crash)),
             ("exceptions", Member::Exceptions(crash)),
@@ -171,15 +197,18 @@ impl ToJson for Member<'_, '_> {
     fn put(&self, out: &mut Writer, alloc: Global) -> Result<(), Error> {
         match self {
             Member::Scalar(scalar) => scalar.put(out, alloc),
-            Member::Streams(crash) => put_streams(out, alloc, crash.directory.entries.as_slice()),
+            Member::Streams(crash) => {
+                put_array(out, alloc, crash.directory.entries.as_slice(), &EachStream)
+            }
             Member::Memory(crash) => put_memory(out, alloc, &crash.contents.space.memory),
-            Member::Damage(crash) => put_damage(out, alloc, crash.damage.as_slice()),
+            Member::Damage(crash) => put_array(out, alloc, crash.damage.as_slice(), &EachDamage),
             Member::Address(crash) => {
                 put_item_or_null(out, alloc, &crash.cause.address, &AddressJson)
             }
             Member::Point(crash) => put_value_or_null(out, alloc, &crash.point, &PointJson),
             Member::Exceptions(crash) => {
-                put_exceptions(out, alloc, crash.cause.exceptions.as_slice())
+                let exceptions = crash.cause.exceptions.as_slice();
+                put_values(out, alloc, exceptions, &EachException)
             }
             Member::Assertion(crash) => put_found(
                 out,
@@ -191,9 +220,12 @@ impl ToJson for Member<'_, '_> {
                 put_found(out, alloc, &crash.contents.messages.crashpad, &CrashpadJson)
             }
             Member::Unreadable(crash) => {
-                put_all_unreadable(out, alloc, crash.modules.unreadable.as_slice())
+                let modules = crash.modules.unreadable.as_slice();
+                put_array(out, alloc, modules, &EachUnreadable)
             }
-            Member::Kinds(crash) => put_kinds(out, alloc, crash.process.handle_kinds.as_slice()),
+            Member::Kinds(crash) => {
+                put_values(out, alloc, crash.process.handle_kinds.as_slice(), &EachKind)
+            }
             Member::Environment(is_asked, crash) => {
                 put_environment(out, alloc, *is_asked, &crash.contents.process.environ)
             }
@@ -202,13 +234,6 @@ impl ToJson for Member<'_, '_> {
 }
 
 // ---- streams
-
-#[tactic(auto, unfolding(crate::specs::Minidump::streams_json))]
-fn put_streams(out: &mut Writer, alloc: Global, entries: &[StreamEntry]) -> Result<(), Error>
-    ensures { Puts result out.old out.new (streams_json entries.now) }
-{
-    put_array(out, alloc, entries, &EachStream)
-}
 
 // A stream of a list.
 #[derive(Clone, Copy)]
@@ -277,10 +302,10 @@ fn error_name(error: Option<Error>) -> Option<&'static str>
 // Puts the regions of memory.
 fn put_memory(out: &mut Writer, alloc: Global, memory: &UnifiedMemoryList<'_>) -> Result<(), Error>
     ensures { Puts result out.old out.new
-        (regions_json (unified_regions (unified_list memory.now))) }
+        (array_of region_json (unified_regions (unified_list memory.now))) }
 {
     let regions = regions_of(alloc, memory)?;
-    put_regions(out, alloc, regions.as_slice())
+    put_values(out, alloc, regions.as_slice(), &EachRegion)
 }
 
 // Returns the regions of memory.
@@ -292,17 +317,6 @@ fn regions_of<'l, 'a>(
         (λ regions. map unified_region regions.items ≡ unified_regions (unified_list memory.now)) }
 {
     memory.iter().collect(alloc)
-}
-
-#[tactic(auto, unfolding(crate::specs::Minidump::regions_json))]
-fn put_regions<'l, 'a>(
-    out: &mut Writer,
-    alloc: Global,
-    regions: &[UnifiedMemory<'l, 'a>],
-) -> Result<(), Error>
-    ensures { Puts result out.old out.new (regions_json (map unified_region regions.now)) }
-{
-    put_values(out, alloc, regions, &EachRegion)
 }
 
 // A region of memory of a list.
@@ -344,13 +358,6 @@ fn put_region(out: &mut Writer, alloc: Global, base: u64, size: u64) -> Result<(
 }
 
 // ---- damage
-
-#[tactic(auto, unfolding(crate::specs::Minidump::all_damage_json))]
-fn put_damage(out: &mut Writer, alloc: Global, damage: &[Damage]) -> Result<(), Error>
-    ensures { Puts result out.old out.new (all_damage_json damage.now) }
-{
-    put_array(out, alloc, damage, &EachDamage)
-}
 
 // Something of a list that can't be read.
 #[derive(Clone, Copy)]

@@ -136,7 +136,15 @@ fn file_at(modules: &[CrashModule], place: Option<(usize, u64)>) -> Option<&str>
     Some(modules.get(index)?.file.as_str())
 }
 
-// Returns the offset of a place in its module.
+/// Returns the index of the module of a place.
+pub(crate) fn index_of(place: Option<(usize, u64)>) -> Option<usize>
+    ensures { result ≡ option_map (λ p. p.0) place }
+{
+    let (index, _) = place?;
+    Some(index)
+}
+
+/// Returns the offset of a place in its module.
 pub(crate) fn offset_of(place: Option<(usize, u64)>) -> Option<u64>
     ensures { result ≡ option_map (λ p. p.1) place }
 {

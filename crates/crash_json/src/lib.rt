@@ -43,11 +43,12 @@
 //!   can't be read, or if its type is never read and its bytes are outside the file; how many
 //!   `entries_outside` the file the directory has; the regions of `memory` that the dump holds; the
 //!   `damage`, and the `unreadable_modules` for which the list of modules can't be read; the
-//!   `handle_kinds`; the `address` of the crash with its module; all `exceptions`, and the index of the
-//!   `exception` that counts; the `signature`, which is the reason and the first three frames of the
-//!   crashing thread that are in a module, by their functions or by the module's file with the offset,
-//!   but no candidates; whose context `registers_of` the crashing thread are; the `assertion`
-//!   with its place; and the annotations of `crashpad`.
+//!   `handle_kinds`; the `address` of the crash with its module; the `point` where the crashing thread
+//!   stands, with those of its registers that lie in a module, an unloaded module or a stack; all
+//!   `exceptions`, and the index of the `exception` that counts; the `signature`, which is the reason
+//!   and the first three frames of the crashing thread that are in a module, by their functions or by
+//!   the module's file with the offset, but no candidates; whose context `registers_of` the crashing
+//!   thread are; the `assertion` with its place; and the annotations of `crashpad`.
 //!
 //! # What is proved
 //!

@@ -1,13 +1,13 @@
 //! The modules, loaded and unloaded.
 ghost use Rattle.std.specs.Prelude.{◌≡◌, ◌++◌, map};
 ghost use Rattle.std.specs.Option.{option_copied, option_map};
-ghost use Rattle.crash.specs.Modules.{loaded_of, unloaded_module_of};
+ghost use Rattle.crash.specs.Modules.{loaded_of};
 ghost use Rattle.crash_symbols.specs.Shown.{symbolized_of};
 ghost use Rattle.json_tree.specs.Tree.{Adds, Puts};
-ghost use Rattle.crash_json.specs.Modules.{all_unloaded_json, all_unreadable_json, are_corrupt};
+ghost use Rattle.crash_json.specs.Modules.{are_corrupt};
 ghost use Rattle.crash_json.specs.Modules.{are_loaded, are_missing, main_module, module_object};
 ghost use Rattle.crash_json.specs.Modules.{modules_json, part_name, state_object, symbol_members};
-ghost use Rattle.crash_json.specs.Modules.{unloaded_json, unreadable_object};
+ghost use Rattle.crash_json.specs.Modules.{unreadable_object};
 
 use crash::{CrashModule, ModulePart, UnloadedModule, UnreadableModule};
 use crash_symbols::{SymbolState, Symbolized};
@@ -175,24 +175,11 @@ fn are_corrupt(state: SymbolState) -> bool
     matches!(state, SymbolState::Corrupt)
 }
 
-/// Puts the modules that were unloaded.
-#[tactic(auto, unfolding(crate::specs::Modules::all_unloaded_json))]
-pub(crate) fn put_all_unloaded(
-    out: &mut Writer,
-    alloc: Global,
-    modules: &[UnloadedModule],
-) -> Result<(), Error>
-    ensures { Puts result out.old out.new
-        (all_unloaded_json (map unloaded_module_of modules.now)) }
-{
-    put_values(out, alloc, modules, &EachUnloadedModule)
-}
-
-// A module of the list of those that were unloaded.
+/// A module of the list of those that were unloaded.
 #[derive(Clone, Copy)]
-struct EachUnloadedModule;
+pub(crate) struct EachUnloaded;
 
-impl ValueJson<UnloadedModule> for EachUnloadedModule {
+impl ValueJson<UnloadedModule> for EachUnloaded {
     ghost use Rattle.crash.specs.Modules.{UnloadedModuleValue, unloaded_module_of};
     ghost use Rattle.crash_json.specs.Modules.{unloaded_json};
 
@@ -202,49 +189,31 @@ impl ValueJson<UnloadedModule> for EachUnloadedModule {
 
     ghost json_of = { λ _ m. unloaded_json m };
 
+    #[tactic(auto, unfolding(crate::specs::Modules::unloaded_json))]
     fn put_value(
         &self,
         item: &UnloadedModule,
         out: &mut Writer,
         alloc: Global,
     ) -> Result<(), Error> {
-        put_unloaded(out, alloc, item)
+        put_object(
+            out,
+            alloc,
+            &[
+                ("base_addr", Scalar::Hex(Some(item.base))),
+                ("end_addr", Scalar::Hex(item.end)),
+                ("filename", Scalar::Owned(&item.file)),
+                ("code_id", Scalar::Optional(&item.code_id)),
+            ],
+        )
     }
 }
 
-#[tactic(auto, unfolding(crate::specs::Modules::unloaded_json))]
-fn put_unloaded(out: &mut Writer, alloc: Global, unloaded: &UnloadedModule) -> Result<(), Error>
-    ensures { Puts result out.old out.new (unloaded_json (unloaded_module_of unloaded.now)) }
-{
-    put_object(
-        out,
-        alloc,
-        &[
-            ("base_addr", Scalar::Hex(Some(unloaded.base))),
-            ("end_addr", Scalar::Hex(unloaded.end)),
-            ("filename", Scalar::Owned(&unloaded.file)),
-            ("code_id", Scalar::Optional(&unloaded.code_id)),
-        ],
-    )
-}
-
-/// Puts the modules of which a part can't be read.
-#[tactic(auto, unfolding(crate::specs::Modules::all_unreadable_json))]
-pub(crate) fn put_all_unreadable(
-    out: &mut Writer,
-    alloc: Global,
-    modules: &[UnreadableModule],
-) -> Result<(), Error>
-    ensures { Puts result out.old out.new (all_unreadable_json modules.now) }
-{
-    put_array(out, alloc, modules, &EachUnreadableModule)
-}
-
-// A module of a list of which a part can't be read.
+/// A module of a list of which a part can't be read.
 #[derive(Clone, Copy)]
-struct EachUnreadableModule;
+pub(crate) struct EachUnreadable;
 
-impl ItemJson<UnreadableModule> for EachUnreadableModule {
+impl ItemJson<UnreadableModule> for EachUnreadable {
     ghost use Rattle.crash_json.specs.Modules.{unreadable_json};
 
     ghost json_of = { λ _ m. unreadable_json m };

@@ -1,17 +1,21 @@
 //! Where the thread that crashed stands.
-ghost use Rattle.std.specs.Prelude.{◌≡◌, map};
-ghost use Rattle.std.specs.Option.{option_map};
-ghost use Rattle.crash.specs.Point.{point_of};
-ghost use Rattle.json_tree.specs.Tree.{Puts};
-ghost use Rattle.crash_json.specs.Point.{code_json, flags_json, point_json, word_object, words_json};
+ghost use Rattle.std.specs.Prelude.{◌≡◌, ◌∷◌, IfOk, codes, filter, map};
+ghost use Rattle.json.specs.Json.{string};
+ghost use Rattle.crash.specs.Addresses.{is_placed};
+ghost use Rattle.json_tree.specs.Tree.{Adds, Puts};
+ghost use Rattle.crash_json.specs.Cause.{address_members};
+ghost use Rattle.crash_json.specs.Point.{flags_json, placed_json, word_object};
 
-use crate::cause::AddressJson;
-use crate::frames::{offset_of, register_fields};
+use crate::cause::{AddressJson, put_address};
+use crate::frames::{index_of, offset_of, register_fields};
 use crash::{AddressFacts, CrashPoint, StackWord};
 use json::Writer;
-use json_tree::{ItemJson, Scalar, ToJson, ValueJson, put_array, put_object, put_object_of};
+use json_tree::{
+    ItemJson, Scalar, ToJson, ValueJson, put_array, put_fields, put_object, put_object_of,
+    put_values,
+};
 use minidump::Error;
-use std::alloc::Global;
+use std::alloc::{AllocError, Global};
 
 /// Gives where a thread stands its JSON value.
 #[derive(Clone, Copy)]
@@ -27,39 +31,43 @@ impl ValueJson<CrashPoint<'_>> for PointJson {
 
     ghost json_of = { λ _ p. point_json p };
 
+    #[tactic(auto, unfolding(crate::specs::Point::point_json))]
     fn put_value(
         &self,
         item: &CrashPoint<'_>,
         out: &mut Writer,
         alloc: Global,
     ) -> Result<(), Error> {
-        put_point(out, alloc, item)
+        put_object_of(
+            out,
+            alloc,
+            &[
+                ("instruction", PointMember::Instruction(&item.instruction)),
+                (
+                    "registers",
+                    PointMember::Registers(item.registers.as_slice()),
+                ),
+                ("code", PointMember::Code(item.code)),
+                ("words", PointMember::Words(item.words.as_slice())),
+                ("flags", PointMember::Flags(item.flags.as_slice())),
+                (
+                    "set_flags",
+                    PointMember::SetFlags(item.set_flags.as_slice()),
+                ),
+            ],
+        )
     }
-}
-
-#[tactic(auto, unfolding(crate::specs::Point::point_json))]
-fn put_point(out: &mut Writer, alloc: Global, point: &CrashPoint<'_>) -> Result<(), Error>
-    ensures { Puts result out.old out.new (point_json (point_of point.now)) }
-{
-    put_object_of(
-        out,
-        alloc,
-        &[
-            ("instruction", PointMember::Instruction(&point.instruction)),
-            ("code", PointMember::Code(point.code)),
-            ("words", PointMember::Words(point.words.as_slice())),
-            ("flags", PointMember::Flags(point.flags.as_slice())),
-        ],
-    )
 }
 
 // The value of a member of where a thread stands.
 #[derive(Clone, Copy)]
 pub(crate) enum PointMember<'l> {
     Instruction(&'l AddressFacts),
+    Registers(&'l [(&'static str, AddressFacts)]),
     Code(&'l [u8]),
     Words(&'l [StackWord]),
     Flags(&'l [(&'static str, u64)]),
+    SetFlags(&'l [&'static str]),
 }
 
 impl ToJson for PointMember<'_> {
@@ -70,21 +78,82 @@ impl ToJson for PointMember<'_> {
     fn put(&self, out: &mut Writer, alloc: Global) -> Result<(), Error> {
         match self {
             PointMember::Instruction(facts) => AddressJson.put_item(*facts, out, alloc),
-            PointMember::Code(code) => put_code(out, alloc, *code),
-            PointMember::Words(words) => put_words(out, alloc, *words),
+            PointMember::Registers(registers) => put_registers(out, alloc, registers),
+            PointMember::Code(code) => put_array(out, alloc, code, &EachByte),
+            PointMember::Words(words) => put_array(out, alloc, words, &EachWord),
             PointMember::Flags(flags) => put_flags(out, alloc, *flags),
+            PointMember::SetFlags(names) => put_values(out, alloc, names, &EachName),
         }
     }
 }
 
-// ---- the code
+// ---- the registers
 
-#[tactic(auto, unfolding(crate::specs::Point::code_json))]
-fn put_code(out: &mut Writer, alloc: Global, code: &[u8]) -> Result<(), Error>
-    ensures { Puts result out.old out.new (code_json code.now) }
+// Puts the registers whose values lie somewhere.
+fn put_registers(
+    out: &mut Writer,
+    alloc: Global,
+    registers: &[(&'static str, AddressFacts)],
+) -> Result<(), Error>
+    ensures { Puts result out.old out.new (placed_json (map (λ r. (r.0.now, r.1)) registers.now)) }
 {
-    put_array(out, alloc, code, &EachByte)
+    let placed = placed_of(alloc, registers)?;
+    put_array(out, alloc, placed.as_slice(), &EachRegister)
 }
+
+// Returns the registers whose values lie in a module, an unloaded module or the stack of a thread.
+fn placed_of(
+    alloc: Global,
+    registers: &[(&'static str, AddressFacts)],
+) -> Result<Vec<(&'static str, AddressFacts)>, AllocError>
+    ensures { IfOk result (λ placed. placed.items ≡ filter (λ r. is_placed r.1) registers.now) }
+{
+    registers
+        .iter()
+        .copied()
+        .filter(|r| r.1.is_placed())
+        .collect(alloc)
+}
+
+// A register of a list.
+#[derive(Clone, Copy)]
+struct EachRegister;
+
+impl ItemJson<(&'static str, AddressFacts)> for EachRegister {
+    ghost use Rattle.crash_json.specs.Point.{register_json};
+
+    ghost json_of = { λ _ r. register_json (r.0.now, r.1) };
+
+    #[tactic(auto, using(json_tree::proofs::Tokens::object_of_members))]
+    fn put_item(
+        &self,
+        item: &(&'static str, AddressFacts),
+        out: &mut Writer,
+        alloc: Global,
+    ) -> Result<(), Error> {
+        out.begin_object()?;
+        put_register(out, alloc, item.0, &item.1)?;
+        out.end_object()?;
+        Ok(())
+    }
+}
+
+// Adds the members of a register.
+fn put_register(
+    out: &mut Writer,
+    alloc: Global,
+    name: &str,
+    facts: &AddressFacts,
+) -> Result<(), Error>
+    ensures { Adds result out.old out.new
+        ((codes "name", string name.now) ∷ address_members facts.now) }
+{
+    put_fields(out, alloc, &[("name", Scalar::Text(Some(name)))])?;
+    put_address(out, alloc, facts)?;
+    Ok(())
+}
+
+// ---- the code and the words
 
 // A byte of a list.
 #[derive(Clone, Copy)]
@@ -100,15 +169,6 @@ impl ItemJson<u8> for EachByte {
     }
 }
 
-// ---- the words
-
-#[tactic(auto, unfolding(crate::specs::Point::words_json))]
-fn put_words(out: &mut Writer, alloc: Global, words: &[StackWord]) -> Result<(), Error>
-    ensures { Puts result out.old out.new (words_json words.now) }
-{
-    put_array(out, alloc, words, &EachWord)
-}
-
 // A word of a stack.
 #[derive(Clone, Copy)]
 struct EachWord;
@@ -119,16 +179,14 @@ impl ItemJson<StackWord> for EachWord {
     ghost json_of = { λ _ w. word_json w };
 
     fn put_item(&self, item: &StackWord, out: &mut Writer, alloc: Global) -> Result<(), Error> {
-        put_word(out, alloc, item, index_of(item), offset_of(item.module))
+        put_word(
+            out,
+            alloc,
+            item,
+            index_of(item.module),
+            offset_of(item.module),
+        )
     }
-}
-
-// Returns the index of the module of a word.
-fn index_of(word: &StackWord) -> Option<usize>
-    ensures { result ≡ option_map (λ p. p.0) word.now.module }
-{
-    let (index, _) = word.module?;
-    Some(index)
 }
 
 #[tactic(auto, unfolding(crate::specs::Point::word_object))]
@@ -161,4 +219,23 @@ fn put_flags(out: &mut Writer, alloc: Global, flags: &[(&'static str, u64)]) -> 
 {
     let fields = register_fields(alloc, flags)?;
     put_object(out, alloc, fields.as_slice())
+}
+
+// The name of a flag.
+#[derive(Clone, Copy)]
+struct EachName;
+
+impl ValueJson<&'static str> for EachName {
+    ghost use Rattle.std.specs.Prelude.{ℕ, List};
+    ghost use Rattle.json.specs.Json.{string};
+
+    ghost Value = { List ℕ };
+
+    ghost value_of = { λ name. name.now };
+
+    ghost json_of = { λ _ name. string name };
+
+    fn put_value(&self, item: &&'static str, out: &mut Writer, alloc: Global) -> Result<(), Error> {
+        Scalar::Text(Some(*item)).put(out, alloc)
+    }
 }

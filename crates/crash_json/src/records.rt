@@ -6,10 +6,9 @@ ghost use Rattle.minidump.specs.Below.Contexts.Context.{map_ok};
 ghost use Rattle.minidump.specs.Below.Records.Handles.{handle_of};
 ghost use Rattle.minidump.specs.Below.Records.Record.{mac_record_of};
 ghost use Rattle.minidump.specs.Promise.{assertion_stream};
-ghost use Rattle.crash.specs.HandleKinds.{kind_of};
 ghost use Rattle.json_tree.specs.Tree.{Puts, or_null};
 ghost use Rattle.crash_json.specs.Records.{assertion_json, assertion_kind, assertion_object};
-ghost use Rattle.crash_json.specs.Records.{handle_object, handles_json, kind_json, kinds_json};
+ghost use Rattle.crash_json.specs.Records.{handle_object, handles_json};
 ghost use Rattle.crash_json.specs.Records.{mac_crash_json, mac_members, mac_object};
 
 use crash::HandleKind;
@@ -127,17 +126,9 @@ fn put_handle<'t>(
     )
 }
 
-/// Puts the kinds of handles.
-#[tactic(auto, unfolding(crate::specs::Records::kinds_json))]
-pub(crate) fn put_kinds(out: &mut Writer, alloc: Global, kinds: &[HandleKind]) -> Result<(), Error>
-    ensures { Puts result out.old out.new (kinds_json (map kind_of kinds.now)) }
-{
-    put_values(out, alloc, kinds, &EachKind)
-}
-
-// A kind of handles of a list.
+/// A kind of handles of a list.
 #[derive(Clone, Copy)]
-struct EachKind;
+pub(crate) struct EachKind;
 
 impl ValueJson<HandleKind> for EachKind {
     ghost use Rattle.crash.specs.HandleKinds.{KindValue, kind_of};
@@ -149,23 +140,17 @@ impl ValueJson<HandleKind> for EachKind {
 
     ghost json_of = { λ _ k. kind_json k };
 
+    #[tactic(auto, unfolding(crate::specs::Records::kind_json))]
     fn put_value(&self, item: &HandleKind, out: &mut Writer, alloc: Global) -> Result<(), Error> {
-        put_kind(out, alloc, item)
+        put_object(
+            out,
+            alloc,
+            &[
+                ("type_name", Scalar::Owned(&item.type_name)),
+                ("count", Scalar::Count(Some(item.count))),
+            ],
+        )
     }
-}
-
-#[tactic(auto, unfolding(crate::specs::Records::kind_json))]
-fn put_kind(out: &mut Writer, alloc: Global, kind: &HandleKind) -> Result<(), Error>
-    ensures { Puts result out.old out.new (kind_json (kind_of kind.now)) }
-{
-    put_object(
-        out,
-        alloc,
-        &[
-            ("type_name", Scalar::Owned(&kind.type_name)),
-            ("count", Scalar::Count(Some(kind.count))),
-        ],
-    )
 }
 
 /// Gives the crash information of macOS its JSON value.

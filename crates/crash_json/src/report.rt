@@ -17,7 +17,7 @@ use crate::JsonLimits;
 use crate::cause::put_crash_info;
 use crate::dump::put_minidump;
 use crate::linux::put_proc_limits;
-use crate::modules::{main_module, put_all_unloaded, put_modules};
+use crate::modules::{EachUnloaded, main_module, put_modules};
 use crate::records::{HandlesJson, MacCrashJson, put_found};
 use crate::soft_errors::put_soft_errors;
 use crate::system::{ReleaseJson, SystemJson};
@@ -25,7 +25,7 @@ use crate::threads::{put_crashing, put_threads};
 use crash::{Crash, CrashThread};
 use crash_symbols::Symbolized;
 use json::Writer;
-use json_tree::{Scalar, ToJson, as_text, put_fields, put_members, put_value_or_null};
+use json_tree::{Scalar, ToJson, as_text, put_fields, put_members, put_value_or_null, put_values};
 use minidump::{Error, MinidumpMacBootargs, MinidumpSoftErrors};
 use std::alloc::Global;
 
@@ -316,7 +316,7 @@ impl ToJson for ReportMember<'_, '_, '_, '_> {
                 put_modules(out, alloc, *symbols, crash.modules.loaded.as_slice())
             }
             ReportMember::Unloaded(crash) => {
-                put_all_unloaded(out, alloc, crash.modules.unloaded.as_slice())
+                put_values(out, alloc, crash.modules.unloaded.as_slice(), &EachUnloaded)
             }
             ReportMember::Threads(limit, crash, symbols) => {
                 put_threads(out, alloc, *limit, crash, *symbols)

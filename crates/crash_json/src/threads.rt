@@ -238,6 +238,7 @@ fn pointer_end_name(end: WalkEnd) -> &'static str
     }
 }
 
+#[rattlefmt::skip]
 #[tactic(auto, unfolding(crate::specs::Threads::thread_object))]
 fn put_thread_members<'l>(
     out: &mut Writer,
@@ -260,32 +261,14 @@ fn put_thread_members<'l>(
         out,
         alloc,
         &[
-            (
-                "thread_id",
-                ThreadMember::Scalar(Scalar::Number(Some(thread.id as u64))),
-            ),
-            (
-                "thread_name",
-                ThreadMember::Scalar(Scalar::Optional(&thread.name)),
-            ),
-            (
-                "is_listed",
-                ThreadMember::Scalar(Scalar::Flag(thread.is_listed)),
-            ),
-            (
-                "last_error_value",
-                ThreadMember::Scalar(Scalar::Optional(&thread.last_error)),
-            ),
-            (
-                "frame_count",
-                ThreadMember::Scalar(Scalar::Count(Some(frame_count))),
-            ),
+            ("thread_id", ThreadMember::Scalar(Scalar::Number(Some(thread.id as u64)))),
+            ("thread_name", ThreadMember::Scalar(Scalar::Optional(&thread.name))),
+            ("is_listed", ThreadMember::Scalar(Scalar::Flag(thread.is_listed))),
+            ("last_error_value", ThreadMember::Scalar(Scalar::Optional(&thread.last_error))),
+            ("frame_count", ThreadMember::Scalar(Scalar::Count(Some(frame_count)))),
             ("stack", ThreadMember::Range(thread.stack)),
             ("stack_memory", ThreadMember::Range(thread.stack_memory)),
-            (
-                "context_problem",
-                ThreadMember::Scalar(Scalar::Text(problem)),
-            ),
+            ("context_problem", ThreadMember::Scalar(Scalar::Text(problem))),
             ("short_context", ThreadMember::Short(short)),
             ("end", ThreadMember::Scalar(Scalar::Text(end))),
             ("frames", ThreadMember::Frames(each, frames)),
