@@ -2,16 +2,28 @@
 use Rattle.std.specs.Prelude.{◌≡◌, ◌≢◌, ℕ, ◌<◌, true, List, length, slice_get, slice_index_or}
 use Rattle.std.specs.Prelude.{Option, Some, None, Result, Ok, Err, if◌then◌else◌}
 use Rattle.std.specs.Borrow.{Bor}
+use Rattle.std.specs.declared.io.ErrorKind.{ErrorKind}
+use Rattle.std.specs.declared.io.ErrorKind.TheVariants as kind
 use Rattle.breakpad_symbols.specs.SymbolFile.{SymbolsValue, symbols_of}
 use Rattle.breakpad_symbols.specs.declared.symbol_file.SymbolFile.{SymbolFile}
 use Rattle.crash.specs.Modules.{LoadedValue}
 use Rattle.crash_symbols.specs.Modules.{is_of_module}
 use Rattle.crash_symbols.specs.declared.symbols.SymbolState.{SymbolState}
-use Rattle.crash_symbols.specs.declared.symbols.SymbolState.TheVariants.{Corrupt, Loaded, Unwanted}
+use Rattle.crash_symbols.specs.declared.symbols.SymbolState.TheVariants.{Corrupt, Loaded, Missing}
+use Rattle.crash_symbols.specs.declared.symbols.SymbolState.TheVariants.{OutOfMemory, Unwanted}
 
 -- why a module that was looked for has no symbol file: it is missing or damaged, or memory ran out
 abbrev pub IsReason : SymbolState → Type 0
 IsReason state = (state ≢ Unwanted) × (state ≢ Loaded)
+
+-- the state of a symbol file that can't be read for an error of this kind: missing where its path names
+-- no file, and damaged for any other error but want of memory
+abbrev pub state_of_kind : ErrorKind → SymbolState
+state_of_kind kind.NotFound = Missing
+state_of_kind kind.NotADirectory = Missing
+state_of_kind kind.InvalidFilename = Missing
+state_of_kind kind.OutOfMemory = OutOfMemory
+state_of_kind _ = Corrupt
 
 -- what a symbol file says that was looked for
 abbrev pub value_read : Result (Bor SymbolFile) SymbolState → Option SymbolsValue

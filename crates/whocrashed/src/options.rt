@@ -1,6 +1,7 @@
-ghost use Rattle.std.specs.Prelude.{◌≡◌, Bool, IfOk, codes, map};
+ghost use Rattle.std.specs.Prelude.{◌≡◌, Bool, IfOk, codes, is_some, map};
 ghost use Rattle.clap.specs.Words.{found_of};
-ghost use Rattle.whocrashed.specs.Options.{IsFlag, IsNumber, form_by, values_in};
+ghost use Rattle.whocrashed.specs.Options.{IsFlag, IsNumber, form_by, has_several_inputs, inputs_in};
+ghost use Rattle.whocrashed.specs.Options.{is_refused, values_in};
 
 use clap::error::ErrorKind;
 use clap::{Arg, ArgAction, ArgMatches, Command, Error, value_parser};
@@ -96,7 +97,10 @@ impl<'w> Options<'w> {
 }
 
 // Returns why options that were read are refused, if they are.
-fn refusal(options: &Options<'_>) -> Option<(ErrorKind, &'static str)> {
+fn refusal(options: &Options<'_>) -> Option<(ErrorKind, &'static str)>
+    ensures { is_some result ≡ is_refused options.now.form
+        (map (λ p. p.now) options.now.dumps.paths.items) options.now.dumps.are_listed }
+{
     if options.form == Form::Html && options.dumps.paths.len() > 1 {
         return Some((ErrorKind::TooManyValues, "--html takes one DUMP"));
     }
@@ -110,9 +114,19 @@ fn refusal(options: &Options<'_>) -> Option<(ErrorKind, &'static str)> {
 }
 
 // Tells whether standard input is asked for more than once.
-fn has_several_inputs(dumps: &DumpOptions<'_>) -> bool {
-    let inputs = dumps.paths.iter().filter(|path| **path == "-").count();
+fn has_several_inputs(dumps: &DumpOptions<'_>) -> bool
+    ensures { result ≡ has_several_inputs (map (λ p. p.now) dumps.now.paths.items)
+        dumps.now.are_listed }
+{
+    let inputs = inputs_in(dumps.paths.as_slice());
     inputs > 1 || inputs == 1 && dumps.are_listed
+}
+
+// Counts the paths that are `-`.
+fn inputs_in(paths: &[&str]) -> usize
+    ensures { result ≡ inputs_in (map (λ p. p.now) paths.now) }
+{
+    paths.iter().filter(|path| **path == "-").count()
 }
 
 // Returns what the arguments ask for, by the command.

@@ -5,8 +5,8 @@ ghost use Rattle.breakpad_symbols.specs.SymbolFile.{symbols_in, symbols_of};
 ghost use Rattle.crash.specs.Modules.{loaded_of};
 ghost use Rattle.crash_symbols.specs.Modules.{is_of_module};
 ghost use Rattle.crash_symbols.specs.Symbols.{known_of};
-ghost use Rattle.whocrashed.specs.Symbols.{Belong, IsReason, of_module, state_of_module, state_read};
-ghost use Rattle.whocrashed.specs.Symbols.{value_read};
+ghost use Rattle.whocrashed.specs.Symbols.{Belong, IsReason, of_module, state_of_kind, state_of_module};
+ghost use Rattle.whocrashed.specs.Symbols.{state_read, value_read};
 
 use crate::input::read_file;
 use breakpad_symbols::{SymbolError, SymbolFile};
@@ -72,18 +72,18 @@ impl<'l> SymbolCache<'l> {
         ensures { Belong (map loaded_of modules.now) (known_of symbols.old).files
             → Belong (map loaded_of modules.now) (known_of symbols.new).files }
     {
-        if let Some(module) = modules.get(index) {
-            put(symbols, index, self.file_of(module));
+        if let Some(loaded) = modules.get(index) {
+            put(symbols, index, self.file_of(loaded));
         }
     }
 
     // Returns the symbol file of a module.
-    fn file_of(&mut self, module: &CrashModule) -> Found
-        ensures { IfOk result (λ file. is_of_module (symbols_of file.now) (loaded_of module.now)
+    fn file_of(&mut self, loaded: &CrashModule) -> Found
+        ensures { IfOk result (λ file. is_of_module (symbols_of file.now) (loaded_of loaded.now)
             ≡ true) }
     {
-        match symbol_path(self.dirs.rt.alloc(), module) {
-            Ok(Some(path)) => of_module(self.file_at(path), module),
+        match symbol_path(self.dirs.rt.alloc(), loaded) {
+            Ok(Some(path)) => of_module(self.file_at(path), loaded),
             Ok(None) => Err(SymbolState::Missing),
             Err(_) => Err(SymbolState::OutOfMemory),
         }
@@ -95,7 +95,7 @@ impl<'l> SymbolCache<'l> {
             return *found;
         }
         let found = self.dirs.read(path.as_str());
-        if found_none(found) {
+        if is_missing(found) {
             return found;
         }
         match self.files.insert(path, found) {
@@ -112,7 +112,7 @@ impl SymbolDirs<'_> {
     {
         for dir in self.paths {
             let found = self.read_in(*dir, path);
-            if !found_none(found) {
+            if !is_missing(found) {
                 return found;
             }
         }
@@ -135,7 +135,7 @@ impl SymbolDirs<'_> {
 }
 
 // Tells whether a file is missing.
-fn found_none(found: Found) -> bool {
+fn is_missing(found: Found) -> bool {
     match found {
         Err(SymbolState::Missing) => true,
         _ => false,
@@ -159,7 +159,8 @@ fn kept(alloc: Global, text: &'static [u8]) -> Found
 
 // Returns the state of a symbol file that can't be read for an error of this kind.
 fn state_of(kind: io::ErrorKind) -> SymbolState
-    ensures { IsReason result }
+    ensures state { result ≡ state_of_kind kind }
+    ensures reason { IsReason result }
 {
     match kind {
         io::ErrorKind::NotFound | io::ErrorKind::NotADirectory | io::ErrorKind::InvalidFilename =>
@@ -170,14 +171,14 @@ fn state_of(kind: io::ErrorKind) -> SymbolState
 }
 
 // Returns a symbol file that was found if it is the module's.
-fn of_module(found: Found, module: &CrashModule) -> Found
-    ensures value { value_read result ≡ of_module (value_read found.entry) (loaded_of module.now) }
+fn of_module(found: Found, loaded: &CrashModule) -> Found
+    ensures value { value_read result ≡ of_module (value_read found.entry) (loaded_of loaded.now) }
     ensures state { state_read result ≡ state_of_module (value_read found.entry) (state_read found.entry)
-        (loaded_of module.now) }
+        (loaded_of loaded.now) }
 {
     match found {
         Ok(file) => {
-            if is_of_module(file, module) {
+            if is_of_module(file, loaded) {
                 Ok(file)
             } else {
                 Err(SymbolState::Corrupt)

@@ -14,9 +14,9 @@ returns-in-Some c =
     let value = option_map (λ f. symbols_of f.now) in
     let modules = c.args.modules.now in
     let look = c.in-Some.ensures.lookup in
-    let here : slice_get (map loaded_of modules) c.args.index ≡ Some (loaded_of c.in-Some.module.now) =
+    let here : slice_get (map loaded_of modules) c.args.index ≡ Some (loaded_of c.in-Some.loaded.now) =
     slice_get-map loaded_of modules c.args.index
-    ∙ ap (option_map loaded_of) (slice_get_read modules (length modules) c.args.index c.in-Some.module.now refl
+    ∙ ap (option_map loaded_of) (slice_get_read modules (length modules) c.args.index c.in-Some.loaded.now refl
     (grind (arith, common_steps, look.0)) look.1) in
     λ old. found_belongs (map loaded_of modules) (map value c.args.symbols.now.files.items) (map value c.put.new.symbols.files.items)
-    c.args.index (loaded_of c.in-Some.module.now) c.file_of.result c.put.ensures.files here c.file_of.ensures old
+    c.args.index (loaded_of c.in-Some.loaded.now) c.file_of.result c.put.ensures.files here c.file_of.ensures old
