@@ -1,4 +1,4 @@
-//! What is absent beside what is empty, and texts of Linux that a row of `golden` doesn't tell: of
+//! What is absent beside what is empty, and texts of Linux that a row of `samples/` doesn't tell: of
 //! bytes that are no UTF-8, with blanks on their sides, or empty lines.
 
 use crate::given::{dump_of, is_text, stream_of};

@@ -2,7 +2,7 @@
 
 use minidump::format::{MINIDUMP_LOCATION_DESCRIPTOR, MINIDUMP_STREAM_TYPE};
 use minidump::{Endian, Error, Minidump};
-use minidump_synth::SynthMinidump;
+use minidump_synth::{BOTH, SynthMinidump};
 use std::alloc::{AllocError, Global};
 
 // Five entries: two of type 0x11223344 (0 and 3), one of a type that is not read (1), one that is
@@ -16,8 +16,8 @@ const FIVE: &[(u32, u32, u32)] = &[
     (0x1122_3345, 4, 0x5d),
 ];
 
-fn five(alloc: Global) -> Result<Vec<u8>, AllocError> {
-    let mut dump = SynthMinidump::new(alloc, Endian::Little);
+fn five(alloc: Global, endian: Endian) -> Result<Vec<u8>, AllocError> {
+    let mut dump = SynthMinidump::new(alloc, endian);
     dump.add(&[0xa0, 0xa1, 0xa2, 0xa3]);
     for (stream_type, data_size, rva) in FIVE {
         let location = MINIDUMP_LOCATION_DESCRIPTOR {
@@ -42,8 +42,8 @@ const RAW: &[(u32, Result<&[u8], Error>)] = &[
     (7, Ok(&[])),
 ];
 
-fn lends_what_decides(alloc: Global) -> Result<bool, AllocError> {
-    let bytes = five(alloc)?;
+fn lends_what_decides(alloc: Global, endian: Endian) -> Result<bool, AllocError> {
+    let bytes = five(alloc, endian)?;
     Ok(RAW.iter().all(|(stream_type, want)| raw_stream(alloc, &bytes, *stream_type) == *want))
 }
 
@@ -85,8 +85,8 @@ fn lists_the_never_read(dump: &Minidump<'_>) -> bool {
         && never_read.next().is_none()
 }
 
-fn lists_others(alloc: Global) -> Result<bool, Error> {
-    let bytes = five(alloc)?;
+fn lists_others(alloc: Global, endian: Endian) -> Result<bool, Error> {
+    let bytes = five(alloc, endian)?;
     let dump = Minidump::read(alloc, &bytes)?;
     Ok(lists_the_unknown(&dump) && lists_the_never_read(&dump))
 }
@@ -94,5 +94,10 @@ fn lists_others(alloc: Global) -> Result<bool, Error> {
 #[test]
 fn tells_what_is_known_of_streams(rt: HostRuntime) {
     let alloc = rt.alloc();
-    assert!(rt; lends_what_decides(alloc) == Ok(true) && lists_others(alloc) == Ok(true));
+    for endian in BOTH {
+        assert!(rt;
+            lends_what_decides(alloc, *endian) == Ok(true)
+                && lists_others(alloc, *endian) == Ok(true)
+        );
+    }
 }

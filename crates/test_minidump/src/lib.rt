@@ -3,7 +3,7 @@
 //!
 //! They show what no contract says: that a call succeeds where there is memory, that definitions
 //! mean the format, and what becomes of files. So each expected value is written from the format's
-//! own tables, not from a definition here. The samples and the rows of `golden` show what is
+//! own tables, not from a definition here. The samples and the rows of `samples/` show what is
 //! printed of a dump's header, directory and streams, the errors of streams, what is at an address,
 //! and the summary of a crash.
 #![tactic(auto)]
@@ -27,4 +27,8 @@ mod modules;
 #[cfg(test)]
 mod own_type;
 #[cfg(test)]
+mod sizes;
+#[cfg(test)]
 mod threads;
+#[cfg(test)]
+mod unloaded;

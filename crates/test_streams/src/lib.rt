@@ -1,6 +1,6 @@
 //! The tests of the crates that read streams: what no contract says of `minidump_memory`,
 //! `minidump_modules`, `minidump_context`, `minidump_reason` and `minidump_stability`, by their
-//! public functions. What is read of streams, rows of `golden` show.
+//! public functions. What is read of streams, rows of `samples/` show.
 //!
 //! A crate with tests is proved once with them and once without, so these stand above their crates.
 #![tactic(auto)]

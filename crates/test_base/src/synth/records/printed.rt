@@ -1,4 +1,4 @@
-// The records of which each field is printed: samples of `golden` have these, with a value of its own
+// The records of which each field is printed: dumps of `samples/` have these, with a value of its own
 // for each.
 use super::is_written_back;
 use minidump_format::format::{
