@@ -1,4 +1,3 @@
-use crate::crashes::{crash, names, reason_text, summary};
 use crate::device::Device;
 use crate::records::{
     annotations, code_ids, crashpad_module, handles, identities, mac_records, module_list,
@@ -8,12 +7,11 @@ use crate::regions::{
     index, info_regions, map_line, map_regions, memory, memory_regions, memory_texts,
     memory64_regions, unified_infos, unified_maps, wide_index,
 };
-use crate::streams::{copy, show};
+use crate::streams::copy;
 use crate::texts::{
     assertion_texts, contexts, linux_texts, other_contexts, system_texts, thread_infos,
 };
-use crate::value::value;
-use crate::whole::{exceptions, find, read, read_path, read_whole, report, try_names};
+use crate::whole::{read_path, read_whole};
 use crate::world::World;
 use minidump::format::MINIDUMP_STREAM_TYPE::{self, *};
 use minidump::{Error, Told};
@@ -23,17 +21,10 @@ use minidump::{Error, Told};
 pub enum Call {
     /// None, for comparison.
     Nothing,
-    /// Reads the stream of a type.
-    Show(MINIDUMP_STREAM_TYPE),
     /// Reads and copies the stream of a type.
     Copy(MINIDUMP_STREAM_TYPE),
-    Read,
-    Find,
-    Try,
-    Exceptions,
     ReadAll,
     ReadPath,
-    Report,
     Memory,
     MemoryTexts,
     MemoryRegions,
@@ -60,11 +51,6 @@ pub enum Call {
     Contexts,
     OtherContexts,
     ThreadInfos,
-    Crash,
-    ReasonText,
-    Names,
-    Summary,
-    CrashValue,
 }
 
 impl Call {
@@ -80,31 +66,6 @@ impl Call {
 /// Each call by its name.
 pub const CALLS: &[(&str, Call)] = &[
     ("nothing", Call::Nothing),
-    ("SystemInfo", Call::Show(SystemInfoStream)),
-    ("MiscInfo", Call::Show(MiscInfoStream)),
-    ("ThreadList", Call::Show(ThreadListStream)),
-    ("ModuleList", Call::Show(ModuleListStream)),
-    ("MemoryList", Call::Show(MemoryListStream)),
-    ("Memory64List", Call::Show(Memory64ListStream)),
-    ("UnloadedModuleList", Call::Show(UnloadedModuleListStream)),
-    ("MemoryInfoList", Call::Show(MemoryInfoListStream)),
-    ("ThreadInfoList", Call::Show(ThreadInfoListStream)),
-    ("ThreadNames", Call::Show(ThreadNamesStream)),
-    ("HandleData", Call::Show(HandleDataStream)),
-    ("Exception", Call::Show(ExceptionStream)),
-    ("BreakpadInfo", Call::Show(BreakpadInfoStream)),
-    ("AssertionInfo", Call::Show(AssertionInfoStream)),
-    ("CrashpadInfo", Call::Show(CrashpadInfoStream)),
-    ("MacCrashInfo", Call::Show(MozMacosCrashInfoStream)),
-    ("MacBootargs", Call::Show(MozMacosBootargsStream)),
-    ("LinuxMaps", Call::Show(LinuxMaps)),
-    ("LinuxCpuInfo", Call::Show(LinuxCpuInfo)),
-    ("LinuxProcStatus", Call::Show(LinuxProcStatus)),
-    ("LinuxLsbRelease", Call::Show(LinuxLsbRelease)),
-    ("LinuxEnviron", Call::Show(LinuxEnviron)),
-    ("LinuxLimits", Call::Show(MozLinuxLimits)),
-    ("SoftErrors", Call::Show(MozSoftErrors)),
-    ("StabilityReport", Call::Show(StabilityReportStream)),
     ("copy-SystemInfo", Call::Copy(SystemInfoStream)),
     ("copy-ModuleList", Call::Copy(ModuleListStream)),
     (
@@ -118,13 +79,8 @@ pub const CALLS: &[(&str, Call)] = &[
     ("copy-MacCrashInfo", Call::Copy(MozMacosCrashInfoStream)),
     ("copy-MacBootargs", Call::Copy(MozMacosBootargsStream)),
     ("copy-StabilityReport", Call::Copy(StabilityReportStream)),
-    ("read", Call::Read),
-    ("find", Call::Find),
-    ("try", Call::Try),
-    ("exceptions", Call::Exceptions),
     ("read-all", Call::ReadAll),
     ("read-path", Call::ReadPath),
-    ("report", Call::Report),
     ("memory", Call::Memory),
     ("memory-texts", Call::MemoryTexts),
     ("memory-regions", Call::MemoryRegions),
@@ -151,26 +107,15 @@ pub const CALLS: &[(&str, Call)] = &[
     ("contexts", Call::Contexts),
     ("other-contexts", Call::OtherContexts),
     ("thread-infos", Call::ThreadInfos),
-    ("crash", Call::Crash),
-    ("reason-text", Call::ReasonText),
-    ("names", Call::Names),
-    ("summary", Call::Summary),
-    ("crash-value", Call::CrashValue),
 ];
 
 /// Makes a call.
 pub fn make(world: &World<'_>, call: Call, out: &mut Told<Device>) -> Result<(), Error> {
     match call {
         Call::Nothing => Ok(()),
-        Call::Show(stream) => show(world, stream, out),
         Call::Copy(stream) => copy(world, stream, out),
-        Call::Read => read(world, out),
-        Call::Find => find(world, out),
-        Call::Try => try_names(world, out),
-        Call::Exceptions => exceptions(world, out),
         Call::ReadAll => read_whole(world, out),
         Call::ReadPath => read_path(world, out),
-        Call::Report => report(world, out),
         Call::Memory => memory(world, out),
         Call::MemoryTexts => memory_texts(world, out),
         Call::MemoryRegions => memory_regions(world, out),
@@ -197,10 +142,5 @@ pub fn make(world: &World<'_>, call: Call, out: &mut Told<Device>) -> Result<(),
         Call::Contexts => contexts(world, out),
         Call::OtherContexts => other_contexts(world, out),
         Call::ThreadInfos => thread_infos(world, out),
-        Call::Crash => crash(world, out),
-        Call::ReasonText => reason_text(world, out),
-        Call::Names => names(world, out),
-        Call::Summary => summary(world, out),
-        Call::CrashValue => value(world, out),
     }
 }

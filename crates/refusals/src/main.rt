@@ -1,9 +1,10 @@
 //! `refusals FILE [devices]` and `refusals FILE NAME`, which show what the library returns where
 //! memory runs out, or a device fails.
 //!
-//! On a dump with a stream of each type it makes the calls that may find no memory, twice, and
-//! writes a line for each: its name, and `ok` if it returned and wrote the same. `FILE` is a dump
-//! for `read_path`.
+//! On a dump with a stream of each type it makes calls that may find no memory, twice, and writes a
+//! line for each: its name, and `ok` if it returned and wrote the same. They are those that no program
+//! makes: how streams are read and printed, and crashes, `.ci/refusals` shows of the programs. `FILE` is
+//! a dump for `read_path`.
 //!
 //! With `devices` it also makes each call on writers that fail, or take nothing, from their n-th
 //! call on, for each n, and on one that takes one byte a call; it reads readers in the same ways.
@@ -18,20 +19,16 @@
 
 mod calls;
 mod check;
-mod crashes;
 mod device;
-mod frames;
 mod records;
 mod regions;
 mod streams;
 mod texts;
-mod value;
 mod whole;
 mod world;
 
 use crate::calls::{CALLS, Call};
 use crate::check::{Answer, call_twice, is_read, is_told};
-use crate::frames::with_frames;
 use crate::world::World;
 use minidump::Endian;
 use minidump_synth::every_stream;
@@ -53,11 +50,10 @@ fn run(rt: &HostRuntime) -> io::Result<bool> {
     run_on(rt, path, how)
 }
 
-// Makes them on a dump with a stream of each type, and on one with frames.
+// Makes them on a dump with a stream of each type.
 fn run_on(rt: &HostRuntime, path: &str, how: &str) -> io::Result<bool> {
     let bytes = every_stream(rt.alloc(), Endian::Little)?;
-    let frames = with_frames(rt.alloc())?;
-    match World::read(rt, path, &bytes, &frames) {
+    match World::read(rt, path, &bytes) {
         Ok(world) => make_all(rt, &world, how),
         Err(_) => Ok(false),
     }

@@ -1,52 +1,6 @@
 use crate::device::Device;
-use crate::records::put_text;
-use crate::world::{World, put, put_line};
-use minidump::{
-    CodeNames, Error, Minidump, MinidumpModuleList, MinidumpThreadNames, Module, Told, read_all,
-    write_report,
-};
-
-/// Reads the dump, and prints what depends on its system information too.
-pub fn read(world: &World<'_>, out: &mut Told<Device>) -> Result<(), Error> {
-    let dump = Minidump::read(world.alloc, world.bytes)?;
-    dump.print(world.alloc, out)?;
-    put_versions(world, &dump.get_stream(world.alloc)?, out)
-}
-
-fn put_versions(
-    world: &World<'_>,
-    modules: &MinidumpModuleList,
-    out: &mut Told<Device>,
-) -> Result<(), Error> {
-    for module in modules.iter() {
-        put_text(&module.version(world.alloc)?, out)?;
-    }
-    Ok(())
-}
-
-/// Finds a stream.
-pub fn find(world: &World<'_>, out: &mut Told<Device>) -> Result<(), Error> {
-    match world.dump.find_stream::<MinidumpThreadNames>(world.alloc)? {
-        Some(names) => names.print(world.alloc, out),
-        None => put_line(out, None),
-    }
-}
-
-/// Tries a stream, which is there or not.
-pub fn try_names(world: &World<'_>, out: &mut Told<Device>) -> Result<(), Error> {
-    match world.dump.try_stream::<MinidumpThreadNames>(world.alloc)? {
-        Ok(names) => names.print(world.alloc, out),
-        Err(_) => put_line(out, None),
-    }
-}
-
-/// Reads the exceptions of all entries.
-pub fn exceptions(world: &World<'_>, out: &mut Told<Device>) -> Result<(), Error> {
-    for exception in &world.dump.exceptions(world.alloc)? {
-        put_line(out, exception.is_ok().then_some("an exception"))?;
-    }
-    Ok(())
-}
+use crate::world::{World, put};
+use minidump::{Error, Minidump, Told, read_all};
 
 /// Reads a reader to its end. An error leaves nothing in the vector.
 pub fn read_whole(world: &World<'_>, out: &mut Told<Device>) -> Result<(), Error> {
@@ -74,9 +28,4 @@ fn is_file(world: &World<'_>, bytes: &[u8]) -> bool {
     let mut again = Vec::new(world.alloc);
     let read = Minidump::read_path(world.rt, world.alloc, world.path, &mut again).is_ok();
     read && again.as_slice() == bytes
-}
-
-/// Writes the report.
-pub fn report(world: &World<'_>, out: &mut Told<Device>) -> Result<(), Error> {
-    write_report(world.alloc, world.bytes, &CodeNames::empty(), out)
 }

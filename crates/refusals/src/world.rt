@@ -13,8 +13,6 @@ pub struct World<'a> {
     pub path: &'a str,
     /// The bytes of the dump.
     pub bytes: &'a [u8],
-    /// The bytes of a dump with frames and candidates.
-    pub frames: &'a [u8],
     /// The dump.
     pub dump: Minidump<'a>,
     /// The system information of the dump.
@@ -25,12 +23,7 @@ pub struct World<'a> {
 
 impl<'a> World<'a> {
     /// Reads the dump.
-    pub fn read(
-        rt: &'a HostRuntime,
-        path: &'a str,
-        bytes: &'a [u8],
-        frames: &'a [u8],
-    ) -> Result<World<'a>, Error> {
+    pub fn read(rt: &'a HostRuntime, path: &'a str, bytes: &'a [u8]) -> Result<World<'a>, Error> {
         let alloc = rt.alloc();
         let dump = Minidump::read(alloc, bytes)?;
         let system = dump.get_stream::<MinidumpSystemInfo>(alloc)?;
@@ -40,7 +33,6 @@ impl<'a> World<'a> {
             rt,
             path,
             bytes,
-            frames,
             dump,
             system,
             memory,
