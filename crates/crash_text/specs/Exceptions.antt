@@ -12,7 +12,7 @@ use Rattle.crash.specs.Crash.{CrashValue}
 use Rattle.crash_text.specs.Addresses.{address_lines}
 use Rattle.crash_text.specs.Lines.{if_some}
 use Rattle.crash_text.specs.Point.{point_lines}
-use Rattle.crash_text.specs.Records.{record_text}
+use Rattle.crash_text.specs.Records.{described_text, record_text}
 use Rattle.crash_text.specs.Registers.{registers_lines}
 use Rattle.crash_text.specs.Words.{or_empty, text_lines, unless_empty}
 
@@ -38,7 +38,7 @@ counted_lines c e = crashed_row e.thread
 -- ---- the exceptions
 
 -- the line of an exception with its number: its thread, its code, where it happened, the reason, and
--- what else its record says
+-- what else its record and LLDB say
 unfoldable pub exception_row : ℕ → ℕ → ℕ → ℕ → List ℕ → List ℕ → List ℕ
 exception_row number thread code at reason said = concat (codes "    #" ∷ decimal number
     ∷ codes " thread " ∷ decimal thread ∷ codes " (" ∷ hex thread ∷ codes "), code " ∷ hex code
@@ -52,7 +52,7 @@ unread_row number error = concat (codes "    #" ∷ decimal number ∷ codes " c
 -- the line of an exception, or of why it can't be read
 abbrev pub exception_line : ℕ → Result ExceptionValue Error → List ℕ
 exception_line number (Ok e) =
-    exception_row number e.thread e.code e.at (or_empty e.reason) (record_text e)
+    exception_row number e.thread e.code e.at (or_empty e.reason) (described_text e)
 exception_line number (Err e) = unread_row number (name_of_error e)
 
 -- each of them

@@ -43,13 +43,14 @@ set_lines (name ∷ names) = set_row (name ∷ names) ∷ []
 abbrev pub placed_lines : CrashValue → List ℕ × AddressFacts → List (List ℕ)
 placed_lines c r = if is_placed r.1 then address_line c (codes "    ") r.0 [] r.1 ∷ [] else []
 
--- the registers whose values lie there, after a heading where there are any
+-- the heading of those registers, where there are any
 abbrev pub placed_heading : List (List ℕ × AddressFacts) → List (List ℕ)
 placed_heading registers = if list_any (λ r. is_placed r.1) registers
     then codes "registers in a module or a stack" ∷ [] else []
 
-unfoldable pub registers_lines : CrashValue → List (List ℕ × AddressFacts) → List (List ℕ)
-registers_lines c registers = placed_heading registers ++ flat_map (placed_lines c) registers
+-- the registers whose values lie there, after their heading
+unfoldable pub placed_registers : CrashValue → List (List ℕ × AddressFacts) → List (List ℕ)
+placed_registers c registers = placed_heading registers ++ flat_map (placed_lines c) registers
 
 -- ---- the instruction pointer
 
@@ -104,7 +105,7 @@ words_lines modules words = words_heading words ++ map (word_line modules) words
 -- the flags and the registers
 abbrev pub processor_lines : CrashValue → PointValue → List (List ℕ)
 processor_lines c p =
-    flags_row p.flags ∷ (set_lines p.set_flags ++ registers_lines c p.registers)
+    flags_row p.flags ∷ (set_lines p.set_flags ++ placed_registers c p.registers)
 
 -- the instruction pointer, the code and the words
 abbrev pub memory_lines : CrashValue → PointValue → List (List ℕ)

@@ -56,3 +56,12 @@ abbrev pub record_text : ExceptionValue → List ℕ
 record_text e = unless_zero (codes ", flags ") e.flags
     ++ (unless_zero (codes ", nested record at ") e.nested
     ++ (access_words e.access ++ (sender_words e.sender ++ parameters_words e.parameters)))
+
+-- LLDB's description of an exception, if there is one
+abbrev pub description_words : Option (List ℕ) → List ℕ
+description_words (Some text) = concat (codes ", " ∷ text ∷ [])
+description_words None = []
+
+-- the same words of a record with the description
+abbrev pub described_text : ExceptionValue → List ℕ
+described_text e = record_text e ++ description_words e.description

@@ -9,12 +9,12 @@ ghost use Rattle.crash_text.specs.Exceptions.{crash_lines, crashed_row, each_exc
 ghost use Rattle.crash_text.specs.Exceptions.{exception_line, exception_row, none_lines};
 ghost use Rattle.crash_text.specs.Exceptions.{several_lines, several_row, unread_row};
 ghost use Rattle.crash_text.specs.Lines.{Adds, if_some};
-ghost use Rattle.crash_text.specs.Records.{record_text};
+ghost use Rattle.crash_text.specs.Records.{described_text, record_text};
 
 use crate::addresses::push_address;
 use crate::lines::push_line;
 use crate::point::push_point;
-use crate::records::record_text;
+use crate::records::{described_text, record_text};
 use crate::registers::push_registers;
 use crate::words::{or_empty, push_text, push_words, unless_empty};
 use crash::{Crash, CrashCause, CrashException};
@@ -190,7 +190,7 @@ fn push_read(out: &mut String, number: usize, exception: &CrashException) -> Res
     ensures { Adds out.old out.new
         (exception_line number (Ok (exception_of exception.now)) ∷ []) result }
 {
-    let said = record_text(*out.allocator(), exception)?;
+    let said = described_text(*out.allocator(), exception)?;
     push_exception_row(
         out,
         number,

@@ -9,7 +9,7 @@ ghost use Rattle.crash_text.specs.Lines.{Adds};
 ghost use Rattle.crash_text.specs.Point.{byte_words, code_lines, code_row, flag_words, flags_row};
 ghost use Rattle.crash_text.specs.Point.{instruction_lines, is_ordinary, known_point_lines};
 ghost use Rattle.crash_text.specs.Point.{memory_lines, placed_heading, placed_lines, point_lines};
-ghost use Rattle.crash_text.specs.Point.{processor_lines, registers_lines, set_lines, set_row};
+ghost use Rattle.crash_text.specs.Point.{processor_lines, placed_registers, set_lines, set_row};
 ghost use Rattle.crash_text.specs.Point.{set_words, word_line, word_row, words_heading, words_lines};
 
 use crate::addresses::push_address_line;
@@ -55,7 +55,7 @@ fn push_processor(
 {
     push_flags(out, point.flags.as_slice())?;
     push_set(out, point.set_flags.as_slice())?;
-    push_registers(out, crash, point.registers.as_slice())?;
+    push_placed_registers(out, crash, point.registers.as_slice())?;
     Ok(())
 }
 
@@ -137,20 +137,20 @@ fn set_words(alloc: Global, names: &[&'static str]) -> Result<String, AllocError
 // ---- the registers
 
 // Appends the registers whose values lie in a module or a stack, after a heading if there are any.
-#[tactic(auto, unfolding(crate::specs::Point::registers_lines))]
-fn push_registers(
+#[tactic(auto, unfolding(crate::specs::Point::placed_registers))]
+fn push_placed_registers(
     out: &mut String,
     crash: &Crash<'_>,
     registers: &[(&'static str, AddressFacts)],
 ) -> Result<(), AllocError>
-    ensures { Adds out.old out.new (registers_lines (crash_of crash.now)
+    ensures { Adds out.old out.new (placed_registers (crash_of crash.now)
         (map (λ r. (r.0.now, r.1)) registers.now)) result }
 {
     push_placed_heading(out, registers)?;
     push_each_placed(out, crash, registers)
 }
 
-// Appends the heading of registers, if the value of one lies in a module or a stack.
+// Appends the heading of those registers, if there are any.
 fn push_placed_heading(
     out: &mut String,
     registers: &[(&'static str, AddressFacts)],
@@ -172,7 +172,7 @@ fn has_placed(registers: &[(&'static str, AddressFacts)]) -> bool
     registers.iter().any(|register| register.1.is_placed())
 }
 
-// Appends the lines of those registers.
+// Appends the line of each of those registers.
 fn push_each_placed(
     out: &mut String,
     crash: &Crash<'_>,

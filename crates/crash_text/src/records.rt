@@ -1,9 +1,11 @@
 //! The words for what the record of an exception says.
 ghost use Rattle.std.specs.Prelude.{◌≡◌, ◌++◌, IfOk, OnOk, string_bytes};
 ghost use Rattle.std.specs.List.{flat_map};
+ghost use Rattle.std.specs.Option.{option_map};
 ghost use Rattle.crash.specs.Cause.{exception_of};
-ghost use Rattle.crash_text.specs.Records.{access_words, code_words, parameter_words};
-ghost use Rattle.crash_text.specs.Records.{parameters_words, process_words, record_text};
+ghost use Rattle.crash_text.specs.Records.{access_words, code_words, described_text};
+ghost use Rattle.crash_text.specs.Records.{description_words, parameter_words, parameters_words};
+ghost use Rattle.crash_text.specs.Records.{process_words, record_text};
 ghost use Rattle.crash_text.specs.Records.{sender_words, unless_zero, user_words};
 
 use crash::{Access, CrashException, Sender, SignalCode};
@@ -23,6 +25,30 @@ pub(crate) fn record_text(alloc: Global, exception: &CrashException) -> Result<S
     push_sender(&mut words, exception.sender)?;
     push_parameters(&mut words, exception.parameters.as_slice())?;
     Ok(words)
+}
+
+// Makes the same words with LLDB's description of the exception, if it has one.
+pub(crate) fn described_text(
+    alloc: Global,
+    exception: &CrashException,
+) -> Result<String, AllocError>
+    ensures { IfOk result
+        (λ words. string_bytes words ≡ described_text (exception_of exception.now)) }
+{
+    let mut words = record_text(alloc, exception)?;
+    push_description(&mut words, &exception.description)?;
+    Ok(words)
+}
+
+// Appends LLDB's description of an exception, if there is one.
+fn push_description(words: &mut String, description: &Option<String>) -> Result<(), AllocError>
+    ensures { OnOk result (string_bytes words.new ≡ string_bytes words.old
+        ++ description_words (option_map string_bytes description.now)) }
+{
+    match description {
+        Some(text) => push_pieces(words, &[Words(", "), Words(text.as_str())]),
+        None => Ok(()),
+    }
 }
 
 // Appends a number after its words, unless it is 0.

@@ -6,7 +6,7 @@ use Rattle.crash_text.proofs.point.push_processor.Goals as goal
 pub returns : goal.returns
 returns c =
     rw (
-      c.in_ok-push_registers.ensures,
+      c.in_ok-push_placed_registers.ensures,
       c.in_ok-push_set.ensures,
       c.in_ok-push_flags.ensures,
       c.as_slice.ensures.value,
