@@ -16,16 +16,31 @@ abbrev pub is_past_headers : List ModuleValue → ℕ → Bool
 is_past_headers modules address =
     option_map_or (λ offset. nat_le 4096 offset) (module_offset_at modules (Some address)) false
 
--- a byte FF and the byte after it call by register or memory: its bits 3 to 5 are 2
-abbrev pub calls_by : ℕ → ℕ → Bool
-calls_by first second = first == 255 && second / 8 % 8 == 2
+-- how many bytes an operand with a SIB byte has, by the mode of its ModR/M byte and the base of its SIB
+-- byte: these two, and a displacement of one byte in mode 1, of four in mode 2 and where the base is 5
+-- (Intel's manual, volume 2, tables 2-2 and 2-3)
+abbrev pub operand_length_with_sib : ℕ → ℕ → ℕ
+operand_length_with_sib mode base = if mode == 1 then 3 else if mode == 2 || base == 5 then 6 else 2
+
+-- how many bytes an operand has: its ModR/M byte alone in mode 3; a SIB byte where the register is 4;
+-- else a displacement of one byte in mode 1, of four in mode 2 and where the register is 5
+unfoldable pub operand_length : ℕ → ℕ → ℕ → ℕ
+operand_length mode register base =
+    if mode == 3 then 1 else if register == 4 then operand_length_with_sib mode base
+    else if mode == 1 then 2 else if mode == 2 || register == 5 then 5 else 1
+
+-- a byte and an operand of so many bytes, by its first two, are a call by register or memory: FF with a
+-- ModR/M byte whose bits 3 to 5 are 2
+unfoldable pub calls_by : ℕ → ℕ → ℕ → ℕ → Bool
+calls_by length first modrm sib = first == 255 && (modrm / 8 % 8 == 2
+    && operand_length (modrm / 64) (modrm % 8) (sib % 8) == length)
 
 -- the bytes before an address end with a call of x86 or x86-64: E8 with a distance; FF /2 with its
 -- operand, in two to seven bytes; or 9A with a far address
 unfoldable pub ends_x86_call : List ℕ → Bool
 ends_x86_call (b7 ∷ b6 ∷ b5 ∷ b4 ∷ b3 ∷ b2 ∷ b1 ∷ []) =
-    b5 == 232 || (calls_by b2 b1 || (calls_by b3 b2 || (calls_by b4 b3
-    || (calls_by b6 b5 || (calls_by b7 b6 || b7 == 154)))))
+    b5 == 232 || (calls_by 1 b2 b1 0 || (calls_by 2 b3 b2 b1 || (calls_by 3 b4 b3 b2
+    || (calls_by 5 b6 b5 b4 || (calls_by 6 b7 b6 b5 || b7 == 154)))))
 ends_x86_call _ = false
 
 -- the same of ARM64: BL, or BLR in each of its forms, an instruction of four bytes, the lowest first

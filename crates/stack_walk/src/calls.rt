@@ -2,7 +2,8 @@ ghost use Rattle.std.specs.Prelude.{◌≡◌, ◌+◌, ◌-◌};
 ghost use Rattle.std.specs.Option.{option_copied};
 ghost use Rattle.minidump.specs.Below.MemoryLists.Unified.{unified_list, unified_region};
 ghost use Rattle.stack_walk.specs.Calls.{bytes_before, bytes_until, calls_by, ends_arm64_call};
-ghost use Rattle.stack_walk.specs.Calls.{ends_call, ends_x86_call, may_end_call};
+ghost use Rattle.stack_walk.specs.Calls.{ends_call, ends_x86_call, may_end_call, operand_length};
+ghost use Rattle.stack_walk.specs.Calls.{operand_length_with_sib};
 
 use minidump::system_info::Cpu;
 use minidump::{UnifiedMemory, UnifiedMemoryList};
@@ -60,22 +61,56 @@ fn ends_x86_call(bytes: &[u8]) -> bool
     match bytes {
         [b7, b6, b5, b4, b3, b2, b1] => {
             *b5 == 0xe8
-                || calls_by(*b2, *b1)
-                || calls_by(*b3, *b2)
-                || calls_by(*b4, *b3)
-                || calls_by(*b6, *b5)
-                || calls_by(*b7, *b6)
+                || calls_by(1, *b2, *b1, 0)
+                || calls_by(2, *b3, *b2, *b1)
+                || calls_by(3, *b4, *b3, *b2)
+                || calls_by(5, *b6, *b5, *b4)
+                || calls_by(6, *b7, *b6, *b5)
                 || *b7 == 0x9a
         }
         _ => false,
     }
 }
 
-// Tells whether a byte and the next one call by register or memory: FF /2.
-fn calls_by(first: u8, second: u8) -> bool
-    ensures { result ≡ calls_by first second }
+// Tells whether a byte and an operand of so many bytes are a call by register or memory, FF /2: the
+// operand by its first two bytes.
+#[tactic(auto, unfolding(crate::specs::Calls::calls_by))]
+fn calls_by(length: u8, first: u8, modrm: u8, sib: u8) -> bool
+    ensures { result ≡ calls_by length first modrm sib }
 {
-    first == 0xff && second / 8 % 8 == 2
+    first == 0xff && modrm / 8 % 8 == 2 && operand_length(modrm / 64, modrm % 8, sib % 8) == length
+}
+
+// Returns how many bytes an operand has, by mode and register of its ModR/M byte, and the base of
+// its SIB byte.
+#[tactic(auto, unfolding(crate::specs::Calls::operand_length))]
+fn operand_length(mode: u8, register: u8, base: u8) -> u8
+    ensures { result ≡ operand_length mode register base }
+{
+    if mode == 3 {
+        1
+    } else if register == 4 {
+        operand_length_with_sib(mode, base)
+    } else if mode == 1 {
+        2
+    } else if mode == 2 || register == 5 {
+        5
+    } else {
+        1
+    }
+}
+
+// Returns the same of an operand with a SIB byte.
+fn operand_length_with_sib(mode: u8, base: u8) -> u8
+    ensures { result ≡ operand_length_with_sib mode base }
+{
+    if mode == 1 {
+        3
+    } else if mode == 2 || base == 5 {
+        6
+    } else {
+        2
+    }
 }
 
 // Tells whether bytes end with a call of ARM64.
