@@ -1,13 +1,13 @@
 -- A table of counts, and one more of a name.
 use Rattle.std.proofs.Common.{◌≡◌, ◌∙◌, ◌+◌, ◌<◌, ◌≤◌, ℕ, Bool, true, false, ◌||◌, cond, if◌then◌else◌, Ordering, Less, Equal, Greater, List, [], ◌∷◌, ◌++◌}
-use Rattle.std.proofs.Common.{◌^◌, append_assoc, Option, Some, None, ap, arith, get_or, length, map, refl, string_bytes, sym, take}
+use Rattle.std.proofs.Common.{◌^◌, append_assoc, Option, Some, None, ap, arith, get_or, length, map, refl, string_bytes, subst, sym, take}
 use Rattle.std.specs.Prelude.{bytes_eq, count_by, String, unwrap_or}
 use Rattle.std.specs.BTreeMap.{insert_entry, is_at}
 use Rattle.std.specs.Cmp.Lexicographic.{slice_cmp}
 use Rattle.std.specs.Global.{Global}
 use Rattle.std.specs.List.{cons_option, filter_map, list_any}
 use Rattle.std.specs.Map.{lookup}
-use Rattle.std.specs.Option.{option_map, option_map_or, option_or}
+use Rattle.std.specs.Option.{option_map, option_or}
 use Rattle.std.specs.Ordering.{is_eq, match_ordering, nat_cmp}
 use Rattle.std.specs.String.{string_cmp}
 use Rattle.std.proofs.lemmas.List.{append-nil, length-map, length-take-le, map-append, take_all}
@@ -20,8 +20,16 @@ use Rattle.minidump.specs.Below.Records.Handles.{handle_of}
 use Rattle.minidump.specs.Below.System.LastValues.{IsDictionaryOf, dictionary_of, last_value}
 use Rattle.minidump_system.proofs.OneDictionary.{dictionary_is_one, dictionary_more, dictionary_none, is_dictionary}
 use Rattle.crash.specs.declared.handle_kinds.HandleKind.{HandleKind}
-use Rattle.crash.specs.HandleKinds.{KindValue, counts, kind_by, kind_of, one_more, one_more_if, tally, times, type_names}
+use Rattle.crash.specs.HandleKinds.{HasOneMore, IsFew, KindValue, counts, kind_by, kind_of, tally, type_names}
 use Rattle.crash.proofs.Found.{next_found}
+
+-- the number of a name in a table: 0 where it lacks the name
+abbrev pub times : List (List ℕ × ℕ) → List ℕ → ℕ
+times table name = unwrap_or (lookup (is_at (slice_cmp nat_cmp name)) table) 0
+
+-- the table with one more of a name
+abbrev pub one_more : List (List ℕ × ℕ) → List ℕ → List (List ℕ × ℕ)
+one_more table name = insert_entry (slice_cmp nat_cmp) table name (times table name + 1)
 
 -- ---- the last value of a key among pairs that have its value alone
 
@@ -64,7 +72,7 @@ value_of_none true n none = refl
 value_of_none false n none = sym (none refl)
 
 -- the table has the number of each name
-pub times_counted : (names : List (List ℕ)) (table : List (List ℕ × ℕ)) (key : List ℕ) → IsDictionaryOf (counts names) table
+times_counted : (names : List (List ℕ)) (table : List (List ℕ × ℕ)) (key : List ℕ) → IsDictionaryOf (counts names) table
     → times table key ≡ count_by (bytes_eq key) names
 times_counted names table key d =
     ap (λ o. unwrap_or o 0) (d.last key ∙ last_counted (λ name. count_by (bytes_eq name) names) key names)
@@ -127,16 +135,29 @@ one_more_counted names table name d =
     let more = dictionary_more (counts names) table (name, times table name + 1) d in
     record { ascending = more.ascending; last = λ key. more.last key ∙ more_counted names table name key d }
 
-pub one_more_if_counted : (names : List (List ℕ)) (table : List (List ℕ × ℕ)) (name : Option (List ℕ)) → IsDictionaryOf (counts names) table
-    → IsDictionaryOf (counts (names ++ cons_option name [])) (one_more_if table name)
-one_more_if_counted names table None d = rw (append-nil names) d
-one_more_if_counted names table (Some name) d = one_more_counted names table name d
-
-pub none_yet : IsDictionaryOf (counts []) []
-none_yet = dictionary_none
-
-pub all_counted : (names : List (List ℕ)) (table : List (List ℕ × ℕ)) → IsDictionaryOf (counts names) table → table ≡ tally names
+all_counted : (names : List (List ℕ)) (table : List (List ℕ × ℕ)) → IsDictionaryOf (counts names) table → table ≡ tally names
 all_counted names table d = dictionary_is_one (counts names) table (dictionary_of (counts names)) d (is_dictionary (counts names))
+
+tallied : (names : List (List ℕ)) (table : List (List ℕ × ℕ)) → table ≡ tally names → IsDictionaryOf (counts names) table
+tallied names table is = subst (IsDictionaryOf (counts names)) (sym is) (is_dictionary (counts names))
+
+pub one_more_tallied : (before : List (List ℕ × ℕ)) (name : List ℕ) (after : List (List ℕ × ℕ)) → after ≡ one_more before name
+    → HasOneMore before (Some name) after
+one_more_tallied before name after step = λ names is.
+    step ∙ all_counted (names ++ name ∷ []) (one_more before name) (one_more_counted names before name (tallied names before is))
+
+pub none_tallied : (table : List (List ℕ × ℕ)) → HasOneMore table None table
+none_tallied table = λ names is. is ∙ ap tally (sym (append-nil names))
+
+pub none_yet : [] ≡ tally []
+none_yet = all_counted [] [] dictionary_none
+
+-- a name is at most as often among names as there are names
+pub few_times : (table : List (List ℕ × ℕ)) (name : List ℕ) → IsFew table → times table name < 2 ^ 63
+few_times table name (names, is, few) =
+    let same = times_counted names table name (tallied names table is) in
+    let among = count_by-le-length (bytes_eq name) names in
+    omega (arith, same, among, few)
 
 -- ---- a map whose keys are texts
 
@@ -174,35 +195,28 @@ few_found : {X Y : Type 0} (f : X → Option Y) (xs : List X) → length (filter
 few_found f [] = omega arith
 few_found f (x ∷ xs) = let more = few_by (f x) (filter_map f xs) (length xs) (few_found f xs) in omega (arith, more)
 
--- a name is at most as often among names of handles as there are handles
-pub few_times : (handles : List MinidumpHandleDescriptor) (i : ℕ) (table : List (List ℕ × ℕ)) (name : Option (String Global)) → i ≤ length handles
-    → i < 2 ^ 63 → IsDictionaryOf (counts (type_names (map handle_of (take i handles)))) table
-    → option_map_or (λ name. times table (string_bytes name)) name 0 < 2 ^ 63
-few_times handles i table None within few d = omega arith
-few_times handles i table (Some name) within few d =
-    let names = type_names (map handle_of (take i handles)) in
-    let same = times_counted names table (string_bytes name) d in
-    let among = count_by-le-length (bytes_eq (string_bytes name)) names in
+-- handles have at most as many names as there are handles
+pub few_names : (handles : List MinidumpHandleDescriptor) (i : ℕ) → i ≤ length handles → i < 2 ^ 63
+    → length (type_names (map handle_of (take i handles))) < 2 ^ 63
+few_names handles i within few =
     let found = few_found (λ h. h.type_name) (map handle_of (take i handles)) in
     let mapped = length-map (take i handles) handle_of in
     let first = length-take-le i handles within in
-    omega (arith, same, among, found, mapped, first, few)
+    omega (arith, found, mapped, first, few)
 
 -- the handles so far are counted, and one more is
-pub next_handle : (handles : List MinidumpHandleDescriptor) (i : ℕ) (h : MinidumpHandleDescriptor) (table after : List (List ℕ × ℕ)) → i < length handles
-    → h ≡ get_or handles i h → IsDictionaryOf (counts (type_names (map handle_of (take i handles)))) table
-    → after ≡ one_more_if table (option_map string_bytes h.type_name)
-    → IsDictionaryOf (counts (type_names (map handle_of (take (i + 1) handles)))) after
-next_handle handles i h table after within at d step =
+pub next_handle : (handles : List MinidumpHandleDescriptor) (i : ℕ) (h : MinidumpHandleDescriptor) (before after : List (List ℕ × ℕ)) → i < length handles
+    → h ≡ get_or handles i h → before ≡ tally (type_names (map handle_of (take i handles)))
+    → HasOneMore before (option_map string_bytes h.type_name) after → after ≡ tally (type_names (map handle_of (take (i + 1) handles)))
+next_handle handles i h before after within at so step =
     let names : type_names (map handle_of (take i handles)) ++ cons_option (option_map string_bytes h.type_name) []
     ≡ type_names (map handle_of (take (i + 1) handles)) =
     next_found handle_of (λ v. v.type_name) handles i h _ _ _ within at refl refl refl in
-    rw (step, ← names) (one_more_if_counted (type_names (map handle_of (take i handles))) table (option_map string_bytes h.type_name) d)
+    step (type_names (map handle_of (take i handles))) so ∙ ap tally names
 
 pub all_handles : (handles : List MinidumpHandleDescriptor) (i : ℕ) (table : List (List ℕ × ℕ)) → length handles ≤ i
-    → IsDictionaryOf (counts (type_names (map handle_of (take i handles)))) table → table ≡ tally (type_names (map handle_of handles))
-all_handles handles i table past d =
-    all_counted _ table d ∙ ap (λ hs. tally (type_names (map handle_of hs))) (take_all i handles past)
+    → table ≡ tally (type_names (map handle_of (take i handles))) → table ≡ tally (type_names (map handle_of handles))
+all_handles handles i table past so = so ∙ ap (λ hs. tally (type_names (map handle_of hs))) (take_all i handles past)
 
 -- ---- kinds
 

@@ -72,6 +72,10 @@ cause_of c = record {
   address = c.address;
 }
 
+-- the exception that counts
+abbrev pub counted_exception : CauseValue → Option ExceptionValue
+counted_exception c = counted c.exceptions c.counts
+
 -- ---- exceptions
 
 -- the address of a crash, where the system is known. A signal that a process sent has none

@@ -1,11 +1,7 @@
 -- The kinds of the handles of a process, by the names of their types.
-use Rattle.std.specs.Prelude.{ℕ, ◌+◌, List, [], bytes_eq, count_by, map, Option, Some, None}
-use Rattle.std.specs.Prelude.{Result, Ok, Err, string_bytes, unwrap_or}
-use Rattle.std.specs.BTreeMap.{insert_entry, is_at}
-use Rattle.std.specs.Cmp.Lexicographic.{slice_cmp}
-use Rattle.std.specs.List.{filter_map}
-use Rattle.std.specs.Map.{lookup}
-use Rattle.std.specs.Ordering.{nat_cmp}
+use Rattle.std.specs.Prelude.{◌≡◌, ℕ, ◌^◌, ◌<◌, ◌++◌, List, [], bytes_eq, count_by, length, map, Option}
+use Rattle.std.specs.Prelude.{Result, Ok, Err, string_bytes}
+use Rattle.std.specs.List.{cons_option, filter_map}
 use Rattle.minidump.specs.declared.Error.{Error}
 use Rattle.minidump.specs.Below.Records.Handles.{Handle}
 use Rattle.minidump.specs.Below.System.LastValues.{dictionary_of}
@@ -28,18 +24,15 @@ counts names = map (λ name. (name, count_by (bytes_eq name) names)) names
 abbrev pub tally : List (List ℕ) → List (List ℕ × ℕ)
 tally names = dictionary_of (counts names)
 
--- the number of a name in such a table: 0 where it lacks the name
-abbrev pub times : List (List ℕ × ℕ) → List ℕ → ℕ
-times table name = unwrap_or (lookup (is_at (slice_cmp nat_cmp name)) table) 0
+-- a table is that of fewer than 2^63 names
+abbrev pub IsFew : List (List ℕ × ℕ) → Type 0
+IsFew table = (names : List (List ℕ)) × (table ≡ tally names) × (length names < 2 ^ 63)
 
--- the table with one more of a name
-abbrev pub one_more : List (List ℕ × ℕ) → List ℕ → List (List ℕ × ℕ)
-one_more table name = insert_entry (slice_cmp nat_cmp) table name (times table name + 1)
-
--- the same of a name that may be absent
-abbrev pub one_more_if : List (List ℕ × ℕ) → Option (List ℕ) → List (List ℕ × ℕ)
-one_more_if table None = table
-one_more_if table (Some name) = one_more table name
+-- a table has one more of a name, if there is one: of whatever names it was the table before, it is that
+-- of these and the name
+abbrev pub HasOneMore : List (List ℕ × ℕ) → Option (List ℕ) → List (List ℕ × ℕ) → Type 0
+HasOneMore before name after =
+    (names : List (List ℕ)) → before ≡ tally names → after ≡ tally (names ++ cons_option name [])
 
 -- the names of the types of handles, of those that have one
 abbrev pub type_names : List Handle → List (List ℕ)

@@ -151,6 +151,11 @@ threads_by names scan c e = record {
 abbrev pub threads_in : Lists → ℕ → ContentsValue → ThreadsValue
 threads_in names scan c = threads_by names scan c (counting_exception c)
 
+-- the thread that crashed, with its index
+abbrev pub crashed_thread : ThreadsValue → Option (ℕ × ThreadValue)
+crashed_thread t = option_and_then
+    (λ index. option_map (λ thread. (index, thread)) (slice_get t.threads index)) t.crashing
+
 -- ---- how they are walked
 
 -- the stack and the context by which the thread is walked that the list lacks

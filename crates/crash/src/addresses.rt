@@ -1,29 +1,30 @@
 //! What is known of an address.
-ghost use Rattle.std.specs.Prelude.{◌≡◌, [], unwrap_or};
+ghost use Rattle.std.specs.Prelude.{◌≡◌, [], map, unwrap_or};
 ghost use Rattle.std.specs.Result.{result_ok};
 ghost use Rattle.minidump.specs.Below.Contexts.Context.{map_ok};
+ghost use Rattle.minidump.specs.Below.Index.Lookup.{has_address};
 ghost use Rattle.minidump.specs.Below.MemoryLists.UnifiedInfo.{info_region};
-ghost use Rattle.minidump.specs.Below.Modules.UnloadedModule.{unloaded_of};
-ghost use Rattle.minidump.specs.Promise.{module_list_stream, thread_list_stream};
-ghost use Rattle.minidump.specs.Promise.{unloaded_module_list_stream};
-ghost use Rattle.minidump.specs.Thread.{thread_of};
+ghost use Rattle.minidump.specs.Below.Modules.UnloadedModule.{range_of_unloaded, unloaded_of};
+ghost use Rattle.minidump.specs.Promise.{thread_list_stream, unloaded_module_list_stream};
 ghost use Rattle.crash.specs.Addresses.{canonical_on, facts_of, has_stack, is_below_stack};
 ghost use Rattle.crash.specs.Addresses.{is_canonical, is_guarded, is_placed, memory_at, memory_of};
-ghost use Rattle.crash.specs.Addresses.{module_place, null_offset, stack_above, stack_at, state_of};
+ghost use Rattle.crash.specs.Addresses.{null_offset, stack_above, stack_at, state_of};
 ghost use Rattle.crash.specs.Addresses.{state_of_number, unloaded_at};
 ghost use Rattle.crash.specs.Contents.{contents_of};
 ghost use Rattle.crash.specs.Contexts.{system_of};
 
 use crate::contents::Contents;
-use crate::last::{Choose, last_index};
+use crate::last::last_index;
 use crate::stacks::{StackRange, named_stack};
+use crate::thread_facts::entries_of;
 use bitflags::Flags;
 use minidump::format::{MemoryProtection, MemoryState};
 use minidump::system_info::Cpu;
 use minidump::{
-    Error, MinidumpModuleList, MinidumpThread, MinidumpThreadList, MinidumpUnloadedModule,
-    MinidumpUnloadedModuleList, Region, UnifiedMemoryInfo,
+    Error, MinidumpThreadList, MinidumpUnloadedModule, MinidumpUnloadedModuleList, Region,
+    UnifiedMemoryInfo,
 };
+use stack_walk::module_place;
 
 /// What is known of an address.
 #[derive(Clone, Copy, Debug)]
@@ -130,13 +131,6 @@ fn canonical_on(cpu: Cpu, address: u64) -> bool
     }
 }
 
-// Returns the index of the kept module that contains an address, and the offset in that.
-pub(crate) fn module_place(modules: &MinidumpModuleList, address: u64) -> Option<(usize, u64)>
-    ensures { result ≡ module_place (module_list_stream.value modules.now) address }
-{
-    stack_walk::module_place(modules, address)
-}
-
 // ---- unloaded modules
 
 // Returns the index of the last unloaded module that contains an address.
@@ -145,31 +139,25 @@ fn unloaded_at(list: &Result<MinidumpUnloadedModuleList, Error>, address: u64) -
         (result_ok (map_ok unloaded_module_list_stream.value list.now)) []) address }
 {
     match list {
-        Ok(list) => last_index(&Unloaded(address), list.iter().as_slice()),
+        Ok(list) => last_unloaded(list.iter().as_slice(), address),
         Err(_) => None,
     }
 }
 
-// The unloaded modules that contain an address.
-#[derive(Clone, Copy)]
-struct Unloaded(u64);
+// Returns the index of the last of unloaded modules that contains an address.
+fn last_unloaded(modules: &[MinidumpUnloadedModule], address: u64) -> Option<usize>
+    ensures { result ≡ unloaded_at (map unloaded_of modules.now) address }
+{
+    last_index(modules, |unloaded| contains(unloaded, address))
+}
 
-impl Choose<MinidumpUnloadedModule> for Unloaded {
-    ghost use Rattle.minidump.specs.Below.Index.Lookup.{has_address};
-    ghost use Rattle.minidump.specs.Below.Modules.UnloadedModule.{UnloadedValue, unloaded_of};
-    ghost use Rattle.minidump.specs.Below.Modules.UnloadedModule.{range_of_unloaded};
-
-    ghost Value = { UnloadedValue };
-
-    ghost value_of = { unloaded_of };
-
-    ghost is_chosen = { λ u m. has_address range_of_unloaded u.0 m };
-
-    fn chooses(&self, item: &MinidumpUnloadedModule) -> bool {
-        match item.memory_range() {
-            Some(range) => range.start <= self.0 && self.0 <= range.end,
-            None => false,
-        }
+// Tells whether an unloaded module contains an address.
+fn contains(unloaded: &MinidumpUnloadedModule, address: u64) -> bool
+    ensures { result ≡ has_address range_of_unloaded address (unloaded_of unloaded.now) }
+{
+    match unloaded.memory_range() {
+        Some(range) => range.start <= address && address <= range.end,
+        None => false,
     }
 }
 
@@ -180,30 +168,11 @@ fn stack_at(threads: &Result<MinidumpThreadList<'_>, Error>, address: u64) -> Op
     ensures { result ≡ stack_at
         (unwrap_or (result_ok (map_ok thread_list_stream.value threads.now)) []) address }
 {
-    match threads {
-        Ok(list) => last_index(&OnStack(address), list.threads.as_slice()),
-        Err(_) => None,
-    }
-}
-
-// The threads whose stacks contain an address.
-#[derive(Clone, Copy)]
-struct OnStack(u64);
-
-impl Choose<MinidumpThread<'_>> for OnStack {
-    ghost use Rattle.minidump.specs.Thread.{Thread, thread_of};
-    ghost use Rattle.crash.specs.Addresses.{has_stack};
-    ghost use Rattle.crash.specs.Stacks.{named_stack};
-
-    ghost Value = { Thread };
-
-    ghost value_of = { thread_of };
-
-    ghost is_chosen = { λ a t. has_stack a.0 (named_stack t.raw.stack) };
-
-    fn chooses(&self, item: &MinidumpThread<'_>) -> bool {
-        has_stack(self.0, named_stack(&item.raw.stack))
-    }
+    let threads = entries_of(threads);
+    last_index(
+        threads,
+        |thread| has_stack(address, named_stack(&thread.raw.stack)),
+    )
 }
 
 // Tells whether a stack contains an address.
@@ -221,30 +190,11 @@ fn stack_above(threads: &Result<MinidumpThreadList<'_>, Error>, address: u64) ->
     ensures { result ≡ stack_above
         (unwrap_or (result_ok (map_ok thread_list_stream.value threads.now)) []) address }
 {
-    match threads {
-        Ok(list) => last_index(&BelowStack(address), list.threads.as_slice()),
-        Err(_) => None,
-    }
-}
-
-// The threads whose stacks begin a little above an address.
-#[derive(Clone, Copy)]
-struct BelowStack(u64);
-
-impl Choose<MinidumpThread<'_>> for BelowStack {
-    ghost use Rattle.minidump.specs.Thread.{Thread, thread_of};
-    ghost use Rattle.crash.specs.Addresses.{is_below_stack};
-    ghost use Rattle.crash.specs.Stacks.{named_stack};
-
-    ghost Value = { Thread };
-
-    ghost value_of = { thread_of };
-
-    ghost is_chosen = { λ a t. is_below_stack a.0 (named_stack t.raw.stack) };
-
-    fn chooses(&self, item: &MinidumpThread<'_>) -> bool {
-        is_below_stack(self.0, named_stack(&item.raw.stack))
-    }
+    let threads = entries_of(threads);
+    last_index(
+        threads,
+        |thread| is_below_stack(address, named_stack(&thread.raw.stack)),
+    )
 }
 
 // Tells whether a stack begins a little above an address.

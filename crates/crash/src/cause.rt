@@ -3,14 +3,14 @@ ghost use Rattle.std.specs.Option.{option_copied, option_map};
 ghost use Rattle.minidump.specs.Below.Contexts.Context.{map_ok};
 ghost use Rattle.minidump.specs.Promise.{exception_stream, system_info_stream};
 ghost use Rattle.crash.specs.Cause.{address_at, address_unless, cause_in, cause_of, exception_in};
-ghost use Rattle.crash.specs.Cause.{exception_of, exceptions_in, reason_in};
+ghost use Rattle.crash.specs.Cause.{counted_exception, exception_of, exceptions_in, reason_in};
 ghost use Rattle.crash.specs.Contents.{contents_of};
-ghost use Rattle.crash.specs.Contexts.{problem_in, system_of};
+ghost use Rattle.crash.specs.Contexts.{system_of};
 ghost use Rattle.crash.specs.Counting.{counted};
 
 use crate::addresses::{AddressFacts, facts_of};
 use crate::contents::Contents;
-use crate::contexts::{self, ContextProblem, context_at};
+use crate::contexts::{ContextProblem, problem_in};
 use crate::counting::counting;
 use crate::each::{MakeItem, make_items};
 use crate::records::{Access, Sender, access_of, description_of, parameters_of, sender_of};
@@ -29,6 +29,19 @@ pub struct CrashCause {
     /// What is known of the address of the crash, or `None` if no exception counts, or without
     /// system information.
     pub address: Option<AddressFacts>,
+}
+
+impl CrashCause {
+    /// Returns the exception that counts.
+    pub fn counted(&self) -> Option<&CrashException>
+        ensures { option_map exception_of (option_copied result)
+            ≡ counted_exception (cause_of self.now) }
+    {
+        match self.exceptions.get(self.counts?)? {
+            Ok(exception) => Some(exception),
+            Err(_) => None,
+        }
+    }
 }
 
 /// An exception.
@@ -158,10 +171,7 @@ fn exception_of(
     ensures memory { IsOkUnless result Error.OutOfMemory }
 {
     let system = contents.system.system.as_ref().ok();
-    let reason = reason_of(alloc, exception, system, names)?;
     let record = &exception.raw.exception_record;
-    let parameters = parameters_of(alloc, record)?;
-    let description = description_of(alloc, record)?;
     let sender = sender_of(system, record);
     Ok(CrashException {
         thread: exception.thread_id,
@@ -169,13 +179,13 @@ fn exception_of(
         flags: record.exception_flags,
         at: record.exception_address,
         nested: record.exception_record,
-        parameters,
-        description,
+        parameters: parameters_of(alloc, record)?,
+        description: description_of(alloc, record)?,
         access: access_of(system, record),
         sender,
         address: address_unless(sender, exception, system),
-        reason,
-        context_problem: problem_of(contents, exception),
+        reason: reason_of(alloc, exception, system, names)?,
+        context_problem: problem_in(contents, exception.endian(), exception.context_bytes()),
     })
 }
 
@@ -214,16 +224,6 @@ fn reason_of(
         }
         None => Ok(None),
     }
-}
-
-// Returns why the context of an exception isn't used.
-fn problem_of(contents: &Contents<'_>, exception: &MinidumpException<'_>) -> Option<ContextProblem>
-    ensures { result ≡ problem_in (system_of (contents_of contents.now))
-        (exception_stream.value exception.now).order
-        (exception_stream.value exception.now).context }
-{
-    let context = context_at(contents, exception);
-    contexts::problem_of(contents, exception.context_bytes(), &context)
 }
 
 // Returns what is known of the address of the crash.

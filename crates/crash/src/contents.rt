@@ -99,17 +99,12 @@ pub(crate) fn read_contents<'a>(alloc: Global, dump: &Minidump<'a>) -> Result<Co
     ensures contents { IfOk result (λ c. contents_of c ≡ contents_in (dump_of dump.now)) }
     ensures memory { IsOkUnless result Error.OutOfMemory }
 {
-    let system = system_streams(alloc, dump)?;
-    let threads = thread_streams(alloc, dump)?;
-    let space = space_streams(alloc, dump)?;
-    let messages = message_streams(alloc, dump)?;
-    let process = process_streams(alloc, dump)?;
     Ok(Contents {
-        system,
-        threads,
-        space,
-        messages,
-        process,
+        system: system_streams(alloc, dump)?,
+        threads: thread_streams(alloc, dump)?,
+        space: space_streams(alloc, dump)?,
+        messages: message_streams(alloc, dump)?,
+        process: process_streams(alloc, dump)?,
     })
 }
 
@@ -118,17 +113,12 @@ fn system_streams<'a>(alloc: Global, dump: &Minidump<'a>) -> Result<SystemStream
     ensures streams { IfOk result (λ s. system_streams_of s ≡ system_streams_in (dump_of dump.now)) }
     ensures memory { IsOkUnless result Error.OutOfMemory }
 {
-    let system = dump.try_stream(alloc)?;
-    let misc = dump.try_stream(alloc)?;
-    let breakpad = dump.try_stream(alloc)?;
-    let cpu_info = dump.try_stream(alloc)?;
-    let lsb_release = dump.try_stream(alloc)?;
     Ok(SystemStreams {
-        system,
-        misc,
-        breakpad,
-        cpu_info,
-        lsb_release,
+        system: dump.try_stream(alloc)?,
+        misc: dump.try_stream(alloc)?,
+        breakpad: dump.try_stream(alloc)?,
+        cpu_info: dump.try_stream(alloc)?,
+        lsb_release: dump.try_stream(alloc)?,
     })
 }
 
@@ -137,15 +127,11 @@ fn thread_streams<'a>(alloc: Global, dump: &Minidump<'a>) -> Result<ThreadStream
     ensures streams { IfOk result (λ s. thread_streams_of s ≡ thread_streams_in (dump_of dump.now)) }
     ensures memory { IsOkUnless result Error.OutOfMemory }
 {
-    let exceptions = dump.exceptions(alloc)?;
-    let threads = dump.try_stream(alloc)?;
-    let names = dump.try_stream(alloc)?;
-    let infos = dump.try_stream(alloc)?;
     Ok(ThreadStreams {
-        exceptions,
-        threads,
-        names,
-        infos,
+        exceptions: dump.exceptions(alloc)?,
+        threads: dump.try_stream(alloc)?,
+        names: dump.try_stream(alloc)?,
+        infos: dump.try_stream(alloc)?,
     })
 }
 
@@ -154,19 +140,13 @@ fn message_streams<'a>(alloc: Global, dump: &Minidump<'a>) -> Result<MessageStre
     ensures streams { IfOk result (λ s. message_streams_of s ≡ message_streams_in (dump_of dump.now)) }
     ensures memory { IsOkUnless result Error.OutOfMemory }
 {
-    let assertion = dump.try_stream(alloc)?;
-    let crashpad = dump.try_stream(alloc)?;
-    let mac_crash_info = dump.try_stream(alloc)?;
-    let mac_boot_args = dump.try_stream(alloc)?;
-    let soft_errors = dump.try_stream(alloc)?;
-    let stability = dump.try_stream(alloc)?;
     Ok(MessageStreams {
-        assertion,
-        crashpad,
-        mac_crash_info,
-        mac_boot_args,
-        soft_errors,
-        stability,
+        assertion: dump.try_stream(alloc)?,
+        crashpad: dump.try_stream(alloc)?,
+        mac_crash_info: dump.try_stream(alloc)?,
+        mac_boot_args: dump.try_stream(alloc)?,
+        soft_errors: dump.try_stream(alloc)?,
+        stability: dump.try_stream(alloc)?,
     })
 }
 
@@ -175,14 +155,10 @@ fn process_streams<'a>(alloc: Global, dump: &Minidump<'a>) -> Result<ProcessStre
     ensures streams { IfOk result (λ s. process_streams_of s ≡ process_streams_in (dump_of dump.now)) }
     ensures memory { IsOkUnless result Error.OutOfMemory }
 {
-    let handles = dump.try_stream(alloc)?;
-    let status = dump.try_stream(alloc)?;
-    let environ = dump.try_stream(alloc)?;
-    let limits = dump.try_stream(alloc)?;
     Ok(ProcessStreams {
-        handles,
-        status,
-        environ,
-        limits,
+        handles: dump.try_stream(alloc)?,
+        status: dump.try_stream(alloc)?,
+        environ: dump.try_stream(alloc)?,
+        limits: dump.try_stream(alloc)?,
     })
 }

@@ -1,5 +1,5 @@
 ghost use Rattle.std.specs.Prelude.{◌≡◌, ◌≤◌, ◌<◌, IfOk, IfSome, Some, is_some, length, map};
-ghost use Rattle.std.specs.Option.{option_copied, option_map, option_or};
+ghost use Rattle.std.specs.Option.{option_copied, option_map};
 ghost use Rattle.minidump.specs.Below.Bytes.Span.{record_at};
 ghost use Rattle.minidump.specs.Below.Format.ContextArm64.{context_arm64_old};
 ghost use Rattle.minidump.specs.Promise.{exception_stream, system_info_stream};
@@ -8,7 +8,7 @@ ghost use Rattle.crash.specs.Contents.{contents_of};
 ghost use Rattle.crash.specs.Contexts.{any_context, context_at, context_by, context_of};
 ghost use Rattle.crash.specs.Contexts.{first_found, first_of, found_in, has_general, lengths};
 ghost use Rattle.crash.specs.Contexts.{of_origin, old_arm64, old_context, old_on};
-ghost use Rattle.crash.specs.Contexts.{on_thread, padded, problem_by, registers_in, short_by};
+ghost use Rattle.crash.specs.Contexts.{on_thread, padded, problem_by, problem_in, registers_in, short_by};
 ghost use Rattle.crash.specs.Contexts.{register_values, short_context};
 ghost use Rattle.crash.specs.Contexts.{system_of, whole_context, whole_only};
 
@@ -76,25 +76,26 @@ pub(crate) struct FoundContext {
 
 // ---- contexts that are whole
 
-// Returns the context of an exception, if it is whole.
-fn exception_context(
+// Returns the context that bytes hold in the layout of the dump's processor.
+fn known_context(
     contents: &Contents<'_>,
-    exception: &MinidumpException<'_>,
-) -> Option<MinidumpContext>
-    ensures { option_map (λ c. c.raw) result ≡ known_context (system_of (contents_of contents.now))
-        (exception_stream.value exception.now).order (exception_stream.value exception.now).context }
+    endian: Endian,
+    bytes: Option<&[u8]>,
+) -> Option<MinidumpRawContext>
+    ensures { result ≡ known_context (system_of (contents_of contents.now)) endian
+        (option_copied bytes.entry) }
 {
     let system = contents.system.system.as_ref().ok()?;
-    exception.context(system, None)
+    read_raw(bytes?, endian, system)
 }
 
-// Returns the own context of a thread, if it is whole.
-fn thread_context(contents: &Contents<'_>, thread: &MinidumpThread<'_>) -> Option<MinidumpContext>
-    ensures { option_map (λ c. c.raw) result ≡ known_context (system_of (contents_of contents.now))
-        (thread_of thread.now).order (thread_of thread.now).context }
+// Returns the context that bytes hold on a system.
+fn read_raw(bytes: &[u8], endian: Endian, system: &MinidumpSystemInfo) -> Option<MinidumpRawContext>
+    ensures { result ≡ accepted_context
+        (system_info_stream.value system.now).raw.processor_architecture endian (Some bytes.now) }
 {
-    let system = contents.system.system.as_ref().ok()?;
-    thread.context(system, None)
+    let context = MinidumpContext::read(bytes, endian, system, None).ok()?;
+    Some(context.raw)
 }
 
 // Returns a whole context.
@@ -149,19 +150,6 @@ fn old_context(
 {
     let system = contents.system.system.as_ref().ok()?;
     old_on(system.cpu, endian, bytes?)
-}
-
-// Returns the first of two contexts.
-fn first_raw(
-    context: Option<MinidumpContext>,
-    other: Option<MinidumpRawContext>,
-) -> Option<MinidumpRawContext>
-    ensures { result ≡ option_or (option_map (λ c. c.raw) context) other }
-{
-    match context {
-        Some(context) => Some(context.raw),
-        None => other,
-    }
 }
 
 // ---- contexts that are cut after the general registers
@@ -249,31 +237,33 @@ fn read_padded(
     read_raw(&padded[..whole], endian, system)
 }
 
-// Returns the context that bytes hold.
-fn read_raw(bytes: &[u8], endian: Endian, system: &MinidumpSystemInfo) -> Option<MinidumpRawContext>
-    ensures { result ≡ accepted_context
-        (system_info_stream.value system.now).raw.processor_architecture endian (Some bytes.now) }
-{
-    let context = MinidumpContext::read(bytes, endian, system, None).ok()?;
-    Some(context.raw)
-}
-
 // ---- the context of a thread
 
-// Returns the context of an exception: whole, in any layout, or cut after its general registers.
+// Returns the context that bytes hold: whole, in any layout, or cut after its general registers.
+fn any_context(
+    contents: &Contents<'_>,
+    endian: Endian,
+    bytes: Option<&[u8]>,
+) -> Option<FoundContext>
+    ensures { result ≡ any_context (system_of (contents_of contents.now)) endian
+        (option_copied bytes.entry) }
+{
+    let known = known_context(contents, endian, bytes);
+    let whole = whole_context(known.or(old_context(contents, endian, bytes)));
+    whole.or(short_context(contents, endian, bytes))
+}
+
+// Returns the context of an exception.
 pub(crate) fn context_at(
     contents: &Contents<'_>,
     exception: &MinidumpException<'_>,
 ) -> Option<FoundContext>
     ensures { result ≡ context_at (contents_of contents.now) (exception_stream.value exception.now) }
 {
-    let (endian, bytes) = (exception.endian(), exception.context_bytes());
-    let old = old_context(contents, endian, bytes);
-    let whole = whole_context(first_raw(exception_context(contents, exception), old));
-    whole.or(short_context(contents, endian, bytes))
+    any_context(contents, exception.endian(), exception.context_bytes())
 }
 
-// Returns the own context of a thread: whole, or cut after its general registers.
+// Returns the own context of a thread.
 pub(crate) fn own_context(
     contents: &Contents<'_>,
     thread: &MinidumpThread<'_>,
@@ -281,10 +271,7 @@ pub(crate) fn own_context(
     ensures { result ≡ any_context (system_of (contents_of contents.now)) (thread_of thread.now).order
         (thread_of thread.now).context }
 {
-    let (endian, bytes) = (thread.endian(), thread.context_bytes());
-    let old = old_context(contents, endian, bytes);
-    let whole = whole_context(first_raw(thread_context(contents, thread), old));
-    whole.or(short_context(contents, endian, bytes))
+    any_context(contents, thread.endian(), thread.context_bytes())
 }
 
 // Returns the context of an exception, if it happened on the thread with an id.
@@ -383,9 +370,8 @@ fn context_by(
 ) -> Result<CrashContext, AllocError>
     ensures { IfOk result (λ c. context_of c ≡ registers_in origin short context.now.raw) }
 {
-    let registers = register_values(alloc, context)?;
     Ok(CrashContext {
-        registers,
+        registers: register_values(alloc, context)?,
         size: context.register_size(),
         origin,
         short,
@@ -405,36 +391,24 @@ pub(crate) fn register_values(
 
 // ---- why there are none
 
-// Returns why there are no registers in the bytes of a context, by what the system makes of them.
-pub(crate) fn problem_of(
+// Returns why there are no registers in the bytes of a context.
+pub(crate) fn problem_in(
     contents: &Contents<'_>,
+    endian: Endian,
     bytes: Option<&[u8]>,
-    context: &Option<FoundContext>,
 ) -> Option<ContextProblem>
-    ensures { result ≡ problem_by (is_some (system_of (contents_of contents.now)))
-        (is_some context.now) (option_copied bytes.entry) }
+    ensures { result ≡ problem_in (system_of (contents_of contents.now)) endian
+        (option_copied bytes.entry) }
 {
-    problem_by(bytes, is_known(contents), is_accepted(context))
+    let context = any_context(contents, endian, bytes);
+    problem_by(bytes, is_known(contents), context.is_some())
 }
 
 // Tells whether the system is known.
 fn is_known(contents: &Contents<'_>) -> bool
     ensures { result ≡ is_some (system_of (contents_of contents.now)) }
 {
-    match &contents.system.system {
-        Ok(_) => true,
-        Err(_) => false,
-    }
-}
-
-// Tells whether there is a context.
-fn is_accepted(context: &Option<FoundContext>) -> bool
-    ensures { result ≡ is_some context.now }
-{
-    match context {
-        Some(_) => true,
-        None => false,
-    }
+    contents.system.system.is_ok()
 }
 
 // Returns why there are no registers in the bytes of a context, by whether the system is known and

@@ -5,9 +5,10 @@ ghost use Rattle.minidump.specs.Below.Contexts.Context.{map_ok};
 ghost use Rattle.minidump.specs.Promise.{exception_stream};
 ghost use Rattle.crash.specs.Contents.{contents_of};
 ghost use Rattle.crash.specs.Counting.{counted, counting, counting_exception, has_code, is_read};
+ghost use Rattle.crash.specs.Last.{last_index};
 
 use crate::contents::Contents;
-use crate::last::{Choose, last_index};
+use crate::last::last_index;
 use minidump::{Error, MinidumpException};
 
 // Returns the exception that counts.
@@ -39,57 +40,36 @@ fn exception_at<'l, 'a>(
 pub(crate) fn counting(exceptions: &[Result<MinidumpException<'_>, Error>]) -> Option<usize>
     ensures { result ≡ counting (map (map_ok exception_stream.value) exceptions.now) }
 {
-    match last_index(&HasCode, exceptions) {
-        Some(index) => Some(index),
-        None => last_index(&IsRead, exceptions),
+    last_with_code(exceptions).or(last_read(exceptions))
+}
+
+// Returns the index of the last exception that can be read and whose code isn't 0.
+fn last_with_code(exceptions: &[Result<MinidumpException<'_>, Error>]) -> Option<usize>
+    ensures { result ≡ last_index has_code (map (map_ok exception_stream.value) exceptions.now) }
+{
+    last_index(exceptions, |exception| has_code(exception))
+}
+
+// Tells whether an exception can be read and its code isn't 0.
+fn has_code(exception: &Result<MinidumpException<'_>, Error>) -> bool
+    ensures { result ≡ has_code (map_ok exception_stream.value exception.now) }
+{
+    match exception {
+        Ok(exception) => exception.raw.exception_record.exception_code != 0,
+        Err(_) => false,
     }
 }
 
-// The exceptions that can be read and whose code isn't 0.
-#[derive(Clone, Copy)]
-struct HasCode;
-
-impl<'a> Choose<Result<MinidumpException<'a>, Error>> for HasCode {
-    ghost use Rattle.std.specs.Prelude.{Result};
-    ghost use Rattle.minidump.specs.declared.Error.{Error};
-    ghost use Rattle.minidump.specs.Below.Contexts.Context.{map_ok};
-    ghost use Rattle.minidump.specs.Exception.{Exception};
-    ghost use Rattle.minidump.specs.Promise.{exception_stream};
-    ghost use Rattle.crash.specs.Counting.{has_code};
-
-    ghost Value = { Result Exception Error };
-
-    ghost value_of = { map_ok exception_stream.value };
-
-    ghost is_chosen = { λ _ e. has_code e };
-
-    fn chooses(&self, item: &Result<MinidumpException<'a>, Error>) -> bool {
-        match item {
-            Ok(exception) => exception.raw.exception_record.exception_code != 0,
-            Err(_) => false,
-        }
-    }
+// Returns the index of the last exception that can be read.
+fn last_read(exceptions: &[Result<MinidumpException<'_>, Error>]) -> Option<usize>
+    ensures { result ≡ last_index is_read (map (map_ok exception_stream.value) exceptions.now) }
+{
+    last_index(exceptions, |exception| is_read(exception))
 }
 
-// The exceptions that can be read.
-#[derive(Clone, Copy)]
-struct IsRead;
-
-impl<'a> Choose<Result<MinidumpException<'a>, Error>> for IsRead {
-    ghost use Rattle.std.specs.Prelude.{Result};
-    ghost use Rattle.minidump.specs.declared.Error.{Error};
-    ghost use Rattle.minidump.specs.Below.Contexts.Context.{map_ok};
-    ghost use Rattle.minidump.specs.Exception.{Exception};
-    ghost use Rattle.minidump.specs.Promise.{exception_stream};
-    ghost use Rattle.crash.specs.Counting.{is_read};
-
-    ghost Value = { Result Exception Error };
-
-    ghost value_of = { map_ok exception_stream.value };
-
-    ghost is_chosen = { λ _ e. is_read e };
-
-    fn chooses(&self, item: &Result<MinidumpException<'a>, Error>) -> bool {
-        item.is_ok()
-    }
+// Tells whether an exception can be read.
+fn is_read(exception: &Result<MinidumpException<'_>, Error>) -> bool
+    ensures { result ≡ is_read (map_ok exception_stream.value exception.now) }
+{
+    exception.is_ok()
 }

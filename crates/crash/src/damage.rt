@@ -1,7 +1,5 @@
-ghost use Rattle.std.specs.Prelude.{◌≡◌, ◌-◌, ◌++◌, [], IfOk, OnOk, Option, length, map, take};
-ghost use Rattle.std.specs.List.{cons_option, filter_map};
+ghost use Rattle.std.specs.Prelude.{◌≡◌, ◌-◌, IfOk, length, map, take};
 ghost use Rattle.minidump.specs.Below.Contexts.Context.{map_ok};
-ghost use Rattle.crash.specs.declared.damage.Damage.{Damage};
 ghost use Rattle.crash.specs.Cause.{exception_of};
 ghost use Rattle.crash.specs.Damage.{context_damage, damage_by, exception_damage, exception_error};
 ghost use Rattle.crash.specs.Damage.{is_outside, stack_damage, stream_damage};
@@ -60,76 +58,15 @@ pub(crate) fn damage_of(
     ensures { IfOk result (λ damage. damage.items ≡ damage_by entries.now
         (map (map_ok exception_of) exceptions.now) (map thread_value threads.now)) }
 {
-    let mut damage = find_all(alloc, &EachStream, entries)?;
-    let errors = find_all(alloc, &EachError, before_last(exceptions))?;
-    damage.extend_from_slice(errors.as_slice())?;
-    let contexts = find_all(alloc, &EachException, exceptions)?;
-    damage.extend_from_slice(contexts.as_slice())?;
-    let contexts = find_all(alloc, &EachContext, threads)?;
-    damage.extend_from_slice(contexts.as_slice())?;
-    let stacks = find_all(alloc, &EachStack, threads)?;
-    damage.extend_from_slice(stacks.as_slice())?;
-    Ok(damage)
-}
-
-// Finds what of an item of a list can't be read.
-trait FindDamage<X> {
-    // the value of an item
-    ghost Value: { Type 0 };
-
-    ghost value_of: { X → Value };
-
-    // what of the item of a value can't be read
-    ghost damage_of: { Value → Option Damage };
-
-    // Returns what of an item can't be read.
-    fn find(&self, item: &X) -> Option<Damage>
-        ensures { result ≡ damage_of (value_of item.now) };
-}
-
-// Returns what of the items of a list can't be read.
-fn find_all<X, F: FindDamage<X>>(
-    alloc: Global,
-    by: &F,
-    items: &[X],
-) -> Result<Vec<Damage>, AllocError>
-    ensures { IfOk result (λ damage. damage.items
-        ≡ filter_map F.damage_of (map F.value_of items.now)) }
-{
-    let mut damage = Vec::new(alloc);
-    for item in items {
-        push_found(&mut damage, by.find(item))?;
-    }
-    Ok(damage)
-}
-
-// Appends what was found.
-fn push_found(damage: &mut Vec<Damage>, found: Option<Damage>) -> Result<(), AllocError>
-    ensures { OnOk result (damage.new.items ≡ damage.old.items ++ cons_option found []) }
-{
-    match found {
-        Some(found) => Ok(damage.push(found)?),
-        None => Ok(()),
-    }
-}
-
-// The streams.
-#[derive(Clone, Copy)]
-struct EachStream;
-
-impl FindDamage<StreamEntry> for EachStream {
-    ghost use Rattle.crash.specs.declared.directory.StreamEntry.{StreamEntry};
-    ghost use Rattle.crash.specs.Damage.{stream_damage};
-
-    ghost Value = { StreamEntry };
-
-    ghost value_of = { λ e. e };
-
-    ghost damage_of = { stream_damage };
-
-    fn find(&self, item: &StreamEntry) -> Option<Damage> {
-        stream_damage(item)
-    }
+    let before = before_last(exceptions);
+    entries
+        .iter()
+        .filter_map(|each| stream_damage(each))
+        .chain(before.iter().filter_map(|each| exception_error(each)))
+        .chain(exceptions.iter().filter_map(|each| exception_damage(each)))
+        .chain(threads.iter().filter_map(|each| context_damage(each)))
+        .chain(threads.iter().filter_map(|each| stack_damage(each)))
+        .collect(alloc)
 }
 
 // Returns the items before the last.
@@ -139,88 +76,6 @@ fn before_last<X>(items: &[X]) -> &[X]
     match items {
         [before @ .., _] => before,
         [] => items,
-    }
-}
-
-// The exceptions before the last.
-#[derive(Clone, Copy)]
-struct EachError;
-
-impl FindDamage<Result<CrashException, Error>> for EachError {
-    ghost use Rattle.std.specs.Prelude.{Result};
-    ghost use Rattle.minidump.specs.declared.Error.{Error};
-    ghost use Rattle.minidump.specs.Below.Contexts.Context.{map_ok};
-    ghost use Rattle.crash.specs.Cause.{ExceptionValue, exception_of};
-    ghost use Rattle.crash.specs.Damage.{exception_error};
-
-    ghost Value = { Result ExceptionValue Error };
-
-    ghost value_of = { map_ok exception_of };
-
-    ghost damage_of = { exception_error };
-
-    fn find(&self, item: &Result<CrashException, Error>) -> Option<Damage> {
-        exception_error(item)
-    }
-}
-
-// The contexts of exceptions.
-#[derive(Clone, Copy)]
-struct EachException;
-
-impl FindDamage<Result<CrashException, Error>> for EachException {
-    ghost use Rattle.std.specs.Prelude.{Result};
-    ghost use Rattle.minidump.specs.declared.Error.{Error};
-    ghost use Rattle.minidump.specs.Below.Contexts.Context.{map_ok};
-    ghost use Rattle.crash.specs.Cause.{ExceptionValue, exception_of};
-    ghost use Rattle.crash.specs.Damage.{exception_damage};
-
-    ghost Value = { Result ExceptionValue Error };
-
-    ghost value_of = { map_ok exception_of };
-
-    ghost damage_of = { exception_damage };
-
-    fn find(&self, item: &Result<CrashException, Error>) -> Option<Damage> {
-        exception_damage(item)
-    }
-}
-
-// The own contexts of threads.
-#[derive(Clone, Copy)]
-struct EachContext;
-
-impl FindDamage<CrashThread> for EachContext {
-    ghost use Rattle.crash.specs.Damage.{context_damage};
-    ghost use Rattle.crash.specs.Threads.{ThreadValue, thread_value};
-
-    ghost Value = { ThreadValue };
-
-    ghost value_of = { thread_value };
-
-    ghost damage_of = { context_damage };
-
-    fn find(&self, item: &CrashThread) -> Option<Damage> {
-        context_damage(item)
-    }
-}
-
-// The stacks of threads.
-#[derive(Clone, Copy)]
-struct EachStack;
-
-impl FindDamage<CrashThread> for EachStack {
-    ghost use Rattle.crash.specs.Damage.{stack_damage};
-    ghost use Rattle.crash.specs.Threads.{ThreadValue, thread_value};
-
-    ghost Value = { ThreadValue };
-
-    ghost value_of = { thread_value };
-
-    ghost damage_of = { stack_damage };
-
-    fn find(&self, item: &CrashThread) -> Option<Damage> {
-        stack_damage(item)
     }
 }
 

@@ -54,10 +54,9 @@ pub(crate) fn directory_of(
     ensures { IfOk result (λ directory. directory_of directory
         ≡ directory_in (dump_of dump.now) (contents_of contents.now)) }
 {
-    let entries = entries_of(alloc, dump, contents)?;
     Ok(CrashDirectory {
         written: dump.header.time_date_stamp,
-        entries,
+        entries: entries_of(alloc, dump, contents)?,
         entries_outside: outside_of(dump, file),
     })
 }

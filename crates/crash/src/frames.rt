@@ -1,4 +1,4 @@
-ghost use Rattle.std.specs.Prelude.{◌≡◌, IfOk, IsOkUnless, Some, map};
+ghost use Rattle.std.specs.Prelude.{◌≡◌, IfOk, IsOkUnless, map};
 ghost use Rattle.std.specs.Option.{option_copied, option_map};
 ghost use Rattle.minidump.specs.Below.MemoryLists.Unified.{unified_list, unified_region};
 ghost use Rattle.minidump.specs.Promise.{exception_stream, module_list_stream};
@@ -11,14 +11,13 @@ ghost use Rattle.crash.specs.Frames.{context_of, crash_walk_of, exception_walked
 ghost use Rattle.crash.specs.Frames.{place_of, process_in, thread_walked, walk_by, walk_from};
 ghost use Rattle.crash.specs.Frames.{walked_of};
 
-use crate::addresses::module_place;
 use crate::contents::Contents;
 use crate::contexts::{FoundContext, context_at, found_context};
 use minidump::{
     Error, MinidumpContext, MinidumpException, MinidumpModuleList, MinidumpThread, UnifiedMemory,
     UnifiedMemoryList,
 };
-use stack_walk::{FrameTrust, Process, Stack, StackFrame, Walk, WalkEnd, walk_stack};
+use stack_walk::{FrameTrust, Process, Stack, StackFrame, Walk, WalkEnd, module_place, walk_stack};
 use std::alloc::{AllocError, Global};
 
 /// What is found in the stack of a thread.
@@ -141,11 +140,9 @@ fn walk_by(
     ensures { IfOk result (λ w. crash_walk_of w
         ≡ walk_by (module_list_stream.value modules.now) (walk_of walk.now)) }
 {
-    let frames = frames_in(alloc, modules, walk.frames.as_slice())?;
-    let candidates = frames_in(alloc, modules, walk.candidates.as_slice())?;
     Ok(CrashWalk {
-        frames,
-        candidates,
+        frames: frames_in(alloc, modules, walk.frames.as_slice())?,
+        candidates: frames_in(alloc, modules, walk.candidates.as_slice())?,
         end: walk.end,
     })
 }
@@ -165,8 +162,8 @@ fn frames_in(
         .collect(alloc)
 }
 
-// Returns a frame with its module.
-fn frame_in(modules: &MinidumpModuleList, frame: &StackFrame) -> CrashFrame
+/// Returns a frame of a walk with its module.
+pub fn frame_in(modules: &MinidumpModuleList, frame: &StackFrame) -> CrashFrame
     ensures { result ≡ frame_in (module_list_stream.value modules.now) frame.now }
 {
     let address = frame.lookup_address();

@@ -1,12 +1,12 @@
 //! The kinds of the handles of a process.
-ghost use Rattle.std.specs.Prelude.{◌≡◌, ◌^◌, ◌<◌, IfOk, OnOk, map, string_bytes};
-ghost use Rattle.std.specs.Option.{option_map, option_map_or};
+ghost use Rattle.std.specs.Prelude.{◌≡◌, IfOk, OnOk, Some, map, string_bytes};
+ghost use Rattle.std.specs.Option.{option_map};
 ghost use Rattle.minidump.specs.Below.Contexts.Context.{map_ok};
 ghost use Rattle.minidump.specs.Below.Records.Dictionary.{entries_of};
 ghost use Rattle.minidump.specs.Below.Records.Handles.{handle_of};
 ghost use Rattle.minidump.specs.Promise.{handle_data_stream};
-ghost use Rattle.crash.specs.HandleKinds.{kind_by, kind_of, kinds_by, kinds_in, one_more};
-ghost use Rattle.crash.specs.HandleKinds.{one_more_if, tally, times, type_names};
+ghost use Rattle.crash.specs.HandleKinds.{HasOneMore, IsFew, kind_by, kind_of, kinds_in, tally};
+ghost use Rattle.crash.specs.HandleKinds.{type_names};
 
 use minidump::{Error, MinidumpHandleDataStream, MinidumpHandleDescriptor};
 use std::alloc::{AllocError, Global};
@@ -30,21 +30,12 @@ pub(crate) fn kinds_of(
         ≡ kinds_in (map_ok handle_data_stream.value handles.now)) }
 {
     match handles {
-        Ok(stream) => kinds_by(alloc, stream.handles.as_slice()),
+        Ok(stream) => {
+            let table = tally_of(alloc, stream.handles.as_slice())?;
+            kinds_of_table(alloc, &table)
+        }
         Err(_) => Ok(Vec::new(alloc)),
     }
-}
-
-// Returns the kinds of handles.
-fn kinds_by(
-    alloc: Global,
-    handles: &[MinidumpHandleDescriptor],
-) -> Result<Vec<HandleKind>, AllocError>
-    ensures { IfOk result (λ kinds. map kind_of kinds.items
-        ≡ kinds_by (map handle_of handles.now)) }
-{
-    let table = tally_of(alloc, handles)?;
-    kinds_of_table(alloc, &table)
 }
 
 // Makes the kinds of a table.
@@ -91,11 +82,9 @@ fn count_name(
     table: &mut BTreeMap<String, usize>,
     name: &Option<String>,
 ) -> Result<(), AllocError>
-    requires { option_map_or (λ name. times (entries_of (λ count. count) table.old.entries)
-        (string_bytes name)) name.now 0 < 2 ^ 63 }
-    ensures { OnOk result (entries_of (λ count. count) table.new.entries
-        ≡ one_more_if (entries_of (λ count. count) table.old.entries)
-        (option_map string_bytes name.now)) }
+    requires { IsFew (entries_of (λ count. count) table.old.entries) }
+    ensures { OnOk result (HasOneMore (entries_of (λ count. count) table.old.entries)
+        (option_map string_bytes name.now) (entries_of (λ count. count) table.new.entries)) }
 {
     match name {
         Some(name) => count_one(alloc, table, name.as_str()),
@@ -109,9 +98,9 @@ fn count_one(
     table: &mut BTreeMap<String, usize>,
     name: &str,
 ) -> Result<(), AllocError>
-    requires { times (entries_of (λ count. count) table.old.entries) name.now < 2 ^ 63 }
-    ensures { OnOk result (entries_of (λ count. count) table.new.entries
-        ≡ one_more (entries_of (λ count. count) table.old.entries) name.now) }
+    requires { IsFew (entries_of (λ count. count) table.old.entries) }
+    ensures { OnOk result (HasOneMore (entries_of (λ count. count) table.old.entries)
+        (Some name.now) (entries_of (λ count. count) table.new.entries)) }
 {
     let count = table.get(name).copied().unwrap_or(0);
     table.insert(String::from_str(alloc, name)?, count + 1)?;

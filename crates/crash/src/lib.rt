@@ -79,7 +79,7 @@ pub use crash::{Crash, status_of};
 pub use damage::Damage;
 pub use directory::{CrashDirectory, StreamEntry};
 pub use file_names::file_name;
-pub use frames::{CrashFrame, CrashWalk};
+pub use frames::{CrashFrame, CrashWalk, frame_in};
 pub use handle_kinds::HandleKind;
 pub use linux::{ProcessLimit, limits_of, variables_of};
 pub use missing::is_missing;

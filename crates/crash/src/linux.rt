@@ -104,27 +104,10 @@ fn limit_from(
         ≡ limit_from (map text_of name.now) (map text_of limits.now)) }
 {
     match limits {
-        [soft, hard, rest @ ..] => limit_if(alloc, name, *soft, *hard, rest),
+        [soft, hard, rest @ ..] if is_limit(*hard) => {
+            Ok(Some(limit_by(alloc, name, *soft, *hard, rest)?))
+        }
         _ => Ok(None),
-    }
-}
-
-// Makes the limit of these words, if the hard one is a limit.
-fn limit_if(
-    alloc: Global,
-    name: &[LinuxOsStr<'_>],
-    soft: LinuxOsStr<'_>,
-    hard: LinuxOsStr<'_>,
-    rest: &[LinuxOsStr<'_>],
-) -> Result<Option<ProcessLimit>, AllocError>
-    ensures { IfOk result (λ limit. option_map limit_of limit
-        ≡ limit_from (map text_of name.now)
-        (text_of soft.entry ∷ text_of hard.entry ∷ map text_of rest.now)) }
-{
-    if is_limit(hard) {
-        Ok(Some(limit_by(alloc, name, soft, hard, rest)?))
-    } else {
-        Ok(None)
     }
 }
 
@@ -167,15 +150,11 @@ fn limit_by(
         ≡ limit_by (map text_of name.now) (text_of soft.entry) (text_of hard.entry)
         (map text_of rest.now)) }
 {
-    let name = joined_words(alloc, name)?;
-    let soft = soft.to_string_lossy(alloc)?;
-    let hard = hard.to_string_lossy(alloc)?;
-    let unit = unit_in(alloc, rest)?;
     Ok(ProcessLimit {
-        name,
-        soft,
-        hard,
-        unit,
+        name: joined_words(alloc, name)?,
+        soft: soft.to_string_lossy(alloc)?,
+        hard: hard.to_string_lossy(alloc)?,
+        unit: unit_in(alloc, rest)?,
     })
 }
 

@@ -10,19 +10,6 @@ pub fn is_missing(error: Error) -> bool
 {
     match error {
         Error::StreamNotFound => true,
-        Error::FileNotFound
-        | Error::IoError
-        | Error::MissingHeader
-        | Error::HeaderMismatch
-        | Error::VersionMismatch
-        | Error::MissingDirectory
-        | Error::StreamReadFailure
-        | Error::StreamSizeMismatch { .. }
-        | Error::ModuleReadFailure
-        | Error::MemoryReadFailure
-        | Error::DataError
-        | Error::CodeViewReadFailure
-        | Error::UknownElementType
-        | Error::OutOfMemory => false,
+        _ => false,
     }
 }

@@ -3,16 +3,13 @@ ghost use Rattle.std.specs.Option.{option_map};
 ghost use Rattle.minidump.specs.Below.Contexts.Context.{map_ok};
 ghost use Rattle.minidump.specs.Below.Modules.CodeId.{text_of};
 ghost use Rattle.minidump.specs.Below.Modules.DebugId.{breakpad_text};
-ghost use Rattle.minidump.specs.Below.Modules.Module.{module_of};
-ghost use Rattle.minidump.specs.Below.Modules.UnloadedModule.{unloaded_of};
 ghost use Rattle.minidump.specs.Dump.{dump_in};
 ghost use Rattle.minidump.specs.DumpValue.{dump_of};
 ghost use Rattle.minidump.specs.Promise.{unloaded_module_list_stream};
 ghost use Rattle.crash.specs.FileName.{file_name};
 ghost use Rattle.crash.specs.Contents.{contents_of};
-ghost use Rattle.crash.specs.Modules.{by_address, loaded_in, loaded_of, module_in, modules_in};
-ghost use Rattle.crash.specs.Modules.{modules_of};
-ghost use Rattle.crash.specs.Modules.{unloaded_in, unloaded_module_in, unloaded_module_of};
+ghost use Rattle.crash.specs.Modules.{by_address, loaded_in, loaded_of, modules_in, modules_of};
+ghost use Rattle.crash.specs.Modules.{unloaded_in, unloaded_module_of};
 
 use crate::contents::Contents;
 use crate::each::{MakeItem, make_items};
@@ -172,31 +169,17 @@ impl MakeItem<MinidumpModule> for EachModule {
     ghost made_of = { λ _ m. module_in m };
 
     fn make_item(&self, alloc: Global, item: &MinidumpModule) -> Result<CrashModule, Error> {
-        module_of(alloc, item)
+        Ok(CrashModule {
+            base: item.base_address(),
+            end: item.base_address().checked_add(item.size()),
+            path: String::from_str(alloc, item.code_file())?,
+            file: String::from_str(alloc, file_name(item.code_file()))?,
+            version: item.version(alloc)?,
+            code_id: code_id_text(alloc, item.code_identifier(alloc)?)?,
+            debug_file: file_name_of(alloc, item.debug_file(alloc)?)?,
+            debug_id: debug_id_text(alloc, item.debug_identifier())?,
+        })
     }
-}
-
-// Returns a module.
-fn module_of(alloc: Global, loaded: &MinidumpModule) -> Result<CrashModule, Error>
-    ensures item { IfOk result (λ m. loaded_of m ≡ module_in (module_of loaded.now)) }
-    ensures memory { IsOkUnless result Error.OutOfMemory }
-{
-    let path = String::from_str(alloc, loaded.code_file())?;
-    let file = String::from_str(alloc, file_name(loaded.code_file()))?;
-    let version = loaded.version(alloc)?;
-    let code_id = code_id_text(alloc, loaded.code_identifier(alloc)?)?;
-    let debug_file = file_name_of(alloc, loaded.debug_file(alloc)?)?;
-    let debug_id = debug_id_text(alloc, loaded.debug_identifier())?;
-    Ok(CrashModule {
-        base: loaded.base_address(),
-        end: loaded.base_address().checked_add(loaded.size()),
-        path,
-        file,
-        version,
-        code_id,
-        debug_file,
-        debug_id,
-    })
 }
 
 // A module of the list of those that were unloaded.
@@ -225,29 +208,14 @@ impl MakeItem<MinidumpUnloadedModule> for EachUnloadedModule {
         alloc: Global,
         item: &MinidumpUnloadedModule,
     ) -> Result<UnloadedModule, Error> {
-        unloaded_module_of(alloc, item)
+        Ok(UnloadedModule {
+            base: item.base_address(),
+            end: item.base_address().checked_add(item.size()),
+            path: String::from_str(alloc, item.code_file())?,
+            file: String::from_str(alloc, file_name(item.code_file()))?,
+            code_id: code_id_text(alloc, item.code_identifier(alloc)?)?,
+        })
     }
-}
-
-// Returns a module that was unloaded.
-fn unloaded_module_of(
-    alloc: Global,
-    unloaded: &MinidumpUnloadedModule,
-) -> Result<UnloadedModule, Error>
-    ensures item { IfOk result
-        (λ m. unloaded_module_of m ≡ unloaded_module_in (unloaded_of unloaded.now)) }
-    ensures memory { IsOkUnless result Error.OutOfMemory }
-{
-    let path = String::from_str(alloc, unloaded.code_file())?;
-    let file = String::from_str(alloc, file_name(unloaded.code_file()))?;
-    let code_id = code_id_text(alloc, unloaded.code_identifier(alloc)?)?;
-    Ok(UnloadedModule {
-        base: unloaded.base_address(),
-        end: unloaded.base_address().checked_add(unloaded.size()),
-        path,
-        file,
-        code_id,
-    })
 }
 
 // Copies the digits of an identifier that may be absent.

@@ -1,19 +1,15 @@
 //! Where a thread stands.
 ghost use Rattle.std.specs.Prelude.{◌≡◌, IfOk, length, map, take};
-ghost use Rattle.std.specs.Option.{option_and_then, option_map};
+ghost use Rattle.std.specs.Option.{option_map};
 ghost use Rattle.minidump.specs.Below.MemoryLists.Unified.{unified_list, unified_region};
 ghost use Rattle.minidump.specs.Promise.{module_list_stream};
 ghost use Rattle.stack_walk.specs.Frames.{instruction_pointer_in, stack_bytes, stack_of, stack_pointer_in};
-ghost use Rattle.crash.specs.Addresses.{facts_of};
 ghost use Rattle.crash.specs.Contents.{contents_of};
-ghost use Rattle.crash.specs.Frames.{walked_of};
-ghost use Rattle.crash.specs.Threads.{walked_at};
 ghost use Rattle.crash.specs.Point.{code_at, code_of, flags_of, point_by, point_in, point_of};
 ghost use Rattle.crash.specs.Point.{facts_of_each, holds_address, register_facts, word_at};
 ghost use Rattle.crash.specs.Point.{word_by, word_in, words_from};
-ghost use Rattle.crash.specs.SetFlags.{set_flags};
 
-use crate::addresses::{AddressFacts, facts_of, module_place};
+use crate::addresses::{AddressFacts, facts_of};
 use crate::contents::Contents;
 use crate::contexts::register_values;
 use crate::frames::memory_at;
@@ -22,7 +18,7 @@ use crate::threads::walked_at;
 use minidump::{
     MinidumpContext, MinidumpModuleList, MinidumpRawContext, UnifiedMemory, UnifiedMemoryList,
 };
-use stack_walk::Stack;
+use stack_walk::{Stack, module_place};
 use std::alloc::{AllocError, Global};
 
 /// Where a thread stands, and what its memory has there.
@@ -71,21 +67,13 @@ pub(crate) fn point_of<'a>(
     ensures { IfOk result (λ point. option_map point_of point
         ≡ point_in (contents_of contents.now) thread) }
 {
-    match walked_of(contents, thread) {
+    let Some(thread) = thread else {
+        return Ok(None);
+    };
+    match walked_at(contents, thread) {
         Some((stack, context)) => Ok(Some(point_by(alloc, contents, &stack, &context)?)),
         None => Ok(None),
     }
-}
-
-// Returns the stack and the context by which the thread of an index is walked.
-fn walked_of<'l, 'a>(
-    contents: &'l Contents<'a>,
-    thread: Option<usize>,
-) -> Option<(Stack<'l, 'a>, MinidumpContext)>
-    ensures { option_map walked_of result
-        ≡ option_and_then (walked_at (contents_of contents.now)) thread }
-{
-    walked_at(contents, thread?)
 }
 
 // Returns the point of a stack and a context.
@@ -99,17 +87,13 @@ fn point_by<'a>(
         ≡ point_by (contents_of contents.now) (stack_of stack.now) context.now) }
 {
     let instruction = instruction_pointer_of(context);
-    let registers = register_facts(alloc, contents, context)?;
-    let words = words_from(alloc, stack, stack_pointer_of(context), 16)?;
-    let flags = flags_of(alloc, &context.raw)?;
-    let set_flags = set_flags_of(alloc, &context.raw)?;
     Ok(CrashPoint {
         instruction: facts_of(contents, instruction),
-        registers,
+        registers: register_facts(alloc, contents, context)?,
         code: code_at(&contents.space.memory, instruction),
-        words,
-        flags,
-        set_flags,
+        words: words_from(alloc, stack, stack_pointer_of(context), 16)?,
+        flags: flags_of(alloc, &context.raw)?,
+        set_flags: set_flags_of(alloc, &context.raw)?,
     })
 }
 

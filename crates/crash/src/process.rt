@@ -79,21 +79,16 @@ pub(crate) fn process_of(
         ≡ process_in (dump_of dump.now) (contents_of contents.now)) }
     ensures memory { IsOkUnless result Error.OutOfMemory }
 {
-    let system = system_of(alloc, &contents.system.system, &contents.system.cpu_info)?;
-    let release = release_of(alloc, &contents.system.lsb_release)?;
-    let command_line = command_line_of(alloc, dump)?;
-    let comments = comments_of(alloc, dump)?;
-    let handle_kinds = kinds_of(alloc, &contents.process.handles)?;
     Ok(CrashProcess {
-        system,
+        system: system_of(alloc, &contents.system.system, &contents.system.cpu_info)?,
         id: id_of(&contents.system.misc, &contents.process.status),
         parent: status_number(&contents.process.status, b"PPid"),
         uptime: uptime_of(dump.header.time_date_stamp, &contents.system.misc),
         resident: status_size(&contents.process.status, b"VmRSS"),
-        release,
-        command_line,
-        comments,
-        handle_kinds,
+        release: release_of(alloc, &contents.system.lsb_release)?,
+        command_line: command_line_of(alloc, dump)?,
+        comments: comments_of(alloc, dump)?,
+        handle_kinds: kinds_of(alloc, &contents.process.handles)?,
     })
 }
 
@@ -126,16 +121,14 @@ fn system_by(
     ensures memory { IsOkUnless result Error.OutOfMemory }
 {
     let (version, build) = system.os_parts(alloc)?;
-    let cpu_model = cpu_model_of(alloc, system, cpu)?;
-    let microcode = cpu_text(alloc, cpu, b"microcode")?;
     Ok(CrashSystem {
         os: system.os,
         cpu: system.cpu,
         processors: system.raw.number_of_processors,
         version,
         build,
-        cpu_model,
-        microcode,
+        cpu_model: cpu_model_of(alloc, system, cpu)?,
+        microcode: cpu_text(alloc, cpu, b"microcode")?,
     })
 }
 

@@ -78,7 +78,10 @@ pub(crate) fn cpu_text(
     ensures { IfOk result (λ text. option_map string_bytes text
         ≡ cpu_text key.now (map_ok linux_cpu_info_stream.value cpu.now)) }
 {
-    match cpu_value(cpu, key) {
+    let Ok(cpu) = cpu else {
+        return Ok(None);
+    };
+    match value_in(cpu.iter(), key) {
         Some(value) => Ok(Some(value.to_string_lossy(alloc)?)),
         None => Ok(None),
     }
@@ -94,20 +97,6 @@ fn status_value<'a>(
 {
     match status {
         Ok(status) => value_in(status.iter(), key),
-        Err(_) => None,
-    }
-}
-
-// Returns a value of Linux's description of the processors.
-fn cpu_value<'a>(
-    cpu: &Result<MinidumpLinuxCpuInfo<'a>, Error>,
-    key: &[u8],
-) -> Option<LinuxOsStr<'a>>
-    ensures { option_map text_of result
-        ≡ value_of key.now (map_ok linux_cpu_info_stream.value cpu.now) }
-{
-    match cpu {
-        Ok(cpu) => value_in(cpu.iter(), key),
         Err(_) => None,
     }
 }

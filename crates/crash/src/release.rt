@@ -44,15 +44,11 @@ fn release_by(alloc: Global, stream: &MinidumpLinuxLsbRelease<'_>) -> Result<Lsb
     ensures { IfOk result (λ release. release_of release
         ≡ release_by (linux_lsb_release_stream.value stream.now)) }
 {
-    let id = text_value(alloc, stream, b"DISTRIB_ID", b"ID")?;
-    let release = text_value(alloc, stream, b"DISTRIB_RELEASE", b"VERSION_ID")?;
-    let codename = text_value(alloc, stream, b"DISTRIB_CODENAME", b"VERSION_CODENAME")?;
-    let description = text_value(alloc, stream, b"DISTRIB_DESCRIPTION", b"PRETTY_NAME")?;
     Ok(LsbRelease {
-        id,
-        release,
-        codename,
-        description,
+        id: text_value(alloc, stream, b"DISTRIB_ID", b"ID")?,
+        release: text_value(alloc, stream, b"DISTRIB_RELEASE", b"VERSION_ID")?,
+        codename: text_value(alloc, stream, b"DISTRIB_CODENAME", b"VERSION_CODENAME")?,
+        description: text_value(alloc, stream, b"DISTRIB_DESCRIPTION", b"PRETTY_NAME")?,
     })
 }
 

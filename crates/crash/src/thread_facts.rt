@@ -1,25 +1,33 @@
-//! What is known of a thread by its id, its last error, and its registers.
-ghost use Rattle.std.specs.Prelude.{◌≡◌, IfOk, IsOkUnless, string_bytes};
+//! The entries of threads, and what is known of a thread by its id, and its last error.
+ghost use Rattle.std.specs.Prelude.{◌≡◌, IfOk, IsOkUnless, map, string_bytes};
 ghost use Rattle.std.specs.Option.{option_copied, option_map};
 ghost use Rattle.minidump.specs.Below.Contexts.Context.{map_ok};
-ghost use Rattle.minidump.specs.Promise.{exception_stream, thread_names_stream};
+ghost use Rattle.minidump.specs.Promise.{thread_list_stream, thread_names_stream};
 ghost use Rattle.minidump.specs.Below.MemoryLists.Unified.{unified_list};
 ghost use Rattle.minidump.specs.Crash.{error_in};
 ghost use Rattle.minidump.specs.Thread.{last_error_address, thread_of};
 ghost use Rattle.crash.specs.Contents.{contents_of};
-ghost use Rattle.crash.specs.Contexts.{context_in, context_of, problem_in, system_of};
-ghost use Rattle.crash.specs.Threads.{last_error_code, last_error_in, name_in};
+ghost use Rattle.crash.specs.Threads.{entries_in, last_error_code, last_error_in, name_in};
 
 use crate::contents::Contents;
-use crate::contexts::{
-    self, ContextProblem, CrashContext, found_context, own_context, registers_of,
-};
 use minidump::system_info::Cpu;
 use minidump::{
-    CodeNames, CrashReason, Error, MinidumpException, MinidumpThread, MinidumpThreadNames,
+    CodeNames, CrashReason, Error, MinidumpThread, MinidumpThreadList, MinidumpThreadNames,
     UnifiedMemoryList, laws,
 };
 use std::alloc::Global;
+
+// Returns the entries of the list of threads: none if it can't be read.
+pub(crate) fn entries_of<'l, 'a>(
+    threads: &'l Result<MinidumpThreadList<'a>, Error>,
+) -> &'l [MinidumpThread<'a>]
+    ensures { map thread_of result.now ≡ entries_in (map_ok thread_list_stream.value threads.now) }
+{
+    match threads {
+        Ok(list) => list.threads.as_slice(),
+        Err(_) => &[],
+    }
+}
 
 // Returns the name of a thread.
 pub(crate) fn name_of(names: &Result<MinidumpThreadNames, Error>, id: u32) -> Option<&str>
@@ -73,33 +81,4 @@ fn error_on<'a>(
 {
     laws::a_report_has_what_a_lookup_returns();
     thread.last_error(cpu, memory, names)
-}
-
-// Returns the registers of a thread, by the exception that counts.
-pub(crate) fn context_of(
-    alloc: Global,
-    contents: &Contents<'_>,
-    exception: Option<&MinidumpException<'_>>,
-    thread: &MinidumpThread<'_>,
-) -> Result<Option<CrashContext>, Error>
-    ensures context { IfOk result (λ context. option_map context_of context
-        ≡ context_in (contents_of contents.now)
-        (option_map exception_stream.value (option_copied exception.entry))
-        (thread_of thread.now)) }
-    ensures memory { IsOkUnless result Error.OutOfMemory }
-{
-    let found = found_context(contents, exception, thread);
-    Ok(registers_of(alloc, found)?)
-}
-
-// Returns why the own context of a thread can't be used.
-pub(crate) fn problem_of(
-    contents: &Contents<'_>,
-    thread: &MinidumpThread<'_>,
-) -> Option<ContextProblem>
-    ensures { result ≡ problem_in (system_of (contents_of contents.now)) (thread_of thread.now).order
-        (thread_of thread.now).context }
-{
-    let context = own_context(contents, thread);
-    contexts::problem_of(contents, thread.context_bytes(), &context)
 }

@@ -1,27 +1,30 @@
-ghost use Rattle.std.specs.Prelude.{◌≡◌, ◌++◌, IfOk, IsOkUnless, OnOk, map, slice_get};
+ghost use Rattle.std.specs.Prelude.{◌≡◌, ◌==◌, ◌++◌, IfOk, IsOkUnless, OnOk, map};
 ghost use Rattle.std.specs.Option.{option_copied, option_map};
 ghost use Rattle.minidump.specs.Below.Contexts.Context.{map_ok};
 ghost use Rattle.minidump.specs.Crash.{last_with};
 ghost use Rattle.minidump.specs.Promise.{exception_stream, thread_list_stream};
 ghost use Rattle.minidump.specs.Thread.{thread_of};
 ghost use Rattle.crash.specs.Contents.{contents_of};
-ghost use Rattle.crash.specs.Threads.{all_threads, crashing_at, extra_in, extra_threads};
-ghost use Rattle.crash.specs.Threads.{has_thread, listed_in, thread_in, thread_value, threads_by};
-ghost use Rattle.crash.specs.Threads.{entries_in, extra_walked, threads_in, threads_of, walked_at};
-ghost use Rattle.crash.specs.Threads.{is_next, walked_by, walked_of_entry};
+ghost use Rattle.crash.specs.Threads.{all_threads, crashed_thread, crashing_at, extra_in};
+ghost use Rattle.crash.specs.Threads.{extra_threads};
+ghost use Rattle.crash.specs.Threads.{has_thread, listed_in, thread_value, threads_by};
+ghost use Rattle.crash.specs.Threads.{extra_walked, threads_in, threads_of, walked_at};
+ghost use Rattle.crash.specs.Threads.{walked_of_entry};
 ghost use Rattle.crash.specs.Frames.{walked_of};
+ghost use Rattle.crash.specs.Last.{last_index};
 
 use crate::contents::Contents;
 use crate::contexts::{
-    ContextOrigin, ContextProblem, CrashContext, context_at, of_origin, registers_of,
+    ContextOrigin, ContextProblem, CrashContext, context_at, found_context, of_origin, problem_in,
+    registers_of,
 };
 use crate::counting::counting_exception;
 use crate::each::{MakeItem, make_items};
 use crate::frames::{CrashWalk, walk_of, walked_exception, walked_thread};
-use crate::last::{Choose, last_index};
+use crate::last::last_index;
 use crate::process::copy;
 use crate::stacks::{StackRange, is_outside, named_stack, stack_memory};
-use crate::thread_facts::{context_of, last_error_of, name_of, problem_of};
+use crate::thread_facts::{entries_of, last_error_of, name_of};
 use minidump::{
     CodeNames, Error, MinidumpContext, MinidumpException, MinidumpThread, MinidumpThreadList,
 };
@@ -37,6 +40,18 @@ pub struct CrashThreads {
     /// The index in `threads` of the thread that crashed: the last of the id of the exception that
     /// counts, or `None` if none counts.
     pub crashing: Option<usize>,
+}
+
+impl CrashThreads {
+    /// Returns the thread that crashed, with its index in `threads`.
+    pub fn crashed(&self) -> Option<(usize, &CrashThread)>
+        ensures { option_map (λ p. (p.0, thread_value p.1.now)) result
+            ≡ crashed_thread (threads_of self.now) }
+    {
+        let index = self.crashing?;
+        let thread = self.threads.get(index)?;
+        Some((index, thread))
+    }
 }
 
 /// A thread.
@@ -80,24 +95,25 @@ pub(crate) fn threads_of(
         ≡ threads_in names.now scan (contents_of contents.now)) }
     ensures memory { IsOkUnless result Error.OutOfMemory }
 {
-    threads_by(alloc, contents, names, scan, counting_exception(contents))
+    let exception = counting_exception(contents);
+    let each = EachThread {
+        contents,
+        names,
+        scan,
+        exception,
+    };
+    threads_by(alloc, &each)
 }
 
-// Returns the same by the exception that counts.
-fn threads_by<'l, 'a>(
-    alloc: Global,
-    contents: &'l Contents<'a>,
-    names: &CodeNames<'_>,
-    scan: usize,
-    exception: Option<&'l MinidumpException<'a>>,
-) -> Result<CrashThreads, Error>
+// Returns the same by what the threads have in common.
+fn threads_by(alloc: Global, each: &EachThread<'_, '_, '_>) -> Result<CrashThreads, Error>
     ensures threads { IfOk result (λ threads. threads_of threads
-        ≡ threads_by names.now scan (contents_of contents.now)
-        (option_map exception_stream.value (option_copied exception.entry))) }
+        ≡ threads_by each.now.names.now each.now.scan (contents_of each.now.contents.now)
+        (option_map exception_stream.value (option_copied each.now.exception))) }
     ensures memory { IsOkUnless result Error.OutOfMemory }
 {
-    let threads = all_threads(alloc, contents, names, scan, exception)?;
-    let crashing = crashing_at(threads.as_slice(), exception);
+    let threads = all_threads(alloc, each)?;
+    let crashing = crashing_at(threads.as_slice(), each.exception);
     Ok(CrashThreads { threads, crashing })
 }
 
@@ -106,91 +122,60 @@ fn crashing_at(threads: &[CrashThread], exception: Option<&MinidumpException<'_>
     ensures { result ≡ crashing_at (map thread_value threads.now)
         (option_map exception_stream.value (option_copied exception.entry)) }
 {
-    last_index(&HasId(exception?.thread_id), threads)
+    last_of_id(threads, exception?.thread_id)
 }
 
-// The threads of an id.
-#[derive(Clone, Copy)]
-struct HasId(u32);
-
-impl Choose<CrashThread> for HasId {
-    ghost use Rattle.std.specs.Prelude.{◌==◌};
-    ghost use Rattle.crash.specs.Threads.{ThreadValue, thread_value};
-
-    ghost Value = { ThreadValue };
-
-    ghost value_of = { thread_value };
-
-    ghost is_chosen = { λ id t. t.id == id.0 };
-
-    fn chooses(&self, item: &CrashThread) -> bool {
-        item.id == self.0
-    }
+// Returns the index of the last thread of an id.
+fn last_of_id(threads: &[CrashThread], id: u32) -> Option<usize>
+    ensures { result ≡ last_index (λ t. t.id == id) (map thread_value threads.now) }
+{
+    last_index(threads, |thread| thread.id == id)
 }
 
 // Returns the threads of the list, and after them that of the exception if the list lacks it.
-fn all_threads<'l, 'a>(
-    alloc: Global,
-    contents: &'l Contents<'a>,
-    names: &CodeNames<'_>,
-    scan: usize,
-    exception: Option<&'l MinidumpException<'a>>,
-) -> Result<Vec<CrashThread>, Error>
+fn all_threads(alloc: Global, each: &EachThread<'_, '_, '_>) -> Result<Vec<CrashThread>, Error>
     ensures threads { IfOk result (λ ts. map thread_value ts.items
-        ≡ all_threads names.now scan (contents_of contents.now)
-        (option_map exception_stream.value (option_copied exception.entry))) }
+        ≡ all_threads each.now.names.now each.now.scan (contents_of each.now.contents.now)
+        (option_map exception_stream.value (option_copied each.now.exception))) }
     ensures memory { IsOkUnless result Error.OutOfMemory }
 {
-    let mut threads = listed(alloc, contents, names, scan, exception)?;
-    push_extra(alloc, &mut threads, contents, scan, exception)?;
+    let mut threads = listed(alloc, each)?;
+    push_extra(alloc, &mut threads, each)?;
     Ok(threads)
 }
 
 // Returns the threads of the list.
-fn listed<'l, 'a>(
-    alloc: Global,
-    contents: &'l Contents<'a>,
-    names: &CodeNames<'_>,
-    scan: usize,
-    exception: Option<&'l MinidumpException<'a>>,
-) -> Result<Vec<CrashThread>, Error>
+fn listed(alloc: Global, each: &EachThread<'_, '_, '_>) -> Result<Vec<CrashThread>, Error>
     ensures threads { IfOk result (λ ts. map thread_value ts.items
-        ≡ listed_in names.now scan (contents_of contents.now)
-        (option_map exception_stream.value (option_copied exception.entry))) }
+        ≡ listed_in each.now.names.now each.now.scan (contents_of each.now.contents.now)
+        (option_map exception_stream.value (option_copied each.now.exception))) }
     ensures memory { IsOkUnless result Error.OutOfMemory }
 {
-    let each = EachThread {
-        contents,
-        names,
-        scan,
-        exception,
-    };
-    match &contents.threads.threads {
-        Ok(list) => make_items(alloc, &each, &list.threads),
+    match &each.contents.threads.threads {
+        Ok(list) => make_items(alloc, each, &list.threads),
         Err(_) => Ok(Vec::new(alloc)),
     }
 }
 
 // Appends the thread of the exception if the list lacks it.
-fn push_extra<'l, 'a>(
+fn push_extra(
     alloc: Global,
     threads: &mut Vec<CrashThread>,
-    contents: &'l Contents<'a>,
-    scan: usize,
-    exception: Option<&'l MinidumpException<'a>>,
+    each: &EachThread<'_, '_, '_>,
 ) -> Result<(), Error>
     ensures threads { OnOk result (map thread_value threads.new.items
-        ≡ map thread_value threads.old.items ++ extra_threads scan (contents_of contents.now)
-        (option_map exception_stream.value (option_copied exception.entry))) }
+        ≡ map thread_value threads.old.items
+        ++ extra_threads each.now.scan (contents_of each.now.contents.now)
+        (option_map exception_stream.value (option_copied each.now.exception))) }
     ensures memory { IsOkUnless result Error.OutOfMemory }
 {
-    let Some(exception) = exception else {
+    let Some(exception) = each.exception else {
         return Ok(());
     };
-    if has_thread(&contents.threads.threads, exception.thread_id) {
+    if has_thread(&each.contents.threads.threads, exception.thread_id) {
         return Ok(());
     }
-    threads.push(extra(alloc, contents, exception, scan)?)?;
+    threads.push(extra(alloc, each.contents, exception, each.scan)?)?;
     Ok(())
 }
 
@@ -227,25 +212,23 @@ fn extra<'l, 'a>(
     ensures memory { IsOkUnless result Error.OutOfMemory }
 {
     let id = exception.thread_id;
-    let name = copy(alloc, name_of(&contents.threads.names, id))?;
     let found = of_origin(ContextOrigin::OfException, context_at(contents, exception));
-    let context = registers_of(alloc, found)?;
-    let walk = walk_of(alloc, walked_exception(contents, exception), scan)?;
     Ok(CrashThread {
         id,
         is_listed: false,
-        name,
-        context,
+        name: copy(alloc, name_of(&contents.threads.names, id))?,
+        context: registers_of(alloc, found)?,
         context_problem: None,
         stack: None,
         stack_memory: None,
         is_stack_outside: false,
-        walk,
+        walk: walk_of(alloc, walked_exception(contents, exception), scan)?,
         last_error: None,
     })
 }
 
-// A thread of the list.
+// What the threads of the list are made by: the streams, the names of codes, the most candidates of
+// a walk, and the exception that counts.
 #[derive(Clone, Copy)]
 struct EachThread<'l, 'a, 'n> {
     contents: &'l Contents<'a>,
@@ -275,43 +258,21 @@ impl<'a> MakeItem<MinidumpThread<'a>> for EachThread<'_, 'a, '_> {
         (option_map exception_stream.value (option_copied e.exception)) t };
 
     fn make_item(&self, alloc: Global, item: &MinidumpThread<'a>) -> Result<CrashThread, Error> {
-        let contents = self.contents;
-        thread_of(alloc, contents, self.names, self.scan, self.exception, item)
+        let (contents, exception) = (self.contents, self.exception);
+        let id = item.raw.thread_id;
+        Ok(CrashThread {
+            id,
+            is_listed: true,
+            name: copy(alloc, name_of(&contents.threads.names, id))?,
+            context: registers_of(alloc, found_context(contents, exception, item))?,
+            context_problem: problem_in(contents, item.endian(), item.context_bytes()),
+            stack: named_stack(&item.raw.stack),
+            stack_memory: stack_memory(contents, item),
+            is_stack_outside: is_outside(item),
+            walk: walk_of(alloc, walked_thread(contents, exception, item), self.scan)?,
+            last_error: last_error_of(alloc, contents, self.names, item)?,
+        })
     }
-}
-
-// Returns a thread of the list.
-fn thread_of<'l, 'a>(
-    alloc: Global,
-    contents: &'l Contents<'a>,
-    names: &CodeNames<'_>,
-    scan: usize,
-    exception: Option<&'l MinidumpException<'a>>,
-    thread: &MinidumpThread<'a>,
-) -> Result<CrashThread, Error>
-    ensures item { IfOk result (λ t. thread_value t
-        ≡ thread_in names.now scan (contents_of contents.now)
-        (option_map exception_stream.value (option_copied exception.entry))
-        (thread_of thread.now)) }
-    ensures memory { IsOkUnless result Error.OutOfMemory }
-{
-    let id = thread.raw.thread_id;
-    let name = copy(alloc, name_of(&contents.threads.names, id))?;
-    let context = context_of(alloc, contents, exception, thread)?;
-    let walk = walk_of(alloc, walked_thread(contents, exception, thread), scan)?;
-    let last_error = last_error_of(alloc, contents, names, thread)?;
-    Ok(CrashThread {
-        id,
-        is_listed: true,
-        name,
-        context,
-        context_problem: problem_of(contents, thread),
-        stack: named_stack(&thread.raw.stack),
-        stack_memory: stack_memory(contents, thread),
-        is_stack_outside: is_outside(thread),
-        walk,
-        last_error,
-    })
 }
 
 // ---- how they are walked
@@ -323,45 +284,10 @@ pub(crate) fn walked_at<'l, 'a>(
 ) -> Option<(Stack<'l, 'a>, MinidumpContext)>
     ensures { option_map walked_of result ≡ walked_at (contents_of contents.now) index }
 {
-    walked_by(contents, counting_exception(contents), index)
-}
-
-// Returns the same by the exception that counts.
-fn walked_by<'l, 'a>(
-    contents: &'l Contents<'a>,
-    exception: Option<&'l MinidumpException<'a>>,
-    index: usize,
-) -> Option<(Stack<'l, 'a>, MinidumpContext)>
-    ensures { option_map walked_of result ≡ walked_by (contents_of contents.now)
-        (option_map exception_stream.value (option_copied exception.entry)) index }
-{
-    let threads = &contents.threads.threads;
-    let (entry, is_next) = (entry_at(threads, index), is_next(threads, index));
-    walked_of_entry(contents, exception, entry, is_next)
-}
-
-// Returns the entry of an index in the list of threads.
-fn entry_at<'l, 'a>(
-    threads: &'l Result<MinidumpThreadList<'a>, Error>,
-    index: usize,
-) -> Option<&'l MinidumpThread<'a>>
-    ensures { option_map thread_of (option_copied result)
-        ≡ slice_get (entries_in (map_ok thread_list_stream.value threads.now)) index }
-{
-    match threads {
-        Ok(list) => list.threads.get(index),
-        Err(_) => None,
-    }
-}
-
-// Tells whether an index is the one after those of the list.
-fn is_next(threads: &Result<MinidumpThreadList<'_>, Error>, index: usize) -> bool
-    ensures { result ≡ is_next (map_ok thread_list_stream.value threads.now) index }
-{
-    match threads {
-        Ok(list) => index == list.threads.len(),
-        Err(_) => index == 0,
-    }
+    let exception = counting_exception(contents);
+    let threads = entries_of(&contents.threads.threads);
+    let entry = threads.get(index);
+    walked_of_entry(contents, exception, entry, index == threads.len())
 }
 
 // Returns the stack and the context by which an entry of the list is walked, or, if there is none,

@@ -4,7 +4,7 @@ ghost use Rattle.std.specs.Option.{option_map};
 ghost use Rattle.minidump.specs.Promise.{module_list_stream};
 ghost use Rattle.stack_walk.specs.Frames.{stack_of};
 ghost use Rattle.crash.specs.Crash.{crash_of};
-ghost use Rattle.crash.specs.Frames.{frame_in, place_of, walked_of};
+ghost use Rattle.crash.specs.Frames.{walked_of};
 ghost use Rattle.symbol_walk.specs.Unwinder.{frame_of};
 ghost use Rattle.symbol_walk.specs.Walk.{symbol_walk_of};
 ghost use Rattle.crash_symbols.specs.Backtraces.{backtrace_by, backtrace_in, backtrace_of};
@@ -14,8 +14,8 @@ ghost use Rattle.crash_symbols.specs.Symbols.{known_of};
 
 use crate::names::named_in;
 use crate::{NamedFrame, Symbols};
-use crash::{Crash, CrashFrame};
-use minidump::{Error, MinidumpContext, MinidumpModuleList, Module};
+use crash::{Crash, frame_in};
+use minidump::{Error, MinidumpContext, MinidumpModuleList};
 use stack_walk::{Stack, StackFrame};
 use std::alloc::{AllocError, Global};
 use symbol_walk::{KnownFrame, SymbolWalk, SymbolWalkEnd, walk_by_symbols};
@@ -187,29 +187,4 @@ fn frame_by<'l>(
         (known_of symbols.now).files frame.now) }
 {
     named_in(alloc, symbols, frame_in(modules, frame))
-}
-
-// Returns a frame with its module.
-fn frame_in(modules: &MinidumpModuleList, frame: &StackFrame) -> CrashFrame
-    ensures { result ≡ frame_in (module_list_stream.value modules.now) frame.now }
-{
-    let address = frame.lookup_address();
-    CrashFrame {
-        address,
-        instruction: frame.instruction,
-        stack_pointer: frame.stack_pointer,
-        frame_pointer: frame.frame_pointer,
-        trust: frame.trust,
-        module: place_of(modules, address),
-    }
-}
-
-// Returns the index of the kept module that contains an address, if there is one, and the offset in
-// that.
-fn place_of(modules: &MinidumpModuleList, address: Option<u64>) -> Option<(usize, u64)>
-    ensures { result ≡ place_of (module_list_stream.value modules.now) address }
-{
-    let address = address?;
-    let (index, module) = modules.numbered_module_at_address(address)?;
-    Some((index, address.saturating_sub(module.base_address())))
 }

@@ -1,16 +1,15 @@
 -- The numbers of a crash.
-use Rattle.std.specs.Prelude.{ℕ, ◌++◌, List, [], length, slice_get, Option, unwrap_or}
-use Rattle.std.specs.Option.{option_and_then, option_map_or}
+use Rattle.std.specs.Prelude.{ℕ, ◌++◌, List, [], length, Option, unwrap_or}
+use Rattle.std.specs.Option.{option_and_then, option_map, option_map_or}
 use Rattle.minidump.specs.declared.system_info.Cpu.{Cpu}
 use Rattle.minidump.specs.declared.system_info.Cpu.TheVariants as cpu
 use Rattle.minidump.specs.declared.system_info.Os.{Os}
 use Rattle.minidump.specs.declared.system_info.Os.TheVariants as os
-use Rattle.crash.specs.Cause.{ExceptionValue}
-use Rattle.crash.specs.Counting.{counted}
+use Rattle.crash.specs.Cause.{counted_exception}
 use Rattle.crash.specs.Contexts.{ContextValue}
 use Rattle.crash.specs.Crash.{CrashValue}
 use Rattle.crash.specs.Frames.{CrashWalkValue}
-use Rattle.crash.specs.Threads.{ThreadValue}
+use Rattle.crash.specs.Threads.{ThreadValue, crashed_thread}
 use Rattle.crash.specs.declared.contexts.ContextOrigin.{ContextOrigin}
 use Rattle.crash.specs.declared.contexts.ContextOrigin.TheVariants.{OfException, OfThread}
 use Rattle.minidump_c.specs.declared.numbers.Counts.{Counts}
@@ -23,13 +22,9 @@ use Rattle.minidump_c.specs.Spans.{flag, span_after, text_in}
 
 -- ---- what counts of a crash
 
--- the exception that counts
-abbrev pub exception_of : CrashValue → Option ExceptionValue
-exception_of c = counted c.cause.exceptions c.cause.counts
-
 -- the thread that crashed
 abbrev pub crashed : CrashValue → Option ThreadValue
-crashed c = option_and_then (slice_get c.threads.threads) c.threads.crashing
+crashed c = option_map (λ p. p.1) (crashed_thread c.threads)
 
 -- its registers
 abbrev pub context_of : CrashValue → Option ContextValue
@@ -43,7 +38,7 @@ walk_of c = option_and_then (λ t. t.walk) (crashed c)
 
 -- the reason in words
 abbrev pub reason_of : CrashValue → List ℕ
-reason_of c = text_in (option_and_then (λ e. e.reason) (exception_of c))
+reason_of c = text_in (option_and_then (λ e. e.reason) (counted_exception c.cause))
 
 -- the version of the system, its build, and the description of its processor
 abbrev pub version_of : CrashValue → List ℕ
@@ -103,7 +98,7 @@ origin_number OfThread = 2
 -- absent
 abbrev pub crash_row : CrashValue → OwnTexts → Counts → CrashRow
 crash_row c texts counts = record {
-  exception = exception_part (exception_of c);
+  exception = exception_part (counted_exception c.cause);
   facts = facts_part c.cause.address;
   uptime = unwrap_or c.process.uptime 0;
   thread_index = unwrap_or c.threads.crashing 0;

@@ -1,6 +1,5 @@
 ghost use Rattle.std.specs.Prelude.{◌≡◌, [], IfOk, OnOk, length};
 ghost use Rattle.std.specs.Option.{option_copied, option_map, option_map_or};
-ghost use Rattle.crash.specs.Cause.{exception_of};
 ghost use Rattle.crash.specs.Contexts.{context_of};
 ghost use Rattle.crash.specs.Crash.{crash_of};
 ghost use Rattle.crash.specs.Frames.{crash_walk_of};
@@ -16,9 +15,7 @@ use crate::exceptions::{ExceptionRow, exception_part};
 use crate::facts::{FactsRow, facts_part};
 use crate::frames::end_number;
 use crate::spans::{Span, bytes_of, flag, push_text};
-use crash::{
-    ContextOrigin, Crash, CrashContext, CrashException, CrashSystem, CrashThread, CrashWalk,
-};
+use crash::{ContextOrigin, Crash, CrashContext, CrashSystem, CrashThread, CrashWalk};
 use minidump::system_info::{Cpu, Os};
 use std::alloc::AllocError;
 
@@ -126,7 +123,7 @@ pub(crate) fn push_own(crash: &Crash<'_>, texts: &mut Vec<u8>) -> Result<OwnText
 fn reason_of<'l>(crash: &'l Crash<'_>) -> &'l [u8]
     ensures { result.now ≡ reason_of (crash_of crash.now) }
 {
-    match exception_of(crash) {
+    match crash.cause.counted() {
         Some(exception) => bytes_of(&exception.reason),
         None => &[],
     }
@@ -162,25 +159,11 @@ fn model_of<'l>(crash: &'l Crash<'_>) -> &'l [u8]
     }
 }
 
-// Returns the exception that counts.
-fn exception_of<'l>(crash: &'l Crash<'_>) -> Option<&'l CrashException>
-    ensures { option_map exception_of (option_copied result) ≡ c.exception_of (crash_of crash.now) }
-{
-    match crash.cause.exceptions.as_slice().get(crash.cause.counts?)? {
-        Ok(exception) => Some(exception),
-        Err(_) => None,
-    }
-}
-
 // Returns the thread that crashed.
 pub(crate) fn crashed<'l>(crash: &'l Crash<'_>) -> Option<&'l CrashThread>
     ensures { option_map thread_value (option_copied result) ≡ crashed (crash_of crash.now) }
 {
-    crash
-        .threads
-        .threads
-        .as_slice()
-        .get(crash.threads.crashing?)
+    Some(crash.threads.crashed()?.1)
 }
 
 // Returns what is found in the stack of the thread that crashed.
@@ -205,7 +188,7 @@ pub(crate) fn crash_row(crash: &Crash<'_>, texts: OwnTexts, counts: Counts) -> C
     let (register_size, context) = context_numbers(context_of(crash));
     let (os, cpu, processors) = system_numbers(&crash.process.system);
     CrashRow {
-        exception: exception_part(exception_of(crash)),
+        exception: exception_part(crash.cause.counted()),
         facts: facts_part(crash.cause.address),
         uptime: crash.process.uptime.unwrap_or(0),
         thread_index: crash.threads.crashing.unwrap_or(0),

@@ -1,30 +1,47 @@
--- One after another.
-use Rattle.std.proofs.Common.{◌≡◌, ◌∙◌, ◌-◌, List, ap, append_assoc, length, map, sym, take}
-use Rattle.std.proofs.lemmas.List.{length-map, take-map}
-use Rattle.crash.proofs.Found.{unchanged}
+-- One list after another.
+use Rattle.std.proofs.Common.{◌≡◌, ◌∙◌, ◌-◌, ◌++◌, List, ap, append_assoc, length, rules, take, tests}
+use Rattle.std.proofs.lemmas.Iterator.{YieldsList-from_slice, items_from_collect}
+use Rattle.std.proofs.lemmas.Iterator.Consumers.{YieldsList-at, YieldsList-from_chain, YieldsList-from_filter_map}
+use Rattle.std.proofs.lemmas.Result.{IfOk-weaker}
+use Rattle.std.specs.List.{filter_map}
+use Rattle.minidump.specs.Below.Contexts.Context.{map_ok}
+use Rattle.crash.specs.Cause.{exception_of}
+use Rattle.crash.specs.Damage.{context_damage, exception_damage, exception_error, stack_damage, stream_damage}
+use Rattle.crash.specs.Threads.{thread_value}
+use Rattle.crash.proofs.Found.{found_in_values, values_before}
 use Rattle.crash.proofs.damage.damage_of.Goals as goal
 
-before : {X Y : Type 0} (f : X → Y) (xs : List X) → map f (take (length xs - 1) xs) ≡ take (length (map f xs) - 1) (map f xs)
-before f xs = sym (take-map f (length xs - 1) xs) ∙ ap (λ n. take (n - 1) (map f xs)) (sym (length-map xs f))
+joined : {D : Type 0} (a : List D) {b b' c c' d d' e e' : List D} → b ≡ b' → c ≡ c' → d ≡ d' → e ≡ e'
+    → (((a ++ b) ++ c) ++ d) ++ e ≡ a ++ (b' ++ (c' ++ (d' ++ e')))
+joined a same_b same_c same_d same_e = rw (same_b, same_c, same_d, same_e) (simp append_assoc)
 
 pub returns : goal.returns
 returns c =
-    rw (
-      c.in_ok-extend_from_slice-4.ensures.items,
-      c.as_slice-4.ensures.value,
-      c.in_ok-stacks.ensures,
-      c.in_ok-extend_from_slice-3.ensures.items,
-      c.as_slice-3.ensures.value,
-      c.in_ok-contexts-2.ensures,
-      c.in_ok-extend_from_slice-2.ensures.items,
-      c.as_slice-2.ensures.value,
-      c.in_ok-contexts.ensures,
-      c.in_ok-extend_from_slice.ensures.items,
-      c.as_slice.ensures.value,
-      c.in_ok-errors.ensures,
-      c.in_ok-damage.ensures,
-      c.before_last.ensures,
-      before _ c.args.exceptions.now,
-      unchanged c.args.entries.now,
-    )
-    (simp append_assoc)
+    let entries = c.args.entries.now in
+    let exceptions = c.args.exceptions.now in
+    let threads = c.args.threads.now in
+    let before = take (length exceptions - 1) exceptions in
+    IfOk-weaker c.collect.result (λ damage. damage.items
+    ≡ (((filter_map stream_damage entries ++ filter_map (λ e. exception_error (map_ok exception_of e)) c.before_last-before.result.now)
+    ++ filter_map (λ e. exception_damage (map_ok exception_of e)) exceptions) ++ filter_map (λ t. context_damage (thread_value t)) threads)
+    ++ filter_map (λ t. stack_damage (thread_value t)) threads) _
+    (λ damage is. is ∙ joined (filter_map stream_damage entries)
+    (ap (filter_map (λ e. exception_error (map_ok exception_of e))) c.before_last-before.ensures
+    ∙ found_in_values (map_ok exception_of) exception_error before ∙ ap (filter_map exception_error) (values_before (map_ok exception_of) exceptions))
+    (found_in_values (map_ok exception_of) exception_damage exceptions) (found_in_values thread_value context_damage threads)
+    (found_in_values thread_value stack_damage threads))
+    (items_from_collect _ c.collect.ensures.ran
+    (YieldsList-from_chain (YieldsList-at c.chain-4.ensures.first (YieldsList-from_chain (YieldsList-at c.chain-3.ensures.first (YieldsList-from_chain (YieldsList-at c.chain-2.ensures.first (YieldsList-from_chain (YieldsList-at c.chain.ensures.first (YieldsList-from_filter_map _ stream_damage (YieldsList-at c.filter_map.ensures.source (YieldsList-from_slice entries c.iter.ensures.rest))
+    c.filter_map.ensures.closure (λ x r q k. search (rules, tests))))
+    (YieldsList-at c.chain.ensures.second (YieldsList-from_filter_map _ (λ e. exception_error (map_ok exception_of e)) (YieldsList-at c.filter_map-2.ensures.source (YieldsList-from_slice c.before_last-before.result.now c.iter-2.ensures.rest))
+    c.filter_map-2.ensures.closure (λ x r q k. search (rules, tests))))
+    c.chain.ensures.first_done c.chain.ensures.second_done))
+    (YieldsList-at c.chain-2.ensures.second (YieldsList-from_filter_map _ (λ e. exception_damage (map_ok exception_of e)) (YieldsList-at c.filter_map-3.ensures.source (YieldsList-from_slice exceptions c.iter-3.ensures.rest))
+    c.filter_map-3.ensures.closure (λ x r q k. search (rules, tests))))
+    c.chain-2.ensures.first_done c.chain-2.ensures.second_done))
+    (YieldsList-at c.chain-3.ensures.second (YieldsList-from_filter_map _ (λ t. context_damage (thread_value t)) (YieldsList-at c.filter_map-4.ensures.source (YieldsList-from_slice threads c.iter-4.ensures.rest))
+    c.filter_map-4.ensures.closure (λ x r q k. search (rules, tests))))
+    c.chain-3.ensures.first_done c.chain-3.ensures.second_done))
+    (YieldsList-at c.chain-4.ensures.second (YieldsList-from_filter_map _ (λ t. stack_damage (thread_value t)) (YieldsList-at c.filter_map-5.ensures.source (YieldsList-from_slice threads c.iter-5.ensures.rest))
+    c.filter_map-5.ensures.closure (λ x r q k. search (rules, tests))))
+    c.chain-4.ensures.first_done c.chain-4.ensures.second_done))

@@ -1,14 +1,15 @@
 -- The next item, or one before it.
+use Rattle.std.proofs.Common.{refl}
+use Rattle.std.proofs.lemmas.Fn.{says_at}
 use Rattle.crash.proofs.Lasts.{all_indices, next_index}
 use Rattle.crash.proofs.last.last_index.Goals as goal
 
 pub loop-index-preserved : goal.loop-index-preserved
-loop-index-preserved g c =
+loop-index-preserved g c = λ test tells.
     let item = c.index-items-index in
-    next_index g.C.Choose.value_of (g.C.Choose.is_chosen c.args.by.now) c.args.items.now c.loop-index.index item.result _ _ _ c.loop-index-test.true
-    item.is c.loop-index.invariant c.chooses.ensures c.index_or-last.ensures
+    next_index test c.args.items.now c.loop-index.index item.result _ _ _ c.loop-index-test.true item.is (c.loop-index.invariant test tells)
+    (tells item.result c.is_chosen.result (says_at g.F.Fn c.is_chosen.ensures refl)) c.index_or-last.ensures
 
 pub returns : goal.returns
-returns g c =
-    all_indices g.C.Choose.value_of (g.C.Choose.is_chosen c.args.by.now) c.args.items.now c.loop-index.index c.loop-index.last
-    c.loop-index-test.false c.loop-index.invariant
+returns g c = λ test tells.
+    all_indices test c.args.items.now c.loop-index.index c.loop-index.last c.loop-index-test.false (c.loop-index.invariant test tells)
