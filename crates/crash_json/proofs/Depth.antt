@@ -37,17 +37,17 @@ use Rattle.crash.specs.Modules.{LoadedValue, UnloadedModuleValue}
 use Rattle.crash.specs.Point.{PointValue}
 use Rattle.crash.specs.Process.{SystemValue}
 use Rattle.crash.specs.Release.{ReleaseValue}
-use Rattle.crash.specs.Threads.{ThreadValue, ThreadsValue}
+use Rattle.crash.specs.Threads.{ThreadValue, ThreadsValue, crashed_thread}
 use Rattle.crash_symbols.specs.declared.symbols.SymbolState.{SymbolState}
 use Rattle.crash_symbols.specs.Names.{CallValue, NamedFrameValue}
 use Rattle.crash_symbols.specs.Shown.{SymbolizedValue}
 use Rattle.json_tree.specs.Tree.{array_of, count, hex_string, members_of, object_of, or_null}
 use Rattle.json_tree.proofs.Depth.{array_within, flat_count, flat_hex, flat_text, numbered_array_within, or_null_within}
 use Rattle.crash_json.specs.declared.JsonLimits.{JsonLimits}
-use Rattle.crash_json.specs.Cause.{address_json, address_object, crash_info_json, crash_object, exception_json, exception_object, memory_json, memory_object, sender_json, sender_object, unread_object}
+use Rattle.crash_json.specs.Cause.{address_json, address_members, crash_info_json, crash_object, exception_json, exception_object, memory_json, memory_object, sender_json, sender_object, unread_object}
 use Rattle.crash_json.specs.Crashpad.{annotation_json, annotations_json, crashpad_json, crashpad_module_json, crashpad_modules_json, objects_json, texts_json}
 use Rattle.crash_json.specs.Frames.{frame_json, frame_object, inline_json, inline_object, inlines_json, name_members, name_object, place_members, register_members, registers_json}
-use Rattle.crash_json.specs.Linux.{environment_json, limit_json, limit_list_json, limits_json, proc_limits_json, variable_json, variables_json}
+use Rattle.crash_json.specs.Linux.{environment_json, limit_json, limits_json, proc_limits_json, variable_json, variables_json}
 use Rattle.crash_json.specs.Minidump.{crash_part, damage_json, damage_object, file_part, minidump_json, process_part, region_object, region_json, stream_json, stream_object, unless_zero}
 use Rattle.crash_json.specs.Modules.{main_module, module_json, module_object, modules_json, state_object, symbol_members, unloaded_json, unreadable_json, unreadable_object}
 use Rattle.crash_json.specs.Point.{flags_json, placed_json, point_json, register_json, word_json, word_object}
@@ -57,7 +57,7 @@ use Rattle.crash_json.specs.Report as report
 use Rattle.crash_json.specs.Signature.{signature_in}
 use Rattle.crash_json.specs.SoftErrors.{soft_depth, soft_json}
 use Rattle.crash_json.specs.System.{release_json, system_json, system_object}
-use Rattle.crash_json.specs.Threads.{crashing_json, indexed_crashed, indexed_json, range_json, registers_of, short_json, thread_json, thread_members, thread_object, threads_json}
+use Rattle.crash_json.specs.Threads.{crashing_json, indexed_json, range_json, registers_of, short_json, thread_json, thread_members, thread_object, threads_json}
 
 -- ---- members
 
@@ -142,7 +142,6 @@ unfolding inline_object
 inline_object_depth function file line = omega (arith, flat_text function, flat_text file, flat_count line)
 
 inlines_depth : (calls : List CallValue) → depth (inlines_json calls) ≤ 2
-unfolding inlines_json
 inlines_depth calls = array_within inline_json 1 calls (λ c. inline_object_depth _ _ _)
 
 name_object_depth : (function : Option (List ℕ)) (offset : Option ℕ) (file : Option (List ℕ)) (line : Option ℕ) (inlines : List CallValue) (is_missing : Bool)
@@ -206,7 +205,7 @@ indexed_depth limit symbols modules index t = omega (arith, thread_members_depth
 crashing_depth : (limit : ℕ) (symbols : Option SymbolizedValue) (modules : List LoadedValue) (t : ThreadsValue)
     → depth (crashing_json limit symbols modules t) ≤ 5
 crashing_depth limit symbols modules t =
-    or_null_within (λ p. indexed_json limit symbols modules p.0 p.1) 5 (indexed_crashed t) (λ p. indexed_depth limit symbols modules p.0 p.1)
+    or_null_within (λ p. indexed_json limit symbols modules p.0 p.1) 5 (crashed_thread t) (λ p. indexed_depth limit symbols modules p.0 p.1)
 
 -- ---- records
 
@@ -215,7 +214,6 @@ unfolding handle_object
 handle_object_depth value type_name object_name = omega (arith, flat_hex value, flat_text type_name, flat_text object_name)
 
 handles_depth : (hs : List Handle) → depth (handles_json hs) ≤ 2
-unfolding handles_json
 handles_depth hs = array_within handle_json 1 hs (λ h. handle_object_depth _ _ _)
 
 kind_depth : (k : KindValue) → depth (kind_json k) ≤ 1
@@ -255,15 +253,12 @@ unfolding annotation_json
 annotation_depth e = omega arith
 
 annotations_depth : (es : List (List ℕ × List ℕ)) → depth (annotations_json es) ≤ 2
-unfolding annotations_json
 annotations_depth es = array_within annotation_json 1 es annotation_depth
 
 objects_depth : (es : List (List ℕ × Annotation)) → depth (objects_json es) ≤ 2
-unfolding objects_json
 objects_depth es = array_within (λ e. annotation_json (e.0, annotation_text e.1)) 1 es (λ e. annotation_depth _)
 
 texts_depth : (ts : List (List ℕ)) → depth (texts_json ts) ≤ 2
-unfolding texts_json
 texts_depth ts = array_within string 1 ts (λ t. omega arith)
 
 crashpad_module_depth : (m : Module) → depth (crashpad_module_json m) ≤ 3
@@ -272,7 +267,6 @@ crashpad_module_depth m =
     omega (arith, texts_depth m.list_annotations, annotations_depth m.simple_annotations, objects_depth m.annotation_objects)
 
 crashpad_modules_depth : (ms : List Module) → depth (crashpad_modules_json ms) ≤ 4
-unfolding crashpad_modules_json
 crashpad_modules_depth ms = array_within crashpad_module_json 3 ms crashpad_module_depth
 
 crashpad_depth : (c : Crashpad) → depth (crashpad_json c) ≤ 5
@@ -285,19 +279,14 @@ limit_depth : (l : LimitValue) → depth (limit_json l) ≤ 1
 unfolding limit_json
 limit_depth l = omega (arith, flat_text l.unit)
 
-limit_list_depth : (ls : List LimitValue) → depth (limit_list_json ls) ≤ 2
-unfolding limit_list_json
-limit_list_depth ls = array_within limit_json 1 ls limit_depth
-
 limits_depth : (ls : List LimitValue) → depth (limits_json ls) ≤ 3
 unfolding limits_json
-limits_depth ls = omega (arith, limit_list_depth ls)
+limits_depth ls = omega (arith, array_within limit_json 1 ls limit_depth)
 
 proc_limits_depth : (text : Result (List ℕ) Error) → depth (proc_limits_json text) ≤ 3
 proc_limits_depth text = or_null_within limits_json 3 (option_map limits_in (result_ok text)) limits_depth
 
 variables_depth : (ps : List (List ℕ × List ℕ)) → depth (variables_json ps) ≤ 2
-unfolding variables_json
 variables_depth ps = array_within variable_json 1 ps (λ p. annotation_depth _)
 
 environment_depth : (is_asked : Bool) (text : Result (List ℕ) Error) → depth (environment_json is_asked text) ≤ 2
@@ -340,14 +329,14 @@ memory_object_depth : (state : List ℕ) (m : AddressMemory) → depth (memory_o
 unfolding memory_object
 memory_object_depth state m = omega arith
 
-address_object_depth : (a : AddressFacts) (index offset : Option ℕ) → members_depth (members_of (address_object a index offset)) ≤ 1
-unfolding address_object
-address_object_depth a index offset =
+address_members_depth : (a : AddressFacts) → members_depth (members_of (address_members a)) ≤ 1
+unfolding address_members
+address_members_depth a =
     omega (
       arith,
       flat_hex a.null_offset,
-      flat_count index,
-      flat_hex offset,
+      flat_count (option_map (λ p. p.0) a.module),
+      flat_hex (option_map (λ p. p.1) a.module),
       flat_count a.unloaded,
       flat_count a.stack_of,
       flat_count a.below_stack,
@@ -355,7 +344,7 @@ address_object_depth a index offset =
     )
 
 address_depth : (a : AddressFacts) → depth (address_json a) ≤ 2
-address_depth a = omega (arith, address_object_depth a (option_map (λ p. p.0) a.module) (option_map (λ p. p.1) a.module))
+address_depth a = omega (arith, address_members_depth a)
 
 stream_object_depth : (number : ℕ) (name : Option (List ℕ)) (size rva : ℕ) (error : Option (List ℕ)) → depth (stream_object number name size rva error) ≤ 1
 unfolding stream_object
@@ -390,7 +379,7 @@ unfolding word_object
 word_object_depth w index offset = omega (arith, flat_count index, flat_hex offset)
 
 register_depth : (r : List ℕ × AddressFacts) → depth (register_json r) ≤ 2
-register_depth r = omega (arith, address_object_depth r.1 (option_map (λ p. p.0) r.1.module) (option_map (λ p. p.1) r.1.module))
+register_depth r = omega (arith, address_members_depth r.1)
 
 placed_depth : (rs : List (List ℕ × AddressFacts)) → depth (placed_json rs) ≤ 3
 placed_depth rs = array_within register_json 2 _ register_depth
@@ -488,16 +477,11 @@ crash_within symbols c main =
       all_unloaded_depth c.modules.unloaded,
     )
 
-process_within : (limit : ℕ) (symbols : Option SymbolizedValue) (c : CrashValue) (id : Option ℕ) (threads : ℕ)
-    → members_depth (members_of (process_object limit symbols c id threads)) ≤ soft_depth
+process_within : (limit : ℕ) (symbols : Option SymbolizedValue) (modules : List LoadedValue) (t : ThreadsValue) (id : Option ℕ) (how_many : ℕ)
+    → members_depth (members_of (process_object limit symbols modules t id how_many)) ≤ soft_depth
 unfolding process_object
-process_within limit symbols c id threads =
-    omega (
-      arith,
-      flat_count id,
-      threads_depth limit symbols c.modules.loaded c.threads.threads,
-      crashing_depth limit symbols c.modules.loaded c.threads,
-    )
+process_within limit symbols modules t id how_many =
+    omega (arith, flat_count id, threads_depth limit symbols modules t.threads, crashing_depth limit symbols modules t)
 
 record_within : (environment : Bool) (symbols : Option SymbolizedValue) (c : CrashValue) (boot_args soft_errors : Option (List ℕ))
     → members_depth (members_of (record_object environment symbols c boot_args soft_errors)) ≤ soft_depth
@@ -525,7 +509,7 @@ line_depth limits path symbols c =
     let records : members_depth (members_of (record_members limits.environment symbols c)) ≤ soft_depth = record_within limits.environment symbols c _ _ in
     let all = both_within (path_members path) _ soft_depth (path_within path)
     (both_within (crash_members symbols c) _ soft_depth (crash_within symbols c _)
-    (both_within (process_members limits.frames symbols c) (record_members limits.environment symbols c) soft_depth (process_within limits.frames symbols c _ _) records)) in
+    (both_within (process_members limits.frames symbols c) (record_members limits.environment symbols c) soft_depth (process_within limits.frames symbols c.modules.loaded c.threads _ _) records)) in
     omega (arith, all)
 
 pub error_depth : (path status : List ℕ) → depth (error_json path status) ≤ max_depth

@@ -16,17 +16,12 @@ use Rattle.crash.specs.declared.contexts.ContextProblem.TheVariants.{NoSystem, N
 use Rattle.crash.specs.declared.records.Access.{Access}
 use Rattle.crash.specs.declared.records.Access.TheVariants.{Execute, Read, Write}
 use Rattle.crash.specs.declared.records.Sender.{Sender}
-use Rattle.crash.specs.Cause.{CauseValue, ExceptionValue}
-use Rattle.crash.specs.Counting.{counted}
+use Rattle.crash.specs.Cause.{ExceptionValue, counted_exception}
 use Rattle.crash.specs.Crash.{CrashValue}
 use Rattle.crash.specs.Records.{signal_code_name}
 use Rattle.json_tree.specs.Tree.{array_of, count, hex_string, object_of, or_null}
 
 -- ---- the crash
-
--- the exception that counts, where there is one
-abbrev pub counting_in : CauseValue → Option ExceptionValue
-counting_in c = counted c.exceptions c.counts
 
 -- the expression of an assertion
 abbrev pub expression_in : Result MINIDUMP_ASSERTION_INFO Error → Option (List ℕ)
@@ -44,8 +39,8 @@ crash_object reason address thread assertion = object_of (
 
 -- the crash: by the exception that counts
 abbrev pub crash_info_json : CrashValue → Json
-crash_info_json c = crash_object (option_and_then (λ e. e.reason) (counting_in c.cause))
-    (option_and_then (λ e. e.address) (counting_in c.cause)) c.threads.crashing
+crash_info_json c = crash_object (option_and_then (λ e. e.reason) (counted_exception c.cause))
+    (option_and_then (λ e. e.address) (counted_exception c.cause)) c.threads.crashing
     (expression_in c.contents.messages.assertion)
 
 -- ---- exceptions
@@ -139,24 +134,19 @@ memory_object state m = object_of (
 abbrev pub memory_json : AddressMemory → Json
 memory_json m = memory_object (state_name m.state) m
 
--- an address by the index of its module and the offset in that
-unfoldable pub address_object : AddressFacts → Option ℕ → Option ℕ → List (List ℕ × Json)
-address_object a index offset =
+-- what is known of an address, as members
+unfoldable pub address_members : AddressFacts → List (List ℕ × Json)
+address_members a =
     (codes "address", hex_string a.address)
     ∷ (codes "null_offset", or_null hex_string a.null_offset)
     ∷ (codes "is_canonical", boolean a.is_canonical)
-    ∷ (codes "module", or_null count index)
-    ∷ (codes "module_offset", or_null hex_string offset)
+    ∷ (codes "module", or_null count (option_map (λ p. p.0) a.module))
+    ∷ (codes "module_offset", or_null hex_string (option_map (λ p. p.1) a.module))
     ∷ (codes "unloaded_module", or_null count a.unloaded)
     ∷ (codes "stack_of", or_null count a.stack_of)
     ∷ (codes "below_stack", or_null count a.below_stack)
     ∷ (codes "memory", or_null memory_json a.memory)
     ∷ []
-
--- what is known of an address, as members
-abbrev pub address_members : AddressFacts → List (List ℕ × Json)
-address_members a =
-    address_object a (option_map (λ p. p.0) a.module) (option_map (λ p. p.1) a.module)
 
 -- what is known of an address
 abbrev pub address_json : AddressFacts → Json

@@ -11,15 +11,15 @@ unfoldable pub annotation_json : List ℕ × List ℕ → Json
 annotation_json e = object_of ((codes "name", string e.0) ∷ (codes "value", string e.1) ∷ [])
 
 -- the annotations of a dictionary
-unfoldable pub annotations_json : List (List ℕ × List ℕ) → Json
+abbrev pub annotations_json : List (List ℕ × List ℕ) → Json
 annotations_json entries = array_of annotation_json entries
 
 -- the annotations that have a type: a text as it is, and the kind of any other
-unfoldable pub objects_json : List (List ℕ × Annotation) → Json
+abbrev pub objects_json : List (List ℕ × Annotation) → Json
 objects_json entries = array_of (λ e. annotation_json (e.0, annotation_text e.1)) entries
 
 -- the texts of a list
-unfoldable pub texts_json : List (List ℕ) → Json
+abbrev pub texts_json : List (List ℕ) → Json
 texts_json texts = array_of string texts
 
 -- the annotations of a module: its list of texts, its dictionary, and those that have a type
@@ -31,7 +31,7 @@ crashpad_module_json m = object_of (
     ∷ [])
 
 -- those of modules
-unfoldable pub crashpad_modules_json : List Module → Json
+abbrev pub crashpad_modules_json : List Module → Json
 crashpad_modules_json modules = array_of crashpad_module_json modules
 
 -- Crashpad's annotations: those of the process, and those of its modules

@@ -86,7 +86,7 @@ inline_json c =
     inline_object (lossy c.function) (lossy (source_file c.source)) (source_line c.source)
 
 -- the calls put in place at a frame
-unfoldable pub inlines_json : List CallValue → Json
+abbrev pub inlines_json : List CallValue → Json
 inlines_json calls = array_of inline_json calls
 
 -- the members of a frame's names, by those of its function and of its source file, and whether it has

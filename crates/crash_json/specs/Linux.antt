@@ -21,13 +21,9 @@ limit_json l = object_of (
     ∷ (codes "unit", or_null string l.unit)
     ∷ [])
 
--- the list of limits
-unfoldable pub limit_list_json : List LimitValue → Json
-limit_list_json limits = array_of limit_json limits
-
 -- the limits, as the only member of an object
 unfoldable pub limits_json : List LimitValue → Json
-limits_json limits = object_of ((codes "limits", limit_list_json limits) ∷ [])
+limits_json limits = object_of ((codes "limits", array_of limit_json limits) ∷ [])
 
 -- those of the stream, where it can be read
 abbrev pub proc_limits_json : Result (List ℕ) Error → Json
@@ -40,7 +36,7 @@ abbrev pub variable_json : List ℕ × List ℕ → Json
 variable_json p = annotation_json (utf8_lossy p.0, utf8_lossy p.1)
 
 -- the variables
-unfoldable pub variables_json : List (List ℕ × List ℕ) → Json
+abbrev pub variables_json : List (List ℕ × List ℕ) → Json
 variables_json variables = array_of variable_json variables
 
 -- the environment, where it is asked for and its stream can be read

@@ -1,5 +1,5 @@
 -- The values of members, as the code has them.
-use Rattle.std.specs.Prelude.{map, string_bytes}
+use Rattle.std.specs.Prelude.{Option, map, string_bytes}
 use Rattle.std.specs.Option.{option_copied, option_map}
 use Rattle.std.specs.Result.{result_ok}
 use Rattle.json.specs.Json.{Json, string}
@@ -10,10 +10,10 @@ use Rattle.minidump.specs.Below.Records.Dictionary.{entries_of}
 use Rattle.minidump.specs.Below.Records.Record.{mac_record_of}
 use Rattle.crash.specs.Contexts.{context_of}
 use Rattle.crash.specs.Crash.{crash_of}
-use Rattle.crash.specs.Linux.{limit_of}
 use Rattle.crash.specs.Modules.{loaded_of}
+use Rattle.crash.specs.Threads.{threads_of}
 use Rattle.crash_symbols.specs.NameParts.{call_of}
-use Rattle.crash_symbols.specs.Shown.{shown_frame_of, symbolized_of}
+use Rattle.crash_symbols.specs.Shown.{SymbolizedValue, shown_frame_of, symbolized_of}
 use Rattle.json_tree.specs.Tree.{array_of, count, hex_string, numbered_array_of, or_null, scalar_json}
 use Rattle.crash_json.specs.declared.cause.AddressMember.{AddressMember}
 use Rattle.crash_json.specs.declared.cause.AddressMember.TheVariants as address
@@ -27,12 +27,11 @@ use Rattle.crash_json.specs.declared.frames.FrameMember.{FrameMember}
 use Rattle.crash_json.specs.declared.frames.FrameMember.TheVariants as frame
 use Rattle.crash_json.specs.declared.dump.Member.{Member}
 use Rattle.crash_json.specs.declared.dump.Member.TheVariants as dump
-use Rattle.crash_json.specs.declared.linux.LimitsMember.{LimitsMember}
-use Rattle.crash_json.specs.declared.linux.LimitsMember.TheVariants as limits
 use Rattle.crash_json.specs.declared.point.PointMember.{PointMember}
 use Rattle.crash_json.specs.declared.point.PointMember.TheVariants as point
 use Rattle.crash_json.specs.declared.records.MacMember.{MacMember}
 use Rattle.crash_json.specs.declared.records.MacMember.TheVariants as mac
+use Rattle.crash_json.specs.declared.report.Report.{Report}
 use Rattle.crash_json.specs.declared.report.ReportMember.{ReportMember}
 use Rattle.crash_json.specs.declared.report.ReportMember.TheVariants as report
 use Rattle.crash_json.specs.declared.threads.ThreadMember.{ThreadMember}
@@ -42,7 +41,7 @@ use Rattle.crash_json.specs.Cause.{sender_json}
 use Rattle.crash_json.specs.Crashpad.{annotations_json, crashpad_json, crashpad_modules_json}
 use Rattle.crash_json.specs.Crashpad.{objects_json, texts_json}
 use Rattle.crash_json.specs.Frames.{frame_json, inlines_json, registers_json}
-use Rattle.crash_json.specs.Linux.{environment_json, limit_list_json, proc_limits_json}
+use Rattle.crash_json.specs.Linux.{environment_json, proc_limits_json}
 use Rattle.crash_json.specs.Minidump.{damage_json, minidump_json, region_json, stream_json}
 use Rattle.crash_json.specs.Modules.{modules_json, unloaded_json, unreadable_json}
 use Rattle.crash_json.specs.Point.{flags_json, placed_json, point_json, word_json}
@@ -87,10 +86,6 @@ point_member (point.Words words) = array_of word_json words.now
 point_member (point.Flags flags) = flags_json (map (λ r. (r.0.now, r.1)) flags.now)
 point_member (point.SetFlags names) = array_of string (map (λ name. name.now) names.now)
 
--- the member of limits
-abbrev pub limits_member : LimitsMember → Json
-limits_member (limits.List items) = limit_list_json (map limit_of items.now)
-
 -- a member of macOS's crash information
 abbrev pub mac_member : MacMember → Json
 mac_member (mac.Scalar s) = scalar_json s
@@ -130,20 +125,23 @@ minidump_member (dump.Kinds c) = array_of kind_json (crash_of c.now).process.han
 minidump_member (dump.Environment is_asked c) =
     environment_json is_asked (crash_of c.now).contents.process.environ
 
+-- the symbols of a report, where they are known
+abbrev pub symbols_in : Report → Option SymbolizedValue
+symbols_in r = option_map symbolized_of (option_copied r.symbols)
+
 -- a member of the whole
 abbrev pub report_member : ReportMember → Json
 report_member (report.Scalar s) = scalar_json s
 report_member (report.System c) = or_null system_json (crash_of c.now).process.system
 report_member (report.CrashInfo c) = crash_info_json (crash_of c.now)
-report_member (report.Modules c s) = modules_json (option_map symbolized_of (option_copied s))
-    (crash_of c.now).modules.loaded
+report_member (report.Modules r) = modules_json (symbols_in r) (crash_of r.crash.now).modules.loaded
 report_member (report.Unloaded c) = array_of unloaded_json (crash_of c.now).modules.unloaded
-report_member (report.Threads limit c s) =
-    threads_json limit (option_map symbolized_of (option_copied s))
-    (crash_of c.now).modules.loaded (crash_of c.now).threads.threads
-report_member (report.Crashing limit c s) =
-    crashing_json limit (option_map symbolized_of (option_copied s))
-    (crash_of c.now).modules.loaded (crash_of c.now).threads
+report_member (report.Threads e t) =
+    threads_json e.limit (option_map symbolized_of (option_copied e.symbols))
+    (map loaded_of e.modules.now) (threads_of t.now).threads
+report_member (report.Crashing e t) =
+    crashing_json e.limit (option_map symbolized_of (option_copied e.symbols))
+    (map loaded_of e.modules.now) (threads_of t.now)
 report_member (report.Release c) = or_null release_json (crash_of c.now).process.release
 report_member (report.MacCrash c) =
     or_null mac_crash_json (result_ok (crash_of c.now).contents.messages.mac_crash_info)
@@ -151,5 +149,5 @@ report_member (report.Handles c) =
     or_null handles_json (result_ok (crash_of c.now).contents.process.handles)
 report_member (report.SoftErrors text) = or_null soft_json (option_copied text)
 report_member (report.Limits c) = proc_limits_json (crash_of c.now).contents.process.limits
-report_member (report.Minidump environment c s) =
-    minidump_json environment (option_map symbolized_of (option_copied s)) (crash_of c.now)
+report_member (report.Minidump r) =
+    minidump_json r.limits.environment (symbols_in r) (crash_of r.crash.now)

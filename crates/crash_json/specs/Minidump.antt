@@ -105,7 +105,8 @@ file_part c status =
     ∷ (codes "unreadable_modules", array_of unreadable_json c.modules.unreadable)
     ∷ []
 
--- the crash by its signature, and the word for whose context the registers are of
+-- the crash by its signature, and the word for whose context the registers are of; then the kinds of
+-- handles, the assertion and Crashpad's annotations
 unfoldable pub crash_part : CrashValue → Option (List ℕ) → Option (List ℕ) → List (List ℕ × Json)
 crash_part c signature origin =
     (codes "address", or_null address_json c.cause.address)

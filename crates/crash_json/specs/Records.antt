@@ -26,7 +26,7 @@ abbrev pub handle_json : Handle → Json
 handle_json h = handle_object (handle h.raw) h.type_name h.object_name
 
 -- the handles
-unfoldable pub handles_json : List Handle → Json
+abbrev pub handles_json : List Handle → Json
 handles_json handles = array_of handle_json handles
 
 -- a kind of handles: the name of their type, and how many there are

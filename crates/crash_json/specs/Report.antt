@@ -6,6 +6,8 @@ use Rattle.json.specs.Json.{Json, string}
 use Rattle.json.specs.Print.{print}
 use Rattle.json.specs.Tree.{json_tokens}
 use Rattle.crash.specs.Crash.{CrashValue}
+use Rattle.crash.specs.Modules.{LoadedValue}
+use Rattle.crash.specs.Threads.{ThreadsValue}
 use Rattle.crash_symbols.specs.Shown.{SymbolizedValue}
 use Rattle.json_tree.specs.Tree.{array_of, count, object_of, or_null}
 use Rattle.crash_json.specs.declared.JsonLimits.{JsonLimits}
@@ -41,19 +43,19 @@ crash_members symbols c = crash_object symbols c (main_module c.modules.loaded)
 
 -- the process by its id, and its threads, of which there are so many, with at most so many frames
 -- each
-unfoldable pub process_object : ℕ → Option SymbolizedValue → CrashValue → Option ℕ → ℕ
-    → List (List ℕ × Json)
-process_object limit symbols c id threads =
+unfoldable pub process_object : ℕ → Option SymbolizedValue → List LoadedValue → ThreadsValue
+    → Option ℕ → ℕ → List (List ℕ × Json)
+process_object limit symbols modules t id how_many =
     (codes "pid", or_null count id)
-    ∷ (codes "thread_count", count threads)
-    ∷ (codes "threads", threads_json limit symbols c.modules.loaded c.threads.threads)
-    ∷ (codes "crashing_thread", crashing_json limit symbols c.modules.loaded c.threads)
+    ∷ (codes "thread_count", count how_many)
+    ∷ (codes "threads", threads_json limit symbols modules t.threads)
+    ∷ (codes "crashing_thread", crashing_json limit symbols modules t)
     ∷ []
 
 -- the process and its threads, with at most so many frames each
 abbrev pub process_members : ℕ → Option SymbolizedValue → CrashValue → List (List ℕ × Json)
-process_members limit symbols c =
-    process_object limit symbols c c.process.id (length c.threads.threads)
+process_members limit symbols c = process_object limit symbols c.modules.loaded c.threads
+    c.process.id (length c.threads.threads)
 
 -- what single streams hold, with the arguments of macOS's boot and the soft errors, and what the
 -- schema has no member for, by whether the environment is asked for

@@ -1,5 +1,5 @@
 -- Threads as JSON.
-use Rattle.std.specs.Prelude.{ℕ, Bool, List, [], ◌∷◌, ◌++◌, codes, is_some, length, take, slice_get}
+use Rattle.std.specs.Prelude.{ℕ, Bool, List, [], ◌∷◌, ◌++◌, codes, is_some, length, take}
 use Rattle.std.specs.Prelude.{Option, Some, None}
 use Rattle.std.specs.Option.{option_and_then, option_map}
 use Rattle.json.specs.Json.{Json, boolean, string}
@@ -14,7 +14,7 @@ use Rattle.crash.specs.declared.contexts.ShortContext.{ShortContext}
 use Rattle.crash.specs.declared.stacks.StackRange.{StackRange}
 use Rattle.crash.specs.Contexts.{ContextValue}
 use Rattle.crash.specs.Modules.{LoadedValue}
-use Rattle.crash.specs.Threads.{ThreadValue, ThreadsValue}
+use Rattle.crash.specs.Threads.{ThreadValue, ThreadsValue, crashed_thread}
 use Rattle.crash_symbols.specs.Backtraces.{BacktraceValue}
 use Rattle.crash_symbols.specs.Names.{NamedFrameValue}
 use Rattle.crash_symbols.specs.Shown.{SymbolizedValue, shown_in}
@@ -100,11 +100,6 @@ unfoldable pub threads_json : ℕ → Option SymbolizedValue → List LoadedValu
 threads_json limit symbols modules threads =
     numbered_array_of (thread_json limit symbols modules) threads
 
--- the thread that crashed with its index, where it is known
-abbrev pub indexed_crashed : ThreadsValue → Option (ℕ × ThreadValue)
-indexed_crashed t = option_and_then
-    (λ index. option_map (λ thread. (index, thread)) (slice_get t.threads index)) t.crashing
-
 -- the word for whose context the registers are of
 abbrev pub origin_name : ContextOrigin → List ℕ
 origin_name OfException = codes "exception"
@@ -113,7 +108,7 @@ origin_name OfThread = codes "thread"
 -- whose context the registers of the thread that crashed are of
 abbrev pub registers_of : ThreadsValue → Option (List ℕ)
 registers_of t = option_map (λ c. origin_name c.origin)
-    (option_and_then (λ p. p.1.context) (indexed_crashed t))
+    (option_and_then (λ p. p.1.context) (crashed_thread t))
 
 -- a thread at an index, with its registers in its first frame
 abbrev pub indexed_json : ℕ → Option SymbolizedValue → List LoadedValue → ℕ → ThreadValue → Json
@@ -123,4 +118,4 @@ indexed_json limit symbols modules index t = object_of ((codes "threads_index", 
 -- the thread that crashed, with its index
 abbrev pub crashing_json : ℕ → Option SymbolizedValue → List LoadedValue → ThreadsValue → Json
 crashing_json limit symbols modules t =
-    or_null (λ p. indexed_json limit symbols modules p.0 p.1) (indexed_crashed t)
+    or_null (λ p. indexed_json limit symbols modules p.0 p.1) (crashed_thread t)

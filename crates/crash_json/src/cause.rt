@@ -1,16 +1,15 @@
 //! Where and why a process crashed: the crash, the exceptions, and the address.
-ghost use Rattle.std.specs.Prelude.{◌≡◌, IfOk, IsOkUnless, map, string_bytes};
+ghost use Rattle.std.specs.Prelude.{◌≡◌, IfOk, IsOkUnless, Ok, string_bytes};
 ghost use Rattle.std.specs.Option.{option_and_then, option_copied, option_map};
 ghost use Rattle.minidump.specs.Below.Contexts.Context.{map_ok};
-ghost use Rattle.minidump.specs.Below.Format.Error.{name_of_error};
 ghost use Rattle.minidump.specs.Promise.{assertion_stream};
-ghost use Rattle.crash.specs.Cause.{cause_of, exception_of};
+ghost use Rattle.crash.specs.Cause.{cause_of, counted_exception, exception_of};
 ghost use Rattle.crash.specs.Crash.{crash_of};
 ghost use Rattle.json_tree.specs.Tree.{Adds, Puts};
-ghost use Rattle.crash_json.specs.Cause.{access_name, address_members, address_object, counting_in};
-ghost use Rattle.crash_json.specs.Cause.{crash_info_json, crash_object, exception_object};
-ghost use Rattle.crash_json.specs.Cause.{expression_in, memory_object, problem_name, sender_object};
-ghost use Rattle.crash_json.specs.Cause.{state_name, unread_object};
+ghost use Rattle.crash_json.specs.Cause.{access_name, address_members};
+ghost use Rattle.crash_json.specs.Cause.{crash_info_json, crash_object, exception_json};
+ghost use Rattle.crash_json.specs.Cause.{exception_object};
+ghost use Rattle.crash_json.specs.Cause.{expression_in, problem_name, state_name, unread_object};
 
 use crate::frames::{index_of, offset_of};
 use crash::{
@@ -19,18 +18,13 @@ use crash::{
 };
 use json::Writer;
 use json_tree::{
-    ItemJson, Scalar, ToJson, ValueJson, as_text, put_array, put_item_or_null, put_members,
-    put_object, put_object_of,
+    ItemJson, Members, Put, Scalar, ToJson, ValueJson, as_text, put_array, put_item_or_null,
 };
 use minidump::{Error, MinidumpAssertion};
 use std::alloc::Global;
 
 /// Puts the crash, by the exception that counts.
-pub(crate) fn put_crash_info(
-    out: &mut Writer,
-    alloc: Global,
-    crash: &Crash<'_>,
-) -> Result<(), Error>
+pub(crate) fn put_crash_info(out: &mut Writer, alloc: Global, crash: &Crash<'_>) -> Put
     ensures { Puts result out.old out.new (crash_info_json (crash_of crash.now)) }
 {
     let assertion = expression_of(alloc, &crash.contents.messages.assertion)?;
@@ -44,29 +38,19 @@ pub(crate) fn put_crash_info(
     )
 }
 
-// Returns the exception that counts.
-fn counting(cause: &CrashCause) -> Option<&CrashException>
-    ensures { option_map exception_of (option_copied result) ≡ counting_in (cause_of cause.now) }
-{
-    match cause.exceptions.get(cause.counts?)? {
-        Ok(exception) => Some(exception),
-        Err(_) => None,
-    }
-}
-
 /// Returns the words for the reason of the crash.
 pub(crate) fn reason_of(cause: &CrashCause) -> Option<&str>
     ensures { option_copied result
-        ≡ option_and_then (λ e. e.reason) (counting_in (cause_of cause.now)) }
+        ≡ option_and_then (λ e. e.reason) (counted_exception (cause_of cause.now)) }
 {
-    as_text(&counting(cause)?.reason)
+    as_text(&cause.counted()?.reason)
 }
 
 // Returns the address of the crash.
 fn address_of(cause: &CrashCause) -> Option<u64>
-    ensures { result ≡ option_and_then (λ e. e.address) (counting_in (cause_of cause.now)) }
+    ensures { result ≡ option_and_then (λ e. e.address) (counted_exception (cause_of cause.now)) }
 {
-    counting(cause)?.address
+    cause.counted()?.address
 }
 
 // Makes the text of the expression of an assertion.
@@ -92,20 +76,17 @@ fn put_crash<'t>(
     address: Option<u64>,
     thread: Option<usize>,
     assertion: &'t Option<String>,
-) -> Result<(), Error>
+) -> Put
     ensures { Puts result out.old out.new (crash_object (option_copied reason.entry) address thread
         (option_map string_bytes assertion.now)) }
 {
-    put_object(
-        out,
-        alloc,
-        &[
-            ("type", Scalar::Text(reason)),
-            ("address", Scalar::Hex(address)),
-            ("crashing_thread", Scalar::Count(thread)),
-            ("assertion", Scalar::Optional(assertion)),
-        ],
-    )
+    Members(&[
+        ("type", Scalar::Text(reason)),
+        ("address", Scalar::Hex(address)),
+        ("crashing_thread", Scalar::Count(thread)),
+        ("assertion", Scalar::Optional(assertion)),
+    ])
+    .put(out, alloc)
 }
 
 /// An exception of a list, or why it can't be read.
@@ -130,53 +111,56 @@ impl ValueJson<Result<CrashException, Error>> for EachException {
         item: &Result<CrashException, Error>,
         out: &mut Writer,
         alloc: Global,
-    ) -> Result<(), Error> {
+    ) -> Put {
         match item {
-            Ok(exception) => put_read(
-                out,
-                alloc,
-                exception,
-                exception.parameters.as_slice(),
-                access_name(exception.access),
-                problem_name(exception.context_problem),
-            ),
+            Ok(exception) => put_read(out, alloc, exception),
             Err(error) => put_unread(out, alloc, error.name()),
         }
     }
 }
 
+fn put_read(out: &mut Writer, alloc: Global, exception: &CrashException) -> Put
+    ensures { Puts result out.old out.new (exception_json (Ok (exception_of exception.now))) }
+{
+    put_record(
+        out,
+        alloc,
+        exception,
+        exception.parameters.as_slice(),
+        access_name(exception.access),
+        problem_name(exception.context_problem),
+    )
+}
+
 #[rattlefmt::skip]
 #[tactic(auto, unfolding(crate::specs::Cause::exception_object))]
-fn put_read<'l>(
+fn put_record<'l>(
     out: &mut Writer,
     alloc: Global,
     exception: &'l CrashException,
     parameters: &'l [u64],
     access: Option<&'l str>,
     problem: Option<&'l str>,
-) -> Result<(), Error>
+) -> Put
     ensures { Puts result out.old out.new (exception_object (exception_of exception.now)
         parameters.now (option_copied access.entry) (option_copied problem.entry)) }
 {
-    put_object_of(
-        out,
-        alloc,
-        &[
-            ("thread_id", ExceptionMember::Scalar(Scalar::Number(Some(exception.thread as u64)))),
-            ("code", ExceptionMember::Scalar(Scalar::Hex(Some(exception.code as u64)))),
-            ("flags", ExceptionMember::Scalar(Scalar::Hex(Some(exception.flags as u64)))),
-            ("exception_address", ExceptionMember::Scalar(Scalar::Hex(Some(exception.at)))),
-            ("nested", ExceptionMember::Scalar(Scalar::Hex(Some(exception.nested)))),
-            ("parameters", ExceptionMember::Parameters(parameters)),
-            ("access", ExceptionMember::Scalar(Scalar::Text(access))),
-            ("sender", ExceptionMember::Sender(exception.sender)),
-            ("address", ExceptionMember::Scalar(Scalar::Hex(exception.address))),
-            ("type", ExceptionMember::Scalar(Scalar::Optional(&exception.reason))),
-            ("description", ExceptionMember::Scalar(Scalar::Optional(&exception.description))),
-            ("context_problem", ExceptionMember::Scalar(Scalar::Text(problem))),
-            ("error", ExceptionMember::Scalar(Scalar::Null)),
-        ],
-    )
+    Members(&[
+        ("thread_id", ExceptionMember::Scalar(Scalar::Number(Some(exception.thread as u64)))),
+        ("code", ExceptionMember::Scalar(Scalar::Hex(Some(exception.code as u64)))),
+        ("flags", ExceptionMember::Scalar(Scalar::Hex(Some(exception.flags as u64)))),
+        ("exception_address", ExceptionMember::Scalar(Scalar::Hex(Some(exception.at)))),
+        ("nested", ExceptionMember::Scalar(Scalar::Hex(Some(exception.nested)))),
+        ("parameters", ExceptionMember::Parameters(parameters)),
+        ("access", ExceptionMember::Scalar(Scalar::Text(access))),
+        ("sender", ExceptionMember::Sender(exception.sender)),
+        ("address", ExceptionMember::Scalar(Scalar::Hex(exception.address))),
+        ("type", ExceptionMember::Scalar(Scalar::Optional(&exception.reason))),
+        ("description", ExceptionMember::Scalar(Scalar::Optional(&exception.description))),
+        ("context_problem", ExceptionMember::Scalar(Scalar::Text(problem))),
+        ("error", ExceptionMember::Scalar(Scalar::Null)),
+    ])
+    .put(out, alloc)
 }
 
 // The value of a member of an exception.
@@ -192,7 +176,7 @@ impl ToJson for ExceptionMember<'_> {
 
     ghost json = { exception_member };
 
-    fn put(&self, out: &mut Writer, alloc: Global) -> Result<(), Error> {
+    fn put(&self, out: &mut Writer, alloc: Global) -> Put {
         match self {
             ExceptionMember::Scalar(scalar) => scalar.put(out, alloc),
             ExceptionMember::Parameters(parameters) => put_array(out, alloc, parameters, &HexJson),
@@ -210,7 +194,7 @@ impl ItemJson<u64> for HexJson {
 
     ghost json_of = { λ _ n. hex_string n };
 
-    fn put_item(&self, item: &u64, out: &mut Writer, alloc: Global) -> Result<(), Error> {
+    fn put_item(&self, item: &u64, out: &mut Writer, alloc: Global) -> Put {
         Scalar::Hex(Some(*item)).put(out, alloc)
     }
 }
@@ -224,62 +208,44 @@ impl ItemJson<Sender> for SenderJson {
 
     ghost json_of = { λ _ s. sender_json s };
 
-    fn put_item(&self, item: &Sender, out: &mut Writer, alloc: Global) -> Result<(), Error> {
-        put_sender(out, alloc, item.process, user_of(item), item.code.name())
+    #[tactic(auto, unfolding(crate::specs::Cause::sender_object))]
+    fn put_item(&self, item: &Sender, out: &mut Writer, alloc: Global) -> Put {
+        Members(&[
+            ("process_id", Scalar::Number(Some(item.process as u64))),
+            ("user_id", Scalar::Number(widened(item.user))),
+            ("code", Scalar::Text(Some(item.code.name()))),
+        ])
+        .put(out, alloc)
     }
 }
 
-// Returns the user of the process that sent a signal.
-fn user_of(sender: &Sender) -> Option<u64>
-    ensures { result ≡ sender.now.user }
+/// Returns a number that may be absent, as one that is wider.
+pub(crate) fn widened(number: Option<u32>) -> Option<u64>
+    ensures { result ≡ number }
 {
-    Some(sender.user? as u64)
-}
-
-#[tactic(auto, unfolding(crate::specs::Cause::sender_object))]
-fn put_sender(
-    out: &mut Writer,
-    alloc: Global,
-    process: u32,
-    user: Option<u64>,
-    code: &str,
-) -> Result<(), Error>
-    ensures { Puts result out.old out.new (sender_object process user code.now) }
-{
-    put_object(
-        out,
-        alloc,
-        &[
-            ("process_id", Scalar::Number(Some(process as u64))),
-            ("user_id", Scalar::Number(user)),
-            ("code", Scalar::Text(Some(code))),
-        ],
-    )
+    Some(number? as u64)
 }
 
 #[tactic(auto, unfolding(crate::specs::Cause::unread_object))]
-fn put_unread(out: &mut Writer, alloc: Global, error: &str) -> Result<(), Error>
+fn put_unread(out: &mut Writer, alloc: Global, error: &str) -> Put
     ensures { Puts result out.old out.new (unread_object error.now) }
 {
-    put_object(
-        out,
-        alloc,
-        &[
-            ("thread_id", Scalar::Null),
-            ("code", Scalar::Null),
-            ("flags", Scalar::Null),
-            ("exception_address", Scalar::Null),
-            ("nested", Scalar::Null),
-            ("parameters", Scalar::Null),
-            ("access", Scalar::Null),
-            ("sender", Scalar::Null),
-            ("address", Scalar::Null),
-            ("type", Scalar::Null),
-            ("description", Scalar::Null),
-            ("context_problem", Scalar::Null),
-            ("error", Scalar::Text(Some(error))),
-        ],
-    )
+    Members(&[
+        ("thread_id", Scalar::Null),
+        ("code", Scalar::Null),
+        ("flags", Scalar::Null),
+        ("exception_address", Scalar::Null),
+        ("nested", Scalar::Null),
+        ("parameters", Scalar::Null),
+        ("access", Scalar::Null),
+        ("sender", Scalar::Null),
+        ("address", Scalar::Null),
+        ("type", Scalar::Null),
+        ("description", Scalar::Null),
+        ("context_problem", Scalar::Null),
+        ("error", Scalar::Text(Some(error))),
+    ])
+    .put(out, alloc)
 }
 
 // Returns the word for how memory was accessed.
@@ -314,7 +280,7 @@ impl ItemJson<AddressFacts> for AddressJson {
     ghost json_of = { λ _ a. address_json a };
 
     #[tactic(auto, using(json_tree::proofs::Tokens::object_of_members))]
-    fn put_item(&self, item: &AddressFacts, out: &mut Writer, alloc: Global) -> Result<(), Error> {
+    fn put_item(&self, item: &AddressFacts, out: &mut Writer, alloc: Global) -> Put {
         out.begin_object()?;
         put_address(out, alloc, item)?;
         out.end_object()?;
@@ -323,43 +289,23 @@ impl ItemJson<AddressFacts> for AddressJson {
 }
 
 /// Adds what is known of an address.
-pub(crate) fn put_address(
-    out: &mut Writer,
-    alloc: Global,
-    facts: &AddressFacts,
-) -> Result<(), Error>
+#[rattlefmt::skip]
+#[tactic(auto, unfolding(crate::specs::Cause::address_members))]
+pub(crate) fn put_address(out: &mut Writer, alloc: Global, facts: &AddressFacts) -> Put
     ensures { Adds result out.old out.new (address_members facts.now) }
 {
-    let index = index_of(facts.module);
-    put_address_members(out, alloc, facts, index, offset_of(facts.module))
-}
-
-#[rattlefmt::skip]
-#[tactic(auto, unfolding(crate::specs::Cause::address_object))]
-fn put_address_members(
-    out: &mut Writer,
-    alloc: Global,
-    facts: &AddressFacts,
-    index: Option<usize>,
-    offset: Option<u64>,
-) -> Result<(), Error>
-    ensures { Adds result out.old out.new (address_object facts.now index offset) }
-{
-    put_members(
-        out,
-        alloc,
-        &[
-            ("address", AddressMember::Scalar(Scalar::Hex(Some(facts.address)))),
-            ("null_offset", AddressMember::Scalar(Scalar::Hex(facts.null_offset))),
-            ("is_canonical", AddressMember::Scalar(Scalar::Flag(facts.is_canonical))),
-            ("module", AddressMember::Scalar(Scalar::Count(index))),
-            ("module_offset", AddressMember::Scalar(Scalar::Hex(offset))),
-            ("unloaded_module", AddressMember::Scalar(Scalar::Count(facts.unloaded))),
-            ("stack_of", AddressMember::Scalar(Scalar::Count(facts.stack_of))),
-            ("below_stack", AddressMember::Scalar(Scalar::Count(facts.below_stack))),
-            ("memory", AddressMember::Memory(facts.memory)),
-        ],
-    )
+    Members(&[
+        ("address", AddressMember::Scalar(Scalar::Hex(Some(facts.address)))),
+        ("null_offset", AddressMember::Scalar(Scalar::Hex(facts.null_offset))),
+        ("is_canonical", AddressMember::Scalar(Scalar::Flag(facts.is_canonical))),
+        ("module", AddressMember::Scalar(Scalar::Count(index_of(facts.module)))),
+        ("module_offset", AddressMember::Scalar(Scalar::Hex(offset_of(facts.module)))),
+        ("unloaded_module", AddressMember::Scalar(Scalar::Count(facts.unloaded))),
+        ("stack_of", AddressMember::Scalar(Scalar::Count(facts.stack_of))),
+        ("below_stack", AddressMember::Scalar(Scalar::Count(facts.below_stack))),
+        ("memory", AddressMember::Memory(facts.memory)),
+    ])
+    .add(out, alloc)
 }
 
 // The value of a member of what is known of an address.
@@ -374,7 +320,7 @@ impl ToJson for AddressMember<'_> {
 
     ghost json = { address_member };
 
-    fn put(&self, out: &mut Writer, alloc: Global) -> Result<(), Error> {
+    fn put(&self, out: &mut Writer, alloc: Global) -> Put {
         match self {
             AddressMember::Scalar(scalar) => scalar.put(out, alloc),
             AddressMember::Memory(memory) => put_item_or_null(out, alloc, memory, &MemoryJson),
@@ -391,31 +337,17 @@ impl ItemJson<AddressMemory> for MemoryJson {
 
     ghost json_of = { λ _ m. memory_json m };
 
-    fn put_item(&self, item: &AddressMemory, out: &mut Writer, alloc: Global) -> Result<(), Error> {
-        put_memory(out, alloc, state_name(item.state), item)
+    #[tactic(auto, unfolding(crate::specs::Cause::memory_object))]
+    fn put_item(&self, item: &AddressMemory, out: &mut Writer, alloc: Global) -> Put {
+        Members(&[
+            ("state", Scalar::Text(Some(state_name(item.state)))),
+            ("is_readable", Scalar::Flag(item.is_readable)),
+            ("is_writable", Scalar::Flag(item.is_writable)),
+            ("is_executable", Scalar::Flag(item.is_executable)),
+            ("is_guarded", Scalar::Flag(item.is_guarded)),
+        ])
+        .put(out, alloc)
     }
-}
-
-#[tactic(auto, unfolding(crate::specs::Cause::memory_object))]
-fn put_memory<'t>(
-    out: &mut Writer,
-    alloc: Global,
-    state: &'t str,
-    memory: &AddressMemory,
-) -> Result<(), Error>
-    ensures { Puts result out.old out.new (memory_object state.now memory.now) }
-{
-    put_object(
-        out,
-        alloc,
-        &[
-            ("state", Scalar::Text(Some(state))),
-            ("is_readable", Scalar::Flag(memory.is_readable)),
-            ("is_writable", Scalar::Flag(memory.is_writable)),
-            ("is_executable", Scalar::Flag(memory.is_executable)),
-            ("is_guarded", Scalar::Flag(memory.is_guarded)),
-        ],
-    )
 }
 
 // Returns the word for the state of memory.

@@ -1,17 +1,14 @@
 //! Crashpad's annotations.
-ghost use Rattle.std.specs.Prelude.{◌≡◌, ℕ, IfOk, List, map, string_bytes};
+ghost use Rattle.std.specs.Prelude.{◌≡◌, IfOk, map, string_bytes};
 ghost use Rattle.minidump.specs.Below.Records.Annotations.{annotation_of};
-ghost use Rattle.minidump.specs.Below.Records.Crashpad.{crashpad_info_of, module_of};
 ghost use Rattle.minidump.specs.Below.Records.CrashpadText.{annotation_text};
 ghost use Rattle.minidump.specs.Below.Records.Dictionary.{entries_of};
 ghost use Rattle.json_tree.specs.Tree.{Puts};
-ghost use Rattle.crash_json.specs.Crashpad.{annotation_json, annotations_json, crashpad_json};
-ghost use Rattle.crash_json.specs.Crashpad.{crashpad_module_json, crashpad_modules_json};
-ghost use Rattle.crash_json.specs.Crashpad.{objects_json, texts_json};
+ghost use Rattle.crash_json.specs.Crashpad.{annotation_json, annotations_json, objects_json};
 
 use json::Writer;
-use json_tree::{Scalar, ToJson, ValueJson, put_object, put_object_of, put_values};
-use minidump::{Error, MinidumpAnnotation, MinidumpCrashpadInfo, MinidumpModuleCrashpadInfo};
+use json_tree::{Members, Put, Scalar, ToJson, ValueJson, put_values};
+use minidump::{MinidumpAnnotation, MinidumpCrashpadInfo, MinidumpModuleCrashpadInfo};
 use std::alloc::{AllocError, Global};
 use std::collections::BTreeMap;
 
@@ -30,31 +27,15 @@ impl ValueJson<MinidumpCrashpadInfo> for CrashpadJson {
 
     ghost json_of = { λ _ c. crashpad_json c };
 
-    fn put_value(
-        &self,
-        item: &MinidumpCrashpadInfo,
-        out: &mut Writer,
-        alloc: Global,
-    ) -> Result<(), Error> {
-        put_crashpad(out, alloc, item)
+    #[tactic(auto, unfolding(crate::specs::Crashpad::crashpad_json))]
+    fn put_value(&self, item: &MinidumpCrashpadInfo, out: &mut Writer, alloc: Global) -> Put {
+        let annotations = &item.simple_annotations;
+        Members(&[
+            ("annotations", CrashpadMember::Texts(annotations)),
+            ("modules", CrashpadMember::Modules(&item.module_list)),
+        ])
+        .put(out, alloc)
     }
-}
-
-#[tactic(auto, unfolding(crate::specs::Crashpad::crashpad_json))]
-fn put_crashpad(out: &mut Writer, alloc: Global, info: &MinidumpCrashpadInfo) -> Result<(), Error>
-    ensures { Puts result out.old out.new (crashpad_json (crashpad_info_of info.now)) }
-{
-    put_object_of(
-        out,
-        alloc,
-        &[
-            (
-                "annotations",
-                CrashpadMember::Texts(&info.simple_annotations),
-            ),
-            ("modules", CrashpadMember::Modules(&info.module_list)),
-        ],
-    )
 }
 
 // The value of a member of Crashpad's annotations.
@@ -69,23 +50,14 @@ impl ToJson for CrashpadMember<'_> {
 
     ghost json = { crashpad_member };
 
-    fn put(&self, out: &mut Writer, alloc: Global) -> Result<(), Error> {
+    fn put(&self, out: &mut Writer, alloc: Global) -> Put {
         match self {
             CrashpadMember::Texts(texts) => put_annotations(out, alloc, texts),
-            CrashpadMember::Modules(modules) => put_modules(out, alloc, modules.as_slice()),
+            CrashpadMember::Modules(modules) => {
+                put_values(out, alloc, modules.as_slice(), &EachModule)
+            }
         }
     }
-}
-
-#[tactic(auto, unfolding(crate::specs::Crashpad::crashpad_modules_json))]
-fn put_modules(
-    out: &mut Writer,
-    alloc: Global,
-    modules: &[MinidumpModuleCrashpadInfo],
-) -> Result<(), Error>
-    ensures { Puts result out.old out.new (crashpad_modules_json (map module_of modules.now)) }
-{
-    put_values(out, alloc, modules, &EachModule)
 }
 
 // The annotations of a module of a list.
@@ -102,33 +74,15 @@ impl ValueJson<MinidumpModuleCrashpadInfo> for EachModule {
 
     ghost json_of = { λ _ m. crashpad_module_json m };
 
-    fn put_value(
-        &self,
-        item: &MinidumpModuleCrashpadInfo,
-        out: &mut Writer,
-        alloc: Global,
-    ) -> Result<(), Error> {
-        put_module(out, alloc, item)
+    #[tactic(auto, unfolding(crate::specs::Crashpad::crashpad_module_json))]
+    fn put_value(&self, item: &MinidumpModuleCrashpadInfo, out: &mut Writer, alloc: Global) -> Put {
+        Members(&[
+            ("list", ModuleMember::List(&item.list_annotations)),
+            ("annotations", ModuleMember::Texts(&item.simple_annotations)),
+            ("objects", ModuleMember::Objects(&item.annotation_objects)),
+        ])
+        .put(out, alloc)
     }
-}
-
-#[tactic(auto, unfolding(crate::specs::Crashpad::crashpad_module_json))]
-fn put_module(
-    out: &mut Writer,
-    alloc: Global,
-    info: &MinidumpModuleCrashpadInfo,
-) -> Result<(), Error>
-    ensures { Puts result out.old out.new (crashpad_module_json (module_of info.now)) }
-{
-    put_object_of(
-        out,
-        alloc,
-        &[
-            ("list", ModuleMember::List(&info.list_annotations)),
-            ("annotations", ModuleMember::Texts(&info.simple_annotations)),
-            ("objects", ModuleMember::Objects(&info.annotation_objects)),
-        ],
-    )
 }
 
 // The value of a member of the annotations of a module.
@@ -144,20 +98,13 @@ impl ToJson for ModuleMember<'_> {
 
     ghost json = { module_member };
 
-    fn put(&self, out: &mut Writer, alloc: Global) -> Result<(), Error> {
+    fn put(&self, out: &mut Writer, alloc: Global) -> Put {
         match self {
-            ModuleMember::List(texts) => put_texts(out, alloc, texts.as_slice()),
+            ModuleMember::List(texts) => put_values(out, alloc, texts.as_slice(), &EachText),
             ModuleMember::Texts(texts) => put_annotations(out, alloc, texts),
             ModuleMember::Objects(objects) => put_objects(out, alloc, objects),
         }
     }
-}
-
-#[tactic(auto, unfolding(crate::specs::Crashpad::texts_json))]
-fn put_texts(out: &mut Writer, alloc: Global, texts: &[String]) -> Result<(), Error>
-    ensures { Puts result out.old out.new (texts_json (map string_bytes texts.now)) }
-{
-    put_values(out, alloc, texts, &EachText)
 }
 
 // A text of a list.
@@ -174,22 +121,18 @@ impl ValueJson<String> for EachText {
 
     ghost json_of = { λ _ text. string text };
 
-    fn put_value(&self, item: &String, out: &mut Writer, alloc: Global) -> Result<(), Error> {
+    fn put_value(&self, item: &String, out: &mut Writer, alloc: Global) -> Put {
         Scalar::Owned(item).put(out, alloc)
     }
 }
 
 // Puts the annotations of a dictionary.
-fn put_annotations(
-    out: &mut Writer,
-    alloc: Global,
-    texts: &BTreeMap<String, String>,
-) -> Result<(), Error>
+fn put_annotations(out: &mut Writer, alloc: Global, texts: &BTreeMap<String, String>) -> Put
     ensures { Puts result out.old out.new
         (annotations_json (entries_of string_bytes texts.now.entries)) }
 {
     let entries = texts_of(alloc, texts)?;
-    put_entries(out, alloc, entries.as_slice())
+    put_values(out, alloc, entries.as_slice(), &EachAnnotation)
 }
 
 // Returns the entries of a dictionary.
@@ -202,18 +145,6 @@ fn texts_of<'l>(
         ≡ entries_of string_bytes texts.now.entries) }
 {
     texts.iter().collect(alloc)
-}
-
-#[tactic(auto, unfolding(crate::specs::Crashpad::annotations_json))]
-fn put_entries<'l>(
-    out: &mut Writer,
-    alloc: Global,
-    entries: &[(&'l String, &'l String)],
-) -> Result<(), Error>
-    ensures { Puts result out.old out.new (annotations_json
-        (map (λ e. (string_bytes e.0.now, string_bytes e.1.now)) entries.now)) }
-{
-    put_values(out, alloc, entries, &EachAnnotation)
 }
 
 // An annotation of a dictionary.
@@ -230,12 +161,7 @@ impl<'l> ValueJson<(&'l String, &'l String)> for EachAnnotation {
 
     ghost json_of = { λ _ e. annotation_json e };
 
-    fn put_value(
-        &self,
-        item: &(&'l String, &'l String),
-        out: &mut Writer,
-        alloc: Global,
-    ) -> Result<(), Error> {
+    fn put_value(&self, item: &(&'l String, &'l String), out: &mut Writer, alloc: Global) -> Put {
         put_annotation(out, alloc, item.0.as_str(), item.1.as_str())
     }
 }
@@ -247,17 +173,14 @@ pub(crate) fn put_annotation<'t>(
     alloc: Global,
     name: &'t str,
     value: &'t str,
-) -> Result<(), Error>
+) -> Put
     ensures { Puts result out.old out.new (annotation_json (name.now, value.now)) }
 {
-    put_object(
-        out,
-        alloc,
-        &[
-            ("name", Scalar::Text(Some(name))),
-            ("value", Scalar::Text(Some(value))),
-        ],
-    )
+    Members(&[
+        ("name", Scalar::Text(Some(name))),
+        ("value", Scalar::Text(Some(value))),
+    ])
+    .put(out, alloc)
 }
 
 // Puts the annotations that have a type.
@@ -265,12 +188,12 @@ fn put_objects(
     out: &mut Writer,
     alloc: Global,
     objects: &BTreeMap<String, MinidumpAnnotation>,
-) -> Result<(), Error>
+) -> Put
     ensures { Puts result out.old out.new
         (objects_json (entries_of annotation_of objects.now.entries)) }
 {
     let entries = objects_of(alloc, objects)?;
-    put_object_entries(out, alloc, entries.as_slice())
+    put_values(out, alloc, entries.as_slice(), &EachObject)
 }
 
 // Returns the annotations that have a type, with their names.
@@ -283,18 +206,6 @@ fn objects_of<'l>(
         ≡ entries_of annotation_of objects.now.entries) }
 {
     objects.iter().collect(alloc)
-}
-
-#[tactic(auto, unfolding(crate::specs::Crashpad::objects_json))]
-fn put_object_entries<'l>(
-    out: &mut Writer,
-    alloc: Global,
-    entries: &[(&'l String, &'l MinidumpAnnotation)],
-) -> Result<(), Error>
-    ensures { Puts result out.old out.new (objects_json
-        (map (λ e. (string_bytes e.0.now, annotation_of e.1.now)) entries.now)) }
-{
-    put_values(out, alloc, entries, &EachObject)
 }
 
 // An annotation that has a type.
@@ -318,7 +229,7 @@ impl<'l> ValueJson<(&'l String, &'l MinidumpAnnotation)> for EachObject {
         item: &(&'l String, &'l MinidumpAnnotation),
         out: &mut Writer,
         alloc: Global,
-    ) -> Result<(), Error> {
+    ) -> Put {
         put_annotation(out, alloc, item.0.as_str(), annotation_text(item.1))
     }
 }

@@ -6,26 +6,26 @@ ghost use Rattle.minidump.specs.Below.Format.StreamType.{stream_type_of, type_na
 ghost use Rattle.minidump.specs.Below.MemoryLists.Unified.{unified_list, unified_region};
 ghost use Rattle.minidump.specs.Below.MemoryLists.Unified.{unified_regions};
 ghost use Rattle.crash.specs.Crash.{crash_of, status_of};
-ghost use Rattle.crash_symbols.specs.Shown.{symbolized_of};
 ghost use Rattle.json_tree.specs.Tree.{Adds, Puts, array_of};
+ghost use Rattle.crash_json.specs.Members.{symbols_in};
 ghost use Rattle.crash_json.specs.Minidump.{crash_part, damage_object, file_part, minidump_json};
 ghost use Rattle.crash_json.specs.Minidump.{minidump_members, process_part, region_json};
-ghost use Rattle.crash_json.specs.Minidump.{region_object, stream_object, unless_zero};
+ghost use Rattle.crash_json.specs.Minidump.{unless_zero};
 
-use crate::cause::{AddressJson, EachException};
+use crate::cause::{AddressJson, EachException, widened};
 use crate::crashpad::CrashpadJson;
 use crate::linux::put_environment;
 use crate::modules::EachUnreadable;
 use crate::point::PointJson;
 use crate::records::{AssertionJson, EachKind, put_found};
+use crate::report::Report;
 use crate::signature::signature_in;
 use crate::threads::registers_of;
 use crash::{Crash, Damage, StreamEntry};
-use crash_symbols::Symbolized;
 use json::Writer;
 use json_tree::{
-    ItemJson, Scalar, ToJson, ValueJson, as_text, put_array, put_item_or_null, put_members,
-    put_object, put_value_or_null, put_values,
+    ItemJson, Members, Put, Scalar, ToJson, ValueJson, as_text, put_array, put_item_or_null,
+    put_value_or_null, put_values,
 };
 use minidump::format::MINIDUMP_STREAM_TYPE;
 use minidump::{Error, UnifiedMemory, UnifiedMemoryList};
@@ -34,47 +34,31 @@ use std::alloc::{AllocError, Global};
 /// Puts what a minidump says that the schema has no member for, with the environment if it is asked
 /// for.
 #[tactic(auto, using(json_tree::proofs::Tokens::object_of_members))]
-pub(crate) fn put_minidump(
-    out: &mut Writer,
-    alloc: Global,
-    environment: bool,
-    crash: &Crash<'_>,
-    symbols: Option<&Symbolized<'_, '_>>,
-) -> Result<(), Error>
-    ensures { Puts result out.old out.new (minidump_json environment
-        (option_map symbolized_of (option_copied symbols.entry)) (crash_of crash.now)) }
+pub(crate) fn put_minidump(out: &mut Writer, alloc: Global, report: Report<'_, '_, '_, '_>) -> Put
+    ensures { Puts result out.old out.new (minidump_json report.entry.limits.environment
+        (symbols_in report.entry) (crash_of report.entry.crash.now)) }
 {
     out.begin_object()?;
-    put_parts(out, alloc, environment, crash, symbols)?;
+    put_parts(out, alloc, report)?;
     out.end_object()?;
     Ok(())
 }
 
 // Adds the members, a part at a time.
-fn put_parts(
-    out: &mut Writer,
-    alloc: Global,
-    environment: bool,
-    crash: &Crash<'_>,
-    symbols: Option<&Symbolized<'_, '_>>,
-) -> Result<(), Error>
-    ensures { Adds result out.old out.new (minidump_members environment
-        (option_map symbolized_of (option_copied symbols.entry)) (crash_of crash.now)) }
+fn put_parts(out: &mut Writer, alloc: Global, report: Report<'_, '_, '_, '_>) -> Put
+    ensures { Adds result out.old out.new (minidump_members report.entry.limits.environment
+        (symbols_in report.entry) (crash_of report.entry.crash.now)) }
 {
+    let crash = report.crash;
+    let environment = report.limits.environment;
     let written = unless_zero(crash.directory.written);
-    put_process(out, alloc, environment, crash, written, parent_of(crash))?;
+    let parent = widened(crash.process.parent);
+    put_process(out, alloc, environment, crash, written, parent)?;
     put_file(out, alloc, crash, status_of(crash))?;
-    let signature = signature_in(alloc, crash, symbols)?;
+    let signature = signature_in(alloc, crash, report.symbols)?;
     let origin = registers_of(&crash.threads);
     put_crash(out, alloc, crash, as_text(&signature), origin)?;
     Ok(())
-}
-
-// Returns the id of the process's parent.
-fn parent_of(crash: &Crash<'_>) -> Option<u64>
-    ensures { result ≡ (crash_of crash.now).process.parent }
-{
-    Some(crash.process.parent? as u64)
 }
 
 // Returns a time, of which 0 says nothing.
@@ -100,45 +84,37 @@ fn put_process(
     crash: &Crash<'_>,
     written: Option<u64>,
     parent: Option<u64>,
-) -> Result<(), Error>
+) -> Put
     ensures { Adds result out.old out.new
         (process_part environment (crash_of crash.now) written parent) }
 {
-    put_members(
-        out,
-        alloc,
-        &[
-            ("written", Member::Scalar(Scalar::Number(written))),
-            ("uptime", Member::Scalar(Scalar::Number(crash.process.uptime))),
-            ("parent_process_id", Member::Scalar(Scalar::Number(parent))),
-            ("resident_size", Member::Scalar(Scalar::Number(crash.process.resident))),
-            ("command_line", Member::Scalar(Scalar::Optional(&crash.process.command_line))),
-            ("environment", Member::Environment(environment, crash)),
-            ("comment", Member::Scalar(Scalar::Optional(&crash.process.comments.narrow))),
-            ("wide_comment", Member::Scalar(Scalar::Optional(&crash.process.comments.wide))),
-        ],
-    )
+    Members(&[
+        ("written", Member::Scalar(Scalar::Number(written))),
+        ("uptime", Member::Scalar(Scalar::Number(crash.process.uptime))),
+        ("parent_process_id", Member::Scalar(Scalar::Number(parent))),
+        ("resident_size", Member::Scalar(Scalar::Number(crash.process.resident))),
+        ("command_line", Member::Scalar(Scalar::Optional(&crash.process.command_line))),
+        ("environment", Member::Environment(environment, crash)),
+        ("comment", Member::Scalar(Scalar::Optional(&crash.process.comments.narrow))),
+        ("wide_comment", Member::Scalar(Scalar::Optional(&crash.process.comments.wide))),
+    ])
+    .add(out, alloc)
 }
 
 #[tactic(auto, unfolding(crate::specs::Minidump::file_part))]
-fn put_file(out: &mut Writer, alloc: Global, crash: &Crash<'_>, status: u64) -> Result<(), Error>
+fn put_file(out: &mut Writer, alloc: Global, crash: &Crash<'_>, status: u64) -> Put
     ensures { Adds result out.old out.new (file_part (crash_of crash.now) status) }
 {
-    put_members(
-        out,
-        alloc,
-        &[
-            ("status", Member::Scalar(Scalar::Number(Some(status)))),
-            ("streams", Member::Streams(crash)),
-            (
-                "entries_outside",
-                Member::Scalar(Scalar::Number(Some(crash.directory.entries_outside))),
-            ),
-            ("memory", Member::Memory(crash)),
-            ("damage", Member::Damage(crash)),
-            ("unreadable_modules", Member::Unreadable(crash)),
-        ],
-    )
+    let outside = Scalar::Number(Some(crash.directory.entries_outside));
+    Members(&[
+        ("status", Member::Scalar(Scalar::Number(Some(status)))),
+        ("streams", Member::Streams(crash)),
+        ("entries_outside", Member::Scalar(outside)),
+        ("memory", Member::Memory(crash)),
+        ("damage", Member::Damage(crash)),
+        ("unreadable_modules", Member::Unreadable(crash)),
+    ])
+    .add(out, alloc)
 }
 
 #[tactic(auto, unfolding(crate::specs::Minidump::crash_part))]
@@ -148,28 +124,23 @@ fn put_crash<'l>(
     crash: &'l Crash<'_>,
     signature: Option<&'l str>,
     origin: Option<&'l str>,
-) -> Result<(), Error>
+) -> Put
     ensures { Adds result out.old out.new (crash_part (crash_of crash.now)
         (option_copied signature.entry) (option_copied origin.entry)) }
 {
-    put_members(
-        out,
-        alloc,
-        &[
-            ("address", Member::Address(crash)),
-            ("point", Member::Point(crash)),
-            ("exceptions", Member::Exceptions(crash)),
-            (
-                "exception",
-                Member::Scalar(Scalar::Count(crash.cause.counts)),
-            ),
-            ("signature", Member::Scalar(Scalar::Text(signature))),
-            ("registers_of", Member::Scalar(Scalar::Text(origin))),
-            ("handle_kinds", Member::Kinds(crash)),
-            ("assertion", Member::Assertion(crash)),
-            ("crashpad", Member::Crashpad(crash)),
-        ],
-    )
+    let counts = Scalar::Count(crash.cause.counts);
+    Members(&[
+        ("address", Member::Address(crash)),
+        ("point", Member::Point(crash)),
+        ("exceptions", Member::Exceptions(crash)),
+        ("exception", Member::Scalar(counts)),
+        ("signature", Member::Scalar(Scalar::Text(signature))),
+        ("registers_of", Member::Scalar(Scalar::Text(origin))),
+        ("handle_kinds", Member::Kinds(crash)),
+        ("assertion", Member::Assertion(crash)),
+        ("crashpad", Member::Crashpad(crash)),
+    ])
+    .add(out, alloc)
 }
 
 // The value of a member, without parts or of a part of the crash.
@@ -194,7 +165,7 @@ impl ToJson for Member<'_, '_> {
 
     ghost json = { minidump_member };
 
-    fn put(&self, out: &mut Writer, alloc: Global) -> Result<(), Error> {
+    fn put(&self, out: &mut Writer, alloc: Global) -> Put {
         match self {
             Member::Scalar(scalar) => scalar.put(out, alloc),
             Member::Streams(crash) => {
@@ -210,12 +181,10 @@ impl ToJson for Member<'_, '_> {
                 let exceptions = crash.cause.exceptions.as_slice();
                 put_values(out, alloc, exceptions, &EachException)
             }
-            Member::Assertion(crash) => put_found(
-                out,
-                alloc,
-                &crash.contents.messages.assertion,
-                &AssertionJson,
-            ),
+            Member::Assertion(crash) => {
+                let found = &crash.contents.messages.assertion;
+                put_found(out, alloc, found, &AssertionJson)
+            }
             Member::Crashpad(crash) => {
                 put_found(out, alloc, &crash.contents.messages.crashpad, &CrashpadJson)
             }
@@ -244,43 +213,17 @@ impl ItemJson<StreamEntry> for EachStream {
 
     ghost json_of = { λ _ s. stream_json s };
 
-    fn put_item(&self, item: &StreamEntry, out: &mut Writer, alloc: Global) -> Result<(), Error> {
-        put_stream(
-            out,
-            alloc,
-            item.number,
-            type_name(item.number),
-            item.size,
-            item.rva,
-            error_name(item.error),
-        )
+    #[tactic(auto, unfolding(crate::specs::Minidump::stream_object))]
+    fn put_item(&self, item: &StreamEntry, out: &mut Writer, alloc: Global) -> Put {
+        Members(&[
+            ("type", Scalar::Hex(Some(item.number as u64))),
+            ("name", Scalar::Text(type_name(item.number))),
+            ("size", Scalar::Number(Some(item.size as u64))),
+            ("rva", Scalar::Hex(Some(item.rva as u64))),
+            ("error", Scalar::Text(error_name(item.error))),
+        ])
+        .put(out, alloc)
     }
-}
-
-#[tactic(auto, unfolding(crate::specs::Minidump::stream_object))]
-fn put_stream<'t>(
-    out: &mut Writer,
-    alloc: Global,
-    number: u32,
-    name: Option<&'t str>,
-    size: u32,
-    rva: u32,
-    error: Option<&'t str>,
-) -> Result<(), Error>
-    ensures { Puts result out.old out.new (stream_object number (option_copied name.entry) size rva
-        (option_copied error.entry)) }
-{
-    put_object(
-        out,
-        alloc,
-        &[
-            ("type", Scalar::Hex(Some(number as u64))),
-            ("name", Scalar::Text(name)),
-            ("size", Scalar::Number(Some(size as u64))),
-            ("rva", Scalar::Hex(Some(rva as u64))),
-            ("error", Scalar::Text(error)),
-        ],
-    )
 }
 
 // Returns the name of a type of stream, if it has one.
@@ -300,7 +243,7 @@ fn error_name(error: Option<Error>) -> Option<&'static str>
 // ---- memory
 
 // Puts the regions of memory.
-fn put_memory(out: &mut Writer, alloc: Global, memory: &UnifiedMemoryList<'_>) -> Result<(), Error>
+fn put_memory(out: &mut Writer, alloc: Global, memory: &UnifiedMemoryList<'_>) -> Put
     ensures { Puts result out.old out.new
         (array_of region_json (unified_regions (unified_list memory.now))) }
 {
@@ -333,28 +276,14 @@ impl<'l, 'a> ValueJson<UnifiedMemory<'l, 'a>> for EachRegion {
 
     ghost json_of = { λ _ r. region_json r };
 
-    fn put_value(
-        &self,
-        item: &UnifiedMemory<'l, 'a>,
-        out: &mut Writer,
-        alloc: Global,
-    ) -> Result<(), Error> {
-        put_region(out, alloc, item.base_address(), item.size())
+    #[tactic(auto, unfolding(crate::specs::Minidump::region_object))]
+    fn put_value(&self, item: &UnifiedMemory<'l, 'a>, out: &mut Writer, alloc: Global) -> Put {
+        Members(&[
+            ("base_addr", Scalar::Hex(Some(item.base_address()))),
+            ("size", Scalar::Number(Some(item.size()))),
+        ])
+        .put(out, alloc)
     }
-}
-
-#[tactic(auto, unfolding(crate::specs::Minidump::region_object))]
-fn put_region(out: &mut Writer, alloc: Global, base: u64, size: u64) -> Result<(), Error>
-    ensures { Puts result out.old out.new (region_object base size) }
-{
-    put_object(
-        out,
-        alloc,
-        &[
-            ("base_addr", Scalar::Hex(Some(base))),
-            ("size", Scalar::Number(Some(size))),
-        ],
-    )
 }
 
 // ---- damage
@@ -368,62 +297,42 @@ impl ItemJson<Damage> for EachDamage {
 
     ghost json_of = { λ _ d. damage_json d };
 
-    fn put_item(&self, item: &Damage, out: &mut Writer, alloc: Global) -> Result<(), Error> {
+    fn put_item(&self, item: &Damage, out: &mut Writer, alloc: Global) -> Put {
         match *item {
-            Damage::Stream { number, error } => put_damage_members(
-                out,
-                alloc,
-                "stream",
-                Some(number as u64),
-                None,
-                Some(error.name()),
-            ),
+            Damage::Stream { number, error } => {
+                put_damage(out, alloc, "stream", Some(number), None, Some(error))
+            }
             Damage::Exception { error } => {
-                put_damage_members(out, alloc, "exception", None, None, Some(error.name()))
+                put_damage(out, alloc, "exception", None, None, Some(error))
             }
-            Damage::ExceptionContext { thread } => put_damage_members(
-                out,
-                alloc,
-                "exception_context",
-                None,
-                Some(thread as u64),
-                None,
-            ),
-            Damage::ThreadContext { thread } => put_damage_members(
-                out,
-                alloc,
-                "thread_context",
-                None,
-                Some(thread as u64),
-                None,
-            ),
-            Damage::Stack { thread } => {
-                put_damage_members(out, alloc, "stack", None, Some(thread as u64), None)
+            Damage::ExceptionContext { thread } => {
+                put_damage(out, alloc, "exception_context", None, Some(thread), None)
             }
+            Damage::ThreadContext { thread } => {
+                put_damage(out, alloc, "thread_context", None, Some(thread), None)
+            }
+            Damage::Stack { thread } => put_damage(out, alloc, "stack", None, Some(thread), None),
         }
     }
 }
 
 #[tactic(auto, unfolding(crate::specs::Minidump::damage_object))]
-fn put_damage_members<'t>(
+fn put_damage(
     out: &mut Writer,
     alloc: Global,
-    what: &'t str,
-    number: Option<u64>,
-    thread: Option<u64>,
-    error: Option<&'t str>,
-) -> Result<(), Error>
+    what: &str,
+    number: Option<u32>,
+    thread: Option<u32>,
+    error: Option<Error>,
+) -> Put
     ensures { Puts result out.old out.new
-        (damage_object what.now number thread (option_copied error.entry)) }
+        (damage_object what.now number thread (option_map name_of_error error)) }
 {
-    put_object(
-        out,
-        alloc,
-        &[
-            ("what", Scalar::Text(Some(what))),
-            ("number", Scalar::Hex(number)),
-            ("thread_id", Scalar::Number(thread)),
-            ("error", Scalar::Text(error)),
-        ],
-    )
+    Members(&[
+        ("what", Scalar::Text(Some(what))),
+        ("number", Scalar::Hex(widened(number))),
+        ("thread_id", Scalar::Number(widened(thread))),
+        ("error", Scalar::Text(error_name(error))),
+    ])
+    .put(out, alloc)
 }

@@ -6,7 +6,7 @@ ghost use Rattle.json.specs.Tree.{json_tokens};
 ghost use Rattle.crash_json.specs.Report.{error_json};
 
 use json::Writer;
-use json_tree::{Scalar, ToJson, put_object, text_of};
+use json_tree::{Members, Put, Scalar, ToJson, text_of};
 use minidump::Error;
 use std::alloc::Global;
 
@@ -36,14 +36,11 @@ impl ToJson for FileError<'_> {
     ghost json = { λ r. error_json r.path.now r.status.now };
 
     #[tactic(auto, unfolding(crate::specs::Report::error_json))]
-    fn put(&self, out: &mut Writer, alloc: Global) -> Result<(), Error> {
-        put_object(
-            out,
-            alloc,
-            &[
-                ("path", Scalar::Text(Some(self.path))),
-                ("status", Scalar::Text(Some(self.status))),
-            ],
-        )
+    fn put(&self, out: &mut Writer, alloc: Global) -> Put {
+        Members(&[
+            ("path", Scalar::Text(Some(self.path))),
+            ("status", Scalar::Text(Some(self.status))),
+        ])
+        .put(out, alloc)
     }
 }

@@ -6,20 +6,17 @@ ghost use Rattle.crash.specs.Contexts.{context_of};
 ghost use Rattle.crash.specs.Modules.{loaded_of};
 ghost use Rattle.crash_symbols.specs.NameParts.{call_of, source_of};
 ghost use Rattle.crash_symbols.specs.Shown.{shown_frame_of};
-ghost use Rattle.json_tree.specs.Tree.{Adds, Puts, field_of, numbered_array_of, or_null};
-ghost use Rattle.crash_json.specs.Frames.{file_at, frame_json, frame_object, inline_object};
-ghost use Rattle.crash_json.specs.Frames.{inlines_json, lossy, name_members, name_object, of_first};
-ghost use Rattle.crash_json.specs.Frames.{place_members, register_members, registers_json};
-ghost use Rattle.crash_json.specs.Frames.{source_file, source_line, trust_name};
+ghost use Rattle.json_tree.specs.Tree.{Adds, Puts, field_of, numbered_array_of, object_of, or_null};
+ghost use Rattle.crash_json.specs.Frames.{file_at, frame_json, inline_object, lossy, name_members};
+ghost use Rattle.crash_json.specs.Frames.{name_object, of_first, place_members, register_members};
+ghost use Rattle.crash_json.specs.Frames.{registers_json, source_file, source_line, trust_name};
 
 use crash::{CrashContext, CrashFrame, CrashModule};
 use crash_symbols::{FrameFunction, InlinedCall, ShownFrame, SourceLine};
 use json::Writer;
 use json_tree::{
-    NumberedJson, Scalar, ToJson, ValueJson, put_fields, put_members, put_numbered_array,
-    put_object, put_values,
+    Members, NumberedJson, Put, Scalar, ToJson, ValueJson, put_numbered_array, put_values,
 };
-use minidump::Error;
 use minidump_bytes::LinuxOsStr;
 use stack_walk::FrameTrust;
 use std::alloc::{AllocError, Global};
@@ -45,13 +42,13 @@ impl<'s, 'n> NumberedJson<ShownFrame<'s, 'n>> for EachFrame<'_> {
         (option_map context_of (option_copied e.context)) e.has_symbols n (shown_frame_of f) };
 
     #[tactic(auto, using(json_tree::proofs::Tokens::object_of_members))]
-    fn put_item_at(
+    fn put_at(
         &self,
         number: usize,
         item: &ShownFrame<'s, 'n>,
         out: &mut Writer,
         alloc: Global,
-    ) -> Result<(), Error> {
+    ) -> Put {
         out.begin_object()?;
         put_frame(out, alloc, self, number, item)?;
         out.end_object()?;
@@ -66,7 +63,7 @@ pub(crate) fn put_frames(
     alloc: Global,
     by: &EachFrame<'_>,
     frames: &[ShownFrame<'_, '_>],
-) -> Result<(), Error>
+) -> Put
     ensures { Puts result out.old out.new (numbered_array_of (frame_json
         (map loaded_of by.now.modules.now)
         (option_map context_of (option_copied by.now.context)) by.now.has_symbols)
@@ -82,7 +79,7 @@ fn put_frame(
     by: &EachFrame<'_>,
     number: usize,
     shown: &ShownFrame<'_, '_>,
-) -> Result<(), Error>
+) -> Put
     ensures { Adds result out.old out.new (place_members (map loaded_of by.now.modules.now)
         (option_map context_of (option_copied by.now.context)) number
         (shown_frame_of shown.now).frame ++ name_members by.now.has_symbols
@@ -94,26 +91,30 @@ fn put_frame(
 }
 
 // Adds the members of a frame but its names.
+#[rattlefmt::skip]
+#[tactic(auto, unfolding(crate::specs::Frames::frame_object))]
 fn put_place(
     out: &mut Writer,
     alloc: Global,
     by: &EachFrame<'_>,
     number: usize,
     frame: &CrashFrame,
-) -> Result<(), Error>
+) -> Put
     ensures { Adds result out.old out.new (place_members (map loaded_of by.now.modules.now)
         (option_map context_of (option_copied by.now.context)) number frame.now) }
 {
-    put_place_members(
-        out,
-        alloc,
-        number,
-        trust_name(frame.trust),
-        file_at(by.modules, frame.module),
-        offset_of(frame.module),
-        frame,
-        of_first(number, by.context),
-    )
+    Members(&[
+        ("frame", FrameMember::Scalar(Scalar::Count(Some(number)))),
+        ("trust", FrameMember::Scalar(Scalar::Text(Some(trust_name(frame.trust))))),
+        ("module", FrameMember::Scalar(Scalar::Text(file_at(by.modules, frame.module)))),
+        ("module_offset", FrameMember::Scalar(Scalar::Hex(offset_of(frame.module)))),
+        ("offset", FrameMember::Scalar(Scalar::Hex(frame.address))),
+        ("instruction", FrameMember::Scalar(Scalar::Hex(Some(frame.instruction)))),
+        ("stack_pointer", FrameMember::Scalar(Scalar::Hex(Some(frame.stack_pointer)))),
+        ("frame_pointer", FrameMember::Scalar(Scalar::Hex(frame.frame_pointer))),
+        ("registers", FrameMember::Registers(of_first(number, by.context))),
+    ])
+    .add(out, alloc)
 }
 
 // Returns the word for how a frame was found.
@@ -160,46 +161,6 @@ fn of_first(number: usize, context: Option<&CrashContext>) -> Option<&CrashConte
     if number == 0 { context } else { None }
 }
 
-#[tactic(auto, unfolding(crate::specs::Frames::frame_object))]
-fn put_place_members<'t>(
-    out: &mut Writer,
-    alloc: Global,
-    number: usize,
-    trust: &'t str,
-    file: Option<&'t str>,
-    offset: Option<u64>,
-    frame: &CrashFrame,
-    context: Option<&'t CrashContext>,
-) -> Result<(), Error>
-    ensures { Adds result out.old out.new (frame_object number trust.now (option_copied file.entry)
-        offset frame.now (option_map context_of (option_copied context.entry))) }
-{
-    put_members(
-        out,
-        alloc,
-        &[
-            ("frame", FrameMember::Scalar(Scalar::Count(Some(number)))),
-            ("trust", FrameMember::Scalar(Scalar::Text(Some(trust)))),
-            ("module", FrameMember::Scalar(Scalar::Text(file))),
-            ("module_offset", FrameMember::Scalar(Scalar::Hex(offset))),
-            ("offset", FrameMember::Scalar(Scalar::Hex(frame.address))),
-            (
-                "instruction",
-                FrameMember::Scalar(Scalar::Hex(Some(frame.instruction))),
-            ),
-            (
-                "stack_pointer",
-                FrameMember::Scalar(Scalar::Hex(Some(frame.stack_pointer))),
-            ),
-            (
-                "frame_pointer",
-                FrameMember::Scalar(Scalar::Hex(frame.frame_pointer)),
-            ),
-            ("registers", FrameMember::Registers(context)),
-        ],
-    )
-}
-
 // The value of a member of a frame.
 #[derive(Clone, Copy)]
 pub(crate) enum FrameMember<'l, 'n> {
@@ -213,41 +174,38 @@ impl ToJson for FrameMember<'_, '_> {
 
     ghost json = { frame_member };
 
-    fn put(&self, out: &mut Writer, alloc: Global) -> Result<(), Error> {
+    fn put(&self, out: &mut Writer, alloc: Global) -> Put {
         match self {
             FrameMember::Scalar(scalar) => scalar.put(out, alloc),
             FrameMember::Registers(context) => put_registers_or_null(out, alloc, *context),
-            FrameMember::Inlines(calls) => put_inlines(out, alloc, calls),
+            FrameMember::Inlines(calls) => put_values(out, alloc, calls, &EachCall),
         }
     }
 }
 
 // Puts the registers of a context, or `null`.
-fn put_registers_or_null(
-    out: &mut Writer,
-    alloc: Global,
-    context: Option<&CrashContext>,
-) -> Result<(), Error>
+fn put_registers_or_null(out: &mut Writer, alloc: Global, context: Option<&CrashContext>) -> Put
     ensures { Puts result out.old out.new
         (or_null registers_json (option_map context_of (option_copied context.entry))) }
 {
     match context {
-        Some(context) => put_registers(out, alloc, context)?,
+        Some(context) => put_named(out, alloc, context.registers.as_slice())?,
         None => out.null()?,
     }
     Ok(())
 }
 
-// Puts the registers of a context.
-fn put_registers(out: &mut Writer, alloc: Global, context: &CrashContext) -> Result<(), Error>
-    ensures { Puts result out.old out.new (registers_json (context_of context.now)) }
+/// Puts registers or flags, each by its name.
+pub(crate) fn put_named(out: &mut Writer, alloc: Global, named: &[(&'static str, u64)]) -> Put
+    ensures { Puts result out.old out.new
+        (object_of (register_members (map (λ r. (r.0.now, r.1)) named.now))) }
 {
-    let fields = register_fields(alloc, context.registers.as_slice())?;
-    put_object(out, alloc, fields.as_slice())
+    let fields = register_fields(alloc, named)?;
+    Members(fields.as_slice()).put(out, alloc)
 }
 
 // Returns registers as members.
-pub(crate) fn register_fields(
+fn register_fields(
     alloc: Global,
     registers: &[(&'static str, u64)],
 ) -> Result<Vec<(&'static str, Scalar<'static>)>, AllocError>
@@ -269,19 +227,19 @@ fn put_names_if(
     alloc: Global,
     has_symbols: bool,
     shown: &ShownFrame<'_, '_>,
-) -> Result<(), Error>
+) -> Put
     ensures { Adds result out.old out.new
         (name_members has_symbols (shown_frame_of shown.now)) }
 {
     if has_symbols {
         put_names(out, alloc, shown)
     } else {
-        put_fields(out, alloc, &[])
+        Members::<Scalar<'_>>(&[]).add(out, alloc)
     }
 }
 
 // Adds the members of a frame's names.
-fn put_names(out: &mut Writer, alloc: Global, shown: &ShownFrame<'_, '_>) -> Result<(), Error>
+fn put_names(out: &mut Writer, alloc: Global, shown: &ShownFrame<'_, '_>) -> Put
     ensures { Adds result out.old out.new (name_members true (shown_frame_of shown.now)) }
 {
     let function = lossy(alloc, name_of(shown.function))?;
@@ -308,25 +266,20 @@ fn put_name_members<'t>(
     line: Option<u64>,
     inlines: &'t [InlinedCall<'_>],
     is_missing: bool,
-) -> Result<(), Error>
+) -> Put
     ensures { Adds result out.old out.new (name_object (option_map string_bytes function.now) offset
         (option_map string_bytes file.now) line (map call_of inlines.now) is_missing) }
 {
-    put_members(
-        out,
-        alloc,
-        &[
-            ("function", FrameMember::Scalar(Scalar::Optional(function))),
-            ("function_offset", FrameMember::Scalar(Scalar::Hex(offset))),
-            ("file", FrameMember::Scalar(Scalar::Optional(file))),
-            ("line", FrameMember::Scalar(Scalar::Number(line))),
-            ("inlines", FrameMember::Inlines(inlines)),
-            (
-                "missing_symbols",
-                FrameMember::Scalar(Scalar::Flag(is_missing)),
-            ),
-        ],
-    )
+    let is_missing = Scalar::Flag(is_missing);
+    Members(&[
+        ("function", FrameMember::Scalar(Scalar::Optional(function))),
+        ("function_offset", FrameMember::Scalar(Scalar::Hex(offset))),
+        ("file", FrameMember::Scalar(Scalar::Optional(file))),
+        ("line", FrameMember::Scalar(Scalar::Number(line))),
+        ("inlines", FrameMember::Inlines(inlines)),
+        ("missing_symbols", FrameMember::Scalar(is_missing)),
+    ])
+    .add(out, alloc)
 }
 
 // Makes a text of one that Linux wrote.
@@ -368,14 +321,6 @@ fn source_line(source: Option<SourceLine<'_>>) -> Option<u64>
     Some(source?.line as u64)
 }
 
-// Puts calls that the compiler put in place.
-#[tactic(auto, unfolding(crate::specs::Frames::inlines_json))]
-fn put_inlines(out: &mut Writer, alloc: Global, calls: &[InlinedCall<'_>]) -> Result<(), Error>
-    ensures { Puts result out.old out.new (inlines_json (map call_of calls.now)) }
-{
-    put_values(out, alloc, calls, &EachCall)
-}
-
 // A call of a list of those that the compiler put in place.
 #[derive(Clone, Copy)]
 struct EachCall;
@@ -391,12 +336,7 @@ impl<'n> ValueJson<InlinedCall<'n>> for EachCall {
 
     ghost json_of = { λ _ c. inline_json c };
 
-    fn put_value(
-        &self,
-        item: &InlinedCall<'n>,
-        out: &mut Writer,
-        alloc: Global,
-    ) -> Result<(), Error> {
+    fn put_value(&self, item: &InlinedCall<'n>, out: &mut Writer, alloc: Global) -> Put {
         let function = lossy(alloc, item.function)?;
         let file = lossy(alloc, source_file(item.source))?;
         put_call(out, alloc, &function, &file, source_line(item.source))
@@ -410,17 +350,14 @@ fn put_call<'t>(
     function: &'t Option<String>,
     file: &'t Option<String>,
     line: Option<u64>,
-) -> Result<(), Error>
+) -> Put
     ensures { Puts result out.old out.new (inline_object (option_map string_bytes function.now)
         (option_map string_bytes file.now) line) }
 {
-    put_object(
-        out,
-        alloc,
-        &[
-            ("function", Scalar::Optional(function)),
-            ("file", Scalar::Optional(file)),
-            ("line", Scalar::Number(line)),
-        ],
-    )
+    Members(&[
+        ("function", Scalar::Optional(function)),
+        ("file", Scalar::Optional(file)),
+        ("line", Scalar::Number(line)),
+    ])
+    .put(out, alloc)
 }

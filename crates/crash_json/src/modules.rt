@@ -4,41 +4,24 @@ ghost use Rattle.std.specs.Option.{option_copied, option_map};
 ghost use Rattle.crash.specs.Modules.{loaded_of};
 ghost use Rattle.crash_symbols.specs.Shown.{symbolized_of};
 ghost use Rattle.json_tree.specs.Tree.{Adds, Puts};
-ghost use Rattle.crash_json.specs.Modules.{are_corrupt};
-ghost use Rattle.crash_json.specs.Modules.{are_loaded, are_missing, main_module, module_object};
-ghost use Rattle.crash_json.specs.Modules.{modules_json, part_name, state_object, symbol_members};
-ghost use Rattle.crash_json.specs.Modules.{unreadable_object};
+ghost use Rattle.crash_json.specs.Modules.{are_corrupt, are_loaded, are_missing, main_module};
+ghost use Rattle.crash_json.specs.Modules.{module_object, modules_json, part_name, state_object};
+ghost use Rattle.crash_json.specs.Modules.{symbol_members};
 
 use crash::{CrashModule, ModulePart, UnloadedModule, UnreadableModule};
 use crash_symbols::{SymbolState, Symbolized};
 use json::Writer;
-use json_tree::{
-    ItemJson, NumberedJson, Scalar, ValueJson, put_array, put_fields, put_numbered_array,
-    put_object, put_values,
-};
-use minidump::Error;
+use json_tree::{ItemJson, Members, NumberedJson, Put, Scalar, ValueJson, put_numbered_array};
 use std::alloc::Global;
 
 /// Puts the modules, with what is known of the symbols of each.
-pub(crate) fn put_modules(
-    out: &mut Writer,
-    alloc: Global,
-    symbols: Option<&Symbolized<'_, '_>>,
-    modules: &[CrashModule],
-) -> Result<(), Error>
-    ensures { Puts result out.old out.new (modules_json
-        (option_map symbolized_of (option_copied symbols.entry)) (map loaded_of modules.now)) }
-{
-    put_each_module(out, alloc, &EachModule { symbols }, modules)
-}
-
 #[tactic(auto, unfolding(crate::specs::Modules::modules_json), using(crate::proofs::NumberedLemmas::numbered_values))]
-fn put_each_module(
+pub(crate) fn put_modules(
     out: &mut Writer,
     alloc: Global,
     by: &EachModule<'_, '_, '_>,
     modules: &[CrashModule],
-) -> Result<(), Error>
+) -> Put
     ensures { Puts result out.old out.new (modules_json
         (option_map symbolized_of (option_copied by.now.symbols)) (map loaded_of modules.now)) }
 {
@@ -55,10 +38,10 @@ pub(crate) fn main_module(modules: &[CrashModule]) -> Option<usize>
     }
 }
 
-// What the modules of a list are written by: the symbols, where they are known.
+/// What the modules of a list are written by: the symbols, where they are known.
 #[derive(Clone, Copy)]
-struct EachModule<'l, 's, 'n> {
-    symbols: Option<&'l Symbolized<'s, 'n>>,
+pub(crate) struct EachModule<'l, 's, 'n> {
+    pub(crate) symbols: Option<&'l Symbolized<'s, 'n>>,
 }
 
 impl NumberedJson<CrashModule> for EachModule<'_, '_, '_> {
@@ -71,13 +54,7 @@ impl NumberedJson<CrashModule> for EachModule<'_, '_, '_> {
         (loaded_of m) };
 
     #[tactic(auto, using(json_tree::proofs::Tokens::object_of_members))]
-    fn put_item_at(
-        &self,
-        number: usize,
-        item: &CrashModule,
-        out: &mut Writer,
-        alloc: Global,
-    ) -> Result<(), Error> {
+    fn put_at(&self, number: usize, item: &CrashModule, out: &mut Writer, alloc: Global) -> Put {
         out.begin_object()?;
         put_module(out, alloc, self.symbols, number, item)?;
         out.end_object()?;
@@ -92,7 +69,7 @@ fn put_module(
     symbols: Option<&Symbolized<'_, '_>>,
     index: usize,
     loaded: &CrashModule,
-) -> Result<(), Error>
+) -> Put
     ensures { Adds result out.old out.new (module_object (loaded_of loaded.now)
         ++ symbol_members (option_map symbolized_of (option_copied symbols.entry)) index) }
 {
@@ -102,22 +79,19 @@ fn put_module(
 }
 
 #[tactic(auto, unfolding(crate::specs::Modules::module_object))]
-fn put_module_members(out: &mut Writer, alloc: Global, loaded: &CrashModule) -> Result<(), Error>
+fn put_module_members(out: &mut Writer, alloc: Global, loaded: &CrashModule) -> Put
     ensures { Adds result out.old out.new (module_object (loaded_of loaded.now)) }
 {
-    put_fields(
-        out,
-        alloc,
-        &[
-            ("base_addr", Scalar::Hex(Some(loaded.base))),
-            ("end_addr", Scalar::Hex(loaded.end)),
-            ("filename", Scalar::Owned(&loaded.file)),
-            ("code_id", Scalar::Optional(&loaded.code_id)),
-            ("debug_file", Scalar::Optional(&loaded.debug_file)),
-            ("debug_id", Scalar::Optional(&loaded.debug_id)),
-            ("version", Scalar::Optional(&loaded.version)),
-        ],
-    )
+    Members(&[
+        ("base_addr", Scalar::Hex(Some(loaded.base))),
+        ("end_addr", Scalar::Hex(loaded.end)),
+        ("filename", Scalar::Owned(&loaded.file)),
+        ("code_id", Scalar::Optional(&loaded.code_id)),
+        ("debug_file", Scalar::Optional(&loaded.debug_file)),
+        ("debug_id", Scalar::Optional(&loaded.debug_id)),
+        ("version", Scalar::Optional(&loaded.version)),
+    ])
+    .add(out, alloc)
 }
 
 // Adds what is known of the symbols of the module of an index, if symbols are known.
@@ -126,29 +100,26 @@ fn put_symbols(
     alloc: Global,
     symbols: Option<&Symbolized<'_, '_>>,
     index: usize,
-) -> Result<(), Error>
+) -> Put
     ensures { Adds result out.old out.new (symbol_members
         (option_map symbolized_of (option_copied symbols.entry)) index) }
 {
     match symbols {
         Some(known) => put_state(out, alloc, known.symbols.state(index)),
-        None => put_fields(out, alloc, &[]),
+        None => Members::<Scalar<'_>>(&[]).add(out, alloc),
     }
 }
 
 #[tactic(auto, unfolding(crate::specs::Modules::state_object))]
-fn put_state(out: &mut Writer, alloc: Global, state: SymbolState) -> Result<(), Error>
+fn put_state(out: &mut Writer, alloc: Global, state: SymbolState) -> Put
     ensures { Adds result out.old out.new (state_object state) }
 {
-    put_fields(
-        out,
-        alloc,
-        &[
-            ("missing_symbols", Scalar::Flag(are_missing(state))),
-            ("loaded_symbols", Scalar::Flag(are_loaded(state))),
-            ("corrupt_symbols", Scalar::Flag(are_corrupt(state))),
-        ],
-    )
+    Members(&[
+        ("missing_symbols", Scalar::Flag(are_missing(state))),
+        ("loaded_symbols", Scalar::Flag(are_loaded(state))),
+        ("corrupt_symbols", Scalar::Flag(are_corrupt(state))),
+    ])
+    .add(out, alloc)
 }
 
 // Tells whether symbols were looked for, and aren't there.
@@ -190,22 +161,14 @@ impl ValueJson<UnloadedModule> for EachUnloaded {
     ghost json_of = { λ _ m. unloaded_json m };
 
     #[tactic(auto, unfolding(crate::specs::Modules::unloaded_json))]
-    fn put_value(
-        &self,
-        item: &UnloadedModule,
-        out: &mut Writer,
-        alloc: Global,
-    ) -> Result<(), Error> {
-        put_object(
-            out,
-            alloc,
-            &[
-                ("base_addr", Scalar::Hex(Some(item.base))),
-                ("end_addr", Scalar::Hex(item.end)),
-                ("filename", Scalar::Owned(&item.file)),
-                ("code_id", Scalar::Optional(&item.code_id)),
-            ],
-        )
+    fn put_value(&self, item: &UnloadedModule, out: &mut Writer, alloc: Global) -> Put {
+        Members(&[
+            ("base_addr", Scalar::Hex(Some(item.base))),
+            ("end_addr", Scalar::Hex(item.end)),
+            ("filename", Scalar::Owned(&item.file)),
+            ("code_id", Scalar::Optional(&item.code_id)),
+        ])
+        .put(out, alloc)
     }
 }
 
@@ -218,35 +181,16 @@ impl ItemJson<UnreadableModule> for EachUnreadable {
 
     ghost json_of = { λ _ m. unreadable_json m };
 
-    fn put_item(
-        &self,
-        item: &UnreadableModule,
-        out: &mut Writer,
-        alloc: Global,
-    ) -> Result<(), Error> {
-        put_unreadable(out, alloc, item, part_name(item.part))
+    #[tactic(auto, unfolding(crate::specs::Modules::unreadable_object))]
+    fn put_item(&self, item: &UnreadableModule, out: &mut Writer, alloc: Global) -> Put {
+        Members(&[
+            ("index", Scalar::Count(Some(item.index))),
+            ("base_addr", Scalar::Hex(Some(item.base))),
+            ("size", Scalar::Number(Some(item.size as u64))),
+            ("part", Scalar::Text(Some(part_name(item.part)))),
+        ])
+        .put(out, alloc)
     }
-}
-
-#[tactic(auto, unfolding(crate::specs::Modules::unreadable_object))]
-fn put_unreadable(
-    out: &mut Writer,
-    alloc: Global,
-    found: &UnreadableModule,
-    part: &str,
-) -> Result<(), Error>
-    ensures { Puts result out.old out.new (unreadable_object found.now part.now) }
-{
-    put_object(
-        out,
-        alloc,
-        &[
-            ("index", Scalar::Count(Some(found.index))),
-            ("base_addr", Scalar::Hex(Some(found.base))),
-            ("size", Scalar::Number(Some(found.size as u64))),
-            ("part", Scalar::Text(Some(part))),
-        ],
-    )
 }
 
 // Returns the word for a part of a module's entry.

@@ -4,17 +4,13 @@ ghost use Rattle.json.specs.Json.{string};
 ghost use Rattle.crash.specs.Addresses.{is_placed};
 ghost use Rattle.json_tree.specs.Tree.{Adds, Puts};
 ghost use Rattle.crash_json.specs.Cause.{address_members};
-ghost use Rattle.crash_json.specs.Point.{flags_json, placed_json, word_object};
+ghost use Rattle.crash_json.specs.Point.{placed_json};
 
 use crate::cause::{AddressJson, put_address};
-use crate::frames::{index_of, offset_of, register_fields};
+use crate::frames::{index_of, offset_of, put_named};
 use crash::{AddressFacts, CrashPoint, StackWord};
 use json::Writer;
-use json_tree::{
-    ItemJson, Scalar, ToJson, ValueJson, put_array, put_fields, put_object, put_object_of,
-    put_values,
-};
-use minidump::Error;
+use json_tree::{ItemJson, Members, Put, Scalar, ToJson, ValueJson, put_array, put_values};
 use std::alloc::{AllocError, Global};
 
 /// Gives where a thread stands its JSON value.
@@ -32,30 +28,18 @@ impl ValueJson<CrashPoint<'_>> for PointJson {
     ghost json_of = { λ _ p. point_json p };
 
     #[tactic(auto, unfolding(crate::specs::Point::point_json))]
-    fn put_value(
-        &self,
-        item: &CrashPoint<'_>,
-        out: &mut Writer,
-        alloc: Global,
-    ) -> Result<(), Error> {
-        put_object_of(
-            out,
-            alloc,
-            &[
-                ("instruction", PointMember::Instruction(&item.instruction)),
-                (
-                    "registers",
-                    PointMember::Registers(item.registers.as_slice()),
-                ),
-                ("code", PointMember::Code(item.code)),
-                ("words", PointMember::Words(item.words.as_slice())),
-                ("flags", PointMember::Flags(item.flags.as_slice())),
-                (
-                    "set_flags",
-                    PointMember::SetFlags(item.set_flags.as_slice()),
-                ),
-            ],
-        )
+    fn put_value(&self, item: &CrashPoint<'_>, out: &mut Writer, alloc: Global) -> Put {
+        let registers = item.registers.as_slice();
+        let set_flags = item.set_flags.as_slice();
+        Members(&[
+            ("instruction", PointMember::Instruction(&item.instruction)),
+            ("registers", PointMember::Registers(registers)),
+            ("code", PointMember::Code(item.code)),
+            ("words", PointMember::Words(item.words.as_slice())),
+            ("flags", PointMember::Flags(item.flags.as_slice())),
+            ("set_flags", PointMember::SetFlags(set_flags)),
+        ])
+        .put(out, alloc)
     }
 }
 
@@ -75,13 +59,13 @@ impl ToJson for PointMember<'_> {
 
     ghost json = { point_member };
 
-    fn put(&self, out: &mut Writer, alloc: Global) -> Result<(), Error> {
+    fn put(&self, out: &mut Writer, alloc: Global) -> Put {
         match self {
             PointMember::Instruction(facts) => AddressJson.put_item(*facts, out, alloc),
             PointMember::Registers(registers) => put_registers(out, alloc, registers),
             PointMember::Code(code) => put_array(out, alloc, code, &EachByte),
             PointMember::Words(words) => put_array(out, alloc, words, &EachWord),
-            PointMember::Flags(flags) => put_flags(out, alloc, *flags),
+            PointMember::Flags(flags) => put_named(out, alloc, *flags),
             PointMember::SetFlags(names) => put_values(out, alloc, names, &EachName),
         }
     }
@@ -90,11 +74,7 @@ impl ToJson for PointMember<'_> {
 // ---- the registers
 
 // Puts the registers whose values lie somewhere.
-fn put_registers(
-    out: &mut Writer,
-    alloc: Global,
-    registers: &[(&'static str, AddressFacts)],
-) -> Result<(), Error>
+fn put_registers(out: &mut Writer, alloc: Global, registers: &[(&'static str, AddressFacts)]) -> Put
     ensures { Puts result out.old out.new (placed_json (map (λ r. (r.0.now, r.1)) registers.now)) }
 {
     let placed = placed_of(alloc, registers)?;
@@ -130,7 +110,7 @@ impl ItemJson<(&'static str, AddressFacts)> for EachRegister {
         item: &(&'static str, AddressFacts),
         out: &mut Writer,
         alloc: Global,
-    ) -> Result<(), Error> {
+    ) -> Put {
         out.begin_object()?;
         put_register(out, alloc, item.0, &item.1)?;
         out.end_object()?;
@@ -139,16 +119,11 @@ impl ItemJson<(&'static str, AddressFacts)> for EachRegister {
 }
 
 // Adds the members of a register.
-fn put_register(
-    out: &mut Writer,
-    alloc: Global,
-    name: &str,
-    facts: &AddressFacts,
-) -> Result<(), Error>
+fn put_register(out: &mut Writer, alloc: Global, name: &str, facts: &AddressFacts) -> Put
     ensures { Adds result out.old out.new
         ((codes "name", string name.now) ∷ address_members facts.now) }
 {
-    put_fields(out, alloc, &[("name", Scalar::Text(Some(name)))])?;
+    Members(&[("name", Scalar::Text(Some(name)))]).add(out, alloc)?;
     put_address(out, alloc, facts)?;
     Ok(())
 }
@@ -164,7 +139,7 @@ impl ItemJson<u8> for EachByte {
 
     ghost json_of = { λ _ b. count b };
 
-    fn put_item(&self, item: &u8, out: &mut Writer, alloc: Global) -> Result<(), Error> {
+    fn put_item(&self, item: &u8, out: &mut Writer, alloc: Global) -> Put {
         Scalar::Number(Some(*item as u64)).put(out, alloc)
     }
 }
@@ -178,48 +153,19 @@ impl ItemJson<StackWord> for EachWord {
 
     ghost json_of = { λ _ w. word_json w };
 
-    fn put_item(&self, item: &StackWord, out: &mut Writer, alloc: Global) -> Result<(), Error> {
-        put_word(
-            out,
-            alloc,
-            item,
-            index_of(item.module),
-            offset_of(item.module),
-        )
+    #[tactic(auto, unfolding(crate::specs::Point::word_object))]
+    fn put_item(&self, item: &StackWord, out: &mut Writer, alloc: Global) -> Put {
+        Members(&[
+            ("address", Scalar::Hex(Some(item.address))),
+            ("value", Scalar::Hex(Some(item.value))),
+            ("module", Scalar::Count(index_of(item.module))),
+            ("module_offset", Scalar::Hex(offset_of(item.module))),
+        ])
+        .put(out, alloc)
     }
 }
 
-#[tactic(auto, unfolding(crate::specs::Point::word_object))]
-fn put_word(
-    out: &mut Writer,
-    alloc: Global,
-    word: &StackWord,
-    index: Option<usize>,
-    offset: Option<u64>,
-) -> Result<(), Error>
-    ensures { Puts result out.old out.new (word_object word.now index offset) }
-{
-    put_object(
-        out,
-        alloc,
-        &[
-            ("address", Scalar::Hex(Some(word.address))),
-            ("value", Scalar::Hex(Some(word.value))),
-            ("module", Scalar::Count(index)),
-            ("module_offset", Scalar::Hex(offset)),
-        ],
-    )
-}
-
 // ---- the flags
-
-// Puts flags and segments.
-fn put_flags(out: &mut Writer, alloc: Global, flags: &[(&'static str, u64)]) -> Result<(), Error>
-    ensures { Puts result out.old out.new (flags_json (map (λ r. (r.0.now, r.1)) flags.now)) }
-{
-    let fields = register_fields(alloc, flags)?;
-    put_object(out, alloc, fields.as_slice())
-}
 
 // The name of a flag.
 #[derive(Clone, Copy)]
@@ -235,7 +181,7 @@ impl ValueJson<&'static str> for EachName {
 
     ghost json_of = { λ _ name. string name };
 
-    fn put_value(&self, item: &&'static str, out: &mut Writer, alloc: Global) -> Result<(), Error> {
+    fn put_value(&self, item: &&'static str, out: &mut Writer, alloc: Global) -> Put {
         Scalar::Text(Some(*item)).put(out, alloc)
     }
 }

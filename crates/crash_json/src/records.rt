@@ -3,17 +3,13 @@ ghost use Rattle.std.specs.Prelude.{◌≡◌, length, map, string_bytes};
 ghost use Rattle.std.specs.Option.{option_copied, option_map};
 ghost use Rattle.std.specs.Result.{result_ok};
 ghost use Rattle.minidump.specs.Below.Contexts.Context.{map_ok};
-ghost use Rattle.minidump.specs.Below.Records.Handles.{handle_of};
 ghost use Rattle.minidump.specs.Below.Records.Record.{mac_record_of};
-ghost use Rattle.minidump.specs.Promise.{assertion_stream};
 ghost use Rattle.json_tree.specs.Tree.{Puts, or_null};
-ghost use Rattle.crash_json.specs.Records.{assertion_json, assertion_kind, assertion_object};
-ghost use Rattle.crash_json.specs.Records.{handle_object, handles_json};
-ghost use Rattle.crash_json.specs.Records.{mac_crash_json, mac_members, mac_object};
+ghost use Rattle.crash_json.specs.Records.{assertion_kind, assertion_object};
 
 use crash::HandleKind;
 use json::Writer;
-use json_tree::{Scalar, ToJson, ValueJson, put_object, put_object_of, put_values};
+use json_tree::{Members, Put, Scalar, ToJson, ValueJson, put_values};
 use minidump::{
     Error, MinidumpAssertion, MinidumpHandleDataStream, MinidumpHandleDescriptor,
     MinidumpMacCrashInfo, RawMacCrashInfo,
@@ -26,7 +22,7 @@ pub(crate) fn put_found<X, F: ValueJson<X>>(
     alloc: Global,
     found: &Result<X, Error>,
     by: &F,
-) -> Result<(), Error>
+) -> Put
     ensures { Puts result out.old out.new
         (or_null (F.json_of by.now) (result_ok (map_ok F.value_of found.now))) }
 {
@@ -53,25 +49,9 @@ impl ValueJson<MinidumpHandleDataStream> for HandlesJson {
 
     ghost json_of = { λ _ handles. handles_json handles };
 
-    fn put_value(
-        &self,
-        item: &MinidumpHandleDataStream,
-        out: &mut Writer,
-        alloc: Global,
-    ) -> Result<(), Error> {
-        put_handles(out, alloc, item.handles.as_slice())
+    fn put_value(&self, item: &MinidumpHandleDataStream, out: &mut Writer, alloc: Global) -> Put {
+        put_values(out, alloc, item.handles.as_slice(), &EachHandle)
     }
-}
-
-#[tactic(auto, unfolding(crate::specs::Records::handles_json))]
-fn put_handles(
-    out: &mut Writer,
-    alloc: Global,
-    handles: &[MinidumpHandleDescriptor],
-) -> Result<(), Error>
-    ensures { Puts result out.old out.new (handles_json (map handle_of handles.now)) }
-{
-    put_values(out, alloc, handles, &EachHandle)
 }
 
 // A handle of a list.
@@ -88,42 +68,15 @@ impl ValueJson<MinidumpHandleDescriptor> for EachHandle {
 
     ghost json_of = { λ _ h. handle_json h };
 
-    fn put_value(
-        &self,
-        item: &MinidumpHandleDescriptor,
-        out: &mut Writer,
-        alloc: Global,
-    ) -> Result<(), Error> {
-        put_handle(
-            out,
-            alloc,
-            item.raw.handle().copied(),
-            &item.type_name,
-            &item.object_name,
-        )
+    #[tactic(auto, unfolding(crate::specs::Records::handle_object))]
+    fn put_value(&self, item: &MinidumpHandleDescriptor, out: &mut Writer, alloc: Global) -> Put {
+        Members(&[
+            ("handle", Scalar::Hex(item.raw.handle().copied())),
+            ("type_name", Scalar::Optional(&item.type_name)),
+            ("object_name", Scalar::Optional(&item.object_name)),
+        ])
+        .put(out, alloc)
     }
-}
-
-#[tactic(auto, unfolding(crate::specs::Records::handle_object))]
-fn put_handle<'t>(
-    out: &mut Writer,
-    alloc: Global,
-    handle: Option<u64>,
-    type_name: &'t Option<String>,
-    object_name: &'t Option<String>,
-) -> Result<(), Error>
-    ensures { Puts result out.old out.new (handle_object handle
-        (option_map string_bytes type_name.now) (option_map string_bytes object_name.now)) }
-{
-    put_object(
-        out,
-        alloc,
-        &[
-            ("handle", Scalar::Hex(handle)),
-            ("type_name", Scalar::Optional(type_name)),
-            ("object_name", Scalar::Optional(object_name)),
-        ],
-    )
 }
 
 /// A kind of handles of a list.
@@ -141,15 +94,12 @@ impl ValueJson<HandleKind> for EachKind {
     ghost json_of = { λ _ k. kind_json k };
 
     #[tactic(auto, unfolding(crate::specs::Records::kind_json))]
-    fn put_value(&self, item: &HandleKind, out: &mut Writer, alloc: Global) -> Result<(), Error> {
-        put_object(
-            out,
-            alloc,
-            &[
-                ("type_name", Scalar::Owned(&item.type_name)),
-                ("count", Scalar::Count(Some(item.count))),
-            ],
-        )
+    fn put_value(&self, item: &HandleKind, out: &mut Writer, alloc: Global) -> Put {
+        Members(&[
+            ("type_name", Scalar::Owned(&item.type_name)),
+            ("count", Scalar::Count(Some(item.count))),
+        ])
+        .put(out, alloc)
     }
 }
 
@@ -169,20 +119,16 @@ impl ValueJson<MinidumpMacCrashInfo> for MacCrashJson {
 
     ghost json_of = { λ _ records. mac_crash_json records };
 
-    fn put_value(
-        &self,
-        item: &MinidumpMacCrashInfo,
-        out: &mut Writer,
-        alloc: Global,
-    ) -> Result<(), Error> {
-        put_mac_crash(out, alloc, item.raw.as_slice())
+    #[tactic(auto, unfolding(crate::specs::Records::mac_members))]
+    fn put_value(&self, item: &MinidumpMacCrashInfo, out: &mut Writer, alloc: Global) -> Put {
+        let records = item.raw.as_slice();
+        let count = Scalar::Count(Some(how_many(records)));
+        Members(&[
+            ("num_records", MacMember::Scalar(count)),
+            ("records", MacMember::Records(records)),
+        ])
+        .put(out, alloc)
     }
-}
-
-fn put_mac_crash(out: &mut Writer, alloc: Global, records: &[RawMacCrashInfo]) -> Result<(), Error>
-    ensures { Puts result out.old out.new (mac_crash_json (map mac_record_of records.now)) }
-{
-    put_mac_members(out, alloc, how_many(records), records)
 }
 
 // Returns how many records there are.
@@ -190,28 +136,6 @@ fn how_many(records: &[RawMacCrashInfo]) -> usize
     ensures { result ≡ length (map mac_record_of records.now) }
 {
     records.len()
-}
-
-#[tactic(auto, unfolding(crate::specs::Records::mac_members))]
-fn put_mac_members(
-    out: &mut Writer,
-    alloc: Global,
-    how_many: usize,
-    records: &[RawMacCrashInfo],
-) -> Result<(), Error>
-    ensures { Puts result out.old out.new (mac_members how_many (map mac_record_of records.now)) }
-{
-    put_object_of(
-        out,
-        alloc,
-        &[
-            (
-                "num_records",
-                MacMember::Scalar(Scalar::Count(Some(how_many))),
-            ),
-            ("records", MacMember::Records(records)),
-        ],
-    )
 }
 
 // The value of a member of the crash information of macOS.
@@ -226,7 +150,7 @@ impl ToJson for MacMember<'_> {
 
     ghost json = { mac_member };
 
-    fn put(&self, out: &mut Writer, alloc: Global) -> Result<(), Error> {
+    fn put(&self, out: &mut Writer, alloc: Global) -> Put {
         match self {
             MacMember::Scalar(scalar) => scalar.put(out, alloc),
             MacMember::Records(records) => put_values(out, alloc, records, &EachMacRecord),
@@ -248,59 +172,20 @@ impl ValueJson<RawMacCrashInfo> for EachMacRecord {
 
     ghost json_of = { λ _ r. mac_record_json r };
 
-    fn put_value(
-        &self,
-        item: &RawMacCrashInfo,
-        out: &mut Writer,
-        alloc: Global,
-    ) -> Result<(), Error> {
-        put_mac_record(
-            out,
-            alloc,
-            item.thread().copied(),
-            item.dialog_mode().copied(),
-            item.abort_cause().copied(),
-            item.module_path(),
-            item.message(),
-            item.signature_string(),
-            item.backtrace(),
-            item.message2(),
-        )
+    #[tactic(auto, unfolding(crate::specs::Records::mac_object))]
+    fn put_value(&self, item: &RawMacCrashInfo, out: &mut Writer, alloc: Global) -> Put {
+        Members(&[
+            ("thread", Scalar::Hex(item.thread().copied())),
+            ("dialog_mode", Scalar::Hex(item.dialog_mode().copied())),
+            ("abort_cause", Scalar::Hex(item.abort_cause().copied())),
+            ("module", Scalar::Text(item.module_path())),
+            ("message", Scalar::Text(item.message())),
+            ("signature_string", Scalar::Text(item.signature_string())),
+            ("backtrace", Scalar::Text(item.backtrace())),
+            ("message2", Scalar::Text(item.message2())),
+        ])
+        .put(out, alloc)
     }
-}
-
-#[tactic(auto, unfolding(crate::specs::Records::mac_object))]
-fn put_mac_record<'t>(
-    out: &mut Writer,
-    alloc: Global,
-    thread: Option<u64>,
-    dialog_mode: Option<u64>,
-    abort_cause: Option<u64>,
-    module_path: Option<&'t str>,
-    message: Option<&'t str>,
-    signature: Option<&'t str>,
-    backtrace: Option<&'t str>,
-    message2: Option<&'t str>,
-) -> Result<(), Error>
-    ensures { Puts result out.old out.new
-        (mac_object thread dialog_mode abort_cause (option_copied module_path.entry)
-        (option_copied message.entry) (option_copied signature.entry)
-        (option_copied backtrace.entry) (option_copied message2.entry)) }
-{
-    put_object(
-        out,
-        alloc,
-        &[
-            ("thread", Scalar::Hex(thread)),
-            ("dialog_mode", Scalar::Hex(dialog_mode)),
-            ("abort_cause", Scalar::Hex(abort_cause)),
-            ("module", Scalar::Text(module_path)),
-            ("message", Scalar::Text(message)),
-            ("signature_string", Scalar::Text(signature)),
-            ("backtrace", Scalar::Text(backtrace)),
-            ("message2", Scalar::Text(message2)),
-        ],
-    )
 }
 
 /// Gives an assertion its JSON value.
@@ -318,12 +203,7 @@ impl ValueJson<MinidumpAssertion> for AssertionJson {
 
     ghost json_of = { λ _ a. assertion_json a };
 
-    fn put_value(
-        &self,
-        item: &MinidumpAssertion,
-        out: &mut Writer,
-        alloc: Global,
-    ) -> Result<(), Error> {
+    fn put_value(&self, item: &MinidumpAssertion, out: &mut Writer, alloc: Global) -> Put {
         let expression = item.expression(alloc)?;
         let function = item.function(alloc)?;
         let file = item.file(alloc)?;
@@ -359,20 +239,17 @@ fn put_assertion<'t>(
     function: &'t Option<String>,
     file: &'t Option<String>,
     line: u32,
-) -> Result<(), Error>
+) -> Put
     ensures { Puts result out.old out.new (assertion_object (option_copied kind.entry)
         (option_map string_bytes expression.now) (option_map string_bytes function.now)
         (option_map string_bytes file.now) line) }
 {
-    put_object(
-        out,
-        alloc,
-        &[
-            ("kind", Scalar::Text(kind)),
-            ("expression", Scalar::Optional(expression)),
-            ("function", Scalar::Optional(function)),
-            ("file", Scalar::Optional(file)),
-            ("line", Scalar::Number(Some(line as u64))),
-        ],
-    )
+    Members(&[
+        ("kind", Scalar::Text(kind)),
+        ("expression", Scalar::Optional(expression)),
+        ("function", Scalar::Optional(function)),
+        ("file", Scalar::Optional(file)),
+        ("line", Scalar::Number(Some(line as u64))),
+    ])
+    .put(out, alloc)
 }

@@ -4,14 +4,13 @@ ghost use Rattle.std.specs.List.{cons_option};
 ghost use Rattle.std.specs.Option.{option_and_then, option_copied, option_map, option_map_or};
 ghost use Rattle.crash.specs.Crash.{crash_of};
 ghost use Rattle.crash.specs.Modules.{loaded_of};
+ghost use Rattle.crash.specs.Threads.{crashed_thread};
 ghost use Rattle.crash_symbols.specs.NameParts.{function_of};
 ghost use Rattle.crash_symbols.specs.Shown.{shown_frame_of, shown_in, shown_of, symbolized_of};
 ghost use Rattle.crash_json.specs.Signature.{joined, mark_of, mark_text, marks_in, signature_in};
 ghost use Rattle.crash_json.specs.Signature.{with_reason};
-ghost use Rattle.crash_json.specs.Threads.{indexed_crashed};
 
 use crate::cause::reason_of;
-use crate::threads::crashed;
 use crash::{Crash, CrashModule};
 use crash_symbols::{FrameFunction, ShownFrame, ShownWalk, Symbolized, shown_walk};
 use minidump::text::Piece::{Hex, Words};
@@ -44,9 +43,9 @@ fn crashed_walk<'s, 'n>(
 ) -> Result<Option<ShownWalk<'s, 'n>>, AllocError>
     ensures { IfOk result (λ walk. option_map shown_of walk ≡ option_and_then
         (λ p. shown_in (option_map symbolized_of (option_copied symbols.entry)) p.0 p.1)
-        (indexed_crashed (crash_of crash.now).threads)) }
+        (crashed_thread (crash_of crash.now).threads)) }
 {
-    match crashed(&crash.threads) {
+    match crash.threads.crashed() {
         Some((index, thread)) => shown_walk(alloc, thread, index, symbols),
         None => Ok(None),
     }

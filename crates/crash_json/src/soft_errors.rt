@@ -7,15 +7,12 @@ ghost use Rattle.json_tree.specs.Tree.{Puts, or_null};
 ghost use Rattle.crash_json.specs.SoftErrors.{soft_json, value_in};
 
 use json::{Reader, Scratch, Value, Writer};
+use json_tree::Put;
 use minidump::Error;
 use std::alloc::Global;
 
 /// Puts the value of soft errors, or `null`.
-pub(crate) fn put_soft_errors(
-    out: &mut Writer,
-    alloc: Global,
-    text: Option<&str>,
-) -> Result<(), Error>
+pub(crate) fn put_soft_errors(out: &mut Writer, alloc: Global, text: Option<&str>) -> Put
     ensures { Puts result out.old out.new (or_null soft_json (option_copied text.entry)) }
 {
     match text {
@@ -26,7 +23,7 @@ pub(crate) fn put_soft_errors(
 
 // Puts the value of a text that is JSON, else the text.
 #[tactic(auto, unfolding(crate::specs::SoftErrors::soft_json))]
-fn put_soft(out: &mut Writer, alloc: Global, text: &str) -> Result<(), Error>
+fn put_soft(out: &mut Writer, alloc: Global, text: &str) -> Put
     ensures { Puts result out.old out.new (soft_json text.now) }
 {
     let mut scratch = Scratch::new(alloc);

@@ -1,15 +1,12 @@
 //! The system on which a process ran, and the release of Linux.
 ghost use Rattle.std.specs.Prelude.{◌≡◌, ◌++◌, IfOk, codes, string_bytes};
-ghost use Rattle.std.specs.Option.{option_map};
 ghost use Rattle.crash.specs.Process.{system_of};
-ghost use Rattle.crash.specs.Release.{release_of};
 ghost use Rattle.json_tree.specs.Tree.{Puts};
-ghost use Rattle.crash_json.specs.System.{release_json, system_json, system_object, with_build};
+ghost use Rattle.crash_json.specs.System.{system_object, with_build};
 
 use crash::{CrashSystem, LsbRelease};
 use json::Writer;
-use json_tree::{Scalar, ValueJson, put_object};
-use minidump::Error;
+use json_tree::{Members, Put, Scalar, ValueJson};
 use minidump::text::{Piece, format_pieces};
 use std::alloc::{AllocError, Global};
 
@@ -27,28 +24,20 @@ impl ValueJson<CrashSystem> for SystemJson {
 
     ghost json_of = { λ _ s. system_json s };
 
-    fn put_value(&self, item: &CrashSystem, out: &mut Writer, alloc: Global) -> Result<(), Error> {
-        put_system(out, alloc, item)
+    fn put_value(&self, item: &CrashSystem, out: &mut Writer, alloc: Global) -> Put {
+        let os = item.os.long_name(alloc)?;
+        let version = with_build(alloc, item)?;
+        let cpu = item.cpu;
+        let cpu = format!(in alloc; "{cpu}")?;
+        put_texts(
+            out,
+            alloc,
+            os.as_str(),
+            version.as_str(),
+            cpu.as_str(),
+            item,
+        )
     }
-}
-
-fn put_system(out: &mut Writer, alloc: Global, system: &CrashSystem) -> Result<(), Error>
-    ensures { Puts result out.old out.new (system_json (system_of system.now)) }
-{
-    let os = system.os.long_name(alloc)?;
-    let version = with_build(alloc, system)?;
-    let cpu = system.cpu;
-    let cpu = format!(in alloc; "{cpu}")?;
-    put_texts(
-        out,
-        alloc,
-        os.as_str(),
-        version.as_str(),
-        cpu.as_str(),
-        &system.cpu_model,
-        system.processors,
-        &system.microcode,
-    )
 }
 
 // Makes the text of the version of a system, and of its build if that is known.
@@ -79,26 +68,21 @@ fn put_texts<'t>(
     os: &'t str,
     version: &'t str,
     cpu: &'t str,
-    cpu_model: &'t Option<String>,
-    processors: u8,
-    microcode: &'t Option<String>,
-) -> Result<(), Error>
+    system: &'t CrashSystem,
+) -> Put
     ensures { Puts result out.old out.new (system_object os.now version.now cpu.now
-        (option_map string_bytes cpu_model.now) processors
-        (option_map string_bytes microcode.now)) }
+        (system_of system.now).cpu_model (system_of system.now).processors
+        (system_of system.now).microcode) }
 {
-    put_object(
-        out,
-        alloc,
-        &[
-            ("os", Scalar::Text(Some(os))),
-            ("os_ver", Scalar::Text(Some(version))),
-            ("cpu_arch", Scalar::Text(Some(cpu))),
-            ("cpu_info", Scalar::Optional(cpu_model)),
-            ("cpu_count", Scalar::Number(Some(processors as u64))),
-            ("cpu_microcode_version", Scalar::Optional(microcode)),
-        ],
-    )
+    Members(&[
+        ("os", Scalar::Text(Some(os))),
+        ("os_ver", Scalar::Text(Some(version))),
+        ("cpu_arch", Scalar::Text(Some(cpu))),
+        ("cpu_info", Scalar::Optional(&system.cpu_model)),
+        ("cpu_count", Scalar::Number(Some(system.processors as u64))),
+        ("cpu_microcode_version", Scalar::Optional(&system.microcode)),
+    ])
+    .put(out, alloc)
 }
 
 /// Gives the release of a Linux system its JSON value.
@@ -115,23 +99,14 @@ impl ValueJson<LsbRelease> for ReleaseJson {
 
     ghost json_of = { λ _ r. release_json r };
 
-    fn put_value(&self, item: &LsbRelease, out: &mut Writer, alloc: Global) -> Result<(), Error> {
-        put_release(out, alloc, item)
+    #[tactic(auto, unfolding(crate::specs::System::release_json))]
+    fn put_value(&self, item: &LsbRelease, out: &mut Writer, alloc: Global) -> Put {
+        Members(&[
+            ("id", Scalar::Optional(&item.id)),
+            ("release", Scalar::Optional(&item.release)),
+            ("codename", Scalar::Optional(&item.codename)),
+            ("description", Scalar::Optional(&item.description)),
+        ])
+        .put(out, alloc)
     }
-}
-
-#[tactic(auto, unfolding(crate::specs::System::release_json))]
-fn put_release(out: &mut Writer, alloc: Global, release: &LsbRelease) -> Result<(), Error>
-    ensures { Puts result out.old out.new (release_json (release_of release.now)) }
-{
-    put_object(
-        out,
-        alloc,
-        &[
-            ("id", Scalar::Optional(&release.id)),
-            ("release", Scalar::Optional(&release.release)),
-            ("codename", Scalar::Optional(&release.codename)),
-            ("description", Scalar::Optional(&release.description)),
-        ],
-    )
 }

@@ -2,41 +2,36 @@
 ghost use Rattle.std.specs.Prelude.{◌≡◌, ◌∷◌, IfOk, codes, length, map, take};
 ghost use Rattle.std.specs.Option.{option_copied, option_map};
 ghost use Rattle.crash.specs.Contexts.{context_of};
-ghost use Rattle.crash.specs.Crash.{crash_of};
 ghost use Rattle.crash.specs.Modules.{loaded_of};
 ghost use Rattle.crash.specs.Threads.{thread_value, threads_of};
 ghost use Rattle.crash_symbols.specs.Shown.{shown_frame_of, shown_of, symbolized_of};
 ghost use Rattle.json_tree.specs.Tree.{Adds, Puts, count};
-ghost use Rattle.crash_json.specs.Cause.{problem_name};
 ghost use Rattle.crash_json.specs.Threads.{all_frames, crashing_json, end_name};
-ghost use Rattle.crash_json.specs.Threads.{indexed_crashed, indexed_json, pointer_end_name};
-ghost use Rattle.crash_json.specs.Threads.{range_json, registers_of, short_json, short_of};
-ghost use Rattle.crash_json.specs.Threads.{thread_members, thread_object, threads_json, walk_members};
+ghost use Rattle.crash_json.specs.Threads.{indexed_json, pointer_end_name, registers_of, short_of};
+ghost use Rattle.crash_json.specs.Threads.{thread_members, thread_object, threads_json};
+ghost use Rattle.crash_json.specs.Threads.{walk_members};
 
 use crate::cause::problem_name;
 use crate::frames::{EachFrame, put_frames};
 use crash::{
-    ContextOrigin, Crash, CrashContext, CrashModule, CrashThread, CrashThreads, ShortContext,
-    StackRange,
+    ContextOrigin, CrashContext, CrashModule, CrashThread, CrashThreads, ShortContext, StackRange,
 };
 use crash_symbols::{ShownFrame, ShownWalk, Symbolized, shown_walk};
 use json::Writer;
 use json_tree::{
-    ItemJson, NumberedJson, Scalar, ToJson, put_fields, put_item_or_null, put_members,
-    put_numbered_array, put_object,
+    ItemJson, Members, NumberedJson, Put, Scalar, ToJson, put_item_or_null, put_numbered_array,
 };
-use minidump::Error;
 use stack_walk::WalkEnd;
 use std::alloc::{AllocError, Global};
 use symbol_walk::SymbolWalkEnd;
 
-// What threads are written by: how many frames of each at most, the modules, and the symbols where
-// they are known.
+/// What threads are written by: how many frames of each at most, the modules, and the symbols where
+/// they are known.
 #[derive(Clone, Copy)]
-struct EachThread<'l, 's, 'n> {
-    limit: usize,
-    modules: &'l [CrashModule],
-    symbols: Option<&'l Symbolized<'s, 'n>>,
+pub(crate) struct EachThread<'l, 's, 'n> {
+    pub(crate) limit: usize,
+    pub(crate) modules: &'l [CrashModule],
+    pub(crate) symbols: Option<&'l Symbolized<'s, 'n>>,
 }
 
 impl NumberedJson<CrashThread> for EachThread<'_, '_, '_> {
@@ -52,13 +47,7 @@ impl NumberedJson<CrashThread> for EachThread<'_, '_, '_> {
         (thread_value t) };
 
     #[tactic(auto, using(json_tree::proofs::Tokens::object_of_members))]
-    fn put_item_at(
-        &self,
-        number: usize,
-        item: &CrashThread,
-        out: &mut Writer,
-        alloc: Global,
-    ) -> Result<(), Error> {
+    fn put_at(&self, number: usize, item: &CrashThread, out: &mut Writer, alloc: Global) -> Put {
         out.begin_object()?;
         put_thread(out, alloc, self, None, number, item)?;
         out.end_object()?;
@@ -67,32 +56,13 @@ impl NumberedJson<CrashThread> for EachThread<'_, '_, '_> {
 }
 
 /// Puts the threads, with at most so many frames each.
-pub(crate) fn put_threads<'l>(
-    out: &mut Writer,
-    alloc: Global,
-    limit: usize,
-    crash: &'l Crash<'_>,
-    symbols: Option<&'l Symbolized<'_, '_>>,
-) -> Result<(), Error>
-    ensures { Puts result out.old out.new (threads_json limit
-        (option_map symbolized_of (option_copied symbols.entry)) (crash_of crash.now).modules.loaded
-        (crash_of crash.now).threads.threads) }
-{
-    let each = EachThread {
-        limit,
-        modules: crash.modules.loaded.as_slice(),
-        symbols,
-    };
-    put_each_thread(out, alloc, &each, crash.threads.threads.as_slice())
-}
-
 #[tactic(auto, unfolding(crate::specs::Threads::threads_json), using(crate::proofs::NumberedLemmas::numbered_values))]
-fn put_each_thread(
+pub(crate) fn put_threads(
     out: &mut Writer,
     alloc: Global,
     by: &EachThread<'_, '_, '_>,
     threads: &[CrashThread],
-) -> Result<(), Error>
+) -> Put
     ensures { Puts result out.old out.new (threads_json by.now.limit
         (option_map symbolized_of (option_copied by.now.symbols))
         (map loaded_of by.now.modules.now) (map thread_value threads.now)) }
@@ -109,7 +79,7 @@ fn put_thread(
     context: Option<&CrashContext>,
     number: usize,
     thread: &CrashThread,
-) -> Result<(), Error>
+) -> Put
     ensures { Adds result out.old out.new (thread_members by.now.limit
         (option_map symbolized_of (option_copied by.now.symbols))
         (map loaded_of by.now.modules.now)
@@ -132,7 +102,7 @@ fn put_walk(
     each: EachFrame<'_>,
     thread: &CrashThread,
     walk: &Option<ShownWalk<'_, '_>>,
-) -> Result<(), Error>
+) -> Put
     ensures { Adds result out.old out.new (walk_members limit
         (map loaded_of each.entry.modules.now)
         (option_map context_of (option_copied each.entry.context)) each.entry.has_symbols
@@ -250,30 +220,27 @@ fn put_thread_members<'l>(
     frame_count: usize,
     each: EachFrame<'l>,
     frames: &'l [ShownFrame<'_, '_>],
-) -> Result<(), Error>
+) -> Put
     ensures { Adds result out.old out.new (thread_object (thread_value thread.now)
         (option_copied problem.entry) (option_copied end.entry) short frame_count
         (map loaded_of each.entry.modules.now)
         (option_map context_of (option_copied each.entry.context)) each.entry.has_symbols
         (map shown_frame_of frames.now)) }
 {
-    put_members(
-        out,
-        alloc,
-        &[
-            ("thread_id", ThreadMember::Scalar(Scalar::Number(Some(thread.id as u64)))),
-            ("thread_name", ThreadMember::Scalar(Scalar::Optional(&thread.name))),
-            ("is_listed", ThreadMember::Scalar(Scalar::Flag(thread.is_listed))),
-            ("last_error_value", ThreadMember::Scalar(Scalar::Optional(&thread.last_error))),
-            ("frame_count", ThreadMember::Scalar(Scalar::Count(Some(frame_count)))),
-            ("stack", ThreadMember::Range(thread.stack)),
-            ("stack_memory", ThreadMember::Range(thread.stack_memory)),
-            ("context_problem", ThreadMember::Scalar(Scalar::Text(problem))),
-            ("short_context", ThreadMember::Short(short)),
-            ("end", ThreadMember::Scalar(Scalar::Text(end))),
-            ("frames", ThreadMember::Frames(each, frames)),
-        ],
-    )
+    Members(&[
+        ("thread_id", ThreadMember::Scalar(Scalar::Number(Some(thread.id as u64)))),
+        ("thread_name", ThreadMember::Scalar(Scalar::Optional(&thread.name))),
+        ("is_listed", ThreadMember::Scalar(Scalar::Flag(thread.is_listed))),
+        ("last_error_value", ThreadMember::Scalar(Scalar::Optional(&thread.last_error))),
+        ("frame_count", ThreadMember::Scalar(Scalar::Count(Some(frame_count)))),
+        ("stack", ThreadMember::Range(thread.stack)),
+        ("stack_memory", ThreadMember::Range(thread.stack_memory)),
+        ("context_problem", ThreadMember::Scalar(Scalar::Text(problem))),
+        ("short_context", ThreadMember::Short(short)),
+        ("end", ThreadMember::Scalar(Scalar::Text(end))),
+        ("frames", ThreadMember::Frames(each, frames)),
+    ])
+    .add(out, alloc)
 }
 
 // The value of a member of a thread.
@@ -290,7 +257,7 @@ impl ToJson for ThreadMember<'_, '_, '_> {
 
     ghost json = { thread_member };
 
-    fn put(&self, out: &mut Writer, alloc: Global) -> Result<(), Error> {
+    fn put(&self, out: &mut Writer, alloc: Global) -> Put {
         match self {
             ThreadMember::Scalar(scalar) => scalar.put(out, alloc),
             ThreadMember::Range(range) => put_item_or_null(out, alloc, range, &RangeJson),
@@ -309,23 +276,14 @@ impl ItemJson<StackRange> for RangeJson {
 
     ghost json_of = { λ _ r. range_json r };
 
-    fn put_item(&self, item: &StackRange, out: &mut Writer, alloc: Global) -> Result<(), Error> {
-        put_range(out, alloc, *item)
+    #[tactic(auto, unfolding(crate::specs::Threads::range_json))]
+    fn put_item(&self, item: &StackRange, out: &mut Writer, alloc: Global) -> Put {
+        Members(&[
+            ("base_addr", Scalar::Hex(Some(item.base))),
+            ("size", Scalar::Number(Some(item.size))),
+        ])
+        .put(out, alloc)
     }
-}
-
-#[tactic(auto, unfolding(crate::specs::Threads::range_json))]
-fn put_range(out: &mut Writer, alloc: Global, range: StackRange) -> Result<(), Error>
-    ensures { Puts result out.old out.new (range_json range) }
-{
-    put_object(
-        out,
-        alloc,
-        &[
-            ("base_addr", Scalar::Hex(Some(range.base))),
-            ("size", Scalar::Number(Some(range.size))),
-        ],
-    )
 }
 
 // Gives what there is of a context that is cut its JSON value.
@@ -337,70 +295,32 @@ impl ItemJson<ShortContext> for ShortJson {
 
     ghost json_of = { λ _ s. short_json s };
 
-    fn put_item(&self, item: &ShortContext, out: &mut Writer, alloc: Global) -> Result<(), Error> {
-        put_short(out, alloc, *item)
+    #[tactic(auto, unfolding(crate::specs::Threads::short_json))]
+    fn put_item(&self, item: &ShortContext, out: &mut Writer, alloc: Global) -> Put {
+        Members(&[
+            ("size", Scalar::Count(Some(item.size))),
+            ("whole", Scalar::Count(Some(item.whole))),
+        ])
+        .put(out, alloc)
     }
 }
 
-#[tactic(auto, unfolding(crate::specs::Threads::short_json))]
-fn put_short(out: &mut Writer, alloc: Global, short: ShortContext) -> Result<(), Error>
-    ensures { Puts result out.old out.new (short_json short) }
-{
-    put_object(
-        out,
-        alloc,
-        &[
-            ("size", Scalar::Count(Some(short.size))),
-            ("whole", Scalar::Count(Some(short.whole))),
-        ],
-    )
-}
-
 /// Puts the thread that crashed, with its index and the registers of its first frame, or `null`.
-pub(crate) fn put_crashing<'l>(
-    out: &mut Writer,
-    alloc: Global,
-    limit: usize,
-    crash: &'l Crash<'_>,
-    symbols: Option<&'l Symbolized<'_, '_>>,
-) -> Result<(), Error>
-    ensures { Puts result out.old out.new (crashing_json limit
-        (option_map symbolized_of (option_copied symbols.entry)) (crash_of crash.now).modules.loaded
-        (crash_of crash.now).threads) }
-{
-    let each = EachThread {
-        limit,
-        modules: crash.modules.loaded.as_slice(),
-        symbols,
-    };
-    put_crashed(out, alloc, &each, &crash.threads)
-}
-
-fn put_crashed(
+pub(crate) fn put_crashing(
     out: &mut Writer,
     alloc: Global,
     by: &EachThread<'_, '_, '_>,
     threads: &CrashThreads,
-) -> Result<(), Error>
+) -> Put
     ensures { Puts result out.old out.new (crashing_json by.now.limit
         (option_map symbolized_of (option_copied by.now.symbols))
         (map loaded_of by.now.modules.now) (threads_of threads.now)) }
 {
-    match crashed(threads) {
+    match threads.crashed() {
         Some((index, thread)) => put_indexed(out, alloc, by, index, thread)?,
         None => out.null()?,
     }
     Ok(())
-}
-
-/// Returns the thread that crashed, with its index.
-pub(crate) fn crashed(threads: &CrashThreads) -> Option<(usize, &CrashThread)>
-    ensures { option_map (λ p. (p.0, thread_value p.1.now)) result
-        ≡ indexed_crashed (threads_of threads.now) }
-{
-    let index = threads.crashing?;
-    let thread = threads.threads.get(index)?;
-    Some((index, thread))
 }
 
 // Puts a thread with its index.
@@ -411,7 +331,7 @@ fn put_indexed(
     by: &EachThread<'_, '_, '_>,
     index: usize,
     thread: &CrashThread,
-) -> Result<(), Error>
+) -> Put
     ensures { Puts result out.old out.new (indexed_json by.now.limit
         (option_map symbolized_of (option_copied by.now.symbols))
         (map loaded_of by.now.modules.now) index (thread_value thread.now)) }
@@ -428,13 +348,13 @@ fn put_indexed_members(
     by: &EachThread<'_, '_, '_>,
     index: usize,
     thread: &CrashThread,
-) -> Result<(), Error>
+) -> Put
     ensures { Adds result out.old out.new ((codes "threads_index", count index)
         ∷ thread_members by.now.limit (option_map symbolized_of (option_copied by.now.symbols))
         (map loaded_of by.now.modules.now) (thread_value thread.now).context index
         (thread_value thread.now)) }
 {
-    put_fields(out, alloc, &[("threads_index", Scalar::Count(Some(index)))])?;
+    Members(&[("threads_index", Scalar::Count(Some(index)))]).add(out, alloc)?;
     put_thread(out, alloc, by, thread.context.as_ref(), index, thread)?;
     Ok(())
 }
@@ -443,7 +363,7 @@ fn put_indexed_members(
 pub(crate) fn registers_of(threads: &CrashThreads) -> Option<&'static str>
     ensures { option_copied result ≡ registers_of (threads_of threads.now) }
 {
-    let (_, thread) = crashed(threads)?;
+    let (_, thread) = threads.crashed()?;
     match thread.context.as_ref()?.origin {
         ContextOrigin::OfException => Some("exception"),
         ContextOrigin::OfThread => Some("thread"),

@@ -3,8 +3,8 @@
 //! - A type has a JSON value by [`ToJson`]; the items of a list have theirs by [`ItemJson`], by
 //!   [`NumberedJson`] where an item's value has its number in it, or by [`ValueJson`] where items
 //!   stand for values, by which the JSON values are told.
-//! - [`put_object_of`] puts an object of members whose values are of one type, [`put_members`] adds
-//!   such members; [`put_object`] and [`put_fields`] are the same for values without parts.
+//! - [`Members`] are the members of an object, whose values are of one type: it puts the object, or
+//!   adds them to those that were put. A value without parts is a [`Scalar`].
 //! - [`put_array`], [`put_numbered_array`] and [`put_values`] put an array of the items of a list,
 //!   [`put_item_or_null`] and [`put_value_or_null`] a value that may be absent.
 //! - [`as_text`] borrows a text that may be absent, as a scalar takes it.
@@ -28,6 +28,4 @@ pub use list::{
     ItemJson, NumberedJson, ValueJson, put_array, put_item_or_null, put_numbered_array,
     put_value_or_null, put_values,
 };
-pub use tree::{
-    Scalar, ToJson, as_text, put_fields, put_members, put_object, put_object_of, text_of,
-};
+pub use tree::{Members, Put, Scalar, ToJson, as_text, text_of};

@@ -4,6 +4,7 @@ ghost use Rattle.json.specs.Json.{Json};
 ghost use Rattle.json_tree.specs.Tree.{Puts, array_of, item_tokens, numbered_array_of};
 ghost use Rattle.json_tree.specs.Tree.{numbered_tokens, or_null};
 
+use crate::tree::Put;
 use json::Writer;
 use minidump_format::Error;
 use std::alloc::Global;
@@ -13,7 +14,7 @@ pub trait ItemJson<X> {
     ghost json_of: { Self → X → Json };
 
     /// Puts the value of an item. The only error is `OutOfMemory`.
-    fn put_item(&self, item: &X, out: &mut Writer, alloc: Global) -> Result<(), Error>
+    fn put_item(&self, item: &X, out: &mut Writer, alloc: Global) -> Put
         ensures { Puts result out.old out.new (json_of self.now item.now) };
 }
 
@@ -22,13 +23,7 @@ pub trait NumberedJson<X> {
     ghost json_at: { Self → ℕ → X → Json };
 
     /// Puts the value of an item. The only error is `OutOfMemory`.
-    fn put_item_at(
-        &self,
-        number: usize,
-        item: &X,
-        out: &mut Writer,
-        alloc: Global,
-    ) -> Result<(), Error>
+    fn put_at(&self, number: usize, item: &X, out: &mut Writer, alloc: Global) -> Put
         ensures { Puts result out.old out.new (json_at self.now number item.now) };
 }
 
@@ -42,7 +37,7 @@ pub trait ValueJson<X> {
     ghost json_of: { Self → Value → Json };
 
     /// Puts the value of an item. The only error is `OutOfMemory`.
-    fn put_value(&self, item: &X, out: &mut Writer, alloc: Global) -> Result<(), Error>
+    fn put_value(&self, item: &X, out: &mut Writer, alloc: Global) -> Put
         ensures { Puts result out.old out.new (json_of self.now (value_of item.now)) };
 }
 
@@ -53,18 +48,13 @@ struct ByValue<'l, F>(&'l F);
 impl<X, F: ValueJson<X>> ItemJson<X> for ByValue<'_, F> {
     ghost json_of = { λ b x. F.json_of b.0.now (F.value_of x) };
 
-    fn put_item(&self, item: &X, out: &mut Writer, alloc: Global) -> Result<(), Error> {
+    fn put_item(&self, item: &X, out: &mut Writer, alloc: Global) -> Put {
         self.0.put_value(item, out, alloc)
     }
 }
 
 /// Puts an array of the values of items, by what each stands for. The only error is `OutOfMemory`.
-pub fn put_values<X, F: ValueJson<X>>(
-    out: &mut Writer,
-    alloc: Global,
-    items: &[X],
-    by: &F,
-) -> Result<(), Error>
+pub fn put_values<X, F: ValueJson<X>>(out: &mut Writer, alloc: Global, items: &[X], by: &F) -> Put
     ensures { Puts result out.old out.new
         (array_of (F.json_of by.now) (map F.value_of items.now)) }
 {
@@ -77,7 +67,7 @@ pub fn put_value_or_null<X, F: ValueJson<X>>(
     alloc: Global,
     item: &Option<X>,
     by: &F,
-) -> Result<(), Error>
+) -> Put
     ensures { Puts result out.old out.new
         (or_null (F.json_of by.now) (option_map F.value_of item.now)) }
 {
@@ -94,7 +84,7 @@ pub fn put_item_or_null<X, F: ItemJson<X>>(
     alloc: Global,
     item: &Option<X>,
     by: &F,
-) -> Result<(), Error>
+) -> Put
     ensures { Puts result out.old out.new (or_null (F.json_of by.now) item.now) }
 {
     match item {
@@ -106,12 +96,7 @@ pub fn put_item_or_null<X, F: ItemJson<X>>(
 
 /// Puts an array of the values of items. The only error is `OutOfMemory`.
 #[tactic(auto, using(crate::proofs::Tokens::array_of_items))]
-pub fn put_array<X, F: ItemJson<X>>(
-    out: &mut Writer,
-    alloc: Global,
-    items: &[X],
-    by: &F,
-) -> Result<(), Error>
+pub fn put_array<X, F: ItemJson<X>>(out: &mut Writer, alloc: Global, items: &[X], by: &F) -> Put
     ensures { Puts result out.old out.new (array_of (F.json_of by.now) items.now) }
 {
     out.begin_array()?;
@@ -128,7 +113,7 @@ pub fn put_numbered_array<X, F: NumberedJson<X>>(
     alloc: Global,
     items: &[X],
     by: &F,
-) -> Result<(), Error>
+) -> Put
     ensures { Puts result out.old out.new (numbered_array_of (F.json_at by.now) items.now) }
 {
     out.begin_array()?;
@@ -138,12 +123,7 @@ pub fn put_numbered_array<X, F: NumberedJson<X>>(
 }
 
 // Puts the values of items, one after another.
-fn put_items<X, F: ItemJson<X>>(
-    out: &mut Writer,
-    alloc: Global,
-    items: &[X],
-    by: &F,
-) -> Result<(), Error>
+fn put_items<X, F: ItemJson<X>>(out: &mut Writer, alloc: Global, items: &[X], by: &F) -> Put
     ensures tokens { OnOk result (out.new.tokens ≡ out.old.tokens ++ item_tokens (F.json_of by.now)
         items.now) }
     ensures before { out.new.before ≡ out.old.before }
@@ -161,14 +141,14 @@ fn put_numbered_items<X, F: NumberedJson<X>>(
     alloc: Global,
     items: &[X],
     by: &F,
-) -> Result<(), Error>
+) -> Put
     ensures tokens { OnOk result (out.new.tokens ≡ out.old.tokens ++ numbered_tokens
         (F.json_at by.now) items.now) }
     ensures before { out.new.before ≡ out.old.before }
     ensures memory { IsOkUnless result Error.OutOfMemory }
 {
     for (number, x) in items.iter().enumerate() {
-        by.put_item_at(number, x, out, alloc)?;
+        by.put_at(number, x, out, alloc)?;
     }
     Ok(())
 }

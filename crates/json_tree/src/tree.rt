@@ -4,13 +4,16 @@ ghost use Rattle.std.specs.Str.{IsUtf8};
 ghost use Rattle.json.specs.Json.{Json, document, max_depth, string};
 ghost use Rattle.json.specs.Print.{print};
 ghost use Rattle.json.specs.Tree.{depth, json_tokens};
-ghost use Rattle.json_tree.specs.Tree.{Adds, Puts, field_of, hex_text, member_of, object_of, or_null};
+ghost use Rattle.json_tree.specs.Tree.{Adds, Puts, hex_text, member_of, object_of, or_null};
 ghost use Rattle.json_tree.specs.Tree.{scalar_json};
 
 use json::Writer;
 use minidump_bytes::{Piece, format_pieces};
 use minidump_format::Error;
 use std::alloc::{AllocError, Global};
+
+/// What a call that puts JSON returns.
+pub type Put = Result<(), Error>;
 
 /// A value without parts.
 #[derive(Clone, Copy)]
@@ -48,61 +51,38 @@ pub trait ToJson {
     ghost json: { Self → Json };
 
     /// Puts the value. The only error is `OutOfMemory`.
-    fn put(&self, out: &mut Writer, alloc: Global) -> Result<(), Error>
+    fn put(&self, out: &mut Writer, alloc: Global) -> Put
         ensures { Puts result out.old out.new (json self.now) };
 }
 
-/// Puts an object whose members have no parts. The only error is `OutOfMemory`.
-pub fn put_object(
-    out: &mut Writer,
-    alloc: Global,
-    fields: &[(&str, Scalar<'_>)],
-) -> Result<(), Error>
-    ensures { Puts result out.old out.new (object_of (map field_of fields.now)) }
-{
-    put_object_of(out, alloc, fields)
-}
+/// Members of an object, whose values are of one type.
+#[derive(Clone, Copy)]
+pub struct Members<'l, 'n, T>(pub &'l [(&'n str, T)]);
 
-/// Puts an object of members, whose values are of one type. The only error is `OutOfMemory`.
-#[tactic(auto, using(crate::proofs::Tokens::object_of_members))]
-pub fn put_object_of<T: ToJson>(
-    out: &mut Writer,
-    alloc: Global,
-    members: &[(&str, T)],
-) -> Result<(), Error>
-    ensures { Puts result out.old out.new (object_of (map (member_of T.json) members.now)) }
-{
-    out.begin_object()?;
-    put_members(out, alloc, members)?;
-    out.end_object()?;
-    Ok(())
-}
-
-/// Adds members without parts to an object. The only error is `OutOfMemory`.
-pub fn put_fields(
-    out: &mut Writer,
-    alloc: Global,
-    fields: &[(&str, Scalar<'_>)],
-) -> Result<(), Error>
-    ensures { Adds result out.old out.new (map field_of fields.now) }
-{
-    put_members(out, alloc, fields)
-}
-
-/// Adds members to an object, whose values are of one type. The only error is `OutOfMemory`.
-#[tactic(auto, unfolding(crate::specs::Tree::member_list_tokens))]
-pub fn put_members<T: ToJson>(
-    out: &mut Writer,
-    alloc: Global,
-    members: &[(&str, T)],
-) -> Result<(), Error>
-    ensures { Adds result out.old out.new (map (member_of T.json) members.now) }
-{
-    for (name, value) in members {
-        out.key(name)?;
-        value.put(out, alloc)?;
+impl<T: ToJson> Members<'_, '_, T> {
+    /// Puts the object of the members. The only error is `OutOfMemory`.
+    #[tactic(auto, using(crate::proofs::Tokens::object_of_members))]
+    pub fn put(&self, out: &mut Writer, alloc: Global) -> Put
+        ensures { Puts result out.old out.new (object_of (map (member_of T.json) self.now.0.now)) }
+    {
+        out.begin_object()?;
+        self.add(out, alloc)?;
+        out.end_object()?;
+        Ok(())
     }
-    Ok(())
+
+    /// Adds the members to those of an object. The only error is `OutOfMemory`.
+    #[tactic(auto, unfolding(crate::specs::Tree::member_list_tokens))]
+    pub fn add(&self, out: &mut Writer, alloc: Global) -> Put
+        ensures { Adds result out.old out.new (map (member_of T.json) self.now.0.now) }
+    {
+        let members = self.0;
+        for (name, value) in members {
+            out.key(name)?;
+            value.put(out, alloc)?;
+        }
+        Ok(())
+    }
 }
 
 impl ToJson for Scalar<'_> {
@@ -110,13 +90,13 @@ impl ToJson for Scalar<'_> {
 
     ghost json = { scalar_json };
 
-    fn put(&self, out: &mut Writer, alloc: Global) -> Result<(), Error> {
+    fn put(&self, out: &mut Writer, alloc: Global) -> Put {
         put_scalar(out, alloc, *self)
     }
 }
 
 // Puts a value without parts.
-fn put_scalar(out: &mut Writer, alloc: Global, scalar: Scalar<'_>) -> Result<(), Error>
+fn put_scalar(out: &mut Writer, alloc: Global, scalar: Scalar<'_>) -> Put
     ensures { Puts result out.old out.new (scalar_json scalar.entry) }
 {
     match scalar {
@@ -138,7 +118,7 @@ fn put_scalar(out: &mut Writer, alloc: Global, scalar: Scalar<'_>) -> Result<(),
 }
 
 // Puts a text that may be absent.
-fn put_text(out: &mut Writer, text: Option<&str>) -> Result<(), Error>
+fn put_text(out: &mut Writer, text: Option<&str>) -> Put
     ensures { Puts result out.old out.new (or_null string (option_copied text.entry)) }
 {
     match text {

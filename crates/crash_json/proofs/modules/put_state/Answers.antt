@@ -4,4 +4,4 @@ use Rattle.crash_json.proofs.modules.put_state.Goals as goal
 
 pub returns : goal.returns
 unfolding state_object
-returns c = rw (c.are_missing.ensures, c.are_loaded.ensures, c.are_corrupt.ensures) at c.put_fields.ensures
+returns c = rw (c.are_missing.ensures, c.are_loaded.ensures, c.are_corrupt.ensures) at c.add.ensures

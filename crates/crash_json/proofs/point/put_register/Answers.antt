@@ -5,7 +5,7 @@ use Rattle.crash_json.proofs.point.put_register.Goals as goal
 
 pub returns : goal.returns
 returns c = record {
-  tokens = more _ _ _ _ _ c.in_ok-put_fields.ensures.tokens c.in_ok-put_address.ensures.tokens;
+  tokens = more _ _ _ _ _ c.in_ok-add.ensures.tokens c.in_ok-put_address.ensures.tokens;
   before = search rules;
   memory = search rules;
 }

@@ -7,7 +7,7 @@ pub returns : goal.returns
 returns c =
     let members = rw c.as_ref.ensures.value at c.in_ok-put_thread.ensures.tokens in
     record {
-      tokens = more _ _ _ _ _ c.in_ok-put_fields.ensures.tokens members;
+      tokens = more _ _ _ _ _ c.in_ok-add.ensures.tokens members;
       before = search rules;
       memory = search rules;
     }

@@ -2,7 +2,7 @@
 use Rattle.std.proofs.Common.{take, map, ◌≡◌, ◌++◌}
 use Rattle.std.specs.List.{flat_map}
 use Rattle.json_tree.specs.Tree.{member_of, member_tokens}
-use Rattle.json_tree.proofs.tree.put_members.Given as goal
+use Rattle.json_tree.proofs.tree.Members.add.Given as goal
 
 abbrev pub invariant-loop-name : goal.invariant-loop-name
 invariant-loop-name g l = record {
