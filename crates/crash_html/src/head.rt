@@ -7,8 +7,8 @@ pub(crate) const HEAD: &str = r##"<!DOCTYPE html>
 <head>
 <meta charset="utf-8">
 <meta http-equiv="Content-Security-Policy" content="default-src 'none'; base-uri 'none'; form-action 'none';
- script-src 'sha256-TvSX3lFQTlqW8RxLG0tNes1msr4bWsx/dekBPM1J3mk=' 'sha256-/agcH0CNQve4EPdRrBk6WflWLC1CuRDDE6u16gbey2k=';
- style-src 'sha256-nYQz25cCC/iEEzIMLaQGq/ARYiNLuuzS6fb6nyzmENA=' 'sha256-sPHmrOm/UuubxpQb78f/WQ8zZl3stHOYMbsktkrfNJQ='">
+ script-src 'sha256-TvSX3lFQTlqW8RxLG0tNes1msr4bWsx/dekBPM1J3mk=' 'sha256-awgCoSkGs48RlJKTiZ9qu+L0Ty2QMxfqWYSZJ/oytYA=';
+ style-src 'sha256-aoeR9LaD96AOtcVRbJAiJRGYUpzF7xtkhJl/u0SmeoQ=' 'sha256-sPHmrOm/UuubxpQb78f/WQ8zZl3stHOYMbsktkrfNJQ='">
 <meta name="viewport" content="width=device-width, initial-scale=1">
 <title>Crash</title>
 <style>
@@ -36,6 +36,7 @@ td { overflow-wrap: break-word; }
 .code { white-space: nowrap; }
 .scroll { overflow-x: auto; }
 .registers { columns: 15rem; list-style: none; margin: .5rem 0; padding: 0; }
+.registers.placed { columns: 34rem; }
 .registers li { break-inside: avoid; white-space: pre-wrap; }
 .inline td { color: var(--muted); }
 .damage { border-left: .3rem solid var(--bad); padding-left: .8rem; }

@@ -426,10 +426,12 @@ function addFrames(place, of) {
 function addRegisters(place, heading, registers) {
   const all = Object.entries(registers ?? {});
   if (all.length === 0) return;
-  const lines = element("ul", undefined, "registers");
+  const places = list(part(point, "registers"));
+  const factsOf = (name) => places.find((one) => part(one, "name") === name);
+  const lines = element("ul", undefined, all.some(([name]) => factsOf(name) !== undefined) ? "registers placed" : "registers");
   for (const [name, value] of all) {
     const words = name.padEnd(6) + " " + shown(value);
-    const facts = list(part(point, "registers")).find((one) => part(one, "name") === name);
+    const facts = factsOf(name);
     lines.appendChild(element("li", facts === undefined ? words : addressWords(words, facts)));
   }
   place.appendChild(element("h3", heading));
