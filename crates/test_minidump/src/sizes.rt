@@ -1,14 +1,16 @@
 //! How many bytes a list has by its count, and how many there are: the lengths in an error, which no
 //! program prints.
 
+use crate::given::stream_of;
 use minidump::{
-    Endian, Error, Minidump, MinidumpCrashpadInfo, MinidumpHandleDataStream, MinidumpMemory64List,
-    MinidumpMemoryInfoList, MinidumpMemoryList, MinidumpModuleList, MinidumpThreadList,
-    MinidumpThreadNames,
+    Endian, Error, MinidumpCrashpadInfo, MinidumpHandleDataStream, MinidumpMemory64List,
+    MinidumpMemoryInfoList, MinidumpMemoryList, MinidumpModuleList, MinidumpStream,
+    MinidumpThreadList, MinidumpThreadNames,
 };
-use minidump_synth::{BOTH, SynthMinidump};
+use minidump_synth::SynthMinidump;
 use std::alloc::{AllocError, Global};
-use std::test::Fail;
+
+const CRASHPAD: u32 = 0x4350_0001;
 
 // A type of list, the numbers at its beginning, how many bytes it has, and how many by the numbers.
 // The number of entries comes first, or after the sizes of the header and of an entry.
@@ -58,21 +60,22 @@ const LISTS_64: &[(u64, usize, usize)] = &[
     (0x0fff_ffff_ffff_fffe, 48, 18_446_744_073_709_551_600),
 ];
 
+// The error of reading a stream.
+fn error_in<'a, S: MinidumpStream<'a> + Drop>(alloc: Global, bytes: &'a [u8]) -> Option<Error> {
+    stream_of::<S>(alloc, bytes).err()
+}
+
 // The error of reading the stream of a type.
 fn error_of(alloc: Global, bytes: &[u8], stream_type: u32) -> Option<Error> {
-    let dump = match Minidump::read(alloc, bytes) {
-        Ok(dump) => dump,
-        Err(error) => return Some(error),
-    };
     match stream_type {
-        3 => dump.get_stream::<MinidumpThreadList>(alloc).err(),
-        4 => dump.get_stream::<MinidumpModuleList>(alloc).err(),
-        5 => dump.get_stream::<MinidumpMemoryList>(alloc).err(),
-        9 => dump.get_stream::<MinidumpMemory64List>(alloc).err(),
-        12 => dump.get_stream::<MinidumpHandleDataStream>(alloc).err(),
-        16 => dump.get_stream::<MinidumpMemoryInfoList>(alloc).err(),
-        24 => dump.get_stream::<MinidumpThreadNames>(alloc).err(),
-        _ => dump.get_stream::<MinidumpCrashpadInfo>(alloc).err(),
+        3 => error_in::<MinidumpThreadList<'_>>(alloc, bytes),
+        4 => error_in::<MinidumpModuleList>(alloc, bytes),
+        5 => error_in::<MinidumpMemoryList<'_>>(alloc, bytes),
+        9 => error_in::<MinidumpMemory64List<'_>>(alloc, bytes),
+        12 => error_in::<MinidumpHandleDataStream>(alloc, bytes),
+        16 => error_in::<MinidumpMemoryInfoList<'_>>(alloc, bytes),
+        24 => error_in::<MinidumpThreadNames>(alloc, bytes),
+        _ => error_in::<MinidumpCrashpadInfo>(alloc, bytes),
     }
 }
 
@@ -119,29 +122,55 @@ fn crashpad(alloc: Global, endian: Endian, has_module: bool) -> Result<Vec<u8>, 
         dump.add(dump.section().u32(1).u32(4).u32(32).zeros(16));
         dump.add(dump.section().u32(1).u32(0).u32(28).u32(36));
     }
-    dump.add_stream(
-        0x4350_0001,
-        dump.section().u32(1).zeros(40).u32(size).u32(rva),
-    );
+    dump.add_stream(CRASHPAD, dump.section().u32(1).zeros(40).u32(size).u32(rva));
     dump.finish()
 }
 
+// Tells whether a list has the lengths of its row.
+fn has_lengths(
+    alloc: Global,
+    endian: Endian,
+    row: &(u32, &[u32], usize, usize),
+) -> Result<bool, AllocError> {
+    let bytes = list(alloc, endian, row)?;
+    Ok(error_of(alloc, &bytes, row.0) == mismatch(row.3, row.2))
+}
+
+// The same of a 64-bit list.
+fn has_lengths_64(
+    alloc: Global,
+    endian: Endian,
+    row: &(u64, usize, usize),
+) -> Result<bool, AllocError> {
+    let bytes = list_64(alloc, endian, row)?;
+    Ok(error_of(alloc, &bytes, 9) == mismatch(row.2, row.1))
+}
+
+// The same of Crashpad's information.
+fn has_lengths_of_crashpad(
+    alloc: Global,
+    endian: Endian,
+    has_module: bool,
+    expected: usize,
+    actual: usize,
+) -> Result<bool, AllocError> {
+    let bytes = crashpad(alloc, endian, has_module)?;
+    Ok(error_of(alloc, &bytes, CRASHPAD) == mismatch(expected, actual))
+}
+
+fn are_lengths(alloc: Global, endian: Endian) -> bool {
+    LISTS
+        .iter()
+        .all(|row| has_lengths(alloc, endian, row) == Ok(true))
+        && LISTS_64
+            .iter()
+            .all(|row| has_lengths_64(alloc, endian, row) == Ok(true))
+        && has_lengths_of_crashpad(alloc, endian, false, 51_539_607_540, 100) == Ok(true)
+        && has_lengths_of_crashpad(alloc, endian, true, 17_179_869_180, 144) == Ok(true)
+}
+
 #[test]
-fn a_length_is_that_of_the_count(rt: HostRuntime) -> Result<(), Fail> {
+fn a_length_is_that_of_the_count(rt: HostRuntime) {
     let alloc = rt.alloc();
-    for endian in BOTH {
-        for row in LISTS {
-            let error = error_of(alloc, &list(alloc, *endian, row)?, row.0);
-            assert!(rt; error == mismatch(row.3, row.2), "{row:?}");
-        }
-        for row in LISTS_64 {
-            let error = error_of(alloc, &list_64(alloc, *endian, row)?, 9);
-            assert!(rt; error == mismatch(row.2, row.1), "{row:?}");
-        }
-        let modules = error_of(alloc, &crashpad(alloc, *endian, false)?, 0x4350_0001);
-        assert!(rt; modules == mismatch(51_539_607_540, 100));
-        let texts = error_of(alloc, &crashpad(alloc, *endian, true)?, 0x4350_0001);
-        assert!(rt; texts == mismatch(17_179_869_180, 144));
-    }
-    Ok(())
+    assert!(rt; are_lengths(alloc, Endian::Little) && are_lengths(alloc, Endian::Big));
 }

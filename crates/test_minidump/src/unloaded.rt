@@ -3,9 +3,8 @@
 use crate::given::stream_of;
 use minidump::format::MINIDUMP_UNLOADED_MODULE;
 use minidump::{Endian, Error, MinidumpUnloadedModuleList, Module};
-use minidump_synth::{BOTH, SynthMinidump};
+use minidump_synth::SynthMinidump;
 use std::alloc::{AllocError, Global};
-use std::test::Fail;
 
 // The first address, the size and the name of unloaded modules; an address, and the first addresses
 // and the names of those that had it.
@@ -58,18 +57,21 @@ fn had(alloc: Global, endian: Endian, row: &Unloaded) -> Result<bool, Error> {
     let (modules, address, wanted) = *row;
     let bytes = unloaded_dump(alloc, endian, modules)?;
     let list: MinidumpUnloadedModuleList = stream_of(alloc, &bytes)?;
-    let mut wanted = wanted.iter();
-    let are_those = list.modules_at_address(address).all(|module| wanted.next()
-        == Some(&(module.base_address(), module.code_file())));
-    Ok(are_those && wanted.next().is_none())
+    Ok(are_at(&list, address, wanted))
+}
+
+fn are_at(list: &MinidumpUnloadedModuleList, address: u64, wanted: &[(u64, &str)]) -> bool {
+    list.modules_at_address(address)
+        .map(|module| (module.base_address(), module.code_file()))
+        .eq(wanted.iter().copied())
 }
 
 #[test]
-fn finds_each_unloaded_module_that_had_an_address(rt: HostRuntime) -> Result<(), Fail> {
-    for endian in BOTH {
-        for row in UNLOADED {
-            assert!(rt; had(rt.alloc(), *endian, row)?, "at {}", row.1);
-        }
+fn finds_each_unloaded_module_that_had_an_address(rt: HostRuntime) {
+    let alloc = rt.alloc();
+    for row in UNLOADED {
+        assert!(rt;
+            had(alloc, Endian::Little, row) == Ok(true) && had(alloc, Endian::Big, row) == Ok(true)
+        );
     }
-    Ok(())
 }
