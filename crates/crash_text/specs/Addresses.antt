@@ -12,7 +12,7 @@ use Rattle.crash.specs.declared.addresses.RegionState.TheVariants.{Committed, Fr
 use Rattle.crash.specs.Crash.{CrashValue}
 use Rattle.crash.specs.Modules.{UnloadedModuleValue}
 use Rattle.crash.specs.Threads.{ThreadValue}
-use Rattle.crash_text.specs.Places.{place_text}
+use Rattle.crash_text.specs.Words.{place_text}
 
 -- how far the address is from 0, where it is near
 abbrev pub null_words : Option ℕ → List ℕ
@@ -24,11 +24,11 @@ abbrev pub canonical_words : Bool → List ℕ
 canonical_words true = []
 canonical_words false = codes ", not canonical"
 
--- an unloaded module by its path
+-- the path of an unloaded module
 abbrev pub path_words : List ℕ → List ℕ
 path_words path = concat (codes ", in unloaded " ∷ path ∷ [])
 
--- the unloaded module that contained it
+-- that of the unloaded module that contained it
 abbrev pub unloaded_words : Option UnloadedModuleValue → List ℕ
 unloaded_words (Some m) = path_words m.path
 unloaded_words None = []
@@ -74,16 +74,12 @@ address_words unloaded threads a = null_words a.null_offset ++ (canonical_words 
     ++ (thread_words (codes ", below the stack of thread ")
     (option_and_then (slice_get threads) a.below_stack) ++ memory_words a.memory))))
 
--- the line of an address after its name, with the words for its module and the others
-unfoldable pub address_row : List ℕ → List ℕ → ℕ → List ℕ → List ℕ → List ℕ
-address_row indent name address place words =
-    concat (indent ∷ name ∷ codes " " ∷ hex address ∷ place ∷ words ∷ [])
-
--- the same by the crash, with these words where no module has it
-abbrev pub address_line : CrashValue → List ℕ → List ℕ → List ℕ → AddressFacts → List ℕ
-address_line c indent name nowhere a = address_row indent name a.address
-    (place_text c.modules.loaded nowhere a.«module»)
-    (address_words c.modules.unloaded c.threads.threads a)
+-- the line of an address after its name, with the words for its module, or these where no module has
+-- it, and what is known of it
+unfoldable pub address_line : CrashValue → List ℕ → List ℕ → List ℕ → AddressFacts → List ℕ
+address_line c indent name nowhere a = concat (indent ∷ name ∷ codes " " ∷ hex a.address
+    ∷ place_text c.modules.loaded nowhere a.«module»
+    ∷ address_words c.modules.unloaded c.threads.threads a ∷ [])
 
 -- the line of the address of the crash
 abbrev pub address_lines : CrashValue → AddressFacts → List (List ℕ)

@@ -47,23 +47,15 @@ abbrev pub part_words : ModulePart → List ℕ
 part_words Name = codes "the name of module "
 part_words CodeView = codes "the CodeView record of module "
 
--- the line of a module of which a part can't be read, by the words for the part
-unfoldable pub unreadable_row : List ℕ → UnreadableModule → List ℕ
-unreadable_row part m = concat (codes "can't be read: " ∷ part ∷ decimal m.index ∷ codes " at "
-    ∷ hex m.base ∷ codes ", " ∷ hex m.size ∷ codes " bytes" ∷ [])
+-- the line of a module of which a part can't be read
+unfoldable pub unreadable_line : UnreadableModule → List ℕ
+unreadable_line m = concat (codes "can't be read: " ∷ part_words m.part ∷ decimal m.index
+    ∷ codes " at " ∷ hex m.base ∷ codes ", " ∷ hex m.size ∷ codes " bytes" ∷ [])
 
--- the same by its value
-abbrev pub unreadable_line : UnreadableModule → List ℕ
-unreadable_line m = unreadable_row (part_words m.part) m
-
--- the line of the number of entries whose bytes are not all in the file
-unfoldable pub entries_row : ℕ → List ℕ
-entries_row count = concat (codes "entries of the directory outside the file: " ∷ decimal count
-    ∷ [])
-
--- the same, where there are any
-abbrev pub entries_lines : ℕ → List (List ℕ)
-entries_lines count = if nat_lt 0 count then entries_row count ∷ [] else []
+-- the line of the number of entries whose bytes are not all in the file, where there are any
+unfoldable pub entries_lines : ℕ → List (List ℕ)
+entries_lines count = if nat_lt 0 count then concat (
+    codes "entries of the directory outside the file: " ∷ decimal count ∷ []) ∷ [] else []
 
 -- all of it
 abbrev pub damage_lines : CrashValue → List (List ℕ)

@@ -24,25 +24,26 @@ crashed_row id = concat (codes "crashed thread " ∷ decimal id ∷ codes " (" �
     ∷ [])
 
 -- the line of the code of an exception, of where it happened, and of what else its record says
-unfoldable pub code_row : ℕ → ℕ → List ℕ → List ℕ
-code_row code at said = concat (codes "code    " ∷ hex code ∷ codes " at " ∷ hex at ∷ said ∷ [])
+unfoldable pub code_line : ExceptionValue → List ℕ
+code_line e =
+    concat (codes "code    " ∷ hex e.code ∷ codes " at " ∷ hex e.at ∷ record_text e ∷ [])
 
 -- the crash, by the exception that counts, with LLDB's description of it
 abbrev pub counted_lines : CrashValue → ExceptionValue → List (List ℕ)
 counted_lines c e = crashed_row e.thread
     ∷ (if_some (address_lines c) c.cause.address
     ++ (text_lines (codes "reason  ") e.reason
-    ++ (code_row e.code e.at (record_text e)
+    ++ (code_line e
     ∷ (text_lines (codes "description ") e.description ++ (registers_lines c e ++ point_lines c)))))
 
 -- ---- the exceptions
 
 -- the line of an exception with its number: its thread, its code, where it happened, the reason, and
 -- what else its record and LLDB say
-unfoldable pub exception_row : ℕ → ℕ → ℕ → ℕ → List ℕ → List ℕ → List ℕ
-exception_row number thread code at reason said = concat (codes "    #" ∷ decimal number
-    ∷ codes " thread " ∷ decimal thread ∷ codes " (" ∷ hex thread ∷ codes "), code " ∷ hex code
-    ∷ codes " at " ∷ hex at ∷ unless_empty (codes ", ") reason ∷ reason ∷ said ∷ [])
+unfoldable pub read_line : ℕ → ExceptionValue → List ℕ
+read_line number e = concat (codes "    #" ∷ decimal number ∷ codes " thread " ∷ decimal e.thread
+    ∷ codes " (" ∷ hex e.thread ∷ codes "), code " ∷ hex e.code ∷ codes " at " ∷ hex e.at
+    ∷ unless_empty (codes ", ") (or_empty e.reason) ∷ or_empty e.reason ∷ described_text e ∷ [])
 
 -- the line of one that can't be read
 unfoldable pub unread_row : ℕ → List ℕ → List ℕ
@@ -51,8 +52,7 @@ unread_row number error = concat (codes "    #" ∷ decimal number ∷ codes " c
 
 -- the line of an exception, or of why it can't be read
 abbrev pub exception_line : ℕ → Result ExceptionValue Error → List ℕ
-exception_line number (Ok e) =
-    exception_row number e.thread e.code e.at (or_empty e.reason) (described_text e)
+exception_line number (Ok e) = read_line number e
 exception_line number (Err e) = unread_row number (name_of_error e)
 
 -- each of them

@@ -5,12 +5,12 @@ use Rattle.std.specs.Fmt.{decimal}
 use Rattle.std.specs.List.{concat, enumerate_from, flat_map}
 use Rattle.std.specs.Option.{option_map}
 use Rattle.std.specs.Str.Lossy.{utf8_lossy}
-use Rattle.stack_walk.specs.declared.end.WalkEnd.{WalkEnd}
 use Rattle.stack_walk.specs.declared.end.WalkEnd.TheVariants.{BelowStackPointer, NoCode}
 use Rattle.stack_walk.specs.declared.end.WalkEnd.TheVariants.{NoFramePointer, NoMemory, NoRecord}
 use Rattle.stack_walk.specs.declared.end.WalkEnd.TheVariants.{UnknownWidth, ZeroFramePointer}
 use Rattle.stack_walk.specs.declared.frame.FrameTrust.{FrameTrust}
 use Rattle.stack_walk.specs.declared.frame.FrameTrust.TheVariants.{Context, Cfi, FramePointer, Scan}
+use Rattle.minidump_bytes.specs.LinuxOsStr.{text_of}
 use Rattle.minidump.specs.Below.Bytes.Piece.{hex}
 use Rattle.symbol_walk.specs.declared.walk.SymbolWalkEnd.{SymbolWalkEnd}
 use Rattle.symbol_walk.specs.declared.walk.SymbolWalkEnd.TheVariants.{Walk, NoReturnRule}
@@ -18,9 +18,12 @@ use Rattle.symbol_walk.specs.declared.walk.SymbolWalkEnd.TheVariants.{ZeroReturn
 use Rattle.crash.specs.declared.frames.CrashFrame.{CrashFrame}
 use Rattle.crash.specs.Modules.{LoadedValue}
 use Rattle.crash_symbols.specs.Backtraces.{BacktraceValue}
+use Rattle.crash_symbols.specs.NameParts.{source_of}
 use Rattle.crash_symbols.specs.Names.{CallValue, NamedFrameValue, SourceValue}
+use Rattle.crash_text.specs.declared.entries.FrameEntry.{FrameEntry}
 use Rattle.crash_text.specs.declared.limits.TextLimits.{TextLimits}
-use Rattle.crash_text.specs.Places.{place_text}
+use Rattle.crash_text.specs.Page.{PageValue}
+use Rattle.crash_text.specs.Words.{place_text}
 
 -- ---- a frame, and the calls put in place there
 
@@ -32,6 +35,16 @@ pub record EntryValue : Type 0 where
   pub offset : Option ℕ
   pub source : Option SourceValue
   pub is_inline : Bool
+
+-- the same of a `FrameEntry`
+abbrev pub entry_of : FrameEntry → EntryValue
+entry_of e = record {
+  frame = e.frame;
+  function = option_map text_of e.function;
+  offset = e.offset;
+  source = option_map source_of e.source;
+  is_inline = e.is_inline;
+}
 
 -- a call put in place at a frame
 abbrev pub call_entry : CrashFrame → CallValue → EntryValue
@@ -63,17 +76,13 @@ entries_in frames = flat_map entries_of frames
 
 -- ---- the line of a frame
 
--- the words for how a frame was found
-abbrev pub trust_text : FrameTrust → List ℕ
-trust_text Context = codes ", context"
-trust_text Cfi = codes ", call frame information"
-trust_text FramePointer = codes ", frame pointer"
-trust_text Scan = codes ", scan"
-
--- the same, or that it is a call that the compiler put in place
+-- the words for how a frame was found, or that it is a call that the compiler put in place
 abbrev pub found_text : Bool → FrameTrust → List ℕ
 found_text true trust = codes ", inline"
-found_text false trust = trust_text trust
+found_text false Context = codes ", context"
+found_text false Cfi = codes ", call frame information"
+found_text false FramePointer = codes ", frame pointer"
+found_text false Scan = codes ", scan"
 
 -- the words for an offset in a function
 abbrev pub offset_text : Option ℕ → List ℕ
@@ -129,42 +138,31 @@ abbrev pub printed_frames : TextLimits → Bool → BacktraceValue → List Name
 printed_frames limits is_whole w =
     if is_whole then take limits.frames (all_frames w) else take 1 w.frames
 
--- the line of the number of frames that are not printed
-unfoldable pub hidden_row : ℕ → List ℕ
-hidden_row count = concat (codes "    and " ∷ decimal count ∷ codes " more" ∷ [])
-
--- the same, where there are any beyond the limit
-abbrev pub hidden_lines : ℕ → ℕ → List (List ℕ)
-hidden_lines limit count =
-    if nat_lt limit count then hidden_row (count - limit) ∷ [] else []
-
--- why a walk by frame pointers ends, in words
-abbrev pub pointer_end_text : WalkEnd → List ℕ
-pointer_end_text NoMemory = codes "no memory of its stack"
-pointer_end_text UnknownWidth = codes "unknown width of an address"
-pointer_end_text NoFramePointer = codes "no frame pointer"
-pointer_end_text ZeroFramePointer = codes "frame pointer of 0"
-pointer_end_text BelowStackPointer = codes "frame pointer below the stack pointer"
-pointer_end_text NoRecord = codes "no frame record at the frame pointer"
-pointer_end_text NoCode = codes "return address in no module"
+-- the line of the number of frames that are not printed, where there are any beyond the limit
+unfoldable pub hidden_lines : ℕ → ℕ → List (List ℕ)
+hidden_lines limit count = if nat_lt limit count
+    then concat (codes "    and " ∷ decimal (count - limit) ∷ codes " more" ∷ []) ∷ [] else []
 
 -- why a walk ends, in words
 abbrev pub end_text : SymbolWalkEnd → List ℕ
-end_text (Walk end) = pointer_end_text end
+end_text (Walk NoMemory) = codes "no memory of its stack"
+end_text (Walk UnknownWidth) = codes "unknown width of an address"
+end_text (Walk NoFramePointer) = codes "no frame pointer"
+end_text (Walk ZeroFramePointer) = codes "frame pointer of 0"
+end_text (Walk BelowStackPointer) = codes "frame pointer below the stack pointer"
+end_text (Walk NoRecord) = codes "no frame record at the frame pointer"
+end_text (Walk NoCode) = codes "return address in no module"
 end_text NoReturnRule = codes "no rule for the return address"
 end_text ZeroReturnAddress = codes "return address of 0"
 
--- the line of the end of a walk
-unfoldable pub end_row : SymbolWalkEnd → List ℕ
-end_row end = concat (codes "    end: " ∷ end_text end ∷ [])
-
--- what comes after the frames of a thread whose frames are all printed
-abbrev pub rest_lines : TextLimits → BacktraceValue → List (List ℕ)
-rest_lines limits w =
-    hidden_lines limits.frames (length (all_frames w)) ++ end_row w.end ∷ []
+-- what comes after the frames of a thread whose frames are all printed: how many more there are, and
+-- the end of its walk
+unfoldable pub rest_lines : TextLimits → BacktraceValue → List (List ℕ)
+rest_lines limits w = hidden_lines limits.frames (length (all_frames w))
+    ++ concat (codes "    end: " ∷ end_text w.end ∷ []) ∷ []
 
 -- what is found in the stack of a thread
-abbrev pub walk_lines : TextLimits → List LoadedValue → Bool → BacktraceValue → List (List ℕ)
-walk_lines limits modules is_whole w =
-    each_entry modules (entries_in (printed_frames limits is_whole w))
-    ++ (if is_whole then rest_lines limits w else [])
+abbrev pub walk_lines : PageValue → Bool → BacktraceValue → List (List ℕ)
+walk_lines p is_whole w =
+    each_entry p.crash.modules.loaded (entries_in (printed_frames p.limits is_whole w))
+    ++ (if is_whole then rest_lines p.limits w else [])

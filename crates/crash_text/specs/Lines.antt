@@ -1,9 +1,10 @@
 -- Lines, and how a text gains them.
-use Rattle.std.specs.Prelude.{◌≡◌, ◌++◌, ℕ, List, [], ◌∷◌, OnOk, Option, Some, None, Result, String}
-use Rattle.std.specs.Prelude.{string_bytes}
+use Rattle.std.specs.Prelude.{◌≡◌, ◌++◌, ℕ, List, [], ◌∷◌, OnOk, Option, Some, None, Result, Ok, Err}
+use Rattle.std.specs.Prelude.{String, string_bytes}
 use Rattle.std.specs.Global.{Global}
 use Rattle.std.specs.List.{flat_map}
 use Rattle.std.specs.declared.alloc.AllocError.{AllocError}
+use Rattle.minidump.specs.declared.Error.{Error}
 use Rattle.crash_text.specs.Escape.{escaped_text}
 
 -- a line: a text as it is printed, and its end
@@ -20,3 +21,8 @@ Adds old new lines result =
 abbrev pub if_some : {X : Type 0} → (X → List (List ℕ)) → Option X → List (List ℕ)
 if_some lines (Some x) = lines x
 if_some lines None = []
+
+-- the lines for what a stream says, and none where it can't be read
+abbrev pub if_ok : {X : Type 0} → (X → List (List ℕ)) → Result X Error → List (List ℕ)
+if_ok lines (Ok x) = lines x
+if_ok lines (Err _) = []

@@ -13,8 +13,6 @@ use Rattle.minidump.specs.Below.Records.Descriptor.{handle}
 use Rattle.minidump.specs.Below.Records.Handles.{Handle}
 use Rattle.minidump.specs.Below.Records.Pairs.{pairs_of}
 use Rattle.crash.specs.declared.directory.StreamEntry.{StreamEntry}
-use Rattle.crash.specs.Contents.{ProcessStreamValues}
-use Rattle.crash.specs.Crash.{CrashValue}
 use Rattle.crash.specs.HandleKinds.{KindValue}
 use Rattle.crash.specs.Linux.{LimitValue, limits_in}
 use Rattle.crash.specs.Modules.{UnloadedModuleValue}
@@ -22,11 +20,8 @@ use Rattle.crash_text.specs.declared.limits.TextLimits.{TextLimits}
 use Rattle.crash_text.specs.Damage.{stream_text}
 use Rattle.crash_text.specs.Lines.{if_some}
 use Rattle.crash_text.specs.Modules.{all_modules, key_text}
-use Rattle.crash_text.specs.Words.{or_empty, where_some}
-
--- the line of the number of something
-unfoldable pub count_row : List ℕ → ℕ → List ℕ
-count_row what count = concat (what ∷ codes " " ∷ decimal count ∷ [])
+use Rattle.crash_text.specs.Page.{PageValue}
+use Rattle.crash_text.specs.Words.{count_row, or_empty, where_some}
 
 -- the number of items, and the lines of them if they are asked for
 abbrev pub list_lines : {X : Type 0} → Bool → List ℕ → (X → List ℕ) → List X → List (List ℕ)
@@ -35,36 +30,27 @@ list_lines is_asked what row items =
 
 -- ---- streams
 
--- the name of an error, where there is one
-abbrev pub error_text : Option Error → List ℕ
-error_text (Some error) = name_of_error error
-error_text None = []
-
--- words before the name of an error
-abbrev pub before_error : Option Error → List ℕ
-before_error (Some error) = codes ": "
-before_error None = []
+-- why a stream can't be read, where it can't
+abbrev pub error_words : Option Error → List ℕ
+error_words (Some error) = concat (codes ": " ∷ name_of_error error ∷ [])
+error_words None = []
 
 -- the line of a stream: its name, the number of its type, its bytes, and why it can't be read
-unfoldable pub entry_row : List ℕ → StreamEntry → List ℕ
-entry_row name e = concat (codes "    " ∷ name ∷ codes " (" ∷ hex e.number ∷ codes "), "
-    ∷ decimal e.size ∷ codes " bytes at " ∷ hex e.rva ∷ before_error e.error ∷ error_text e.error
-    ∷ [])
+unfoldable pub entry_row : StreamEntry → List ℕ → List ℕ → List ℕ
+entry_row e name error = concat (codes "    " ∷ name ∷ codes " (" ∷ hex e.number ∷ codes "), "
+    ∷ decimal e.size ∷ codes " bytes at " ∷ hex e.rva ∷ error ∷ [])
 
--- the same, by its number alone
+-- the same, by the stream alone
 abbrev pub entry_line : StreamEntry → List ℕ
-entry_line e = entry_row (stream_text e.number) e
+entry_line e = entry_row e (stream_text e.number) (error_words e.error)
 
 -- ---- unloaded modules
 
 -- the line of a module that was unloaded: its base address, its path, and the name and the
 -- identifier of its code file
-unfoldable pub unloaded_row : ℕ → List ℕ → List ℕ → List ℕ
-unloaded_row base path code = concat (codes "    " ∷ hex base ∷ codes " " ∷ path ∷ code ∷ [])
-
--- the same by the value
-abbrev pub unloaded_line : UnloadedModuleValue → List ℕ
-unloaded_line m = unloaded_row m.base m.path (key_text (codes ", code ") (Some m.file) m.code_id)
+unfoldable pub unloaded_line : UnloadedModuleValue → List ℕ
+unloaded_line m = concat (codes "    " ∷ hex m.base ∷ codes " " ∷ m.path
+    ∷ key_text (codes ", code ") (Some m.file) m.code_id ∷ [])
 
 -- the modules that were unloaded, where their list can be read
 abbrev pub unloaded_lines : TextLimits → List UnloadedModuleValue
@@ -76,13 +62,9 @@ unloaded_lines limits modules (Err _) = []
 -- ---- memory
 
 -- the line of a region of memory
-unfoldable pub region_row : ℕ → ℕ → List ℕ
-region_row base size = concat (codes "    " ∷ hex base ∷ codes ", " ∷ hex size ∷ codes " bytes"
-    ∷ [])
-
--- the same by the region
-abbrev pub region_line : UnifiedRegion → List ℕ
-region_line r = region_row r.base_address r.size
+unfoldable pub region_line : UnifiedRegion → List ℕ
+region_line r = concat (codes "    " ∷ hex r.base_address ∷ codes ", " ∷ hex r.size
+    ∷ codes " bytes" ∷ [])
 
 -- the regions of memory, where one of their lists can be read
 abbrev pub memory_lines : TextLimits → List UnifiedRegion → Option Error × Option Error
@@ -98,26 +80,19 @@ value_text (Some n) = hex n
 value_text None = codes "no value"
 
 -- the line of a handle: its value, the name of its type, and its own
-unfoldable pub handle_row : List ℕ → Option (List ℕ) → Option (List ℕ) → List ℕ
-handle_row value type_name name = concat (codes "    " ∷ value ∷ where_some (codes " ") type_name
-    ∷ or_empty type_name ∷ where_some (codes " \"") name ∷ or_empty name
-    ∷ where_some (codes "\"") name ∷ [])
-
--- the same by the handle
-abbrev pub handle_line : Handle → List ℕ
-handle_line h = handle_row (value_text (handle h.raw)) h.type_name h.object_name
+unfoldable pub handle_line : Handle → List ℕ
+handle_line h = concat (codes "    " ∷ value_text (handle h.raw)
+    ∷ where_some (codes " ") h.type_name ∷ or_empty h.type_name
+    ∷ where_some (codes " \"") h.object_name ∷ or_empty h.object_name
+    ∷ where_some (codes "\"") h.object_name ∷ [])
 
 -- all handles are asked for
 abbrev pub all_handles : TextLimits → Bool
 all_handles limits = limits.lists || limits.handles
 
 -- the line of a kind of handles: the name of their type, and how many there are
-unfoldable pub kind_row : List ℕ → ℕ → List ℕ
-kind_row type_name count = concat (codes "    " ∷ type_name ∷ codes " " ∷ decimal count ∷ [])
-
--- the same by the value
-abbrev pub kind_line : KindValue → List ℕ
-kind_line k = kind_row k.type_name k.count
+unfoldable pub kind_line : KindValue → List ℕ
+kind_line k = concat (codes "    " ∷ k.type_name ∷ codes " " ∷ decimal k.count ∷ [])
 
 -- the handles, where their list can be read: how many there are, each kind, and all of them if they
 -- are asked for
@@ -130,13 +105,9 @@ handles_lines limits kinds (Err _) = []
 -- ---- Linux's limits of the process
 
 -- the line of a limit: its name, the soft and the hard one, and what they count
-unfoldable pub limit_row : List ℕ → List ℕ → List ℕ → Option (List ℕ) → List ℕ
-limit_row name soft hard unit = concat (codes "    " ∷ name ∷ codes " soft " ∷ soft
-    ∷ codes " hard " ∷ hard ∷ where_some (codes " ") unit ∷ or_empty unit ∷ [])
-
--- the same by the value
-abbrev pub limit_line : LimitValue → List ℕ
-limit_line l = limit_row l.name l.soft l.hard l.unit
+unfoldable pub limit_line : LimitValue → List ℕ
+limit_line l = concat (codes "    " ∷ l.name ∷ codes " soft " ∷ l.soft ∷ codes " hard " ∷ l.hard
+    ∷ where_some (codes " ") l.unit ∷ or_empty l.unit ∷ [])
 
 -- the limits, where their stream can be read
 abbrev pub limits_lines : TextLimits → Result (List ℕ) Error → List (List ℕ)
@@ -162,17 +133,18 @@ environment_lines limits (Err _) = []
 
 -- ---- all of them
 
--- those of the process, by the kinds of its handles
-abbrev pub process_lists_lines : TextLimits → List KindValue → ProcessStreamValues
-    → List (List ℕ)
-process_lists_lines limits kinds p = handles_lines limits kinds p.handles
-    ++ (limits_lines limits p.limits ++ environment_lines limits p.environ)
+-- those of the process
+abbrev pub process_lists_lines : PageValue → List (List ℕ)
+process_lists_lines p =
+    handles_lines p.limits p.crash.process.handle_kinds p.crash.contents.process.handles
+    ++ (limits_lines p.limits p.crash.contents.process.limits
+    ++ environment_lines p.limits p.crash.contents.process.environ)
 
 -- the lists after the modules
-abbrev pub lists_lines : TextLimits → CrashValue → List (List ℕ)
-lists_lines limits c =
-    unloaded_lines limits c.modules.unloaded c.contents.space.unloaded
-    ++ (list_lines limits.lists (codes "streams") entry_line c.directory.entries
-    ++ (memory_lines limits (unified_regions c.contents.space.memory) c.contents.space.memory_errors
-    ++ (if_some (λ count. count_row (codes "maps") count ∷ []) c.contents.space.map_count
-    ++ process_lists_lines limits c.process.handle_kinds c.contents.process)))
+abbrev pub lists_lines : PageValue → List (List ℕ)
+lists_lines p = unloaded_lines p.limits p.crash.modules.unloaded p.crash.contents.space.unloaded
+    ++ (list_lines p.limits.lists (codes "streams") entry_line p.crash.directory.entries
+    ++ (memory_lines p.limits (unified_regions p.crash.contents.space.memory)
+    p.crash.contents.space.memory_errors
+    ++ (if_some (λ count. count_row (codes "maps") count ∷ []) p.crash.contents.space.map_count
+    ++ process_lists_lines p)))

@@ -1,10 +1,9 @@
 -- The lines of what the process itself said of the crash: an assertion, Crashpad's annotations,
 -- macOS's messages and Mozilla's soft errors.
-use Rattle.std.specs.Prelude.{ℕ, ◌++◌, ◌==◌, List, [], ◌∷◌, map, Option, Result, Ok, Err, codes}
+use Rattle.std.specs.Prelude.{ℕ, ◌++◌, ◌==◌, List, [], ◌∷◌, map, Option, codes}
 use Rattle.std.specs.Prelude.{if◌then◌else◌}
 use Rattle.std.specs.Fmt.{decimal}
 use Rattle.std.specs.List.{concat, flat_map}
-use Rattle.minidump.specs.declared.Error.{Error}
 use Rattle.minidump.specs.declared.format.MINIDUMP_ASSERTION_INFO.{MINIDUMP_ASSERTION_INFO}
 use Rattle.minidump.specs.Below.Records.Annotations.{Annotation}
 use Rattle.minidump.specs.Below.Records.Assertion.{text_or_empty}
@@ -12,7 +11,7 @@ use Rattle.minidump.specs.Below.Records.Crashpad.{Crashpad, Module}
 use Rattle.minidump.specs.Below.Records.CrashpadText.{annotation_text}
 use Rattle.minidump.specs.Below.Records.Record.{MacRecord, text_of}
 use Rattle.crash.specs.Contents.{MessageStreamValues}
-use Rattle.crash_text.specs.Lines.{if_some}
+use Rattle.crash_text.specs.Lines.{if_ok, if_some}
 use Rattle.crash_text.specs.Words.{unless_empty}
 
 -- the words for the kind of an assertion, of those that Breakpad has
@@ -23,16 +22,14 @@ kind_words kind = if kind == 1 then codes "(invalid parameter) "
 -- the line of an assertion: its kind and its expression, and the function, the file and the line
 -- that it stands in
 unfoldable pub assertion_row : ℕ → List ℕ → List ℕ → List ℕ → ℕ → List ℕ
-assertion_row kind expression function file number = concat (
-    codes "assertion " ∷ kind_words kind ∷ expression ∷ unless_empty (codes ", function ") function
-    ∷ function
+assertion_row kind expression function file number = concat (codes "assertion " ∷ kind_words kind
+    ∷ expression ∷ unless_empty (codes ", function ") function ∷ function
     ∷ unless_empty (codes ", file ") file ∷ file ∷ codes ", line " ∷ decimal number ∷ [])
 
--- the assertion of the dump
-abbrev pub assertion_lines : Result MINIDUMP_ASSERTION_INFO Error → List (List ℕ)
-assertion_lines (Ok a) = assertion_row a._type (text_or_empty a.expression)
-    (text_or_empty a.function) (text_or_empty a.file) a.line ∷ []
-assertion_lines (Err _) = []
+-- the same by its value
+abbrev pub assertion_line : MINIDUMP_ASSERTION_INFO → List ℕ
+assertion_line a = assertion_row a._type (text_or_empty a.expression) (text_or_empty a.function)
+    (text_or_empty a.file) a.line
 
 -- the line of an annotation without a name
 unfoldable pub text_row : List ℕ → List ℕ
@@ -52,18 +49,13 @@ module_lines m = map text_row m.list_annotations ++ (map annotation_row m.simple
     ++ map object_row m.annotation_objects)
 
 -- the annotations of the process, and then those of each module
-abbrev pub crashpad_lines : Result Crashpad Error → List (List ℕ)
-crashpad_lines (Ok c) = map annotation_row c.simple_annotations
-    ++ flat_map module_lines c.module_list
-crashpad_lines (Err _) = []
+abbrev pub crashpad_lines : Crashpad → List (List ℕ)
+crashpad_lines c = map annotation_row c.simple_annotations ++ flat_map module_lines c.module_list
 
--- the line of a text of a record of macOS's crash information
-unfoldable pub mac_row : List ℕ → List ℕ → List ℕ
-mac_row name text = concat (codes "macOS " ∷ name ∷ codes ": " ∷ text ∷ [])
-
--- the same, where the record has it
-abbrev pub mac_text_lines : List ℕ → Option (List ℕ) → List (List ℕ)
-mac_text_lines name text = if_some (λ t. mac_row name t ∷ []) text
+-- the line of a text of a record of macOS's crash information, where the record has it
+unfoldable pub mac_text_lines : List ℕ → Option (List ℕ) → List (List ℕ)
+mac_text_lines name text =
+    if_some (λ t. concat (codes "macOS " ∷ name ∷ codes ": " ∷ t ∷ []) ∷ []) text
 
 -- the texts of a record
 abbrev pub record_lines : MacRecord → List (List ℕ)
@@ -73,21 +65,12 @@ record_lines r = mac_text_lines (codes "module") (text_of (λ t. t.module_path) 
     ++ (mac_text_lines (codes "signature") (text_of (λ t. t.signature_string) r)
     ++ mac_text_lines (codes "backtrace") (text_of (λ t. t.backtrace) r))))
 
--- macOS's crash information
-abbrev pub mac_lines : Result (List MacRecord) Error → List (List ℕ)
-mac_lines (Ok records) = flat_map record_lines records
-mac_lines (Err _) = []
-
 -- the line of soft errors
 unfoldable pub soft_row : List ℕ → List ℕ
 soft_row text = concat (codes "soft errors " ∷ text ∷ [])
 
--- the same, where they are there
-abbrev pub soft_lines : Result (List ℕ) Error → List (List ℕ)
-soft_lines (Ok text) = soft_row text ∷ []
-soft_lines (Err _) = []
-
 -- all that the process said
 abbrev pub messages_lines : MessageStreamValues → List (List ℕ)
-messages_lines m = assertion_lines m.assertion ++ (crashpad_lines m.crashpad
-    ++ (mac_lines m.mac_crash_info ++ soft_lines m.soft_errors))
+messages_lines m = if_ok (λ a. assertion_line a ∷ []) m.assertion
+    ++ (if_ok crashpad_lines m.crashpad ++ (if_ok (flat_map record_lines) m.mac_crash_info
+    ++ if_ok (λ t. soft_row t ∷ []) m.soft_errors))

@@ -2,23 +2,22 @@
 -- addresses, with what a symbol server is asked by.
 use Rattle.std.specs.Prelude.{ℕ, ◌≡◌, ◌<◌, ◌==◌, ◌||◌, Bool, false, true, List, [], ◌∷◌, bytes_eq}
 use Rattle.std.specs.Prelude.{get_or, length, Option, Some, None, codes, if◌then◌else◌, slice_get}
-use Rattle.std.specs.Fmt.{decimal}
 use Rattle.std.specs.List.{concat, flat_map, list_any}
 use Rattle.std.specs.Option.{option_and_then}
 use Rattle.minidump.specs.declared.Error.{Error}
 use Rattle.minidump.specs.Below.Bytes.Piece.{hex}
 use Rattle.crash.specs.declared.addresses.AddressFacts.{AddressFacts}
 use Rattle.crash.specs.declared.frames.CrashFrame.{CrashFrame}
-use Rattle.crash.specs.Crash.{CrashValue}
-use Rattle.crash.specs.Modules.{LoadedValue, ModulesValue}
+use Rattle.crash.specs.Modules.{LoadedValue}
 use Rattle.crash_symbols.specs.declared.symbols.SymbolState.{SymbolState}
 use Rattle.crash_symbols.specs.declared.symbols.SymbolState.TheVariants.{Corrupt, Loaded, Missing}
 use Rattle.crash_symbols.specs.declared.symbols.SymbolState.TheVariants.{OutOfMemory, Unwanted}
 use Rattle.crash_symbols.specs.Shown.{SymbolizedValue}
 use Rattle.crash_symbols.specs.Symbols.{state_at}
 use Rattle.crash_text.specs.declared.limits.TextLimits.{TextLimits}
+use Rattle.crash_text.specs.Page.{PageValue}
 use Rattle.crash_text.specs.Threads.{frames_in}
-use Rattle.crash_text.specs.Words.{if_missing}
+use Rattle.crash_text.specs.Words.{count_row, if_missing}
 
 -- ---- a module
 
@@ -44,13 +43,6 @@ end_text true (Some end) = concat (codes "-" ∷ hex end ∷ [])
 end_text true None = []
 end_text false end = []
 
--- the line of a module: its base address, the words for its end, its path, its version, and what a
--- symbol server is asked by: the names and the identifiers of its debug file and of its code file;
--- and the words for its symbols
-unfoldable pub module_row : ℕ → List ℕ → List ℕ → List ℕ → List ℕ → List ℕ → List ℕ → List ℕ
-module_row base end path version debug code symbols = concat (codes "    " ∷ hex base ∷ end
-    ∷ codes " " ∷ path ∷ version ∷ debug ∷ code ∷ symbols ∷ [])
-
 -- the words for why a module has no symbols, where they were looked for
 abbrev pub state_text : SymbolState → List ℕ
 state_text Unwanted = []
@@ -64,12 +56,14 @@ abbrev pub symbols_text : Option SymbolizedValue → ℕ → List ℕ
 symbols_text (Some s) index = state_text (state_at s.states index)
 symbols_text None index = []
 
--- the line of a module by its value, with its end where all modules are asked for, and with the words
--- for its symbols
-abbrev pub module_line : Bool → LoadedValue → List ℕ → List ℕ
-module_line is_asked m symbols = module_row m.base (end_text is_asked m.end) m.path
-    (version_text m.version) (key_text (codes ", debug ") m.debug_file m.debug_id)
-    (key_text (codes ", code ") (Some m.file) m.code_id) symbols
+-- the line of a module: its base address, its end where all modules are asked for, its path, its
+-- version, and what a symbol server is asked by: the names and the identifiers of its debug file and
+-- of its code file; and the words for its symbols
+unfoldable pub module_line : Bool → LoadedValue → List ℕ → List ℕ
+module_line is_asked m symbols = concat (codes "    " ∷ hex m.base ∷ end_text is_asked m.end
+    ∷ codes " " ∷ m.path ∷ version_text m.version
+    ∷ key_text (codes ", debug ") m.debug_file m.debug_id
+    ∷ key_text (codes ", code ") (Some m.file) m.code_id ∷ symbols ∷ [])
 
 -- ---- those that other lines name
 
@@ -94,22 +88,18 @@ listed_lines limits named (Some m) symbols = if all_modules limits || named
 listed_lines limits named None symbols = []
 
 -- the same of the module of an index, by the indices of those that other lines name
-abbrev pub module_at : TextLimits → Option SymbolizedValue → (ℕ → Bool) → List LoadedValue → ℕ
-    → List (List ℕ)
-module_at limits symbols named modules index =
-    listed_lines limits (named index) (slice_get modules index) (symbols_text symbols index)
+abbrev pub module_at : PageValue → (ℕ → Bool) → ℕ → List (List ℕ)
+module_at p named index = listed_lines p.limits (named index)
+    (slice_get p.crash.modules.loaded index) (symbols_text p.symbols index)
 
 -- the modules of these indices that are listed
-abbrev pub each_module : TextLimits → Option SymbolizedValue → (ℕ → Bool) → List LoadedValue
-    → List ℕ → List (List ℕ)
-each_module limits symbols named modules indices =
-    flat_map (module_at limits symbols named modules) indices
+abbrev pub each_module : PageValue → (ℕ → Bool) → List ℕ → List (List ℕ)
+each_module p named indices = flat_map (module_at p named) indices
 
 -- the modules that are listed, by the address of the crash and by frames
-unfoldable pub named_modules : TextLimits → Option SymbolizedValue → Option AddressFacts
-    → List CrashFrame → ModulesValue → List (List ℕ)
-named_modules limits symbols address frames m =
-    each_module limits symbols (is_named address frames) m.loaded m.by_address
+unfoldable pub named_modules : PageValue → List CrashFrame → List (List ℕ)
+named_modules p frames =
+    each_module p (is_named p.crash.cause.address frames) p.crash.modules.by_address
 
 -- each of so many modules has a mark, that says whether one of these frames is in it
 pub record HasMarks (marks : List Bool) (count : ℕ) (frames : List CrashFrame) : Type 0 where
@@ -122,14 +112,8 @@ is_marked address marks index = is_in index (address_place address) || get_or ma
 
 -- ---- all of it
 
--- the line of the number of modules
-unfoldable pub count_row : ℕ → List ℕ
-count_row count = concat (codes "modules " ∷ decimal count ∷ [])
-
 -- the modules, or that their list is missing
-abbrev pub modules_lines : TextLimits → Option SymbolizedValue → CrashValue → Option Error
-    → List (List ℕ)
-modules_lines limits symbols c None = count_row (length c.modules.loaded)
-    ∷ named_modules limits symbols c.cause.address
-    (frames_in limits symbols c.threads.crashing c.threads.threads) c.modules
-modules_lines limits symbols c (Some error) = if_missing (codes "no modules") error
+abbrev pub modules_lines : PageValue → Option Error → List (List ℕ)
+modules_lines p None = count_row (codes "modules") (length p.crash.modules.loaded)
+    ∷ named_modules p (frames_in p p.crash.threads.threads)
+modules_lines p (Some error) = if_missing (codes "no modules") error

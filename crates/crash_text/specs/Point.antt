@@ -12,7 +12,7 @@ use Rattle.crash.specs.Modules.{LoadedValue}
 use Rattle.crash.specs.Point.{PointValue}
 use Rattle.crash_text.specs.Addresses.{address_line}
 use Rattle.crash_text.specs.Lines.{if_some}
-use Rattle.crash_text.specs.Places.{place_text}
+use Rattle.crash_text.specs.Words.{place_text}
 
 -- ---- the flags
 
@@ -82,14 +82,10 @@ code_lines address (b ∷ bs) = code_row address (b ∷ bs) ∷ []
 
 -- ---- the words
 
--- the line of a word, with the words for its module
-unfoldable pub word_row : ℕ → ℕ → List ℕ → List ℕ
-word_row address value place =
-    concat (codes "    " ∷ hex address ∷ codes " " ∷ hex value ∷ place ∷ [])
-
--- the same by the modules
-abbrev pub word_line : List LoadedValue → StackWord → List ℕ
-word_line modules w = word_row w.address w.value (place_text modules [] w.«module»)
+-- the line of a word by the modules
+unfoldable pub word_line : List LoadedValue → StackWord → List ℕ
+word_line modules w = concat (codes "    " ∷ hex w.address ∷ codes " " ∷ hex w.value
+    ∷ place_text modules [] w.«module» ∷ [])
 
 -- the heading of words, where there are any
 abbrev pub words_heading : List StackWord → List (List ℕ)
@@ -112,10 +108,6 @@ abbrev pub memory_lines : CrashValue → PointValue → List (List ℕ)
 memory_lines c p = instruction_lines c p.instruction
     ++ (code_lines p.instruction.address p.code ++ words_lines c.modules.loaded p.words)
 
--- where a thread stands
-abbrev pub known_point_lines : CrashValue → PointValue → List (List ℕ)
-known_point_lines c p = processor_lines c p ++ memory_lines c p
-
--- the same of the thread that crashed
+-- where the thread that crashed stands
 abbrev pub point_lines : CrashValue → List (List ℕ)
-point_lines c = if_some (known_point_lines c) c.point
+point_lines c = if_some (λ p. processor_lines c p ++ memory_lines c p) c.point

@@ -6,8 +6,8 @@ use Rattle.std.specs.List.{concat, flat_map}
 use Rattle.minidump.specs.Below.Bytes.Piece.{hex}
 use Rattle.crash.specs.declared.records.Access.{Access}
 use Rattle.crash.specs.declared.records.Access.TheVariants.{Execute, Read, Write}
-use Rattle.crash.specs.declared.records.Sender.{Sender}
 use Rattle.crash.specs.declared.records.SignalCode.{SignalCode}
+use Rattle.crash.specs.declared.records.Sender.{Sender}
 use Rattle.crash.specs.Cause.{ExceptionValue}
 use Rattle.crash.specs.Records.{signal_code_name}
 
@@ -51,11 +51,21 @@ parameters_words [] = []
 parameters_words (first ∷ others) = concat (codes ", parameters " ∷ hex first ∷ [])
     ++ flat_map parameter_words others
 
+-- all of it, with these flags and parameters
+abbrev pub record_words : ExceptionValue → ℕ → List ℕ → List ℕ
+record_words e flags parameters = unless_zero (codes ", flags ") flags
+    ++ (unless_zero (codes ", nested record at ") e.nested
+    ++ (access_words e.access ++ (sender_words e.sender ++ parameters_words parameters)))
+
+-- LLDB's description of an exception is written over its parameters, by a mark in its flags: neither
+-- is printed as numbers then
+abbrev pub words_beside : Option (List ℕ) → ExceptionValue → List ℕ
+words_beside (Some _) e = record_words e 0 []
+words_beside None e = record_words e e.flags e.parameters
+
 -- all of it
 abbrev pub record_text : ExceptionValue → List ℕ
-record_text e = unless_zero (codes ", flags ") e.flags
-    ++ (unless_zero (codes ", nested record at ") e.nested
-    ++ (access_words e.access ++ (sender_words e.sender ++ parameters_words e.parameters)))
+record_text e = words_beside e.description e
 
 -- LLDB's description of an exception, if there is one
 abbrev pub description_words : Option (List ℕ) → List ℕ

@@ -1,6 +1,6 @@
 -- The lines of the registers of a crash.
 use Rattle.std.specs.Prelude.{ℕ, ◌++◌, ◌==◌, List, [], ◌∷◌, map, min, Option, Some}
-use Rattle.std.specs.Prelude.{None, codes, if◌then◌else◌, slice_get}
+use Rattle.std.specs.Prelude.{None, codes, if◌then◌else◌}
 use Rattle.std.specs.Fmt.{decimal}
 use Rattle.std.specs.List.{concat, flat_map}
 use Rattle.std.specs.Option.{option_and_then}
@@ -14,6 +14,7 @@ use Rattle.crash.specs.declared.contexts.ShortContext.{ShortContext}
 use Rattle.crash.specs.Cause.{ExceptionValue}
 use Rattle.crash.specs.Contexts.{ContextValue}
 use Rattle.crash.specs.Crash.{CrashValue}
+use Rattle.crash.specs.Threads.{crashed_thread}
 
 -- the words for a register of so many bytes, of at most 8: its name in three columns, and its value
 abbrev pub register_words : ℕ → List ℕ × ℕ → List ℕ
@@ -30,10 +31,6 @@ rows (a ∷ b ∷ c ∷ d ∷ rest) = (a ∷ b ∷ c ∷ d ∷ []) ∷ rows rest
 rows [] = []
 rows few = few ∷ []
 
--- all registers of a context
-abbrev pub context_lines : ContextValue → List (List ℕ)
-context_lines c = map (register_row c.size) (rows c.registers)
-
 -- how much there is of a context that is cut, after other words
 unfoldable pub short_row : List ℕ → List ℕ → ShortContext → List ℕ
 short_row first second s = concat (first ∷ second ∷ codes "context of " ∷ decimal s.size
@@ -49,26 +46,21 @@ abbrev pub heading_row : ContextOrigin → Option ShortContext → List ℕ
 heading_row origin None = heading_of origin
 heading_row origin (Some s) = short_row (heading_of origin) (codes ", from a ") s
 
--- the line of an exception's context that is no context of the processor, which has so many bytes
-unfoldable pub unusable_row : ℕ → List ℕ
-unusable_row size = concat (codes "the context of the exception can't be read, " ∷ decimal size
-    ∷ codes " bytes" ∷ [])
-
--- why the context of an exception isn't used. One that is outside the file is damage, and no bytes
--- are no context at all
-abbrev pub unused_lines : Option ContextProblem → List (List ℕ)
-unused_lines (Some (NotAccepted size)) = if size == 0 then [] else unusable_row size ∷ []
+-- why the context of an exception isn't used: it is no context of the processor, and has so many
+-- bytes. One that is outside the file is damage, and no bytes are no context at all
+unfoldable pub unused_lines : Option ContextProblem → List (List ℕ)
+unused_lines (Some (NotAccepted size)) = if size == 0 then [] else concat (
+    codes "the context of the exception can't be read, " ∷ decimal size ∷ codes " bytes" ∷ []) ∷ []
 unused_lines _ = []
 
 -- the registers of the thread that crashed, where there are some
 abbrev pub known_lines : Option ContextValue → List (List ℕ)
-known_lines (Some c) = heading_row c.origin c.short ∷ context_lines c
+known_lines (Some c) = heading_row c.origin c.short ∷ map (register_row c.size) (rows c.registers)
 known_lines None = codes "no registers that can be read" ∷ []
 
 -- the context of the thread that crashed
 abbrev pub crashed_context : CrashValue → Option ContextValue
-crashed_context c = option_and_then (λ t. t.context)
-    (option_and_then (slice_get c.threads.threads) c.threads.crashing)
+crashed_context c = option_and_then (λ t. t.1.context) (crashed_thread c.threads)
 
 -- lines that need the system
 abbrev if_system : {S : Type 0} → Option S → List (List ℕ) → List (List ℕ)

@@ -10,8 +10,9 @@ use Rattle.crash_text.specs.Lines.{line_of}
 use Rattle.crash_text.specs.Lists.{lists_lines}
 use Rattle.crash_text.specs.Messages.{messages_lines}
 use Rattle.crash_text.specs.Modules.{modules_lines}
+use Rattle.crash_text.specs.Page.{PageValue}
 use Rattle.crash_text.specs.System.{head_lines}
-use Rattle.crash_text.specs.Threads.{crashed_lines, others_lines}
+use Rattle.crash_text.specs.Threads.{crashed_lines, each_other}
 
 -- that nothing crashed, the system, the process and the crash
 abbrev pub first_lines : CrashValue → List (List ℕ)
@@ -19,20 +20,16 @@ first_lines c = none_lines c.cause.exceptions
     ++ (head_lines c ++ (crash_lines c ++ damage_lines c))
 
 -- the thread that crashed, what the process said, and the other threads
-abbrev pub threads_lines : TextLimits → Option SymbolizedValue → CrashValue → List (List ℕ)
-threads_lines limits symbols c = crashed_lines limits symbols c
-    ++ (messages_lines c.contents.messages ++ others_lines limits symbols c)
+abbrev pub threads_lines : PageValue → List (List ℕ)
+threads_lines p = crashed_lines p
+    ++ (messages_lines p.crash.contents.messages ++ each_other p p.crash.threads.threads)
 
--- the modules and the other lists
-abbrev pub last_lines : TextLimits → Option SymbolizedValue → CrashValue → List (List ℕ)
-last_lines limits symbols c =
-    modules_lines limits symbols c c.contents.space.modules_error ++ lists_lines limits c
+-- the lines of a crash, in their order
+abbrev pub lines_of : PageValue → List (List ℕ)
+lines_of p = first_lines p.crash ++ (threads_lines p
+    ++ (modules_lines p p.crash.contents.space.modules_error ++ lists_lines p))
 
--- the lines of a crash, in their order, with symbols where they are known
-abbrev pub lines_of : TextLimits → Option SymbolizedValue → CrashValue → List (List ℕ)
-lines_of limits symbols c =
-    first_lines c ++ (threads_lines limits symbols c ++ last_lines limits symbols c)
-
--- the text of a crash: its lines, each as it is printed
+-- the text of a crash: its lines, each as it is printed, with symbols where they are known
 abbrev pub text_of : TextLimits → Option SymbolizedValue → CrashValue → List ℕ
-text_of limits symbols c = flat_map line_of (lines_of limits symbols c)
+text_of limits symbols c =
+    flat_map line_of (lines_of (record { crash = c; limits = limits; symbols = symbols }))

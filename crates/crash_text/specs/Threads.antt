@@ -1,9 +1,8 @@
 -- The lines of threads.
 use Rattle.std.specs.Prelude.{ℕ, ◌++◌, ◌==◌, ◌&&◌, ◌||◌, Bool, false, true, List, [], ◌∷◌, Option}
-use Rattle.std.specs.Prelude.{Some, None, codes, if◌then◌else◌, is_none, map, slice_get}
+use Rattle.std.specs.Prelude.{Some, None, codes, if◌then◌else◌, is_none, map}
 use Rattle.std.specs.Fmt.{decimal}
 use Rattle.std.specs.List.{concat, enumerate_from, flat_map}
-use Rattle.std.specs.Option.{option_and_then, option_map}
 use Rattle.minidump.specs.Below.Bytes.Piece.{hex}
 use Rattle.crash.specs.declared.contexts.ContextProblem.{ContextProblem}
 use Rattle.crash.specs.declared.contexts.ContextProblem.TheVariants.{Outside}
@@ -12,12 +11,13 @@ use Rattle.crash.specs.declared.stacks.StackRange.{StackRange}
 use Rattle.crash.specs.Contexts.{ContextValue}
 use Rattle.crash.specs.Crash.{CrashValue}
 use Rattle.crash.specs.Process.{SystemValue}
-use Rattle.crash.specs.Threads.{ThreadValue}
+use Rattle.crash.specs.Threads.{ThreadValue, crashed_thread}
 use Rattle.crash_symbols.specs.Backtraces.{BacktraceValue}
-use Rattle.crash_symbols.specs.Shown.{SymbolizedValue, shown_in}
+use Rattle.crash_symbols.specs.Shown.{shown_in}
 use Rattle.crash_text.specs.declared.limits.TextLimits.{TextLimits}
 use Rattle.crash_text.specs.Frames.{printed_frames, walk_lines}
 use Rattle.crash_text.specs.Lines.{if_some}
+use Rattle.crash_text.specs.Page.{PageValue}
 use Rattle.crash_text.specs.Registers.{short_row}
 use Rattle.crash_text.specs.Words.{missing_lines, or_empty, text_lines, where_some}
 
@@ -57,30 +57,27 @@ abbrev pub stack_lines : ThreadValue → List (List ℕ)
 stack_lines t = if_some (λ range. range_row (codes "stack") range ∷ []) t.stack
     ++ if_some (memory_lines t.stack) t.stack_memory
 
--- why a thread's own context isn't used
-abbrev pub problem_row : Option ContextProblem → List ℕ
-problem_row (Some Outside) = codes "    its context is outside the file"
-problem_row _ = codes "    no context that can be read"
-
 -- why a thread has no frames
 abbrev pub no_walk_row : Option SystemValue → Option ContextProblem → List ℕ
-no_walk_row (Some _) problem = problem_row problem
+no_walk_row (Some _) (Some Outside) = codes "    its context is outside the file"
+no_walk_row (Some _) _ = codes "    no context that can be read"
 no_walk_row None problem = codes "    no frames without system information"
 
 -- what is found in the stack of a thread, or why nothing is
-abbrev pub found_lines : TextLimits → CrashValue → Bool → ThreadValue → Option BacktraceValue
-    → List (List ℕ)
-found_lines limits c is_whole t (Some w) = walk_lines limits c.modules.loaded is_whole w
-found_lines limits c is_whole t None = no_walk_row c.process.system t.context_problem ∷ []
+abbrev pub found_lines : PageValue → Bool → ThreadValue → Option BacktraceValue → List (List ℕ)
+found_lines p is_whole t (Some w) = walk_lines p is_whole w
+found_lines p is_whole t None = no_walk_row p.crash.process.system t.context_problem ∷ []
 
 -- a thread by its index: also its stack, and the end of its walk, if all of its frames are asked for
-abbrev pub thread_lines : TextLimits → Option SymbolizedValue → CrashValue → Bool → ℕ → ThreadValue
-    → List (List ℕ)
-thread_lines limits symbols c is_whole number t = thread_row t.id t.name (remark t.is_listed)
+abbrev pub walked_lines : PageValue → Bool → ThreadValue → Option BacktraceValue → List (List ℕ)
+walked_lines p is_whole t walk = thread_row t.id t.name (remark t.is_listed)
     ∷ (text_lines (codes "    last error ") t.last_error
     ++ (if_some short_lines t.context
-    ++ ((if is_whole then stack_lines t else [])
-    ++ found_lines limits c is_whole t (shown_in symbols number t))))
+    ++ ((if is_whole then stack_lines t else []) ++ found_lines p is_whole t walk)))
+
+-- the same by its index
+abbrev pub thread_lines : PageValue → Bool → ℕ → ThreadValue → List (List ℕ)
+thread_lines p is_whole number t = walked_lines p is_whole t (shown_in p.symbols number t)
 
 -- ---- threads
 
@@ -89,42 +86,23 @@ abbrev pub is_index : Option ℕ → ℕ → Bool
 is_index (Some index) number = index == number
 is_index None number = false
 
--- the thread that crashed, with its index
-abbrev pub crashed_thread : CrashValue → Option (ℕ × ThreadValue)
-crashed_thread c = option_and_then
-    (λ number. option_map (λ t. (number, t)) (slice_get c.threads.threads number))
-    c.threads.crashing
-
--- the lines of the thread that crashed, by its index
-abbrev pub indexed_lines : TextLimits → Option SymbolizedValue → CrashValue → ℕ × ThreadValue
-    → List (List ℕ)
-indexed_lines limits symbols c p = thread_lines limits symbols c true p.0 p.1
-
--- the same, or that there are no threads
-abbrev pub crashed_lines : TextLimits → Option SymbolizedValue → CrashValue → List (List ℕ)
-crashed_lines limits symbols c =
-    missing_lines (codes "no threads") c.contents.threads.threads
-    ++ if_some (indexed_lines limits symbols c) (crashed_thread c)
+-- the lines of the thread that crashed, or that there are no threads
+abbrev pub crashed_lines : PageValue → List (List ℕ)
+crashed_lines p = missing_lines (codes "no threads") p.crash.contents.threads.threads
+    ++ if_some (λ t. thread_lines p true t.0 t.1) (crashed_thread p.crash.threads)
 
 -- whether all frames of each thread are printed: where they are asked for, or none crashed
 abbrev pub shows_all : TextLimits → Option ℕ → Bool
 shows_all limits crashing = limits.all_threads || is_none crashing
 
 -- a thread of an index, if it isn't the one that crashed
-abbrev pub other_lines : TextLimits → Option SymbolizedValue → CrashValue → ℕ → ThreadValue
-    → List (List ℕ)
-other_lines limits symbols c number t = if is_index c.threads.crashing number then []
-    else thread_lines limits symbols c (shows_all limits c.threads.crashing) number t
+abbrev pub other_lines : PageValue → ℕ → ThreadValue → List (List ℕ)
+other_lines p number t = if is_index p.crash.threads.crashing number then []
+    else thread_lines p (shows_all p.limits p.crash.threads.crashing) number t
 
 -- those of threads that didn't crash
-abbrev pub each_other : TextLimits → Option SymbolizedValue → CrashValue → List ThreadValue
-    → List (List ℕ)
-each_other limits symbols c threads =
-    flat_map (λ p. other_lines limits symbols c p.0 p.1) (enumerate_from 0 threads)
-
--- the other threads
-abbrev pub others_lines : TextLimits → Option SymbolizedValue → CrashValue → List (List ℕ)
-others_lines limits symbols c = each_other limits symbols c c.threads.threads
+abbrev pub each_other : PageValue → List ThreadValue → List (List ℕ)
+each_other p threads = flat_map (λ t. other_lines p t.0 t.1) (enumerate_from 0 threads)
 
 -- ---- all frames that are printed
 
@@ -134,13 +112,11 @@ frames_of limits is_whole (Some w) = map (λ f. f.frame) (printed_frames limits 
 frames_of limits is_whole None = []
 
 -- those of a thread with an index
-abbrev pub frames_at : TextLimits → Option SymbolizedValue → Option ℕ → ℕ → ThreadValue
-    → List CrashFrame
-frames_at limits symbols crashing number t = frames_of limits
-    (is_index crashing number || shows_all limits crashing) (shown_in symbols number t)
+abbrev pub frames_at : PageValue → ℕ → ThreadValue → List CrashFrame
+frames_at p number t = frames_of p.limits
+    (is_index p.crash.threads.crashing number || shows_all p.limits p.crash.threads.crashing)
+    (shown_in p.symbols number t)
 
 -- those of all threads
-abbrev pub frames_in : TextLimits → Option SymbolizedValue → Option ℕ → List ThreadValue
-    → List CrashFrame
-frames_in limits symbols crashing threads =
-    flat_map (λ p. frames_at limits symbols crashing p.0 p.1) (enumerate_from 0 threads)
+abbrev pub frames_in : PageValue → List ThreadValue → List CrashFrame
+frames_in p threads = flat_map (λ t. frames_at p t.0 t.1) (enumerate_from 0 threads)

@@ -1,9 +1,12 @@
 -- Words of lines.
-use Rattle.std.specs.Prelude.{ℕ, List, [], ◌∷◌, Option, Some, None, Result, Ok, Err}
+use Rattle.std.specs.Prelude.{ℕ, List, [], ◌∷◌, Option, Some, None, Result, Ok, Err, codes, slice_get}
 use Rattle.std.specs.Prelude.{if◌then◌else◌, unwrap_or}
+use Rattle.std.specs.Fmt.{decimal}
 use Rattle.std.specs.List.{concat}
 use Rattle.minidump.specs.declared.Error.{Error}
+use Rattle.minidump.specs.Below.Bytes.Piece.{hex}
 use Rattle.crash.specs.Missing.{is_missing}
+use Rattle.crash.specs.Modules.{LoadedValue}
 use Rattle.crash_text.specs.Lines.{if_some}
 
 -- a text, or an empty one where there is none
@@ -28,6 +31,10 @@ text_row words text = concat (words ∷ text ∷ [])
 abbrev pub text_lines : List ℕ → Option (List ℕ) → List (List ℕ)
 text_lines words text = if_some (λ text. text_row words text ∷ []) text
 
+-- the line of the number of something
+unfoldable pub count_row : List ℕ → ℕ → List ℕ
+count_row what count = concat (what ∷ codes " " ∷ decimal count ∷ [])
+
 -- the line of an error if the error says that something is missing
 abbrev pub if_missing : List ℕ → Error → List (List ℕ)
 if_missing words e = if is_missing e then words ∷ [] else []
@@ -36,3 +43,15 @@ if_missing words e = if is_missing e then words ∷ [] else []
 abbrev pub missing_lines : {V : Type 0} → List ℕ → Result V Error → List (List ℕ)
 missing_lines words (Ok _) = []
 missing_lines words (Err e) = if_missing words e
+
+-- the words for an offset in a module
+abbrev pub in_module : ℕ → List ℕ → Option LoadedValue → List ℕ
+in_module offset nowhere (Some m) = concat (codes " in " ∷ m.path ∷ codes "+" ∷ hex offset ∷ [])
+in_module offset nowhere None = nowhere
+
+-- the words for a place, by the index of a module and the offset in it, or these words where there
+-- is none
+abbrev pub place_text : List LoadedValue → List ℕ → Option (ℕ × ℕ) → List ℕ
+place_text modules nowhere (Some place) =
+    in_module place.1 nowhere (slice_get modules place.0)
+place_text modules nowhere None = nowhere

@@ -4,21 +4,21 @@ ghost use Rattle.std.specs.Option.{option_and_then, option_copied, option_map};
 ghost use Rattle.crash.specs.Crash.{crash_of};
 ghost use Rattle.crash.specs.Modules.{unloaded_module_of};
 ghost use Rattle.crash.specs.Threads.{thread_value};
-ghost use Rattle.crash_text.specs.Addresses.{address_line, address_lines, address_row};
-ghost use Rattle.crash_text.specs.Addresses.{address_words, canonical_words, guard_words};
-ghost use Rattle.crash_text.specs.Addresses.{memory_words, null_words, path_words, right_letter};
-ghost use Rattle.crash_text.specs.Addresses.{rights_words, thread_words, unloaded_words};
+ghost use Rattle.crash_text.specs.Addresses.{address_line, address_lines, address_words};
+ghost use Rattle.crash_text.specs.Addresses.{canonical_words, guard_words, memory_words};
+ghost use Rattle.crash_text.specs.Addresses.{null_words, path_words, right_letter, rights_words};
+ghost use Rattle.crash_text.specs.Addresses.{thread_words, unloaded_words};
 ghost use Rattle.crash_text.specs.Lines.{Adds, if_some};
 
-use crate::lines::push_line;
-use crate::places::place_text;
+use crate::lines::{Added, push_line};
+use crate::words::place_text;
 use crash::{AddressFacts, AddressMemory, Crash, CrashThread, RegionState, UnloadedModule};
 use minidump::text::Piece::{Decimal, Hex, Words};
 use minidump::text::push_pieces;
 use std::alloc::{AllocError, Global};
 
 // Appends the line of the address of the crash, if it is known.
-pub(crate) fn push_address(out: &mut String, crash: &Crash<'_>) -> Result<(), AllocError>
+pub(crate) fn push_address(out: &mut String, crash: &Crash<'_>) -> Added
     ensures { Adds out.old out.new (if_some (address_lines (crash_of crash.now))
         (crash_of crash.now).cause.address) result }
 {
@@ -30,42 +30,26 @@ pub(crate) fn push_address(out: &mut String, crash: &Crash<'_>) -> Result<(), Al
 
 // Appends the line of an address after its name, with `nowhere` if no module has it.
 #[rattlefmt::skip]
-pub(crate) fn push_address_line(
+#[tactic(auto, unfolding(crate::specs::Addresses::address_line))]
+pub(crate) fn push_address_line<'t>(
     out: &mut String,
     crash: &Crash<'_>,
-    indent: &str,
-    name: &str,
-    nowhere: &str,
+    indent: &'t str,
+    name: &'t str,
+    nowhere: &'t str,
     facts: &AddressFacts,
-) -> Result<(), AllocError>
+) -> Added
     ensures { Adds out.old out.new (address_line (crash_of crash.now) indent.now name.now
         nowhere.now facts.now ∷ []) result }
 {
     let alloc = *out.allocator();
-    let modules = crash.modules.loaded.as_slice();
-    let place = place_text(alloc, modules, nowhere, facts.module)?;
+    let place = place_text(alloc, crash.modules.loaded.as_slice(), nowhere, facts.module)?;
     let (unloaded, threads) = (&crash.modules.unloaded, &crash.threads.threads);
     let words = address_words(alloc, unloaded.as_slice(), threads.as_slice(), facts)?;
-    push_row(out, indent, name, facts.address, place.as_str(), words.as_str())
-}
-
-#[rattlefmt::skip]
-#[tactic(auto, unfolding(crate::specs::Addresses::address_row))]
-fn push_row<'t>(
-    out: &mut String,
-    indent: &'t str,
-    name: &'t str,
-    address: u64,
-    place: &'t str,
-    words: &'t str,
-) -> Result<(), AllocError>
-    ensures { Adds out.old out.new
-        (address_row indent.now name.now address place.now words.now ∷ []) result }
-{
-    push_line(
-        out,
-        &[Words(indent), Words(name), Words(" "), Hex(address), Words(place), Words(words)],
-    )
+    push_line(out, &[
+        Words(indent), Words(name), Words(" "), Hex(facts.address), Words(place.as_str()),
+        Words(words.as_str()),
+    ])
 }
 
 // Makes the words for what is known of an address.
@@ -75,9 +59,8 @@ fn address_words(
     threads: &[CrashThread],
     facts: &AddressFacts,
 ) -> Result<String, AllocError>
-    ensures { IfOk result (λ words. string_bytes words
-        ≡ address_words (map unloaded_module_of unloaded.now) (map thread_value threads.now)
-        facts.now) }
+    ensures { IfOk result (λ words. string_bytes words ≡ address_words (map unloaded_module_of
+        unloaded.now) (map thread_value threads.now) facts.now) }
 {
     let mut words = String::new(alloc);
     push_null(&mut words, facts.null_offset)?;
@@ -98,7 +81,7 @@ fn address_words(
 }
 
 // Appends how far an address is from 0, if it is near.
-fn push_null(words: &mut String, offset: Option<u64>) -> Result<(), AllocError>
+fn push_null(words: &mut String, offset: Option<u64>) -> Added
     ensures { OnOk result (string_bytes words.new ≡ string_bytes words.old ++ null_words offset) }
 {
     match offset {
@@ -122,8 +105,8 @@ fn unloaded_at(modules: &[UnloadedModule], index: Option<usize>) -> Option<&Unlo
     modules.get(index?)
 }
 
-// Appends an unloaded module.
-fn push_unloaded(words: &mut String, module: Option<&UnloadedModule>) -> Result<(), AllocError>
+// Appends an unloaded module by its path.
+fn push_unloaded(words: &mut String, module: Option<&UnloadedModule>) -> Added
     ensures { OnOk result (string_bytes words.new ≡ string_bytes words.old
         ++ unloaded_words (option_map unloaded_module_of (option_copied module.entry))) }
 {
@@ -134,7 +117,7 @@ fn push_unloaded(words: &mut String, module: Option<&UnloadedModule>) -> Result<
 }
 
 // Appends the path of an unloaded module.
-fn push_path(words: &mut String, path: &str) -> Result<(), AllocError>
+fn push_path(words: &mut String, path: &str) -> Added
     ensures { OnOk result (string_bytes words.new ≡ string_bytes words.old ++ path_words path.now) }
 {
     push_pieces(words, &[Words(", in unloaded "), Words(path)])
@@ -150,11 +133,7 @@ fn thread_at(threads: &[CrashThread], index: Option<usize>) -> Option<&CrashThre
 
 // Appends a thread after its words.
 #[rattlefmt::skip]
-fn push_thread(
-    words: &mut String,
-    name: &str,
-    thread: Option<&CrashThread>,
-) -> Result<(), AllocError>
+fn push_thread(words: &mut String, name: &str, thread: Option<&CrashThread>) -> Added
     ensures { OnOk result (string_bytes words.new ≡ string_bytes words.old
         ++ thread_words name.now (option_map thread_value (option_copied thread.entry))) }
 {
@@ -168,7 +147,7 @@ fn push_thread(
 }
 
 // Appends the memory that contains an address.
-fn push_memory(words: &mut String, memory: Option<AddressMemory>) -> Result<(), AllocError>
+fn push_memory(words: &mut String, memory: Option<AddressMemory>) -> Added
     ensures { OnOk result (string_bytes words.new ≡ string_bytes words.old ++ memory_words memory) }
 {
     match memory {
@@ -183,16 +162,14 @@ fn push_memory(words: &mut String, memory: Option<AddressMemory>) -> Result<(), 
 
 // Appends the rights of memory.
 #[rattlefmt::skip]
-fn push_rights(words: &mut String, memory: AddressMemory) -> Result<(), AllocError>
+fn push_rights(words: &mut String, memory: AddressMemory) -> Added
     ensures { OnOk result (string_bytes words.new ≡ string_bytes words.old ++ rights_words memory) }
 {
-    push_pieces(
-        words,
-        &[Words(", memory "), Words(right_letter("r", memory.is_readable)),
-            Words(right_letter("w", memory.is_writable)),
-            Words(right_letter("x", memory.is_executable)),
-            Words(guard_words(memory.is_guarded))],
-    )
+    push_pieces(words, &[
+        Words(", memory "), Words(right_letter("r", memory.is_readable)),
+        Words(right_letter("w", memory.is_writable)),
+        Words(right_letter("x", memory.is_executable)), Words(guard_words(memory.is_guarded)),
+    ])
 }
 
 // Returns the letter of a right, or a dash.

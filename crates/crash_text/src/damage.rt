@@ -1,11 +1,11 @@
-ghost use Rattle.std.specs.Prelude.{◌≡◌, [], ◌∷◌, IfOk, None, map, string_bytes};
+ghost use Rattle.std.specs.Prelude.{◌≡◌, [], ◌∷◌, IfOk, map, string_bytes};
 ghost use Rattle.crash.specs.Crash.{crash_of};
-ghost use Rattle.crash_text.specs.Damage.{damage_lines, damage_row, entries_lines, name_of_type};
+ghost use Rattle.crash_text.specs.Damage.{damage_lines, damage_row, entries_lines};
 ghost use Rattle.crash_text.specs.Damage.{outside_row, part_words, stream_row, stream_text};
-ghost use Rattle.crash_text.specs.Damage.{unreadable_line, unreadable_row};
+ghost use Rattle.crash_text.specs.Damage.{unreadable_line};
 ghost use Rattle.crash_text.specs.Lines.{Adds};
 
-use crate::lines::push_line;
+use crate::lines::{Added, push_line};
 use crash::{Crash, Damage, ModulePart, UnreadableModule};
 use minidump::format::MINIDUMP_STREAM_TYPE;
 use minidump::text::Piece::{Decimal, Hex, Words};
@@ -13,7 +13,7 @@ use minidump::text::format_pieces;
 use std::alloc::{AllocError, Global};
 
 // Appends the lines of what is there and can't be read.
-pub(crate) fn push_damage(out: &mut String, crash: &Crash<'_>) -> Result<(), AllocError>
+pub(crate) fn push_damage(out: &mut String, crash: &Crash<'_>) -> Added
     ensures { Adds out.old out.new (damage_lines (crash_of crash.now)) result }
 {
     push_each(out, crash.damage.as_slice())?;
@@ -22,7 +22,7 @@ pub(crate) fn push_damage(out: &mut String, crash: &Crash<'_>) -> Result<(), All
 }
 
 // Appends the line of each of them.
-fn push_each(out: &mut String, damage: &[Damage]) -> Result<(), AllocError>
+fn push_each(out: &mut String, damage: &[Damage]) -> Added
     ensures { Adds out.old out.new (map damage_row damage.now) result }
 {
     for item in damage {
@@ -32,7 +32,7 @@ fn push_each(out: &mut String, damage: &[Damage]) -> Result<(), AllocError>
 }
 
 // Appends the line of something that can't be read.
-fn push_item(out: &mut String, damage: &Damage) -> Result<(), AllocError>
+fn push_item(out: &mut String, damage: &Damage) -> Added
     ensures { Adds out.old out.new (damage_row damage.now ∷ []) result }
 {
     match *damage {
@@ -55,7 +55,7 @@ fn push_item(out: &mut String, damage: &Damage) -> Result<(), AllocError>
 
 #[rattlefmt::skip]
 #[tactic(auto, unfolding(crate::specs::Damage::stream_row))]
-fn push_stream<'t>(out: &mut String, stream: &'t str, error: &'t str) -> Result<(), AllocError>
+fn push_stream<'t>(out: &mut String, stream: &'t str, error: &'t str) -> Added
     ensures { Adds out.old out.new (stream_row stream.now error.now ∷ []) result }
 {
     push_line(out, &[Words("can't be read: "), Words(stream), Words(": "), Words(error)])
@@ -63,22 +63,21 @@ fn push_stream<'t>(out: &mut String, stream: &'t str, error: &'t str) -> Result<
 
 #[rattlefmt::skip]
 #[tactic(auto, unfolding(crate::specs::Damage::outside_row))]
-fn push_outside(out: &mut String, what: &str, thread: u32) -> Result<(), AllocError>
+fn push_outside(out: &mut String, what: &str, thread: u32) -> Added
     ensures { Adds out.old out.new (outside_row what.now thread ∷ []) result }
 {
-    push_line(
-        out,
-        &[Words("outside the file: "), Words(what), Words(" "), Decimal(thread as u64), Words(" ("),
-            Hex(thread as u64), Words(")")],
-    )
+    push_line(out, &[
+        Words("outside the file: "), Words(what), Words(" "), Decimal(thread as u64), Words(" ("),
+        Hex(thread as u64), Words(")"),
+    ])
 }
 
 // Appends the line of each module of which a part can't be read.
-fn push_each_module(out: &mut String, modules: &[UnreadableModule]) -> Result<(), AllocError>
+fn push_each_module(out: &mut String, modules: &[UnreadableModule]) -> Added
     ensures { Adds out.old out.new (map unreadable_line modules.now) result }
 {
     for module in modules {
-        push_module(out, part_words(module.part), module)?;
+        push_module(out, module)?;
     }
     Ok(())
 }
@@ -94,15 +93,14 @@ fn part_words(part: ModulePart) -> &'static str
 }
 
 #[rattlefmt::skip]
-#[tactic(auto, unfolding(crate::specs::Damage::unreadable_row))]
-fn push_module(out: &mut String, part: &str, found: &UnreadableModule) -> Result<(), AllocError>
-    ensures { Adds out.old out.new (unreadable_row part.now found.now ∷ []) result }
+#[tactic(auto, unfolding(crate::specs::Damage::unreadable_line))]
+fn push_module(out: &mut String, found: &UnreadableModule) -> Added
+    ensures { Adds out.old out.new (unreadable_line found.now ∷ []) result }
 {
-    push_line(
-        out,
-        &[Words("can't be read: "), Words(part), Decimal(found.index as u64), Words(" at "),
-            Hex(found.base), Words(", "), Hex(found.size as u64), Words(" bytes")],
-    )
+    push_line(out, &[
+        Words("can't be read: "), Words(part_words(found.part)), Decimal(found.index as u64),
+        Words(" at "), Hex(found.base), Words(", "), Hex(found.size as u64), Words(" bytes"),
+    ])
 }
 
 // Makes the words for the stream of a type: its name, or its number if it has none.
@@ -111,30 +109,18 @@ pub(crate) fn stream_text(alloc: Global, number: u32) -> Result<String, AllocErr
 {
     match MINIDUMP_STREAM_TYPE::from_u32(number) {
         Some(known_type) => String::from_str(alloc, known_type.name()),
-        None => unknown_text(alloc, number),
+        None => format_pieces(alloc, &[Words("stream "), Hex(number as u64)]),
     }
 }
 
-// Makes the words for the stream of a type that has no name.
-fn unknown_text(alloc: Global, number: u32) -> Result<String, AllocError>
-    ensures { IfOk result (λ words. string_bytes words ≡ name_of_type number None) }
-{
-    format_pieces(alloc, &[Words("stream "), Hex(number as u64)])
-}
-
 // Appends how many entries have bytes that are not all in the file, if there are any.
-#[tactic(auto, unfolding(crate::specs::Damage::entries_row))]
-fn push_entries(out: &mut String, count: u64) -> Result<(), AllocError>
+#[rattlefmt::skip]
+#[tactic(auto, unfolding(crate::specs::Damage::entries_lines))]
+fn push_entries(out: &mut String, count: u64) -> Added
     ensures { Adds out.old out.new (entries_lines count) result }
 {
     if count > 0 {
-        push_line(
-            out,
-            &[
-                Words("entries of the directory outside the file: "),
-                Decimal(count),
-            ],
-        )
+        push_line(out, &[Words("entries of the directory outside the file: "), Decimal(count)])
     } else {
         Ok(())
     }

@@ -4,10 +4,10 @@ ghost use Rattle.std.specs.Option.{option_map};
 ghost use Rattle.minidump_bytes.specs.LinuxOsStr.{text_of};
 ghost use Rattle.crash_symbols.specs.NameParts.{call_of, source_of};
 ghost use Rattle.crash_symbols.specs.Shown.{shown_frame_of};
-ghost use Rattle.crash_text.specs.Entries.{entry_of};
-ghost use Rattle.crash_text.specs.Frames.{call_entry, entries_in, entries_of, found_text, line_text};
-ghost use Rattle.crash_text.specs.Frames.{name_text, offset_text, own_entry, source_text, trust_text};
+ghost use Rattle.crash_text.specs.Frames.{call_entry, entries_in, entries_of, entry_of, found_text};
+ghost use Rattle.crash_text.specs.Frames.{name_text, offset_text, own_entry, source_text};
 
+use crate::lines::Added;
 use crash::CrashFrame;
 use crash_symbols::{FrameFunction, InlinedCall, ShownFrame, SourceLine};
 use minidump::text::Piece::{Decimal, Hex, Words};
@@ -44,10 +44,7 @@ pub(crate) fn entries_in<'l>(
 }
 
 // Appends the calls that were put in place at a frame, and the frame, to a list.
-fn push_entries<'l>(
-    entries: &mut Vec<FrameEntry<'l>>,
-    frame: &ShownFrame<'_, 'l>,
-) -> Result<(), AllocError>
+fn push_entries<'l>(entries: &mut Vec<FrameEntry<'l>>, frame: &ShownFrame<'_, 'l>) -> Added
     ensures { OnOk result (map entry_of entries.new.items ≡ map entry_of entries.old.items
         ++ entries_of (shown_frame_of frame.now)) }
 {
@@ -61,7 +58,7 @@ fn push_calls<'l>(
     entries: &mut Vec<FrameEntry<'l>>,
     frame: CrashFrame,
     calls: &[InlinedCall<'l>],
-) -> Result<(), AllocError>
+) -> Added
     ensures { OnOk result (map entry_of entries.new.items ≡ map entry_of entries.old.items
         ++ map (call_entry frame) (map call_of calls.now)) }
 {
@@ -138,7 +135,8 @@ fn offset_text(alloc: Global, offset: Option<u64>) -> Result<String, AllocError>
     }
 }
 
-// Makes the words for a source line.
+// Makes the words for a source line, none if its file isn't known.
+#[rattlefmt::skip]
 pub(crate) fn source_text(
     alloc: Global,
     source: Option<SourceLine<'_>>,
@@ -147,29 +145,15 @@ pub(crate) fn source_text(
         ≡ source_text (option_map source_of source.entry)) }
 {
     match source {
-        Some(source) => line_text(alloc, source.file, source.line),
-        None => Ok(String::new(alloc)),
-    }
-}
-
-// Makes the words for a line of a source file, none if the file isn't known.
-fn line_text(alloc: Global, file: Option<LinuxOsStr<'_>>, line: u32) -> Result<String, AllocError>
-    ensures { IfOk result (λ words. string_bytes words
-        ≡ line_text (option_map text_of file.entry) line) }
-{
-    match file {
-        Some(file) => {
-            let file = file.to_string_lossy(alloc)?;
-            format_pieces(
-                alloc,
-                &[
-                    Words(" at "),
-                    Words(file.as_str()),
-                    Words(":"),
-                    Decimal(line as u64),
-                ],
-            )
-        }
+        Some(source) => match source.file {
+            Some(file) => {
+                let (file, line) = (file.to_string_lossy(alloc)?, source.line as u64);
+                format_pieces(alloc, &[
+                    Words(" at "), Words(file.as_str()), Words(":"), Decimal(line),
+                ])
+            }
+            None => Ok(String::new(alloc)),
+        },
         None => Ok(String::new(alloc)),
     }
 }
@@ -178,21 +162,11 @@ fn line_text(alloc: Global, file: Option<LinuxOsStr<'_>>, line: u32) -> Result<S
 pub(crate) fn found_text(is_inline: bool, trust: FrameTrust) -> &'static str
     ensures { result.now ≡ found_text is_inline trust }
 {
-    if is_inline {
-        ", inline"
-    } else {
-        trust_text(trust)
-    }
-}
-
-// Returns the words for how a frame was found.
-fn trust_text(trust: FrameTrust) -> &'static str
-    ensures { result.now ≡ trust_text trust }
-{
-    match trust {
-        FrameTrust::Context => ", context",
-        FrameTrust::Cfi => ", call frame information",
-        FrameTrust::FramePointer => ", frame pointer",
-        FrameTrust::Scan => ", scan",
+    match (is_inline, trust) {
+        (true, _) => ", inline",
+        (false, FrameTrust::Context) => ", context",
+        (false, FrameTrust::Cfi) => ", call frame information",
+        (false, FrameTrust::FramePointer) => ", frame pointer",
+        (false, FrameTrust::Scan) => ", scan",
     }
 }

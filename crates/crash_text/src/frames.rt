@@ -1,16 +1,18 @@
-ghost use Rattle.std.specs.Prelude.{◌≡◌, [], ◌∷◌, ◌++◌, IfOk, OnOk, if◌then◌else◌, map, take};
+ghost use Rattle.std.specs.Prelude.{◌≡◌, [], ◌∷◌, ◌++◌, IfOk, OnOk, map, take};
 ghost use Rattle.crash.specs.Modules.{loaded_of};
 ghost use Rattle.crash_symbols.specs.Shown.{shown_frame_of, shown_of};
-ghost use Rattle.crash_text.specs.Entries.{entry_of};
-ghost use Rattle.crash_text.specs.Frames.{all_frames, each_entry, end_row, end_text, entries_in};
-ghost use Rattle.crash_text.specs.Frames.{entry_line, frame_row, hidden_lines, pointer_end_text};
-ghost use Rattle.crash_text.specs.Frames.{printed_address, printed_frames, rest_lines, walk_lines};
+ghost use Rattle.crash_text.specs.Frames.{all_frames, each_entry, end_text, entries_in};
+ghost use Rattle.crash_text.specs.Frames.{entry_line, entry_of, hidden_lines, printed_address};
+ghost use Rattle.crash_text.specs.Frames.{printed_frames, rest_lines, walk_lines};
+ghost use Rattle.crash_text.specs.Frames.{frame_row};
 ghost use Rattle.crash_text.specs.Lines.{Adds};
+ghost use Rattle.crash_text.specs.Page.{page_of};
 
 use crate::entries::{FrameEntry, entries_in, found_text, name_text, source_text};
 use crate::limits::TextLimits;
-use crate::lines::push_line;
-use crate::places::place_text;
+use crate::lines::{Added, push_line};
+use crate::page::Page;
+use crate::words::place_text;
 use crash::{CrashFrame, CrashModule};
 use crash_symbols::{ShownFrame, ShownWalk};
 use minidump::text::Piece::{Decimal, Hex, Words};
@@ -22,33 +24,39 @@ use symbol_walk::SymbolWalkEnd;
 // asked for.
 pub(crate) fn push_walk(
     out: &mut String,
-    limits: &TextLimits,
-    modules: &[CrashModule],
+    page: Page<'_, '_, '_, '_>,
     is_whole: bool,
     walk: &ShownWalk<'_, '_>,
-) -> Result<(), AllocError>
-    ensures { Adds out.old out.new (walk_lines limits.now (map loaded_of modules.now) is_whole
-        (shown_of walk.now)) result }
+) -> Added
+    ensures { Adds out.old out.new
+        (walk_lines (page_of page.entry) is_whole (shown_of walk.now)) result }
 {
-    push_printed(out, limits, modules, is_whole, walk)?;
-    push_end_if(out, limits, is_whole, walk)
+    push_printed(out, page, is_whole, walk)?;
+    if is_whole {
+        push_rest(out, page.limits, walk)
+    } else {
+        Ok(())
+    }
 }
 
 // Appends the lines of the frames that are printed.
 fn push_printed(
     out: &mut String,
-    limits: &TextLimits,
-    modules: &[CrashModule],
+    page: Page<'_, '_, '_, '_>,
     is_whole: bool,
     walk: &ShownWalk<'_, '_>,
-) -> Result<(), AllocError>
-    ensures { Adds out.old out.new (each_entry (map loaded_of modules.now)
-        (entries_in (printed_frames limits.now is_whole (shown_of walk.now)))) result }
+) -> Added
+    ensures { Adds out.old out.new (each_entry (page_of page.entry).crash.modules.loaded (entries_in
+        (printed_frames (page_of page.entry).limits is_whole (shown_of walk.now)))) result }
 {
     let alloc = *out.allocator();
-    let frames = printed_frames(alloc, limits, is_whole, walk)?;
+    let frames = printed_frames(alloc, page.limits, is_whole, walk)?;
     let entries = entries_in(alloc, frames.as_slice())?;
-    push_each(out, modules, entries.as_slice())
+    push_each(
+        out,
+        page.crash.modules.loaded.as_slice(),
+        entries.as_slice(),
+    )
 }
 
 // Returns the frames of a walk that are printed.
@@ -76,7 +84,7 @@ pub(crate) fn push_frames_of(
     limits: &TextLimits,
     is_whole: bool,
     walk: &ShownWalk<'_, '_>,
-) -> Result<(), AllocError>
+) -> Added
     ensures { OnOk result (frames.new.items ≡ frames.old.items
         ++ map (λ f. f.frame) (printed_frames limits.now is_whole (shown_of walk.now))) }
 {
@@ -85,10 +93,7 @@ pub(crate) fn push_frames_of(
 }
 
 // Appends frames without their names to a list.
-fn push_unnamed(
-    frames: &mut Vec<CrashFrame>,
-    shown: &[ShownFrame<'_, '_>],
-) -> Result<(), AllocError>
+fn push_unnamed(frames: &mut Vec<CrashFrame>, shown: &[ShownFrame<'_, '_>]) -> Added
     ensures { OnOk result (frames.new.items ≡ frames.old.items
         ++ map (λ f. f.frame) (map shown_frame_of shown.now)) }
 {
@@ -124,11 +129,7 @@ fn first_of<'f, 's, 'l>(frames: &'f [ShownFrame<'s, 'l>], count: usize) -> &'f [
 }
 
 // Appends the lines of frames and calls, each with its number.
-fn push_each(
-    out: &mut String,
-    modules: &[CrashModule],
-    entries: &[FrameEntry<'_>],
-) -> Result<(), AllocError>
+fn push_each(out: &mut String, modules: &[CrashModule], entries: &[FrameEntry<'_>]) -> Added
     ensures { Adds out.old out.new
         (each_entry (map loaded_of modules.now) (map entry_of entries.now)) result }
 {
@@ -144,7 +145,7 @@ fn push_entry(
     modules: &[CrashModule],
     number: usize,
     entry: &FrameEntry<'_>,
-) -> Result<(), AllocError>
+) -> Added
     ensures { Adds out.old out.new
         (entry_line (map loaded_of modules.now) number (entry_of entry.now) ∷ []) result }
 {
@@ -174,15 +175,14 @@ fn push_row<'x>(
     source: &'x str,
     place: &'x str,
     found: &'x str,
-) -> Result<(), AllocError>
+) -> Added
     ensures { Adds out.old out.new
         (frame_row number frame.now name.now source.now place.now found.now ∷ []) result }
 {
-    push_line(
-        out,
-        &[Words("    #"), Decimal(number as u64), Words(" "), Hex(printed_address(frame)),
-            Words(name), Words(source), Words(place), Words(found)],
-    )
+    push_line(out, &[
+        Words("    #"), Decimal(number as u64), Words(" "), Hex(printed_address(frame)),
+        Words(name), Words(source), Words(place), Words(found),
+    ])
 }
 
 // Returns the address of a frame: that by which it is looked up, or the instruction if there is
@@ -196,40 +196,20 @@ fn printed_address(frame: &CrashFrame) -> u64
     }
 }
 
-// Appends why there are no more frames, if all of them are asked for.
-fn push_end_if(
-    out: &mut String,
-    limits: &TextLimits,
-    is_whole: bool,
-    walk: &ShownWalk<'_, '_>,
-) -> Result<(), AllocError>
-    ensures { Adds out.old out.new
-        (if is_whole then rest_lines limits.now (shown_of walk.now) else []) result }
-{
-    if is_whole {
-        push_rest(out, limits, walk)
-    } else {
-        Ok(())
-    }
-}
-
 // Appends how many frames are not printed, and why the walk ends.
-fn push_rest(
-    out: &mut String,
-    limits: &TextLimits,
-    walk: &ShownWalk<'_, '_>,
-) -> Result<(), AllocError>
+#[tactic(auto, unfolding(crate::specs::Frames::rest_lines))]
+fn push_rest(out: &mut String, limits: &TextLimits, walk: &ShownWalk<'_, '_>) -> Added
     ensures { Adds out.old out.new (rest_lines limits.now (shown_of walk.now)) result }
 {
     let count = walk.frames.len() + walk.candidates.len();
     push_hidden(out, limits.frames, count)?;
-    push_end(out, walk.end)
+    push_line(out, &[Words("    end: "), Words(end_text(walk.end))])
 }
 
 // Appends how many frames are not printed, if there are any.
 #[rattlefmt::skip]
-#[tactic(auto, unfolding(crate::specs::Frames::hidden_row))]
-fn push_hidden(out: &mut String, limit: usize, count: usize) -> Result<(), AllocError>
+#[tactic(auto, unfolding(crate::specs::Frames::hidden_lines))]
+fn push_hidden(out: &mut String, limit: usize, count: usize) -> Added
     ensures { Adds out.old out.new (hidden_lines limit count) result }
 {
     if limit < count {
@@ -239,35 +219,19 @@ fn push_hidden(out: &mut String, limit: usize, count: usize) -> Result<(), Alloc
     }
 }
 
-#[tactic(auto, unfolding(crate::specs::Frames::end_row))]
-fn push_end(out: &mut String, end: SymbolWalkEnd) -> Result<(), AllocError>
-    ensures { Adds out.old out.new (end_row end ∷ []) result }
-{
-    push_line(out, &[Words("    end: "), Words(end_text(end))])
-}
-
 // Returns why a walk ends, in words.
 fn end_text(end: SymbolWalkEnd) -> &'static str
     ensures { result.now ≡ end_text end }
 {
     match end {
-        SymbolWalkEnd::Walk(end) => pointer_end_text(end),
+        SymbolWalkEnd::Walk(WalkEnd::NoMemory) => "no memory of its stack",
+        SymbolWalkEnd::Walk(WalkEnd::UnknownWidth) => "unknown width of an address",
+        SymbolWalkEnd::Walk(WalkEnd::NoFramePointer) => "no frame pointer",
+        SymbolWalkEnd::Walk(WalkEnd::ZeroFramePointer) => "frame pointer of 0",
+        SymbolWalkEnd::Walk(WalkEnd::BelowStackPointer) => "frame pointer below the stack pointer",
+        SymbolWalkEnd::Walk(WalkEnd::NoRecord) => "no frame record at the frame pointer",
+        SymbolWalkEnd::Walk(WalkEnd::NoCode) => "return address in no module",
         SymbolWalkEnd::NoReturnRule => "no rule for the return address",
         SymbolWalkEnd::ZeroReturnAddress => "return address of 0",
-    }
-}
-
-// Returns why a walk by frame pointers ends, in words.
-fn pointer_end_text(end: WalkEnd) -> &'static str
-    ensures { result.now ≡ pointer_end_text end }
-{
-    match end {
-        WalkEnd::NoMemory => "no memory of its stack",
-        WalkEnd::UnknownWidth => "unknown width of an address",
-        WalkEnd::NoFramePointer => "no frame pointer",
-        WalkEnd::ZeroFramePointer => "frame pointer of 0",
-        WalkEnd::BelowStackPointer => "frame pointer below the stack pointer",
-        WalkEnd::NoRecord => "no frame record at the frame pointer",
-        WalkEnd::NoCode => "return address in no module",
     }
 }

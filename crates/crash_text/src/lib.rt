@@ -8,12 +8,13 @@
 //!   with which macOS was booted, the date of the dump in UTC, the id of the process and that of its
 //!   parent, for how long it ran, how much of it was in memory, its command line, and the comments of
 //!   the dump;
-//! - of the exception that counts the thread, the address with its module, the reason, the code and
-//!   where it happened, and the description by LLDB; the registers of the thread, four a row, how much
-//!   of their context there is if it is cut, and why the context of the exception isn't used; its
-//!   flags and segments, the flags that are set, the registers whose values lie in a module or a
-//!   stack, its instruction pointer, unless it is in a module and may be run, the bytes there, and the
-//!   words at its stack pointer; then all exceptions, if there are several;
+//! - of the exception that counts the thread, the address with its module, the reason, the code
+//!   and where it happened, and LLDB's description, which is printed in place of its flags and
+//!   parameters; the registers of the thread, four a row, how much of their context there is if
+//!   it is cut, and why the context of the exception isn't used; its flags and segments, the
+//!   flags that are set, the registers whose values lie in a module or a stack, its instruction
+//!   pointer, unless it is in a module and may be run, the bytes there, and the words at its
+//!   stack pointer; then all exceptions, if there are several;
 //! - what is there and can't be read, as `can't be read: ThreadListStream: StreamReadFailure`, the
 //!   modules for which their list can't be read, and how many entries of the directory have bytes
 //!   outside the file;
@@ -72,9 +73,8 @@ mod lines;
 mod lists;
 mod messages;
 mod modules;
-mod places;
+mod page;
 mod point;
-mod process_lists;
 mod records;
 mod registers;
 mod system;

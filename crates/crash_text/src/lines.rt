@@ -7,6 +7,9 @@ use crate::escape::push_escaped;
 use minidump::text::{Piece, format_pieces};
 use std::alloc::{AllocError, Global};
 
+// What a call that appends returns: `AllocError` if an allocation fails.
+pub(crate) type Added = Result<(), AllocError>;
+
 /// Appends a line of the pieces, their control characters as escapes, and the end of the line.
 ///
 /// Returns `AllocError` if an allocation fails, and then the text is as it was.

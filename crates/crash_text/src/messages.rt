@@ -1,6 +1,6 @@
-ghost use Rattle.std.specs.Prelude.{◌≡◌, [], ◌∷◌, IfOk, Ok, map, string_bytes};
+ghost use Rattle.std.specs.Prelude.{◌≡◌, [], ◌∷◌, IfOk, map, string_bytes};
 ghost use Rattle.std.specs.List.{flat_map};
-ghost use Rattle.std.specs.Option.{option_copied, option_map};
+ghost use Rattle.std.specs.Option.{option_copied};
 ghost use Rattle.minidump.specs.Below.Contexts.Context.{map_ok};
 ghost use Rattle.minidump.specs.Below.Records.Annotations.{annotation_of};
 ghost use Rattle.minidump.specs.Below.Records.Assertion.{text_or_empty};
@@ -11,14 +11,13 @@ ghost use Rattle.minidump.specs.Below.Records.Record.{mac_record_of};
 ghost use Rattle.minidump.specs.Promise.{assertion_stream, crashpad_info_stream};
 ghost use Rattle.minidump.specs.Promise.{mac_crash_info_stream, soft_errors_stream};
 ghost use Rattle.crash.specs.Contents.{message_streams_of};
-ghost use Rattle.crash_text.specs.Lines.{Adds};
-ghost use Rattle.crash_text.specs.Messages.{annotation_row, assertion_lines, assertion_row};
-ghost use Rattle.crash_text.specs.Messages.{crashpad_lines, kind_words, mac_lines, mac_row};
-ghost use Rattle.crash_text.specs.Messages.{mac_text_lines, messages_lines, module_lines};
-ghost use Rattle.crash_text.specs.Messages.{object_row, record_lines, soft_lines, soft_row};
-ghost use Rattle.crash_text.specs.Messages.{text_row};
+ghost use Rattle.crash_text.specs.Lines.{Adds, if_ok};
+ghost use Rattle.crash_text.specs.Messages.{annotation_row, assertion_line, assertion_row};
+ghost use Rattle.crash_text.specs.Messages.{crashpad_lines, kind_words, mac_text_lines};
+ghost use Rattle.crash_text.specs.Messages.{messages_lines, module_lines, object_row};
+ghost use Rattle.crash_text.specs.Messages.{record_lines, soft_row, text_row};
 
-use crate::lines::push_line;
+use crate::lines::{Added, push_line};
 use crate::words::unless_empty;
 use crash::MessageStreams;
 use minidump::own_streams::text_before_nul;
@@ -31,10 +30,7 @@ use std::alloc::{AllocError, Global};
 use std::collections::BTreeMap;
 
 // Appends the lines of what the process itself said of the crash.
-pub(crate) fn push_messages(
-    out: &mut String,
-    messages: &MessageStreams<'_>,
-) -> Result<(), AllocError>
+pub(crate) fn push_messages(out: &mut String, messages: &MessageStreams<'_>) -> Added
     ensures { Adds out.old out.new (messages_lines (message_streams_of messages.now)) result }
 {
     push_assertion(out, &messages.assertion)?;
@@ -44,36 +40,28 @@ pub(crate) fn push_messages(
 }
 
 // Appends the line of an assertion, if there is one.
-fn push_assertion(
-    out: &mut String,
-    found: &Result<MinidumpAssertion, Error>,
-) -> Result<(), AllocError>
+fn push_assertion(out: &mut String, found: &Result<MinidumpAssertion, Error>) -> Added
     ensures { Adds out.old out.new
-        (assertion_lines (map_ok assertion_stream.value found.now)) result }
+        (if_ok (λ a. assertion_line a ∷ []) (map_ok assertion_stream.value found.now)) result }
 {
     match found {
-        Ok(assertion) => push_assertion_texts(out, assertion),
+        Ok(assertion) => {
+            let (alloc, raw) = (*out.allocator(), &assertion.raw);
+            let expression = text_or_empty(alloc, &raw.expression)?;
+            let function = text_or_empty(alloc, &raw.function)?;
+            let file = text_or_empty(alloc, &raw.file)?;
+            let (expression, function) = (expression.as_str(), function.as_str());
+            push_assertion_row(
+                out,
+                raw._type,
+                expression,
+                function,
+                file.as_str(),
+                raw.line,
+            )
+        }
         Err(_) => Ok(()),
     }
-}
-
-// Appends the line of an assertion.
-fn push_assertion_texts(out: &mut String, assertion: &MinidumpAssertion) -> Result<(), AllocError>
-    ensures { Adds out.old out.new
-        (assertion_lines (Ok (assertion_stream.value assertion.now))) result }
-{
-    let alloc = *out.allocator();
-    let expression = text_or_empty(alloc, &assertion.raw.expression)?;
-    let function = text_or_empty(alloc, &assertion.raw.function)?;
-    let file = text_or_empty(alloc, &assertion.raw.file)?;
-    push_assertion_row(
-        out,
-        assertion.raw._type,
-        expression.as_str(),
-        function.as_str(),
-        file.as_str(),
-        assertion.raw.line,
-    )
 }
 
 // Makes the text of code units, or an empty one if they are no text.
@@ -95,17 +83,15 @@ fn push_assertion_row<'t>(
     function: &'t str,
     file: &'t str,
     number: u32,
-) -> Result<(), AllocError>
+) -> Added
     ensures { Adds out.old out.new
         (assertion_row kind expression.now function.now file.now number ∷ []) result }
 {
-    push_line(
-        out,
-        &[Words("assertion "), Words(kind_words(kind)), Words(expression),
-            Words(unless_empty(", function ", function)), Words(function),
-            Words(unless_empty(", file ", file)), Words(file), Words(", line "),
-            Decimal(number as u64)],
-    )
+    push_line(out, &[
+        Words("assertion "), Words(kind_words(kind)), Words(expression),
+        Words(unless_empty(", function ", function)), Words(function),
+        Words(unless_empty(", file ", file)), Words(file), Words(", line "), Decimal(number as u64),
+    ])
 }
 
 // Returns the words for the kind of an assertion, of those that Breakpad has.
@@ -119,31 +105,22 @@ fn kind_words(kind: u32) -> &'static str
     }
 }
 
-// Appends the annotations of the process and of its modules.
-fn push_crashpad(
-    out: &mut String,
-    found: &Result<MinidumpCrashpadInfo, Error>,
-) -> Result<(), AllocError>
+// Appends the annotations of the process, and then those of each module.
+fn push_crashpad(out: &mut String, found: &Result<MinidumpCrashpadInfo, Error>) -> Added
     ensures { Adds out.old out.new
-        (crashpad_lines (map_ok crashpad_info_stream.value found.now)) result }
+        (if_ok crashpad_lines (map_ok crashpad_info_stream.value found.now)) result }
 {
     match found {
-        Ok(info) => push_annotations(out, info),
+        Ok(info) => {
+            push_texts(out, &info.simple_annotations)?;
+            push_modules(out, info.module_list.as_slice())
+        }
         Err(_) => Ok(()),
     }
 }
 
-// Appends the annotations of the process, and then those of each module.
-fn push_annotations(out: &mut String, info: &MinidumpCrashpadInfo) -> Result<(), AllocError>
-    ensures { Adds out.old out.new
-        (crashpad_lines (Ok (crashpad_info_stream.value info.now))) result }
-{
-    push_texts(out, &info.simple_annotations)?;
-    push_modules(out, info.module_list.as_slice())
-}
-
 // Appends the annotations of modules.
-fn push_modules(out: &mut String, modules: &[MinidumpModuleCrashpadInfo]) -> Result<(), AllocError>
+fn push_modules(out: &mut String, modules: &[MinidumpModuleCrashpadInfo]) -> Added
     ensures { Adds out.old out.new (flat_map module_lines (map module_of modules.now)) result }
 {
     for module in modules {
@@ -153,7 +130,7 @@ fn push_modules(out: &mut String, modules: &[MinidumpModuleCrashpadInfo]) -> Res
 }
 
 // Appends the annotations of a module.
-fn push_module(out: &mut String, module: &MinidumpModuleCrashpadInfo) -> Result<(), AllocError>
+fn push_module(out: &mut String, module: &MinidumpModuleCrashpadInfo) -> Added
     ensures { Adds out.old out.new (module_lines (module_of module.now)) result }
 {
     push_list(out, module.list_annotations.as_slice())?;
@@ -162,7 +139,7 @@ fn push_module(out: &mut String, module: &MinidumpModuleCrashpadInfo) -> Result<
 }
 
 // Appends the lines of texts without names.
-fn push_list(out: &mut String, texts: &[String]) -> Result<(), AllocError>
+fn push_list(out: &mut String, texts: &[String]) -> Added
     ensures { Adds out.old out.new (map text_row (map string_bytes texts.now)) result }
 {
     for text in texts {
@@ -172,14 +149,14 @@ fn push_list(out: &mut String, texts: &[String]) -> Result<(), AllocError>
 }
 
 #[tactic(auto, unfolding(crate::specs::Messages::text_row))]
-fn push_text(out: &mut String, text: &str) -> Result<(), AllocError>
+fn push_text(out: &mut String, text: &str) -> Added
     ensures { Adds out.old out.new (text_row text.now ∷ []) result }
 {
     push_line(out, &[Words("annotation "), Words(text)])
 }
 
 // Appends the texts of a dictionary.
-fn push_texts(out: &mut String, texts: &BTreeMap<String, String>) -> Result<(), AllocError>
+fn push_texts(out: &mut String, texts: &BTreeMap<String, String>) -> Added
     ensures { Adds out.old out.new
         (map annotation_row (entries_of string_bytes texts.now.entries)) result }
 {
@@ -190,10 +167,7 @@ fn push_texts(out: &mut String, texts: &BTreeMap<String, String>) -> Result<(), 
 }
 
 // Appends the annotations that have a type.
-fn push_objects(
-    out: &mut String,
-    objects: &BTreeMap<String, MinidumpAnnotation>,
-) -> Result<(), AllocError>
+fn push_objects(out: &mut String, objects: &BTreeMap<String, MinidumpAnnotation>) -> Added
     ensures { Adds out.old out.new
         (map object_row (entries_of annotation_of objects.now.entries)) result }
 {
@@ -203,14 +177,12 @@ fn push_objects(
     Ok(())
 }
 
+#[rattlefmt::skip]
 #[tactic(auto, unfolding(crate::specs::Messages::annotation_row))]
-fn push_annotation<'t>(out: &mut String, name: &'t str, text: &'t str) -> Result<(), AllocError>
+fn push_annotation<'t>(out: &mut String, name: &'t str, text: &'t str) -> Added
     ensures { Adds out.old out.new (annotation_row (name.now, text.now) ∷ []) result }
 {
-    push_line(
-        out,
-        &[Words("annotation "), Words(name), Words(" = "), Words(text)],
-    )
+    push_line(out, &[Words("annotation "), Words(name), Words(" = "), Words(text)])
 }
 
 // Returns the text of an annotation, or the kind of any other.
@@ -226,9 +198,9 @@ fn annotation_text(annotation: &MinidumpAnnotation) -> &str
 }
 
 // Appends the texts of macOS's crash information.
-fn push_mac(out: &mut String, found: &Result<MinidumpMacCrashInfo, Error>) -> Result<(), AllocError>
+fn push_mac(out: &mut String, found: &Result<MinidumpMacCrashInfo, Error>) -> Added
     ensures { Adds out.old out.new
-        (mac_lines (map_ok mac_crash_info_stream.value found.now)) result }
+        (if_ok (flat_map record_lines) (map_ok mac_crash_info_stream.value found.now)) result }
 {
     match found {
         Ok(info) => push_records(out, info.raw.as_slice()),
@@ -237,9 +209,8 @@ fn push_mac(out: &mut String, found: &Result<MinidumpMacCrashInfo, Error>) -> Re
 }
 
 // Appends the texts of the records of macOS's crash information.
-fn push_records(out: &mut String, records: &[RawMacCrashInfo]) -> Result<(), AllocError>
-    ensures { Adds out.old out.new
-        (flat_map record_lines (map mac_record_of records.now)) result }
+fn push_records(out: &mut String, records: &[RawMacCrashInfo]) -> Added
+    ensures { Adds out.old out.new (flat_map record_lines (map mac_record_of records.now)) result }
 {
     for record in records {
         push_record(out, record)?;
@@ -248,7 +219,7 @@ fn push_records(out: &mut String, records: &[RawMacCrashInfo]) -> Result<(), All
 }
 
 // Appends the texts of a record.
-fn push_record(out: &mut String, record: &RawMacCrashInfo) -> Result<(), AllocError>
+fn push_record(out: &mut String, record: &RawMacCrashInfo) -> Added
     ensures { Adds out.old out.new (record_lines (mac_record_of record.now)) result }
 {
     push_mac_text(out, "module", record.module_path())?;
@@ -260,32 +231,22 @@ fn push_record(out: &mut String, record: &RawMacCrashInfo) -> Result<(), AllocEr
 }
 
 // Appends the line of a text of a record, if it is there.
-#[tactic(auto, unfolding(crate::specs::Messages::mac_row))]
-fn push_mac_text<'t>(
-    out: &mut String,
-    name: &'t str,
-    text: Option<&'t str>,
-) -> Result<(), AllocError>
-    ensures { Adds out.old out.new
-        (mac_text_lines name.now (option_copied text.entry)) result }
+#[rattlefmt::skip]
+#[tactic(auto, unfolding(crate::specs::Messages::mac_text_lines))]
+fn push_mac_text<'t>(out: &mut String, name: &'t str, text: Option<&'t str>) -> Added
+    ensures { Adds out.old out.new (mac_text_lines name.now (option_copied text.entry)) result }
 {
     match text {
-        Some(text) => push_line(
-            out,
-            &[Words("macOS "), Words(name), Words(": "), Words(text)],
-        ),
+        Some(text) => push_line(out, &[Words("macOS "), Words(name), Words(": "), Words(text)]),
         None => Ok(()),
     }
 }
 
 // Appends the line of Mozilla's soft errors, if they are there.
 #[tactic(auto, unfolding(crate::specs::Messages::soft_row))]
-fn push_soft(
-    out: &mut String,
-    found: &Result<MinidumpSoftErrors<'_>, Error>,
-) -> Result<(), AllocError>
+fn push_soft(out: &mut String, found: &Result<MinidumpSoftErrors<'_>, Error>) -> Added
     ensures { Adds out.old out.new
-        (soft_lines (map_ok soft_errors_stream.value found.now)) result }
+        (if_ok (λ t. soft_row t ∷ []) (map_ok soft_errors_stream.value found.now)) result }
 {
     match found {
         Ok(errors) => push_line(out, &[Words("soft errors "), Words(errors.as_ref())]),

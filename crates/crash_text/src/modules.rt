@@ -1,86 +1,62 @@
-ghost use Rattle.std.specs.Prelude.{◌≡◌, [], ◌∷◌, IfOk, None, Some, codes, false, get_or, map};
+ghost use Rattle.std.specs.Prelude.{◌≡◌, [], ◌∷◌, IfOk, None, Some, codes, false, get_or};
 ghost use Rattle.std.specs.Prelude.{string_bytes};
 ghost use Rattle.std.specs.Option.{option_copied, option_map};
-ghost use Rattle.crash.specs.Crash.{crash_of};
-ghost use Rattle.crash.specs.Modules.{loaded_of, modules_of};
+ghost use Rattle.crash.specs.Modules.{loaded_of};
 ghost use Rattle.crash_symbols.specs.Shown.{symbolized_of};
 ghost use Rattle.crash_text.specs.Lines.{Adds};
-ghost use Rattle.crash_text.specs.Modules.{HasMarks, address_place, all_modules, count_row};
-ghost use Rattle.crash_text.specs.Modules.{each_module, end_text, is_in, is_marked, key_text};
-ghost use Rattle.crash_text.specs.Modules.{listed_lines, module_at, module_line, module_row};
-ghost use Rattle.crash_text.specs.Modules.{modules_lines, named_modules};
-ghost use Rattle.crash_text.specs.Modules.{state_text, symbols_text, version_text};
+ghost use Rattle.crash_text.specs.Modules.{HasMarks, address_place, all_modules, each_module};
+ghost use Rattle.crash_text.specs.Modules.{end_text, is_in, is_marked, key_text, module_at};
+ghost use Rattle.crash_text.specs.Modules.{module_line, modules_lines, named_modules};
+ghost use Rattle.crash_text.specs.Modules.{symbols_text, version_text};
+ghost use Rattle.crash_text.specs.Page.{page_of};
 
 use crate::limits::TextLimits;
-use crate::lines::push_line;
+use crate::lines::{Added, push_line};
+use crate::page::Page;
 use crate::threads::frames_in;
-use crate::words::push_if_missing;
-use crash::{AddressFacts, Crash, CrashFrame, CrashModule, CrashModules};
+use crate::words::{push_count, push_if_missing};
+use crash::{AddressFacts, CrashFrame, CrashModule};
 use crash_symbols::{SymbolState, Symbolized};
 use minidump::Error;
-use minidump::text::Piece::{Decimal, Hex, Words};
+use minidump::text::Piece::{Hex, Words};
 use minidump::text::format_pieces;
 use std::alloc::{AllocError, Global};
 
 // Appends the number of modules and those that other lines name, or that their list is missing.
 pub(crate) fn push_modules(
     out: &mut String,
-    crash: &Crash<'_>,
-    limits: &TextLimits,
-    symbols: Option<&Symbolized<'_, '_>>,
+    page: Page<'_, '_, '_, '_>,
     error: Option<Error>,
-) -> Result<(), AllocError>
-    ensures { Adds out.old out.new (modules_lines limits.now
-        (option_map symbolized_of (option_copied symbols.entry)) (crash_of crash.now) error) result }
+) -> Added
+    ensures { Adds out.old out.new (modules_lines (page_of page.entry) error) result }
 {
     match error {
-        None => push_list(out, crash, limits, symbols),
+        None => push_list(out, page),
         Some(error) => push_if_missing(out, "no modules", error),
     }
 }
 
 // Appends the number of modules, and those that other lines name.
-fn push_list(
-    out: &mut String,
-    crash: &Crash<'_>,
-    limits: &TextLimits,
-    symbols: Option<&Symbolized<'_, '_>>,
-) -> Result<(), AllocError>
-    ensures { Adds out.old out.new (modules_lines limits.now
-        (option_map symbolized_of (option_copied symbols.entry)) (crash_of crash.now) None) result }
+fn push_list(out: &mut String, page: Page<'_, '_, '_, '_>) -> Added
+    ensures { Adds out.old out.new (modules_lines (page_of page.entry) None) result }
 {
-    let alloc = *out.allocator();
-    let threads = crash.threads.threads.as_slice();
-    let frames = frames_in(alloc, limits, symbols, crash.threads.crashing, threads)?;
-    push_count(out, crash.modules.loaded.len())?;
-    push_named(
-        out,
-        limits,
-        symbols,
-        crash.cause.address,
-        frames.as_slice(),
-        &crash.modules,
-    )
+    let frames = frames_in(
+        *out.allocator(),
+        page,
+        page.crash.threads.threads.as_slice(),
+    )?;
+    push_count(out, "modules", page.crash.modules.loaded.len())?;
+    push_named(out, page, frames.as_slice())
 }
 
-// Appends the lines of the modules that are listed, by the address of the crash and by frames.
-#[rattlefmt::skip]
-fn push_named(
-    out: &mut String,
-    limits: &TextLimits,
-    symbols: Option<&Symbolized<'_, '_>>,
-    address: Option<AddressFacts>,
-    frames: &[CrashFrame],
-    modules: &CrashModules,
-) -> Result<(), AllocError>
-    ensures { Adds out.old out.new (named_modules limits.now
-        (option_map symbolized_of (option_copied symbols.entry)) address frames.now
-        (modules_of modules.now)) result }
+// Appends the lines of the modules that are listed, by frames.
+fn push_named(out: &mut String, page: Page<'_, '_, '_, '_>, frames: &[CrashFrame]) -> Added
+    ensures { Adds out.old out.new (named_modules (page_of page.entry) frames.now) result }
 {
-    let loaded = modules.loaded.as_slice();
+    let loaded = page.crash.modules.loaded.as_slice();
     let marks = marks_of(*out.allocator(), loaded.len(), frames)?;
-    let indices = modules.by_address.as_slice();
-    push_each(out, limits, symbols, address, marks.as_slice(), loaded, indices)?;
+    let indices = page.crash.modules.by_address.as_slice();
+    push_each(out, page, marks.as_slice(), indices)?;
     Ok(())
 }
 
@@ -99,67 +75,32 @@ fn marks_of(alloc: Global, count: usize, frames: &[CrashFrame]) -> Result<Vec<bo
     Ok(marks)
 }
 
-#[tactic(auto, unfolding(crate::specs::Modules::count_row))]
-fn push_count(out: &mut String, count: usize) -> Result<(), AllocError>
-    ensures { Adds out.old out.new (count_row count ∷ []) result }
-{
-    push_line(out, &[Words("modules "), Decimal(count as u64)])
-}
-
-// Appends the lines of the modules of indices that are listed, by the address of the crash and by
-// marks.
+// Appends the lines of the modules of indices that are listed, by marks.
 fn push_each(
     out: &mut String,
-    limits: &TextLimits,
-    symbols: Option<&Symbolized<'_, '_>>,
-    address: Option<AddressFacts>,
+    page: Page<'_, '_, '_, '_>,
     marks: &[bool],
-    modules: &[CrashModule],
     indices: &[usize],
-) -> Result<(), AllocError>
-    ensures { Adds out.old out.new (each_module limits.now
-        (option_map symbolized_of (option_copied symbols.entry)) (is_marked address marks.now)
-        (map loaded_of modules.now) indices.now) result }
+) -> Added
+    ensures { Adds out.old out.new (each_module (page_of page.entry)
+        (is_marked page.entry.crash.now.cause.address marks.now) indices.now) result }
 {
     for index in indices {
-        push_at(out, limits, symbols, address, marks, modules, *index)?;
+        push_at(out, page, marks, *index)?;
     }
     Ok(())
 }
 
-// Appends the line of the module of an index, if it is listed.
-fn push_at(
-    out: &mut String,
-    limits: &TextLimits,
-    symbols: Option<&Symbolized<'_, '_>>,
-    address: Option<AddressFacts>,
-    marks: &[bool],
-    modules: &[CrashModule],
-    index: usize,
-) -> Result<(), AllocError>
-    ensures { Adds out.old out.new (module_at limits.now
-        (option_map symbolized_of (option_copied symbols.entry)) (is_marked address marks.now)
-        (map loaded_of modules.now) index) result }
+// Appends the line of the module of an index, if all modules are asked for or other lines name it.
+fn push_at(out: &mut String, page: Page<'_, '_, '_, '_>, marks: &[bool], index: usize) -> Added
+    ensures { Adds out.old out.new (module_at (page_of page.entry)
+        (is_marked page.entry.crash.now.cause.address marks.now) index) result }
 {
-    let is_named = is_marked(address, marks, index);
-    let words = symbols_text(symbols, index);
-    push_if_listed(out, limits, is_named, modules.get(index), words)
-}
-
-// Appends the line of a module, if all modules are asked for or other lines name it.
-fn push_if_listed(
-    out: &mut String,
-    limits: &TextLimits,
-    is_named: bool,
-    module: Option<&CrashModule>,
-    symbols: &str,
-) -> Result<(), AllocError>
-    ensures { Adds out.old out.new (listed_lines limits.now is_named
-        (option_map loaded_of (option_copied module.entry)) symbols.now) result }
-{
-    let is_asked = all_modules(limits);
-    match module {
-        Some(module) if is_asked || is_named => push_module(out, is_asked, module, symbols),
+    let is_asked = all_modules(page.limits);
+    let is_named = is_marked(page.crash.cause.address, marks, index);
+    let words = symbols_text(page.symbols, index);
+    match page.crash.modules.loaded.get(index) {
+        Some(module) if is_asked || is_named => push_module(out, is_asked, module, words),
         _ => Ok(()),
     }
 }
@@ -177,20 +118,13 @@ fn symbols_text(symbols: Option<&Symbolized<'_, '_>>, index: usize) -> &'static 
         (option_map symbolized_of (option_copied symbols.entry)) index }
 {
     match symbols {
-        Some(known) => state_text(known.symbols.state(index)),
+        Some(known) => match known.symbols.state(index) {
+            SymbolState::Unwanted | SymbolState::Loaded => "",
+            SymbolState::Missing => ", no symbols",
+            SymbolState::Corrupt => ", symbols of another module or damaged",
+            SymbolState::OutOfMemory => ", no memory for its symbols",
+        },
         None => "",
-    }
-}
-
-// Returns the words for why a module has no symbols, by what is known of them.
-fn state_text(state: SymbolState) -> &'static str
-    ensures { result.now ≡ state_text state }
-{
-    match state {
-        SymbolState::Unwanted | SymbolState::Loaded => "",
-        SymbolState::Missing => ", no symbols",
-        SymbolState::Corrupt => ", symbols of another module or damaged",
-        SymbolState::OutOfMemory => ", no memory for its symbols",
     }
 }
 
@@ -230,12 +164,9 @@ fn is_in(index: usize, place: Option<(usize, u64)>) -> bool
 
 // Appends the line of a module, with its end if all modules are asked for, and with the words for its
 // symbols.
-fn push_module(
-    out: &mut String,
-    is_asked: bool,
-    module: &CrashModule,
-    symbols: &str,
-) -> Result<(), AllocError>
+#[rattlefmt::skip]
+#[tactic(auto, unfolding(crate::specs::Modules::module_line))]
+fn push_module(out: &mut String, is_asked: bool, module: &CrashModule, symbols: &str) -> Added
     ensures { Adds out.old out.new
         (module_line is_asked (loaded_of module.now) symbols.now ∷ []) result }
 {
@@ -244,36 +175,10 @@ fn push_module(
     let version = version_text(alloc, &module.version)?;
     let debug = debug_text(alloc, module)?;
     let code = key_text(alloc, ", code ", &module.file, &module.code_id)?;
-    push_row(
-        out,
-        module,
-        end.as_str(),
-        version.as_str(),
-        debug.as_str(),
-        code.as_str(),
-        symbols,
-    )
-}
-
-#[rattlefmt::skip]
-#[tactic(auto, unfolding(crate::specs::Modules::module_row))]
-fn push_row<'t>(
-    out: &mut String,
-    module: &'t CrashModule,
-    end: &'t str,
-    version: &'t str,
-    debug: &'t str,
-    code: &'t str,
-    symbols: &'t str,
-) -> Result<(), AllocError>
-    ensures { Adds out.old out.new (module_row module.now.base end.now
-        (string_bytes module.now.path) version.now debug.now code.now symbols.now ∷ []) result }
-{
-    push_line(
-        out,
-        &[Words("    "), Hex(module.base), Words(end), Words(" "), Words(module.path.as_str()),
-            Words(version), Words(debug), Words(code), Words(symbols)],
-    )
+    push_line(out, &[
+        Words("    "), Hex(module.base), Words(end.as_str()), Words(" "), Words(module.path.as_str()),
+        Words(version.as_str()), Words(debug.as_str()), Words(code.as_str()), Words(symbols),
+    ])
 }
 
 // Makes the words for the address after a module, none if they aren't asked for.
@@ -301,9 +206,8 @@ fn version_text(alloc: Global, version: &Option<String>) -> Result<String, Alloc
 
 // Makes the words for the debug file of a module, none if it lacks the name or the identifier.
 fn debug_text(alloc: Global, module: &CrashModule) -> Result<String, AllocError>
-    ensures { IfOk result (λ words. string_bytes words ≡ key_text (codes ", debug ")
-        (option_map string_bytes module.now.debug_file)
-        (option_map string_bytes module.now.debug_id)) }
+    ensures { IfOk result (λ words. string_bytes words ≡ key_text (codes ", debug ") (option_map
+        string_bytes module.now.debug_file) (option_map string_bytes module.now.debug_id)) }
 {
     match &module.debug_file {
         Some(file) => key_text(alloc, ", debug ", file, &module.debug_id),
@@ -323,10 +227,9 @@ pub(crate) fn key_text<'x>(
         (Some (string_bytes file.now)) (option_map string_bytes id.now)) }
 {
     match id {
-        Some(id) => format_pieces(
-            alloc,
-            &[Words(label), Words(file.as_str()), Words("/"), Words(id.as_str())],
-        ),
+        Some(id) => format_pieces(alloc, &[
+            Words(label), Words(file.as_str()), Words("/"), Words(id.as_str()),
+        ]),
         None => Ok(String::new(alloc)),
     }
 }

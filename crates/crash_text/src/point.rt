@@ -1,5 +1,5 @@
 //! The lines of where the thread that crashed stands.
-ghost use Rattle.std.specs.Prelude.{◌≡◌, ◌++◌, ◌∷◌, [], IfOk, OnOk, map, string_bytes};
+ghost use Rattle.std.specs.Prelude.{◌≡◌, ◌∷◌, [], IfOk, map, string_bytes};
 ghost use Rattle.std.specs.List.{flat_map, list_any};
 ghost use Rattle.crash.specs.Addresses.{is_placed};
 ghost use Rattle.crash.specs.Crash.{crash_of};
@@ -7,49 +7,34 @@ ghost use Rattle.crash.specs.Modules.{loaded_of};
 ghost use Rattle.crash.specs.Point.{point_of};
 ghost use Rattle.crash_text.specs.Lines.{Adds};
 ghost use Rattle.crash_text.specs.Point.{byte_words, code_lines, code_row, flag_words, flags_row};
-ghost use Rattle.crash_text.specs.Point.{instruction_lines, is_ordinary, known_point_lines};
-ghost use Rattle.crash_text.specs.Point.{memory_lines, placed_heading, placed_lines, point_lines};
-ghost use Rattle.crash_text.specs.Point.{processor_lines, placed_registers, set_lines, set_row};
-ghost use Rattle.crash_text.specs.Point.{set_words, word_line, word_row, words_heading, words_lines};
+ghost use Rattle.crash_text.specs.Point.{instruction_lines, is_ordinary, memory_lines};
+ghost use Rattle.crash_text.specs.Point.{placed_heading, placed_lines, placed_registers};
+ghost use Rattle.crash_text.specs.Point.{point_lines, processor_lines, set_lines, set_row};
+ghost use Rattle.crash_text.specs.Point.{set_words, word_line, words_heading, words_lines};
 
 use crate::addresses::push_address_line;
-use crate::lines::push_line;
-use crate::places::place_text;
-use crate::words::push_words;
+use crate::lines::{Added, push_line};
+use crate::words::{place_text, push_words};
 use crash::{AddressFacts, Crash, CrashModule, CrashPoint, StackWord};
 use minidump::text::Piece::{Hex, WideDigits, Words};
 use minidump::text::push_pieces;
 use std::alloc::{AllocError, Global};
 
 // Appends the lines of where the thread that crashed stands, if that is known.
-pub(crate) fn push_point(out: &mut String, crash: &Crash<'_>) -> Result<(), AllocError>
+pub(crate) fn push_point(out: &mut String, crash: &Crash<'_>) -> Added
     ensures { Adds out.old out.new (point_lines (crash_of crash.now)) result }
 {
     match &crash.point {
-        Some(point) => push_known_point(out, crash, point),
+        Some(point) => {
+            push_processor(out, crash, point)?;
+            push_memory(out, crash, point)
+        }
         None => Ok(()),
     }
 }
 
-// Appends the lines of where a thread stands.
-fn push_known_point(
-    out: &mut String,
-    crash: &Crash<'_>,
-    point: &CrashPoint<'_>,
-) -> Result<(), AllocError>
-    ensures { Adds out.old out.new
-        (known_point_lines (crash_of crash.now) (point_of point.now)) result }
-{
-    push_processor(out, crash, point)?;
-    push_memory(out, crash, point)
-}
-
 // Appends the lines of the flags and the registers of a thread.
-fn push_processor(
-    out: &mut String,
-    crash: &Crash<'_>,
-    point: &CrashPoint<'_>,
-) -> Result<(), AllocError>
+fn push_processor(out: &mut String, crash: &Crash<'_>, point: &CrashPoint<'_>) -> Added
     ensures { Adds out.old out.new
         (processor_lines (crash_of crash.now) (point_of point.now)) result }
 {
@@ -60,13 +45,8 @@ fn push_processor(
 }
 
 // Appends the lines of the instruction pointer, the code and the words.
-fn push_memory(
-    out: &mut String,
-    crash: &Crash<'_>,
-    point: &CrashPoint<'_>,
-) -> Result<(), AllocError>
-    ensures { Adds out.old out.new
-        (memory_lines (crash_of crash.now) (point_of point.now)) result }
+fn push_memory(out: &mut String, crash: &Crash<'_>, point: &CrashPoint<'_>) -> Added
+    ensures { Adds out.old out.new (memory_lines (crash_of crash.now) (point_of point.now)) result }
 {
     push_instruction(out, crash, &point.instruction)?;
     push_code(out, point.instruction.address, point.code)?;
@@ -77,7 +57,7 @@ fn push_memory(
 
 // Appends the line of the flags and the segments.
 #[tactic(auto, unfolding(crate::specs::Point::flags_row))]
-fn push_flags(out: &mut String, flags: &[(&'static str, u64)]) -> Result<(), AllocError>
+fn push_flags(out: &mut String, flags: &[(&'static str, u64)]) -> Added
     ensures { Adds out.old out.new (flags_row (map (λ r. (r.0.now, r.1)) flags.now) ∷ []) result }
 {
     let words = flags_words(*out.allocator(), flags)?;
@@ -91,21 +71,16 @@ fn flags_words(alloc: Global, flags: &[(&'static str, u64)]) -> Result<String, A
 {
     let mut words = String::new(alloc);
     for flag in flags {
-        push_flag(&mut words, flag.0, flag.1)?;
+        push_pieces(
+            &mut words,
+            &[Words("  "), Words(flag.0), Words(" "), Hex(flag.1)],
+        )?;
     }
     Ok(words)
 }
 
-// Appends the words for a flags register or a segment.
-fn push_flag(words: &mut String, name: &str, value: u64) -> Result<(), AllocError>
-    ensures { OnOk result
-        (string_bytes words.new ≡ string_bytes words.old ++ flag_words (name.now, value)) }
-{
-    push_pieces(words, &[Words("  "), Words(name), Words(" "), Hex(value)])
-}
-
 // Appends the line of the flags that are set, if there are any.
-fn push_set(out: &mut String, names: &[&'static str]) -> Result<(), AllocError>
+fn push_set(out: &mut String, names: &[&'static str]) -> Added
     ensures { Adds out.old out.new (set_lines (map (λ name. name.now) names.now)) result }
 {
     match names {
@@ -115,7 +90,7 @@ fn push_set(out: &mut String, names: &[&'static str]) -> Result<(), AllocError>
 }
 
 #[tactic(auto, unfolding(crate::specs::Point::set_row))]
-fn push_set_row(out: &mut String, names: &[&'static str]) -> Result<(), AllocError>
+fn push_set_row(out: &mut String, names: &[&'static str]) -> Added
     ensures { Adds out.old out.new (set_row (map (λ name. name.now) names.now) ∷ []) result }
 {
     let words = set_words(*out.allocator(), names)?;
@@ -142,7 +117,7 @@ fn push_placed_registers(
     out: &mut String,
     crash: &Crash<'_>,
     registers: &[(&'static str, AddressFacts)],
-) -> Result<(), AllocError>
+) -> Added
     ensures { Adds out.old out.new (placed_registers (crash_of crash.now)
         (map (λ r. (r.0.now, r.1)) registers.now)) result }
 {
@@ -151,10 +126,7 @@ fn push_placed_registers(
 }
 
 // Appends the heading of those registers, if there are any.
-fn push_placed_heading(
-    out: &mut String,
-    registers: &[(&'static str, AddressFacts)],
-) -> Result<(), AllocError>
+fn push_placed_heading(out: &mut String, registers: &[(&'static str, AddressFacts)]) -> Added
     ensures { Adds out.old out.new
         (placed_heading (map (λ r. (r.0.now, r.1)) registers.now)) result }
 {
@@ -177,7 +149,7 @@ fn push_each_placed(
     out: &mut String,
     crash: &Crash<'_>,
     registers: &[(&'static str, AddressFacts)],
-) -> Result<(), AllocError>
+) -> Added
     ensures { Adds out.old out.new (flat_map (placed_lines (crash_of crash.now))
         (map (λ r. (r.0.now, r.1)) registers.now)) result }
 {
@@ -188,12 +160,7 @@ fn push_each_placed(
 }
 
 // Appends the line of a register, if its value lies in a module or a stack.
-fn push_if_placed(
-    out: &mut String,
-    crash: &Crash<'_>,
-    name: &str,
-    facts: &AddressFacts,
-) -> Result<(), AllocError>
+fn push_if_placed(out: &mut String, crash: &Crash<'_>, name: &str, facts: &AddressFacts) -> Added
     ensures { Adds out.old out.new
         (placed_lines (crash_of crash.now) (name.now, facts.now)) result }
 {
@@ -207,11 +174,7 @@ fn push_if_placed(
 // ---- the instruction pointer
 
 // Appends the line of an instruction pointer, unless it is ordinary.
-fn push_instruction(
-    out: &mut String,
-    crash: &Crash<'_>,
-    facts: &AddressFacts,
-) -> Result<(), AllocError>
+fn push_instruction(out: &mut String, crash: &Crash<'_>, facts: &AddressFacts) -> Added
     ensures { Adds out.old out.new (instruction_lines (crash_of crash.now) facts.now) result }
 {
     if is_ordinary(facts) {
@@ -235,7 +198,7 @@ fn is_ordinary(facts: &AddressFacts) -> bool
 // ---- the code
 
 // Appends the line of the bytes at an address, if there are any.
-fn push_code(out: &mut String, address: u64, code: &[u8]) -> Result<(), AllocError>
+fn push_code(out: &mut String, address: u64, code: &[u8]) -> Added
     ensures { Adds out.old out.new (code_lines address code.now) result }
 {
     match code {
@@ -244,20 +207,13 @@ fn push_code(out: &mut String, address: u64, code: &[u8]) -> Result<(), AllocErr
     }
 }
 
+#[rattlefmt::skip]
 #[tactic(auto, unfolding(crate::specs::Point::code_row))]
-fn push_code_row(out: &mut String, address: u64, code: &[u8]) -> Result<(), AllocError>
+fn push_code_row(out: &mut String, address: u64, code: &[u8]) -> Added
     ensures { Adds out.old out.new (code_row address code.now ∷ []) result }
 {
     let bytes = bytes_words(*out.allocator(), code)?;
-    push_line(
-        out,
-        &[
-            Words("bytes at "),
-            Hex(address),
-            Words(":"),
-            Words(bytes.as_str()),
-        ],
-    )
+    push_line(out, &[Words("bytes at "), Hex(address), Words(":"), Words(bytes.as_str())])
 }
 
 // Makes the words for bytes.
@@ -266,26 +222,15 @@ fn bytes_words(alloc: Global, bytes: &[u8]) -> Result<String, AllocError>
 {
     let mut words = String::new(alloc);
     for byte in bytes {
-        push_byte(&mut words, *byte)?;
+        push_pieces(&mut words, &[Words(" "), WideDigits(*byte as u64, 2)])?;
     }
     Ok(words)
 }
 
-// Appends the words for a byte.
-fn push_byte(words: &mut String, byte: u8) -> Result<(), AllocError>
-    ensures { OnOk result (string_bytes words.new ≡ string_bytes words.old ++ byte_words byte) }
-{
-    push_pieces(words, &[Words(" "), WideDigits(byte as u64, 2)])
-}
-
 // ---- the words
 
-// Appends the words of a stack.
-fn push_stack_words(
-    out: &mut String,
-    modules: &[CrashModule],
-    words: &[StackWord],
-) -> Result<(), AllocError>
+// Appends the words of a stack, after a heading if there are any.
+fn push_stack_words(out: &mut String, modules: &[CrashModule], words: &[StackWord]) -> Added
     ensures { Adds out.old out.new (words_lines (map loaded_of modules.now) words.now) result }
 {
     push_words_heading(out, words)?;
@@ -293,7 +238,7 @@ fn push_stack_words(
 }
 
 // Appends the heading of words, if there are any.
-fn push_words_heading(out: &mut String, words: &[StackWord]) -> Result<(), AllocError>
+fn push_words_heading(out: &mut String, words: &[StackWord]) -> Added
     ensures { Adds out.old out.new (words_heading words.now) result }
 {
     match words {
@@ -303,13 +248,8 @@ fn push_words_heading(out: &mut String, words: &[StackWord]) -> Result<(), Alloc
 }
 
 // Appends the lines of words.
-fn push_each_word(
-    out: &mut String,
-    modules: &[CrashModule],
-    words: &[StackWord],
-) -> Result<(), AllocError>
-    ensures { Adds out.old out.new
-        (map (word_line (map loaded_of modules.now)) words.now) result }
+fn push_each_word(out: &mut String, modules: &[CrashModule], words: &[StackWord]) -> Added
+    ensures { Adds out.old out.new (map (word_line (map loaded_of modules.now)) words.now) result }
 {
     for word in words {
         push_word(out, modules, word)?;
@@ -318,23 +258,13 @@ fn push_each_word(
 }
 
 // Appends the line of a word.
-fn push_word(out: &mut String, modules: &[CrashModule], word: &StackWord) -> Result<(), AllocError>
-    ensures { Adds out.old out.new
-        (word_line (map loaded_of modules.now) word.now ∷ []) result }
+#[rattlefmt::skip]
+#[tactic(auto, unfolding(crate::specs::Point::word_line))]
+fn push_word(out: &mut String, modules: &[CrashModule], word: &StackWord) -> Added
+    ensures { Adds out.old out.new (word_line (map loaded_of modules.now) word.now ∷ []) result }
 {
     let place = place_text(*out.allocator(), modules, "", word.module)?;
-    push_word_row(out, word.address, word.value, place.as_str())
-}
-
-#[rattlefmt::skip]
-#[tactic(auto, unfolding(crate::specs::Point::word_row))]
-fn push_word_row(
-    out: &mut String,
-    address: u64,
-    value: u64,
-    place: &str,
-) -> Result<(), AllocError>
-    ensures { Adds out.old out.new (word_row address value place.now ∷ []) result }
-{
-    push_line(out, &[Words("    "), Hex(address), Words(" "), Hex(value), Words(place)])
+    push_line(out, &[
+        Words("    "), Hex(word.address), Words(" "), Hex(word.value), Words(place.as_str()),
+    ])
 }

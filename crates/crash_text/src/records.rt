@@ -5,25 +5,47 @@ ghost use Rattle.std.specs.Option.{option_map};
 ghost use Rattle.crash.specs.Cause.{exception_of};
 ghost use Rattle.crash_text.specs.Records.{access_words, code_words, described_text};
 ghost use Rattle.crash_text.specs.Records.{description_words, parameter_words, parameters_words};
-ghost use Rattle.crash_text.specs.Records.{process_words, record_text};
+ghost use Rattle.crash_text.specs.Records.{process_words, record_text, record_words};
 ghost use Rattle.crash_text.specs.Records.{sender_words, unless_zero, user_words};
 
+use crate::lines::Added;
 use crash::{Access, CrashException, Sender, SignalCode};
 use minidump::text::Piece::{Decimal, Hex, Words};
 use minidump::text::push_pieces;
 use std::alloc::{AllocError, Global};
 
-// Makes the words for what the record of an exception says beside its code and where it happened.
+// Makes the words for what the record of an exception says beside its code and where it happened:
+// not its flags and parameters if LLDB wrote its description over them.
 pub(crate) fn record_text(alloc: Global, exception: &CrashException) -> Result<String, AllocError>
-    ensures { IfOk result
-        (λ words. string_bytes words ≡ record_text (exception_of exception.now)) }
+    ensures { IfOk result (λ words. string_bytes words ≡ record_text (exception_of exception.now)) }
+{
+    match &exception.description {
+        Some(_) => record_words(alloc, exception, 0, &[]),
+        None => record_words(
+            alloc,
+            exception,
+            exception.flags,
+            exception.parameters.as_slice(),
+        ),
+    }
+}
+
+// Makes the same words with these flags and parameters.
+fn record_words(
+    alloc: Global,
+    exception: &CrashException,
+    flags: u32,
+    parameters: &[u64],
+) -> Result<String, AllocError>
+    ensures { IfOk result (λ words. string_bytes words
+        ≡ record_words (exception_of exception.now) flags parameters.now) }
 {
     let mut words = String::new(alloc);
-    push_unless_zero(&mut words, ", flags ", exception.flags as u64)?;
+    push_unless_zero(&mut words, ", flags ", flags as u64)?;
     push_unless_zero(&mut words, ", nested record at ", exception.nested)?;
     words.push_str(access_words(exception.access))?;
     push_sender(&mut words, exception.sender)?;
-    push_parameters(&mut words, exception.parameters.as_slice())?;
+    push_parameters(&mut words, parameters)?;
     Ok(words)
 }
 
@@ -41,7 +63,7 @@ pub(crate) fn described_text(
 }
 
 // Appends LLDB's description of an exception, if there is one.
-fn push_description(words: &mut String, description: &Option<String>) -> Result<(), AllocError>
+fn push_description(words: &mut String, description: &Option<String>) -> Added
     ensures { OnOk result (string_bytes words.new ≡ string_bytes words.old
         ++ description_words (option_map string_bytes description.now)) }
 {
@@ -52,7 +74,7 @@ fn push_description(words: &mut String, description: &Option<String>) -> Result<
 }
 
 // Appends a number after its words, unless it is 0.
-fn push_unless_zero(words: &mut String, name: &str, number: u64) -> Result<(), AllocError>
+fn push_unless_zero(words: &mut String, name: &str, number: u64) -> Added
     ensures { OnOk result
         (string_bytes words.new ≡ string_bytes words.old ++ unless_zero name.now number) }
 {
@@ -76,9 +98,8 @@ fn access_words(access: Option<Access>) -> &'static str
 }
 
 // Appends the process that sent a signal with its user and how, if one did.
-fn push_sender(words: &mut String, sender: Option<Sender>) -> Result<(), AllocError>
-    ensures { OnOk result
-        (string_bytes words.new ≡ string_bytes words.old ++ sender_words sender) }
+fn push_sender(words: &mut String, sender: Option<Sender>) -> Added
+    ensures { OnOk result (string_bytes words.new ≡ string_bytes words.old ++ sender_words sender) }
 {
     match sender {
         Some(sender) => {
@@ -92,17 +113,16 @@ fn push_sender(words: &mut String, sender: Option<Sender>) -> Result<(), AllocEr
 
 // Appends the process that sent a signal.
 #[rattlefmt::skip]
-fn push_process(words: &mut String, id: u32) -> Result<(), AllocError>
+fn push_process(words: &mut String, id: u32) -> Added
     ensures { OnOk result (string_bytes words.new ≡ string_bytes words.old ++ process_words id) }
 {
-    push_pieces(
-        words,
-        &[Words(", sent by process "), Decimal(id as u64), Words(" ("), Hex(id as u64), Words(")")],
-    )
+    push_pieces(words, &[
+        Words(", sent by process "), Decimal(id as u64), Words(" ("), Hex(id as u64), Words(")"),
+    ])
 }
 
 // Appends the user of that process, if it is known.
-fn push_user(words: &mut String, user: Option<u32>) -> Result<(), AllocError>
+fn push_user(words: &mut String, user: Option<u32>) -> Added
     ensures { OnOk result (string_bytes words.new ≡ string_bytes words.old ++ user_words user) }
 {
     match user {
@@ -112,14 +132,14 @@ fn push_user(words: &mut String, user: Option<u32>) -> Result<(), AllocError>
 }
 
 // Appends how a signal was sent.
-fn push_code(words: &mut String, code: SignalCode) -> Result<(), AllocError>
+fn push_code(words: &mut String, code: SignalCode) -> Added
     ensures { OnOk result (string_bytes words.new ≡ string_bytes words.old ++ code_words code) }
 {
     push_pieces(words, &[Words(", "), Words(code.name())])
 }
 
 // Appends the parameters, if there are any.
-fn push_parameters(words: &mut String, parameters: &[u64]) -> Result<(), AllocError>
+fn push_parameters(words: &mut String, parameters: &[u64]) -> Added
     ensures { OnOk result
         (string_bytes words.new ≡ string_bytes words.old ++ parameters_words parameters.now) }
 {
@@ -133,7 +153,7 @@ fn push_parameters(words: &mut String, parameters: &[u64]) -> Result<(), AllocEr
 }
 
 // Appends the parameters after the first.
-fn push_others(words: &mut String, others: &[u64]) -> Result<(), AllocError>
+fn push_others(words: &mut String, others: &[u64]) -> Added
     ensures { OnOk result
         (string_bytes words.new ≡ string_bytes words.old ++ flat_map parameter_words others.now) }
 {

@@ -1,17 +1,16 @@
-ghost use Rattle.std.specs.Prelude.{◌≡◌, [], ◌∷◌, ◌++◌, IfOk, OnOk, Some, map, string_bytes};
+ghost use Rattle.std.specs.Prelude.{◌≡◌, [], ◌∷◌, ◌++◌, IfOk, OnOk, map, string_bytes};
 ghost use Rattle.std.specs.List.{flat_map};
 ghost use Rattle.std.specs.Option.{option_copied, option_map};
-ghost use Rattle.crash.specs.declared.contexts.ContextProblem.TheVariants.{NotAccepted};
 ghost use Rattle.crash.specs.Cause.{exception_of};
 ghost use Rattle.crash.specs.Contexts.{context_of};
 ghost use Rattle.crash.specs.Crash.{crash_of};
 ghost use Rattle.crash_text.specs.Lines.{Adds};
-ghost use Rattle.crash_text.specs.Registers.{context_lines, crashed_context, heading_of};
+ghost use Rattle.crash_text.specs.Registers.{crashed_context, heading_of};
 ghost use Rattle.crash_text.specs.Registers.{heading_row, short_row};
 ghost use Rattle.crash_text.specs.Registers.{known_lines, register_row, register_words};
 ghost use Rattle.crash_text.specs.Registers.{registers_lines, rows, unused_lines};
 
-use crate::lines::push_line;
+use crate::lines::{Added, push_line};
 use crate::words::push_words;
 use crash::{ContextOrigin, ContextProblem, Crash, CrashContext, CrashException, ShortContext};
 use minidump::text::Piece::{Decimal, Left, Wide, Words};
@@ -24,7 +23,7 @@ pub(crate) fn push_registers(
     out: &mut String,
     crash: &Crash<'_>,
     exception: &CrashException,
-) -> Result<(), AllocError>
+) -> Added
     ensures { Adds out.old out.new
         (registers_lines (crash_of crash.now) (exception_of exception.now)) result }
 {
@@ -37,43 +36,35 @@ pub(crate) fn push_registers(
     }
 }
 
-// Appends why the context of an exception isn't used, if it is no context of the processor.
-#[tactic(auto, unfolding(crate::specs::Registers::unusable_row))]
-fn push_unused(out: &mut String, problem: Option<ContextProblem>) -> Result<(), AllocError>
+// Appends that the context of an exception is no context of the processor, if it isn't and has bytes.
+#[rattlefmt::skip]
+#[tactic(auto, unfolding(crate::specs::Registers::unused_lines))]
+fn push_unused(out: &mut String, problem: Option<ContextProblem>) -> Added
     ensures { Adds out.old out.new (unused_lines problem) result }
 {
     match problem {
-        Some(ContextProblem::NotAccepted { size }) => push_unusable(out, size),
+        Some(ContextProblem::NotAccepted { size }) => {
+            if size == 0 {
+                return Ok(());
+            }
+            push_line(out, &[
+                Words("the context of the exception can't be read, "), Decimal(size as u64),
+                Words(" bytes"),
+            ])
+        }
         Some(ContextProblem::Outside | ContextProblem::NoSystem) | None => Ok(()),
     }
-}
-
-// Appends that so many bytes are no context, if there are any.
-#[rattlefmt::skip]
-#[tactic(auto, unfolding(crate::specs::Registers::unusable_row))]
-fn push_unusable(out: &mut String, size: usize) -> Result<(), AllocError>
-    ensures { Adds out.old out.new (unused_lines (Some (NotAccepted size))) result }
-{
-    if size == 0 {
-        return Ok(());
-    }
-    push_line(
-        out,
-        &[Words("the context of the exception can't be read, "), Decimal(size as u64),
-            Words(" bytes")],
-    )
 }
 
 // Returns the registers of the thread that crashed.
 fn crashed_context<'l>(crash: &'l Crash<'_>) -> Option<&'l CrashContext>
     ensures { option_map context_of (option_copied result) ≡ crashed_context (crash_of crash.now) }
 {
-    let threads = crash.threads.threads.as_slice();
-    threads.get(crash.threads.crashing?)?.context.as_ref()
+    crash.threads.crashed()?.1.context.as_ref()
 }
 
 // Appends registers, or that there are none.
-fn push_known(out: &mut String, context: Option<&CrashContext>) -> Result<(), AllocError>
+fn push_known(out: &mut String, context: Option<&CrashContext>) -> Added
     ensures { Adds out.old out.new
         (known_lines (option_map context_of (option_copied context.entry))) result }
 {
@@ -87,11 +78,7 @@ fn push_known(out: &mut String, context: Option<&CrashContext>) -> Result<(), Al
 }
 
 // Appends the line of whose registers they are, and how much of their context there is, if it is cut.
-fn push_heading(
-    out: &mut String,
-    origin: ContextOrigin,
-    short: Option<ShortContext>,
-) -> Result<(), AllocError>
+fn push_heading(out: &mut String, origin: ContextOrigin, short: Option<ShortContext>) -> Added
     ensures { Adds out.old out.new (heading_row origin short ∷ []) result }
 {
     match short {
@@ -108,14 +95,13 @@ pub(crate) fn push_short<'t>(
     first: &'t str,
     second: &'t str,
     short: ShortContext,
-) -> Result<(), AllocError>
+) -> Added
     ensures { Adds out.old out.new (short_row first.now second.now short ∷ []) result }
 {
-    push_line(
-        out,
-        &[Words(first), Words(second), Words("context of "), Decimal(short.size as u64),
-            Words(" of "), Decimal(short.whole as u64), Words(" bytes")],
-    )
+    push_line(out, &[
+        Words(first), Words(second), Words("context of "), Decimal(short.size as u64),
+        Words(" of "), Decimal(short.whole as u64), Words(" bytes"),
+    ])
 }
 
 // Returns the words for whose registers they are.
@@ -129,11 +115,7 @@ fn heading_of(origin: ContextOrigin) -> &'static str
 }
 
 // Appends the rows of registers, four a row, of which each has so many bytes.
-fn push_rows(
-    out: &mut String,
-    registers: &[(&'static str, u64)],
-    size: usize,
-) -> Result<(), AllocError>
+fn push_rows(out: &mut String, registers: &[(&'static str, u64)], size: usize) -> Added
     ensures { Adds out.old out.new (map (register_row size)
         (rows (map (λ r. (r.0.now, r.1)) registers.now))) result }
 {
@@ -145,7 +127,7 @@ fn push_rows(
 
 // Appends a row of registers.
 #[tactic(auto, unfolding(crate::specs::Registers::register_row))]
-fn push_row(out: &mut String, row: &[(&'static str, u64)], size: usize) -> Result<(), AllocError>
+fn push_row(out: &mut String, row: &[(&'static str, u64)], size: usize) -> Added
     ensures { Adds out.old out.new
         (register_row size (map (λ r. (r.0.now, r.1)) row.now) ∷ []) result }
 {
@@ -167,7 +149,7 @@ fn row_words(alloc: Global, row: &[(&'static str, u64)], size: usize) -> Result<
 
 // Appends the words for a register: its name in three columns, and its value.
 #[rattlefmt::skip]
-fn push_register(words: &mut String, name: &str, value: u64, size: usize) -> Result<(), AllocError>
+fn push_register(words: &mut String, name: &str, value: u64, size: usize) -> Added
     ensures { OnOk result (string_bytes words.new
         ≡ string_bytes words.old ++ register_words size (name.now, value)) }
 {

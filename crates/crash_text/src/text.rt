@@ -7,14 +7,17 @@ ghost use Rattle.crash.specs.Crash.{crash_in, crash_of};
 ghost use Rattle.crash_symbols.specs.Shown.{symbolized_of};
 ghost use Rattle.crash_text.specs.Escape.{is_printed};
 ghost use Rattle.crash_text.specs.Lines.{Adds};
-ghost use Rattle.crash_text.specs.Text.{first_lines, last_lines, lines_of, text_of, threads_lines};
+ghost use Rattle.crash_text.specs.Page.{page_of};
+ghost use Rattle.crash_text.specs.Text.{first_lines, lines_of, text_of, threads_lines};
 
 use crate::damage::push_damage;
 use crate::exceptions::{push_crash, push_none};
 use crate::limits::TextLimits;
+use crate::lines::Added;
 use crate::lists::push_lists;
 use crate::messages::push_messages;
 use crate::modules::push_modules;
+use crate::page::Page;
 use crate::system::push_head;
 use crate::threads::{push_crashed, push_others};
 use crash::Crash;
@@ -49,11 +52,11 @@ pub fn crash_text(
 /// with the walks by frame pointers.
 ///
 /// Returns `AllocError` if an allocation fails.
-pub fn text_of(
+pub fn text_of<'l>(
     alloc: Global,
-    crash: &Crash<'_>,
-    limits: &TextLimits,
-    symbols: Option<&Symbolized<'_, '_>>,
+    crash: &'l Crash<'_>,
+    limits: &'l TextLimits,
+    symbols: Option<&'l Symbolized<'_, '_>>,
 ) -> Result<String, AllocError>
     ensures text { IfOk result (λ text. string_bytes text ≡ text_of limits.now
         (option_map symbolized_of (option_copied symbols.entry)) (crash_of crash.now)) }
@@ -61,27 +64,29 @@ pub fn text_of(
     ensures printed { IfOk result (λ text. list_all is_printed (string_bytes text) ≡ true) }
 {
     let mut text = String::new(alloc);
-    push_lines(&mut text, crash, limits, symbols)?;
+    push_lines(
+        &mut text,
+        Page {
+            crash,
+            limits,
+            symbols,
+        },
+    )?;
     Ok(text)
 }
 
 // Appends the lines of a crash.
-fn push_lines(
-    out: &mut String,
-    crash: &Crash<'_>,
-    limits: &TextLimits,
-    symbols: Option<&Symbolized<'_, '_>>,
-) -> Result<(), AllocError>
-    ensures { Adds out.old out.new (lines_of limits.now
-        (option_map symbolized_of (option_copied symbols.entry)) (crash_of crash.now)) result }
+fn push_lines(out: &mut String, page: Page<'_, '_, '_, '_>) -> Added
+    ensures { Adds out.old out.new (lines_of (page_of page.entry)) result }
 {
-    push_first(out, crash)?;
-    push_threads(out, crash, limits, symbols)?;
-    push_last(out, crash, limits, symbols)
+    push_first(out, page.crash)?;
+    push_threads(out, page)?;
+    push_modules(out, page, page.crash.contents.space.modules_error)?;
+    push_lists(out, page)
 }
 
 // Appends that nothing crashed, the system, the process, the crash, and what can't be read.
-fn push_first(out: &mut String, crash: &Crash<'_>) -> Result<(), AllocError>
+fn push_first(out: &mut String, crash: &Crash<'_>) -> Added
     ensures { Adds out.old out.new (first_lines (crash_of crash.now)) result }
 {
     push_none(out, crash.cause.exceptions.as_slice())?;
@@ -91,36 +96,10 @@ fn push_first(out: &mut String, crash: &Crash<'_>) -> Result<(), AllocError>
 }
 
 // Appends the thread that crashed, what the process said, and the other threads.
-fn push_threads(
-    out: &mut String,
-    crash: &Crash<'_>,
-    limits: &TextLimits,
-    symbols: Option<&Symbolized<'_, '_>>,
-) -> Result<(), AllocError>
-    ensures { Adds out.old out.new (threads_lines limits.now
-        (option_map symbolized_of (option_copied symbols.entry)) (crash_of crash.now)) result }
+fn push_threads(out: &mut String, page: Page<'_, '_, '_, '_>) -> Added
+    ensures { Adds out.old out.new (threads_lines (page_of page.entry)) result }
 {
-    push_crashed(out, crash, limits, symbols)?;
-    push_messages(out, &crash.contents.messages)?;
-    push_others(out, crash, limits, symbols)
-}
-
-// Appends the modules, and the other lists.
-fn push_last(
-    out: &mut String,
-    crash: &Crash<'_>,
-    limits: &TextLimits,
-    symbols: Option<&Symbolized<'_, '_>>,
-) -> Result<(), AllocError>
-    ensures { Adds out.old out.new (last_lines limits.now
-        (option_map symbolized_of (option_copied symbols.entry)) (crash_of crash.now)) result }
-{
-    push_modules(
-        out,
-        crash,
-        limits,
-        symbols,
-        crash.contents.space.modules_error,
-    )?;
-    push_lists(out, crash, limits)
+    push_crashed(out, page)?;
+    push_messages(out, &page.crash.contents.messages)?;
+    push_others(out, page, page.crash.threads.threads.as_slice())
 }

@@ -1,55 +1,49 @@
 ghost use Rattle.std.specs.Prelude.{◌≡◌, [], ◌∷◌, ◌++◌, ◌||◌, IfOk, OnOk, codes, if◌then◌else◌, map};
-ghost use Rattle.std.specs.Prelude.{string_bytes, true};
-ghost use Rattle.std.specs.Option.{option_copied, option_map};
+ghost use Rattle.std.specs.Prelude.{string_bytes};
+ghost use Rattle.std.specs.Option.{option_map};
 ghost use Rattle.minidump.specs.Below.Contexts.Context.{map_ok};
 ghost use Rattle.minidump.specs.Promise.{thread_list_stream};
 ghost use Rattle.crash.specs.Contexts.{context_of};
-ghost use Rattle.crash.specs.Crash.{crash_of};
 ghost use Rattle.crash.specs.Process.{system_of};
 ghost use Rattle.crash.specs.Threads.{thread_value};
-ghost use Rattle.crash_symbols.specs.Shown.{shown_in, shown_of, symbolized_of};
+ghost use Rattle.crash_symbols.specs.Shown.{shown_of};
 ghost use Rattle.crash_text.specs.Lines.{Adds, if_some};
-ghost use Rattle.crash_text.specs.Threads.{crashed_lines, crashed_thread, each_other};
-ghost use Rattle.crash_text.specs.Threads.{found_lines, indexed_lines};
-ghost use Rattle.crash_text.specs.Threads.{frames_at, frames_in, frames_of, is_index, is_range};
-ghost use Rattle.crash_text.specs.Threads.{memory_lines, no_walk_row, other_lines, others_lines};
-ghost use Rattle.crash_text.specs.Threads.{problem_row, range_row, remark, short_lines, stack_lines};
-ghost use Rattle.crash_text.specs.Threads.{thread_lines, thread_row};
-ghost use Rattle.crash_text.specs.Threads.{shows_all};
+ghost use Rattle.crash_text.specs.Page.{page_of};
+ghost use Rattle.crash_text.specs.Threads.{crashed_lines, each_other};
+ghost use Rattle.crash_text.specs.Threads.{found_lines, frames_at, frames_in, frames_of};
+ghost use Rattle.crash_text.specs.Threads.{is_index, is_range, memory_lines};
+ghost use Rattle.crash_text.specs.Threads.{no_walk_row, other_lines, range_row, remark};
+ghost use Rattle.crash_text.specs.Threads.{short_lines, shows_all, stack_lines, thread_lines};
+ghost use Rattle.crash_text.specs.Threads.{thread_row, walked_lines};
 ghost use Rattle.crash_text.specs.Words.{missing_lines};
 
 use crate::frames::{push_frames_of, push_walk};
 use crate::limits::TextLimits;
-use crate::lines::push_line;
+use crate::lines::{Added, push_line};
+use crate::page::Page;
 use crate::registers::push_short;
 use crate::words::{or_empty, push_if_missing, push_text, push_words, where_some};
 use crash::{
     ContextProblem, Crash, CrashContext, CrashFrame, CrashSystem, CrashThread, StackRange,
 };
-use crash_symbols::{ShownWalk, Symbolized, shown_walk};
+use crash_symbols::{ShownWalk, shown_walk};
 use minidump::text::Piece::{Decimal, Hex, Words};
 use minidump::{Error, MinidumpThreadList};
 use std::alloc::{AllocError, Global};
 
 // Appends the lines of the thread that crashed, or that there are no threads.
-pub(crate) fn push_crashed(
-    out: &mut String,
-    crash: &Crash<'_>,
-    limits: &TextLimits,
-    symbols: Option<&Symbolized<'_, '_>>,
-) -> Result<(), AllocError>
-    ensures { Adds out.old out.new (crashed_lines limits.now
-        (option_map symbolized_of (option_copied symbols.entry)) (crash_of crash.now)) result }
+pub(crate) fn push_crashed(out: &mut String, page: Page<'_, '_, '_, '_>) -> Added
+    ensures { Adds out.old out.new (crashed_lines (page_of page.entry)) result }
 {
-    push_missing(out, &crash.contents.threads.threads)?;
-    push_if_crashed(out, crash, limits, symbols, crashed_thread(crash))
+    push_missing(out, &page.crash.contents.threads.threads)?;
+    match page.crash.threads.crashed() {
+        Some((number, thread)) => push_thread(out, page, true, number, thread),
+        None => Ok(()),
+    }
 }
 
 // Appends that there are no threads, if their list is missing.
-fn push_missing(
-    out: &mut String,
-    threads: &Result<MinidumpThreadList<'_>, Error>,
-) -> Result<(), AllocError>
+fn push_missing(out: &mut String, threads: &Result<MinidumpThreadList<'_>, Error>) -> Added
     ensures { Adds out.old out.new (missing_lines (codes "no threads")
         (map_ok thread_list_stream.value threads.now)) result }
 {
@@ -59,67 +53,17 @@ fn push_missing(
     }
 }
 
-// Returns the thread that crashed, with its index.
-fn crashed_thread<'l>(crash: &'l Crash<'_>) -> Option<(usize, &'l CrashThread)>
-    ensures { option_map (λ p. (p.0, thread_value p.1.now)) result
-        ≡ crashed_thread (crash_of crash.now) }
-{
-    let number = crash.threads.crashing?;
-    let thread = crash.threads.threads.get(number)?;
-    Some((number, thread))
-}
-
-// Appends the lines of the thread that crashed, if there is one.
-fn push_if_crashed(
-    out: &mut String,
-    crash: &Crash<'_>,
-    limits: &TextLimits,
-    symbols: Option<&Symbolized<'_, '_>>,
-    crashed: Option<(usize, &CrashThread)>,
-) -> Result<(), AllocError>
-    ensures { Adds out.old out.new (if_some (indexed_lines limits.now
-        (option_map symbolized_of (option_copied symbols.entry)) (crash_of crash.now))
-        (option_map (λ p. (p.0, thread_value p.1.now)) crashed.entry)) result }
-{
-    match crashed {
-        Some((number, thread)) => push_thread(out, crash, limits, symbols, true, number, thread),
-        None => Ok(()),
-    }
-}
-
-// Appends the lines of the other threads.
+// Appends the lines of those of the threads that didn't crash.
 pub(crate) fn push_others(
     out: &mut String,
-    crash: &Crash<'_>,
-    limits: &TextLimits,
-    symbols: Option<&Symbolized<'_, '_>>,
-) -> Result<(), AllocError>
-    ensures { Adds out.old out.new (others_lines limits.now
-        (option_map symbolized_of (option_copied symbols.entry)) (crash_of crash.now)) result }
-{
-    push_each_other(
-        out,
-        crash,
-        limits,
-        symbols,
-        crash.threads.threads.as_slice(),
-    )
-}
-
-// Appends the lines of those of the threads that didn't crash.
-fn push_each_other(
-    out: &mut String,
-    crash: &Crash<'_>,
-    limits: &TextLimits,
-    symbols: Option<&Symbolized<'_, '_>>,
+    page: Page<'_, '_, '_, '_>,
     threads: &[CrashThread],
-) -> Result<(), AllocError>
-    ensures { Adds out.old out.new (each_other limits.now
-        (option_map symbolized_of (option_copied symbols.entry)) (crash_of crash.now)
-        (map thread_value threads.now)) result }
+) -> Added
+    ensures { Adds out.old out.new
+        (each_other (page_of page.entry) (map thread_value threads.now)) result }
 {
     for (number, thread) in threads.iter().enumerate() {
-        push_other(out, crash, limits, symbols, number, thread)?;
+        push_other(out, page, number, thread)?;
     }
     Ok(())
 }
@@ -127,28 +71,18 @@ fn push_each_other(
 // Appends the lines of a thread with its index, if it isn't the one that crashed.
 fn push_other(
     out: &mut String,
-    crash: &Crash<'_>,
-    limits: &TextLimits,
-    symbols: Option<&Symbolized<'_, '_>>,
+    page: Page<'_, '_, '_, '_>,
     number: usize,
     thread: &CrashThread,
-) -> Result<(), AllocError>
-    ensures { Adds out.old out.new (other_lines limits.now
-        (option_map symbolized_of (option_copied symbols.entry)) (crash_of crash.now) number
-        (thread_value thread.now)) result }
+) -> Added
+    ensures { Adds out.old out.new
+        (other_lines (page_of page.entry) number (thread_value thread.now)) result }
 {
-    if is_index(crash.threads.crashing, number) {
+    let crashing = page.crash.threads.crashing;
+    if is_index(crashing, number) {
         Ok(())
     } else {
-        push_thread(
-            out,
-            crash,
-            limits,
-            symbols,
-            shows_all(limits, crash.threads.crashing),
-            number,
-            thread,
-        )
+        push_thread(out, page, shows_all(page.limits, crashing), number, thread)
     }
 }
 
@@ -172,23 +106,34 @@ fn is_index(index: Option<usize>, number: usize) -> bool
 // Appends the lines of a thread with its index.
 fn push_thread(
     out: &mut String,
-    crash: &Crash<'_>,
-    limits: &TextLimits,
-    symbols: Option<&Symbolized<'_, '_>>,
+    page: Page<'_, '_, '_, '_>,
     is_whole: bool,
     number: usize,
     thread: &CrashThread,
-) -> Result<(), AllocError>
-    ensures { Adds out.old out.new (thread_lines limits.now
-        (option_map symbolized_of (option_copied symbols.entry)) (crash_of crash.now) is_whole number
-        (thread_value thread.now)) result }
+) -> Added
+    ensures { Adds out.old out.new
+        (thread_lines (page_of page.entry) is_whole number (thread_value thread.now)) result }
 {
-    let walk = shown_walk(*out.allocator(), thread, number, symbols)?;
+    let walk = shown_walk(*out.allocator(), thread, number, page.symbols)?;
+    push_walked(out, page, is_whole, thread, &walk)
+}
+
+// Appends the lines of a thread by what is found in its stack.
+fn push_walked(
+    out: &mut String,
+    page: Page<'_, '_, '_, '_>,
+    is_whole: bool,
+    thread: &CrashThread,
+    walk: &Option<ShownWalk<'_, '_>>,
+) -> Added
+    ensures { Adds out.old out.new (walked_lines (page_of page.entry) is_whole
+        (thread_value thread.now) (option_map shown_of walk.now)) result }
+{
     push_row(out, thread.id, &thread.name, remark(thread.is_listed))?;
     push_text(out, "    last error ", &thread.last_error)?;
     push_if_short(out, &thread.context)?;
     push_stack_if(out, is_whole, thread)?;
-    push_found(out, crash, limits, is_whole, thread, &walk)
+    push_found(out, page, is_whole, thread, walk)
 }
 
 // Returns the remark at a thread that the list of threads lacks.
@@ -204,65 +149,46 @@ fn remark(is_listed: bool) -> &'static str
 
 #[rattlefmt::skip]
 #[tactic(auto, unfolding(crate::specs::Threads::thread_row))]
-fn push_row<'x>(
-    out: &mut String,
-    id: u32,
-    name: &'x Option<String>,
-    words: &'x str,
-) -> Result<(), AllocError>
+fn push_row<'x>(out: &mut String, id: u32, name: &'x Option<String>, words: &'x str) -> Added
     ensures { Adds out.old out.new
         (thread_row id (option_map string_bytes name.now) words.now ∷ []) result }
 {
-    push_line(
-        out,
-        &[Words("thread "), Decimal(id as u64), Words(" ("), Hex(id as u64), Words(")"),
-            Words(where_some(" \"", name)), Words(or_empty(name)), Words(where_some("\"", name)),
-            Words(words)],
-    )
+    push_line(out, &[
+        Words("thread "), Decimal(id as u64), Words(" ("), Hex(id as u64), Words(")"),
+        Words(where_some(" \"", name)), Words(or_empty(name)), Words(where_some("\"", name)),
+        Words(words),
+    ])
 }
 
 // Appends how much there is of the context of a thread's registers, if that is cut.
-fn push_if_short(out: &mut String, context: &Option<CrashContext>) -> Result<(), AllocError>
+fn push_if_short(out: &mut String, context: &Option<CrashContext>) -> Added
     ensures { Adds out.old out.new
         (if_some short_lines (option_map context_of context.now)) result }
 {
     match context {
-        Some(context) => push_short_of(out, context),
+        Some(context) => match context.short {
+            Some(short) => push_short(out, "    ", "", short),
+            None => Ok(()),
+        },
         None => Ok(()),
     }
 }
 
-fn push_short_of(out: &mut String, context: &CrashContext) -> Result<(), AllocError>
-    ensures { Adds out.old out.new (short_lines (context_of context.now)) result }
-{
-    match context.short {
-        Some(short) => push_short(out, "    ", "", short),
-        None => Ok(()),
-    }
-}
-
-// Appends the lines of the stack of a thread, if all of its frames are asked for.
-fn push_stack_if(out: &mut String, is_whole: bool, thread: &CrashThread) -> Result<(), AllocError>
+// Appends the lines of the stack of a thread, and of its memory, if all of its frames are asked for.
+fn push_stack_if(out: &mut String, is_whole: bool, thread: &CrashThread) -> Added
     ensures { Adds out.old out.new
         (if is_whole then stack_lines (thread_value thread.now) else []) result }
 {
     if is_whole {
-        push_stack(out, thread)
+        push_named(out, &thread.stack)?;
+        push_memory(out, &thread.stack, &thread.stack_memory)
     } else {
         Ok(())
     }
 }
 
-// Appends the lines of the stack of a thread, and of its memory.
-fn push_stack(out: &mut String, thread: &CrashThread) -> Result<(), AllocError>
-    ensures { Adds out.old out.new (stack_lines (thread_value thread.now)) result }
-{
-    push_named(out, &thread.stack)?;
-    push_memory(out, &thread.stack, &thread.stack_memory)
-}
-
 // Appends the line of a stack as its entry names it, if it does.
-fn push_named(out: &mut String, stack: &Option<StackRange>) -> Result<(), AllocError>
+fn push_named(out: &mut String, stack: &Option<StackRange>) -> Added
     ensures { Adds out.old out.new
         (if_some (λ range. range_row (codes "stack") range ∷ []) stack.now) result }
 {
@@ -273,11 +199,7 @@ fn push_named(out: &mut String, stack: &Option<StackRange>) -> Result<(), AllocE
 }
 
 // Appends the line of the memory of a stack, if it isn't the stack as its entry names it.
-fn push_memory(
-    out: &mut String,
-    stack: &Option<StackRange>,
-    memory: &Option<StackRange>,
-) -> Result<(), AllocError>
+fn push_memory(out: &mut String, stack: &Option<StackRange>, memory: &Option<StackRange>) -> Added
     ensures { Adds out.old out.new (if_some (memory_lines stack.now) memory.now) result }
 {
     match memory {
@@ -299,34 +221,32 @@ fn is_range(range: &StackRange, other: &Option<StackRange>) -> bool
 
 #[rattlefmt::skip]
 #[tactic(auto, unfolding(crate::specs::Threads::range_row))]
-fn push_range(out: &mut String, what: &str, range: &StackRange) -> Result<(), AllocError>
+fn push_range(out: &mut String, what: &str, range: &StackRange) -> Added
     ensures { Adds out.old out.new (range_row what.now range.now ∷ []) result }
 {
-    push_line(
-        out,
-        &[Words("    "), Words(what), Words(" "), Hex(range.base), Words(", "), Hex(range.size),
-            Words(" bytes")],
-    )
+    push_line(out, &[
+        Words("    "), Words(what), Words(" "), Hex(range.base), Words(", "), Hex(range.size),
+        Words(" bytes"),
+    ])
 }
 
 // Appends what is found in the stack of a thread, or why nothing is.
 fn push_found(
     out: &mut String,
-    crash: &Crash<'_>,
-    limits: &TextLimits,
+    page: Page<'_, '_, '_, '_>,
     is_whole: bool,
     thread: &CrashThread,
     walk: &Option<ShownWalk<'_, '_>>,
-) -> Result<(), AllocError>
-    ensures { Adds out.old out.new (found_lines limits.now (crash_of crash.now) is_whole
+) -> Added
+    ensures { Adds out.old out.new (found_lines (page_of page.entry) is_whole
         (thread_value thread.now) (option_map shown_of walk.now)) result }
 {
     match walk {
-        Some(walk) => push_walk(out, limits, crash.modules.loaded.as_slice(), is_whole, walk),
-        None => push_words(
-            out,
-            no_walk_row(&crash.process.system, thread.context_problem),
-        ),
+        Some(walk) => push_walk(out, page, is_whole, walk),
+        None => {
+            let row = no_walk_row(&page.crash.process.system, thread.context_problem);
+            push_words(out, row)
+        }
     }
 }
 
@@ -334,19 +254,10 @@ fn push_found(
 fn no_walk_row(system: &Option<CrashSystem>, problem: Option<ContextProblem>) -> &'static str
     ensures { result.now ≡ no_walk_row (option_map system_of system.now) problem }
 {
-    match system {
-        Some(_) => problem_row(problem),
-        None => "    no frames without system information",
-    }
-}
-
-// Returns why the own context of a thread isn't used.
-fn problem_row(problem: Option<ContextProblem>) -> &'static str
-    ensures { result.now ≡ problem_row problem }
-{
-    match problem {
-        Some(ContextProblem::Outside) => "    its context is outside the file",
-        Some(ContextProblem::NoSystem | ContextProblem::NotAccepted { .. }) | None => {
+    match (system, problem) {
+        (None, _) => "    no frames without system information",
+        (Some(_), Some(ContextProblem::Outside)) => "    its context is outside the file",
+        (Some(_), Some(ContextProblem::NoSystem | ContextProblem::NotAccepted { .. }) | None) => {
             "    no context that can be read"
         }
     }
@@ -355,18 +266,15 @@ fn problem_row(problem: Option<ContextProblem>) -> &'static str
 // Returns the frames of all threads that are printed.
 pub(crate) fn frames_in(
     alloc: Global,
-    limits: &TextLimits,
-    symbols: Option<&Symbolized<'_, '_>>,
-    crashing: Option<usize>,
+    page: Page<'_, '_, '_, '_>,
     threads: &[CrashThread],
 ) -> Result<Vec<CrashFrame>, AllocError>
-    ensures { IfOk result (λ frames. frames.items ≡ frames_in limits.now
-        (option_map symbolized_of (option_copied symbols.entry)) crashing
-        (map thread_value threads.now)) }
+    ensures { IfOk result (λ frames.
+        frames.items ≡ frames_in (page_of page.entry) (map thread_value threads.now)) }
 {
     let mut frames = Vec::new(alloc);
     for (number, thread) in threads.iter().enumerate() {
-        push_frames_at(&mut frames, limits, symbols, crashing, number, thread)?;
+        push_frames_at(&mut frames, page, number, thread)?;
     }
     Ok(frames)
 }
@@ -374,19 +282,17 @@ pub(crate) fn frames_in(
 // Appends the frames of a thread with its index that are printed.
 fn push_frames_at(
     frames: &mut Vec<CrashFrame>,
-    limits: &TextLimits,
-    symbols: Option<&Symbolized<'_, '_>>,
-    crashing: Option<usize>,
+    page: Page<'_, '_, '_, '_>,
     number: usize,
     thread: &CrashThread,
-) -> Result<(), AllocError>
-    ensures { OnOk result (frames.new.items ≡ frames.old.items ++ frames_at limits.now
-        (option_map symbolized_of (option_copied symbols.entry)) crashing number
-        (thread_value thread.now)) }
+) -> Added
+    ensures { OnOk result (frames.new.items ≡ frames.old.items
+        ++ frames_at (page_of page.entry) number (thread_value thread.now)) }
 {
-    let is_whole = is_index(crashing, number) || shows_all(limits, crashing);
-    let walk = shown_walk(*frames.allocator(), thread, number, symbols)?;
-    push_if_found(frames, limits, is_whole, &walk)
+    let crashing = page.crash.threads.crashing;
+    let is_whole = is_index(crashing, number) || shows_all(page.limits, crashing);
+    let walk = shown_walk(*frames.allocator(), thread, number, page.symbols)?;
+    push_if_found(frames, page.limits, is_whole, &walk)
 }
 
 // Appends the frames of a walk that are printed, if there is one.
@@ -395,7 +301,7 @@ fn push_if_found(
     limits: &TextLimits,
     is_whole: bool,
     walk: &Option<ShownWalk<'_, '_>>,
-) -> Result<(), AllocError>
+) -> Added
     ensures { OnOk result (frames.new.items ≡ frames.old.items
         ++ frames_of limits.now is_whole (option_map shown_of walk.now)) }
 {

@@ -1,14 +1,17 @@
 //! Words of lines.
-ghost use Rattle.std.specs.Prelude.{◌≡◌, [], ◌∷◌, string_bytes};
+ghost use Rattle.std.specs.Prelude.{◌≡◌, [], ◌∷◌, IfOk, map, string_bytes};
 ghost use Rattle.std.specs.Option.{option_map};
+ghost use Rattle.crash.specs.Modules.{loaded_of};
 ghost use Rattle.crash_text.specs.Lines.{Adds};
-ghost use Rattle.crash_text.specs.Words.{if_missing, or_empty, text_lines, unless_empty, where_some};
+ghost use Rattle.crash_text.specs.Words.{count_row, if_missing, or_empty, place_text};
+ghost use Rattle.crash_text.specs.Words.{text_lines, unless_empty, where_some};
 
-use crate::lines::push_line;
-use crash::is_missing;
+use crate::lines::{Added, push_line};
+use crash::{CrashModule, is_missing};
 use minidump::Error;
-use minidump::text::Piece::Words;
-use std::alloc::AllocError;
+use minidump::text::Piece::{Decimal, Hex, Words};
+use minidump::text::format_pieces;
+use std::alloc::{AllocError, Global};
 
 // Returns a text, or an empty one if there is none.
 pub(crate) fn or_empty(text: &Option<String>) -> &str
@@ -21,7 +24,7 @@ pub(crate) fn or_empty(text: &Option<String>) -> &str
 }
 
 // Returns words, or none if the text after them is empty.
-pub(crate) fn unless_empty<'t>(words: &'t str, text: &str) -> &'t str
+pub(crate) fn unless_empty(words: &'static str, text: &str) -> &'static str
     ensures { result.now ≡ unless_empty words.now text.now }
 {
     match text.as_bytes() {
@@ -31,7 +34,7 @@ pub(crate) fn unless_empty<'t>(words: &'t str, text: &str) -> &'t str
 }
 
 // Returns words, or none if there is no text.
-pub(crate) fn where_some<'t>(words: &'t str, text: &Option<String>) -> &'t str
+pub(crate) fn where_some(words: &'static str, text: &Option<String>) -> &'static str
     ensures { result.now ≡ where_some words.now (option_map string_bytes text.now) }
 {
     match text {
@@ -42,11 +45,7 @@ pub(crate) fn where_some<'t>(words: &'t str, text: &Option<String>) -> &'t str
 
 // Appends the line of a text after its words, if there is a text.
 #[tactic(auto, unfolding(crate::specs::Words::text_row))]
-pub(crate) fn push_text(
-    out: &mut String,
-    words: &str,
-    text: &Option<String>,
-) -> Result<(), AllocError>
+pub(crate) fn push_text(out: &mut String, words: &str, text: &Option<String>) -> Added
     ensures { Adds out.old out.new
         (text_lines words.now (option_map string_bytes text.now)) result }
 {
@@ -56,8 +55,16 @@ pub(crate) fn push_text(
     }
 }
 
+// Appends the line of the number of something.
+#[tactic(auto, unfolding(crate::specs::Words::count_row))]
+pub(crate) fn push_count(out: &mut String, what: &str, count: usize) -> Added
+    ensures { Adds out.old out.new (count_row what.now count ∷ []) result }
+{
+    push_line(out, &[Words(what), Words(" "), Decimal(count as u64)])
+}
+
 // Appends a line of words if an error says that something is missing.
-pub(crate) fn push_if_missing(out: &mut String, words: &str, error: Error) -> Result<(), AllocError>
+pub(crate) fn push_if_missing(out: &mut String, words: &str, error: Error) -> Added
     ensures { Adds out.old out.new (if_missing words.now error) result }
 {
     if is_missing(error) {
@@ -68,8 +75,31 @@ pub(crate) fn push_if_missing(out: &mut String, words: &str, error: Error) -> Re
 }
 
 // Appends a line of words.
-pub(crate) fn push_words(out: &mut String, words: &str) -> Result<(), AllocError>
+pub(crate) fn push_words(out: &mut String, words: &str) -> Added
     ensures { Adds out.old out.new (words.now ∷ []) result }
 {
     push_line(out, &[Words(words)])
+}
+
+// Makes the words for a place, by the index of a module and the offset in it, or `nowhere` if there
+// is none.
+#[rattlefmt::skip]
+pub(crate) fn place_text(
+    alloc: Global,
+    modules: &[CrashModule],
+    nowhere: &str,
+    place: Option<(usize, u64)>,
+) -> Result<String, AllocError>
+    ensures { IfOk result (λ words. string_bytes words
+        ≡ place_text (map loaded_of modules.now) nowhere.now place) }
+{
+    match place {
+        Some((index, offset)) => match modules.get(index) {
+            Some(module) => format_pieces(alloc, &[
+                Words(" in "), Words(module.path.as_str()), Words("+"), Hex(offset),
+            ]),
+            None => String::from_str(alloc, nowhere),
+        },
+        None => String::from_str(alloc, nowhere),
+    }
 }

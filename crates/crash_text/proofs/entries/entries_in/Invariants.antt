@@ -1,7 +1,7 @@
 -- The entries of the frames so far.
 use Rattle.std.proofs.Common.{◌≡◌, map, take}
 use Rattle.crash_symbols.specs.Shown.{shown_frame_of}
-use Rattle.crash_text.specs.Entries.{entry_of}
+use Rattle.crash_text.specs.Frames.{entry_of}
 use Rattle.crash_text.specs.Frames.{entries_in}
 use Rattle.crash_text.proofs.entries.entries_in.Given as goal
 

@@ -1,7 +1,7 @@
 -- The calls so far.
 use Rattle.std.proofs.Common.{◌≡◌, ◌++◌, map, take}
 use Rattle.crash_symbols.specs.NameParts.{call_of}
-use Rattle.crash_text.specs.Entries.{entry_of}
+use Rattle.crash_text.specs.Frames.{entry_of}
 use Rattle.crash_text.specs.Frames.{call_entry}
 use Rattle.crash_text.proofs.entries.push_calls.Given as goal
 

@@ -1,7 +1,7 @@
 -- One more.
 use Rattle.std.proofs.Common.{map, string_bytes}
 use Rattle.crash.specs.Modules.{loaded_of}
-use Rattle.crash_text.specs.Entries.{entry_of}
+use Rattle.crash_text.specs.Frames.{entry_of}
 use Rattle.crash_text.specs.Frames.{entry_line}
 use Rattle.crash_text.proofs.NumberLemmas.{next_value}
 use Rattle.crash_text.proofs.frames.push_each.Goals as goal

@@ -2,7 +2,7 @@
 use Rattle.std.proofs.Common.{◌≡◌, ◌++◌, map, string_bytes, take}
 use Rattle.std.specs.List.{flat_map}
 use Rattle.crash.specs.Modules.{loaded_of}
-use Rattle.crash_text.specs.Entries.{entry_of}
+use Rattle.crash_text.specs.Frames.{entry_of}
 use Rattle.crash_text.specs.Frames.{each_entry}
 use Rattle.crash_text.specs.Lines.{line_of}
 use Rattle.crash_text.proofs.frames.push_each.Given as goal

@@ -8,4 +8,6 @@ use Rattle.crash_text.proofs.text.text_of.Goals as goal
 
 pub returns-clause-printed : goal.returns-clause-printed
 returns-clause-printed c =
-    rw (c.in_ok-push_lines.ensures, c.new-text.ensures.bytes) (lines_printed (lines_of c.args.limits.now (option_map symbolized_of (option_copied c.args.symbols)) (crash_of c.args.crash.now)))
+    let symbols = option_map symbolized_of (option_copied c.args.symbols) in
+    rw (c.in_ok-push_lines.ensures, c.new-text.ensures.bytes)
+    (lines_printed (lines_of (record { crash = crash_of c.args.crash.now; limits = c.args.limits.now; symbols = symbols })))

@@ -4,7 +4,7 @@ use Rattle.std.specs.List.{flat_map}
 use Rattle.crash.specs.Linux.{limit_of}
 use Rattle.crash_text.specs.Lists.{limit_line}
 use Rattle.crash_text.specs.Lines.{line_of}
-use Rattle.crash_text.proofs.process_lists.push_each_limit.Given as goal
+use Rattle.crash_text.proofs.lists.push_each_limit.Given as goal
 
 abbrev pub invariant-loop-item : goal.invariant-loop-item
 invariant-loop-item l = string_bytes l.out ≡ string_bytes l.fn.out ++ flat_map line_of (map limit_line (map limit_of (take l.item-index l.items)))
