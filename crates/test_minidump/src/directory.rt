@@ -1,4 +1,4 @@
-//! The streams of a dump that have no name, or are never read.
+//! The streams of a dump that have no name, or are never read, and the bytes of a stream.
 
 use minidump::format::{MINIDUMP_LOCATION_DESCRIPTOR, MINIDUMP_STREAM_TYPE};
 use minidump::{Endian, Error, Minidump};
@@ -67,10 +67,17 @@ fn lists_the_never_read(dump: &Minidump<'_>) -> bool {
         && never_read.next().is_none()
 }
 
+// The deciding entry of a type names the bytes; those of one are cut by the file's end.
+fn has_its_bytes(dump: &Minidump<'_>) -> bool {
+    dump.get_raw_stream(0x1122_3344) == Ok(&[0xa2, 0xa3])
+        && dump.get_raw_stream(0x1122_3345) == Err(Error::StreamReadFailure)
+        && dump.get_raw_stream(0x1122_3346) == Err(Error::StreamNotFound)
+}
+
 fn lists_others(alloc: Global) -> Result<bool, Error> {
     let bytes = five(alloc)?;
     let dump = Minidump::read(alloc, &bytes)?;
-    Ok(lists_the_unknown(&dump) && lists_the_never_read(&dump))
+    Ok(lists_the_unknown(&dump) && lists_the_never_read(&dump) && has_its_bytes(&dump))
 }
 
 #[test]

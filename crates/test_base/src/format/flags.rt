@@ -1,4 +1,4 @@
-// Each flag with its bit, by sets: those of minidumpapiset.h, winnt.h, Linux's asm/hwcap.h and
+// Each flag with its bit, and two flags together, by sets: those of minidumpapiset.h, winnt.h, Linux's asm/hwcap.h and
 // Breakpad's headers.
 use crate::assert_text;
 use bitflags::Flags;
@@ -73,6 +73,7 @@ const FLAGS: &str = "\
 0x40000000 CONTEXT_ARM
 0x80000000 CONTEXT_ARM64_OLD
 
+0x104 PAGE_READWRITE | PAGE_GUARD
 ";
 
 // Appends a line for each flag of a set, and an empty line.
@@ -90,7 +91,9 @@ fn push_sets(out: &mut String) -> Result<(), AllocError> {
     push_flags::<MemoryState>(out)?;
     push_flags::<MemoryType>(out)?;
     push_flags::<BreakpadInfoValid>(out)?;
-    push_flags::<ContextFlagsCpu>(out)
+    push_flags::<ContextFlagsCpu>(out)?;
+    let both = MemoryProtection::PAGE_READWRITE | MemoryProtection::PAGE_GUARD;
+    write!(out, "{:#x} PAGE_READWRITE | PAGE_GUARD\n", both.bits())
 }
 
 #[test]

@@ -1,9 +1,11 @@
 use minidump_bytes::Endian;
-use minidump_synth::Section;
+use minidump_format::format::MINIDUMP_DIRECTORY;
+use minidump_synth::{Section, zeroed};
 use std::alloc::{AllocError, Global};
 
 // Numbers; a text after its length; units of one that is cut and one that is filled; texts, bytes
-// and zeros; bytes of another section; and lists, one of which states a header that is too short.
+// and zeros; bytes of another section; lists, one of which states a header that is too short; and a
+// record whose fields are unset.
 #[rattlefmt::skip]
 const LITTLE: &[u8] = &[
     1, 3, 2, 7, 6, 5, 4, 0x0f, 0x0e, 0x0d, 0x0c, 0x0b, 0x0a, 9, 8,
@@ -19,6 +21,7 @@ const LITTLE: &[u8] = &[
     0x0c, 0, 0, 0, 2, 0, 0, 0, 2, 0, 0, 0, 2, 1, 4, 3,
     8, 0, 0, 0, 2, 0, 0, 0, 0, 0, 0, 0,
     0x10, 0, 0, 0, 2, 0, 0, 0, 2, 0, 0, 0, 0, 0, 0, 0, 2, 1, 4, 3,
+    0, 0, 0, 0, 0, 0, 0, 0, 0, 0, 0, 0,
 ];
 
 // The same in the other byte order. Bytes of another section keep their order.
@@ -37,6 +40,7 @@ const BIG: &[u8] = &[
     0, 0, 0, 0x0c, 0, 0, 0, 2, 0, 0, 0, 2, 1, 2, 3, 4,
     0, 0, 0, 8, 0, 0, 0, 2, 0, 0, 0, 0,
     0, 0, 0, 0x10, 0, 0, 0, 2, 0, 0, 0, 2, 0, 0, 0, 0, 1, 2, 3, 4,
+    0, 0, 0, 0, 0, 0, 0, 0, 0, 0, 0, 0,
 ];
 
 const NUMBERS: [u16; 2] = [0x0102, 0x0304];
@@ -71,7 +75,8 @@ fn section_is(alloc: Global, endian: Endian, bytes: &[u8]) -> Result<bool, Alloc
         .list_64(7, &NUMBERS)
         .extended_list(12, &NUMBERS)
         .extended_list(8, none)
-        .handle_list(&NUMBERS);
+        .handle_list(&NUMBERS)
+        .record(&zeroed::<MINIDUMP_DIRECTORY>());
     Ok(section.finish()?.as_slice() == bytes)
 }
 
