@@ -270,10 +270,12 @@ function timeWords(seconds) {
 
 // ---- The crash
 
-// Returns what the page is about: the reason, or why there is none.
+// Returns what the page is about: the reason, the code of an exception without one, or why there is none.
 function titleOf() {
   const reason = part(part(crash, "crash_info"), "type");
   if (reason !== null) return reason;
+  const code = part(counting, "code");
+  if (code !== null) return "Exception " + code;
   const isThere = exceptions.length > 0 || list(part(minidump, "damage")).some((one) => streamName(part(one, "number")) === "ExceptionStream");
   return isThere ? "Exception that can\u2019t be read" : "No exception";
 }
@@ -340,6 +342,8 @@ function systemFacts() {
     ["Resident memory", resident === null ? null : counted(resident) + " bytes"],
     ["Uptime", uptime === null ? null : uptime + " s"],
     ["Boot arguments", part(crash, "mac_boot_args")],
+    ["Crashpad\u2019s report", part(part(minidump, "crashpad"), "report_id")],
+    ["Crashpad\u2019s client", part(part(minidump, "crashpad"), "client_id")],
     ["Soft errors", part(crash, "soft_errors")],
     ["Lines of the memory map", part(crash, "linux_memory_map_count")],
     ["Status", joined([part(crash, "status"), labelled("exit status ", part(minidump, "status"))], ", ")],
@@ -383,7 +387,7 @@ function functionWords(frame) {
 
 const TRUST = { cfi: "call frame information", frame_pointer: "frame pointer" };
 
-// Returns the rows of a frame: the calls put in place there, innermost first, and the frame itself.
+// Returns the rows of a frame: the inlined calls there, innermost first, and the frame itself.
 function rowsOfFrame(frame) {
   const at = part(frame, "offset");
   const rows = list(part(frame, "inlines")).map((call) => [at, part(call, "function"), sourceWords(call), null, "inline"]);
@@ -473,16 +477,22 @@ function symbolWords(module) {
   return joined(states.map(([name, words]) => (part(module, name) === true ? words : null)), ", ");
 }
 
+// Returns the path of a module, or null if it is the name of its file alone.
+function pathOf(module) {
+  const path = part(module, "path");
+  return path === part(module, "filename") ? null : path;
+}
+
 function addModules() {
   const modules = list(part(crash, "modules"));
   if (modules.length === 0) return;
   const main = part(crash, "main_module");
   const rows = modules.map((module, i) => [
-    part(module, "base_addr"), part(module, "end_addr"), part(module, "filename"), part(module, "version"), symbolWords(module),
+    part(module, "base_addr"), part(module, "end_addr"), part(module, "filename"), pathOf(module), part(module, "version"), symbolWords(module),
     membersOf(module, ["debug_file", "debug_id"]), part(module, "code_id"), i === main ? "main" : null,
   ]).sort((a, b) => ascending(address(a[0]), address(b[0])));
-  new Table(section("modules", "Modules: " + counted(modules.length)), [["Base", "code"], ["End", "code"], ["File", ""], ["Version", ""],
-    ["Symbols", ""], ["Debug file", ""], ["Code", ""], ["Program", ""]], rows);
+  new Table(section("modules", "Modules: " + counted(modules.length)), [["Base", "code"], ["End", "code"], ["File", ""], ["Path", ""],
+    ["Version", ""], ["Symbols", ""], ["Debug file", ""], ["Code", ""], ["Program", ""]], rows);
 }
 
 // ---- Other lists
@@ -494,15 +504,22 @@ function addMore(name, columns, rows) {
   folded(place, name + ": " + counted(rows.length), rows.length, (made) => new Table(made, columns, rows));
 }
 
+// Returns the index of the module that annotations are of, with the name of its file if there is one of that index.
+function ownerOf(annotations) {
+  const index = part(annotations, "module_index");
+  return "module " + joined([index, part(list(part(crash, "modules"))[index] ?? null, "filename")], " ");
+}
+
 // Returns the annotations of Crashpad, each with its name and whose it is.
 function annotationsOf() {
   const crashpad = part(minidump, "crashpad");
   const rows = rowsOf(part(crashpad, "annotations"), ["name", "value"]).map((row) => ["process", ...row]);
-  list(part(crashpad, "modules")).forEach((module, i) => {
+  for (const module of list(part(crashpad, "modules"))) {
+    const owner = ownerOf(module);
     const own = [...list(part(module, "annotations")), ...list(part(module, "objects"))];
-    for (const text of list(part(module, "list"))) rows.push(["module " + i, "", text]);
-    for (const row of rowsOf(own, ["name", "value"])) rows.push(["module " + i, ...row]);
-  });
+    for (const text of list(part(module, "list"))) rows.push([owner, "", text]);
+    for (const row of rowsOf(own, ["name", "value"])) rows.push([owner, ...row]);
+  }
   return rows;
 }
 
@@ -524,8 +541,9 @@ function addLists() {
   addMore("Limits of the process", [["Name", ""], ["Soft", ""], ["Hard", ""], ["Unit", ""]],
     rowsOf(part(part(crash, "proc_limits"), "limits"), ["name", "soft", "hard", "unit"]));
   addMore("Environment", [["Name", ""], ["Value", ""]], rowsOf(part(minidump, "environment"), ["name", "value"]));
-  addMore("Unloaded modules", [["Base", "code"], ["End", "code"], ["File", ""], ["Code", ""]],
-    rowsOf(part(crash, "unloaded_modules"), ["base_addr", "end_addr", "filename", "code_id"]));
+  const unloaded = list(part(crash, "unloaded_modules"));
+  addMore("Unloaded modules", [["Base", "code"], ["End", "code"], ["File", ""], ["Path", ""], ["Code", ""]],
+    unloaded.map((one) => [part(one, "base_addr"), part(one, "end_addr"), part(one, "filename"), pathOf(one), part(one, "code_id")]));
   addMore("Streams", [["Type", "code"], ["Name", ""], ["Bytes", ""], ["At", "code"], ["Error", ""]],
     rowsOf(part(minidump, "streams"), ["type", "name", "size", "rva", "error"]));
   addMore("Other members", [["Member", ""], ["Value", ""]], otherMembers());
