@@ -45,7 +45,7 @@ use Rattle.json_tree.specs.Tree.{array_of, count, hex_string, members_of, object
 use Rattle.json_tree.proofs.Depth.{array_within, flat_count, flat_hex, flat_text, numbered_array_within, or_null_within}
 use Rattle.crash_json.specs.declared.JsonLimits.{JsonLimits}
 use Rattle.crash_json.specs.Cause.{address_json, address_members, crash_info_json, crash_object, exception_json, exception_object, memory_json, memory_object, sender_json, sender_object, unread_object}
-use Rattle.crash_json.specs.Crashpad.{annotation_json, annotations_json, crashpad_json, crashpad_module_json, crashpad_modules_json, objects_json, texts_json}
+use Rattle.crash_json.specs.Crashpad.{annotation_json, annotations_json, crashpad_json, crashpad_module_json, crashpad_modules_json, crashpad_object, objects_json, texts_json}
 use Rattle.crash_json.specs.Frames.{frame_json, frame_object, inline_json, inline_object, inlines_json, name_members, name_object, place_members, register_members, registers_json}
 use Rattle.crash_json.specs.Linux.{environment_json, limit_json, limits_json, proc_limits_json, variable_json, variables_json}
 use Rattle.crash_json.specs.Minidump.{crash_part, damage_json, damage_object, file_part, minidump_json, process_part, region_object, region_json, stream_json, stream_object, unless_zero}
@@ -269,9 +269,12 @@ crashpad_module_depth m =
 crashpad_modules_depth : (ms : List Module) → depth (crashpad_modules_json ms) ≤ 4
 crashpad_modules_depth ms = array_within crashpad_module_json 3 ms crashpad_module_depth
 
+crashpad_object_depth : (c : Crashpad) (report_id client_id : List ℕ) → depth (crashpad_object c report_id client_id) ≤ 5
+unfolding crashpad_object
+crashpad_object_depth c report_id client_id = omega (arith, annotations_depth c.simple_annotations, crashpad_modules_depth c.module_list)
+
 crashpad_depth : (c : Crashpad) → depth (crashpad_json c) ≤ 5
-unfolding crashpad_json
-crashpad_depth c = omega (arith, annotations_depth c.simple_annotations, crashpad_modules_depth c.module_list)
+crashpad_depth c = crashpad_object_depth c _ _
 
 -- ---- Linux's limits and environment
 

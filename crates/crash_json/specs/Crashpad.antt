@@ -1,10 +1,11 @@
--- Crashpad's annotations as JSON.
+-- Crashpad's information as JSON.
 use Rattle.std.specs.Prelude.{ℕ, List, [], ◌∷◌, codes}
 use Rattle.json.specs.Json.{Json, string}
+use Rattle.minidump.specs.Below.Format.Guid.{guid_text}
 use Rattle.minidump.specs.Below.Records.Annotations.{Annotation}
 use Rattle.minidump.specs.Below.Records.Crashpad.{Crashpad, Module}
 use Rattle.minidump.specs.Below.Records.CrashpadText.{annotation_text}
-use Rattle.json_tree.specs.Tree.{array_of, object_of}
+use Rattle.json_tree.specs.Tree.{array_of, count, object_of}
 
 -- an annotation by its name and its text
 unfoldable pub annotation_json : List ℕ × List ℕ → Json
@@ -22,10 +23,12 @@ objects_json entries = array_of (λ e. annotation_json (e.0, annotation_text e.1
 abbrev pub texts_json : List (List ℕ) → Json
 texts_json texts = array_of string texts
 
--- the annotations of a module: its list of texts, its dictionary, and those that have a type
+-- the annotations of a module: the index that its link states in the list of modules, its list of
+-- texts, its dictionary, and those that have a type
 unfoldable pub crashpad_module_json : Module → Json
 crashpad_module_json m = object_of (
-    (codes "list", texts_json m.list_annotations)
+    (codes "module_index", count m.module_index)
+    ∷ (codes "list", texts_json m.list_annotations)
     ∷ (codes "annotations", annotations_json m.simple_annotations)
     ∷ (codes "objects", objects_json m.annotation_objects)
     ∷ [])
@@ -34,9 +37,16 @@ crashpad_module_json m = object_of (
 abbrev pub crashpad_modules_json : List Module → Json
 crashpad_modules_json modules = array_of crashpad_module_json modules
 
--- Crashpad's annotations: those of the process, and those of its modules
-unfoldable pub crashpad_json : Crashpad → Json
-crashpad_json c = object_of (
-    (codes "annotations", annotations_json c.simple_annotations)
+-- Crashpad's information by the texts of its two identifiers: these, the annotations of the process,
+-- and those of its modules
+unfoldable pub crashpad_object : Crashpad → List ℕ → List ℕ → Json
+crashpad_object c report_id client_id = object_of (
+    (codes "report_id", string report_id)
+    ∷ (codes "client_id", string client_id)
+    ∷ (codes "annotations", annotations_json c.simple_annotations)
     ∷ (codes "modules", crashpad_modules_json c.module_list)
     ∷ [])
+
+-- the same by its value
+abbrev pub crashpad_json : Crashpad → Json
+crashpad_json c = crashpad_object c (guid_text c.raw.report_id) (guid_text c.raw.client_id)

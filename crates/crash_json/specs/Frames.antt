@@ -72,7 +72,7 @@ source_file source = option_and_then (λ s. s.file) source
 abbrev pub source_line : Option SourceValue → Option ℕ
 source_line source = option_map (λ s. s.line) source
 
--- a call that the compiler put in place, by the names of the function and of the source file
+-- an inlined call, by the names of the function and of the source file
 unfoldable pub inline_object : Option (List ℕ) → Option (List ℕ) → Option ℕ → Json
 inline_object function file line = object_of (
     (codes "function", or_null string function)
@@ -85,7 +85,7 @@ abbrev pub inline_json : CallValue → Json
 inline_json c =
     inline_object (lossy c.function) (lossy (source_file c.source)) (source_line c.source)
 
--- the calls put in place at a frame
+-- the inlined calls at a frame
 abbrev pub inlines_json : List CallValue → Json
 inlines_json calls = array_of inline_json calls
 

@@ -91,8 +91,9 @@ abbrev pub mac_member : MacMember → Json
 mac_member (mac.Scalar s) = scalar_json s
 mac_member (mac.Records records) = array_of mac_record_json (map mac_record_of records.now)
 
--- a member of Crashpad's annotations
+-- a member of Crashpad's information
 abbrev pub crashpad_member : CrashpadMember → Json
+crashpad_member (crashpad.Scalar s) = scalar_json s
 crashpad_member (crashpad.Texts texts) =
     annotations_json (entries_of string_bytes texts.now.entries)
 crashpad_member (crashpad.Modules modules) =
@@ -100,6 +101,7 @@ crashpad_member (crashpad.Modules modules) =
 
 -- a member of those of a module
 abbrev pub module_member : ModuleMember → Json
+module_member (annotations.Scalar s) = scalar_json s
 module_member (annotations.List texts) = texts_json (map string_bytes texts.now.items)
 module_member (annotations.Texts texts) =
     annotations_json (entries_of string_bytes texts.now.entries)

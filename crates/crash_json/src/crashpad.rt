@@ -1,10 +1,12 @@
-//! Crashpad's annotations.
+//! Crashpad's information: its identifiers and its annotations.
 ghost use Rattle.std.specs.Prelude.{◌≡◌, IfOk, map, string_bytes};
 ghost use Rattle.minidump.specs.Below.Records.Annotations.{annotation_of};
+ghost use Rattle.minidump.specs.Below.Records.Crashpad.{crashpad_info_of};
 ghost use Rattle.minidump.specs.Below.Records.CrashpadText.{annotation_text};
 ghost use Rattle.minidump.specs.Below.Records.Dictionary.{entries_of};
 ghost use Rattle.json_tree.specs.Tree.{Puts};
-ghost use Rattle.crash_json.specs.Crashpad.{annotation_json, annotations_json, objects_json};
+ghost use Rattle.crash_json.specs.Crashpad.{annotation_json, annotations_json, crashpad_object};
+ghost use Rattle.crash_json.specs.Crashpad.{objects_json};
 
 use json::Writer;
 use json_tree::{Members, Put, Scalar, ToJson, ValueJson, put_values};
@@ -12,7 +14,7 @@ use minidump::{MinidumpAnnotation, MinidumpCrashpadInfo, MinidumpModuleCrashpadI
 use std::alloc::{AllocError, Global};
 use std::collections::BTreeMap;
 
-/// Gives Crashpad's annotations their JSON value.
+/// Gives Crashpad's information its JSON value.
 #[derive(Clone, Copy)]
 pub(crate) struct CrashpadJson;
 
@@ -27,20 +29,40 @@ impl ValueJson<MinidumpCrashpadInfo> for CrashpadJson {
 
     ghost json_of = { λ _ c. crashpad_json c };
 
-    #[tactic(auto, unfolding(crate::specs::Crashpad::crashpad_json))]
     fn put_value(&self, item: &MinidumpCrashpadInfo, out: &mut Writer, alloc: Global) -> Put {
-        let annotations = &item.simple_annotations;
-        Members(&[
-            ("annotations", CrashpadMember::Texts(annotations)),
-            ("modules", CrashpadMember::Modules(&item.module_list)),
-        ])
-        .put(out, alloc)
+        let report_id = format!(in alloc; "{}", item.raw.report_id)?;
+        let client_id = format!(in alloc; "{}", item.raw.client_id)?;
+        put_crashpad(out, alloc, item, report_id.as_str(), client_id.as_str())
     }
 }
 
-// The value of a member of Crashpad's annotations.
+// Puts Crashpad's information, by the texts of its identifiers.
+#[tactic(auto, unfolding(crate::specs::Crashpad::crashpad_object))]
+fn put_crashpad<'t>(
+    out: &mut Writer,
+    alloc: Global,
+    info: &'t MinidumpCrashpadInfo,
+    report_id: &'t str,
+    client_id: &'t str,
+) -> Put
+    ensures { Puts result out.old out.new
+        (crashpad_object (crashpad_info_of info.now) report_id.now client_id.now) }
+{
+    let (report, client) = (Scalar::Text(Some(report_id)), Scalar::Text(Some(client_id)));
+    let annotations = &info.simple_annotations;
+    Members(&[
+        ("report_id", CrashpadMember::Scalar(report)),
+        ("client_id", CrashpadMember::Scalar(client)),
+        ("annotations", CrashpadMember::Texts(annotations)),
+        ("modules", CrashpadMember::Modules(&info.module_list)),
+    ])
+    .put(out, alloc)
+}
+
+// The value of a member of Crashpad's information.
 #[derive(Clone, Copy)]
 pub(crate) enum CrashpadMember<'l> {
+    Scalar(Scalar<'l>),
     Texts(&'l BTreeMap<String, String>),
     Modules(&'l Vec<MinidumpModuleCrashpadInfo>),
 }
@@ -52,6 +74,7 @@ impl ToJson for CrashpadMember<'_> {
 
     fn put(&self, out: &mut Writer, alloc: Global) -> Put {
         match self {
+            CrashpadMember::Scalar(scalar) => scalar.put(out, alloc),
             CrashpadMember::Texts(texts) => put_annotations(out, alloc, texts),
             CrashpadMember::Modules(modules) => {
                 put_values(out, alloc, modules.as_slice(), &EachModule)
@@ -76,7 +99,9 @@ impl ValueJson<MinidumpModuleCrashpadInfo> for EachModule {
 
     #[tactic(auto, unfolding(crate::specs::Crashpad::crashpad_module_json))]
     fn put_value(&self, item: &MinidumpModuleCrashpadInfo, out: &mut Writer, alloc: Global) -> Put {
+        let index = Scalar::Count(Some(item.module_index));
         Members(&[
+            ("module_index", ModuleMember::Scalar(index)),
             ("list", ModuleMember::List(&item.list_annotations)),
             ("annotations", ModuleMember::Texts(&item.simple_annotations)),
             ("objects", ModuleMember::Objects(&item.annotation_objects)),
@@ -88,6 +113,7 @@ impl ValueJson<MinidumpModuleCrashpadInfo> for EachModule {
 // The value of a member of the annotations of a module.
 #[derive(Clone, Copy)]
 pub(crate) enum ModuleMember<'l> {
+    Scalar(Scalar<'l>),
     List(&'l Vec<String>),
     Texts(&'l BTreeMap<String, String>),
     Objects(&'l BTreeMap<String, MinidumpAnnotation>),
@@ -100,6 +126,7 @@ impl ToJson for ModuleMember<'_> {
 
     fn put(&self, out: &mut Writer, alloc: Global) -> Put {
         match self {
+            ModuleMember::Scalar(scalar) => scalar.put(out, alloc),
             ModuleMember::List(texts) => put_values(out, alloc, texts.as_slice(), &EachText),
             ModuleMember::Texts(texts) => put_annotations(out, alloc, texts),
             ModuleMember::Objects(objects) => put_objects(out, alloc, objects),

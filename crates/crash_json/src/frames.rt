@@ -321,7 +321,7 @@ fn source_line(source: Option<SourceLine<'_>>) -> Option<u64>
     Some(source?.line as u64)
 }
 
-// A call of a list of those that the compiler put in place.
+// An inlined call of a list.
 #[derive(Clone, Copy)]
 struct EachCall;
 

@@ -86,6 +86,7 @@ fn put_module_members(out: &mut Writer, alloc: Global, loaded: &CrashModule) -> 
         ("base_addr", Scalar::Hex(Some(loaded.base))),
         ("end_addr", Scalar::Hex(loaded.end)),
         ("filename", Scalar::Owned(&loaded.file)),
+        ("path", Scalar::Owned(&loaded.path)),
         ("code_id", Scalar::Optional(&loaded.code_id)),
         ("debug_file", Scalar::Optional(&loaded.debug_file)),
         ("debug_id", Scalar::Optional(&loaded.debug_id)),
@@ -166,6 +167,7 @@ impl ValueJson<UnloadedModule> for EachUnloaded {
             ("base_addr", Scalar::Hex(Some(item.base))),
             ("end_addr", Scalar::Hex(item.end)),
             ("filename", Scalar::Owned(&item.file)),
+            ("path", Scalar::Owned(&item.path)),
             ("code_id", Scalar::Optional(&item.code_id)),
         ])
         .put(out, alloc)
