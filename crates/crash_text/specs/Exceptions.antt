@@ -1,11 +1,13 @@
 -- The lines of the crash, and of the exceptions where there are several.
-use Rattle.std.specs.Prelude.{ℕ, ◌++◌, List, [], ◌∷◌, length, map, nat_lt, Option, Some, None}
+use Rattle.std.specs.Prelude.{ℕ, ◌++◌, ◌==◌, List, [], ◌∷◌, length, map, nat_lt, Option, Some, None}
 use Rattle.std.specs.Prelude.{Result, Ok, Err, codes, if◌then◌else◌}
 use Rattle.std.specs.Fmt.{decimal}
 use Rattle.std.specs.List.{concat, enumerate_from}
 use Rattle.minidump.specs.declared.Error.{Error}
 use Rattle.minidump.specs.Below.Bytes.Piece.{hex}
 use Rattle.minidump.specs.Below.Format.Error.{name_of_error}
+use Rattle.crash.specs.declared.contexts.ContextProblem.{ContextProblem}
+use Rattle.crash.specs.declared.contexts.ContextProblem.TheVariants.{NoSystem, NotAccepted, Outside}
 use Rattle.crash.specs.Cause.{ExceptionValue}
 use Rattle.crash.specs.Counting.{counted}
 use Rattle.crash.specs.Crash.{CrashValue}
@@ -38,12 +40,31 @@ counted_lines c e = crashed_row e.thread
 
 -- ---- the exceptions
 
--- the line of an exception with its number: its thread, its code, where it happened, the reason, and
--- what else its record and LLDB say
-unfoldable pub read_line : ℕ → ExceptionValue → List ℕ
-read_line number e = concat (codes "    #" ∷ decimal number ∷ codes " thread " ∷ decimal e.thread
-    ∷ codes " (" ∷ hex e.thread ∷ codes "), code " ∷ hex e.code ∷ codes " at " ∷ hex e.at
-    ∷ unless_empty (codes ", ") (or_empty e.reason) ∷ or_empty e.reason ∷ described_text e ∷ [])
+-- the words for the address of a crash, where there is one other than the place where the exception
+-- happened
+abbrev pub address_text : ℕ → Option ℕ → List ℕ
+address_text place (Some address) =
+    if address == place then [] else concat (codes ", address " ∷ hex address ∷ [])
+address_text place None = []
+
+-- why the context of an exception can't be read. That the system is unknown is said elsewhere
+abbrev pub context_words : Option ContextProblem → List ℕ
+context_words (Some Outside) = codes ", its context is outside the file"
+context_words (Some (NotAccepted size)) = codes ", no context that can be read"
+context_words (Some NoSystem) = []
+context_words None = []
+
+-- the line of an exception with its number: its thread, its code, where it happened, its address, the
+-- reason, what else its record and LLDB say, and why its context can't be read
+unfoldable pub read_row : ℕ → ExceptionValue → List ℕ → List ℕ → List ℕ
+read_row number e address said = concat (codes "    #" ∷ decimal number ∷ codes " thread "
+    ∷ decimal e.thread ∷ codes " (" ∷ hex e.thread ∷ codes "), code " ∷ hex e.code ∷ codes " at "
+    ∷ hex e.at ∷ address ∷ unless_empty (codes ", ") (or_empty e.reason) ∷ or_empty e.reason
+    ∷ said ∷ context_words e.context_problem ∷ [])
+
+-- the same by the exception alone
+abbrev pub read_line : ℕ → ExceptionValue → List ℕ
+read_line number e = read_row number e (address_text e.at e.address) (described_text e)
 
 -- the line of one that can't be read
 unfoldable pub unread_row : ℕ → List ℕ → List ℕ

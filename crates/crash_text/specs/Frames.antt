@@ -25,10 +25,10 @@ use Rattle.crash_text.specs.declared.limits.TextLimits.{TextLimits}
 use Rattle.crash_text.specs.Page.{PageValue}
 use Rattle.crash_text.specs.Words.{place_text}
 
--- ---- a frame, and the calls put in place there
+-- ---- a frame, and the inlined calls there
 
--- a frame, or a call that the compiler put in place there: its function, with the offset of the frame
--- from the function's first, and its source line
+-- a frame, or an inlined call there: its function, with the offset of the frame from the function's
+-- first, and its source line
 pub record EntryValue : Type 0 where
   pub frame : CrashFrame
   pub function : Option (List ℕ)
@@ -46,7 +46,7 @@ entry_of e = record {
   is_inline = e.is_inline;
 }
 
--- a call put in place at a frame
+-- an inlined call at a frame
 abbrev pub call_entry : CrashFrame → CallValue → EntryValue
 call_entry f c = record {
   frame = f;
@@ -56,7 +56,7 @@ call_entry f c = record {
   is_inline = true;
 }
 
--- a frame without the calls put in place there
+-- a frame without the inlined calls there
 abbrev pub own_entry : NamedFrameValue → EntryValue
 own_entry f = record {
   frame = f.frame;
@@ -66,7 +66,7 @@ own_entry f = record {
   is_inline = false;
 }
 
--- the calls put in place at a frame, the innermost first, and then the frame
+-- the inlined calls at a frame, the innermost first, and then the frame
 abbrev pub entries_of : NamedFrameValue → List EntryValue
 entries_of f = map (call_entry f.frame) f.inlines ++ own_entry f ∷ []
 
@@ -76,7 +76,7 @@ entries_in frames = flat_map entries_of frames
 
 -- ---- the line of a frame
 
--- the words for how a frame was found, or that it is a call that the compiler put in place
+-- the words for how a frame was found, or that it is an inlined call
 abbrev pub found_text : Bool → FrameTrust → List ℕ
 found_text true trust = codes ", inline"
 found_text false Context = codes ", context"

@@ -1,5 +1,5 @@
--- The lines of modules: how many there are, and those that other lines name, in the order of their
--- addresses, with what a symbol server is asked by.
+-- The lines of modules: how many there are, and those that have the address of the crash or a printed
+-- frame, in the order of their addresses, with what a symbol server is asked by.
 use Rattle.std.specs.Prelude.{ℕ, ◌≡◌, ◌<◌, ◌==◌, ◌||◌, Bool, false, true, List, [], ◌∷◌, bytes_eq}
 use Rattle.std.specs.Prelude.{get_or, length, Option, Some, None, codes, if◌then◌else◌, slice_get}
 use Rattle.std.specs.List.{concat, flat_map, list_any}
@@ -65,7 +65,7 @@ module_line is_asked m symbols = concat (codes "    " ∷ hex m.base ∷ end_tex
     ∷ key_text (codes ", debug ") m.debug_file m.debug_id
     ∷ key_text (codes ", code ") (Some m.file) m.code_id ∷ symbols ∷ [])
 
--- ---- those that other lines name
+-- ---- those that are listed
 
 -- a place is in the module of an index
 abbrev pub is_in : ℕ → Option (ℕ × ℕ) → Bool
@@ -81,13 +81,13 @@ abbrev pub is_named : Option AddressFacts → List CrashFrame → ℕ → Bool
 is_named address frames index = is_in index (address_place address)
     || list_any (λ f. is_in index f.«module») frames
 
--- a module with the words for its symbols, if all modules are asked for or other lines name it
+-- a module with the words for its symbols, if all modules are asked for or it is named
 abbrev pub listed_lines : TextLimits → Bool → Option LoadedValue → List ℕ → List (List ℕ)
 listed_lines limits named (Some m) symbols = if all_modules limits || named
     then module_line (all_modules limits) m symbols ∷ [] else []
 listed_lines limits named None symbols = []
 
--- the same of the module of an index, by the indices of those that other lines name
+-- the same of the module of an index, by the indices of those that are named
 abbrev pub module_at : PageValue → (ℕ → Bool) → ℕ → List (List ℕ)
 module_at p named index = listed_lines p.limits (named index)
     (slice_get p.crash.modules.loaded index) (symbols_text p.symbols index)

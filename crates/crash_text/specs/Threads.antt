@@ -5,7 +5,7 @@ use Rattle.std.specs.Fmt.{decimal}
 use Rattle.std.specs.List.{concat, enumerate_from, flat_map}
 use Rattle.minidump.specs.Below.Bytes.Piece.{hex}
 use Rattle.crash.specs.declared.contexts.ContextProblem.{ContextProblem}
-use Rattle.crash.specs.declared.contexts.ContextProblem.TheVariants.{Outside}
+use Rattle.crash.specs.declared.contexts.ContextProblem.TheVariants.{NoSystem, NotAccepted, Outside}
 use Rattle.crash.specs.declared.frames.CrashFrame.{CrashFrame}
 use Rattle.crash.specs.declared.stacks.StackRange.{StackRange}
 use Rattle.crash.specs.Contexts.{ContextValue}
@@ -63,9 +63,17 @@ no_walk_row (Some _) (Some Outside) = codes "    its context is outside the file
 no_walk_row (Some _) _ = codes "    no context that can be read"
 no_walk_row None problem = codes "    no frames without system information"
 
+-- why the own context of a thread isn't used, whose frames are those of the exception's context. That
+-- the system is unknown is said elsewhere
+abbrev pub own_lines : Option ContextProblem → List (List ℕ)
+own_lines (Some Outside) = codes "    its own context is outside the file" ∷ []
+own_lines (Some (NotAccepted size)) = codes "    its own context can't be read" ∷ []
+own_lines (Some NoSystem) = []
+own_lines None = []
+
 -- what is found in the stack of a thread, or why nothing is
 abbrev pub found_lines : PageValue → Bool → ThreadValue → Option BacktraceValue → List (List ℕ)
-found_lines p is_whole t (Some w) = walk_lines p is_whole w
+found_lines p is_whole t (Some w) = own_lines t.context_problem ++ walk_lines p is_whole w
 found_lines p is_whole t None = no_walk_row p.crash.process.system t.context_problem ∷ []
 
 -- a thread by its index: also its stack, and the end of its walk, if all of its frames are asked for

@@ -1,4 +1,4 @@
-//! The frames of a backtrace, and the calls that the compiler put in place in their functions.
+//! The frames of a backtrace, and the inlined calls in their functions.
 ghost use Rattle.std.specs.Prelude.{◌≡◌, ◌++◌, IfOk, OnOk, map, string_bytes};
 ghost use Rattle.std.specs.Option.{option_map};
 ghost use Rattle.minidump_bytes.specs.LinuxOsStr.{text_of};
@@ -16,7 +16,7 @@ use minidump_bytes::LinuxOsStr;
 use stack_walk::FrameTrust;
 use std::alloc::{AllocError, Global};
 
-// A frame, or a call that the compiler put in place there.
+// A frame, or an inlined call there.
 #[derive(Clone, Copy)]
 pub(crate) struct FrameEntry<'l> {
     pub(crate) frame: CrashFrame,
@@ -27,7 +27,7 @@ pub(crate) struct FrameEntry<'l> {
     pub(crate) is_inline: bool,
 }
 
-// Returns frames, before each the calls that were put in place there.
+// Returns frames, before each the inlined calls there.
 #[tactic(auto, unfolding(crate::specs::Frames::entries_in))]
 pub(crate) fn entries_in<'l>(
     alloc: Global,
@@ -43,7 +43,7 @@ pub(crate) fn entries_in<'l>(
     Ok(entries)
 }
 
-// Appends the calls that were put in place at a frame, and the frame, to a list.
+// Appends the inlined calls at a frame, and the frame, to a list.
 fn push_entries<'l>(entries: &mut Vec<FrameEntry<'l>>, frame: &ShownFrame<'_, 'l>) -> Added
     ensures { OnOk result (map entry_of entries.new.items ≡ map entry_of entries.old.items
         ++ entries_of (shown_frame_of frame.now)) }
@@ -53,7 +53,7 @@ fn push_entries<'l>(entries: &mut Vec<FrameEntry<'l>>, frame: &ShownFrame<'_, 'l
     Ok(())
 }
 
-// Appends calls that were put in place at a frame to a list.
+// Appends inlined calls at a frame to a list.
 fn push_calls<'l>(
     entries: &mut Vec<FrameEntry<'l>>,
     frame: CrashFrame,
@@ -74,7 +74,7 @@ fn push_calls<'l>(
     Ok(())
 }
 
-// Returns a frame without the calls that were put in place there.
+// Returns a frame without the inlined calls there.
 fn own_entry<'l>(frame: &ShownFrame<'_, 'l>) -> FrameEntry<'l>
     ensures { entry_of result ≡ own_entry (shown_frame_of frame.now) }
 {
@@ -158,7 +158,7 @@ pub(crate) fn source_text(
     }
 }
 
-// Returns the words for how a frame was found, or that it is a call that was put in place.
+// Returns the words for how a frame was found, or that it is an inlined call.
 pub(crate) fn found_text(is_inline: bool, trust: FrameTrust) -> &'static str
     ensures { result.now ≡ found_text is_inline trust }
 {

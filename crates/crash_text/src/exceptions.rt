@@ -1,12 +1,13 @@
-ghost use Rattle.std.specs.Prelude.{◌≡◌, [], ◌∷◌, map};
+ghost use Rattle.std.specs.Prelude.{◌≡◌, [], ◌∷◌, IfOk, map, string_bytes};
 ghost use Rattle.std.specs.Option.{option_copied, option_map};
 ghost use Rattle.minidump.specs.Below.Contexts.Context.{map_ok};
 ghost use Rattle.crash.specs.Cause.{exception_of};
 ghost use Rattle.crash.specs.Counting.{counted};
 ghost use Rattle.crash.specs.Crash.{crash_of};
-ghost use Rattle.crash_text.specs.Exceptions.{code_line, counted_lines, crash_lines, crashed_row};
+ghost use Rattle.crash_text.specs.Exceptions.{address_text, code_line, context_words};
+ghost use Rattle.crash_text.specs.Exceptions.{counted_lines, crash_lines, crashed_row};
 ghost use Rattle.crash_text.specs.Exceptions.{each_exception, exception_line, none_lines};
-ghost use Rattle.crash_text.specs.Exceptions.{read_line, several_lines, several_row};
+ghost use Rattle.crash_text.specs.Exceptions.{read_line, read_row, several_lines, several_row};
 ghost use Rattle.crash_text.specs.Exceptions.{unread_row};
 ghost use Rattle.crash_text.specs.Lines.{Adds, if_some};
 
@@ -16,9 +17,11 @@ use crate::point::push_point;
 use crate::records::{described_text, record_text};
 use crate::registers::push_registers;
 use crate::words::{or_empty, push_text, push_words, unless_empty};
-use crash::{Crash, CrashException};
+use crash::{ContextProblem, Crash, CrashException};
 use minidump::Error;
 use minidump::text::Piece::{Decimal, Hex, Words};
+use minidump::text::format_pieces;
+use std::alloc::{AllocError, Global};
 
 // Appends the lines of the crash, and those of the exceptions if there are several.
 pub(crate) fn push_crash(out: &mut String, crash: &Crash<'_>) -> Added
@@ -154,17 +157,56 @@ fn push_unread_row(out: &mut String, number: usize, error: &str) -> Added
 }
 
 // Appends the line of an exception.
-#[rattlefmt::skip]
-#[tactic(auto, unfolding(crate::specs::Exceptions::read_line))]
 fn push_read(out: &mut String, number: usize, exception: &CrashException) -> Added
     ensures { Adds out.old out.new (read_line number (exception_of exception.now) ∷ []) result }
 {
-    let said = described_text(*out.allocator(), exception)?;
+    let alloc = *out.allocator();
+    let address = address_text(alloc, exception.at, exception.address)?;
+    let said = described_text(alloc, exception)?;
+    push_read_row(out, number, exception, address.as_str(), said.as_str())
+}
+
+#[rattlefmt::skip]
+#[tactic(auto, unfolding(crate::specs::Exceptions::read_row))]
+fn push_read_row<'t>(
+    out: &mut String,
+    number: usize,
+    exception: &'t CrashException,
+    address: &'t str,
+    said: &'t str,
+) -> Added
+    ensures { Adds out.old out.new
+        (read_row number (exception_of exception.now) address.now said.now ∷ []) result }
+{
     let reason = or_empty(&exception.reason);
     push_line(out, &[
         Words("    #"), Decimal(number as u64), Words(" thread "), Decimal(exception.thread as u64),
         Words(" ("), Hex(exception.thread as u64), Words("), code "), Hex(exception.code as u64),
-        Words(" at "), Hex(exception.at), Words(unless_empty(", ", reason)), Words(reason),
-        Words(said.as_str()),
+        Words(" at "), Hex(exception.at), Words(address), Words(unless_empty(", ", reason)),
+        Words(reason), Words(said), Words(context_words(exception.context_problem)),
     ])
+}
+
+// Makes the words for the address of a crash, none if there is no other than `place`, where the
+// exception happened.
+fn address_text(alloc: Global, place: u64, address: Option<u64>) -> Result<String, AllocError>
+    ensures { IfOk result (λ words. string_bytes words ≡ address_text place address) }
+{
+    match address {
+        Some(address) if address != place => {
+            format_pieces(alloc, &[Words(", address "), Hex(address)])
+        }
+        _ => Ok(String::new(alloc)),
+    }
+}
+
+// Returns the words for why the context of an exception can't be read.
+fn context_words(problem: Option<ContextProblem>) -> &'static str
+    ensures { result.now ≡ context_words problem }
+{
+    match problem {
+        Some(ContextProblem::Outside) => ", its context is outside the file",
+        Some(ContextProblem::NotAccepted { .. }) => ", no context that can be read",
+        Some(ContextProblem::NoSystem) | None => "",
+    }
 }

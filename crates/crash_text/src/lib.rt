@@ -14,20 +14,23 @@
 //!   it is cut, and why the context of the exception isn't used; its flags and segments, the
 //!   flags that are set, the registers whose values lie in a module or a stack, its instruction
 //!   pointer, unless it is in a module and may be run, the bytes there, and the words at its
-//!   stack pointer; then all exceptions, if there are several;
+//!   stack pointer; then, if there are several, all exceptions, each with its address, unless it
+//!   happened there, and with why its context can't be read;
 //! - what is there and can't be read, as `can't be read: ThreadListStream: StreamReadFailure`, the
 //!   modules for which their list can't be read, and how many entries of the directory have bytes
 //!   outside the file;
-//! - the thread that crashed, with its name, its last error, its stack, its frames, and why the
-//!   last of them has no caller;
-//! - what the process itself said: an assertion, Crashpad's annotations, macOS's messages and
+//! - the thread that crashed, with its name, its last error, its stack, why its own context can't
+//!   be read, its frames, and why the last of them has no caller;
+//! - what the process itself said: an assertion, the identifiers of Crashpad's report and of its
+//!   client with the annotations of the process and of each module, macOS's crash information and
 //!   Mozilla's soft errors;
 //! - each other thread with its name, its last error and its first frame, or as the one that
 //!   crashed if all threads are asked for, or none crashed;
-//! - the number of modules; then each that a line before names, in the order of their addresses: its
-//!   base address, its path, its version unless that is 0.0.0.0, and what a symbol server needs: the
-//!   name and the identifier of its debug file and of its code file. Where all modules are asked for,
-//!   the address after each follows its base address, as `0x400000-0x410000`;
+//! - the number of modules; then each module that has the address of the crash or a printed frame, in
+//!   the order of their addresses: its base address, its path, its version unless that is 0.0.0.0, and
+//!   what a symbol server needs: the name and the identifier of its debug file and of its code file.
+//!   Where all modules are asked for, each has a line, and the unloaded ones do below their number,
+//!   in which the address after it follows its base address, as `0x400000-0x410000`;
 //! - the numbers of unloaded modules, streams, regions of memory, maps and handles, with a line for
 //!   each kind of handles, and Linux's numbers of limits and of variables of the environment.
 //!
@@ -37,9 +40,9 @@
 //!
 //! By symbols the frames are those of the backtraces that they give. A frame's line has its function,
 //! with the offset in it, and its source line, where they are known. Before it comes a line for each
-//! call that the compiler put in place there, with the same address, numbered too. A module's line
-//! says if its symbols are missing, can't be read, or are those of another module. A name that isn't
-//! UTF-8 has U+FFFD in place of what is malformed.
+//! inlined call there, with the same address, numbered too. A module's line says if its symbols are
+//! missing, damaged or another module's, or if memory ran out for them. A name that isn't UTF-8 has
+//! U+FFFD in place of what is malformed.
 //!
 //! Where the system information, the exception, the threads or the modules are missing, that is a
 //! line, as `no exception`; any other missing stream has none. What [`TextLimits`] leaves out is

@@ -24,7 +24,7 @@ ghost use Rattle.crash_text.specs.Words.{count_row};
 use crate::damage::stream_text;
 use crate::limits::TextLimits;
 use crate::lines::{Added, push_line};
-use crate::modules::{all_modules, key_text};
+use crate::modules::{all_modules, end_text, key_text};
 use crate::page::Page;
 use crate::words::{or_empty, push_count, where_some};
 use crash::{HandleKind, ProcessLimit, StreamEntry, UnloadedModule, limits_of, variables_of};
@@ -95,15 +95,18 @@ fn push_each_unloaded(out: &mut String, modules: &[UnloadedModule]) -> Added
     Ok(())
 }
 
-// Appends the line of a module that was unloaded.
+// Appends the line of a module that was unloaded, with its end.
 #[rattlefmt::skip]
 #[tactic(auto, unfolding(crate::specs::Lists::unloaded_line))]
 fn push_unloaded_module(out: &mut String, module: &UnloadedModule) -> Added
     ensures { Adds out.old out.new (unloaded_line (unloaded_module_of module.now) ∷ []) result }
 {
-    let code = key_text(*out.allocator(), ", code ", &module.file, &module.code_id)?;
+    let alloc = *out.allocator();
+    let end = end_text(alloc, true, module.end)?;
+    let code = key_text(alloc, ", code ", &module.file, &module.code_id)?;
     push_line(out, &[
-        Words("    "), Hex(module.base), Words(" "), Words(module.path.as_str()), Words(code.as_str()),
+        Words("    "), Hex(module.base), Words(end.as_str()), Words(" "), Words(module.path.as_str()),
+        Words(code.as_str()),
     ])
 }
 

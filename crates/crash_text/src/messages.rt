@@ -12,16 +12,19 @@ ghost use Rattle.minidump.specs.Promise.{assertion_stream, crashpad_info_stream}
 ghost use Rattle.minidump.specs.Promise.{mac_crash_info_stream, soft_errors_stream};
 ghost use Rattle.crash.specs.Contents.{message_streams_of};
 ghost use Rattle.crash_text.specs.Lines.{Adds, if_ok};
-ghost use Rattle.crash_text.specs.Messages.{annotation_row, assertion_line, assertion_row};
-ghost use Rattle.crash_text.specs.Messages.{crashpad_lines, kind_words, mac_text_lines};
-ghost use Rattle.crash_text.specs.Messages.{messages_lines, module_lines, object_row};
-ghost use Rattle.crash_text.specs.Messages.{record_lines, soft_row, text_row};
+ghost use Rattle.crash_text.specs.Messages.{annotation_lines, annotation_row, assertion_line};
+ghost use Rattle.crash_text.specs.Messages.{assertion_row, crashpad_lines, has_annotations};
+ghost use Rattle.crash_text.specs.Messages.{kind_words, mac_number_lines, mac_numbers_lines};
+ghost use Rattle.crash_text.specs.Messages.{mac_text_lines, mac_texts_lines, messages_lines};
+ghost use Rattle.crash_text.specs.Messages.{module_lines, module_row, object_row, record_lines};
+ghost use Rattle.crash_text.specs.Messages.{report_line, report_row, soft_row, text_row};
 
 use crate::lines::{Added, push_line};
 use crate::words::unless_empty;
 use crash::MessageStreams;
+use minidump::format::MINIDUMP_CRASHPAD_INFO;
 use minidump::own_streams::text_before_nul;
-use minidump::text::Piece::{Decimal, Words};
+use minidump::text::Piece::{Decimal, Hex, Words};
 use minidump::{
     Error, MinidumpAnnotation, MinidumpAssertion, MinidumpCrashpadInfo, MinidumpMacCrashInfo,
     MinidumpModuleCrashpadInfo, MinidumpSoftErrors, RawMacCrashInfo,
@@ -105,18 +108,44 @@ fn kind_words(kind: u32) -> &'static str
     }
 }
 
-// Appends the annotations of the process, and then those of each module.
+// Appends the identifiers of Crashpad's report, the annotations of the process, and then those of
+// each module.
 fn push_crashpad(out: &mut String, found: &Result<MinidumpCrashpadInfo, Error>) -> Added
     ensures { Adds out.old out.new
         (if_ok crashpad_lines (map_ok crashpad_info_stream.value found.now)) result }
 {
     match found {
-        Ok(info) => {
-            push_texts(out, &info.simple_annotations)?;
-            push_modules(out, info.module_list.as_slice())
-        }
+        Ok(info) => push_info(out, info),
         Err(_) => Ok(()),
     }
+}
+
+fn push_info(out: &mut String, info: &MinidumpCrashpadInfo) -> Added
+    ensures { Adds out.old out.new (crashpad_lines (crashpad_info_stream.value info.now)) result }
+{
+    push_report(out, &info.raw)?;
+    push_texts(out, &info.simple_annotations)?;
+    push_modules(out, info.module_list.as_slice())
+}
+
+// Appends the line of the identifiers of Crashpad's report and of its client.
+fn push_report(out: &mut String, raw: &MINIDUMP_CRASHPAD_INFO) -> Added
+    ensures { Adds out.old out.new (report_line raw.now ∷ []) result }
+{
+    let alloc = *out.allocator();
+    let report = format!(in alloc; "{}", raw.report_id)?;
+    let client = format!(in alloc; "{}", raw.client_id)?;
+    push_report_row(out, report.as_str(), client.as_str())
+}
+
+#[rattlefmt::skip]
+#[tactic(auto, unfolding(crate::specs::Messages::report_row))]
+fn push_report_row<'t>(out: &mut String, report: &'t str, client: &'t str) -> Added
+    ensures { Adds out.old out.new (report_row report.now client.now ∷ []) result }
+{
+    push_line(out, &[
+        Words("Crashpad report "), Words(report), Words(", client "), Words(client),
+    ])
 }
 
 // Appends the annotations of modules.
@@ -129,9 +158,40 @@ fn push_modules(out: &mut String, modules: &[MinidumpModuleCrashpadInfo]) -> Add
     Ok(())
 }
 
-// Appends the annotations of a module.
+// Appends the index of a module and its annotations, if it has any.
 fn push_module(out: &mut String, module: &MinidumpModuleCrashpadInfo) -> Added
     ensures { Adds out.old out.new (module_lines (module_of module.now)) result }
+{
+    if has_annotations(module) {
+        push_module_row(out, module.module_index)?;
+        push_annotations(out, module)
+    } else {
+        Ok(())
+    }
+}
+
+// Tells whether a module has annotations.
+fn has_annotations(module: &MinidumpModuleCrashpadInfo) -> bool
+    ensures { result ≡ has_annotations (module_of module.now) }
+{
+    module.list_annotations.len() > 0
+        || module.simple_annotations.len() > 0
+        || module.annotation_objects.len() > 0
+}
+
+#[tactic(auto, unfolding(crate::specs::Messages::module_row))]
+fn push_module_row(out: &mut String, index: usize) -> Added
+    ensures { Adds out.old out.new (module_row index ∷ []) result }
+{
+    push_line(
+        out,
+        &[Words("annotations of module "), Decimal(index as u64)],
+    )
+}
+
+// Appends the annotations of a module.
+fn push_annotations(out: &mut String, module: &MinidumpModuleCrashpadInfo) -> Added
+    ensures { Adds out.old out.new (annotation_lines (module_of module.now)) result }
 {
     push_list(out, module.list_annotations.as_slice())?;
     push_texts(out, &module.simple_annotations)?;
@@ -197,7 +257,7 @@ fn annotation_text(annotation: &MinidumpAnnotation) -> &str
     }
 }
 
-// Appends the texts of macOS's crash information.
+// Appends the records of macOS's crash information.
 fn push_mac(out: &mut String, found: &Result<MinidumpMacCrashInfo, Error>) -> Added
     ensures { Adds out.old out.new
         (if_ok (flat_map record_lines) (map_ok mac_crash_info_stream.value found.now)) result }
@@ -208,7 +268,7 @@ fn push_mac(out: &mut String, found: &Result<MinidumpMacCrashInfo, Error>) -> Ad
     }
 }
 
-// Appends the texts of the records of macOS's crash information.
+// Appends records of macOS's crash information.
 fn push_records(out: &mut String, records: &[RawMacCrashInfo]) -> Added
     ensures { Adds out.old out.new (flat_map record_lines (map mac_record_of records.now)) result }
 {
@@ -218,9 +278,17 @@ fn push_records(out: &mut String, records: &[RawMacCrashInfo]) -> Added
     Ok(())
 }
 
-// Appends the texts of a record.
+// Appends the texts of a record, and its numbers.
 fn push_record(out: &mut String, record: &RawMacCrashInfo) -> Added
     ensures { Adds out.old out.new (record_lines (mac_record_of record.now)) result }
+{
+    push_mac_texts(out, record)?;
+    push_mac_numbers(out, record)
+}
+
+// Appends the texts of a record.
+fn push_mac_texts(out: &mut String, record: &RawMacCrashInfo) -> Added
+    ensures { Adds out.old out.new (mac_texts_lines (mac_record_of record.now)) result }
 {
     push_mac_text(out, "module", record.module_path())?;
     push_mac_text(out, "message", record.message())?;
@@ -238,6 +306,27 @@ fn push_mac_text<'t>(out: &mut String, name: &'t str, text: Option<&'t str>) -> 
 {
     match text {
         Some(text) => push_line(out, &[Words("macOS "), Words(name), Words(": "), Words(text)]),
+        None => Ok(()),
+    }
+}
+
+// Appends the numbers of a record.
+fn push_mac_numbers(out: &mut String, record: &RawMacCrashInfo) -> Added
+    ensures { Adds out.old out.new (mac_numbers_lines (mac_record_of record.now)) result }
+{
+    push_mac_number(out, "thread", record.thread().copied())?;
+    push_mac_number(out, "dialog mode", record.dialog_mode().copied())?;
+    push_mac_number(out, "abort cause", record.abort_cause().copied())
+}
+
+// Appends the line of a number of a record, if it is there.
+#[rattlefmt::skip]
+#[tactic(auto, unfolding(crate::specs::Messages::mac_number_lines))]
+fn push_mac_number(out: &mut String, name: &str, number: Option<u64>) -> Added
+    ensures { Adds out.old out.new (mac_number_lines name.now number) result }
+{
+    match number {
+        Some(number) => push_line(out, &[Words("macOS "), Words(name), Words(" "), Hex(number)]),
         None => Ok(()),
     }
 }

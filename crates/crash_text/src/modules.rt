@@ -22,7 +22,7 @@ use minidump::text::Piece::{Hex, Words};
 use minidump::text::format_pieces;
 use std::alloc::{AllocError, Global};
 
-// Appends the number of modules and those that other lines name, or that their list is missing.
+// Appends the number of modules and those that are listed, or that their list is missing.
 pub(crate) fn push_modules(
     out: &mut String,
     page: Page<'_, '_, '_, '_>,
@@ -36,7 +36,7 @@ pub(crate) fn push_modules(
     }
 }
 
-// Appends the number of modules, and those that other lines name.
+// Appends the number of modules, and those that are listed.
 fn push_list(out: &mut String, page: Page<'_, '_, '_, '_>) -> Added
     ensures { Adds out.old out.new (modules_lines (page_of page.entry) None) result }
 {
@@ -91,7 +91,8 @@ fn push_each(
     Ok(())
 }
 
-// Appends the line of the module of an index, if all modules are asked for or other lines name it.
+// Appends the line of the module of an index, if all modules are asked for, or if it has the address of
+// the crash or a mark.
 fn push_at(out: &mut String, page: Page<'_, '_, '_, '_>, marks: &[bool], index: usize) -> Added
     ensures { Adds out.old out.new (module_at (page_of page.entry)
         (is_marked page.entry.crash.now.cause.address marks.now) index) result }
@@ -182,7 +183,11 @@ fn push_module(out: &mut String, is_asked: bool, module: &CrashModule, symbols: 
 }
 
 // Makes the words for the address after a module, none if they aren't asked for.
-fn end_text(alloc: Global, is_asked: bool, end: Option<u64>) -> Result<String, AllocError>
+pub(crate) fn end_text(
+    alloc: Global,
+    is_asked: bool,
+    end: Option<u64>,
+) -> Result<String, AllocError>
     ensures { IfOk result (λ words. string_bytes words ≡ end_text is_asked end) }
 {
     match end {

@@ -7,12 +7,13 @@ ghost use Rattle.crash.specs.Contexts.{context_of};
 ghost use Rattle.crash.specs.Process.{system_of};
 ghost use Rattle.crash.specs.Threads.{thread_value};
 ghost use Rattle.crash_symbols.specs.Shown.{shown_of};
+ghost use Rattle.crash_text.specs.Frames.{walk_lines};
 ghost use Rattle.crash_text.specs.Lines.{Adds, if_some};
 ghost use Rattle.crash_text.specs.Page.{page_of};
 ghost use Rattle.crash_text.specs.Threads.{crashed_lines, each_other};
 ghost use Rattle.crash_text.specs.Threads.{found_lines, frames_at, frames_in, frames_of};
 ghost use Rattle.crash_text.specs.Threads.{is_index, is_range, memory_lines};
-ghost use Rattle.crash_text.specs.Threads.{no_walk_row, other_lines, range_row, remark};
+ghost use Rattle.crash_text.specs.Threads.{no_walk_row, other_lines, own_lines, range_row, remark};
 ghost use Rattle.crash_text.specs.Threads.{short_lines, shows_all, stack_lines, thread_lines};
 ghost use Rattle.crash_text.specs.Threads.{thread_row, walked_lines};
 ghost use Rattle.crash_text.specs.Words.{missing_lines};
@@ -242,11 +243,39 @@ fn push_found(
         (thread_value thread.now) (option_map shown_of walk.now)) result }
 {
     match walk {
-        Some(walk) => push_walk(out, page, is_whole, walk),
+        Some(walk) => push_problem_and_walk(out, page, is_whole, thread.context_problem, walk),
         None => {
             let row = no_walk_row(&page.crash.process.system, thread.context_problem);
             push_words(out, row)
         }
+    }
+}
+
+// Appends why the own context of a thread isn't used, if it isn't, and what is found in its stack.
+fn push_problem_and_walk(
+    out: &mut String,
+    page: Page<'_, '_, '_, '_>,
+    is_whole: bool,
+    problem: Option<ContextProblem>,
+    walk: &ShownWalk<'_, '_>,
+) -> Added
+    ensures { Adds out.old out.new
+        (own_lines problem ++ walk_lines (page_of page.entry) is_whole (shown_of walk.now)) result }
+{
+    push_own(out, problem)?;
+    push_walk(out, page, is_whole, walk)
+}
+
+// Appends why the own context of a thread isn't used, whose frames are those of the exception's.
+fn push_own(out: &mut String, problem: Option<ContextProblem>) -> Added
+    ensures { Adds out.old out.new (own_lines problem) result }
+{
+    match problem {
+        Some(ContextProblem::Outside) => push_words(out, "    its own context is outside the file"),
+        Some(ContextProblem::NotAccepted { .. }) => {
+            push_words(out, "    its own context can't be read")
+        }
+        Some(ContextProblem::NoSystem) | None => Ok(()),
     }
 }
 

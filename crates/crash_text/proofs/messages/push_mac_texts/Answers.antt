@@ -1,7 +1,7 @@
 -- The five texts, one after another.
 use Rattle.std.proofs.Common.{append_assoc}
 use Rattle.std.proofs.lemmas.Grind.{flat_map-append}
-use Rattle.crash_text.proofs.messages.push_record.Goals as goal
+use Rattle.crash_text.proofs.messages.push_mac_texts.Goals as goal
 
 pub returns : goal.returns
 returns c =
