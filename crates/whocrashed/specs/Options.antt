@@ -1,12 +1,16 @@
 -- What an option says, by the text that clap found for it.
 use Rattle.std.specs.Prelude.{◌≡◌, ◌<◌, ◌^◌, ◌==◌, ◌&&◌, ◌||◌, ℕ, Bool, false, true, List, [], Some, None, bytes_eq}
-use Rattle.std.specs.Prelude.{codes, count_by, length, nat_lt, option_map, unwrap_or}
+use Rattle.std.specs.Prelude.{codes, count_by, length, map, nat_lt, option_map, string_bytes, String, unwrap_or}
 use Rattle.std.specs.Prelude.{if◌then◌else◌}
+use Rattle.std.specs.Global.{Global}
 use Rattle.std.specs.Str.Parse.{IsNumeral, digits_value, without_leading_plus}
-use Rattle.clap.specs.Words.{matched_of, one_text, raw_values}
+use Rattle.clap.specs.Words.{HasMatchesOf, app_of, found_of, matched_of, one_text, raw_values}
+use Rattle.clap.specs.declared.builder.command.Command.{Command}
+use Rattle.clap.specs.declared.parser.matches.ArgMatches.{ArgMatches}
 use Rattle.clap.specs.declared.parser.matches.Found.{Found}
 use Rattle.whocrashed.specs.declared.options.Form.{Form}
 use Rattle.whocrashed.specs.declared.options.Form.TheVariants.{Html, Json, Lines}
+use Rattle.whocrashed.specs.declared.options.Options.{Options}
 
 -- a flag is set if its text is "true", and isn't if it is "false" or there is none
 abbrev pub IsFlag : Found → List ℕ → Bool → Type 0
@@ -30,6 +34,33 @@ values_in found id = unwrap_or (option_map raw_values (matched_of found id)) []
 abbrev pub form_by : Bool → Bool → Form
 form_by json html = if json then Json else if html then Html else Lines
 
+-- the options are those of the texts that clap found, each of the argument of its name
+pub record AreOptions (found : Found) (options : Options) : Type 0 where
+  pub form : (json html : Bool) × IsFlag found (codes "json") json
+      × IsFlag found (codes "html") html × (options.form ≡ form_by json html)
+  pub frames : IsNumber found (codes "frames") options.limits.frames
+  pub all_threads : IsFlag found (codes "all-threads") options.limits.all_threads
+  pub lists : IsFlag found (codes "lists") options.limits.lists
+  pub modules : IsFlag found (codes "modules") options.limits.modules
+  pub handles : IsFlag found (codes "handles") options.limits.handles
+  pub environment : IsFlag found (codes "environment") options.limits.environment
+  pub scan : IsNumber found (codes "scan") options.scan
+  pub names : map (λ f. f.now) options.names.files.items ≡ values_in found (codes "names")
+  pub only_names : IsFlag found (codes "only-names") options.names.only_files
+  pub symbols : map (λ d. d.now) options.symbols.dirs.items ≡ values_in found (codes "symbols")
+  pub symbols_limit : IsNumber found (codes "symbols-limit") options.symbols.limit
+  pub progress : IsFlag found (codes "progress") options.shows_progress
+  pub dumps : map (λ d. d.now) options.dumps.paths.items ≡ values_in found (codes "dumps")
+  pub listed : IsFlag found (codes "stdin-paths") options.dumps.are_listed
+  pub limit : IsNumber found (codes "limit") options.dumps.limit
+
+-- the options are those that words ask for, by matches that clap's contract allows a command for these
+pub record AreAskedFor (command : Command) (words : List (String Global)) (options : Options)
+    : Type 0 where
+  pub matches : ArgMatches
+  pub has : HasMatchesOf (app_of command) (map string_bytes words) matches
+  pub are : AreOptions (found_of matches) options
+
 -- how many of the arguments are `-`, the dump on standard input
 abbrev pub inputs_in : List (List ℕ) → ℕ
 inputs_in paths = count_by (bytes_eq (codes "-")) paths
@@ -42,7 +73,8 @@ abbrev is_html : Form → Bool
 is_html Html = true
 is_html _ = false
 
--- the arguments are refused, though each is well formed: a page of several dumps, or standard input
--- read twice
-abbrev pub is_refused : Form → List (List ℕ) → Bool → Bool
-is_refused form paths listed = is_html form && nat_lt 1 (length paths) || has_several_inputs paths listed
+-- the arguments are refused, though each is well formed: a page of several dumps, standard input read
+-- twice, or no frames, with which JSON and page would lack the registers, too
+abbrev pub is_refused : Form → ℕ → List (List ℕ) → Bool → Bool
+is_refused form frames paths listed = is_html form && nat_lt 1 (length paths)
+    || has_several_inputs paths listed || frames == 0

@@ -1,5 +1,6 @@
 -- What is known of a module's symbol file after it was looked for.
-use Rattle.std.specs.Prelude.{◌≡◌, ◌≢◌, ℕ, ◌<◌, true, List, length, slice_get, slice_index_or}
+use Rattle.std.specs.Prelude.{◌≡◌, ◌≢◌, ℕ, ◌<◌, ◌==◌, Bool, not, false, true, List, length, map, slice_get}
+use Rattle.std.specs.Prelude.{is_some, slice_index_or}
 use Rattle.std.specs.Prelude.{Option, Some, None, Result, Ok, Err, if◌then◌else◌}
 use Rattle.std.specs.Borrow.{Bor}
 use Rattle.std.specs.declared.io.ErrorKind.{ErrorKind}
@@ -8,13 +9,23 @@ use Rattle.breakpad_symbols.specs.SymbolFile.{SymbolsValue, symbols_of}
 use Rattle.breakpad_symbols.specs.declared.symbol_file.SymbolFile.{SymbolFile}
 use Rattle.crash.specs.Modules.{LoadedValue}
 use Rattle.crash_symbols.specs.Modules.{is_of_module}
+use Rattle.crash_symbols.specs.Symbols.{KnownSymbols}
 use Rattle.crash_symbols.specs.declared.symbols.SymbolState.{SymbolState}
 use Rattle.crash_symbols.specs.declared.symbols.SymbolState.TheVariants.{Corrupt, Loaded, Missing}
 use Rattle.crash_symbols.specs.declared.symbols.SymbolState.TheVariants.{OutOfMemory, Unwanted}
+use Rattle.whocrashed.specs.declared.symbols.NoSymbols.{NoSymbols}
+use Rattle.whocrashed.specs.declared.symbols.NoSymbols.TheVariants as reason
+use Rattle.whocrashed.specs.declared.symbols.SymbolCache.{SymbolCache}
 
--- why a module that was looked for has no symbol file: it is missing or damaged, or memory ran out
-abbrev pub IsReason : SymbolState → Type 0
-IsReason state = (state ≢ Unwanted) × (state ≢ Loaded)
+-- there are directories in which symbol files are looked for
+abbrev pub has_dirs : SymbolCache → Bool
+has_dirs cache = not (length cache.dirs.paths.now == 0)
+
+-- the state of a module that was looked for and has no symbol file: neither unwanted nor loaded
+abbrev pub state_without : NoSymbols → SymbolState
+state_without reason.Missing = Missing
+state_without reason.Corrupt = Corrupt
+state_without reason.OutOfMemory = OutOfMemory
 
 -- the state of a symbol file that can't be read for an error of this kind: missing where its path names
 -- no file, and damaged for any other error but want of memory
@@ -26,14 +37,14 @@ state_of_kind kind.OutOfMemory = OutOfMemory
 state_of_kind _ = Corrupt
 
 -- what a symbol file says that was looked for
-abbrev pub value_read : Result (Bor SymbolFile) SymbolState → Option SymbolsValue
+abbrev pub value_read : Result (Bor SymbolFile) NoSymbols → Option SymbolsValue
 value_read (Ok file) = Some (symbols_of file.now)
-value_read (Err state) = None
+value_read (Err why) = None
 
 -- its state
-abbrev pub state_read : Result (Bor SymbolFile) SymbolState → SymbolState
+abbrev pub state_read : Result (Bor SymbolFile) NoSymbols → SymbolState
 state_read (Ok file) = Loaded
-state_read (Err state) = state
+state_read (Err why) = state_without why
 
 -- symbols, if they are those of a module
 abbrev pub of_module : Option SymbolsValue → LoadedValue → Option SymbolsValue
@@ -50,3 +61,19 @@ abbrev pub Belong : List LoadedValue → List (Option SymbolsValue) → Type 0
 Belong modules files = (k : ℕ) (s : SymbolsValue) → k < length files
     → slice_index_or files k None ≡ Some s
     → (m : LoadedValue) × (slice_get modules k ≡ Some m) × (is_of_module s m ≡ true)
+
+-- a state says that a symbol file is loaded
+abbrev pub is_loaded : SymbolState → Bool
+is_loaded Unwanted = false
+is_loaded Missing = false
+is_loaded Loaded = true
+is_loaded Corrupt = false
+is_loaded OutOfMemory = false
+
+-- by the states, exactly those symbol files are loaded that are known
+abbrev pub AreLoaded : KnownSymbols → Type 0
+AreLoaded known = map is_loaded known.states ≡ map is_some known.files
+
+-- the module of an index isn't unwanted, if there is a state of it
+abbrev pub IsAsked : List SymbolState → ℕ → Type 0
+IsAsked states index = index < length states → slice_index_or states index Unwanted ≢ Unwanted

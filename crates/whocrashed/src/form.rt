@@ -1,3 +1,14 @@
+ghost use Rattle.std.specs.Prelude.{◌≡◌, ◌++◌, [], ◌∷◌, IfOk, None, Some, false, true};
+ghost use Rattle.std.specs.Option.{option_copied, option_map};
+ghost use Rattle.std.specs.Str.{IsUtf8};
+ghost use Rattle.crash.specs.Crash.{crash_of};
+ghost use Rattle.crash_html.specs.Page.{page_with};
+ghost use Rattle.crash_symbols.specs.Backtraces.{backtraces_in, backtraces_of};
+ghost use Rattle.crash_symbols.specs.Shown.{symbolized_of};
+ghost use Rattle.crash_symbols.specs.Symbols.{known_of};
+ghost use Rattle.whocrashed.specs.Form.{IsByFiles, form_in, json_in, lines_in, shown_with};
+ghost use Rattle.whocrashed.specs.Symbols.{has_dirs};
+
 use crate::options::Form;
 use crate::report::Reporter;
 use crate::symbols::{SymbolCache, unknown};
@@ -5,7 +16,7 @@ use crash::Crash;
 use crash_json::{JsonLimits, json_of};
 use crash_symbols::{Backtraces, Symbolized, Symbols};
 use crash_text::text_of;
-use std::alloc::AllocError;
+use std::alloc::{AllocError, Global};
 use std::str;
 
 // How often further symbol files are looked for, for one dump.
@@ -19,7 +30,12 @@ impl Reporter<'_, '_> {
         path: &str,
         crash: &Crash<'_>,
         cache: &mut SymbolCache<'_>,
-    ) -> Result<Vec<u8>, AllocError> {
+    ) -> Result<Vec<u8>, AllocError>
+        ensures plain { has_dirs cache.old ≡ false → IfOk result (λ form. form.items
+            ≡ form_in self.now.form self.now.limits path.now None (crash_of crash.now)) }
+        ensures by_files { has_dirs cache.old ≡ true → IfOk result (λ form. IsByFiles self.now.form
+            self.now.limits self.now.scan path.now (crash_of crash.now) form.items) }
+    {
         if cache.has_dirs() {
             self.form_by_files(path, crash, cache)
         } else {
@@ -34,7 +50,10 @@ impl Reporter<'_, '_> {
         path: &str,
         crash: &Crash<'_>,
         cache: &mut SymbolCache<'_>,
-    ) -> Result<Vec<u8>, AllocError> {
+    ) -> Result<Vec<u8>, AllocError>
+        ensures { IfOk result (λ form. IsByFiles self.now.form self.now.limits self.now.scan path.now
+            (crash_of crash.now) form.items) }
+    {
         let alloc = self.rt.alloc();
         let modules = crash.modules.loaded.as_slice();
         let mut symbols = unknown(alloc, modules.len())?;
@@ -55,7 +74,10 @@ impl Reporter<'_, '_> {
         &self,
         crash: &Crash<'_>,
         symbols: &Symbols<'l>,
-    ) -> Result<Backtraces<'l>, AllocError> {
+    ) -> Result<Backtraces<'l>, AllocError>
+        ensures { IfOk result (λ backtraces. backtraces_of backtraces
+            ≡ backtraces_in (crash_of crash.now) (known_of symbols.now) self.now.scan) }
+    {
         match Backtraces::find(self.rt.alloc(), crash, symbols, self.scan) {
             Ok(backtraces) => Ok(backtraces),
             Err(_) => Err(AllocError),
@@ -69,7 +91,11 @@ impl Reporter<'_, '_> {
         crash: &Crash<'_>,
         symbols: &'s Symbols<'l>,
         backtraces: &'s Backtraces<'l>,
-    ) -> Result<Vec<u8>, AllocError> {
+    ) -> Result<Vec<u8>, AllocError>
+        ensures { IfOk result (λ form. form.items ≡ form_in self.now.form self.now.limits path.now
+            (Some (shown_with (known_of symbols.now) (backtraces_of backtraces.now)))
+            (crash_of crash.now)) }
+    {
         let symbols = Symbolized {
             symbols,
             backtraces,
@@ -78,31 +104,51 @@ impl Reporter<'_, '_> {
     }
 
     // Makes the form of a crash that is asked for, by these symbols.
+    #[tactic(auto, unfolding(crate::specs::Form::form_in))]
     fn form_by(
         &self,
         path: &str,
         crash: &Crash<'_>,
         symbols: Option<&Symbolized<'_, '_>>,
-    ) -> Result<Vec<u8>, AllocError> {
-        let alloc = self.rt.alloc();
+    ) -> Result<Vec<u8>, AllocError>
+        ensures { IfOk result (λ form. form.items ≡ form_in self.now.form self.now.limits path.now
+            (option_map symbolized_of (option_copied symbols.entry)) (crash_of crash.now)) }
+    {
         match self.form {
-            Form::Lines => Ok(text_of(alloc, crash, &self.limits, symbols)?.into_bytes()),
-            Form::Json => end_line(self.json_by(path, crash, symbols)?),
+            Form::Lines => Ok(self.lines_by(crash, symbols)?),
+            Form::Json => Ok(end_line(self.json_by(path, crash, symbols)?)?),
             Form::Html => {
                 let json = self.json_by(path, crash, symbols)?;
-                let page = crash_html::page(alloc, str::from_utf8(&json).unwrap_or("null"))?;
-                Ok(page.into_bytes())
+                Ok(page_of(self.rt.alloc(), &json)?)
             }
         }
     }
 
+    // Makes the lines of text of a crash by these symbols.
+    #[tactic(auto, unfolding(crate::specs::Form::lines_in))]
+    fn lines_by(
+        &self,
+        crash: &Crash<'_>,
+        symbols: Option<&Symbolized<'_, '_>>,
+    ) -> Result<Vec<u8>, AllocError>
+        ensures { IfOk result (λ lines. lines.items ≡ lines_in self.now.limits
+            (option_map symbolized_of (option_copied symbols.entry)) (crash_of crash.now)) }
+    {
+        Ok(text_of(self.rt.alloc(), crash, &self.limits, symbols)?.into_bytes())
+    }
+
     // Makes the JSON of a crash by these symbols.
+    #[tactic(auto, unfolding(crate::specs::Form::json_in))]
     fn json_by(
         &self,
         path: &str,
         crash: &Crash<'_>,
         symbols: Option<&Symbolized<'_, '_>>,
-    ) -> Result<Vec<u8>, AllocError> {
+    ) -> Result<Vec<u8>, AllocError>
+        ensures json { IfOk result (λ json. json.items ≡ json_in self.now.limits path.now
+            (option_map symbolized_of (option_copied symbols.entry)) (crash_of crash.now)) }
+        ensures utf8 { IfOk result (λ json. IsUtf8 json.items) }
+    {
         let limits = JsonLimits {
             frames: self.limits.frames,
             environment: self.limits.environment,
@@ -111,8 +157,20 @@ impl Reporter<'_, '_> {
     }
 }
 
+// Makes the page with a text of JSON. One that isn't UTF-8, which no crash has, is `null` there.
+fn page_of(alloc: Global, json: &[u8]) -> Result<Vec<u8>, AllocError>
+    ensures { IsUtf8 json.now → IfOk result (λ page. page.items ≡ page_with json.now) }
+{
+    match str::from_utf8(json) {
+        Ok(json) => Ok(crash_html::page(alloc, json)?.into_bytes()),
+        Err(_) => Ok(crash_html::page(alloc, "null")?.into_bytes()),
+    }
+}
+
 /// Ends a line.
-pub(crate) fn end_line(mut line: Vec<u8>) -> Result<Vec<u8>, AllocError> {
+pub(crate) fn end_line(mut line: Vec<u8>) -> Result<Vec<u8>, AllocError>
+    ensures { IfOk result (λ ended. ended.items ≡ line.items ++ 0x0a ∷ []) }
+{
     line.push(b'\n')?;
     Ok(line)
 }

@@ -5,7 +5,8 @@
 //! Of each dump, in the order of the arguments, and then of the paths that `--stdin-paths` takes from
 //! standard input, it prints
 //!
-//! - the lines of [`crash_text::text_of`], under the dump's path if there are several;
+//! - the lines of [`crash_text::text_of`], under the dump's path if there are several, and with
+//!   `--stdin-paths` under that of a single one, too;
 //! - with `--json` the line of JSON of [`crash_json::json_of`]. A file that can't be read, or is
 //!   no dump, has a line too, whose `status` says why, so that there are as many lines as dumps;
 //! - with `--html`, which takes one dump, the page of [`crash_html::page`].
@@ -23,18 +24,20 @@
 //!
 //! Status 1: a file can't be read, has more bytes than `--limit`, or is no dump, which is said on
 //! standard error, or in its line of JSON; or a stream, a context or a stack can't be read, in each
-//! of the three forms. The other dumps are printed all the same. Status 2: the arguments are
-//! malformed, or one isn't UTF-8. A closed pipe ends the program quietly, with the status of the dumps
-//! before.
+//! of the three forms; or memory ran out. The other dumps are printed all the same. Status 1 also if
+//! the output failed, which ends the program. Status 2: the arguments are malformed, or one isn't
+//! UTF-8. A closed pipe ends the program quietly, with the status of the dumps before.
 //!
 //! # What is proved
 //!
 //! The dumps are the values of the argument `DUMP`, and after them the paths of the list, both in their
 //! order: `dumps_of`, `dumps_in`. What is read of a file is all of it, or nothing if it has more bytes
 //! than the limit: `read_to_limit`. The status of a dump is that of the crash that its bytes hold,
-//! whatever the form: `report_bytes`. No status is above 2: `run`. A symbol file says what its text
-//! says, and stands only at modules whose file it is: `kept`, `SymbolCache::find`. What is made of a
-//! crash is proved in the crates below; that it is what is printed is not.
+//! whatever the form: `report_bytes`. It is 1 for a file that can't be read or is too large, and may
+//! be 1 for any where memory ran out: `report_read`. No status is above 2: `run`. A symbol file says
+//! what its text says, and stands only at modules whose file it is: `kept`, `SymbolCache::find`. What
+//! is made of a crash is its text, its JSON or its page, by the options and by such files: `form_of`.
+//! That it is what is printed is not proved.
 #![tactic(auto)]
 
 mod complain;

@@ -1,7 +1,7 @@
-ghost use Rattle.std.specs.Prelude.{◌≡◌, Bool, IfOk, codes, is_some, map};
+ghost use Rattle.std.specs.Prelude.{◌≡◌, Bool, IfOk, codes, false, is_some, map};
 ghost use Rattle.clap.specs.Words.{found_of};
-ghost use Rattle.whocrashed.specs.Options.{IsFlag, IsNumber, form_by, has_several_inputs, inputs_in};
-ghost use Rattle.whocrashed.specs.Options.{is_refused, values_in};
+ghost use Rattle.whocrashed.specs.Options.{AreAskedFor, AreOptions, IsFlag, IsNumber, form_by};
+ghost use Rattle.whocrashed.specs.Options.{has_several_inputs, inputs_in, is_refused, values_in};
 
 use clap::error::ErrorKind;
 use clap::{Arg, ArgAction, ArgMatches, Command, Error, value_parser};
@@ -12,7 +12,7 @@ const ABOUT: &str =
     "Prints who crashed, where, why and by whom called: for each minidump the system and the process; the thread, the
 address, the reason and the registers of the crash; what of the dump can't be read; the frames of that thread; an
 assertion, Crashpad's annotations and macOS's messages; the first frame of each other thread; and the modules that
-these lines name, with what a symbol server is asked by.";
+have the address of the crash or a printed frame, with what a symbol server is asked by.";
 
 const EXAMPLES: &str = "Examples:
   whocrashed crash.dmp
@@ -22,8 +22,9 @@ const EXAMPLES: &str = "Examples:
   find dumps -name '*.dmp' -print0 | whocrashed --json --stdin-paths > crashes.jsonl
 
 The exit status is 0; 1 if a file can't be read, is too large or is no minidump, if a stream of it is there and can't be
-read, or if the bytes of a context or a stack are outside the file; 2 if the arguments are refused. What is missing of
-symbols doesn't change it. If the pipe that is written to is closed, the run ends with the status of the dumps before.";
+read, if the bytes of a context or a stack are outside the file, if memory ran out, or if the output failed; 2 if the
+arguments are refused. What is missing of symbols doesn't change it. If the pipe that is written to is closed, the run
+ends with the status of the dumps before.";
 
 // The defaults of --frames and --scan, and of --limit and --symbols-limit.
 const FRAMES: &str = "64";
@@ -86,7 +87,10 @@ pub(crate) struct Options<'w> {
 
 impl<'w> Options<'w> {
     // Reads the arguments, without the program's own name.
-    pub(crate) fn read(alloc: Global, words: &'w [String]) -> Result<Options<'w>, Error> {
+    pub(crate) fn read(alloc: Global, words: &'w [String]) -> Result<Options<'w>, Error>
+        ensures { IfOk result (λ options. is_refused options.form options.limits.frames
+            (map (λ p. p.now) options.dumps.paths.items) options.dumps.are_listed ≡ false) }
+    {
         let mut command = command(alloc)?;
         let options = options_in(alloc, &mut command, words)?;
         match refusal(&options) {
@@ -98,7 +102,7 @@ impl<'w> Options<'w> {
 
 // Returns why options that were read are refused, if they are.
 fn refusal(options: &Options<'_>) -> Option<(ErrorKind, &'static str)>
-    ensures { is_some result ≡ is_refused options.now.form
+    ensures { is_some result ≡ is_refused options.now.form options.now.limits.frames
         (map (λ p. p.now) options.now.dumps.paths.items) options.now.dumps.are_listed }
 {
     if options.form == Form::Html && options.dumps.paths.len() > 1 {
@@ -109,6 +113,9 @@ fn refusal(options: &Options<'_>) -> Option<(ErrorKind, &'static str)>
             ErrorKind::ArgumentConflict,
             "standard input is read once, by one of - and --stdin-paths",
         ));
+    }
+    if options.limits.frames == 0 {
+        return Some((ErrorKind::ValueValidation, "--frames is 1 or more"));
     }
     None
 }
@@ -134,13 +141,17 @@ fn options_in<'w>(
     alloc: Global,
     command: &mut Command<'w>,
     words: &'w [String],
-) -> Result<Options<'w>, Error> {
+) -> Result<Options<'w>, Error>
+    ensures { IfOk result (λ options. AreAskedFor command.old words.entry.now options) }
+{
     let matches = command.try_get_matches_from_mut(words)?;
     Ok(options_of(alloc, &matches)?)
 }
 
 // Returns what the matches ask for.
-fn options_of<'w>(alloc: Global, matches: &ArgMatches<'w>) -> Result<Options<'w>, AllocError> {
+fn options_of<'w>(alloc: Global, matches: &ArgMatches<'w>) -> Result<Options<'w>, AllocError>
+    ensures { IfOk result (λ options. AreOptions (found_of matches.now) options) }
+{
     let names = names_of(alloc, matches)?;
     let symbols = symbols_of(alloc, matches)?;
     let dumps = dumps_of(alloc, matches)?;
@@ -338,7 +349,7 @@ fn text_args<'w>(alloc: Global) -> Result<Vec<Arg<'w>>, AllocError> {
             "frames",
             "N",
             FRAMES,
-            "Print at most N frames of a thread",
+            "Print at most N frames of a thread, where N is 1 or more",
         ),
         number(
             alloc,

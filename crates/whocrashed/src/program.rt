@@ -1,4 +1,4 @@
-ghost use Rattle.std.specs.Prelude.{◌≡◌, ◌<◌, ◌≤◌, IfOk};
+ghost use Rattle.std.specs.Prelude.{◌≡◌, ◌<◌, ◌≤◌, ◌==◌, ◌&&◌, IfOk, length, not};
 
 use crate::complain::{complain, complain_at_end, complain_of, say};
 use crate::input::{Dump, dumps_in, read_input};
@@ -102,7 +102,24 @@ fn report_all(rt: &HostRuntime, options: &Options<'_>, text: &[u8]) -> io::Resul
 fn report_with(rt: &HostRuntime, options: &Options<'_>, names: &CodeNames<'_>) -> io::Result<u8>
     ensures { IfOk result (λ status. status < 2) }
 {
-    let reporter = Reporter {
+    report_dumps(&reporter_of(rt, options, names), options)
+}
+
+// Returns what prints reports as the options say, with these names.
+fn reporter_of<'l, 'n>(
+    rt: &'l HostRuntime,
+    options: &Options<'_>,
+    names: &'l CodeNames<'n>,
+) -> Reporter<'l, 'n>
+    ensures names { result.names.now ≡ names.now }
+    ensures limits { result.limits ≡ options.now.limits }
+    ensures scan { result.scan ≡ options.now.scan }
+    ensures form { result.form ≡ options.now.form }
+    ensures limit { result.limit ≡ options.now.dumps.limit }
+    ensures is_one { result.is_one
+        ≡ (length options.now.dumps.paths.items == 1 && not options.now.dumps.are_listed) }
+{
+    Reporter {
         rt,
         names,
         limits: options.limits,
@@ -110,8 +127,7 @@ fn report_with(rt: &HostRuntime, options: &Options<'_>, names: &CodeNames<'_>) -
         form: options.form,
         limit: options.dumps.limit,
         is_one: options.dumps.paths.len() == 1 && !options.dumps.are_listed,
-    };
-    report_dumps(&reporter, options)
+    }
 }
 
 // Reports on the dumps of the arguments, and on those of the list on standard input if there is one.

@@ -1,5 +1,6 @@
-ghost use Rattle.std.specs.Prelude.{◌≡◌, ◌≢◌, ◌<◌, IfOk, IsOk};
+ghost use Rattle.std.specs.Prelude.{◌≡◌, ◌≢◌, ◌<◌, ◌⊎◌, IfOk, IsOk};
 ghost use Rattle.crash.specs.Crash.{crash_in, status_of};
+ghost use Rattle.whocrashed.specs.Status.{status_read};
 
 use crate::complain::{complain, complain_of, say};
 use crate::form::end_line;
@@ -26,7 +27,7 @@ pub(crate) struct Reporter<'l, 'n> {
     pub(crate) form: Form,
     // the most bytes of a dump
     pub(crate) limit: usize,
-    // whether there is no other dump
+    // whether it is the only argument, and no list of paths is read
     pub(crate) is_one: bool,
 }
 
@@ -43,32 +44,39 @@ impl Reporter<'_, '_> {
         }
     }
 
-    // Reports on what was read at a path. Running out of memory is a line.
+    // Reports on what was read at a path, and returns the status: that of what was read, or 1 if memory
+    // ran out, which is a line.
     fn report_read(
         &self,
         path: &str,
         read: io::Result<Option<Vec<u8>>>,
         cache: &mut SymbolCache<'_>,
     ) -> io::Result<u8>
-        ensures { IfOk result (λ status. status < 2) }
+        ensures cases { IfOk result (λ status.
+            (status ≡ status_read self.now.names.now self.now.scan read) ⊎ (status ≡ 1)) }
+        ensures bound { IfOk result (λ status. status < 2) }
     {
         match self.report_file(path, read, cache) {
+            Ok(status) => Ok(status),
             Err(error) if error.kind() == io::ErrorKind::OutOfMemory => {
                 self.complain_of_memory(path, &error)?;
                 Ok(1)
             }
-            result => result,
+            Err(error) => Err(error),
         }
     }
 
-    // Reports on what was read at a path. Running out of memory is an error.
+    // Reports on what was read at a path, and returns its status. Running out of memory is an error.
+    #[tactic(auto, unfolding(crate::specs::Status::status_read))]
     fn report_file(
         &self,
         path: &str,
         read: io::Result<Option<Vec<u8>>>,
         cache: &mut SymbolCache<'_>,
     ) -> io::Result<u8>
-        ensures { IfOk result (λ status. status < 2) }
+        ensures status { IfOk result (λ status. status
+            ≡ status_read self.now.names.now self.now.scan read) }
+        ensures bound { IfOk result (λ status. status < 2) }
     {
         match read {
             Ok(Some(bytes)) => self.report_bytes(path, &bytes, cache),

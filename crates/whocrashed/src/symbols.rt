@@ -1,12 +1,14 @@
-ghost use Rattle.std.specs.Prelude.{◌≡◌, IfErr, IfOk, Some, map, true};
+ghost use Rattle.std.specs.Prelude.{◌≡◌, ◌<◌, ℕ, IfOk, None, Some, length, map, replicate};
+ghost use Rattle.std.specs.Prelude.{slice_index, true};
 ghost use Rattle.std.specs.List.{slice_set};
 ghost use Rattle.std.specs.Option.{option_map};
 ghost use Rattle.breakpad_symbols.specs.SymbolFile.{symbols_in, symbols_of};
 ghost use Rattle.crash.specs.Modules.{loaded_of};
 ghost use Rattle.crash_symbols.specs.Modules.{is_of_module};
 ghost use Rattle.crash_symbols.specs.Symbols.{known_of};
-ghost use Rattle.whocrashed.specs.Symbols.{Belong, IsReason, of_module, state_of_kind, state_of_module};
-ghost use Rattle.whocrashed.specs.Symbols.{state_read, value_read};
+ghost use Rattle.whocrashed.specs.Symbols.{AreLoaded, Belong, IsAsked, has_dirs, of_module};
+ghost use Rattle.whocrashed.specs.Symbols.{state_of_kind, state_of_module, state_read, state_without};
+ghost use Rattle.whocrashed.specs.Symbols.{value_read};
 
 use crate::input::read_file;
 use breakpad_symbols::{SymbolError, SymbolFile};
@@ -26,8 +28,19 @@ pub(crate) struct SymbolDirs<'l> {
     pub(crate) limit: usize,
 }
 
+/// Why a module that was looked for has no symbol file.
+#[derive(Clone, Copy)]
+pub(crate) enum NoSymbols {
+    /// There is none.
+    Missing,
+    /// It can't be read, or is that of another module.
+    Corrupt,
+    /// Memory ran out while it was read.
+    OutOfMemory,
+}
+
 // A symbol file, which is kept until the run ends, or why there is none.
-type Found = Result<&'static SymbolFile<'static>, SymbolState>;
+type Found = Result<&'static SymbolFile<'static>, NoSymbols>;
 
 /// The symbol files that a run has read, each of them once.
 #[derive(Drop)]
@@ -47,20 +60,26 @@ impl<'l> SymbolCache<'l> {
     }
 
     /// Tells whether there are directories of symbol files.
-    pub(crate) fn has_dirs(&self) -> bool {
+    pub(crate) fn has_dirs(&self) -> bool
+        ensures { result ≡ has_dirs self.now }
+    {
         !self.dirs.paths.is_empty()
     }
 
-    /// Looks for the symbol files of modules, by their indices, and puts what is found in its place. If
-    /// each file that is known is its module's, each is afterwards.
+    /// Looks for the symbol files of modules, by their indices, and puts what is found in its place, so
+    /// that none of these modules stays unwanted. If each file that is known is its module's, each is
+    /// afterwards; if exactly the known ones are loaded by the states, so they are afterwards.
     pub(crate) fn find(
         &mut self,
         modules: &[CrashModule],
         wanted: &[usize],
         symbols: &mut Symbols<'static>,
     )
-        ensures { Belong (map loaded_of modules.now) (known_of symbols.old).files
+        ensures belong { Belong (map loaded_of modules.now) (known_of symbols.old).files
             → Belong (map loaded_of modules.now) (known_of symbols.new).files }
+        ensures loaded { AreLoaded (known_of symbols.old) → AreLoaded (known_of symbols.new) }
+        ensures asked { (j : ℕ) → j < length wanted.now → slice_index wanted.now j < length modules.now
+            → IsAsked (known_of symbols.new).states (slice_index wanted.now j) }
     {
         for index in wanted {
             self.find_one(modules, *index, symbols);
@@ -69,8 +88,12 @@ impl<'l> SymbolCache<'l> {
 
     // Does the same for one module.
     fn find_one(&mut self, modules: &[CrashModule], index: usize, symbols: &mut Symbols<'static>)
-        ensures { Belong (map loaded_of modules.now) (known_of symbols.old).files
+        ensures belong { Belong (map loaded_of modules.now) (known_of symbols.old).files
             → Belong (map loaded_of modules.now) (known_of symbols.new).files }
+        ensures loaded { AreLoaded (known_of symbols.old) → AreLoaded (known_of symbols.new) }
+        ensures asked { index < length modules.now → IsAsked (known_of symbols.new).states index }
+        ensures stays { (k : ℕ) → IsAsked (known_of symbols.old).states k
+            → IsAsked (known_of symbols.new).states k }
     {
         if let Some(loaded) = modules.get(index) {
             put(symbols, index, self.file_of(loaded));
@@ -84,8 +107,8 @@ impl<'l> SymbolCache<'l> {
     {
         match symbol_path(self.dirs.rt.alloc(), loaded) {
             Ok(Some(path)) => of_module(self.file_at(path), loaded),
-            Ok(None) => Err(SymbolState::Missing),
-            Err(_) => Err(SymbolState::OutOfMemory),
+            Ok(None) => Err(NoSymbols::Missing),
+            Err(_) => Err(NoSymbols::OutOfMemory),
         }
     }
 
@@ -100,36 +123,32 @@ impl<'l> SymbolCache<'l> {
         }
         match self.files.insert(path, found) {
             Ok(_) => found,
-            Err(_) => Err(SymbolState::OutOfMemory),
+            Err(_) => Err(NoSymbols::OutOfMemory),
         }
     }
 }
 
 impl SymbolDirs<'_> {
     // Reads the symbol file that has this path below the first directory that has one.
-    fn read(&self, path: &str) -> Found
-        ensures { IfErr result (λ state. IsReason state) }
-    {
+    fn read(&self, path: &str) -> Found {
         for dir in self.paths {
             let found = self.read_in(*dir, path);
             if !is_missing(found) {
                 return found;
             }
         }
-        Err(SymbolState::Missing)
+        Err(NoSymbols::Missing)
     }
 
     // Reads the symbol file that has this path below a directory.
-    fn read_in(&self, dir: &str, path: &str) -> Found
-        ensures { IfErr result (λ state. IsReason state) }
-    {
+    fn read_in(&self, dir: &str, path: &str) -> Found {
         let Ok(path) = format!(in self.rt.alloc(); "{dir}/{path}") else {
-            return Err(SymbolState::OutOfMemory);
+            return Err(NoSymbols::OutOfMemory);
         };
         match read_file(self.rt, path.as_str(), self.limit) {
             Ok(Some(text)) => kept(self.rt.alloc(), text.leak()),
-            Ok(None) => Err(SymbolState::Corrupt),
-            Err(error) => Err(state_of(error.kind())),
+            Ok(None) => Err(NoSymbols::Corrupt),
+            Err(error) => Err(reason_of(error.kind())),
         }
     }
 }
@@ -137,36 +156,34 @@ impl SymbolDirs<'_> {
 // Tells whether a file is missing.
 fn is_missing(found: Found) -> bool {
     match found {
-        Err(SymbolState::Missing) => true,
+        Err(NoSymbols::Missing) => true,
         _ => false,
     }
 }
 
 // Reads a symbol file from a text that is kept.
 fn kept(alloc: Global, text: &'static [u8]) -> Found
-    ensures means { IfOk result (λ file. Some (symbols_of file.now) ≡ symbols_in text.now) }
-    ensures reason { IfErr result (λ state. IsReason state) }
+    ensures { IfOk result (λ file. Some (symbols_of file.now) ≡ symbols_in text.now) }
 {
     match SymbolFile::read(alloc, text) {
         Ok(file) => match Box::new(alloc, file) {
             Ok(file) => Ok(Box::leak(file)),
-            Err(_) => Err(SymbolState::OutOfMemory),
+            Err(_) => Err(NoSymbols::OutOfMemory),
         },
-        Err(SymbolError::MissingModule) => Err(SymbolState::Corrupt),
-        Err(SymbolError::OutOfMemory) => Err(SymbolState::OutOfMemory),
+        Err(SymbolError::MissingModule) => Err(NoSymbols::Corrupt),
+        Err(SymbolError::OutOfMemory) => Err(NoSymbols::OutOfMemory),
     }
 }
 
-// Returns the state of a symbol file that can't be read for an error of this kind.
-fn state_of(kind: io::ErrorKind) -> SymbolState
-    ensures state { result ≡ state_of_kind kind }
-    ensures reason { IsReason result }
+// Returns why a module has no symbol file, if its can't be read for an error of this kind.
+fn reason_of(kind: io::ErrorKind) -> NoSymbols
+    ensures { state_without result ≡ state_of_kind kind }
 {
     match kind {
         io::ErrorKind::NotFound | io::ErrorKind::NotADirectory | io::ErrorKind::InvalidFilename =>
-            SymbolState::Missing,
-        io::ErrorKind::OutOfMemory => SymbolState::OutOfMemory,
-        _ => SymbolState::Corrupt,
+            NoSymbols::Missing,
+        io::ErrorKind::OutOfMemory => NoSymbols::OutOfMemory,
+        _ => NoSymbols::Corrupt,
     }
 }
 
@@ -181,19 +198,25 @@ fn of_module(found: Found, loaded: &CrashModule) -> Found
             if is_of_module(file, loaded) {
                 Ok(file)
             } else {
-                Err(SymbolState::Corrupt)
+                Err(NoSymbols::Corrupt)
             }
         }
-        Err(state) => Err(state),
+        Err(reason) => Err(reason),
     }
 }
 
 /// Returns the symbols of so many modules, of which nothing is known.
-pub(crate) fn unknown(alloc: Global, count: usize) -> Result<Symbols<'static>, AllocError> {
-    Ok(Symbols {
-        files: vec![in alloc; None; count]?,
-        states: vec![in alloc; SymbolState::Unwanted; count]?,
-    })
+pub(crate) fn unknown(alloc: Global, count: usize) -> Result<Symbols<'static>, AllocError>
+    ensures files { IfOk result (λ symbols. (known_of symbols).files ≡ replicate count None) }
+    ensures states { IfOk result (λ symbols. (known_of symbols).states
+        ≡ replicate count SymbolState.Unwanted) }
+{
+    let mut symbols = Symbols::new(alloc);
+    for _ in 0..count {
+        symbols.files.push(None)?;
+        symbols.states.push(SymbolState::Unwanted)?;
+    }
+    Ok(symbols)
 }
 
 // Puts what is known of a module's symbol file in its place.
@@ -223,7 +246,9 @@ fn state_read(found: Found) -> SymbolState
 {
     match found {
         Ok(_) => SymbolState::Loaded,
-        Err(state) => state,
+        Err(NoSymbols::Missing) => SymbolState::Missing,
+        Err(NoSymbols::Corrupt) => SymbolState::Corrupt,
+        Err(NoSymbols::OutOfMemory) => SymbolState::OutOfMemory,
     }
 }
 

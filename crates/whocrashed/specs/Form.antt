@@ -1,0 +1,50 @@
+-- What is printed of a crash: its text, its JSON or its page.
+use Rattle.std.specs.Prelude.{◌≡◌, ◌++◌, ℕ, List, [], ◌∷◌, Option, Some}
+use Rattle.crash.specs.Crash.{CrashValue}
+use Rattle.crash_html.specs.Page.{page_with}
+use Rattle.crash_json.specs.declared.JsonLimits.{JsonLimits}
+use Rattle.crash_json.specs.Report as json
+use Rattle.crash_symbols.specs.Backtraces.{BacktraceValue, backtraces_in}
+use Rattle.crash_symbols.specs.Shown.{SymbolizedValue}
+use Rattle.crash_symbols.specs.Symbols.{KnownSymbols}
+use Rattle.crash_text.specs.declared.limits.TextLimits.{TextLimits}
+use Rattle.crash_text.specs.Text as text
+use Rattle.whocrashed.specs.declared.options.Form.{Form}
+use Rattle.whocrashed.specs.declared.options.Form.TheVariants.{Html, Json, Lines}
+use Rattle.whocrashed.specs.Symbols.{AreLoaded, Belong}
+
+-- the limits of the JSON: those of the text that it has, too
+abbrev pub json_limits : TextLimits → JsonLimits
+json_limits limits = record { frames = limits.frames; environment = limits.environment }
+
+-- ---- a crash, with symbols where they are known
+
+-- its lines of text
+unfoldable pub lines_in : TextLimits → Option SymbolizedValue → CrashValue → List ℕ
+lines_in limits symbols c = text.text_of limits symbols c
+
+-- its JSON, with the path of its file
+unfoldable pub json_in : TextLimits → List ℕ → Option SymbolizedValue → CrashValue → List ℕ
+json_in limits path symbols c = json.text_of (json_limits limits) (Some path) symbols c
+
+-- what is printed of it: its lines, its JSON as a line, or the page with its JSON
+unfoldable pub form_in : Form → TextLimits → List ℕ → Option SymbolizedValue → CrashValue → List ℕ
+form_in Lines limits path symbols c = lines_in limits symbols c
+form_in Json limits path symbols c = json_in limits path symbols c ++ 0x0a ∷ []
+form_in Html limits path symbols c = page_with (json_in limits path symbols c)
+
+-- ---- a crash with symbol files
+
+-- what is known of symbol files, and backtraces, as they are shown
+abbrev pub shown_with : KnownSymbols → List (Option BacktraceValue) → SymbolizedValue
+shown_with known threads = record { states = known.states; threads = threads }
+
+-- a text is what is printed of a crash by symbol files: each file is that of its module, a module is
+-- said to have its symbols exactly where its file is known, and the backtraces are those that the files
+-- give, with at most so many candidates a thread
+pub record IsByFiles (form : Form) (limits : TextLimits) (scan : ℕ) (path : List ℕ) (c : CrashValue)
+    (printed : List ℕ) : Type 0 where
+  pub known : KnownSymbols
+  pub belong : Belong c.modules.loaded known.files
+  pub loaded : AreLoaded known
+  pub same : printed ≡ form_in form limits path (Some (shown_with known (backtraces_in c known scan))) c
