@@ -17,7 +17,7 @@ use Rattle.minidump.specs.Below.Format.ContextArm64.{context_arm64_old}
 use Rattle.minidump.specs.Below.Format.Flags.{has_flag}
 use Rattle.minidump.specs.Below.System.System.{System}
 use Rattle.minidump.specs.Exception.{Exception}
-use Rattle.minidump.specs.Thread.{Thread, accepted_context, known_context}
+use Rattle.minidump.specs.Thread.{Thread, accepted_context}
 use Rattle.crash.specs.declared.contexts.ContextOrigin.{ContextOrigin}
 use Rattle.crash.specs.declared.contexts.ContextOrigin.TheVariants.{OfException, OfThread}
 use Rattle.crash.specs.declared.contexts.ContextProblem.{ContextProblem}
@@ -57,7 +57,7 @@ whole_context raw = option_map (λ raw. record { raw = raw; short = None }) raw
 -- ---- contexts in another layout
 
 -- the context at the start of the bytes in Breakpad's first layout of ARM64: its flags have the
--- number of that layout, and those of the general registers
+-- number of that layout, and those of the integer and the floating-point registers
 abbrev pub old_arm64 : Endian → List ℕ → Option MinidumpRawContext
 old_arm64 order bytes = option_and_then (λ c.
     if has_flag c.context_flags 0x8000_0006 then Some (OldArm64 c) else None)
@@ -67,11 +67,6 @@ old_arm64 order bytes = option_and_then (λ c.
 abbrev pub old_on : Cpu → Endian → List ℕ → Option MinidumpRawContext
 old_on cpu.Arm64 order bytes = old_arm64 order bytes
 old_on other order bytes = None
-
--- the same on the processor of a dump
-abbrev pub old_context : Option System → Endian → Option (List ℕ) → Option MinidumpRawContext
-old_context system order bytes =
-    option_and_then (λ s. option_and_then (old_on s.cpu order) bytes) system
 
 -- ---- contexts that are cut after the general registers
 
@@ -104,22 +99,27 @@ short_by s order bytes l = if nat_le l.0 (length bytes) && nat_lt (length bytes)
     then option_and_then (short_of (length bytes) l.1)
     (accepted_context s.raw.processor_architecture order (Some (padded bytes l.1))) else None
 
--- the same on the processor of a dump
-abbrev pub short_context : Option System → Endian → Option (List ℕ) → Option FoundContext
-short_context system order bytes = option_and_then (λ s. option_and_then (λ bytes.
-    option_and_then (short_by s order bytes) (lengths s.cpu)) bytes) system
+-- the same on the processor of a system
+abbrev pub short_context : System → Endian → List ℕ → Option FoundContext
+short_context s order bytes = option_and_then (short_by s order bytes) (lengths s.cpu)
 
 -- ---- the context of a thread
 
 -- the context that bytes hold whole: in the layout of the processor, or in another one
-abbrev pub whole_in : Option System → Endian → Option (List ℕ) → Option MinidumpRawContext
-whole_in system order bytes =
-    option_or (known_context system order bytes) (old_context system order bytes)
+abbrev pub whole_in : System → Endian → List ℕ → Option MinidumpRawContext
+whole_in s order bytes =
+    option_or (accepted_context s.raw.processor_architecture order (Some bytes))
+    (old_on s.cpu order bytes)
 
 -- the context that bytes hold: whole, or cut after its general registers
+abbrev pub context_on : System → Endian → List ℕ → Option FoundContext
+context_on s order bytes =
+    option_or (whole_context (whole_in s order bytes)) (short_context s order bytes)
+
+-- the same, where the system is known and the bytes are in the file
 abbrev pub any_context : Option System → Endian → Option (List ℕ) → Option FoundContext
 any_context system order bytes =
-    option_or (whole_context (whole_in system order bytes)) (short_context system order bytes)
+    option_and_then (λ s. option_and_then (context_on s order) bytes) system
 
 -- the context of an exception
 abbrev pub context_at : ContentsValue → Exception → Option FoundContext

@@ -47,22 +47,22 @@ crash_walk_of w = record {
 abbrev pub place_of : List ModuleValue → Option ℕ → Option (ℕ × ℕ)
 place_of modules address = option_and_then (module_place modules) address
 
--- a frame with its module
-abbrev pub frame_in : List ModuleValue → StackFrame → CrashFrame
-frame_in modules f = record {
-  address = lookup_address f;
+-- a frame of a stack with its module
+abbrev pub frame_in : StackValue → StackFrame → CrashFrame
+frame_in s f = record {
+  address = lookup_address s.cpu f;
   instruction = f.instruction;
   stack_pointer = f.stack_pointer;
   frame_pointer = f.frame_pointer;
   trust = f.trust;
-  «module» = place_of modules (lookup_address f);
+  «module» = place_of s.modules (lookup_address s.cpu f);
 }
 
 -- a walk with the module of each frame
-abbrev pub walk_by : List ModuleValue → WalkValue → CrashWalkValue
-walk_by modules w = record {
-  frames = map (frame_in modules) w.frames;
-  candidates = map (frame_in modules) w.candidates;
+abbrev pub walk_by : StackValue → WalkValue → CrashWalkValue
+walk_by s w = record {
+  frames = map (frame_in s) w.frames;
+  candidates = map (frame_in s) w.candidates;
   end = w.end;
 }
 
@@ -113,7 +113,7 @@ exception_walked c e = option_and_then
 
 -- what is found in a stack by a context, with at most so many candidates
 abbrev pub walk_from : ℕ → StackValue × MinidumpContext → CrashWalkValue
-walk_from scan w = walk_by w.0.modules (stack.walk_in w.0 w.1 scan)
+walk_from scan w = walk_by w.0 (stack.walk_in w.0 w.1 scan)
 
 -- the walk of a thread of the list
 abbrev pub thread_walk : ContentsValue → Option Exception → ℕ → Thread → Option CrashWalkValue

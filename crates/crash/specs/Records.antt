@@ -1,10 +1,10 @@
 -- What the record of an exception says: the parameters, LLDB's text over them, and by its system
 -- how memory was accessed, and who sent a signal.
-use Rattle.std.specs.Prelude.{ℕ, codes, true, ◌%◌, ◌/◌, ◌^◌, ◌==◌, ◌||◌, ◌&&◌, nat_le, nat_lt, not, Bool, List, min}
+use Rattle.std.specs.Prelude.{ℕ, codes, false, true, ◌%◌, ◌/◌, ◌^◌, ◌==◌, ◌||◌, ◌&&◌, nat_le, nat_lt, not, Bool, List, min}
 use Rattle.std.specs.Prelude.{slice_index, take, length, Option, Some, None, if◌then◌else◌}
 use Rattle.std.specs.Int.{to_le_bytes, w64}
 use Rattle.std.specs.List.{before_first, flat_map}
-use Rattle.std.specs.Option.{option_and_then}
+use Rattle.std.specs.Option.{option_and_then, option_map_or}
 use Rattle.std.specs.Str.Lossy.{utf8_lossy}
 use Rattle.minidump.specs.declared.format.MINIDUMP_EXCEPTION.{MINIDUMP_EXCEPTION}
 use Rattle.minidump.specs.declared.system_info.Cpu.{Cpu}
@@ -78,26 +78,38 @@ signal_code_name Tkill = codes "SI_TKILL"
 -- the process that sent a signal and its user, by the union of Linux's siginfo, whose bytes are the
 -- address of a fault else: `si_pid`, and after it `si_uid`, which an address of 32 bits lacks
 abbrev pub sender_at : SignalCode → PointerWidth → ℕ → Sender
-sender_at code Bits32 address = record { code = code; process = address % 2 ^ 32; user = None }
+sender_at code Bits32 address = record {
+  code = code;
+  process = Some (address % 2 ^ 32);
+  user = None;
+}
 sender_at code _ address = record {
   code = code;
-  process = address % 2 ^ 32;
+  process = Some (address % 2 ^ 32);
   user = Some (address / 2 ^ 32);
 }
 
 -- the same by the first two parameters, where Crashpad has them for a signal that is no fault
-abbrev pub sender_of_parameters : SignalCode → List ℕ → Sender
+abbrev sender_of_parameters : SignalCode → List ℕ → Sender
 sender_of_parameters code parameters = record {
   code = code;
-  process = slice_index parameters 0 % 2 ^ 32;
+  process = Some (slice_index parameters 0 % 2 ^ 32);
   user = Some (slice_index parameters 1 % 2 ^ 32);
 }
 
--- the same by the parameters, where there is no address, else by the address
+-- Linux's SIGPOLL and SIGSYS, of which Crashpad has other fields of that union: `si_band` or
+-- `si_call_addr`, as wide as an address and at its place, and `si_fd` or `si_syscall`
+abbrev has_fields_of_its_own : ℕ → Bool
+has_fields_of_its_own signal = signal == 29 || signal == 31
+
+-- the same by the address, else by the parameters: unknown where there are neither
 abbrev pub sender_by : SignalCode → PointerWidth → MINIDUMP_EXCEPTION → Sender
-sender_by code width r = if r.exception_address == 0 && nat_le 2 r.number_parameters
-    then sender_of_parameters code r.exception_information
-    else sender_at code width r.exception_address
+sender_by code width r =
+    if not (r.exception_address == 0) then sender_at code width r.exception_address
+    else (if nat_lt r.number_parameters 2 then record { code = code; process = None; user = None }
+    else (if has_fields_of_its_own r.exception_code
+    then sender_at code width (slice_index r.exception_information 0)
+    else sender_of_parameters code r.exception_information))
 
 -- Linux numbers its signals from 1 to 64, and its processes from 1 to 2^22 - 1
 abbrev pub is_signal : ℕ → Bool
@@ -114,8 +126,8 @@ is_low_access r =
 
 -- a process sent a signal. SI_USER is 0, as of a writer that has no `si_code`: then the sender must
 -- be one that can be a process, and the record not one of an access near 0
-abbrev pub is_sent : SignalCode → MINIDUMP_EXCEPTION → ℕ → Bool
-is_sent User r process = is_process process && not (is_low_access r)
+abbrev pub is_sent : SignalCode → MINIDUMP_EXCEPTION → Option ℕ → Bool
+is_sent User r process = option_map_or is_process process false && not (is_low_access r)
 is_sent _ r process = true
 
 -- the sender, where there is one: the record's code is the signal

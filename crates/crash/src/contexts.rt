@@ -3,11 +3,11 @@ ghost use Rattle.std.specs.Option.{option_copied, option_map};
 ghost use Rattle.minidump.specs.Below.Bytes.Span.{record_at};
 ghost use Rattle.minidump.specs.Below.Format.ContextArm64.{context_arm64_old};
 ghost use Rattle.minidump.specs.Promise.{exception_stream, system_info_stream};
-ghost use Rattle.minidump.specs.Thread.{accepted_context, known_context, thread_of};
+ghost use Rattle.minidump.specs.Thread.{accepted_context, thread_of};
 ghost use Rattle.crash.specs.Contents.{contents_of};
-ghost use Rattle.crash.specs.Contexts.{any_context, context_at, context_by, context_of};
+ghost use Rattle.crash.specs.Contexts.{any_context, context_at, context_by, context_of, context_on};
 ghost use Rattle.crash.specs.Contexts.{first_found, first_of, found_in, has_general, lengths};
-ghost use Rattle.crash.specs.Contexts.{of_origin, old_arm64, old_context, old_on};
+ghost use Rattle.crash.specs.Contexts.{of_origin, old_arm64, old_on};
 ghost use Rattle.crash.specs.Contexts.{on_thread, padded, problem_by, problem_in, registers_in, short_by};
 ghost use Rattle.crash.specs.Contexts.{register_values, short_context};
 ghost use Rattle.crash.specs.Contexts.{system_of, whole_context, whole_only};
@@ -76,21 +76,8 @@ pub(crate) struct FoundContext {
 
 // ---- contexts that are whole
 
-// Returns the context that bytes hold in the layout of the dump's processor.
-fn known_context(
-    contents: &Contents<'_>,
-    endian: Endian,
-    bytes: Option<&[u8]>,
-) -> Option<MinidumpRawContext>
-    ensures { result ≡ known_context (system_of (contents_of contents.now)) endian
-        (option_copied bytes.entry) }
-{
-    let system = contents.system.system.as_ref().ok()?;
-    read_raw(bytes?, endian, system)
-}
-
-// Returns the context that bytes hold on a system.
-fn read_raw(bytes: &[u8], endian: Endian, system: &MinidumpSystemInfo) -> Option<MinidumpRawContext>
+// Returns the context that bytes hold in the layout of a system's processor.
+fn read_raw(system: &MinidumpSystemInfo, endian: Endian, bytes: &[u8]) -> Option<MinidumpRawContext>
     ensures { result ≡ accepted_context
         (system_info_stream.value system.now).raw.processor_architecture endian (Some bytes.now) }
 {
@@ -139,32 +126,12 @@ fn old_on(cpu: Cpu, endian: Endian, bytes: &[u8]) -> Option<MinidumpRawContext>
     }
 }
 
-// Returns the same on the processor of a dump.
-fn old_context(
-    contents: &Contents<'_>,
-    endian: Endian,
-    bytes: Option<&[u8]>,
-) -> Option<MinidumpRawContext>
-    ensures { result ≡ old_context (system_of (contents_of contents.now)) endian
-        (option_copied bytes.entry) }
-{
-    let system = contents.system.system.as_ref().ok()?;
-    old_on(system.cpu, endian, bytes?)
-}
-
 // ---- contexts that are cut after the general registers
 
 // Returns the context of which bytes are the front.
-fn short_context(
-    contents: &Contents<'_>,
-    endian: Endian,
-    bytes: Option<&[u8]>,
-) -> Option<FoundContext>
-    ensures { result ≡ short_context (system_of (contents_of contents.now)) endian
-        (option_copied bytes.entry) }
+fn short_context(system: &MinidumpSystemInfo, endian: Endian, bytes: &[u8]) -> Option<FoundContext>
+    ensures { result ≡ short_context (system_info_stream.value system.now) endian bytes.now }
 {
-    let system = contents.system.system.as_ref().ok()?;
-    let bytes = bytes?;
     let (least, whole) = lengths(system.cpu)?;
     short_by(system, endian, bytes, least, whole)
 }
@@ -234,12 +201,20 @@ fn read_padded(
 {
     let mut padded = [0; 1232];
     padded[..bytes.len()].copy_from_slice(bytes);
-    read_raw(&padded[..whole], endian, system)
+    read_raw(system, endian, &padded[..whole])
 }
 
 // ---- the context of a thread
 
 // Returns the context that bytes hold: whole, in any layout, or cut after its general registers.
+fn context_on(system: &MinidumpSystemInfo, endian: Endian, bytes: &[u8]) -> Option<FoundContext>
+    ensures { result ≡ context_on (system_info_stream.value system.now) endian bytes.now }
+{
+    let raw = read_raw(system, endian, bytes).or(old_on(system.cpu, endian, bytes));
+    whole_context(raw).or(short_context(system, endian, bytes))
+}
+
+// Returns the same, if the system is known and the bytes are in the file.
 fn any_context(
     contents: &Contents<'_>,
     endian: Endian,
@@ -248,9 +223,8 @@ fn any_context(
     ensures { result ≡ any_context (system_of (contents_of contents.now)) endian
         (option_copied bytes.entry) }
 {
-    let known = known_context(contents, endian, bytes);
-    let whole = whole_context(known.or(old_context(contents, endian, bytes)));
-    whole.or(short_context(contents, endian, bytes))
+    let system = contents.system.system.as_ref().ok()?;
+    context_on(system, endian, bytes?)
 }
 
 // Returns the context of an exception.

@@ -35,7 +35,8 @@ pub struct CrashWalk {
 #[derive(Clone, Copy, Debug)]
 pub struct CrashFrame {
     /// The address by which it is looked up: the instruction pointer of the context, and else the
-    /// return address less one, which lies in the call. `None` for a return address of 0.
+    /// return address less one, which lies in the call; on ARM of 32 bits without its bit 0, which
+    /// stands for Thumb code. `None` where nothing is below that.
     pub address: Option<u64>,
     /// The instruction pointer of the context, or else the return address of the frame before.
     pub instruction: u64,
@@ -118,7 +119,7 @@ fn walk_from(
     ensures memory { IsOkUnless result Error.OutOfMemory }
 {
     let walk = walk_stack(alloc, stack, context, scan)?;
-    Ok(walk_by(alloc, stack.modules, &walk)?)
+    Ok(walk_by(alloc, stack, &walk)?)
 }
 
 // Returns the kept region of the memory that contains an address.
@@ -132,17 +133,13 @@ pub(crate) fn memory_at<'l, 'a>(
 }
 
 // Returns a walk with the module of each frame.
-fn walk_by(
-    alloc: Global,
-    modules: &MinidumpModuleList,
-    walk: &Walk,
-) -> Result<CrashWalk, AllocError>
-    ensures { IfOk result (λ w. crash_walk_of w
-        ≡ walk_by (module_list_stream.value modules.now) (walk_of walk.now)) }
+fn walk_by(alloc: Global, stack: &Stack<'_, '_>, walk: &Walk) -> Result<CrashWalk, AllocError>
+    ensures { IfOk result
+        (λ w. crash_walk_of w ≡ walk_by (stack_of stack.now) (walk_of walk.now)) }
 {
     Ok(CrashWalk {
-        frames: frames_in(alloc, modules, walk.frames.as_slice())?,
-        candidates: frames_in(alloc, modules, walk.candidates.as_slice())?,
+        frames: frames_in(alloc, stack, walk.frames.as_slice())?,
+        candidates: frames_in(alloc, stack, walk.candidates.as_slice())?,
         end: walk.end,
     })
 }
@@ -150,30 +147,29 @@ fn walk_by(
 // Returns frames, each with its module.
 fn frames_in(
     alloc: Global,
-    modules: &MinidumpModuleList,
+    stack: &Stack<'_, '_>,
     frames: &[StackFrame],
 ) -> Result<Vec<CrashFrame>, AllocError>
-    ensures { IfOk result (λ fs. fs.items
-        ≡ map (frame_in (module_list_stream.value modules.now)) frames.now) }
+    ensures { IfOk result (λ fs. fs.items ≡ map (frame_in (stack_of stack.now)) frames.now) }
 {
     frames
         .iter()
-        .map(|frame| frame_in(modules, frame))
+        .map(|frame| frame_in(stack, frame))
         .collect(alloc)
 }
 
-/// Returns a frame of a walk with its module.
-pub fn frame_in(modules: &MinidumpModuleList, frame: &StackFrame) -> CrashFrame
-    ensures { result ≡ frame_in (module_list_stream.value modules.now) frame.now }
+/// Returns a frame of a stack with its module.
+pub fn frame_in(stack: &Stack<'_, '_>, frame: &StackFrame) -> CrashFrame
+    ensures { result ≡ frame_in (stack_of stack.now) frame.now }
 {
-    let address = frame.lookup_address();
+    let address = frame.lookup_address(stack.cpu);
     CrashFrame {
         address,
         instruction: frame.instruction,
         stack_pointer: frame.stack_pointer,
         frame_pointer: frame.frame_pointer,
         trust: frame.trust,
-        module: place_of(modules, address),
+        module: place_of(stack.modules, address),
     }
 }
 

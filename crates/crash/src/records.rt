@@ -1,6 +1,6 @@
 //! What the record of an exception says, by itself and by its system.
-ghost use Rattle.std.specs.Prelude.{◌≡◌, ◌%◌, ◌/◌, ◌^◌, IfOk, string_bytes};
-ghost use Rattle.std.specs.Option.{option_copied, option_map};
+ghost use Rattle.std.specs.Prelude.{◌≡◌, ◌%◌, ◌/◌, ◌^◌, IfOk, false, string_bytes};
+ghost use Rattle.std.specs.Option.{option_copied, option_map, option_map_or};
 ghost use Rattle.minidump.specs.Promise.{system_info_stream};
 ghost use Rattle.crash.specs.Records.{access_in, access_of_number, access_on, description_in};
 ghost use Rattle.crash.specs.Records.{is_process, parameter_bytes, text_unless_empty};
@@ -25,6 +25,10 @@ const LLDB_FLAG: u32 = 0x4c4c_4442;
 const SIGBUS: u32 = 7;
 
 const SIGSEGV: u32 = 11;
+
+const SIGPOLL: u32 = 29;
+
+const SIGSYS: u32 = 31;
 
 const SI_USER: u32 = 0;
 
@@ -72,10 +76,11 @@ impl SignalCode {
 pub struct Sender {
     /// The `si_code`, which is the flags of the record.
     pub code: SignalCode,
-    /// The id of the process, `si_pid`: 0 if it is outside of the receiver's namespace. By SI_USER
-    /// it is never 0, since a record that has no `si_code` has 0 there, too.
-    pub process: u32,
-    /// The id of its user, `si_uid`, or `None` where the record has no room for it: in an address of
+    /// The id of the process, `si_pid`: 0 if it is outside of the receiver's namespace, and `None`
+    /// where the record has no bytes of it. By SI_USER it is neither, since a record that has no
+    /// `si_code` has 0 there, too.
+    pub process: Option<u32>,
+    /// The id of its user, `si_uid`, or `None` where the record has no bytes of it, as in an address of
     /// 32 bits.
     pub user: Option<u32>,
 }
@@ -223,7 +228,7 @@ fn is_signal(number: u32) -> bool
 }
 
 // Tells whether a process sent the signal of a record, by its code and the number of the process.
-fn is_sent(code: SignalCode, raw: &MINIDUMP_EXCEPTION, process: u32) -> bool
+fn is_sent(code: SignalCode, raw: &MINIDUMP_EXCEPTION, process: Option<u32>) -> bool
     ensures { result ≡ is_sent code raw.now process }
 {
     match code {
@@ -240,25 +245,36 @@ fn is_low_access(raw: &MINIDUMP_EXCEPTION) -> bool
     (signal == SIGBUS || signal == SIGSEGV) && address >= 1 && address < 0x40_0000
 }
 
-// Tells whether a number can be that of a process.
-fn is_process(number: u32) -> bool
-    ensures { result ≡ is_process number }
+// Tells whether a number is known, and can be that of a process.
+fn is_process(number: Option<u32>) -> bool
+    ensures { result ≡ option_map_or is_process number false }
 {
-    number >= 1 && number < 0x40_0000
+    match number {
+        Some(number) => number >= 1 && number < 0x40_0000,
+        None => false,
+    }
 }
 
 // Returns the sender of a signal, if it was sent.
 fn sender_by(code: SignalCode, width: PointerWidth, raw: &MINIDUMP_EXCEPTION) -> Sender
     ensures { result ≡ sender_by code width raw.now }
 {
-    if raw.exception_address == 0 && raw.number_parameters >= 2 {
+    if raw.exception_address != 0 {
+        sender_at(code, width, raw.exception_address)
+    } else if raw.number_parameters < 2 {
         Sender {
             code,
-            process: low(raw.exception_information[0]),
+            process: None,
+            user: None,
+        }
+    } else if raw.exception_code == SIGPOLL || raw.exception_code == SIGSYS {
+        sender_at(code, width, raw.exception_information[0])
+    } else {
+        Sender {
+            code,
+            process: Some(low(raw.exception_information[0])),
             user: Some(low(raw.exception_information[1])),
         }
-    } else {
-        sender_at(code, width, raw.exception_address)
     }
 }
 
@@ -266,7 +282,7 @@ fn sender_by(code: SignalCode, width: PointerWidth, raw: &MINIDUMP_EXCEPTION) ->
 fn sender_at(code: SignalCode, width: PointerWidth, address: u64) -> Sender
     ensures { result ≡ sender_at code width address }
 {
-    let process = low(address);
+    let process = Some(low(address));
     let user = match width {
         PointerWidth::Bits32 => None,
         _ => Some(high(address)),

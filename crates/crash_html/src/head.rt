@@ -7,7 +7,7 @@ pub(crate) const HEAD: &str = r##"<!DOCTYPE html>
 <head>
 <meta charset="utf-8">
 <meta http-equiv="Content-Security-Policy" content="default-src 'none'; base-uri 'none'; form-action 'none';
- script-src 'sha256-TvSX3lFQTlqW8RxLG0tNes1msr4bWsx/dekBPM1J3mk=' 'sha256-yjs5vL3NZJbDglfEZkMsnmdjoFcJDn8aPMMgufpKwRw=';
+ script-src 'sha256-TvSX3lFQTlqW8RxLG0tNes1msr4bWsx/dekBPM1J3mk=' 'sha256-fjEIP8xflYvoO0Ff1rAaUOmwx0nu4AGvZTfGVDuU1DU=';
  style-src 'sha256-aoeR9LaD96AOtcVRbJAiJRGYUpzF7xtkhJl/u0SmeoQ=' 'sha256-sPHmrOm/UuubxpQb78f/WQ8zZl3stHOYMbsktkrfNJQ='">
 <meta name="viewport" content="width=device-width, initial-scale=1">
 <title>Crash</title>

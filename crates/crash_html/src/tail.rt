@@ -245,7 +245,8 @@ function addressWords(at, facts) {
 function senderWords(exception) {
   const sender = part(exception, "sender");
   if (sender === null) return null;
-  return joined(["process " + part(sender, "process_id"), labelled("user ", part(sender, "user_id")), part(sender, "code")], ", ");
+  const process = labelled("process ", part(sender, "process_id")) ?? "an unknown process";
+  return joined([process, labelled("user ", part(sender, "user_id")), part(sender, "code")], ", ");
 }
 
 function parametersOf(exception) {

@@ -1,5 +1,5 @@
 -- A line nests seven levels deep at most, but for its soft errors, which nest no deeper than they may.
-use Rattle.std.proofs.Common.{◌≡◌, ◌≤◌, ◌++◌, ℕ, Bool, false, true, List, [], ◌∷◌, Option, Some, None, Result, Ok, Err, arith, length, map, refl, string_bytes, take}
+use Rattle.std.proofs.Common.{◌≡◌, ◌≤◌, ◌++◌, ℕ, Bool, false, true, List, [], ◌∷◌, Option, Some, None, Result, Ok, Err, arith, refl}
 use Rattle.std.specs.Prelude.{unwrap_or}
 use Rattle.std.specs.Option.{option_and_then, option_map}
 use Rattle.std.specs.Result.{result_ok}
@@ -9,7 +9,6 @@ use Rattle.json.specs.Token.{Token}
 use Rattle.json.specs.Tree.{depth, members_depth}
 use Rattle.json.proofs.Nesting.{value-depth}
 use Rattle.minidump.specs.declared.Error.{Error}
-use Rattle.minidump.specs.declared.format.MINIDUMP_ASSERTION_INFO.{MINIDUMP_ASSERTION_INFO}
 use Rattle.minidump.specs.Below.Format.Error.{name_of_error}
 use Rattle.minidump.specs.Below.MemoryLists.Unified.{UnifiedRegion, unified_regions}
 use Rattle.minidump.specs.Below.Records.Annotations.{Annotation}
@@ -37,22 +36,23 @@ use Rattle.crash.specs.Modules.{LoadedValue, UnloadedModuleValue}
 use Rattle.crash.specs.Point.{PointValue}
 use Rattle.crash.specs.Process.{SystemValue}
 use Rattle.crash.specs.Release.{ReleaseValue}
-use Rattle.crash.specs.Threads.{ThreadValue, ThreadsValue, crashed_thread}
+use Rattle.crash.specs.Threads.{ThreadValue, crashed_thread}
 use Rattle.crash_symbols.specs.declared.symbols.SymbolState.{SymbolState}
 use Rattle.crash_symbols.specs.Names.{CallValue, NamedFrameValue}
 use Rattle.crash_symbols.specs.Shown.{SymbolizedValue}
-use Rattle.json_tree.specs.Tree.{array_of, count, hex_string, members_of, object_of, or_null}
-use Rattle.json_tree.proofs.Depth.{array_within, flat_count, flat_hex, flat_text, numbered_array_within, or_null_within}
+use Rattle.crash_json.specs.Tree.{array_of, count, hex_string, members_of}
+use Rattle.crash_json.proofs.TreeDepth.{array_within, flat_count, flat_hex, flat_text, numbered_array_within, or_null_within}
 use Rattle.crash_json.specs.declared.JsonLimits.{JsonLimits}
 use Rattle.crash_json.specs.Cause.{address_json, address_members, crash_info_json, crash_object, exception_json, exception_object, memory_json, memory_object, sender_json, sender_object, unread_object}
 use Rattle.crash_json.specs.Crashpad.{annotation_json, annotations_json, crashpad_json, crashpad_module_json, crashpad_modules_json, crashpad_object, objects_json, texts_json}
 use Rattle.crash_json.specs.Frames.{frame_json, frame_object, inline_json, inline_object, inlines_json, name_members, name_object, place_members, register_members, registers_json}
 use Rattle.crash_json.specs.Linux.{environment_json, limit_json, limits_json, proc_limits_json, variable_json, variables_json}
 use Rattle.crash_json.specs.Minidump.{crash_part, damage_json, damage_object, file_part, minidump_json, process_part, region_object, region_json, stream_json, stream_object, unless_zero}
-use Rattle.crash_json.specs.Modules.{main_module, module_json, module_object, modules_json, state_object, symbol_members, unloaded_json, unreadable_json, unreadable_object}
+use Rattle.crash_json.specs.Modules.{module_json, module_object, modules_json, state_object, symbol_members, unloaded_json, unreadable_json, unreadable_object}
 use Rattle.crash_json.specs.Point.{flags_json, placed_json, point_json, register_json, word_json, word_object}
 use Rattle.crash_json.specs.Records.{assertion_json, assertion_object, handle_json, handle_object, handles_json, kind_json, mac_crash_json, mac_members, mac_object, mac_record_json}
-use Rattle.crash_json.specs.Report.{all_members, crash_members, error_json, json_of, path_members, process_members, process_object, record_members, record_object}
+use Rattle.crash_json.specs.ReportValue.{ReportValue}
+use Rattle.crash_json.specs.Report.{crash_members, error_json, json_of, line_json, path_members, process_members, process_object, record_members, record_object}
 use Rattle.crash_json.specs.Report as report
 use Rattle.crash_json.specs.Signature.{signature_in}
 use Rattle.crash_json.specs.SoftErrors.{soft_depth, soft_json}
@@ -150,15 +150,15 @@ unfolding name_object
 name_object_depth function offset file line inlines is_missing =
     omega (arith, flat_text function, flat_hex offset, flat_text file, flat_count line, inlines_depth inlines)
 
-name_members_depth : (has_symbols : Bool) (f : NamedFrameValue) → members_depth (members_of (name_members has_symbols f)) ≤ 2
-name_members_depth true f = name_object_depth _ _ _ _ _ _
-name_members_depth false f = omega arith
+name_members_depth : (symbols : Option SymbolizedValue) (f : NamedFrameValue) → members_depth (members_of (name_members symbols f)) ≤ 2
+name_members_depth (Some s) f = name_object_depth _ _ _ _ _ _
+name_members_depth None f = omega arith
 
-frame_depth : (modules : List LoadedValue) (context : Option ContextValue) (has_symbols : Bool) (number : ℕ) (f : NamedFrameValue)
-    → depth (frame_json modules context has_symbols number f) ≤ 3
-frame_depth modules context has_symbols number f =
-    let place : members_depth (members_of (place_members modules context number f.frame)) ≤ 1 = frame_object_depth _ _ _ _ _ _ in
-    omega (arith, both_within (place_members modules context number f.frame) (name_members has_symbols f) 2 (omega (arith, place)) (name_members_depth has_symbols f))
+frame_depth : (r : ReportValue) (context : Option ContextValue) (number : ℕ) (f : NamedFrameValue) → depth (frame_json r context number f) ≤ 3
+frame_depth r context number f =
+    let place = place_members r.crash.modules.loaded context number f.frame in
+    let flat : members_depth (members_of place) ≤ 1 = frame_object_depth _ _ _ _ _ _ in
+    omega (arith, both_within place (name_members r.symbols f) 2 (omega (arith, flat)) (name_members_depth r.symbols f))
 
 range_depth : (r : StackRange) → depth (range_json r) ≤ 1
 unfolding range_json
@@ -168,11 +168,11 @@ short_depth : (s : ShortContext) → depth (short_json s) ≤ 1
 unfolding short_json
 short_depth s = omega arith
 
-thread_object_depth : (t : ThreadValue) (problem ended : Option (List ℕ)) (short : Option ShortContext) (frame_count : ℕ) (modules : List LoadedValue)
-    (context : Option ContextValue) (has_symbols : Bool) (frames : List NamedFrameValue)
-    → members_depth (members_of (thread_object t problem ended short frame_count modules context has_symbols frames)) ≤ 4
+thread_object_depth : (r : ReportValue) (t : ThreadValue) (problem ended : Option (List ℕ)) (short : Option ShortContext) (frame_count : ℕ)
+    (context : Option ContextValue) (frames : List NamedFrameValue)
+    → members_depth (members_of (thread_object r t problem ended short frame_count context frames)) ≤ 4
 unfolding thread_object
-thread_object_depth t problem ended short frame_count modules context has_symbols frames =
+thread_object_depth r t problem ended short frame_count context frames =
     omega (
       arith,
       flat_text t.name,
@@ -182,30 +182,25 @@ thread_object_depth t problem ended short frame_count modules context has_symbol
       flat_text problem,
       flat_text ended,
       or_null_within short_json 1 short short_depth,
-      numbered_array_within (frame_json modules context has_symbols) 3 frames (frame_depth modules context has_symbols),
+      numbered_array_within (frame_json r context) 3 frames (frame_depth r context),
     )
 
-thread_members_depth : (limit : ℕ) (symbols : Option SymbolizedValue) (modules : List LoadedValue) (context : Option ContextValue) (number : ℕ) (t : ThreadValue)
-    → members_depth (members_of (thread_members limit symbols modules context number t)) ≤ 4
-thread_members_depth limit symbols modules context number t = thread_object_depth t _ _ _ _ modules context _ _
+thread_members_depth : (r : ReportValue) (context : Option ContextValue) (number : ℕ) (t : ThreadValue)
+    → members_depth (members_of (thread_members r context number t)) ≤ 4
+thread_members_depth r context number t = thread_object_depth r t _ _ _ _ context _
 
-thread_depth : (limit : ℕ) (symbols : Option SymbolizedValue) (modules : List LoadedValue) (number : ℕ) (t : ThreadValue)
-    → depth (thread_json limit symbols modules number t) ≤ 5
-thread_depth limit symbols modules number t = omega (arith, thread_members_depth limit symbols modules None number t)
+thread_depth : (r : ReportValue) (number : ℕ) (t : ThreadValue) → depth (thread_json r number t) ≤ 5
+thread_depth r number t = omega (arith, thread_members_depth r None number t)
 
-threads_depth : (limit : ℕ) (symbols : Option SymbolizedValue) (modules : List LoadedValue) (ts : List ThreadValue)
-    → depth (threads_json limit symbols modules ts) ≤ 6
+threads_depth : (r : ReportValue) → depth (threads_json r) ≤ 6
 unfolding threads_json
-threads_depth limit symbols modules ts = numbered_array_within (thread_json limit symbols modules) 5 ts (thread_depth limit symbols modules)
+threads_depth r = numbered_array_within (thread_json r) 5 r.crash.threads.threads (thread_depth r)
 
-indexed_depth : (limit : ℕ) (symbols : Option SymbolizedValue) (modules : List LoadedValue) (index : ℕ) (t : ThreadValue)
-    → depth (indexed_json limit symbols modules index t) ≤ 5
-indexed_depth limit symbols modules index t = omega (arith, thread_members_depth limit symbols modules t.context index t)
+indexed_depth : (r : ReportValue) (index : ℕ) (t : ThreadValue) → depth (indexed_json r index t) ≤ 5
+indexed_depth r index t = omega (arith, thread_members_depth r t.context index t)
 
-crashing_depth : (limit : ℕ) (symbols : Option SymbolizedValue) (modules : List LoadedValue) (t : ThreadsValue)
-    → depth (crashing_json limit symbols modules t) ≤ 5
-crashing_depth limit symbols modules t =
-    or_null_within (λ p. indexed_json limit symbols modules p.0 p.1) 5 (crashed_thread t) (λ p. indexed_depth limit symbols modules p.0 p.1)
+crashing_depth : (r : ReportValue) → depth (crashing_json r) ≤ 5
+crashing_depth r = or_null_within (λ p. indexed_json r p.0 p.1) 5 (crashed_thread r.crash.threads) (λ p. indexed_depth r p.0 p.1)
 
 -- ---- records
 
@@ -299,9 +294,9 @@ environment_depth false text = omega arith
 
 -- ---- what the schema has no member for
 
-sender_object_depth : (process : ℕ) (user : Option ℕ) (code : List ℕ) → depth (sender_object process user code) ≤ 1
+sender_object_depth : (process user : Option ℕ) (code : List ℕ) → depth (sender_object process user code) ≤ 1
 unfolding sender_object
-sender_object_depth process user code = omega (arith, flat_count user)
+sender_object_depth process user code = omega (arith, flat_count process, flat_count user)
 
 exception_object_depth : (e : ExceptionValue) (parameters : List ℕ) (access problem : Option (List ℕ)) → depth (exception_object e parameters access problem) ≤ 2
 unfolding exception_object
@@ -446,13 +441,14 @@ crash_part_depth c signature origin =
       or_null_within crashpad_json 5 (result_ok c.contents.messages.crashpad) crashpad_depth,
     )
 
-minidump_depth : (environment : Bool) (symbols : Option SymbolizedValue) (c : CrashValue) → depth (minidump_json environment symbols c) ≤ 6
-minidump_depth environment symbols c =
-    let process = process_part environment c (unless_zero c.directory.written) c.process.parent in
+minidump_depth : (r : ReportValue) → depth (minidump_json r) ≤ 6
+minidump_depth r =
+    let c = r.crash in
+    let process = process_part r.limits.environment c (unless_zero c.directory.written) c.process.parent in
     let file = file_part c (status_of (Ok c)) in
-    let crash = crash_part c (signature_in symbols c) (registers_of c.threads) in
-    let rest = both_within file crash 5 (file_part_depth c (status_of (Ok c))) (crash_part_depth c (signature_in symbols c) (registers_of c.threads)) in
-    omega (arith, both_within process (file ++ crash) 5 (process_part_depth environment c (unless_zero c.directory.written) c.process.parent) rest)
+    let crash = crash_part c (signature_in r) (registers_of c.threads) in
+    let rest = both_within file crash 5 (file_part_depth c (status_of (Ok c))) (crash_part_depth c (signature_in r) (registers_of c.threads)) in
+    omega (arith, both_within process (file ++ crash) 5 (process_part_depth r.limits.environment c (unless_zero c.directory.written) c.process.parent) rest)
 
 -- ---- the soft errors
 
@@ -468,52 +464,52 @@ soft_within text = read_within text (value soft_depth (tokens text)) refl
 
 -- ---- all of it
 
-crash_within : (symbols : Option SymbolizedValue) (c : CrashValue) (main : Option ℕ) → members_depth (members_of (report.crash_object symbols c main)) ≤ soft_depth
+crash_within : (r : ReportValue) (main : Option ℕ) → members_depth (members_of (report.crash_object r main)) ≤ soft_depth
 unfolding report.crash_object
-crash_within symbols c main =
+crash_within r main =
     omega (
       arith,
-      or_null_within system_json 1 c.process.system system_depth,
-      crash_info_depth c,
+      or_null_within system_json 1 r.crash.process.system system_depth,
+      crash_info_depth r.crash,
       flat_count main,
-      modules_depth symbols c.modules.loaded,
-      all_unloaded_depth c.modules.unloaded,
+      modules_depth r.symbols r.crash.modules.loaded,
+      all_unloaded_depth r.crash.modules.unloaded,
     )
 
-process_within : (limit : ℕ) (symbols : Option SymbolizedValue) (modules : List LoadedValue) (t : ThreadsValue) (id : Option ℕ) (how_many : ℕ)
-    → members_depth (members_of (process_object limit symbols modules t id how_many)) ≤ soft_depth
+process_within : (r : ReportValue) (id : Option ℕ) (how_many : ℕ) → members_depth (members_of (process_object r id how_many)) ≤ soft_depth
 unfolding process_object
-process_within limit symbols modules t id how_many =
-    omega (arith, flat_count id, threads_depth limit symbols modules t.threads, crashing_depth limit symbols modules t)
+process_within r id how_many = omega (arith, flat_count id, threads_depth r, crashing_depth r)
 
-record_within : (environment : Bool) (symbols : Option SymbolizedValue) (c : CrashValue) (boot_args soft_errors : Option (List ℕ))
-    → members_depth (members_of (record_object environment symbols c boot_args soft_errors)) ≤ soft_depth
+record_within : (r : ReportValue) (boot_args soft_errors : Option (List ℕ)) → members_depth (members_of (record_object r boot_args soft_errors)) ≤ soft_depth
 unfolding record_object
-record_within environment symbols c boot_args soft_errors =
+record_within r boot_args soft_errors =
     omega (
       arith,
-      or_null_within release_json 1 c.process.release release_depth,
-      or_null_within mac_crash_json 3 (result_ok c.contents.messages.mac_crash_info) (λ rs. mac_depth _ rs),
+      or_null_within release_json 1 r.crash.process.release release_depth,
+      or_null_within mac_crash_json 3 (result_ok r.crash.contents.messages.mac_crash_info) (λ rs. mac_depth _ rs),
       flat_text boot_args,
-      or_null_within handles_json 2 (result_ok c.contents.process.handles) handles_depth,
+      or_null_within handles_json 2 (result_ok r.crash.contents.process.handles) handles_depth,
       or_null_within soft_json soft_depth soft_errors soft_within,
-      flat_count c.contents.space.map_count,
-      proc_limits_depth c.contents.process.limits,
-      minidump_depth environment symbols c,
+      flat_count r.crash.contents.space.map_count,
+      proc_limits_depth r.crash.contents.process.limits,
+      minidump_depth r,
     )
 
 path_within : (path : Option (List ℕ)) → members_depth (members_of (path_members path)) ≤ soft_depth
 path_within None = omega arith
 path_within (Some path) = omega arith
 
+line_within : (r : ReportValue) → depth (line_json r) ≤ max_depth
+line_within r =
+    let records : members_depth (members_of (record_members r)) ≤ soft_depth = record_within r _ _ in
+    let all = both_within (path_members r.path) _ soft_depth (path_within r.path)
+    (both_within (crash_members r) _ soft_depth (crash_within r _)
+    (both_within (process_members r) (record_members r) soft_depth (process_within r _ _) records)) in
+    omega (arith, all)
+
 pub line_depth : (limits : JsonLimits) (path : Option (List ℕ)) (symbols : Option SymbolizedValue) (c : CrashValue)
     → depth (json_of limits path symbols c) ≤ max_depth
-line_depth limits path symbols c =
-    let records : members_depth (members_of (record_members limits.environment symbols c)) ≤ soft_depth = record_within limits.environment symbols c _ _ in
-    let all = both_within (path_members path) _ soft_depth (path_within path)
-    (both_within (crash_members symbols c) _ soft_depth (crash_within symbols c _)
-    (both_within (process_members limits.frames symbols c) (record_members limits.environment symbols c) soft_depth (process_within limits.frames symbols c.modules.loaded c.threads _ _) records)) in
-    omega (arith, all)
+line_depth limits path symbols c = line_within (record { limits = limits; path = path; symbols = symbols; crash = c })
 
 pub error_depth : (path status : List ℕ) → depth (error_json path status) ≤ max_depth
 unfolding error_json

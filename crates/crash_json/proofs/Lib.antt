@@ -1,5 +1,7 @@
--- How deep the values nest.
+-- Lemmas on tokens, on how deep the values nest, and on lists of values.
 pub mod Depth
+pub mod Tokens
+pub mod TreeDepth
 pub mod NumberedLemmas
 pub mod PointLemmas
 pub mod SignatureLemmas

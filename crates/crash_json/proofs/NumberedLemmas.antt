@@ -3,7 +3,7 @@ use Rattle.std.proofs.Common.{◌≡◌, ◌+◌, ℕ, List, [], ◌∷◌, ap, 
 use Rattle.std.proofs.lemmas.List.{take-map}
 use Rattle.std.specs.List.{enumerate_from}
 use Rattle.json.specs.Json.{Json, array}
-use Rattle.json_tree.specs.Tree.{items_of, numbered_array_of}
+use Rattle.crash_json.specs.Tree.{items_of, numbered_array_of}
 
 -- the values of the first items are the first values
 pub first_values : {X V : Type 0} (value : X → V) (n : ℕ) (xs : List X) → map value (take n xs) ≡ take n (map value xs)

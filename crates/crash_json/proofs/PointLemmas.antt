@@ -4,7 +4,7 @@ use Rattle.std.specs.Borrow.{Bor}
 use Rattle.json.specs.Json.{Json, array}
 use Rattle.crash.specs.declared.addresses.AddressFacts.{AddressFacts}
 use Rattle.crash.specs.Addresses.{is_placed}
-use Rattle.json_tree.specs.Tree.{array_of, items_of}
+use Rattle.crash_json.specs.Tree.{array_of, items_of}
 use Rattle.crash_json.specs.Point.{placed_json, register_json}
 
 kept_step : {X V : Type 0} (json : V → Json) (value : X → V) (b : Bool) (x : X) (xs : List X) (vs : List V)

@@ -19,7 +19,7 @@ use Rattle.crash.specs.declared.records.Sender.{Sender}
 use Rattle.crash.specs.Cause.{ExceptionValue, counted_exception}
 use Rattle.crash.specs.Crash.{CrashValue}
 use Rattle.crash.specs.Records.{signal_code_name}
-use Rattle.json_tree.specs.Tree.{array_of, count, hex_string, object_of, or_null}
+use Rattle.crash_json.specs.Tree.{array_of, count, hex_string, object_of, or_null}
 
 -- ---- the crash
 
@@ -58,9 +58,9 @@ access_name Write = codes "write"
 access_name Execute = codes "execute"
 
 -- the process that sent a signal, its user, and the name of the signal's `si_code`
-unfoldable pub sender_object : ℕ → Option ℕ → List ℕ → Json
+unfoldable pub sender_object : Option ℕ → Option ℕ → List ℕ → Json
 sender_object process user code = object_of (
-    (codes "process_id", count process)
+    (codes "process_id", or_null count process)
     ∷ (codes "user_id", or_null count user)
     ∷ (codes "code", string code)
     ∷ [])

@@ -5,7 +5,7 @@ use Rattle.minidump.specs.Below.Format.Guid.{guid_text}
 use Rattle.minidump.specs.Below.Records.Annotations.{Annotation}
 use Rattle.minidump.specs.Below.Records.Crashpad.{Crashpad, Module}
 use Rattle.minidump.specs.Below.Records.CrashpadText.{annotation_text}
-use Rattle.json_tree.specs.Tree.{array_of, count, object_of}
+use Rattle.crash_json.specs.Tree.{array_of, count, object_of}
 
 -- an annotation by its name and its text
 unfoldable pub annotation_json : List ℕ × List ℕ → Json

@@ -1,5 +1,5 @@
 -- The frames of a thread as JSON.
-use Rattle.std.specs.Prelude.{ℕ, ◌==◌, ◌++◌, Bool, false, true, List, [], ◌∷◌, codes, is_none, map}
+use Rattle.std.specs.Prelude.{ℕ, ◌==◌, ◌++◌, Bool, List, [], ◌∷◌, codes, is_none, map, Some}
 use Rattle.std.specs.Prelude.{Option, None, if◌then◌else◌, slice_get}
 use Rattle.std.specs.Option.{option_and_then, option_map}
 use Rattle.std.specs.Str.Lossy.{utf8_lossy}
@@ -10,7 +10,9 @@ use Rattle.crash.specs.declared.frames.CrashFrame.{CrashFrame}
 use Rattle.crash.specs.Contexts.{ContextValue}
 use Rattle.crash.specs.Modules.{LoadedValue}
 use Rattle.crash_symbols.specs.Names.{CallValue, NamedFrameValue, SourceValue}
-use Rattle.json_tree.specs.Tree.{array_of, count, hex_string, object_of, or_null}
+use Rattle.crash_symbols.specs.Shown.{SymbolizedValue}
+use Rattle.crash_json.specs.ReportValue.{ReportValue}
+use Rattle.crash_json.specs.Tree.{array_of, count, hex_string, object_of, or_null}
 
 -- the word for how a frame was found
 abbrev pub trust_name : FrameTrust → List ℕ
@@ -102,14 +104,19 @@ name_object function offset file line inlines is_missing =
     ∷ (codes "missing_symbols", boolean is_missing)
     ∷ []
 
--- those of a frame's names, where symbols are known
-abbrev pub name_members : Bool → NamedFrameValue → List (List ℕ × Json)
-name_members true f = name_object (lossy (option_map (λ g. g.name) f.function))
+-- those of a frame's names
+abbrev pub known_members : NamedFrameValue → List (List ℕ × Json)
+known_members f = name_object (lossy (option_map (λ g. g.name) f.function))
     (option_map (λ g. g.offset) f.function) (lossy (source_file f.line)) (source_line f.line)
     f.inlines (is_none f.function)
-name_members false f = []
 
--- a frame by its number, with its names where symbols are known
-abbrev pub frame_json : List LoadedValue → Option ContextValue → Bool → ℕ → NamedFrameValue → Json
-frame_json modules context has_symbols number f = object_of (
-    place_members modules context number f.frame ++ name_members has_symbols f)
+-- the same where symbols are known
+abbrev pub name_members : Option SymbolizedValue → NamedFrameValue → List (List ℕ × Json)
+name_members (Some s) f = known_members f
+name_members None f = []
+
+-- a frame by its number, with the registers of the first one, where these are shown, and with its
+-- names where symbols are known
+abbrev pub frame_json : ReportValue → Option ContextValue → ℕ → NamedFrameValue → Json
+frame_json r context number f = object_of (
+    place_members r.crash.modules.loaded context number f.frame ++ name_members r.symbols f)

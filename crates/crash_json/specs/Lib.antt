@@ -1,4 +1,6 @@
 -- The definitions that the contracts cite: the value of a crash is `json_of` of Report.antt.
+pub mod Tree
+pub mod ReportValue
 pub mod System
 pub mod Cause
 pub mod Modules

@@ -1,5 +1,5 @@
 -- Linux's limits of a process, and its environment, as JSON.
-use Rattle.std.specs.Prelude.{ℕ, Bool, false, true, List, [], ◌∷◌, codes, Option, Result, Ok, Err}
+use Rattle.std.specs.Prelude.{ℕ, Bool, false, true, List, [], ◌∷◌, codes, Result, Ok, Err}
 use Rattle.std.specs.Option.{option_map}
 use Rattle.std.specs.Result.{result_ok}
 use Rattle.std.specs.Str.Lossy.{utf8_lossy}
@@ -7,7 +7,7 @@ use Rattle.json.specs.Json.{Json, null, string}
 use Rattle.minidump.specs.declared.Error.{Error}
 use Rattle.minidump.specs.Below.Records.Pairs.{pairs_of}
 use Rattle.crash.specs.Linux.{LimitValue, limits_in}
-use Rattle.json_tree.specs.Tree.{array_of, object_of, or_null}
+use Rattle.crash_json.specs.Tree.{array_of, object_of, or_null}
 use Rattle.crash_json.specs.Crashpad.{annotation_json}
 
 -- ---- the limits

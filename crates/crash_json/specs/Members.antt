@@ -1,5 +1,6 @@
 -- The values of members, as the code has them.
 use Rattle.std.specs.Prelude.{Option, map, string_bytes}
+use Rattle.std.specs.Borrow.{Bor}
 use Rattle.std.specs.Option.{option_copied, option_map}
 use Rattle.std.specs.Result.{result_ok}
 use Rattle.json.specs.Json.{Json, string}
@@ -8,13 +9,12 @@ use Rattle.minidump.specs.Below.Records.Annotations.{annotation_of}
 use Rattle.minidump.specs.Below.Records.Crashpad.{module_of}
 use Rattle.minidump.specs.Below.Records.Dictionary.{entries_of}
 use Rattle.minidump.specs.Below.Records.Record.{mac_record_of}
-use Rattle.crash.specs.Contexts.{context_of}
+use Rattle.crash.specs.declared.contexts.CrashContext.{CrashContext}
+use Rattle.crash.specs.Contexts.{ContextValue, context_of}
 use Rattle.crash.specs.Crash.{crash_of}
-use Rattle.crash.specs.Modules.{loaded_of}
-use Rattle.crash.specs.Threads.{threads_of}
 use Rattle.crash_symbols.specs.NameParts.{call_of}
-use Rattle.crash_symbols.specs.Shown.{SymbolizedValue, shown_frame_of, symbolized_of}
-use Rattle.json_tree.specs.Tree.{array_of, count, hex_string, numbered_array_of, or_null, scalar_json}
+use Rattle.crash_symbols.specs.Shown.{shown_frame_of, symbolized_of}
+use Rattle.crash_json.specs.Tree.{array_of, count, hex_string, numbered_array_of, or_null, scalar_json}
 use Rattle.crash_json.specs.declared.cause.AddressMember.{AddressMember}
 use Rattle.crash_json.specs.declared.cause.AddressMember.TheVariants as address
 use Rattle.crash_json.specs.declared.cause.ExceptionMember.{ExceptionMember}
@@ -41,6 +41,7 @@ use Rattle.crash_json.specs.Cause.{sender_json}
 use Rattle.crash_json.specs.Crashpad.{annotations_json, crashpad_json, crashpad_modules_json}
 use Rattle.crash_json.specs.Crashpad.{objects_json, texts_json}
 use Rattle.crash_json.specs.Frames.{frame_json, inlines_json, registers_json}
+use Rattle.crash_json.specs.ReportValue.{ReportValue}
 use Rattle.crash_json.specs.Linux.{environment_json, proc_limits_json}
 use Rattle.crash_json.specs.Minidump.{damage_json, minidump_json, region_json, stream_json}
 use Rattle.crash_json.specs.Modules.{modules_json, unloaded_json, unreadable_json}
@@ -51,10 +52,23 @@ use Rattle.crash_json.specs.SoftErrors.{soft_json}
 use Rattle.crash_json.specs.System.{release_json, system_json}
 use Rattle.crash_json.specs.Threads.{crashing_json, range_json, short_json, threads_json}
 
+-- what a report is made of
+abbrev pub report_of : Report → ReportValue
+report_of r = record {
+  limits = r.limits;
+  path = option_copied r.path;
+  symbols = option_map symbolized_of (option_copied r.symbols);
+  crash = crash_of r.crash.now;
+}
+
+-- the context of a reference to one
+abbrev pub context_in : Option (Bor CrashContext) → Option ContextValue
+context_in c = option_map context_of (option_copied c)
+
 -- a member of a frame
 abbrev pub frame_member : FrameMember → Json
 frame_member (frame.Scalar s) = scalar_json s
-frame_member (frame.Registers c) = or_null registers_json (option_map context_of (option_copied c))
+frame_member (frame.Registers c) = or_null registers_json (context_in c)
 frame_member (frame.Inlines calls) = inlines_json (map call_of calls.now)
 
 -- a member of a thread
@@ -62,9 +76,8 @@ abbrev pub thread_member : ThreadMember → Json
 thread_member (thread.Scalar s) = scalar_json s
 thread_member (thread.Range r) = or_null range_json r
 thread_member (thread.Short s) = or_null short_json s
-thread_member (thread.Frames e frames) = numbered_array_of (frame_json (map loaded_of e.modules.now)
-    (option_map context_of (option_copied e.context)) e.has_symbols)
-    (map shown_frame_of frames.now)
+thread_member (thread.Frames e frames) = numbered_array_of
+    (frame_json (report_of e.report) (context_in e.context)) (map shown_frame_of frames.now)
 
 -- a member of an exception
 abbrev pub exception_member : ExceptionMember → Json
@@ -127,23 +140,16 @@ minidump_member (dump.Kinds c) = array_of kind_json (crash_of c.now).process.han
 minidump_member (dump.Environment is_asked c) =
     environment_json is_asked (crash_of c.now).contents.process.environ
 
--- the symbols of a report, where they are known
-abbrev pub symbols_in : Report → Option SymbolizedValue
-symbols_in r = option_map symbolized_of (option_copied r.symbols)
-
 -- a member of the whole
 abbrev pub report_member : ReportMember → Json
 report_member (report.Scalar s) = scalar_json s
 report_member (report.System c) = or_null system_json (crash_of c.now).process.system
 report_member (report.CrashInfo c) = crash_info_json (crash_of c.now)
-report_member (report.Modules r) = modules_json (symbols_in r) (crash_of r.crash.now).modules.loaded
+report_member (report.Modules r) =
+    modules_json (report_of r).symbols (crash_of r.crash.now).modules.loaded
 report_member (report.Unloaded c) = array_of unloaded_json (crash_of c.now).modules.unloaded
-report_member (report.Threads e t) =
-    threads_json e.limit (option_map symbolized_of (option_copied e.symbols))
-    (map loaded_of e.modules.now) (threads_of t.now).threads
-report_member (report.Crashing e t) =
-    crashing_json e.limit (option_map symbolized_of (option_copied e.symbols))
-    (map loaded_of e.modules.now) (threads_of t.now)
+report_member (report.Threads r) = threads_json (report_of r)
+report_member (report.Crashing r) = crashing_json (report_of r)
 report_member (report.Release c) = or_null release_json (crash_of c.now).process.release
 report_member (report.MacCrash c) =
     or_null mac_crash_json (result_ok (crash_of c.now).contents.messages.mac_crash_info)
@@ -151,5 +157,4 @@ report_member (report.Handles c) =
     or_null handles_json (result_ok (crash_of c.now).contents.process.handles)
 report_member (report.SoftErrors text) = or_null soft_json (option_copied text)
 report_member (report.Limits c) = proc_limits_json (crash_of c.now).contents.process.limits
-report_member (report.Minidump r) =
-    minidump_json r.limits.environment (symbols_in r) (crash_of r.crash.now)
+report_member (report.Minidump r) = minidump_json (report_of r)

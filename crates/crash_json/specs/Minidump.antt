@@ -4,7 +4,6 @@ use Rattle.std.specs.Prelude.{if◌then◌else◌}
 use Rattle.std.specs.Option.{option_map}
 use Rattle.std.specs.Result.{result_ok}
 use Rattle.json.specs.Json.{Json, string}
-use Rattle.minidump.specs.declared.Error.{Error}
 use Rattle.minidump.specs.Below.Format.Error.{name_of_error}
 use Rattle.minidump.specs.Below.Format.StreamType.{stream_type_of, type_name}
 use Rattle.minidump.specs.Below.MemoryLists.Unified.{UnifiedRegion, unified_regions}
@@ -12,10 +11,10 @@ use Rattle.crash.specs.declared.damage.Damage.{Damage}
 use Rattle.crash.specs.declared.damage.Damage.TheVariants.{Exception, ExceptionContext, Stack, Stream, ThreadContext}
 use Rattle.crash.specs.declared.directory.StreamEntry.{StreamEntry}
 use Rattle.crash.specs.Crash.{CrashValue, status_of}
-use Rattle.crash_symbols.specs.Shown.{SymbolizedValue}
-use Rattle.json_tree.specs.Tree.{array_of, count, hex_string, object_of, or_null}
+use Rattle.crash_json.specs.Tree.{array_of, count, hex_string, object_of, or_null}
 use Rattle.crash_json.specs.Cause.{address_json, exception_json}
 use Rattle.crash_json.specs.Crashpad.{crashpad_json}
+use Rattle.crash_json.specs.ReportValue.{ReportValue}
 use Rattle.crash_json.specs.Linux.{environment_json}
 use Rattle.crash_json.specs.Modules.{unreadable_json}
 use Rattle.crash_json.specs.Point.{point_json}
@@ -120,13 +119,12 @@ crash_part c signature origin =
     ∷ (codes "crashpad", or_null crashpad_json (result_ok c.contents.messages.crashpad))
     ∷ []
 
--- the members, by whether the environment is asked for
-abbrev pub minidump_members : Bool → Option SymbolizedValue → CrashValue → List (List ℕ × Json)
-minidump_members environment symbols c =
-    process_part environment c (unless_zero c.directory.written) c.process.parent
-    ++ (file_part c (status_of (Ok c))
-    ++ crash_part c (signature_in symbols c) (registers_of c.threads))
+-- the members
+abbrev pub minidump_members : ReportValue → List (List ℕ × Json)
+minidump_members r = let c = r.crash in
+    process_part r.limits.environment c (unless_zero c.directory.written) c.process.parent
+    ++ (file_part c (status_of (Ok c)) ++ crash_part c (signature_in r) (registers_of c.threads))
 
--- what the schema has no member for, by whether the environment is asked for
-abbrev pub minidump_json : Bool → Option SymbolizedValue → CrashValue → Json
-minidump_json environment symbols c = object_of (minidump_members environment symbols c)
+-- what the schema has no member for
+abbrev pub minidump_json : ReportValue → Json
+minidump_json r = object_of (minidump_members r)

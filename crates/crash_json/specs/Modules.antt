@@ -9,8 +9,8 @@ use Rattle.crash_symbols.specs.declared.symbols.SymbolState.{SymbolState}
 use Rattle.crash_symbols.specs.declared.symbols.SymbolState.TheVariants.{Corrupt, Loaded, Missing}
 use Rattle.crash_symbols.specs.declared.symbols.SymbolState.TheVariants.{OutOfMemory, Unwanted}
 use Rattle.crash_symbols.specs.Shown.{SymbolizedValue}
-use Rattle.crash_symbols.specs.Symbols.{state_at}
-use Rattle.json_tree.specs.Tree.{array_of, count, hex_string, numbered_array_of, object_of, or_null}
+use Rattle.crash_symbols.specs.Symbols.{are_loaded, state_at}
+use Rattle.crash_json.specs.Tree.{count, hex_string, numbered_array_of, object_of, or_null}
 
 -- the members of a module
 unfoldable pub module_object : LoadedValue → List (List ℕ × Json)
@@ -34,14 +34,6 @@ are_missing Missing = true
 are_missing Loaded = false
 are_missing Corrupt = false
 are_missing OutOfMemory = true
-
--- symbols are there
-unfoldable pub are_loaded : SymbolState → Bool
-are_loaded Unwanted = false
-are_loaded Missing = false
-are_loaded Loaded = true
-are_loaded Corrupt = false
-are_loaded OutOfMemory = false
 
 -- symbols can't be read, or are those of another module
 unfoldable pub are_corrupt : SymbolState → Bool

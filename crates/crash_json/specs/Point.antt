@@ -6,7 +6,7 @@ use Rattle.crash.specs.declared.addresses.AddressFacts.{AddressFacts}
 use Rattle.crash.specs.declared.point.StackWord.{StackWord}
 use Rattle.crash.specs.Addresses.{is_placed}
 use Rattle.crash.specs.Point.{PointValue}
-use Rattle.json_tree.specs.Tree.{array_of, count, hex_string, object_of, or_null}
+use Rattle.crash_json.specs.Tree.{array_of, count, hex_string, object_of, or_null}
 use Rattle.crash_json.specs.Cause.{address_json, address_members}
 use Rattle.crash_json.specs.Frames.{register_members}
 

@@ -1,17 +1,16 @@
 -- A crash as JSON, in the schema of `minidump-stackwalk --json`: a JSON value for each crash.
-use Rattle.std.specs.Prelude.{ℕ, Bool, List, [], ◌∷◌, ◌++◌, codes, length, Option, Some, None}
+use Rattle.std.specs.Prelude.{ℕ, List, [], ◌∷◌, ◌++◌, codes, length, Option, Some, None}
 use Rattle.std.specs.Option.{option_and_then}
 use Rattle.std.specs.Result.{result_ok}
 use Rattle.json.specs.Json.{Json, string}
 use Rattle.json.specs.Print.{print}
 use Rattle.json.specs.Tree.{json_tokens}
 use Rattle.crash.specs.Crash.{CrashValue}
-use Rattle.crash.specs.Modules.{LoadedValue}
-use Rattle.crash.specs.Threads.{ThreadsValue}
 use Rattle.crash_symbols.specs.Shown.{SymbolizedValue}
-use Rattle.json_tree.specs.Tree.{array_of, count, object_of, or_null}
+use Rattle.crash_json.specs.Tree.{array_of, count, object_of, or_null}
 use Rattle.crash_json.specs.declared.JsonLimits.{JsonLimits}
 use Rattle.crash_json.specs.Cause.{crash_info_json}
+use Rattle.crash_json.specs.ReportValue.{ReportValue}
 use Rattle.crash_json.specs.Linux.{proc_limits_json}
 use Rattle.crash_json.specs.Minidump.{minidump_json}
 use Rattle.crash_json.specs.Modules.{main_module, modules_json, unloaded_json}
@@ -26,42 +25,37 @@ path_members None = []
 path_members (Some path) = (codes "path", string path) ∷ []
 
 -- the system, the crash and the modules, by the index of the main module
-unfoldable pub crash_object : Option SymbolizedValue → CrashValue → Option ℕ
-    → List (List ℕ × Json)
-crash_object symbols c main =
+unfoldable pub crash_object : ReportValue → Option ℕ → List (List ℕ × Json)
+crash_object r main =
     (codes "status", string (codes "OK"))
-    ∷ (codes "system_info", or_null system_json c.process.system)
-    ∷ (codes "crash_info", crash_info_json c)
+    ∷ (codes "system_info", or_null system_json r.crash.process.system)
+    ∷ (codes "crash_info", crash_info_json r.crash)
     ∷ (codes "main_module", or_null count main)
-    ∷ (codes "modules", modules_json symbols c.modules.loaded)
-    ∷ (codes "unloaded_modules", array_of unloaded_json c.modules.unloaded)
+    ∷ (codes "modules", modules_json r.symbols r.crash.modules.loaded)
+    ∷ (codes "unloaded_modules", array_of unloaded_json r.crash.modules.unloaded)
     ∷ []
 
 -- the system, the crash and the modules
-abbrev pub crash_members : Option SymbolizedValue → CrashValue → List (List ℕ × Json)
-crash_members symbols c = crash_object symbols c (main_module c.modules.loaded)
+abbrev pub crash_members : ReportValue → List (List ℕ × Json)
+crash_members r = crash_object r (main_module r.crash.modules.loaded)
 
--- the process by its id, and its threads, of which there are so many, with at most so many frames
--- each
-unfoldable pub process_object : ℕ → Option SymbolizedValue → List LoadedValue → ThreadsValue
-    → Option ℕ → ℕ → List (List ℕ × Json)
-process_object limit symbols modules t id how_many =
+-- the process by its id, and its threads, of which there are so many
+unfoldable pub process_object : ReportValue → Option ℕ → ℕ → List (List ℕ × Json)
+process_object r id how_many =
     (codes "pid", or_null count id)
     ∷ (codes "thread_count", count how_many)
-    ∷ (codes "threads", threads_json limit symbols modules t.threads)
-    ∷ (codes "crashing_thread", crashing_json limit symbols modules t)
+    ∷ (codes "threads", threads_json r)
+    ∷ (codes "crashing_thread", crashing_json r)
     ∷ []
 
--- the process and its threads, with at most so many frames each
-abbrev pub process_members : ℕ → Option SymbolizedValue → CrashValue → List (List ℕ × Json)
-process_members limit symbols c = process_object limit symbols c.modules.loaded c.threads
-    c.process.id (length c.threads.threads)
+-- the process and its threads
+abbrev pub process_members : ReportValue → List (List ℕ × Json)
+process_members r = process_object r r.crash.process.id (length r.crash.threads.threads)
 
 -- what single streams hold, with the arguments of macOS's boot and the soft errors, and what the
--- schema has no member for, by whether the environment is asked for
-unfoldable pub record_object : Bool → Option SymbolizedValue → CrashValue → Option (List ℕ)
-    → Option (List ℕ) → List (List ℕ × Json)
-record_object environment symbols c boot_args soft_errors =
+-- schema has no member for
+unfoldable pub record_object : ReportValue → Option (List ℕ) → Option (List ℕ) → List (List ℕ × Json)
+record_object r boot_args soft_errors = let c = r.crash in
     (codes "lsb_release", or_null release_json c.process.release)
     ∷ (codes "mac_crash_info", or_null mac_crash_json (result_ok c.contents.messages.mac_crash_info))
     ∷ (codes "mac_boot_args", or_null string boot_args)
@@ -69,25 +63,28 @@ record_object environment symbols c boot_args soft_errors =
     ∷ (codes "soft_errors", or_null soft_json soft_errors)
     ∷ (codes "linux_memory_map_count", or_null count c.contents.space.map_count)
     ∷ (codes "proc_limits", proc_limits_json c.contents.process.limits)
-    ∷ (codes "minidump", minidump_json environment symbols c)
+    ∷ (codes "minidump", minidump_json r)
     ∷ []
 
 -- what single streams hold, and what the schema has no member for
-abbrev pub record_members : Bool → Option SymbolizedValue → CrashValue → List (List ℕ × Json)
-record_members environment symbols c = record_object environment symbols c
-    (option_and_then (λ b. b.text) (result_ok c.contents.messages.mac_boot_args))
-    (result_ok c.contents.messages.soft_errors)
+abbrev pub record_members : ReportValue → List (List ℕ × Json)
+record_members r = let messages = r.crash.contents.messages in
+    record_object r (option_and_then (λ b. b.text) (result_ok messages.mac_boot_args))
+    (result_ok messages.soft_errors)
 
 -- all members
-abbrev pub all_members : JsonLimits → Option (List ℕ) → Option SymbolizedValue → CrashValue
-    → List (List ℕ × Json)
-all_members limits path symbols c = path_members path
-    ++ (crash_members symbols c
-    ++ (process_members limits.frames symbols c ++ record_members limits.environment symbols c))
+abbrev pub all_members : ReportValue → List (List ℕ × Json)
+all_members r =
+    path_members r.path ++ (crash_members r ++ (process_members r ++ record_members r))
+
+-- the line by what it is made of
+abbrev pub line_json : ReportValue → Json
+line_json r = object_of (all_members r)
 
 -- a crash, with the path of its file, where it has one, and with symbols, where they are known
 abbrev pub json_of : JsonLimits → Option (List ℕ) → Option SymbolizedValue → CrashValue → Json
-json_of limits path symbols c = object_of (all_members limits path symbols c)
+json_of limits path symbols c =
+    line_json (record { limits = limits; path = path; symbols = symbols; crash = c })
 
 -- the line of a crash: its value with nothing between the tokens
 abbrev pub text_of : JsonLimits → Option (List ℕ) → Option SymbolizedValue → CrashValue → List ℕ

@@ -5,7 +5,7 @@ use Rattle.minidump.specs.Below.System.Cpu.{cpu_name}
 use Rattle.minidump.specs.Below.System.Os.{os_long_name}
 use Rattle.crash.specs.Process.{SystemValue}
 use Rattle.crash.specs.Release.{ReleaseValue}
-use Rattle.json_tree.specs.Tree.{count, object_of, or_null}
+use Rattle.crash_json.specs.Tree.{count, object_of, or_null}
 
 -- a version, and after a space the build, where it is known
 abbrev pub with_build : List ℕ → Option (List ℕ) → List ℕ

@@ -1,5 +1,5 @@
 -- Threads as JSON.
-use Rattle.std.specs.Prelude.{ℕ, Bool, List, [], ◌∷◌, ◌++◌, codes, is_some, length, take}
+use Rattle.std.specs.Prelude.{ℕ, List, [], ◌∷◌, ◌++◌, codes, length, take}
 use Rattle.std.specs.Prelude.{Option, Some, None}
 use Rattle.std.specs.Option.{option_and_then, option_map}
 use Rattle.json.specs.Json.{Json, boolean, string}
@@ -13,14 +13,14 @@ use Rattle.crash.specs.declared.contexts.ContextOrigin.TheVariants.{OfException,
 use Rattle.crash.specs.declared.contexts.ShortContext.{ShortContext}
 use Rattle.crash.specs.declared.stacks.StackRange.{StackRange}
 use Rattle.crash.specs.Contexts.{ContextValue}
-use Rattle.crash.specs.Modules.{LoadedValue}
 use Rattle.crash.specs.Threads.{ThreadValue, ThreadsValue, crashed_thread}
 use Rattle.crash_symbols.specs.Backtraces.{BacktraceValue}
 use Rattle.crash_symbols.specs.Names.{NamedFrameValue}
-use Rattle.crash_symbols.specs.Shown.{SymbolizedValue, shown_in}
-use Rattle.json_tree.specs.Tree.{count, hex_string, numbered_array_of, object_of, or_null}
+use Rattle.crash_symbols.specs.Shown.{shown_in}
+use Rattle.crash_json.specs.Tree.{count, hex_string, numbered_array_of, object_of, or_null}
 use Rattle.crash_json.specs.Cause.{problem_name}
 use Rattle.crash_json.specs.Frames.{frame_json}
+use Rattle.crash_json.specs.ReportValue.{ReportValue}
 
 -- a range of addresses, by the first one and how many there are
 unfoldable pub range_json : StackRange → Json
@@ -57,12 +57,10 @@ all_frames (Some w) = w.frames ++ w.candidates
 
 -- the members of a thread: why its context isn't used and why its last frame has no caller in
 -- words, how much there is of the context of its registers, where that is cut, how many frames there
--- are, those that are written, by their modules, the registers of the first one, where these are
--- shown, and the names, where symbols are known
-unfoldable pub thread_object : ThreadValue → Option (List ℕ) → Option (List ℕ)
-    → Option ShortContext → ℕ → List LoadedValue → Option ContextValue → Bool
-    → List NamedFrameValue → List (List ℕ × Json)
-thread_object t problem ended short frame_count modules context has_symbols frames =
+-- are, and those that are written, with the registers of the first one, where these are shown
+unfoldable pub thread_object : ReportValue → ThreadValue → Option (List ℕ) → Option (List ℕ)
+    → Option ShortContext → ℕ → Option ContextValue → List NamedFrameValue → List (List ℕ × Json)
+thread_object r t problem ended short frame_count context frames =
     (codes "thread_id", count t.id)
     ∷ (codes "thread_name", or_null string t.name)
     ∷ (codes "is_listed", boolean t.is_listed)
@@ -73,32 +71,27 @@ thread_object t problem ended short frame_count modules context has_symbols fram
     ∷ (codes "context_problem", or_null string problem)
     ∷ (codes "short_context", or_null short_json short)
     ∷ (codes "end", or_null string ended)
-    ∷ (codes "frames", numbered_array_of (frame_json modules context has_symbols) frames)
+    ∷ (codes "frames", numbered_array_of (frame_json r context) frames)
     ∷ []
 
--- the members of a thread by what is shown of it, with so many frames at most
-abbrev pub walk_members : ℕ → List LoadedValue → Option ContextValue → Bool → ThreadValue
-    → Option BacktraceValue → List (List ℕ × Json)
-walk_members limit modules context has_symbols t walk = thread_object t
-    (option_map problem_name t.context_problem) (option_map (λ w. end_name w.end) walk) (short_of t)
-    (length (all_frames walk)) modules context has_symbols (take limit (all_frames walk))
+-- the members of a thread by what is shown of it
+abbrev pub walk_members : ReportValue → Option ContextValue → ThreadValue → Option BacktraceValue
+    → List (List ℕ × Json)
+walk_members r context t walk = thread_object r t (option_map problem_name t.context_problem)
+    (option_map (λ w. end_name w.end) walk) (short_of t) (length (all_frames walk)) context
+    (take r.limits.frames (all_frames walk))
 
--- the members of the thread of an index, with so many frames at most
-abbrev pub thread_members : ℕ → Option SymbolizedValue → List LoadedValue → Option ContextValue
-    → ℕ → ThreadValue → List (List ℕ × Json)
-thread_members limit symbols modules context number t =
-    walk_members limit modules context (is_some symbols) t (shown_in symbols number t)
+-- the members of the thread of an index
+abbrev pub thread_members : ReportValue → Option ContextValue → ℕ → ThreadValue → List (List ℕ × Json)
+thread_members r context number t = walk_members r context t (shown_in r.symbols number t)
 
 -- a thread by its index
-abbrev pub thread_json : ℕ → Option SymbolizedValue → List LoadedValue → ℕ → ThreadValue → Json
-thread_json limit symbols modules number t =
-    object_of (thread_members limit symbols modules None number t)
+abbrev pub thread_json : ReportValue → ℕ → ThreadValue → Json
+thread_json r number t = object_of (thread_members r None number t)
 
 -- the threads
-unfoldable pub threads_json : ℕ → Option SymbolizedValue → List LoadedValue → List ThreadValue
-    → Json
-threads_json limit symbols modules threads =
-    numbered_array_of (thread_json limit symbols modules) threads
+unfoldable pub threads_json : ReportValue → Json
+threads_json r = numbered_array_of (thread_json r) r.crash.threads.threads
 
 -- the word for whose context the registers are of
 abbrev pub origin_name : ContextOrigin → List ℕ
@@ -111,11 +104,10 @@ registers_of t = option_map (λ c. origin_name c.origin)
     (option_and_then (λ p. p.1.context) (crashed_thread t))
 
 -- a thread at an index, with its registers in its first frame
-abbrev pub indexed_json : ℕ → Option SymbolizedValue → List LoadedValue → ℕ → ThreadValue → Json
-indexed_json limit symbols modules index t = object_of ((codes "threads_index", count index)
-    ∷ thread_members limit symbols modules t.context index t)
+abbrev pub indexed_json : ReportValue → ℕ → ThreadValue → Json
+indexed_json r index t =
+    object_of ((codes "threads_index", count index) ∷ thread_members r t.context index t)
 
 -- the thread that crashed, with its index
-abbrev pub crashing_json : ℕ → Option SymbolizedValue → List LoadedValue → ThreadsValue → Json
-crashing_json limit symbols modules t =
-    or_null (λ p. indexed_json limit symbols modules p.0 p.1) (crashed_thread t)
+abbrev pub crashing_json : ReportValue → Json
+crashing_json r = or_null (λ p. indexed_json r p.0 p.1) (crashed_thread r.crash.threads)

@@ -5,21 +5,19 @@ ghost use Rattle.minidump.specs.Below.Contexts.Context.{map_ok};
 ghost use Rattle.minidump.specs.Promise.{assertion_stream};
 ghost use Rattle.crash.specs.Cause.{cause_of, counted_exception, exception_of};
 ghost use Rattle.crash.specs.Crash.{crash_of};
-ghost use Rattle.json_tree.specs.Tree.{Adds, Puts};
+ghost use Rattle.crash_json.specs.Tree.{Adds, Puts};
 ghost use Rattle.crash_json.specs.Cause.{access_name, address_members};
 ghost use Rattle.crash_json.specs.Cause.{crash_info_json, crash_object, exception_json};
 ghost use Rattle.crash_json.specs.Cause.{exception_object};
 ghost use Rattle.crash_json.specs.Cause.{expression_in, problem_name, state_name, unread_object};
 
 use crate::frames::{index_of, offset_of};
+use crate::tree::{Members, Put, Scalar, ToJson, as_text, put_array, put_or_null};
 use crash::{
     Access, AddressFacts, AddressMemory, ContextProblem, Crash, CrashCause, CrashException,
     RegionState, Sender,
 };
 use json::Writer;
-use json_tree::{
-    ItemJson, Members, Put, Scalar, ToJson, ValueJson, as_text, put_array, put_item_or_null,
-};
 use minidump::{Error, MinidumpAssertion};
 use std::alloc::Global;
 
@@ -89,30 +87,15 @@ fn put_crash<'t>(
     .put(out, alloc)
 }
 
-/// An exception of a list, or why it can't be read.
-#[derive(Clone, Copy)]
-pub(crate) struct EachException;
-
-impl ValueJson<Result<CrashException, Error>> for EachException {
-    ghost use Rattle.std.specs.Prelude.{Result};
-    ghost use Rattle.minidump.specs.declared.Error.{Error};
+impl ToJson for Result<CrashException, Error> {
     ghost use Rattle.minidump.specs.Below.Contexts.Context.{map_ok};
-    ghost use Rattle.crash.specs.Cause.{ExceptionValue, exception_of};
+    ghost use Rattle.crash.specs.Cause.{exception_of};
     ghost use Rattle.crash_json.specs.Cause.{exception_json};
 
-    ghost Value = { Result ExceptionValue Error };
+    ghost json = { λ e. exception_json (map_ok exception_of e) };
 
-    ghost value_of = { map_ok exception_of };
-
-    ghost json_of = { λ _ e. exception_json e };
-
-    fn put_value(
-        &self,
-        item: &Result<CrashException, Error>,
-        out: &mut Writer,
-        alloc: Global,
-    ) -> Put {
-        match item {
+    fn put(&self, out: &mut Writer, alloc: Global) -> Put {
+        match self {
             Ok(exception) => put_read(out, alloc, exception),
             Err(error) => put_unread(out, alloc, error.name()),
         }
@@ -179,41 +162,34 @@ impl ToJson for ExceptionMember<'_> {
     fn put(&self, out: &mut Writer, alloc: Global) -> Put {
         match self {
             ExceptionMember::Scalar(scalar) => scalar.put(out, alloc),
-            ExceptionMember::Parameters(parameters) => put_array(out, alloc, parameters, &HexJson),
-            ExceptionMember::Sender(sender) => put_item_or_null(out, alloc, sender, &SenderJson),
+            ExceptionMember::Parameters(parameters) => put_array(out, alloc, parameters),
+            ExceptionMember::Sender(sender) => put_or_null(out, alloc, sender),
         }
     }
 }
 
-// Gives a number its JSON value, in hexadecimal.
-#[derive(Clone, Copy)]
-struct HexJson;
+// A number of a list, in hexadecimal.
+impl ToJson for u64 {
+    ghost use Rattle.crash_json.specs.Tree.{hex_string};
 
-impl ItemJson<u64> for HexJson {
-    ghost use Rattle.json_tree.specs.Tree.{hex_string};
+    ghost json = { hex_string };
 
-    ghost json_of = { λ _ n. hex_string n };
-
-    fn put_item(&self, item: &u64, out: &mut Writer, alloc: Global) -> Put {
-        Scalar::Hex(Some(*item)).put(out, alloc)
+    fn put(&self, out: &mut Writer, alloc: Global) -> Put {
+        Scalar::Hex(Some(*self)).put(out, alloc)
     }
 }
 
-// Gives the process that sent a signal its JSON value.
-#[derive(Clone, Copy)]
-struct SenderJson;
-
-impl ItemJson<Sender> for SenderJson {
+impl ToJson for Sender {
     ghost use Rattle.crash_json.specs.Cause.{sender_json};
 
-    ghost json_of = { λ _ s. sender_json s };
+    ghost json = { sender_json };
 
     #[tactic(auto, unfolding(crate::specs::Cause::sender_object))]
-    fn put_item(&self, item: &Sender, out: &mut Writer, alloc: Global) -> Put {
+    fn put(&self, out: &mut Writer, alloc: Global) -> Put {
         Members(&[
-            ("process_id", Scalar::Number(Some(item.process as u64))),
-            ("user_id", Scalar::Number(widened(item.user))),
-            ("code", Scalar::Text(Some(item.code.name()))),
+            ("process_id", Scalar::Number(widened(self.process))),
+            ("user_id", Scalar::Number(widened(self.user))),
+            ("code", Scalar::Text(Some(self.code.name()))),
         ])
         .put(out, alloc)
     }
@@ -270,19 +246,15 @@ pub(crate) fn problem_name(problem: Option<ContextProblem>) -> Option<&'static s
     }
 }
 
-/// Gives what is known of an address its JSON value.
-#[derive(Clone, Copy)]
-pub(crate) struct AddressJson;
-
-impl ItemJson<AddressFacts> for AddressJson {
+impl ToJson for AddressFacts {
     ghost use Rattle.crash_json.specs.Cause.{address_json};
 
-    ghost json_of = { λ _ a. address_json a };
+    ghost json = { address_json };
 
-    #[tactic(auto, using(json_tree::proofs::Tokens::object_of_members))]
-    fn put_item(&self, item: &AddressFacts, out: &mut Writer, alloc: Global) -> Put {
+    #[tactic(auto, using(crate::proofs::Tokens::object_of_members))]
+    fn put(&self, out: &mut Writer, alloc: Global) -> Put {
         out.begin_object()?;
-        put_address(out, alloc, item)?;
+        put_address(out, alloc, self)?;
         out.end_object()?;
         Ok(())
     }
@@ -323,28 +295,24 @@ impl ToJson for AddressMember<'_> {
     fn put(&self, out: &mut Writer, alloc: Global) -> Put {
         match self {
             AddressMember::Scalar(scalar) => scalar.put(out, alloc),
-            AddressMember::Memory(memory) => put_item_or_null(out, alloc, memory, &MemoryJson),
+            AddressMember::Memory(memory) => put_or_null(out, alloc, memory),
         }
     }
 }
 
-// Gives the memory that contains an address its JSON value.
-#[derive(Clone, Copy)]
-struct MemoryJson;
-
-impl ItemJson<AddressMemory> for MemoryJson {
+impl ToJson for AddressMemory {
     ghost use Rattle.crash_json.specs.Cause.{memory_json};
 
-    ghost json_of = { λ _ m. memory_json m };
+    ghost json = { memory_json };
 
     #[tactic(auto, unfolding(crate::specs::Cause::memory_object))]
-    fn put_item(&self, item: &AddressMemory, out: &mut Writer, alloc: Global) -> Put {
+    fn put(&self, out: &mut Writer, alloc: Global) -> Put {
         Members(&[
-            ("state", Scalar::Text(Some(state_name(item.state)))),
-            ("is_readable", Scalar::Flag(item.is_readable)),
-            ("is_writable", Scalar::Flag(item.is_writable)),
-            ("is_executable", Scalar::Flag(item.is_executable)),
-            ("is_guarded", Scalar::Flag(item.is_guarded)),
+            ("state", Scalar::Text(Some(state_name(self.state)))),
+            ("is_readable", Scalar::Flag(self.is_readable)),
+            ("is_writable", Scalar::Flag(self.is_writable)),
+            ("is_executable", Scalar::Flag(self.is_executable)),
+            ("is_guarded", Scalar::Flag(self.is_guarded)),
         ])
         .put(out, alloc)
     }

@@ -4,35 +4,26 @@ ghost use Rattle.minidump.specs.Below.Records.Annotations.{annotation_of};
 ghost use Rattle.minidump.specs.Below.Records.Crashpad.{crashpad_info_of};
 ghost use Rattle.minidump.specs.Below.Records.CrashpadText.{annotation_text};
 ghost use Rattle.minidump.specs.Below.Records.Dictionary.{entries_of};
-ghost use Rattle.json_tree.specs.Tree.{Puts};
+ghost use Rattle.crash_json.specs.Tree.{Puts};
 ghost use Rattle.crash_json.specs.Crashpad.{annotation_json, annotations_json, crashpad_object};
 ghost use Rattle.crash_json.specs.Crashpad.{objects_json};
 
+use crate::tree::{Members, Put, Scalar, ToJson, put_array};
 use json::Writer;
-use json_tree::{Members, Put, Scalar, ToJson, ValueJson, put_values};
 use minidump::{MinidumpAnnotation, MinidumpCrashpadInfo, MinidumpModuleCrashpadInfo};
 use std::alloc::{AllocError, Global};
 use std::collections::BTreeMap;
 
-/// Gives Crashpad's information its JSON value.
-#[derive(Clone, Copy)]
-pub(crate) struct CrashpadJson;
-
-impl ValueJson<MinidumpCrashpadInfo> for CrashpadJson {
-    ghost use Rattle.minidump.specs.Below.Records.Crashpad.{Crashpad};
+impl ToJson for MinidumpCrashpadInfo {
     ghost use Rattle.minidump.specs.Promise.{crashpad_info_stream};
     ghost use Rattle.crash_json.specs.Crashpad.{crashpad_json};
 
-    ghost Value = { Crashpad };
+    ghost json = { λ c. crashpad_json (crashpad_info_stream.value c) };
 
-    ghost value_of = { crashpad_info_stream.value };
-
-    ghost json_of = { λ _ c. crashpad_json c };
-
-    fn put_value(&self, item: &MinidumpCrashpadInfo, out: &mut Writer, alloc: Global) -> Put {
-        let report_id = format!(in alloc; "{}", item.raw.report_id)?;
-        let client_id = format!(in alloc; "{}", item.raw.client_id)?;
-        put_crashpad(out, alloc, item, report_id.as_str(), client_id.as_str())
+    fn put(&self, out: &mut Writer, alloc: Global) -> Put {
+        let report_id = format!(in alloc; "{}", self.raw.report_id)?;
+        let client_id = format!(in alloc; "{}", self.raw.client_id)?;
+        put_crashpad(out, alloc, self, report_id.as_str(), client_id.as_str())
     }
 }
 
@@ -72,39 +63,30 @@ impl ToJson for CrashpadMember<'_> {
 
     ghost json = { crashpad_member };
 
+    #[tactic(auto, using(crate::proofs::Tokens::views))]
     fn put(&self, out: &mut Writer, alloc: Global) -> Put {
         match self {
             CrashpadMember::Scalar(scalar) => scalar.put(out, alloc),
             CrashpadMember::Texts(texts) => put_annotations(out, alloc, texts),
-            CrashpadMember::Modules(modules) => {
-                put_values(out, alloc, modules.as_slice(), &EachModule)
-            }
+            CrashpadMember::Modules(modules) => put_array(out, alloc, modules.as_slice()),
         }
     }
 }
 
-// The annotations of a module of a list.
-#[derive(Clone, Copy)]
-struct EachModule;
-
-impl ValueJson<MinidumpModuleCrashpadInfo> for EachModule {
-    ghost use Rattle.minidump.specs.Below.Records.Crashpad.{Module, module_of};
+impl ToJson for MinidumpModuleCrashpadInfo {
+    ghost use Rattle.minidump.specs.Below.Records.Crashpad.{module_of};
     ghost use Rattle.crash_json.specs.Crashpad.{crashpad_module_json};
 
-    ghost Value = { Module };
-
-    ghost value_of = { module_of };
-
-    ghost json_of = { λ _ m. crashpad_module_json m };
+    ghost json = { λ m. crashpad_module_json (module_of m) };
 
     #[tactic(auto, unfolding(crate::specs::Crashpad::crashpad_module_json))]
-    fn put_value(&self, item: &MinidumpModuleCrashpadInfo, out: &mut Writer, alloc: Global) -> Put {
-        let index = Scalar::Count(Some(item.module_index));
+    fn put(&self, out: &mut Writer, alloc: Global) -> Put {
+        let index = Scalar::Count(Some(self.module_index));
         Members(&[
             ("module_index", ModuleMember::Scalar(index)),
-            ("list", ModuleMember::List(&item.list_annotations)),
-            ("annotations", ModuleMember::Texts(&item.simple_annotations)),
-            ("objects", ModuleMember::Objects(&item.annotation_objects)),
+            ("list", ModuleMember::List(&self.list_annotations)),
+            ("annotations", ModuleMember::Texts(&self.simple_annotations)),
+            ("objects", ModuleMember::Objects(&self.annotation_objects)),
         ])
         .put(out, alloc)
     }
@@ -124,42 +106,36 @@ impl ToJson for ModuleMember<'_> {
 
     ghost json = { module_member };
 
+    #[tactic(auto, using(crate::proofs::Tokens::views))]
     fn put(&self, out: &mut Writer, alloc: Global) -> Put {
         match self {
             ModuleMember::Scalar(scalar) => scalar.put(out, alloc),
-            ModuleMember::List(texts) => put_values(out, alloc, texts.as_slice(), &EachText),
+            ModuleMember::List(texts) => put_array(out, alloc, texts.as_slice()),
             ModuleMember::Texts(texts) => put_annotations(out, alloc, texts),
             ModuleMember::Objects(objects) => put_objects(out, alloc, objects),
         }
     }
 }
 
-// A text of a list.
-#[derive(Clone, Copy)]
-struct EachText;
-
-impl ValueJson<String> for EachText {
-    ghost use Rattle.std.specs.Prelude.{ℕ, List, string_bytes};
+impl ToJson for String {
+    ghost use Rattle.std.specs.Prelude.{string_bytes};
     ghost use Rattle.json.specs.Json.{string};
 
-    ghost Value = { List ℕ };
+    ghost json = { λ text. string (string_bytes text) };
 
-    ghost value_of = { string_bytes };
-
-    ghost json_of = { λ _ text. string text };
-
-    fn put_value(&self, item: &String, out: &mut Writer, alloc: Global) -> Put {
-        Scalar::Owned(item).put(out, alloc)
+    fn put(&self, out: &mut Writer, alloc: Global) -> Put {
+        Scalar::Owned(self).put(out, alloc)
     }
 }
 
 // Puts the annotations of a dictionary.
+#[tactic(auto, using(crate::proofs::Tokens::views))]
 fn put_annotations(out: &mut Writer, alloc: Global, texts: &BTreeMap<String, String>) -> Put
     ensures { Puts result out.old out.new
         (annotations_json (entries_of string_bytes texts.now.entries)) }
 {
     let entries = texts_of(alloc, texts)?;
-    put_values(out, alloc, entries.as_slice(), &EachAnnotation)
+    put_array(out, alloc, entries.as_slice())
 }
 
 // Returns the entries of a dictionary.
@@ -174,22 +150,14 @@ fn texts_of<'l>(
     texts.iter().collect(alloc)
 }
 
-// An annotation of a dictionary.
-#[derive(Clone, Copy)]
-struct EachAnnotation;
-
-impl<'l> ValueJson<(&'l String, &'l String)> for EachAnnotation {
-    ghost use Rattle.std.specs.Prelude.{ℕ, List, string_bytes};
+impl<'l> ToJson for (&'l String, &'l String) {
+    ghost use Rattle.std.specs.Prelude.{string_bytes};
     ghost use Rattle.crash_json.specs.Crashpad.{annotation_json};
 
-    ghost Value = { List ℕ × List ℕ };
+    ghost json = { λ e. annotation_json (string_bytes e.0.now, string_bytes e.1.now) };
 
-    ghost value_of = { λ e. (string_bytes e.0.now, string_bytes e.1.now) };
-
-    ghost json_of = { λ _ e. annotation_json e };
-
-    fn put_value(&self, item: &(&'l String, &'l String), out: &mut Writer, alloc: Global) -> Put {
-        put_annotation(out, alloc, item.0.as_str(), item.1.as_str())
+    fn put(&self, out: &mut Writer, alloc: Global) -> Put {
+        put_annotation(out, alloc, self.0.as_str(), self.1.as_str())
     }
 }
 
@@ -211,6 +179,7 @@ pub(crate) fn put_annotation<'t>(
 }
 
 // Puts the annotations that have a type.
+#[tactic(auto, using(crate::proofs::Tokens::views))]
 fn put_objects(
     out: &mut Writer,
     alloc: Global,
@@ -220,7 +189,7 @@ fn put_objects(
         (objects_json (entries_of annotation_of objects.now.entries)) }
 {
     let entries = objects_of(alloc, objects)?;
-    put_values(out, alloc, entries.as_slice(), &EachObject)
+    put_array(out, alloc, entries.as_slice())
 }
 
 // Returns the annotations that have a type, with their names.
@@ -235,29 +204,17 @@ fn objects_of<'l>(
     objects.iter().collect(alloc)
 }
 
-// An annotation that has a type.
-#[derive(Clone, Copy)]
-struct EachObject;
-
-impl<'l> ValueJson<(&'l String, &'l MinidumpAnnotation)> for EachObject {
-    ghost use Rattle.std.specs.Prelude.{ℕ, List, string_bytes};
-    ghost use Rattle.minidump.specs.Below.Records.Annotations.{Annotation, annotation_of};
+impl<'l> ToJson for (&'l String, &'l MinidumpAnnotation) {
+    ghost use Rattle.std.specs.Prelude.{string_bytes};
+    ghost use Rattle.minidump.specs.Below.Records.Annotations.{annotation_of};
     ghost use Rattle.minidump.specs.Below.Records.CrashpadText.{annotation_text};
     ghost use Rattle.crash_json.specs.Crashpad.{annotation_json};
 
-    ghost Value = { List ℕ × Annotation };
+    ghost json = { λ e. annotation_json
+        (string_bytes e.0.now, annotation_text (annotation_of e.1.now)) };
 
-    ghost value_of = { λ e. (string_bytes e.0.now, annotation_of e.1.now) };
-
-    ghost json_of = { λ _ e. annotation_json (e.0, annotation_text e.1) };
-
-    fn put_value(
-        &self,
-        item: &(&'l String, &'l MinidumpAnnotation),
-        out: &mut Writer,
-        alloc: Global,
-    ) -> Put {
-        put_annotation(out, alloc, item.0.as_str(), annotation_text(item.1))
+    fn put(&self, out: &mut Writer, alloc: Global) -> Put {
+        put_annotation(out, alloc, self.0.as_str(), annotation_text(self.1))
     }
 }
 

@@ -6,37 +6,29 @@ ghost use Rattle.minidump.specs.Below.Format.StreamType.{stream_type_of, type_na
 ghost use Rattle.minidump.specs.Below.MemoryLists.Unified.{unified_list, unified_region};
 ghost use Rattle.minidump.specs.Below.MemoryLists.Unified.{unified_regions};
 ghost use Rattle.crash.specs.Crash.{crash_of, status_of};
-ghost use Rattle.json_tree.specs.Tree.{Adds, Puts, array_of};
-ghost use Rattle.crash_json.specs.Members.{symbols_in};
+ghost use Rattle.crash_json.specs.Tree.{Adds, Puts, array_of};
+ghost use Rattle.crash_json.specs.Members.{report_of};
 ghost use Rattle.crash_json.specs.Minidump.{crash_part, damage_object, file_part, minidump_json};
 ghost use Rattle.crash_json.specs.Minidump.{minidump_members, process_part, region_json};
 ghost use Rattle.crash_json.specs.Minidump.{unless_zero};
 
-use crate::cause::{AddressJson, EachException, widened};
-use crate::crashpad::CrashpadJson;
+use crate::cause::widened;
 use crate::linux::put_environment;
-use crate::modules::EachUnreadable;
-use crate::point::PointJson;
-use crate::records::{AssertionJson, EachKind, put_found};
 use crate::report::Report;
 use crate::signature::signature_in;
 use crate::threads::registers_of;
+use crate::tree::{Members, Put, Scalar, ToJson, as_text, put_array, put_found, put_or_null};
 use crash::{Crash, Damage, StreamEntry};
 use json::Writer;
-use json_tree::{
-    ItemJson, Members, Put, Scalar, ToJson, ValueJson, as_text, put_array, put_item_or_null,
-    put_value_or_null, put_values,
-};
 use minidump::format::MINIDUMP_STREAM_TYPE;
 use minidump::{Error, UnifiedMemory, UnifiedMemoryList};
 use std::alloc::{AllocError, Global};
 
 /// Puts what a minidump says that the schema has no member for, with the environment if it is asked
 /// for.
-#[tactic(auto, using(json_tree::proofs::Tokens::object_of_members))]
+#[tactic(auto, using(crate::proofs::Tokens::object_of_members))]
 pub(crate) fn put_minidump(out: &mut Writer, alloc: Global, report: Report<'_, '_, '_, '_>) -> Put
-    ensures { Puts result out.old out.new (minidump_json report.entry.limits.environment
-        (symbols_in report.entry) (crash_of report.entry.crash.now)) }
+    ensures { Puts result out.old out.new (minidump_json (report_of report.entry)) }
 {
     out.begin_object()?;
     put_parts(out, alloc, report)?;
@@ -46,8 +38,7 @@ pub(crate) fn put_minidump(out: &mut Writer, alloc: Global, report: Report<'_, '
 
 // Adds the members, a part at a time.
 fn put_parts(out: &mut Writer, alloc: Global, report: Report<'_, '_, '_, '_>) -> Put
-    ensures { Adds result out.old out.new (minidump_members report.entry.limits.environment
-        (symbols_in report.entry) (crash_of report.entry.crash.now)) }
+    ensures { Adds result out.old out.new (minidump_members (report_of report.entry)) }
 {
     let crash = report.crash;
     let environment = report.limits.environment;
@@ -55,7 +46,7 @@ fn put_parts(out: &mut Writer, alloc: Global, report: Report<'_, '_, '_, '_>) ->
     let parent = widened(crash.process.parent);
     put_process(out, alloc, environment, crash, written, parent)?;
     put_file(out, alloc, crash, status_of(crash))?;
-    let signature = signature_in(alloc, crash, report.symbols)?;
+    let signature = signature_in(alloc, report)?;
     let origin = registers_of(&crash.threads);
     put_crash(out, alloc, crash, as_text(&signature), origin)?;
     Ok(())
@@ -165,36 +156,26 @@ impl ToJson for Member<'_, '_> {
 
     ghost json = { minidump_member };
 
+    #[tactic(auto, using(crate::proofs::Tokens::views))]
     fn put(&self, out: &mut Writer, alloc: Global) -> Put {
         match self {
             Member::Scalar(scalar) => scalar.put(out, alloc),
-            Member::Streams(crash) => {
-                put_array(out, alloc, crash.directory.entries.as_slice(), &EachStream)
-            }
+            Member::Streams(crash) => put_array(out, alloc, crash.directory.entries.as_slice()),
             Member::Memory(crash) => put_memory(out, alloc, &crash.contents.space.memory),
-            Member::Damage(crash) => put_array(out, alloc, crash.damage.as_slice(), &EachDamage),
-            Member::Address(crash) => {
-                put_item_or_null(out, alloc, &crash.cause.address, &AddressJson)
-            }
-            Member::Point(crash) => put_value_or_null(out, alloc, &crash.point, &PointJson),
+            Member::Damage(crash) => put_array(out, alloc, crash.damage.as_slice()),
+            Member::Address(crash) => put_or_null(out, alloc, &crash.cause.address),
+            Member::Point(crash) => put_or_null(out, alloc, &crash.point),
             Member::Exceptions(crash) => {
-                let exceptions = crash.cause.exceptions.as_slice();
-                put_values(out, alloc, exceptions, &EachException)
+                put_array(out, alloc, crash.cause.exceptions.as_slice())
             }
             Member::Assertion(crash) => {
-                let found = &crash.contents.messages.assertion;
-                put_found(out, alloc, found, &AssertionJson)
+                put_found(out, alloc, &crash.contents.messages.assertion)
             }
-            Member::Crashpad(crash) => {
-                put_found(out, alloc, &crash.contents.messages.crashpad, &CrashpadJson)
-            }
+            Member::Crashpad(crash) => put_found(out, alloc, &crash.contents.messages.crashpad),
             Member::Unreadable(crash) => {
-                let modules = crash.modules.unreadable.as_slice();
-                put_array(out, alloc, modules, &EachUnreadable)
+                put_array(out, alloc, crash.modules.unreadable.as_slice())
             }
-            Member::Kinds(crash) => {
-                put_values(out, alloc, crash.process.handle_kinds.as_slice(), &EachKind)
-            }
+            Member::Kinds(crash) => { put_array(out, alloc, crash.process.handle_kinds.as_slice()) }
             Member::Environment(is_asked, crash) => {
                 put_environment(out, alloc, *is_asked, &crash.contents.process.environ)
             }
@@ -204,23 +185,19 @@ impl ToJson for Member<'_, '_> {
 
 // ---- streams
 
-// A stream of a list.
-#[derive(Clone, Copy)]
-struct EachStream;
-
-impl ItemJson<StreamEntry> for EachStream {
+impl ToJson for StreamEntry {
     ghost use Rattle.crash_json.specs.Minidump.{stream_json};
 
-    ghost json_of = { λ _ s. stream_json s };
+    ghost json = { stream_json };
 
     #[tactic(auto, unfolding(crate::specs::Minidump::stream_object))]
-    fn put_item(&self, item: &StreamEntry, out: &mut Writer, alloc: Global) -> Put {
+    fn put(&self, out: &mut Writer, alloc: Global) -> Put {
         Members(&[
-            ("type", Scalar::Hex(Some(item.number as u64))),
-            ("name", Scalar::Text(type_name(item.number))),
-            ("size", Scalar::Number(Some(item.size as u64))),
-            ("rva", Scalar::Hex(Some(item.rva as u64))),
-            ("error", Scalar::Text(error_name(item.error))),
+            ("type", Scalar::Hex(Some(self.number as u64))),
+            ("name", Scalar::Text(type_name(self.number))),
+            ("size", Scalar::Number(Some(self.size as u64))),
+            ("rva", Scalar::Hex(Some(self.rva as u64))),
+            ("error", Scalar::Text(error_name(self.error))),
         ])
         .put(out, alloc)
     }
@@ -243,12 +220,13 @@ fn error_name(error: Option<Error>) -> Option<&'static str>
 // ---- memory
 
 // Puts the regions of memory.
+#[tactic(auto, using(crate::proofs::Tokens::views))]
 fn put_memory(out: &mut Writer, alloc: Global, memory: &UnifiedMemoryList<'_>) -> Put
     ensures { Puts result out.old out.new
         (array_of region_json (unified_regions (unified_list memory.now))) }
 {
     let regions = regions_of(alloc, memory)?;
-    put_values(out, alloc, regions.as_slice(), &EachRegion)
+    put_array(out, alloc, regions.as_slice())
 }
 
 // Returns the regions of memory.
@@ -262,25 +240,17 @@ fn regions_of<'l, 'a>(
     memory.iter().collect(alloc)
 }
 
-// A region of memory of a list.
-#[derive(Clone, Copy)]
-struct EachRegion;
-
-impl<'l, 'a> ValueJson<UnifiedMemory<'l, 'a>> for EachRegion {
-    ghost use Rattle.minidump.specs.Below.MemoryLists.Unified.{UnifiedRegion, unified_region};
+impl<'l, 'a> ToJson for UnifiedMemory<'l, 'a> {
+    ghost use Rattle.minidump.specs.Below.MemoryLists.Unified.{unified_region};
     ghost use Rattle.crash_json.specs.Minidump.{region_json};
 
-    ghost Value = { UnifiedRegion };
-
-    ghost value_of = { unified_region };
-
-    ghost json_of = { λ _ r. region_json r };
+    ghost json = { λ r. region_json (unified_region r) };
 
     #[tactic(auto, unfolding(crate::specs::Minidump::region_object))]
-    fn put_value(&self, item: &UnifiedMemory<'l, 'a>, out: &mut Writer, alloc: Global) -> Put {
+    fn put(&self, out: &mut Writer, alloc: Global) -> Put {
         Members(&[
-            ("base_addr", Scalar::Hex(Some(item.base_address()))),
-            ("size", Scalar::Number(Some(item.size()))),
+            ("base_addr", Scalar::Hex(Some(self.base_address()))),
+            ("size", Scalar::Number(Some(self.size()))),
         ])
         .put(out, alloc)
     }
@@ -288,17 +258,13 @@ impl<'l, 'a> ValueJson<UnifiedMemory<'l, 'a>> for EachRegion {
 
 // ---- damage
 
-// Something of a list that can't be read.
-#[derive(Clone, Copy)]
-struct EachDamage;
-
-impl ItemJson<Damage> for EachDamage {
+impl ToJson for Damage {
     ghost use Rattle.crash_json.specs.Minidump.{damage_json};
 
-    ghost json_of = { λ _ d. damage_json d };
+    ghost json = { damage_json };
 
-    fn put_item(&self, item: &Damage, out: &mut Writer, alloc: Global) -> Put {
-        match *item {
+    fn put(&self, out: &mut Writer, alloc: Global) -> Put {
+        match *self {
             Damage::Stream { number, error } => {
                 put_damage(out, alloc, "stream", Some(number), None, Some(error))
             }

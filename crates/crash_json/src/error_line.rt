@@ -5,8 +5,8 @@ ghost use Rattle.json.specs.Print.{print};
 ghost use Rattle.json.specs.Tree.{json_tokens};
 ghost use Rattle.crash_json.specs.Report.{error_json};
 
+use crate::tree::{Members, Put, Scalar, ToJson, text_of};
 use json::Writer;
-use json_tree::{Members, Put, Scalar, ToJson, text_of};
 use minidump::Error;
 use std::alloc::Global;
 

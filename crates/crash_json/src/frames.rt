@@ -1,47 +1,42 @@
 //! The frames of a thread, the registers of the first one, and the names that symbols give.
-ghost use Rattle.std.specs.Prelude.{◌≡◌, ◌++◌, IfOk, map, string_bytes, true};
+ghost use Rattle.std.specs.Prelude.{◌≡◌, ◌++◌, IfOk, map, string_bytes};
 ghost use Rattle.std.specs.Option.{option_copied, option_map};
 ghost use Rattle.minidump_bytes.specs.LinuxOsStr.{text_of};
-ghost use Rattle.crash.specs.Contexts.{context_of};
-ghost use Rattle.crash.specs.Modules.{loaded_of};
+ghost use Rattle.crash.specs.Crash.{crash_of};
 ghost use Rattle.crash_symbols.specs.NameParts.{call_of, source_of};
-ghost use Rattle.crash_symbols.specs.Shown.{shown_frame_of};
-ghost use Rattle.json_tree.specs.Tree.{Adds, Puts, field_of, numbered_array_of, object_of, or_null};
-ghost use Rattle.crash_json.specs.Frames.{file_at, frame_json, inline_object, lossy, name_members};
-ghost use Rattle.crash_json.specs.Frames.{name_object, of_first, place_members, register_members};
-ghost use Rattle.crash_json.specs.Frames.{registers_json, source_file, source_line, trust_name};
+ghost use Rattle.crash_symbols.specs.Shown.{shown_frame_of, symbolized_of};
+ghost use Rattle.crash_json.specs.Tree.{Adds, Puts, field_of, numbered_array_of, object_of, or_null};
+ghost use Rattle.crash_json.specs.Members.{context_in, report_of};
+ghost use Rattle.crash_json.specs.Frames.{file_at, frame_json, inline_object, known_members, lossy};
+ghost use Rattle.crash_json.specs.Frames.{name_members, name_object, of_first, place_members};
+ghost use Rattle.crash_json.specs.Frames.{register_members, registers_json, source_file, source_line, trust_name};
 
-use crash::{CrashContext, CrashFrame, CrashModule};
-use crash_symbols::{FrameFunction, InlinedCall, ShownFrame, SourceLine};
+use crate::report::Report;
+use crate::tree::{Members, NumberedJson, Put, Scalar, ToJson, put_array, put_numbered_array};
+use crash::{Crash, CrashContext, CrashFrame};
+use crash_symbols::{FrameFunction, InlinedCall, ShownFrame, SourceLine, Symbolized};
 use json::Writer;
-use json_tree::{
-    Members, NumberedJson, Put, Scalar, ToJson, ValueJson, put_numbered_array, put_values,
-};
 use minidump_bytes::LinuxOsStr;
 use stack_walk::FrameTrust;
 use std::alloc::{AllocError, Global};
 
-/// What the frames of a thread are written by: the modules, the registers of the first frame if they
-/// are shown, and whether symbols are known.
+/// What the frames of a thread are written by: the report, and the registers of the first frame if
+/// they are shown.
 #[derive(Clone, Copy)]
-pub(crate) struct EachFrame<'l> {
-    pub(crate) modules: &'l [CrashModule],
+pub(crate) struct EachFrame<'l, 'a, 's, 'n> {
+    pub(crate) report: Report<'l, 'a, 's, 'n>,
     pub(crate) context: Option<&'l CrashContext>,
-    pub(crate) has_symbols: bool,
 }
 
-impl<'s, 'n> NumberedJson<ShownFrame<'s, 'n>> for EachFrame<'_> {
-    ghost use Rattle.std.specs.Prelude.{map};
-    ghost use Rattle.std.specs.Option.{option_copied, option_map};
-    ghost use Rattle.crash.specs.Contexts.{context_of};
-    ghost use Rattle.crash.specs.Modules.{loaded_of};
+impl<'s, 'n> NumberedJson<ShownFrame<'s, 'n>> for EachFrame<'_, '_, '_, '_> {
     ghost use Rattle.crash_symbols.specs.Shown.{shown_frame_of};
     ghost use Rattle.crash_json.specs.Frames.{frame_json};
+    ghost use Rattle.crash_json.specs.Members.{context_in, report_of};
 
-    ghost json_at = { λ e n f. frame_json (map loaded_of e.modules.now)
-        (option_map context_of (option_copied e.context)) e.has_symbols n (shown_frame_of f) };
+    ghost json_at = { λ e n f. frame_json (report_of e.report) (context_in e.context) n
+        (shown_frame_of f) };
 
-    #[tactic(auto, using(json_tree::proofs::Tokens::object_of_members))]
+    #[tactic(auto, using(crate::proofs::Tokens::object_of_members))]
     fn put_at(
         &self,
         number: usize,
@@ -61,13 +56,11 @@ impl<'s, 'n> NumberedJson<ShownFrame<'s, 'n>> for EachFrame<'_> {
 pub(crate) fn put_frames(
     out: &mut Writer,
     alloc: Global,
-    by: &EachFrame<'_>,
+    by: &EachFrame<'_, '_, '_, '_>,
     frames: &[ShownFrame<'_, '_>],
 ) -> Put
-    ensures { Puts result out.old out.new (numbered_array_of (frame_json
-        (map loaded_of by.now.modules.now)
-        (option_map context_of (option_copied by.now.context)) by.now.has_symbols)
-        (map shown_frame_of frames.now)) }
+    ensures { Puts result out.old out.new (numbered_array_of (frame_json (report_of by.now.report)
+        (context_in by.now.context)) (map shown_frame_of frames.now)) }
 {
     put_numbered_array(out, alloc, frames, by)
 }
@@ -76,17 +69,17 @@ pub(crate) fn put_frames(
 fn put_frame(
     out: &mut Writer,
     alloc: Global,
-    by: &EachFrame<'_>,
+    by: &EachFrame<'_, '_, '_, '_>,
     number: usize,
     shown: &ShownFrame<'_, '_>,
 ) -> Put
-    ensures { Adds result out.old out.new (place_members (map loaded_of by.now.modules.now)
-        (option_map context_of (option_copied by.now.context)) number
-        (shown_frame_of shown.now).frame ++ name_members by.now.has_symbols
-        (shown_frame_of shown.now)) }
+    ensures { Adds result out.old out.new
+        (place_members (report_of by.now.report).crash.modules.loaded (context_in by.now.context)
+        number (shown_frame_of shown.now).frame
+        ++ name_members (report_of by.now.report).symbols (shown_frame_of shown.now)) }
 {
     put_place(out, alloc, by, number, &shown.frame)?;
-    put_names_if(out, alloc, by.has_symbols, shown)?;
+    put_names_if(out, alloc, by.report.symbols, shown)?;
     Ok(())
 }
 
@@ -96,17 +89,18 @@ fn put_frame(
 fn put_place(
     out: &mut Writer,
     alloc: Global,
-    by: &EachFrame<'_>,
+    by: &EachFrame<'_, '_, '_, '_>,
     number: usize,
     frame: &CrashFrame,
 ) -> Put
-    ensures { Adds result out.old out.new (place_members (map loaded_of by.now.modules.now)
-        (option_map context_of (option_copied by.now.context)) number frame.now) }
+    ensures { Adds result out.old out.new
+        (place_members (report_of by.now.report).crash.modules.loaded (context_in by.now.context)
+        number frame.now) }
 {
     Members(&[
         ("frame", FrameMember::Scalar(Scalar::Count(Some(number)))),
         ("trust", FrameMember::Scalar(Scalar::Text(Some(trust_name(frame.trust))))),
-        ("module", FrameMember::Scalar(Scalar::Text(file_at(by.modules, frame.module)))),
+        ("module", FrameMember::Scalar(Scalar::Text(file_at(by.report.crash, frame.module)))),
         ("module_offset", FrameMember::Scalar(Scalar::Hex(offset_of(frame.module)))),
         ("offset", FrameMember::Scalar(Scalar::Hex(frame.address))),
         ("instruction", FrameMember::Scalar(Scalar::Hex(Some(frame.instruction)))),
@@ -130,11 +124,11 @@ fn trust_name(trust: FrameTrust) -> &'static str
 }
 
 // Returns the file of the module of a place.
-fn file_at(modules: &[CrashModule], place: Option<(usize, u64)>) -> Option<&str>
-    ensures { option_copied result ≡ file_at (map loaded_of modules.now) place }
+fn file_at<'l>(crash: &'l Crash<'_>, place: Option<(usize, u64)>) -> Option<&'l str>
+    ensures { option_copied result ≡ file_at (crash_of crash.now).modules.loaded place }
 {
     let (index, _) = place?;
-    Some(modules.get(index)?.file.as_str())
+    Some(crash.modules.loaded.as_slice().get(index)?.file.as_str())
 }
 
 /// Returns the index of the module of a place.
@@ -155,8 +149,7 @@ pub(crate) fn offset_of(place: Option<(usize, u64)>) -> Option<u64>
 
 // Returns the registers for the first frame, and for any other none.
 fn of_first(number: usize, context: Option<&CrashContext>) -> Option<&CrashContext>
-    ensures { option_map context_of (option_copied result)
-        ≡ of_first number (option_map context_of (option_copied context.entry)) }
+    ensures { context_in result ≡ of_first number (context_in context.entry) }
 {
     if number == 0 { context } else { None }
 }
@@ -174,19 +167,19 @@ impl ToJson for FrameMember<'_, '_> {
 
     ghost json = { frame_member };
 
+    #[tactic(auto, using(crate::proofs::Tokens::views))]
     fn put(&self, out: &mut Writer, alloc: Global) -> Put {
         match self {
             FrameMember::Scalar(scalar) => scalar.put(out, alloc),
             FrameMember::Registers(context) => put_registers_or_null(out, alloc, *context),
-            FrameMember::Inlines(calls) => put_values(out, alloc, calls, &EachCall),
+            FrameMember::Inlines(calls) => put_array(out, alloc, calls),
         }
     }
 }
 
 // Puts the registers of a context, or `null`.
 fn put_registers_or_null(out: &mut Writer, alloc: Global, context: Option<&CrashContext>) -> Put
-    ensures { Puts result out.old out.new
-        (or_null registers_json (option_map context_of (option_copied context.entry))) }
+    ensures { Puts result out.old out.new (or_null registers_json (context_in context.entry)) }
 {
     match context {
         Some(context) => put_named(out, alloc, context.registers.as_slice())?,
@@ -225,22 +218,21 @@ fn register_fields(
 fn put_names_if(
     out: &mut Writer,
     alloc: Global,
-    has_symbols: bool,
+    symbols: Option<&Symbolized<'_, '_>>,
     shown: &ShownFrame<'_, '_>,
 ) -> Put
-    ensures { Adds result out.old out.new
-        (name_members has_symbols (shown_frame_of shown.now)) }
+    ensures { Adds result out.old out.new (name_members
+        (option_map symbolized_of (option_copied symbols.entry)) (shown_frame_of shown.now)) }
 {
-    if has_symbols {
-        put_names(out, alloc, shown)
-    } else {
-        Members::<Scalar<'_>>(&[]).add(out, alloc)
+    match symbols {
+        Some(_) => put_names(out, alloc, shown),
+        None => Members::<Scalar<'_>>(&[]).add(out, alloc),
     }
 }
 
 // Adds the members of a frame's names.
 fn put_names(out: &mut Writer, alloc: Global, shown: &ShownFrame<'_, '_>) -> Put
-    ensures { Adds result out.old out.new (name_members true (shown_frame_of shown.now)) }
+    ensures { Adds result out.old out.new (known_members (shown_frame_of shown.now)) }
 {
     let function = lossy(alloc, name_of(shown.function))?;
     let file = lossy(alloc, source_file(shown.line))?;
@@ -321,25 +313,16 @@ fn source_line(source: Option<SourceLine<'_>>) -> Option<u64>
     Some(source?.line as u64)
 }
 
-// An inlined call of a list.
-#[derive(Clone, Copy)]
-struct EachCall;
-
-impl<'n> ValueJson<InlinedCall<'n>> for EachCall {
+impl ToJson for InlinedCall<'_> {
     ghost use Rattle.crash_symbols.specs.NameParts.{call_of};
-    ghost use Rattle.crash_symbols.specs.Names.{CallValue};
     ghost use Rattle.crash_json.specs.Frames.{inline_json};
 
-    ghost Value = { CallValue };
+    ghost json = { λ c. inline_json (call_of c) };
 
-    ghost value_of = { call_of };
-
-    ghost json_of = { λ _ c. inline_json c };
-
-    fn put_value(&self, item: &InlinedCall<'n>, out: &mut Writer, alloc: Global) -> Put {
-        let function = lossy(alloc, item.function)?;
-        let file = lossy(alloc, source_file(item.source))?;
-        put_call(out, alloc, &function, &file, source_line(item.source))
+    fn put(&self, out: &mut Writer, alloc: Global) -> Put {
+        let function = lossy(alloc, self.function)?;
+        let file = lossy(alloc, source_file(self.source))?;
+        put_call(out, alloc, &function, &file, source_line(self.source))
     }
 }
 

@@ -50,14 +50,15 @@ mod signature;
 mod soft_errors;
 mod system;
 mod threads;
+mod tree;
 
 use crash::Crash;
 use crash_symbols::Symbolized;
 pub use error_line::error_json;
-use json_tree::text_of;
 use minidump::{CodeNames, Error};
 use report::Report;
 use std::alloc::{AllocError, Global};
+use tree::text_of;
 
 /// How much of a crash is written.
 #[derive(Clone, Copy, Debug, PartialEq, Eq)]

@@ -1,13 +1,15 @@
 //! Linux's limits of a process, and its environment.
+ghost use Rattle.std.specs.Prelude.{map};
+ghost use Rattle.minidump.specs.Below.Bytes.LinuxOsStr.{parts_of};
 ghost use Rattle.minidump.specs.Below.Contexts.Context.{map_ok};
 ghost use Rattle.minidump.specs.Promise.{linux_environ_stream, linux_proc_limits_stream};
-ghost use Rattle.json_tree.specs.Tree.{Puts};
-ghost use Rattle.crash_json.specs.Linux.{environment_json, proc_limits_json};
+ghost use Rattle.crash_json.specs.Tree.{Puts};
+ghost use Rattle.crash_json.specs.Linux.{environment_json, proc_limits_json, variables_json};
 
 use crate::crashpad::put_annotation;
+use crate::tree::{Members, Put, Scalar, ToJson, put_array};
 use crash::{ProcessLimit, limits_of, variables_of};
 use json::Writer;
-use json_tree::{Members, Put, Scalar, ToJson, ValueJson, put_values};
 use minidump::strings::LinuxOsStr;
 use minidump::{Error, MinidumpLinuxEnviron, MinidumpLinuxProcLimits};
 use std::alloc::Global;
@@ -41,37 +43,30 @@ struct Limits<'l>(&'l [ProcessLimit]);
 impl ToJson for Limits<'_> {
     ghost use Rattle.std.specs.Prelude.{map};
     ghost use Rattle.crash.specs.Linux.{limit_of};
-    ghost use Rattle.json_tree.specs.Tree.{array_of};
+    ghost use Rattle.crash_json.specs.Tree.{array_of};
     ghost use Rattle.crash_json.specs.Linux.{limit_json};
 
     ghost json = { λ l. array_of limit_json (map limit_of l.0.now) };
 
+    #[tactic(auto, using(crate::proofs::Tokens::views))]
     fn put(&self, out: &mut Writer, alloc: Global) -> Put {
-        put_values(out, alloc, self.0, &EachLimit)
+        put_array(out, alloc, self.0)
     }
 }
 
-// A limit of a list.
-#[derive(Clone, Copy)]
-struct EachLimit;
-
-impl ValueJson<ProcessLimit> for EachLimit {
-    ghost use Rattle.crash.specs.Linux.{LimitValue, limit_of};
+impl ToJson for ProcessLimit {
+    ghost use Rattle.crash.specs.Linux.{limit_of};
     ghost use Rattle.crash_json.specs.Linux.{limit_json};
 
-    ghost Value = { LimitValue };
-
-    ghost value_of = { limit_of };
-
-    ghost json_of = { λ _ l. limit_json l };
+    ghost json = { λ l. limit_json (limit_of l) };
 
     #[tactic(auto, unfolding(crate::specs::Linux::limit_json))]
-    fn put_value(&self, item: &ProcessLimit, out: &mut Writer, alloc: Global) -> Put {
+    fn put(&self, out: &mut Writer, alloc: Global) -> Put {
         Members(&[
-            ("name", Scalar::Owned(&item.name)),
-            ("soft", Scalar::Owned(&item.soft)),
-            ("hard", Scalar::Owned(&item.hard)),
-            ("unit", Scalar::Optional(&item.unit)),
+            ("name", Scalar::Owned(&self.name)),
+            ("soft", Scalar::Owned(&self.soft)),
+            ("hard", Scalar::Owned(&self.hard)),
+            ("unit", Scalar::Optional(&self.unit)),
         ])
         .put(out, alloc)
     }
@@ -92,36 +87,33 @@ pub(crate) fn put_environment(
     match found {
         Ok(found) if is_asked => {
             let variables = variables_of(alloc, found)?;
-            put_values(out, alloc, variables.as_slice(), &EachVariable)?;
+            put_variables(out, alloc, variables.as_slice())?;
         }
         _ => out.null()?,
     }
     Ok(())
 }
 
-// A variable of an environment.
-#[derive(Clone, Copy)]
-struct EachVariable;
+#[tactic(auto, using(crate::proofs::Tokens::views))]
+fn put_variables(
+    out: &mut Writer,
+    alloc: Global,
+    variables: &[(LinuxOsStr<'_>, LinuxOsStr<'_>)],
+) -> Put
+    ensures { Puts result out.old out.new (variables_json (map parts_of variables.now)) }
+{
+    put_array(out, alloc, variables)
+}
 
-impl<'a> ValueJson<(LinuxOsStr<'a>, LinuxOsStr<'a>)> for EachVariable {
-    ghost use Rattle.std.specs.Prelude.{ℕ, List};
+impl<'a> ToJson for (LinuxOsStr<'a>, LinuxOsStr<'a>) {
     ghost use Rattle.minidump.specs.Below.Bytes.LinuxOsStr.{parts_of};
     ghost use Rattle.crash_json.specs.Linux.{variable_json};
 
-    ghost Value = { List ℕ × List ℕ };
+    ghost json = { λ p. variable_json (parts_of p) };
 
-    ghost value_of = { parts_of };
-
-    ghost json_of = { λ _ p. variable_json p };
-
-    fn put_value(
-        &self,
-        item: &(LinuxOsStr<'a>, LinuxOsStr<'a>),
-        out: &mut Writer,
-        alloc: Global,
-    ) -> Put {
-        let name = item.0.to_string_lossy(alloc)?;
-        let value = item.1.to_string_lossy(alloc)?;
+    fn put(&self, out: &mut Writer, alloc: Global) -> Put {
+        let name = self.0.to_string_lossy(alloc)?;
+        let value = self.1.to_string_lossy(alloc)?;
         put_annotation(out, alloc, name.as_str(), value.as_str())
     }
 }

@@ -3,29 +3,27 @@ ghost use Rattle.std.specs.Prelude.{◌≡◌, ◌++◌, map};
 ghost use Rattle.std.specs.Option.{option_copied, option_map};
 ghost use Rattle.crash.specs.Modules.{loaded_of};
 ghost use Rattle.crash_symbols.specs.Shown.{symbolized_of};
-ghost use Rattle.json_tree.specs.Tree.{Adds, Puts};
-ghost use Rattle.crash_json.specs.Modules.{are_corrupt, are_loaded, are_missing, main_module};
+ghost use Rattle.crash_symbols.specs.Symbols.{are_loaded};
+ghost use Rattle.crash_json.specs.Tree.{Adds, Puts};
+ghost use Rattle.crash_json.specs.Members.{report_of};
+ghost use Rattle.crash_json.specs.Modules.{are_corrupt, are_missing, main_module};
 ghost use Rattle.crash_json.specs.Modules.{module_object, modules_json, part_name, state_object};
 ghost use Rattle.crash_json.specs.Modules.{symbol_members};
 
+use crate::report::Report;
+use crate::tree::{Members, NumberedJson, Put, Scalar, ToJson, put_numbered_array};
 use crash::{CrashModule, ModulePart, UnloadedModule, UnreadableModule};
 use crash_symbols::{SymbolState, Symbolized};
 use json::Writer;
-use json_tree::{ItemJson, Members, NumberedJson, Put, Scalar, ValueJson, put_numbered_array};
 use std::alloc::Global;
 
 /// Puts the modules, with what is known of the symbols of each.
 #[tactic(auto, unfolding(crate::specs::Modules::modules_json), using(crate::proofs::NumberedLemmas::numbered_values))]
-pub(crate) fn put_modules(
-    out: &mut Writer,
-    alloc: Global,
-    by: &EachModule<'_, '_, '_>,
-    modules: &[CrashModule],
-) -> Put
-    ensures { Puts result out.old out.new (modules_json
-        (option_map symbolized_of (option_copied by.now.symbols)) (map loaded_of modules.now)) }
+pub(crate) fn put_modules(out: &mut Writer, alloc: Global, report: &Report<'_, '_, '_, '_>) -> Put
+    ensures { Puts result out.old out.new (modules_json (report_of report.now).symbols
+        (report_of report.now).crash.modules.loaded) }
 {
-    put_numbered_array(out, alloc, modules, by)
+    put_numbered_array(out, alloc, report.crash.modules.loaded.as_slice(), report)
 }
 
 /// Returns the index of the main module, which is the first.
@@ -38,22 +36,14 @@ pub(crate) fn main_module(modules: &[CrashModule]) -> Option<usize>
     }
 }
 
-/// What the modules of a list are written by: the symbols, where they are known.
-#[derive(Clone, Copy)]
-pub(crate) struct EachModule<'l, 's, 'n> {
-    pub(crate) symbols: Option<&'l Symbolized<'s, 'n>>,
-}
-
-impl NumberedJson<CrashModule> for EachModule<'_, '_, '_> {
-    ghost use Rattle.std.specs.Option.{option_copied, option_map};
+impl NumberedJson<CrashModule> for Report<'_, '_, '_, '_> {
     ghost use Rattle.crash.specs.Modules.{loaded_of};
-    ghost use Rattle.crash_symbols.specs.Shown.{symbolized_of};
+    ghost use Rattle.crash_json.specs.Members.{report_of};
     ghost use Rattle.crash_json.specs.Modules.{module_json};
 
-    ghost json_at = { λ e n m. module_json (option_map symbolized_of (option_copied e.symbols)) n
-        (loaded_of m) };
+    ghost json_at = { λ r n m. module_json (report_of r).symbols n (loaded_of m) };
 
-    #[tactic(auto, using(json_tree::proofs::Tokens::object_of_members))]
+    #[tactic(auto, using(crate::proofs::Tokens::object_of_members))]
     fn put_at(&self, number: usize, item: &CrashModule, out: &mut Writer, alloc: Global) -> Put {
         out.begin_object()?;
         put_module(out, alloc, self.symbols, number, item)?;
@@ -132,7 +122,7 @@ fn are_missing(state: SymbolState) -> bool
 }
 
 // Tells whether symbols are there.
-#[tactic(auto, unfolding(crate::specs::Modules::are_loaded))]
+#[tactic(auto, unfolding(crash_symbols::specs::Symbols::are_loaded))]
 fn are_loaded(state: SymbolState) -> bool
     ensures { result ≡ are_loaded state }
 {
@@ -147,49 +137,37 @@ fn are_corrupt(state: SymbolState) -> bool
     matches!(state, SymbolState::Corrupt)
 }
 
-/// A module of the list of those that were unloaded.
-#[derive(Clone, Copy)]
-pub(crate) struct EachUnloaded;
-
-impl ValueJson<UnloadedModule> for EachUnloaded {
-    ghost use Rattle.crash.specs.Modules.{UnloadedModuleValue, unloaded_module_of};
+impl ToJson for UnloadedModule {
+    ghost use Rattle.crash.specs.Modules.{unloaded_module_of};
     ghost use Rattle.crash_json.specs.Modules.{unloaded_json};
 
-    ghost Value = { UnloadedModuleValue };
-
-    ghost value_of = { unloaded_module_of };
-
-    ghost json_of = { λ _ m. unloaded_json m };
+    ghost json = { λ m. unloaded_json (unloaded_module_of m) };
 
     #[tactic(auto, unfolding(crate::specs::Modules::unloaded_json))]
-    fn put_value(&self, item: &UnloadedModule, out: &mut Writer, alloc: Global) -> Put {
+    fn put(&self, out: &mut Writer, alloc: Global) -> Put {
         Members(&[
-            ("base_addr", Scalar::Hex(Some(item.base))),
-            ("end_addr", Scalar::Hex(item.end)),
-            ("filename", Scalar::Owned(&item.file)),
-            ("path", Scalar::Owned(&item.path)),
-            ("code_id", Scalar::Optional(&item.code_id)),
+            ("base_addr", Scalar::Hex(Some(self.base))),
+            ("end_addr", Scalar::Hex(self.end)),
+            ("filename", Scalar::Owned(&self.file)),
+            ("path", Scalar::Owned(&self.path)),
+            ("code_id", Scalar::Optional(&self.code_id)),
         ])
         .put(out, alloc)
     }
 }
 
-/// A module of a list of which a part can't be read.
-#[derive(Clone, Copy)]
-pub(crate) struct EachUnreadable;
-
-impl ItemJson<UnreadableModule> for EachUnreadable {
+impl ToJson for UnreadableModule {
     ghost use Rattle.crash_json.specs.Modules.{unreadable_json};
 
-    ghost json_of = { λ _ m. unreadable_json m };
+    ghost json = { unreadable_json };
 
     #[tactic(auto, unfolding(crate::specs::Modules::unreadable_object))]
-    fn put_item(&self, item: &UnreadableModule, out: &mut Writer, alloc: Global) -> Put {
+    fn put(&self, out: &mut Writer, alloc: Global) -> Put {
         Members(&[
-            ("index", Scalar::Count(Some(item.index))),
-            ("base_addr", Scalar::Hex(Some(item.base))),
-            ("size", Scalar::Number(Some(item.size as u64))),
-            ("part", Scalar::Text(Some(part_name(item.part)))),
+            ("index", Scalar::Count(Some(self.index))),
+            ("base_addr", Scalar::Hex(Some(self.base))),
+            ("size", Scalar::Number(Some(self.size as u64))),
+            ("part", Scalar::Text(Some(part_name(self.part)))),
         ])
         .put(out, alloc)
     }

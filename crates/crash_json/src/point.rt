@@ -2,41 +2,33 @@
 ghost use Rattle.std.specs.Prelude.{◌≡◌, ◌∷◌, IfOk, codes, filter, map};
 ghost use Rattle.json.specs.Json.{string};
 ghost use Rattle.crash.specs.Addresses.{is_placed};
-ghost use Rattle.json_tree.specs.Tree.{Adds, Puts};
+ghost use Rattle.crash_json.specs.Tree.{Adds, Puts};
 ghost use Rattle.crash_json.specs.Cause.{address_members};
 ghost use Rattle.crash_json.specs.Point.{placed_json};
 
-use crate::cause::{AddressJson, put_address};
+use crate::cause::put_address;
 use crate::frames::{index_of, offset_of, put_named};
+use crate::tree::{Members, Put, Scalar, ToJson, put_array};
 use crash::{AddressFacts, CrashPoint, StackWord};
 use json::Writer;
-use json_tree::{ItemJson, Members, Put, Scalar, ToJson, ValueJson, put_array, put_values};
 use std::alloc::{AllocError, Global};
 
-/// Gives where a thread stands its JSON value.
-#[derive(Clone, Copy)]
-pub(crate) struct PointJson;
-
-impl ValueJson<CrashPoint<'_>> for PointJson {
-    ghost use Rattle.crash.specs.Point.{PointValue, point_of};
+impl ToJson for CrashPoint<'_> {
+    ghost use Rattle.crash.specs.Point.{point_of};
     ghost use Rattle.crash_json.specs.Point.{point_json};
 
-    ghost Value = { PointValue };
-
-    ghost value_of = { point_of };
-
-    ghost json_of = { λ _ p. point_json p };
+    ghost json = { λ p. point_json (point_of p) };
 
     #[tactic(auto, unfolding(crate::specs::Point::point_json))]
-    fn put_value(&self, item: &CrashPoint<'_>, out: &mut Writer, alloc: Global) -> Put {
-        let registers = item.registers.as_slice();
-        let set_flags = item.set_flags.as_slice();
+    fn put(&self, out: &mut Writer, alloc: Global) -> Put {
+        let registers = self.registers.as_slice();
+        let set_flags = self.set_flags.as_slice();
         Members(&[
-            ("instruction", PointMember::Instruction(&item.instruction)),
+            ("instruction", PointMember::Instruction(&self.instruction)),
             ("registers", PointMember::Registers(registers)),
-            ("code", PointMember::Code(item.code)),
-            ("words", PointMember::Words(item.words.as_slice())),
-            ("flags", PointMember::Flags(item.flags.as_slice())),
+            ("code", PointMember::Code(self.code)),
+            ("words", PointMember::Words(self.words.as_slice())),
+            ("flags", PointMember::Flags(self.flags.as_slice())),
             ("set_flags", PointMember::SetFlags(set_flags)),
         ])
         .put(out, alloc)
@@ -59,14 +51,15 @@ impl ToJson for PointMember<'_> {
 
     ghost json = { point_member };
 
+    #[tactic(auto, using(crate::proofs::Tokens::views))]
     fn put(&self, out: &mut Writer, alloc: Global) -> Put {
         match self {
-            PointMember::Instruction(facts) => AddressJson.put_item(*facts, out, alloc),
+            PointMember::Instruction(facts) => facts.put(out, alloc),
             PointMember::Registers(registers) => put_registers(out, alloc, registers),
-            PointMember::Code(code) => put_array(out, alloc, code, &EachByte),
-            PointMember::Words(words) => put_array(out, alloc, words, &EachWord),
+            PointMember::Code(code) => put_array(out, alloc, code),
+            PointMember::Words(words) => put_array(out, alloc, words),
             PointMember::Flags(flags) => put_named(out, alloc, *flags),
-            PointMember::SetFlags(names) => put_values(out, alloc, names, &EachName),
+            PointMember::SetFlags(names) => put_array(out, alloc, names),
         }
     }
 }
@@ -78,7 +71,7 @@ fn put_registers(out: &mut Writer, alloc: Global, registers: &[(&'static str, Ad
     ensures { Puts result out.old out.new (placed_json (map (λ r. (r.0.now, r.1)) registers.now)) }
 {
     let placed = placed_of(alloc, registers)?;
-    put_array(out, alloc, placed.as_slice(), &EachRegister)
+    put_array(out, alloc, placed.as_slice())
 }
 
 // Returns the registers whose values lie in a module, an unloaded module or the stack of a thread.
@@ -95,24 +88,15 @@ fn placed_of(
         .collect(alloc)
 }
 
-// A register of a list.
-#[derive(Clone, Copy)]
-struct EachRegister;
-
-impl ItemJson<(&'static str, AddressFacts)> for EachRegister {
+impl ToJson for (&'static str, AddressFacts) {
     ghost use Rattle.crash_json.specs.Point.{register_json};
 
-    ghost json_of = { λ _ r. register_json (r.0.now, r.1) };
+    ghost json = { λ r. register_json (r.0.now, r.1) };
 
-    #[tactic(auto, using(json_tree::proofs::Tokens::object_of_members))]
-    fn put_item(
-        &self,
-        item: &(&'static str, AddressFacts),
-        out: &mut Writer,
-        alloc: Global,
-    ) -> Put {
+    #[tactic(auto, using(crate::proofs::Tokens::object_of_members))]
+    fn put(&self, out: &mut Writer, alloc: Global) -> Put {
         out.begin_object()?;
-        put_register(out, alloc, item.0, &item.1)?;
+        put_register(out, alloc, self.0, &self.1)?;
         out.end_object()?;
         Ok(())
     }
@@ -130,36 +114,29 @@ fn put_register(out: &mut Writer, alloc: Global, name: &str, facts: &AddressFact
 
 // ---- the code and the words
 
-// A byte of a list.
-#[derive(Clone, Copy)]
-struct EachByte;
+// A byte of code, in decimal.
+impl ToJson for u8 {
+    ghost use Rattle.crash_json.specs.Tree.{count};
 
-impl ItemJson<u8> for EachByte {
-    ghost use Rattle.json_tree.specs.Tree.{count};
+    ghost json = { count };
 
-    ghost json_of = { λ _ b. count b };
-
-    fn put_item(&self, item: &u8, out: &mut Writer, alloc: Global) -> Put {
-        Scalar::Number(Some(*item as u64)).put(out, alloc)
+    fn put(&self, out: &mut Writer, alloc: Global) -> Put {
+        Scalar::Number(Some(*self as u64)).put(out, alloc)
     }
 }
 
-// A word of a stack.
-#[derive(Clone, Copy)]
-struct EachWord;
-
-impl ItemJson<StackWord> for EachWord {
+impl ToJson for StackWord {
     ghost use Rattle.crash_json.specs.Point.{word_json};
 
-    ghost json_of = { λ _ w. word_json w };
+    ghost json = { word_json };
 
     #[tactic(auto, unfolding(crate::specs::Point::word_object))]
-    fn put_item(&self, item: &StackWord, out: &mut Writer, alloc: Global) -> Put {
+    fn put(&self, out: &mut Writer, alloc: Global) -> Put {
         Members(&[
-            ("address", Scalar::Hex(Some(item.address))),
-            ("value", Scalar::Hex(Some(item.value))),
-            ("module", Scalar::Count(index_of(item.module))),
-            ("module_offset", Scalar::Hex(offset_of(item.module))),
+            ("address", Scalar::Hex(Some(self.address))),
+            ("value", Scalar::Hex(Some(self.value))),
+            ("module", Scalar::Count(index_of(self.module))),
+            ("module_offset", Scalar::Hex(offset_of(self.module))),
         ])
         .put(out, alloc)
     }
@@ -167,21 +144,12 @@ impl ItemJson<StackWord> for EachWord {
 
 // ---- the flags
 
-// The name of a flag.
-#[derive(Clone, Copy)]
-struct EachName;
-
-impl ValueJson<&'static str> for EachName {
-    ghost use Rattle.std.specs.Prelude.{ℕ, List};
+impl ToJson for &'static str {
     ghost use Rattle.json.specs.Json.{string};
 
-    ghost Value = { List ℕ };
+    ghost json = { λ name. string name.now };
 
-    ghost value_of = { λ name. name.now };
-
-    ghost json_of = { λ _ name. string name };
-
-    fn put_value(&self, item: &&'static str, out: &mut Writer, alloc: Global) -> Put {
-        Scalar::Text(Some(*item)).put(out, alloc)
+    fn put(&self, out: &mut Writer, alloc: Global) -> Put {
+        Scalar::Text(Some(*self)).put(out, alloc)
     }
 }

@@ -1,127 +1,73 @@
 //! Handles and their kinds, the records of macOS's crash information, and an assertion.
 ghost use Rattle.std.specs.Prelude.{◌≡◌, length, map, string_bytes};
 ghost use Rattle.std.specs.Option.{option_copied, option_map};
-ghost use Rattle.std.specs.Result.{result_ok};
-ghost use Rattle.minidump.specs.Below.Contexts.Context.{map_ok};
 ghost use Rattle.minidump.specs.Below.Records.Record.{mac_record_of};
-ghost use Rattle.json_tree.specs.Tree.{Puts, or_null};
+ghost use Rattle.crash_json.specs.Tree.{Puts};
 ghost use Rattle.crash_json.specs.Records.{assertion_kind, assertion_object};
 
+use crate::tree::{Members, Put, Scalar, ToJson, put_array};
 use crash::HandleKind;
 use json::Writer;
-use json_tree::{Members, Put, Scalar, ToJson, ValueJson, put_values};
 use minidump::{
-    Error, MinidumpAssertion, MinidumpHandleDataStream, MinidumpHandleDescriptor,
-    MinidumpMacCrashInfo, RawMacCrashInfo,
+    MinidumpAssertion, MinidumpHandleDataStream, MinidumpHandleDescriptor, MinidumpMacCrashInfo,
+    RawMacCrashInfo,
 };
 use std::alloc::Global;
 
-/// Puts the value of a stream by what it stands for, or `null` if it can't be read.
-pub(crate) fn put_found<X, F: ValueJson<X>>(
-    out: &mut Writer,
-    alloc: Global,
-    found: &Result<X, Error>,
-    by: &F,
-) -> Put
-    ensures { Puts result out.old out.new
-        (or_null (F.json_of by.now) (result_ok (map_ok F.value_of found.now))) }
-{
-    match found {
-        Ok(item) => by.put_value(item, out, alloc)?,
-        Err(_) => out.null()?,
-    }
-    Ok(())
-}
-
-/// Gives the handles their JSON value.
-#[derive(Clone, Copy)]
-pub(crate) struct HandlesJson;
-
-impl ValueJson<MinidumpHandleDataStream> for HandlesJson {
-    ghost use Rattle.std.specs.Prelude.{List};
-    ghost use Rattle.minidump.specs.Below.Records.Handles.{Handle};
+impl ToJson for MinidumpHandleDataStream {
     ghost use Rattle.minidump.specs.Promise.{handle_data_stream};
     ghost use Rattle.crash_json.specs.Records.{handles_json};
 
-    ghost Value = { List Handle };
+    ghost json = { λ handles. handles_json (handle_data_stream.value handles) };
 
-    ghost value_of = { handle_data_stream.value };
-
-    ghost json_of = { λ _ handles. handles_json handles };
-
-    fn put_value(&self, item: &MinidumpHandleDataStream, out: &mut Writer, alloc: Global) -> Put {
-        put_values(out, alloc, item.handles.as_slice(), &EachHandle)
+    #[tactic(auto, using(crate::proofs::Tokens::views))]
+    fn put(&self, out: &mut Writer, alloc: Global) -> Put {
+        put_array(out, alloc, self.handles.as_slice())
     }
 }
 
-// A handle of a list.
-#[derive(Clone, Copy)]
-struct EachHandle;
-
-impl ValueJson<MinidumpHandleDescriptor> for EachHandle {
-    ghost use Rattle.minidump.specs.Below.Records.Handles.{Handle, handle_of};
+impl ToJson for MinidumpHandleDescriptor {
+    ghost use Rattle.minidump.specs.Below.Records.Handles.{handle_of};
     ghost use Rattle.crash_json.specs.Records.{handle_json};
 
-    ghost Value = { Handle };
-
-    ghost value_of = { handle_of };
-
-    ghost json_of = { λ _ h. handle_json h };
+    ghost json = { λ h. handle_json (handle_of h) };
 
     #[tactic(auto, unfolding(crate::specs::Records::handle_object))]
-    fn put_value(&self, item: &MinidumpHandleDescriptor, out: &mut Writer, alloc: Global) -> Put {
+    fn put(&self, out: &mut Writer, alloc: Global) -> Put {
         Members(&[
-            ("handle", Scalar::Hex(item.raw.handle().copied())),
-            ("type_name", Scalar::Optional(&item.type_name)),
-            ("object_name", Scalar::Optional(&item.object_name)),
+            ("handle", Scalar::Hex(self.raw.handle().copied())),
+            ("type_name", Scalar::Optional(&self.type_name)),
+            ("object_name", Scalar::Optional(&self.object_name)),
         ])
         .put(out, alloc)
     }
 }
 
-/// A kind of handles of a list.
-#[derive(Clone, Copy)]
-pub(crate) struct EachKind;
-
-impl ValueJson<HandleKind> for EachKind {
-    ghost use Rattle.crash.specs.HandleKinds.{KindValue, kind_of};
+impl ToJson for HandleKind {
+    ghost use Rattle.crash.specs.HandleKinds.{kind_of};
     ghost use Rattle.crash_json.specs.Records.{kind_json};
 
-    ghost Value = { KindValue };
-
-    ghost value_of = { kind_of };
-
-    ghost json_of = { λ _ k. kind_json k };
+    ghost json = { λ k. kind_json (kind_of k) };
 
     #[tactic(auto, unfolding(crate::specs::Records::kind_json))]
-    fn put_value(&self, item: &HandleKind, out: &mut Writer, alloc: Global) -> Put {
+    fn put(&self, out: &mut Writer, alloc: Global) -> Put {
         Members(&[
-            ("type_name", Scalar::Owned(&item.type_name)),
-            ("count", Scalar::Count(Some(item.count))),
+            ("type_name", Scalar::Owned(&self.type_name)),
+            ("count", Scalar::Count(Some(self.count))),
         ])
         .put(out, alloc)
     }
 }
 
-/// Gives the crash information of macOS its JSON value.
-#[derive(Clone, Copy)]
-pub(crate) struct MacCrashJson;
-
-impl ValueJson<MinidumpMacCrashInfo> for MacCrashJson {
-    ghost use Rattle.std.specs.Prelude.{List};
-    ghost use Rattle.minidump.specs.Below.Records.Record.{MacRecord};
+impl ToJson for MinidumpMacCrashInfo {
     ghost use Rattle.minidump.specs.Promise.{mac_crash_info_stream};
     ghost use Rattle.crash_json.specs.Records.{mac_crash_json};
 
-    ghost Value = { List MacRecord };
-
-    ghost value_of = { mac_crash_info_stream.value };
-
-    ghost json_of = { λ _ records. mac_crash_json records };
+    ghost json = { λ records. mac_crash_json (mac_crash_info_stream.value records) };
 
     #[tactic(auto, unfolding(crate::specs::Records::mac_members))]
-    fn put_value(&self, item: &MinidumpMacCrashInfo, out: &mut Writer, alloc: Global) -> Put {
-        let records = item.raw.as_slice();
+    fn put(&self, out: &mut Writer, alloc: Global) -> Put {
+        let records = self.raw.as_slice();
         let count = Scalar::Count(Some(how_many(records)));
         Members(&[
             ("num_records", MacMember::Scalar(count)),
@@ -150,71 +96,55 @@ impl ToJson for MacMember<'_> {
 
     ghost json = { mac_member };
 
+    #[tactic(auto, using(crate::proofs::Tokens::views))]
     fn put(&self, out: &mut Writer, alloc: Global) -> Put {
         match self {
             MacMember::Scalar(scalar) => scalar.put(out, alloc),
-            MacMember::Records(records) => put_values(out, alloc, records, &EachMacRecord),
+            MacMember::Records(records) => put_array(out, alloc, records),
         }
     }
 }
 
-// A record of the crash information of macOS.
-#[derive(Clone, Copy)]
-struct EachMacRecord;
-
-impl ValueJson<RawMacCrashInfo> for EachMacRecord {
-    ghost use Rattle.minidump.specs.Below.Records.Record.{MacRecord, mac_record_of};
+impl ToJson for RawMacCrashInfo {
+    ghost use Rattle.minidump.specs.Below.Records.Record.{mac_record_of};
     ghost use Rattle.crash_json.specs.Records.{mac_record_json};
 
-    ghost Value = { MacRecord };
-
-    ghost value_of = { mac_record_of };
-
-    ghost json_of = { λ _ r. mac_record_json r };
+    ghost json = { λ r. mac_record_json (mac_record_of r) };
 
     #[tactic(auto, unfolding(crate::specs::Records::mac_object))]
-    fn put_value(&self, item: &RawMacCrashInfo, out: &mut Writer, alloc: Global) -> Put {
+    fn put(&self, out: &mut Writer, alloc: Global) -> Put {
         Members(&[
-            ("thread", Scalar::Hex(item.thread().copied())),
-            ("dialog_mode", Scalar::Hex(item.dialog_mode().copied())),
-            ("abort_cause", Scalar::Hex(item.abort_cause().copied())),
-            ("module", Scalar::Text(item.module_path())),
-            ("message", Scalar::Text(item.message())),
-            ("signature_string", Scalar::Text(item.signature_string())),
-            ("backtrace", Scalar::Text(item.backtrace())),
-            ("message2", Scalar::Text(item.message2())),
+            ("thread", Scalar::Hex(self.thread().copied())),
+            ("dialog_mode", Scalar::Hex(self.dialog_mode().copied())),
+            ("abort_cause", Scalar::Hex(self.abort_cause().copied())),
+            ("module", Scalar::Text(self.module_path())),
+            ("message", Scalar::Text(self.message())),
+            ("signature_string", Scalar::Text(self.signature_string())),
+            ("backtrace", Scalar::Text(self.backtrace())),
+            ("message2", Scalar::Text(self.message2())),
         ])
         .put(out, alloc)
     }
 }
 
-/// Gives an assertion its JSON value.
-#[derive(Clone, Copy)]
-pub(crate) struct AssertionJson;
-
-impl ValueJson<MinidumpAssertion> for AssertionJson {
-    ghost use Rattle.minidump.specs.declared.format.MINIDUMP_ASSERTION_INFO.{MINIDUMP_ASSERTION_INFO};
+impl ToJson for MinidumpAssertion {
     ghost use Rattle.minidump.specs.Promise.{assertion_stream};
     ghost use Rattle.crash_json.specs.Records.{assertion_json};
 
-    ghost Value = { MINIDUMP_ASSERTION_INFO };
+    ghost json = { λ a. assertion_json (assertion_stream.value a) };
 
-    ghost value_of = { assertion_stream.value };
-
-    ghost json_of = { λ _ a. assertion_json a };
-
-    fn put_value(&self, item: &MinidumpAssertion, out: &mut Writer, alloc: Global) -> Put {
-        let expression = item.expression(alloc)?;
-        let function = item.function(alloc)?;
-        let file = item.file(alloc)?;
+    fn put(&self, out: &mut Writer, alloc: Global) -> Put {
+        let expression = self.expression(alloc)?;
+        let function = self.function(alloc)?;
+        let file = self.file(alloc)?;
         put_assertion(
             out,
             alloc,
-            assertion_kind(item.raw._type),
+            assertion_kind(self.raw._type),
             &expression,
             &function,
             &file,
-            item.raw.line,
+            self.raw.line,
         )
     }
 }

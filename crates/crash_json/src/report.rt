@@ -1,15 +1,12 @@
 //! The line of a crash.
 ghost use Rattle.std.specs.Prelude.{◌≡◌, length, map};
-ghost use Rattle.std.specs.Option.{option_and_then, option_copied, option_map};
+ghost use Rattle.std.specs.Option.{option_and_then, option_copied};
 ghost use Rattle.std.specs.Result.{result_ok};
 ghost use Rattle.minidump.specs.Below.Contexts.Context.{map_ok};
 ghost use Rattle.minidump.specs.Promise.{mac_bootargs_stream, soft_errors_stream};
-ghost use Rattle.crash.specs.Crash.{crash_of};
-ghost use Rattle.crash.specs.Modules.{loaded_of};
-ghost use Rattle.crash.specs.Threads.{thread_value, threads_of};
-ghost use Rattle.crash_symbols.specs.Shown.{symbolized_of};
-ghost use Rattle.json_tree.specs.Tree.{Adds};
-ghost use Rattle.crash_json.specs.Members.{symbols_in};
+ghost use Rattle.crash.specs.Threads.{thread_value};
+ghost use Rattle.crash_json.specs.Tree.{Adds};
+ghost use Rattle.crash_json.specs.Members.{report_of};
 ghost use Rattle.crash_json.specs.Report.{all_members, crash_members, crash_object, path_members};
 ghost use Rattle.crash_json.specs.Report.{process_members, process_object, record_members};
 ghost use Rattle.crash_json.specs.Report.{record_object};
@@ -18,15 +15,13 @@ use crate::JsonLimits;
 use crate::cause::{put_crash_info, widened};
 use crate::dump::put_minidump;
 use crate::linux::put_proc_limits;
-use crate::modules::{EachModule, EachUnloaded, main_module, put_modules};
-use crate::records::{HandlesJson, MacCrashJson, put_found};
+use crate::modules::{main_module, put_modules};
 use crate::soft_errors::put_soft_errors;
-use crate::system::{ReleaseJson, SystemJson};
-use crate::threads::{EachThread, put_crashing, put_threads};
-use crash::{Crash, CrashThread, CrashThreads};
+use crate::threads::{put_crashing, put_threads};
+use crate::tree::{Members, Put, Scalar, ToJson, as_text, put_array, put_found, put_or_null};
+use crash::{Crash, CrashThread};
 use crash_symbols::Symbolized;
 use json::Writer;
-use json_tree::{Members, Put, Scalar, ToJson, as_text, put_value_or_null, put_values};
 use minidump::{Error, MinidumpMacBootargs, MinidumpSoftErrors};
 use std::alloc::Global;
 
@@ -41,15 +36,12 @@ pub(crate) struct Report<'l, 'a, 's, 'n> {
 }
 
 impl ToJson for Report<'_, '_, '_, '_> {
-    ghost use Rattle.std.specs.Option.{option_copied, option_map};
-    ghost use Rattle.crash.specs.Crash.{crash_of};
-    ghost use Rattle.crash_symbols.specs.Shown.{symbolized_of};
-    ghost use Rattle.crash_json.specs.Report.{json_of};
+    ghost use Rattle.crash_json.specs.Members.{report_of};
+    ghost use Rattle.crash_json.specs.Report.{line_json};
 
-    ghost json = { λ r. json_of r.limits (option_copied r.path)
-        (option_map symbolized_of (option_copied r.symbols)) (crash_of r.crash.now) };
+    ghost json = { λ r. line_json (report_of r) };
 
-    #[tactic(auto, using(json_tree::proofs::Tokens::object_of_members))]
+    #[tactic(auto, using(crate::proofs::Tokens::object_of_members))]
     fn put(&self, out: &mut Writer, alloc: Global) -> Put {
         out.begin_object()?;
         put_report(out, alloc, *self)?;
@@ -60,9 +52,7 @@ impl ToJson for Report<'_, '_, '_, '_> {
 
 // Adds the members of a report.
 fn put_report(out: &mut Writer, alloc: Global, report: Report<'_, '_, '_, '_>) -> Put
-    ensures { Adds result out.old out.new (all_members report.entry.limits
-        (option_copied report.entry.path) (symbols_in report.entry)
-        (crash_of report.entry.crash.now)) }
+    ensures { Adds result out.old out.new (all_members (report_of report.entry)) }
 {
     put_path(out, alloc, report.path)?;
     put_crash(out, alloc, report)?;
@@ -83,8 +73,7 @@ fn put_path(out: &mut Writer, alloc: Global, path: Option<&str>) -> Put
 
 // Adds the system, the crash and the modules.
 fn put_crash(out: &mut Writer, alloc: Global, report: Report<'_, '_, '_, '_>) -> Put
-    ensures { Adds result out.old out.new
-        (crash_members (symbols_in report.entry) (crash_of report.entry.crash.now)) }
+    ensures { Adds result out.old out.new (crash_members (report_of report.entry)) }
 {
     let main = main_module(report.crash.modules.loaded.as_slice());
     put_crash_members(out, alloc, report, main)
@@ -97,8 +86,7 @@ fn put_crash_members(
     report: Report<'_, '_, '_, '_>,
     main: Option<usize>,
 ) -> Put
-    ensures { Adds result out.old out.new
-        (crash_object (symbols_in report.entry) (crash_of report.entry.crash.now) main) }
+    ensures { Adds result out.old out.new (crash_object (report_of report.entry) main) }
 {
     let crash = report.crash;
     Members(&[
@@ -114,18 +102,16 @@ fn put_crash_members(
 
 // Adds the process and its threads.
 fn put_process(out: &mut Writer, alloc: Global, report: Report<'_, '_, '_, '_>) -> Put
-    ensures { Adds result out.old out.new (process_members report.entry.limits.frames
-        (symbols_in report.entry) (crash_of report.entry.crash.now)) }
+    ensures { Adds result out.old out.new (process_members (report_of report.entry)) }
 {
-    let crash = report.crash;
-    let each = EachThread {
-        limit: report.limits.frames,
-        modules: crash.modules.loaded.as_slice(),
-        symbols: report.symbols,
-    };
-    let how_many = how_many(crash.threads.threads.as_slice());
-    let id = widened(crash.process.id);
-    put_process_members(out, alloc, each, &crash.threads, id, how_many)
+    let how_many = how_many(report.crash.threads.threads.as_slice());
+    put_process_members(
+        out,
+        alloc,
+        report,
+        widened(report.crash.process.id),
+        how_many,
+    )
 }
 
 // Returns how many threads there are.
@@ -136,32 +122,29 @@ fn how_many(threads: &[CrashThread]) -> usize
 }
 
 #[tactic(auto, unfolding(crate::specs::Report::process_object))]
-fn put_process_members<'l>(
+fn put_process_members(
     out: &mut Writer,
     alloc: Global,
-    each: EachThread<'l, '_, '_>,
-    threads: &'l CrashThreads,
+    report: Report<'_, '_, '_, '_>,
     id: Option<u64>,
     how_many: usize,
 ) -> Put
-    ensures { Adds result out.old out.new (process_object each.entry.limit
-        (option_map symbolized_of (option_copied each.entry.symbols))
-        (map loaded_of each.entry.modules.now) (threads_of threads.now) id how_many) }
+    ensures { Adds result out.old out.new
+        (process_object (report_of report.entry) id how_many) }
 {
     let how_many = Scalar::Count(Some(how_many));
     Members(&[
         ("pid", ReportMember::Scalar(Scalar::Number(id))),
         ("thread_count", ReportMember::Scalar(how_many)),
-        ("threads", ReportMember::Threads(each, threads)),
-        ("crashing_thread", ReportMember::Crashing(each, threads)),
+        ("threads", ReportMember::Threads(report)),
+        ("crashing_thread", ReportMember::Crashing(report)),
     ])
     .add(out, alloc)
 }
 
 // Adds what single streams hold, and what the schema has no member for.
 fn put_records(out: &mut Writer, alloc: Global, report: Report<'_, '_, '_, '_>) -> Put
-    ensures { Adds result out.old out.new (record_members report.entry.limits.environment
-        (symbols_in report.entry) (crash_of report.entry.crash.now)) }
+    ensures { Adds result out.old out.new (record_members (report_of report.entry)) }
 {
     let messages = &report.crash.contents.messages;
     let boot_args = boot_args(&messages.mac_boot_args);
@@ -198,8 +181,7 @@ fn put_record_members<'l>(
     boot_args: Option<&'l str>,
     soft_errors: Option<&'l str>,
 ) -> Put
-    ensures { Adds result out.old out.new (record_object report.entry.limits.environment
-        (symbols_in report.entry) (crash_of report.entry.crash.now)
+    ensures { Adds result out.old out.new (record_object (report_of report.entry)
         (option_copied boot_args.entry) (option_copied soft_errors.entry)) }
 {
     let crash = report.crash;
@@ -226,8 +208,8 @@ pub(crate) enum ReportMember<'l, 'a, 's, 'n> {
     CrashInfo(&'l Crash<'a>),
     Modules(Report<'l, 'a, 's, 'n>),
     Unloaded(&'l Crash<'a>),
-    Threads(EachThread<'l, 's, 'n>, &'l CrashThreads),
-    Crashing(EachThread<'l, 's, 'n>, &'l CrashThreads),
+    Threads(Report<'l, 'a, 's, 'n>),
+    Crashing(Report<'l, 'a, 's, 'n>),
     Release(&'l Crash<'a>),
     MacCrash(&'l Crash<'a>),
     Handles(&'l Crash<'a>),
@@ -241,34 +223,24 @@ impl ToJson for ReportMember<'_, '_, '_, '_> {
 
     ghost json = { report_member };
 
+    #[tactic(auto, using(crate::proofs::Tokens::views))]
     fn put(&self, out: &mut Writer, alloc: Global) -> Put {
         match self {
             ReportMember::Scalar(scalar) => scalar.put(out, alloc),
-            ReportMember::System(crash) => {
-                put_value_or_null(out, alloc, &crash.process.system, &SystemJson)
-            }
+            ReportMember::System(crash) => put_or_null(out, alloc, &crash.process.system),
             ReportMember::CrashInfo(crash) => put_crash_info(out, alloc, crash),
-            ReportMember::Modules(report) => {
-                let symbols = report.symbols;
-                let modules = report.crash.modules.loaded.as_slice();
-                put_modules(out, alloc, &EachModule { symbols }, modules)
-            }
+            ReportMember::Modules(report) => put_modules(out, alloc, report),
             ReportMember::Unloaded(crash) => {
-                put_values(out, alloc, crash.modules.unloaded.as_slice(), &EachUnloaded)
+                put_array(out, alloc, crash.modules.unloaded.as_slice())
             }
-            ReportMember::Threads(each, threads) => {
-                put_threads(out, alloc, each, threads.threads.as_slice())
-            }
-            ReportMember::Crashing(each, threads) => put_crashing(out, alloc, each, threads),
-            ReportMember::Release(crash) => {
-                put_value_or_null(out, alloc, &crash.process.release, &ReleaseJson)
-            }
+            ReportMember::Threads(report) => put_threads(out, alloc, report),
+            ReportMember::Crashing(report) => put_crashing(out, alloc, *report),
+            ReportMember::Release(crash) => put_or_null(out, alloc, &crash.process.release),
             ReportMember::MacCrash(crash) => {
-                let found = &crash.contents.messages.mac_crash_info;
-                put_found(out, alloc, found, &MacCrashJson)
+                put_found(out, alloc, &crash.contents.messages.mac_crash_info)
             }
             ReportMember::Handles(crash) => {
-                put_found(out, alloc, &crash.contents.process.handles, &HandlesJson)
+                put_found(out, alloc, &crash.contents.process.handles)
             }
             ReportMember::SoftErrors(text) => put_soft_errors(out, alloc, *text),
             ReportMember::Limits(crash) => {

@@ -2,17 +2,18 @@
 ghost use Rattle.std.specs.Prelude.{◌≡◌, ◌++◌, [], IfOk, OnOk, codes, flat_map, map, string_bytes};
 ghost use Rattle.std.specs.List.{cons_option};
 ghost use Rattle.std.specs.Option.{option_and_then, option_copied, option_map, option_map_or};
-ghost use Rattle.crash.specs.Crash.{crash_of};
 ghost use Rattle.crash.specs.Modules.{loaded_of};
 ghost use Rattle.crash.specs.Threads.{crashed_thread};
 ghost use Rattle.crash_symbols.specs.NameParts.{function_of};
-ghost use Rattle.crash_symbols.specs.Shown.{shown_frame_of, shown_in, shown_of, symbolized_of};
+ghost use Rattle.crash_symbols.specs.Shown.{shown_frame_of, shown_in, shown_of};
+ghost use Rattle.crash_json.specs.Members.{report_of};
 ghost use Rattle.crash_json.specs.Signature.{joined, mark_of, mark_text, marks_in, signature_in};
 ghost use Rattle.crash_json.specs.Signature.{with_reason};
 
 use crate::cause::reason_of;
-use crash::{Crash, CrashModule};
-use crash_symbols::{FrameFunction, ShownFrame, ShownWalk, Symbolized, shown_walk};
+use crate::report::Report;
+use crash::CrashModule;
+use crash_symbols::{FrameFunction, ShownFrame, ShownWalk, shown_walk};
 use minidump::text::Piece::{Hex, Words};
 use minidump::text::format_pieces;
 use std::alloc::{AllocError, Global};
@@ -24,29 +25,27 @@ const FRAMES: usize = 3;
 #[tactic(auto, unfolding(crate::specs::Signature::signature_in))]
 pub(crate) fn signature_in(
     alloc: Global,
-    crash: &Crash<'_>,
-    symbols: Option<&Symbolized<'_, '_>>,
+    report: Report<'_, '_, '_, '_>,
 ) -> Result<Option<String>, AllocError>
-    ensures { IfOk result (λ text. option_map string_bytes text ≡ signature_in
-        (option_map symbolized_of (option_copied symbols.entry)) (crash_of crash.now)) }
+    ensures { IfOk result (λ text. option_map string_bytes text
+        ≡ signature_in (report_of report.entry)) }
 {
-    let walk = crashed_walk(alloc, crash, symbols)?;
-    let marks = crashed_marks(alloc, crash.modules.loaded.as_slice(), &walk)?;
-    joined(alloc, reason_of(&crash.cause), marks.as_slice())
+    let walk = crashed_walk(alloc, report)?;
+    let marks = crashed_marks(alloc, report.crash.modules.loaded.as_slice(), &walk)?;
+    joined(alloc, reason_of(&report.crash.cause), marks.as_slice())
 }
 
 // Returns what is shown of the thread that crashed.
 fn crashed_walk<'s, 'n>(
     alloc: Global,
-    crash: &Crash<'_>,
-    symbols: Option<&Symbolized<'s, 'n>>,
+    report: Report<'_, '_, 's, 'n>,
 ) -> Result<Option<ShownWalk<'s, 'n>>, AllocError>
     ensures { IfOk result (λ walk. option_map shown_of walk ≡ option_and_then
-        (λ p. shown_in (option_map symbolized_of (option_copied symbols.entry)) p.0 p.1)
-        (crashed_thread (crash_of crash.now).threads)) }
+        (λ p. shown_in (report_of report.entry).symbols p.0 p.1)
+        (crashed_thread (report_of report.entry).crash.threads)) }
 {
-    match crash.threads.crashed() {
-        Some((index, thread)) => shown_walk(alloc, thread, index, symbols),
+    match report.crash.threads.crashed() {
+        Some((index, thread)) => shown_walk(alloc, thread, index, report.symbols),
         None => Ok(None),
     }
 }

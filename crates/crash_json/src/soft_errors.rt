@@ -3,11 +3,11 @@ ghost use Rattle.std.specs.Prelude.{◌≡◌, IfOk, IfSome, IsOkUnless};
 ghost use Rattle.std.specs.Option.{option_copied, option_map};
 ghost use Rattle.json.specs.Tree.{HasNumbers};
 ghost use Rattle.json.specs.Value.{value_view};
-ghost use Rattle.json_tree.specs.Tree.{Puts, or_null};
+ghost use Rattle.crash_json.specs.Tree.{Puts, or_null};
 ghost use Rattle.crash_json.specs.SoftErrors.{soft_json, value_in};
 
+use crate::tree::Put;
 use json::{Reader, Scratch, Value, Writer};
-use json_tree::Put;
 use minidump::Error;
 use std::alloc::Global;
 

@@ -1,33 +1,25 @@
 //! The system on which a process ran, and the release of Linux.
 ghost use Rattle.std.specs.Prelude.{◌≡◌, ◌++◌, IfOk, codes, string_bytes};
 ghost use Rattle.crash.specs.Process.{system_of};
-ghost use Rattle.json_tree.specs.Tree.{Puts};
+ghost use Rattle.crash_json.specs.Tree.{Puts};
 ghost use Rattle.crash_json.specs.System.{system_object, with_build};
 
+use crate::tree::{Members, Put, Scalar, ToJson};
 use crash::{CrashSystem, LsbRelease};
 use json::Writer;
-use json_tree::{Members, Put, Scalar, ValueJson};
 use minidump::text::{Piece, format_pieces};
 use std::alloc::{AllocError, Global};
 
-/// Gives a system its JSON value.
-#[derive(Clone, Copy)]
-pub(crate) struct SystemJson;
-
-impl ValueJson<CrashSystem> for SystemJson {
-    ghost use Rattle.crash.specs.Process.{SystemValue, system_of};
+impl ToJson for CrashSystem {
+    ghost use Rattle.crash.specs.Process.{system_of};
     ghost use Rattle.crash_json.specs.System.{system_json};
 
-    ghost Value = { SystemValue };
+    ghost json = { λ s. system_json (system_of s) };
 
-    ghost value_of = { system_of };
-
-    ghost json_of = { λ _ s. system_json s };
-
-    fn put_value(&self, item: &CrashSystem, out: &mut Writer, alloc: Global) -> Put {
-        let os = item.os.long_name(alloc)?;
-        let version = with_build(alloc, item)?;
-        let cpu = item.cpu;
+    fn put(&self, out: &mut Writer, alloc: Global) -> Put {
+        let os = self.os.long_name(alloc)?;
+        let version = with_build(alloc, self)?;
+        let cpu = self.cpu;
         let cpu = format!(in alloc; "{cpu}")?;
         put_texts(
             out,
@@ -35,7 +27,7 @@ impl ValueJson<CrashSystem> for SystemJson {
             os.as_str(),
             version.as_str(),
             cpu.as_str(),
-            item,
+            self,
         )
     }
 }
@@ -85,27 +77,19 @@ fn put_texts<'t>(
     .put(out, alloc)
 }
 
-/// Gives the release of a Linux system its JSON value.
-#[derive(Clone, Copy)]
-pub(crate) struct ReleaseJson;
-
-impl ValueJson<LsbRelease> for ReleaseJson {
-    ghost use Rattle.crash.specs.Release.{ReleaseValue, release_of};
+impl ToJson for LsbRelease {
+    ghost use Rattle.crash.specs.Release.{release_of};
     ghost use Rattle.crash_json.specs.System.{release_json};
 
-    ghost Value = { ReleaseValue };
-
-    ghost value_of = { release_of };
-
-    ghost json_of = { λ _ r. release_json r };
+    ghost json = { λ r. release_json (release_of r) };
 
     #[tactic(auto, unfolding(crate::specs::System::release_json))]
-    fn put_value(&self, item: &LsbRelease, out: &mut Writer, alloc: Global) -> Put {
+    fn put(&self, out: &mut Writer, alloc: Global) -> Put {
         Members(&[
-            ("id", Scalar::Optional(&item.id)),
-            ("release", Scalar::Optional(&item.release)),
-            ("codename", Scalar::Optional(&item.codename)),
-            ("description", Scalar::Optional(&item.description)),
+            ("id", Scalar::Optional(&self.id)),
+            ("release", Scalar::Optional(&self.release)),
+            ("codename", Scalar::Optional(&self.codename)),
+            ("description", Scalar::Optional(&self.description)),
         ])
         .put(out, alloc)
     }

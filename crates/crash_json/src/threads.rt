@@ -1,11 +1,10 @@
 //! The threads, and the one that crashed.
 ghost use Rattle.std.specs.Prelude.{◌≡◌, ◌∷◌, IfOk, codes, length, map, take};
 ghost use Rattle.std.specs.Option.{option_copied, option_map};
-ghost use Rattle.crash.specs.Contexts.{context_of};
-ghost use Rattle.crash.specs.Modules.{loaded_of};
 ghost use Rattle.crash.specs.Threads.{thread_value, threads_of};
-ghost use Rattle.crash_symbols.specs.Shown.{shown_frame_of, shown_of, symbolized_of};
-ghost use Rattle.json_tree.specs.Tree.{Adds, Puts, count};
+ghost use Rattle.crash_symbols.specs.Shown.{shown_frame_of, shown_of};
+ghost use Rattle.crash_json.specs.Tree.{Adds, Puts, count};
+ghost use Rattle.crash_json.specs.Members.{context_in, report_of};
 ghost use Rattle.crash_json.specs.Threads.{all_frames, crashing_json, end_name};
 ghost use Rattle.crash_json.specs.Threads.{indexed_json, pointer_end_name, registers_of, short_of};
 ghost use Rattle.crash_json.specs.Threads.{thread_members, thread_object, threads_json};
@@ -13,61 +12,37 @@ ghost use Rattle.crash_json.specs.Threads.{walk_members};
 
 use crate::cause::problem_name;
 use crate::frames::{EachFrame, put_frames};
-use crash::{
-    ContextOrigin, CrashContext, CrashModule, CrashThread, CrashThreads, ShortContext, StackRange,
-};
-use crash_symbols::{ShownFrame, ShownWalk, Symbolized, shown_walk};
+use crate::report::Report;
+use crate::tree::{Members, NumberedJson, Put, Scalar, ToJson, put_numbered_array, put_or_null};
+use crash::{ContextOrigin, CrashContext, CrashThread, CrashThreads, ShortContext, StackRange};
+use crash_symbols::{ShownFrame, ShownWalk, shown_walk};
 use json::Writer;
-use json_tree::{
-    ItemJson, Members, NumberedJson, Put, Scalar, ToJson, put_item_or_null, put_numbered_array,
-};
 use stack_walk::WalkEnd;
 use std::alloc::{AllocError, Global};
 use symbol_walk::SymbolWalkEnd;
 
-/// What threads are written by: how many frames of each at most, the modules, and the symbols where
-/// they are known.
-#[derive(Clone, Copy)]
-pub(crate) struct EachThread<'l, 's, 'n> {
-    pub(crate) limit: usize,
-    pub(crate) modules: &'l [CrashModule],
-    pub(crate) symbols: Option<&'l Symbolized<'s, 'n>>,
-}
-
-impl NumberedJson<CrashThread> for EachThread<'_, '_, '_> {
-    ghost use Rattle.std.specs.Prelude.{map};
-    ghost use Rattle.std.specs.Option.{option_copied, option_map};
-    ghost use Rattle.crash.specs.Modules.{loaded_of};
+impl NumberedJson<CrashThread> for Report<'_, '_, '_, '_> {
     ghost use Rattle.crash.specs.Threads.{thread_value};
-    ghost use Rattle.crash_symbols.specs.Shown.{symbolized_of};
+    ghost use Rattle.crash_json.specs.Members.{report_of};
     ghost use Rattle.crash_json.specs.Threads.{thread_json};
 
-    ghost json_at = { λ e n t. thread_json e.limit
-        (option_map symbolized_of (option_copied e.symbols)) (map loaded_of e.modules.now) n
-        (thread_value t) };
+    ghost json_at = { λ r n t. thread_json (report_of r) n (thread_value t) };
 
-    #[tactic(auto, using(json_tree::proofs::Tokens::object_of_members))]
+    #[tactic(auto, using(crate::proofs::Tokens::object_of_members))]
     fn put_at(&self, number: usize, item: &CrashThread, out: &mut Writer, alloc: Global) -> Put {
         out.begin_object()?;
-        put_thread(out, alloc, self, None, number, item)?;
+        put_thread(out, alloc, *self, None, number, item)?;
         out.end_object()?;
         Ok(())
     }
 }
 
-/// Puts the threads, with at most so many frames each.
+/// Puts the threads.
 #[tactic(auto, unfolding(crate::specs::Threads::threads_json), using(crate::proofs::NumberedLemmas::numbered_values))]
-pub(crate) fn put_threads(
-    out: &mut Writer,
-    alloc: Global,
-    by: &EachThread<'_, '_, '_>,
-    threads: &[CrashThread],
-) -> Put
-    ensures { Puts result out.old out.new (threads_json by.now.limit
-        (option_map symbolized_of (option_copied by.now.symbols))
-        (map loaded_of by.now.modules.now) (map thread_value threads.now)) }
+pub(crate) fn put_threads(out: &mut Writer, alloc: Global, report: &Report<'_, '_, '_, '_>) -> Put
+    ensures { Puts result out.old out.new (threads_json (report_of report.now)) }
 {
-    put_numbered_array(out, alloc, threads, by)
+    put_numbered_array(out, alloc, report.crash.threads.threads.as_slice(), report)
 }
 
 // Adds the members of a thread with its index, with the registers of its first frame if they are
@@ -75,38 +50,28 @@ pub(crate) fn put_threads(
 fn put_thread(
     out: &mut Writer,
     alloc: Global,
-    by: &EachThread<'_, '_, '_>,
+    report: Report<'_, '_, '_, '_>,
     context: Option<&CrashContext>,
     number: usize,
     thread: &CrashThread,
 ) -> Put
-    ensures { Adds result out.old out.new (thread_members by.now.limit
-        (option_map symbolized_of (option_copied by.now.symbols))
-        (map loaded_of by.now.modules.now)
-        (option_map context_of (option_copied context.entry)) number (thread_value thread.now)) }
+    ensures { Adds result out.old out.new (thread_members (report_of report.entry)
+        (context_in context.entry) number (thread_value thread.now)) }
 {
-    let walk = shown_walk(alloc, thread, number, by.symbols)?;
-    let each = EachFrame {
-        modules: by.modules,
-        context,
-        has_symbols: by.symbols.is_some(),
-    };
-    put_walk(out, alloc, by.limit, each, thread, &walk)
+    let walk = shown_walk(alloc, thread, number, report.symbols)?;
+    put_walk(out, alloc, EachFrame { report, context }, thread, &walk)
 }
 
 // Adds the members of a thread by what is shown of it.
-fn put_walk(
+fn put_walk<'s, 'n>(
     out: &mut Writer,
     alloc: Global,
-    limit: usize,
-    each: EachFrame<'_>,
+    each: EachFrame<'_, '_, 's, 'n>,
     thread: &CrashThread,
-    walk: &Option<ShownWalk<'_, '_>>,
+    walk: &Option<ShownWalk<'s, 'n>>,
 ) -> Put
-    ensures { Adds result out.old out.new (walk_members limit
-        (map loaded_of each.entry.modules.now)
-        (option_map context_of (option_copied each.entry.context)) each.entry.has_symbols
-        (thread_value thread.now) (option_map shown_of walk.now)) }
+    ensures { Adds result out.old out.new (walk_members (report_of each.entry.report)
+        (context_in each.entry.context) (thread_value thread.now) (option_map shown_of walk.now)) }
 {
     let frames = all_frames(alloc, walk)?;
     put_thread_members(
@@ -118,7 +83,7 @@ fn put_walk(
         short_of(thread),
         how_many(frames.as_slice()),
         each,
-        first_of(frames.as_slice(), limit),
+        first_of(frames.as_slice(), each.report.limits.frames),
     )
 }
 
@@ -210,7 +175,7 @@ fn pointer_end_name(end: WalkEnd) -> &'static str
 
 #[rattlefmt::skip]
 #[tactic(auto, unfolding(crate::specs::Threads::thread_object))]
-fn put_thread_members<'l>(
+fn put_thread_members<'l, 's, 'n>(
     out: &mut Writer,
     alloc: Global,
     thread: &'l CrashThread,
@@ -218,14 +183,12 @@ fn put_thread_members<'l>(
     end: Option<&'l str>,
     short: Option<ShortContext>,
     frame_count: usize,
-    each: EachFrame<'l>,
-    frames: &'l [ShownFrame<'_, '_>],
+    each: EachFrame<'l, '_, 's, 'n>,
+    frames: &'l [ShownFrame<'s, 'n>],
 ) -> Put
-    ensures { Adds result out.old out.new (thread_object (thread_value thread.now)
-        (option_copied problem.entry) (option_copied end.entry) short frame_count
-        (map loaded_of each.entry.modules.now)
-        (option_map context_of (option_copied each.entry.context)) each.entry.has_symbols
-        (map shown_frame_of frames.now)) }
+    ensures { Adds result out.old out.new (thread_object (report_of each.entry.report)
+        (thread_value thread.now) (option_copied problem.entry) (option_copied end.entry) short
+        frame_count (context_in each.entry.context) (map shown_frame_of frames.now)) }
 {
     Members(&[
         ("thread_id", ThreadMember::Scalar(Scalar::Number(Some(thread.id as u64)))),
@@ -245,14 +208,14 @@ fn put_thread_members<'l>(
 
 // The value of a member of a thread.
 #[derive(Clone, Copy)]
-pub(crate) enum ThreadMember<'l, 's, 'n> {
+pub(crate) enum ThreadMember<'l, 'a, 's, 'n> {
     Scalar(Scalar<'l>),
     Range(Option<StackRange>),
     Short(Option<ShortContext>),
-    Frames(EachFrame<'l>, &'l [ShownFrame<'s, 'n>]),
+    Frames(EachFrame<'l, 'a, 's, 'n>, &'l [ShownFrame<'s, 'n>]),
 }
 
-impl ToJson for ThreadMember<'_, '_, '_> {
+impl ToJson for ThreadMember<'_, '_, '_, '_> {
     ghost use Rattle.crash_json.specs.Members.{thread_member};
 
     ghost json = { thread_member };
@@ -260,84 +223,68 @@ impl ToJson for ThreadMember<'_, '_, '_> {
     fn put(&self, out: &mut Writer, alloc: Global) -> Put {
         match self {
             ThreadMember::Scalar(scalar) => scalar.put(out, alloc),
-            ThreadMember::Range(range) => put_item_or_null(out, alloc, range, &RangeJson),
-            ThreadMember::Short(short) => put_item_or_null(out, alloc, short, &ShortJson),
+            ThreadMember::Range(range) => put_or_null(out, alloc, range),
+            ThreadMember::Short(short) => put_or_null(out, alloc, short),
             ThreadMember::Frames(each, frames) => put_frames(out, alloc, each, frames),
         }
     }
 }
 
-// Gives a range of addresses its JSON value.
-#[derive(Clone, Copy)]
-struct RangeJson;
-
-impl ItemJson<StackRange> for RangeJson {
+impl ToJson for StackRange {
     ghost use Rattle.crash_json.specs.Threads.{range_json};
 
-    ghost json_of = { λ _ r. range_json r };
+    ghost json = { range_json };
 
     #[tactic(auto, unfolding(crate::specs::Threads::range_json))]
-    fn put_item(&self, item: &StackRange, out: &mut Writer, alloc: Global) -> Put {
+    fn put(&self, out: &mut Writer, alloc: Global) -> Put {
         Members(&[
-            ("base_addr", Scalar::Hex(Some(item.base))),
-            ("size", Scalar::Number(Some(item.size))),
+            ("base_addr", Scalar::Hex(Some(self.base))),
+            ("size", Scalar::Number(Some(self.size))),
         ])
         .put(out, alloc)
     }
 }
 
-// Gives what there is of a context that is cut its JSON value.
-#[derive(Clone, Copy)]
-struct ShortJson;
-
-impl ItemJson<ShortContext> for ShortJson {
+impl ToJson for ShortContext {
     ghost use Rattle.crash_json.specs.Threads.{short_json};
 
-    ghost json_of = { λ _ s. short_json s };
+    ghost json = { short_json };
 
     #[tactic(auto, unfolding(crate::specs::Threads::short_json))]
-    fn put_item(&self, item: &ShortContext, out: &mut Writer, alloc: Global) -> Put {
+    fn put(&self, out: &mut Writer, alloc: Global) -> Put {
         Members(&[
-            ("size", Scalar::Count(Some(item.size))),
-            ("whole", Scalar::Count(Some(item.whole))),
+            ("size", Scalar::Count(Some(self.size))),
+            ("whole", Scalar::Count(Some(self.whole))),
         ])
         .put(out, alloc)
     }
 }
 
 /// Puts the thread that crashed, with its index and the registers of its first frame, or `null`.
-pub(crate) fn put_crashing(
-    out: &mut Writer,
-    alloc: Global,
-    by: &EachThread<'_, '_, '_>,
-    threads: &CrashThreads,
-) -> Put
-    ensures { Puts result out.old out.new (crashing_json by.now.limit
-        (option_map symbolized_of (option_copied by.now.symbols))
-        (map loaded_of by.now.modules.now) (threads_of threads.now)) }
+pub(crate) fn put_crashing(out: &mut Writer, alloc: Global, report: Report<'_, '_, '_, '_>) -> Put
+    ensures { Puts result out.old out.new (crashing_json (report_of report.entry)) }
 {
-    match threads.crashed() {
-        Some((index, thread)) => put_indexed(out, alloc, by, index, thread)?,
+    match report.crash.threads.crashed() {
+        Some((index, thread)) => put_indexed(out, alloc, report, index, thread)?,
         None => out.null()?,
     }
     Ok(())
 }
 
 // Puts a thread with its index.
-#[tactic(auto, using(json_tree::proofs::Tokens::object_of_members))]
+#[tactic(auto, using(crate::proofs::Tokens::object_of_members))]
 fn put_indexed(
     out: &mut Writer,
     alloc: Global,
-    by: &EachThread<'_, '_, '_>,
+    report: Report<'_, '_, '_, '_>,
     index: usize,
     thread: &CrashThread,
 ) -> Put
-    ensures { Puts result out.old out.new (indexed_json by.now.limit
-        (option_map symbolized_of (option_copied by.now.symbols))
-        (map loaded_of by.now.modules.now) index (thread_value thread.now)) }
+    ensures { Puts result out.old out.new (indexed_json (report_of report.entry) index
+        (thread_value thread.now)) }
 {
     out.begin_object()?;
-    put_indexed_members(out, alloc, by, index, thread)?;
+    put_indexed_members(out, alloc, report, index, thread)?;
     out.end_object()?;
     Ok(())
 }
@@ -345,17 +292,16 @@ fn put_indexed(
 fn put_indexed_members(
     out: &mut Writer,
     alloc: Global,
-    by: &EachThread<'_, '_, '_>,
+    report: Report<'_, '_, '_, '_>,
     index: usize,
     thread: &CrashThread,
 ) -> Put
     ensures { Adds result out.old out.new ((codes "threads_index", count index)
-        ∷ thread_members by.now.limit (option_map symbolized_of (option_copied by.now.symbols))
-        (map loaded_of by.now.modules.now) (thread_value thread.now).context index
+        ∷ thread_members (report_of report.entry) (thread_value thread.now).context index
         (thread_value thread.now)) }
 {
     Members(&[("threads_index", Scalar::Count(Some(index)))]).add(out, alloc)?;
-    put_thread(out, alloc, by, thread.context.as_ref(), index, thread)?;
+    put_thread(out, alloc, report, thread.context.as_ref(), index, thread)?;
     Ok(())
 }
 

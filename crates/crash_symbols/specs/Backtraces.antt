@@ -3,7 +3,6 @@ use Rattle.std.specs.Prelude.{ℕ, List, length, map, Option}
 use Rattle.std.specs.List.{range_with_len}
 use Rattle.std.specs.Option.{option_map}
 use Rattle.minidump.specs.declared.MinidumpContext.{MinidumpContext}
-use Rattle.minidump.specs.Below.Modules.Module.{ModuleValue}
 use Rattle.breakpad_symbols.specs.SymbolFile.{SymbolsValue}
 use Rattle.stack_walk.specs.declared.frame.StackFrame.{StackFrame}
 use Rattle.stack_walk.specs.Frames.{StackValue}
@@ -38,20 +37,20 @@ backtraces_of b = map (option_map backtrace_of) b.threads.items
 -- ---- the backtraces of a crash
 
 -- a frame with its module and its names
-abbrev pub frame_by : List ModuleValue → List (Option SymbolsValue) → StackFrame → NamedFrameValue
-frame_by modules files f = named_in files (frame_in modules f)
+abbrev pub frame_by : StackValue → List (Option SymbolsValue) → StackFrame → NamedFrameValue
+frame_by s files f = named_in files (frame_in s f)
 
 -- a walk with the module and the names of each frame
-abbrev pub backtrace_by : List ModuleValue → List (Option SymbolsValue) → SymbolWalkValue → BacktraceValue
-backtrace_by modules files w = record {
-  frames = map (λ f. frame_by modules files f.frame) w.frames;
-  candidates = map (frame_by modules files) w.candidates;
+abbrev pub backtrace_by : StackValue → List (Option SymbolsValue) → SymbolWalkValue → BacktraceValue
+backtrace_by s files w = record {
+  frames = map (λ f. frame_by s files f.frame) w.frames;
+  candidates = map (frame_by s files) w.candidates;
   end = w.end;
 }
 
 -- the backtrace of a context on a stack, with at most so many candidates
 abbrev pub backtrace_on : KnownSymbols → ℕ → StackValue × MinidumpContext → BacktraceValue
-backtrace_on s scan walked = backtrace_by walked.0.modules s.files
+backtrace_on s scan walked = backtrace_by walked.0 s.files
     (symbol_walk_in walked.0 s.files walked.1 scan)
 
 -- the backtrace of a thread: none where it has no walk

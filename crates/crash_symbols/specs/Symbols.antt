@@ -1,9 +1,10 @@
 -- The symbol files of a process's modules.
-use Rattle.std.specs.Prelude.{ℕ, List, map, slice_get, Option}
+use Rattle.std.specs.Prelude.{ℕ, Bool, false, true, List, map, slice_get, Option}
 use Rattle.std.specs.Option.{option_map, option_map_or}
 use Rattle.breakpad_symbols.specs.SymbolFile.{SymbolsValue, symbols_of}
 use Rattle.crash_symbols.specs.declared.symbols.SymbolState.{SymbolState}
-use Rattle.crash_symbols.specs.declared.symbols.SymbolState.TheVariants.{Unwanted}
+use Rattle.crash_symbols.specs.declared.symbols.SymbolState.TheVariants.{Corrupt, Loaded, Missing}
+use Rattle.crash_symbols.specs.declared.symbols.SymbolState.TheVariants.{OutOfMemory, Unwanted}
 use Rattle.crash_symbols.specs.declared.symbols.Symbols.{Symbols}
 
 -- what the symbol file of each module says, where it is known, and what is known of the file, both by
@@ -22,3 +23,11 @@ known_of s = record {
 -- the state of the symbol file of the module of an index: unwanted beyond the list
 abbrev pub state_at : List SymbolState → ℕ → SymbolState
 state_at states index = option_map_or (λ state. state) (slice_get states index) Unwanted
+
+-- a state says that symbols are there
+unfoldable pub are_loaded : SymbolState → Bool
+are_loaded Unwanted = false
+are_loaded Missing = false
+are_loaded Loaded = true
+are_loaded Corrupt = false
+are_loaded OutOfMemory = false

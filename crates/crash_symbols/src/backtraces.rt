@@ -1,7 +1,6 @@
 ghost use Rattle.std.specs.Prelude.{◌≡◌, IfOk, IsOkUnless, length, map};
 ghost use Rattle.std.specs.List.{range_with_len};
 ghost use Rattle.std.specs.Option.{option_map};
-ghost use Rattle.minidump.specs.Promise.{module_list_stream};
 ghost use Rattle.stack_walk.specs.Frames.{stack_of};
 ghost use Rattle.crash.specs.Crash.{crash_of};
 ghost use Rattle.crash.specs.Frames.{walked_of};
@@ -15,7 +14,7 @@ ghost use Rattle.crash_symbols.specs.Symbols.{known_of};
 use crate::names::named_in;
 use crate::{NamedFrame, Symbols};
 use crash::{Crash, frame_in};
-use minidump::{Error, MinidumpContext, MinidumpModuleList};
+use minidump::{Error, MinidumpContext};
 use stack_walk::{Stack, StackFrame};
 use std::alloc::{AllocError, Global};
 use symbol_walk::{KnownFrame, SymbolWalk, SymbolWalkEnd, walk_by_symbols};
@@ -118,21 +117,21 @@ fn backtrace_on<'l>(
     ensures memory { IsOkUnless result Error.OutOfMemory }
 {
     let walk = walk_by_symbols(alloc, stack, context, symbols.files.as_slice(), scan)?;
-    Ok(backtrace_by(alloc, stack.modules, symbols, &walk)?)
+    Ok(backtrace_by(alloc, stack, symbols, &walk)?)
 }
 
 // Returns a walk with the module and the names of each frame.
 fn backtrace_by<'l>(
     alloc: Global,
-    modules: &MinidumpModuleList,
+    stack: &Stack<'_, '_>,
     symbols: &Symbols<'l>,
     walk: &SymbolWalk,
 ) -> Result<Backtrace<'l>, AllocError>
-    ensures { IfOk result (λ b. backtrace_of b ≡ backtrace_by (module_list_stream.value modules.now)
+    ensures { IfOk result (λ b. backtrace_of b ≡ backtrace_by (stack_of stack.now)
         (known_of symbols.now).files (symbol_walk_of walk.now)) }
 {
-    let frames = frames_by(alloc, modules, symbols, walk.frames.as_slice())?;
-    let candidates = candidates_by(alloc, modules, symbols, walk.candidates.as_slice())?;
+    let frames = frames_by(alloc, stack, symbols, walk.frames.as_slice())?;
+    let candidates = candidates_by(alloc, stack, symbols, walk.candidates.as_slice())?;
     Ok(Backtrace {
         frames,
         candidates,
@@ -143,17 +142,17 @@ fn backtrace_by<'l>(
 // Returns frames, each with its module and its names.
 fn frames_by<'l>(
     alloc: Global,
-    modules: &MinidumpModuleList,
+    stack: &Stack<'_, '_>,
     symbols: &Symbols<'l>,
     frames: &[KnownFrame],
 ) -> Result<Vec<NamedFrame<'l>>, AllocError>
     ensures { IfOk result (λ named. map named_of named.items
-        ≡ map (λ f. frame_by (module_list_stream.value modules.now) (known_of symbols.now).files
-        f.frame) (map frame_of frames.now)) }
+        ≡ map (λ f. frame_by (stack_of stack.now) (known_of symbols.now).files f.frame)
+        (map frame_of frames.now)) }
 {
     let mut named = Vec::new(alloc);
     for known in frames {
-        named.push(frame_by(alloc, modules, symbols, &known.frame)?)?;
+        named.push(frame_by(alloc, stack, symbols, &known.frame)?)?;
     }
     Ok(named)
 }
@@ -161,17 +160,16 @@ fn frames_by<'l>(
 // Returns candidates, each with its module and its names.
 fn candidates_by<'l>(
     alloc: Global,
-    modules: &MinidumpModuleList,
+    stack: &Stack<'_, '_>,
     symbols: &Symbols<'l>,
     frames: &[StackFrame],
 ) -> Result<Vec<NamedFrame<'l>>, AllocError>
     ensures { IfOk result (λ named. map named_of named.items
-        ≡ map (frame_by (module_list_stream.value modules.now) (known_of symbols.now).files)
-        frames.now) }
+        ≡ map (frame_by (stack_of stack.now) (known_of symbols.now).files) frames.now) }
 {
     let mut named = Vec::new(alloc);
     for frame in frames {
-        named.push(frame_by(alloc, modules, symbols, frame)?)?;
+        named.push(frame_by(alloc, stack, symbols, frame)?)?;
     }
     Ok(named)
 }
@@ -179,12 +177,12 @@ fn candidates_by<'l>(
 // Returns a frame with its module and its names.
 fn frame_by<'l>(
     alloc: Global,
-    modules: &MinidumpModuleList,
+    stack: &Stack<'_, '_>,
     symbols: &Symbols<'l>,
     frame: &StackFrame,
 ) -> Result<NamedFrame<'l>, AllocError>
-    ensures { IfOk result (λ f. named_of f ≡ frame_by (module_list_stream.value modules.now)
-        (known_of symbols.now).files frame.now) }
+    ensures { IfOk result (λ f. named_of f
+        ≡ frame_by (stack_of stack.now) (known_of symbols.now).files frame.now) }
 {
-    named_in(alloc, symbols, frame_in(modules, frame))
+    named_in(alloc, symbols, frame_in(stack, frame))
 }

@@ -14,6 +14,7 @@ use Rattle.crash.specs.declared.unreadable_modules.ModulePart.{ModulePart}
 use Rattle.crash.specs.declared.unreadable_modules.ModulePart.TheVariants.{CodeView, Name}
 use Rattle.crash.specs.declared.unreadable_modules.UnreadableModule.{UnreadableModule}
 use Rattle.crash.specs.Crash.{CrashValue}
+use Rattle.crash_text.specs.Words.{id_row}
 
 -- the name of a type of stream, where it has one
 abbrev pub name_of_type : ℕ → Option MINIDUMP_STREAM_TYPE → List ℕ
@@ -28,19 +29,14 @@ stream_text number = name_of_type number (stream_type_of number)
 unfoldable pub stream_row : List ℕ → List ℕ → List ℕ
 stream_row stream error = concat (codes "can't be read: " ∷ stream ∷ codes ": " ∷ error ∷ [])
 
--- the line of bytes that are not in the file, by what they are and the id of their thread
-unfoldable pub outside_row : List ℕ → ℕ → List ℕ
-outside_row what thread = concat (codes "outside the file: " ∷ what ∷ codes " " ∷ decimal thread
-    ∷ codes " (" ∷ hex thread ∷ codes ")" ∷ [])
-
--- the line of something that can't be read
+-- the line of something that can't be read, or of bytes that are not in the file
 abbrev pub damage_row : Damage → List ℕ
 damage_row (Stream number error) = stream_row (stream_text number) (name_of_error error)
 damage_row (Exception error) = stream_row (codes "an exception before the last") (name_of_error error)
 damage_row (ExceptionContext thread) =
-    outside_row (codes "the context of the exception on thread") thread
-damage_row (ThreadContext thread) = outside_row (codes "the context of thread") thread
-damage_row (Stack thread) = outside_row (codes "the stack of thread") thread
+    id_row (codes "outside the file: the context of the exception on thread ") thread
+damage_row (ThreadContext thread) = id_row (codes "outside the file: the context of thread ") thread
+damage_row (Stack thread) = id_row (codes "outside the file: the stack of thread ") thread
 
 -- the words for a part of a module's entry
 abbrev pub part_words : ModulePart → List ℕ

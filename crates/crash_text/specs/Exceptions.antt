@@ -16,14 +16,9 @@ use Rattle.crash_text.specs.Lines.{if_some}
 use Rattle.crash_text.specs.Point.{point_lines}
 use Rattle.crash_text.specs.Records.{described_text, record_text}
 use Rattle.crash_text.specs.Registers.{registers_lines}
-use Rattle.crash_text.specs.Words.{or_empty, text_lines, unless_empty}
+use Rattle.crash_text.specs.Words.{id_row, or_empty, text_lines, unless_empty}
 
 -- ---- the crash
-
--- the line of the thread that crashed
-unfoldable pub crashed_row : ℕ → List ℕ
-crashed_row id = concat (codes "crashed thread " ∷ decimal id ∷ codes " (" ∷ hex id ∷ codes ")"
-    ∷ [])
 
 -- the line of the code of an exception, of where it happened, and of what else its record says
 unfoldable pub code_line : ExceptionValue → List ℕ
@@ -32,7 +27,7 @@ code_line e =
 
 -- the crash, by the exception that counts, with LLDB's description of it
 abbrev pub counted_lines : CrashValue → ExceptionValue → List (List ℕ)
-counted_lines c e = crashed_row e.thread
+counted_lines c e = id_row (codes "crashed thread ") e.thread
     ∷ (if_some (address_lines c) c.cause.address
     ++ (text_lines (codes "reason  ") e.reason
     ++ (code_line e

@@ -16,7 +16,7 @@ use Rattle.minidump.specs.Below.Records.Record as mac
 use Rattle.minidump.specs.Below.Records.Record.{MacRecord, text_of}
 use Rattle.crash.specs.Contents.{MessageStreamValues}
 use Rattle.crash_text.specs.Lines.{if_ok, if_some}
-use Rattle.crash_text.specs.Words.{unless_empty}
+use Rattle.crash_text.specs.Words.{text_row, unless_empty}
 
 -- the words for the kind of an assertion, of those that Breakpad has
 abbrev pub kind_words : ℕ → List ℕ
@@ -36,8 +36,8 @@ assertion_line a = assertion_row a._type (text_or_empty a.expression) (text_or_e
     (text_or_empty a.file) a.line
 
 -- the line of an annotation without a name
-unfoldable pub text_row : List ℕ → List ℕ
-text_row text = concat (codes "annotation " ∷ text ∷ [])
+unfoldable pub unnamed_row : List ℕ → List ℕ
+unnamed_row text = concat (codes "annotation " ∷ text ∷ [])
 
 -- the line of an annotation: its name and its text
 unfoldable pub annotation_row : List ℕ × List ℕ → List ℕ
@@ -49,7 +49,7 @@ object_row e = annotation_row (e.0, annotation_text e.1)
 
 -- the annotations of a module: its list of texts, its dictionary, and those that have a type
 abbrev pub annotation_lines : Module → List (List ℕ)
-annotation_lines m = map text_row m.list_annotations ++ (map annotation_row m.simple_annotations
+annotation_lines m = map unnamed_row m.list_annotations ++ (map annotation_row m.simple_annotations
     ++ map object_row m.annotation_objects)
 
 -- whether a module has annotations
@@ -107,12 +107,8 @@ mac_numbers_lines r = mac_number_lines (codes "thread") (mac.thread r)
 abbrev pub record_lines : MacRecord → List (List ℕ)
 record_lines r = mac_texts_lines r ++ mac_numbers_lines r
 
--- the line of soft errors
-unfoldable pub soft_row : List ℕ → List ℕ
-soft_row text = concat (codes "soft errors " ∷ text ∷ [])
-
 -- all that the process said
 abbrev pub messages_lines : MessageStreamValues → List (List ℕ)
 messages_lines m = if_ok (λ a. assertion_line a ∷ []) m.assertion
     ++ (if_ok crashpad_lines m.crashpad ++ (if_ok (flat_map record_lines) m.mac_crash_info
-    ++ if_ok (λ t. soft_row t ∷ []) m.soft_errors))
+    ++ if_ok (λ t. text_row (codes "soft errors ") t ∷ []) m.soft_errors))

@@ -12,7 +12,7 @@ use Rattle.crash.specs.Modules.{LoadedValue}
 use Rattle.crash.specs.Point.{PointValue}
 use Rattle.crash_text.specs.Addresses.{address_line}
 use Rattle.crash_text.specs.Lines.{if_some}
-use Rattle.crash_text.specs.Words.{place_text}
+use Rattle.crash_text.specs.Words.{place_text, text_row}
 
 -- ---- the flags
 
@@ -28,14 +28,10 @@ flags_row flags = concat (codes "  " ∷ flat_map flag_words flags ∷ [])
 abbrev pub set_words : List ℕ → List ℕ
 set_words name = concat (codes " " ∷ name ∷ [])
 
--- the line of the flags that are set
-unfoldable pub set_row : List (List ℕ) → List ℕ
-set_row names = concat (codes "    flags set:" ∷ flat_map set_words names ∷ [])
-
--- the same where there are any
+-- the line of the flags that are set, where there are any
 abbrev pub set_lines : List (List ℕ) → List (List ℕ)
 set_lines [] = []
-set_lines (name ∷ names) = set_row (name ∷ names) ∷ []
+set_lines (name ∷ names) = text_row (codes "    flags set:") (flat_map set_words (name ∷ names)) ∷ []
 
 -- ---- the registers
 

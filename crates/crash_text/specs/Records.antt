@@ -28,9 +28,10 @@ user_words (Some user) = concat (codes ", user " ∷ decimal user ∷ [])
 user_words None = []
 
 -- the process that sent a signal, by its id
-abbrev pub process_words : ℕ → List ℕ
-process_words id = concat (codes ", sent by process " ∷ decimal id ∷ codes " (" ∷ hex id
+abbrev pub process_words : Option ℕ → List ℕ
+process_words (Some id) = concat (codes ", sent by process " ∷ decimal id ∷ codes " (" ∷ hex id
     ∷ codes ")" ∷ [])
+process_words None = codes ", sent by an unknown process"
 
 -- how it was sent, by the name of its `si_code`
 abbrev pub code_words : SignalCode → List ℕ

@@ -2,7 +2,6 @@
 use Rattle.std.specs.Prelude.{ℕ, ◌==◌, ◌++◌, List, [], ◌∷◌, codes, if◌then◌else◌}
 use Rattle.std.specs.Fmt.{decimal}
 use Rattle.std.specs.List.{concat}
-use Rattle.minidump.specs.Below.Bytes.Piece.{hex}
 use Rattle.minidump.specs.Below.Records.BootArgs.{BootArgs}
 use Rattle.minidump.specs.Below.System.Cpu.{cpu_name}
 use Rattle.minidump.specs.Below.System.Dates.{date_text_of}
@@ -11,7 +10,7 @@ use Rattle.crash.specs.Crash.{CrashValue}
 use Rattle.crash.specs.Process.{ProcessFacts, SystemValue}
 use Rattle.crash.specs.Release.{ReleaseValue}
 use Rattle.crash_text.specs.Lines.{if_ok, if_some}
-use Rattle.crash_text.specs.Words.{missing_lines, or_empty, text_lines, unless_empty}
+use Rattle.crash_text.specs.Words.{id_row, missing_lines, or_empty, text_lines, text_row, unless_empty}
 
 -- the line of a system by the names of its kind and of its processor: its version and its build, and
 -- how many processors there are
@@ -50,11 +49,7 @@ boot_lines b = text_lines (codes "boot arguments ") b.text
 -- when the dump was written, by the time stamp of its header; 0 says nothing
 unfoldable pub date_lines : ℕ → List (List ℕ)
 date_lines stamp =
-    if stamp == 0 then [] else concat (codes "dumped  " ∷ date_text_of stamp ∷ []) ∷ []
-
--- the line of the id of a process, after these words
-unfoldable pub id_row : List ℕ → ℕ → List ℕ
-id_row what id = concat (what ∷ decimal id ∷ codes " (" ∷ hex id ∷ codes ")" ∷ [])
+    if stamp == 0 then [] else text_row (codes "dumped  ") (date_text_of stamp) ∷ []
 
 -- the line of an amount between these words
 unfoldable pub amount_row : List ℕ → ℕ → List ℕ → List ℕ

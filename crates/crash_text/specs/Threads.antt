@@ -9,7 +9,6 @@ use Rattle.crash.specs.declared.contexts.ContextProblem.TheVariants.{NoSystem, N
 use Rattle.crash.specs.declared.frames.CrashFrame.{CrashFrame}
 use Rattle.crash.specs.declared.stacks.StackRange.{StackRange}
 use Rattle.crash.specs.Contexts.{ContextValue}
-use Rattle.crash.specs.Crash.{CrashValue}
 use Rattle.crash.specs.Process.{SystemValue}
 use Rattle.crash.specs.Threads.{ThreadValue, crashed_thread}
 use Rattle.crash_symbols.specs.Backtraces.{BacktraceValue}

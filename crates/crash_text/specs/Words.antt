@@ -31,6 +31,10 @@ text_row words text = concat (words ∷ text ∷ [])
 abbrev pub text_lines : List ℕ → Option (List ℕ) → List (List ℕ)
 text_lines words text = if_some (λ text. text_row words text ∷ []) text
 
+-- the line of the id of a process or a thread after its words
+unfoldable pub id_row : List ℕ → ℕ → List ℕ
+id_row words id = concat (words ∷ decimal id ∷ codes " (" ∷ hex id ∷ codes ")" ∷ [])
+
 -- the line of the number of something
 unfoldable pub count_row : List ℕ → ℕ → List ℕ
 count_row what count = concat (what ∷ codes " " ∷ decimal count ∷ [])

@@ -66,16 +66,10 @@ fn address_words(
     push_null(&mut words, facts.null_offset)?;
     words.push_str(canonical_words(facts.is_canonical))?;
     push_unloaded(&mut words, unloaded_at(unloaded, facts.unloaded))?;
-    push_thread(
-        &mut words,
-        ", in the stack of thread ",
-        thread_at(threads, facts.stack_of),
-    )?;
-    push_thread(
-        &mut words,
-        ", below the stack of thread ",
-        thread_at(threads, facts.below_stack),
-    )?;
+    let inside = thread_at(threads, facts.stack_of);
+    push_thread(&mut words, ", in the stack of thread ", inside)?;
+    let below = thread_at(threads, facts.below_stack);
+    push_thread(&mut words, ", below the stack of thread ", below)?;
     push_memory(&mut words, facts.memory)?;
     Ok(words)
 }

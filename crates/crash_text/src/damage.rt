@@ -1,11 +1,11 @@
-ghost use Rattle.std.specs.Prelude.{◌≡◌, [], ◌∷◌, IfOk, map, string_bytes};
+ghost use Rattle.std.specs.Prelude.{◌≡◌, [], ◌∷◌, IfOk, string_bytes};
 ghost use Rattle.crash.specs.Crash.{crash_of};
-ghost use Rattle.crash_text.specs.Damage.{damage_lines, damage_row, entries_lines};
-ghost use Rattle.crash_text.specs.Damage.{outside_row, part_words, stream_row, stream_text};
-ghost use Rattle.crash_text.specs.Damage.{unreadable_line};
+ghost use Rattle.crash_text.specs.Damage.{damage_lines, damage_row, entries_lines, part_words};
+ghost use Rattle.crash_text.specs.Damage.{stream_row, stream_text, unreadable_line};
 ghost use Rattle.crash_text.specs.Lines.{Adds};
 
 use crate::lines::{Added, push_line};
+use crate::words::push_id;
 use crash::{Crash, Damage, ModulePart, UnreadableModule};
 use minidump::format::MINIDUMP_STREAM_TYPE;
 use minidump::text::Piece::{Decimal, Hex, Words};
@@ -16,19 +16,13 @@ use std::alloc::{AllocError, Global};
 pub(crate) fn push_damage(out: &mut String, crash: &Crash<'_>) -> Added
     ensures { Adds out.old out.new (damage_lines (crash_of crash.now)) result }
 {
-    push_each(out, crash.damage.as_slice())?;
-    push_each_module(out, crash.modules.unreadable.as_slice())?;
-    push_entries(out, crash.directory.entries_outside)
-}
-
-// Appends the line of each of them.
-fn push_each(out: &mut String, damage: &[Damage]) -> Added
-    ensures { Adds out.old out.new (map damage_row damage.now) result }
-{
-    for item in damage {
+    for item in crash.damage.as_slice() {
         push_item(out, item)?;
     }
-    Ok(())
+    for module in crash.modules.unreadable.as_slice() {
+        push_module(out, module)?;
+    }
+    push_entries(out, crash.directory.entries_outside)
 }
 
 // Appends the line of something that can't be read.
@@ -45,11 +39,15 @@ fn push_item(out: &mut String, damage: &Damage) -> Added
             "an exception before the last",
             error.name(),
         ),
-        Damage::ExceptionContext { thread } => {
-            push_outside(out, "the context of the exception on thread", thread)
+        Damage::ExceptionContext { thread } => push_id(
+            out,
+            "outside the file: the context of the exception on thread ",
+            thread,
+        ),
+        Damage::ThreadContext { thread } => {
+            push_id(out, "outside the file: the context of thread ", thread)
         }
-        Damage::ThreadContext { thread } => push_outside(out, "the context of thread", thread),
-        Damage::Stack { thread } => push_outside(out, "the stack of thread", thread),
+        Damage::Stack { thread } => push_id(out, "outside the file: the stack of thread ", thread),
     }
 }
 
@@ -59,27 +57,6 @@ fn push_stream<'t>(out: &mut String, stream: &'t str, error: &'t str) -> Added
     ensures { Adds out.old out.new (stream_row stream.now error.now ∷ []) result }
 {
     push_line(out, &[Words("can't be read: "), Words(stream), Words(": "), Words(error)])
-}
-
-#[rattlefmt::skip]
-#[tactic(auto, unfolding(crate::specs::Damage::outside_row))]
-fn push_outside(out: &mut String, what: &str, thread: u32) -> Added
-    ensures { Adds out.old out.new (outside_row what.now thread ∷ []) result }
-{
-    push_line(out, &[
-        Words("outside the file: "), Words(what), Words(" "), Decimal(thread as u64), Words(" ("),
-        Hex(thread as u64), Words(")"),
-    ])
-}
-
-// Appends the line of each module of which a part can't be read.
-fn push_each_module(out: &mut String, modules: &[UnreadableModule]) -> Added
-    ensures { Adds out.old out.new (map unreadable_line modules.now) result }
-{
-    for module in modules {
-        push_module(out, module)?;
-    }
-    Ok(())
 }
 
 // Returns the words for a part of a module's entry.

@@ -9,7 +9,7 @@ ghost use Rattle.crash_text.specs.Frames.{name_text, offset_text, own_entry, sou
 
 use crate::lines::Added;
 use crash::CrashFrame;
-use crash_symbols::{FrameFunction, InlinedCall, ShownFrame, SourceLine};
+use crash_symbols::{InlinedCall, ShownFrame, SourceLine};
 use minidump::text::Piece::{Decimal, Hex, Words};
 use minidump::text::format_pieces;
 use minidump_bytes::LinuxOsStr;
@@ -78,27 +78,17 @@ fn push_calls<'l>(
 fn own_entry<'l>(frame: &ShownFrame<'_, 'l>) -> FrameEntry<'l>
     ensures { entry_of result ≡ own_entry (shown_frame_of frame.now) }
 {
+    let (function, offset) = match frame.function {
+        Some(function) => (Some(function.name), Some(function.offset)),
+        None => (None, None),
+    };
     FrameEntry {
         frame: frame.frame,
-        function: name_of(frame.function),
-        offset: offset_of(frame.function),
+        function,
+        offset,
         source: frame.line,
         is_inline: false,
     }
-}
-
-// Returns the name of a function.
-fn name_of<'l>(function: Option<FrameFunction<'l>>) -> Option<LinuxOsStr<'l>>
-    ensures { option_map text_of result ≡ option_map (λ f. text_of f.name) function.entry }
-{
-    Some(function?.name)
-}
-
-// Returns the offset of a frame in its function.
-fn offset_of(function: Option<FrameFunction<'_>>) -> Option<u64>
-    ensures { result ≡ option_map (λ f. f.offset) function.entry }
-{
-    Some(function?.offset)
 }
 
 // ---- words

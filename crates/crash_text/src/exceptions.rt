@@ -2,13 +2,11 @@ ghost use Rattle.std.specs.Prelude.{◌≡◌, [], ◌∷◌, IfOk, map, string_
 ghost use Rattle.std.specs.Option.{option_copied, option_map};
 ghost use Rattle.minidump.specs.Below.Contexts.Context.{map_ok};
 ghost use Rattle.crash.specs.Cause.{exception_of};
-ghost use Rattle.crash.specs.Counting.{counted};
 ghost use Rattle.crash.specs.Crash.{crash_of};
 ghost use Rattle.crash_text.specs.Exceptions.{address_text, code_line, context_words};
-ghost use Rattle.crash_text.specs.Exceptions.{counted_lines, crash_lines, crashed_row};
-ghost use Rattle.crash_text.specs.Exceptions.{each_exception, exception_line, none_lines};
-ghost use Rattle.crash_text.specs.Exceptions.{read_line, read_row, several_lines, several_row};
-ghost use Rattle.crash_text.specs.Exceptions.{unread_row};
+ghost use Rattle.crash_text.specs.Exceptions.{counted_lines, crash_lines};
+ghost use Rattle.crash_text.specs.Exceptions.{exception_line, none_lines, read_line, read_row};
+ghost use Rattle.crash_text.specs.Exceptions.{several_lines, several_row, unread_row};
 ghost use Rattle.crash_text.specs.Lines.{Adds, if_some};
 
 use crate::addresses::push_address;
@@ -16,7 +14,7 @@ use crate::lines::{Added, push_line};
 use crate::point::push_point;
 use crate::records::{described_text, record_text};
 use crate::registers::push_registers;
-use crate::words::{or_empty, push_text, push_words, unless_empty};
+use crate::words::{or_empty, push_id, push_text, push_words, unless_empty};
 use crash::{ContextProblem, Crash, CrashException};
 use minidump::Error;
 use minidump::text::Piece::{Decimal, Hex, Words};
@@ -57,23 +55,13 @@ fn push_counted_lines(out: &mut String, crash: &Crash<'_>, exception: &CrashExce
     ensures { Adds out.old out.new
         (counted_lines (crash_of crash.now) (exception_of exception.now)) result }
 {
-    push_crashed(out, exception.thread)?;
+    push_id(out, "crashed thread ", exception.thread)?;
     push_address(out, crash)?;
     push_text(out, "reason  ", &exception.reason)?;
     push_code(out, exception)?;
     push_text(out, "description ", &exception.description)?;
     push_registers(out, crash, exception)?;
     push_point(out, crash)
-}
-
-#[rattlefmt::skip]
-#[tactic(auto, unfolding(crate::specs::Exceptions::crashed_row))]
-fn push_crashed(out: &mut String, id: u32) -> Added
-    ensures { Adds out.old out.new (crashed_row id ∷ []) result }
-{
-    push_line(out, &[
-        Words("crashed thread "), Decimal(id as u64), Words(" ("), Hex(id as u64), Words(")"),
-    ])
 }
 
 // Appends the code of an exception, where it happened, and what else its record says.
@@ -100,10 +88,11 @@ fn push_several(
 {
     if exceptions.len() > 1 {
         push_several_row(out, exceptions.len(), counts)?;
-        push_each(out, exceptions)
-    } else {
-        Ok(())
+        for (number, exception) in exceptions.iter().enumerate() {
+            push_exception(out, number, exception)?;
+        }
     }
+    Ok(())
 }
 
 #[rattlefmt::skip]
@@ -118,17 +107,6 @@ fn push_several_row(out: &mut String, count: usize, counts: Option<usize>) -> Ad
         ]),
         None => push_line(out, &[Words("exceptions "), Decimal(count as u64)]),
     }
-}
-
-// Appends the line of each exception.
-fn push_each(out: &mut String, exceptions: &[Result<CrashException, Error>]) -> Added
-    ensures { Adds out.old out.new
-        (each_exception (map (map_ok exception_of) exceptions.now)) result }
-{
-    for (number, exception) in exceptions.iter().enumerate() {
-        push_exception(out, number, exception)?;
-    }
-    Ok(())
 }
 
 // Appends the line of an exception, or of why it can't be read.

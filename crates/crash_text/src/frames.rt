@@ -89,16 +89,8 @@ pub(crate) fn push_frames_of(
         ++ map (λ f. f.frame) (printed_frames limits.now is_whole (shown_of walk.now))) }
 {
     let printed = printed_frames(*frames.allocator(), limits, is_whole, walk)?;
-    push_unnamed(frames, printed.as_slice())
-}
-
-// Appends frames without their names to a list.
-fn push_unnamed(frames: &mut Vec<CrashFrame>, shown: &[ShownFrame<'_, '_>]) -> Added
-    ensures { OnOk result (frames.new.items ≡ frames.old.items
-        ++ map (λ f. f.frame) (map shown_frame_of shown.now)) }
-{
-    for frame in shown {
-        frames.push(frame.frame)?;
+    for shown in printed.as_slice() {
+        frames.push(shown.frame)?;
     }
     Ok(())
 }
@@ -154,15 +146,8 @@ fn push_entry(
     let source = source_text(alloc, entry.source)?;
     let place = place_text(alloc, modules, " in no module", entry.frame.module)?;
     let found = found_text(entry.is_inline, entry.frame.trust);
-    push_row(
-        out,
-        number,
-        &entry.frame,
-        name.as_str(),
-        source.as_str(),
-        place.as_str(),
-        found,
-    )
+    let (name, source, place) = (name.as_str(), source.as_str(), place.as_str());
+    push_row(out, number, &entry.frame, name, source, place, found)
 }
 
 #[rattlefmt::skip]

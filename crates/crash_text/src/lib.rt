@@ -35,7 +35,7 @@
 //!   each kind of handles, and Linux's numbers of limits and of variables of the environment.
 //!
 //! A frame's line has its number, its address, its module with the offset in it, and how it was
-//! found. The address of a caller is that of its call: the return address less one. The candidates
+//! found. The address of a caller lies in its call, below the return address. The candidates
 //! of the stack follow the frames, numbered on.
 //!
 //! By symbols the frames are those of the backtraces that they give. A frame's line has its function,

@@ -1,5 +1,4 @@
-ghost use Rattle.std.specs.Prelude.{◌≡◌, [], ◌∷◌, ◌||◌, IfOk, codes, is_none, map};
-ghost use Rattle.std.specs.Prelude.{string_bytes};
+ghost use Rattle.std.specs.Prelude.{◌≡◌, [], ◌∷◌, IfOk, codes, map, string_bytes};
 ghost use Rattle.minidump.specs.Below.Bytes.LinuxOsStr.{parts_of};
 ghost use Rattle.minidump.specs.Below.Contexts.Context.{map_ok};
 ghost use Rattle.minidump.specs.Below.MemoryLists.Unified.{unified_list, unified_region};
@@ -11,13 +10,11 @@ ghost use Rattle.crash.specs.HandleKinds.{kind_of};
 ghost use Rattle.crash.specs.Linux.{limit_of};
 ghost use Rattle.crash.specs.Modules.{unloaded_module_of};
 ghost use Rattle.crash_text.specs.Lines.{Adds, if_some};
-ghost use Rattle.crash_text.specs.Lists.{all_handles, entry_line, environment_lines, error_words};
-ghost use Rattle.crash_text.specs.Lists.{handle_line, handles_lines, kind_line, limit_line};
-ghost use Rattle.crash_text.specs.Lists.{limits_lines, list_lines, lists_lines, memory_lines};
-ghost use Rattle.crash_text.specs.Lists.{process_lists_lines, region_line, unloaded_line};
+ghost use Rattle.crash_text.specs.Lists.{all_handles, entry_line, entry_row, environment_lines};
+ghost use Rattle.crash_text.specs.Lists.{error_words, handle_line, handles_lines, kind_line};
+ghost use Rattle.crash_text.specs.Lists.{limit_line, limits_lines, list_lines, lists_lines};
+ghost use Rattle.crash_text.specs.Lists.{memory_lines, process_lists_lines, region_line, unloaded_line};
 ghost use Rattle.crash_text.specs.Lists.{unloaded_lines, value_text, variable_line, variable_row};
-ghost use Rattle.crash_text.specs.Lists.{entry_row};
-ghost use Rattle.crash_text.specs.Modules.{all_modules};
 ghost use Rattle.crash_text.specs.Page.{page_of};
 ghost use Rattle.crash_text.specs.Words.{count_row};
 
@@ -76,23 +73,14 @@ fn push_unloaded(
         Ok(_) => {
             push_count(out, "unloaded modules", modules.len())?;
             if all_modules(limits) {
-                push_each_unloaded(out, modules)
-            } else {
-                Ok(())
+                for module in modules {
+                    push_unloaded_module(out, module)?;
+                }
             }
+            Ok(())
         }
         Err(_) => Ok(()),
     }
-}
-
-// Appends the lines of modules that were unloaded.
-fn push_each_unloaded(out: &mut String, modules: &[UnloadedModule]) -> Added
-    ensures { Adds out.old out.new (map unloaded_line (map unloaded_module_of modules.now)) result }
-{
-    for module in modules {
-        push_unloaded_module(out, module)?;
-    }
-    Ok(())
 }
 
 // Appends the line of a module that was unloaded, with its end.
@@ -117,18 +105,9 @@ fn push_streams(out: &mut String, limits: &TextLimits, entries: &[StreamEntry]) 
 {
     push_count(out, "streams", entries.len())?;
     if limits.lists {
-        push_each_stream(out, entries)
-    } else {
-        Ok(())
-    }
-}
-
-// Appends the lines of streams.
-fn push_each_stream(out: &mut String, entries: &[StreamEntry]) -> Added
-    ensures { Adds out.old out.new (map entry_line entries.now) result }
-{
-    for entry in entries {
-        push_stream(out, entry)?;
+        for entry in entries {
+            push_stream(out, entry)?;
+        }
     }
     Ok(())
 }
@@ -257,25 +236,18 @@ fn push_handles(
         Ok(stream) => {
             let handles = stream.handles.as_slice();
             push_count(out, "handles", handles.len())?;
-            push_each_kind(out, kinds)?;
-            if all_handles(limits) {
-                push_each_handle(out, handles)
-            } else {
-                Ok(())
+            for kind in kinds {
+                push_kind(out, kind)?;
             }
+            if all_handles(limits) {
+                for handle in handles {
+                    push_handle(out, handle)?;
+                }
+            }
+            Ok(())
         }
         Err(_) => Ok(()),
     }
-}
-
-// Appends the lines of kinds of handles.
-fn push_each_kind(out: &mut String, kinds: &[HandleKind]) -> Added
-    ensures { Adds out.old out.new (map kind_line (map kind_of kinds.now)) result }
-{
-    for kind in kinds {
-        push_kind(out, kind)?;
-    }
-    Ok(())
 }
 
 #[rattlefmt::skip]
@@ -293,16 +265,6 @@ fn all_handles(limits: &TextLimits) -> bool
     ensures { result ≡ all_handles limits.now }
 {
     limits.lists || limits.handles
-}
-
-// Appends the lines of handles.
-fn push_each_handle(out: &mut String, handles: &[MinidumpHandleDescriptor]) -> Added
-    ensures { Adds out.old out.new (map handle_line (map handle_of handles.now)) result }
-{
-    for handle in handles {
-        push_handle(out, handle)?;
-    }
-    Ok(())
 }
 
 // Appends the line of a handle.
@@ -346,23 +308,14 @@ fn push_limits(
             let items = limits_of(*out.allocator(), found)?;
             push_count(out, "limits", items.len())?;
             if limits.lists {
-                push_each_limit(out, items.as_slice())
-            } else {
-                Ok(())
+                for item in items.as_slice() {
+                    push_limit(out, item)?;
+                }
             }
+            Ok(())
         }
         Err(_) => Ok(()),
     }
-}
-
-// Appends the lines of limits.
-fn push_each_limit(out: &mut String, items: &[ProcessLimit]) -> Added
-    ensures { Adds out.old out.new (map limit_line (map limit_of items.now)) result }
-{
-    for item in items {
-        push_limit(out, item)?;
-    }
-    Ok(())
 }
 
 #[rattlefmt::skip]
@@ -440,12 +393,10 @@ fn push_variable(out: &mut String, variable: &(LinuxOsStr<'_>, LinuxOsStr<'_>)) 
     push_variable_row(out, name.as_str(), value.as_str())
 }
 
+#[rattlefmt::skip]
 #[tactic(auto, unfolding(crate::specs::Lists::variable_row))]
 fn push_variable_row<'t>(out: &mut String, name: &'t str, value: &'t str) -> Added
     ensures { Adds out.old out.new (variable_row name.now value.now ∷ []) result }
 {
-    push_line(
-        out,
-        &[Words("environment "), Words(name), Words("="), Words(value)],
-    )
+    push_line(out, &[Words("environment "), Words(name), Words("="), Words(value)])
 }

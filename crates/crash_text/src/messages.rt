@@ -1,4 +1,4 @@
-ghost use Rattle.std.specs.Prelude.{◌≡◌, [], ◌∷◌, IfOk, map, string_bytes};
+ghost use Rattle.std.specs.Prelude.{◌≡◌, [], ◌∷◌, IfOk, codes, map, string_bytes};
 ghost use Rattle.std.specs.List.{flat_map};
 ghost use Rattle.std.specs.Option.{option_copied};
 ghost use Rattle.minidump.specs.Below.Contexts.Context.{map_ok};
@@ -17,10 +17,11 @@ ghost use Rattle.crash_text.specs.Messages.{assertion_row, crashpad_lines, has_a
 ghost use Rattle.crash_text.specs.Messages.{kind_words, mac_number_lines, mac_numbers_lines};
 ghost use Rattle.crash_text.specs.Messages.{mac_text_lines, mac_texts_lines, messages_lines};
 ghost use Rattle.crash_text.specs.Messages.{module_lines, module_row, object_row, record_lines};
-ghost use Rattle.crash_text.specs.Messages.{report_line, report_row, soft_row, text_row};
+ghost use Rattle.crash_text.specs.Messages.{report_line, report_row, unnamed_row};
+ghost use Rattle.crash_text.specs.Words.{text_row};
 
 use crate::lines::{Added, push_line};
-use crate::words::unless_empty;
+use crate::words::{push_text_row, unless_empty};
 use crash::MessageStreams;
 use minidump::format::MINIDUMP_CRASHPAD_INFO;
 use minidump::own_streams::text_before_nul;
@@ -54,14 +55,8 @@ fn push_assertion(out: &mut String, found: &Result<MinidumpAssertion, Error>) ->
             let function = text_or_empty(alloc, &raw.function)?;
             let file = text_or_empty(alloc, &raw.file)?;
             let (expression, function) = (expression.as_str(), function.as_str());
-            push_assertion_row(
-                out,
-                raw._type,
-                expression,
-                function,
-                file.as_str(),
-                raw.line,
-            )
+            let file = file.as_str();
+            push_assertion_row(out, raw._type, expression, function, file, raw.line)
         }
         Err(_) => Ok(()),
     }
@@ -125,7 +120,10 @@ fn push_info(out: &mut String, info: &MinidumpCrashpadInfo) -> Added
 {
     push_report(out, &info.raw)?;
     push_texts(out, &info.simple_annotations)?;
-    push_modules(out, info.module_list.as_slice())
+    for module in info.module_list.as_slice() {
+        push_module(out, module)?;
+    }
+    Ok(())
 }
 
 // Appends the line of the identifiers of Crashpad's report and of its client.
@@ -146,16 +144,6 @@ fn push_report_row<'t>(out: &mut String, report: &'t str, client: &'t str) -> Ad
     push_line(out, &[
         Words("Crashpad report "), Words(report), Words(", client "), Words(client),
     ])
-}
-
-// Appends the annotations of modules.
-fn push_modules(out: &mut String, modules: &[MinidumpModuleCrashpadInfo]) -> Added
-    ensures { Adds out.old out.new (flat_map module_lines (map module_of modules.now)) result }
-{
-    for module in modules {
-        push_module(out, module)?;
-    }
-    Ok(())
 }
 
 // Appends the index of a module and its annotations, if it has any.
@@ -193,24 +181,24 @@ fn push_module_row(out: &mut String, index: usize) -> Added
 fn push_annotations(out: &mut String, module: &MinidumpModuleCrashpadInfo) -> Added
     ensures { Adds out.old out.new (annotation_lines (module_of module.now)) result }
 {
-    push_list(out, module.list_annotations.as_slice())?;
+    push_unnamed(out, module.list_annotations.as_slice())?;
     push_texts(out, &module.simple_annotations)?;
     push_objects(out, &module.annotation_objects)
 }
 
 // Appends the lines of texts without names.
-fn push_list(out: &mut String, texts: &[String]) -> Added
-    ensures { Adds out.old out.new (map text_row (map string_bytes texts.now)) result }
+fn push_unnamed(out: &mut String, texts: &[String]) -> Added
+    ensures { Adds out.old out.new (map unnamed_row (map string_bytes texts.now)) result }
 {
     for text in texts {
-        push_text(out, text.as_str())?;
+        push_unnamed_row(out, text.as_str())?;
     }
     Ok(())
 }
 
-#[tactic(auto, unfolding(crate::specs::Messages::text_row))]
-fn push_text(out: &mut String, text: &str) -> Added
-    ensures { Adds out.old out.new (text_row text.now ∷ []) result }
+#[tactic(auto, unfolding(crate::specs::Messages::unnamed_row))]
+fn push_unnamed_row(out: &mut String, text: &str) -> Added
+    ensures { Adds out.old out.new (unnamed_row text.now ∷ []) result }
 {
     push_line(out, &[Words("annotation "), Words(text)])
 }
@@ -257,33 +245,21 @@ fn annotation_text(annotation: &MinidumpAnnotation) -> &str
     }
 }
 
-// Appends the records of macOS's crash information.
+// Appends the texts and the numbers of each record of macOS's crash information.
 fn push_mac(out: &mut String, found: &Result<MinidumpMacCrashInfo, Error>) -> Added
     ensures { Adds out.old out.new
         (if_ok (flat_map record_lines) (map_ok mac_crash_info_stream.value found.now)) result }
 {
     match found {
-        Ok(info) => push_records(out, info.raw.as_slice()),
+        Ok(info) => {
+            for record in info.raw.as_slice() {
+                push_mac_texts(out, record)?;
+                push_mac_numbers(out, record)?;
+            }
+            Ok(())
+        }
         Err(_) => Ok(()),
     }
-}
-
-// Appends records of macOS's crash information.
-fn push_records(out: &mut String, records: &[RawMacCrashInfo]) -> Added
-    ensures { Adds out.old out.new (flat_map record_lines (map mac_record_of records.now)) result }
-{
-    for record in records {
-        push_record(out, record)?;
-    }
-    Ok(())
-}
-
-// Appends the texts of a record, and its numbers.
-fn push_record(out: &mut String, record: &RawMacCrashInfo) -> Added
-    ensures { Adds out.old out.new (record_lines (mac_record_of record.now)) result }
-{
-    push_mac_texts(out, record)?;
-    push_mac_numbers(out, record)
 }
 
 // Appends the texts of a record.
@@ -332,13 +308,12 @@ fn push_mac_number(out: &mut String, name: &str, number: Option<u64>) -> Added
 }
 
 // Appends the line of Mozilla's soft errors, if they are there.
-#[tactic(auto, unfolding(crate::specs::Messages::soft_row))]
 fn push_soft(out: &mut String, found: &Result<MinidumpSoftErrors<'_>, Error>) -> Added
-    ensures { Adds out.old out.new
-        (if_ok (λ t. soft_row t ∷ []) (map_ok soft_errors_stream.value found.now)) result }
+    ensures { Adds out.old out.new (if_ok (λ t. text_row (codes "soft errors ") t ∷ [])
+        (map_ok soft_errors_stream.value found.now)) result }
 {
     match found {
-        Ok(errors) => push_line(out, &[Words("soft errors "), Words(errors.as_ref())]),
+        Ok(errors) => push_text_row(out, "soft errors ", errors.as_ref()),
         Err(_) => Ok(()),
     }
 }

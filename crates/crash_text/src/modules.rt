@@ -40,11 +40,8 @@ pub(crate) fn push_modules(
 fn push_list(out: &mut String, page: Page<'_, '_, '_, '_>) -> Added
     ensures { Adds out.old out.new (modules_lines (page_of page.entry) None) result }
 {
-    let frames = frames_in(
-        *out.allocator(),
-        page,
-        page.crash.threads.threads.as_slice(),
-    )?;
+    let threads = page.crash.threads.threads.as_slice();
+    let frames = frames_in(*out.allocator(), page, threads)?;
     push_count(out, "modules", page.crash.modules.loaded.len())?;
     push_named(out, page, frames.as_slice())
 }

@@ -9,12 +9,12 @@ ghost use Rattle.crash_text.specs.Lines.{Adds};
 ghost use Rattle.crash_text.specs.Point.{byte_words, code_lines, code_row, flag_words, flags_row};
 ghost use Rattle.crash_text.specs.Point.{instruction_lines, is_ordinary, memory_lines};
 ghost use Rattle.crash_text.specs.Point.{placed_heading, placed_lines, placed_registers};
-ghost use Rattle.crash_text.specs.Point.{point_lines, processor_lines, set_lines, set_row};
-ghost use Rattle.crash_text.specs.Point.{set_words, word_line, words_heading, words_lines};
+ghost use Rattle.crash_text.specs.Point.{point_lines, processor_lines, set_lines, set_words};
+ghost use Rattle.crash_text.specs.Point.{word_line, words_heading, words_lines};
 
 use crate::addresses::push_address_line;
 use crate::lines::{Added, push_line};
-use crate::words::{place_text, push_words};
+use crate::words::{place_text, push_text_row, push_words};
 use crash::{AddressFacts, Crash, CrashModule, CrashPoint, StackWord};
 use minidump::text::Piece::{Hex, WideDigits, Words};
 use minidump::text::push_pieces;
@@ -85,16 +85,11 @@ fn push_set(out: &mut String, names: &[&'static str]) -> Added
 {
     match names {
         [] => Ok(()),
-        _ => push_set_row(out, names),
+        _ => {
+            let words = set_words(*out.allocator(), names)?;
+            push_text_row(out, "    flags set:", words.as_str())
+        }
     }
-}
-
-#[tactic(auto, unfolding(crate::specs::Point::set_row))]
-fn push_set_row(out: &mut String, names: &[&'static str]) -> Added
-    ensures { Adds out.old out.new (set_row (map (λ name. name.now) names.now) ∷ []) result }
-{
-    let words = set_words(*out.allocator(), names)?;
-    push_line(out, &[Words("    flags set:"), Words(words.as_str())])
 }
 
 // Makes the words for flags that are set.
@@ -122,7 +117,10 @@ fn push_placed_registers(
         (map (λ r. (r.0.now, r.1)) registers.now)) result }
 {
     push_placed_heading(out, registers)?;
-    push_each_placed(out, crash, registers)
+    for register in registers {
+        push_if_placed(out, crash, register.0, &register.1)?;
+    }
+    Ok(())
 }
 
 // Appends the heading of those registers, if there are any.
@@ -142,21 +140,6 @@ fn has_placed(registers: &[(&'static str, AddressFacts)]) -> bool
     ensures { result ≡ list_any (λ r. is_placed r.1) registers.now }
 {
     registers.iter().any(|register| register.1.is_placed())
-}
-
-// Appends the line of each of those registers.
-fn push_each_placed(
-    out: &mut String,
-    crash: &Crash<'_>,
-    registers: &[(&'static str, AddressFacts)],
-) -> Added
-    ensures { Adds out.old out.new (flat_map (placed_lines (crash_of crash.now))
-        (map (λ r. (r.0.now, r.1)) registers.now)) result }
-{
-    for register in registers {
-        push_if_placed(out, crash, register.0, &register.1)?;
-    }
-    Ok(())
 }
 
 // Appends the line of a register, if its value lies in a module or a stack.

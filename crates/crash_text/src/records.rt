@@ -3,13 +3,13 @@ ghost use Rattle.std.specs.Prelude.{◌≡◌, ◌++◌, IfOk, OnOk, string_byte
 ghost use Rattle.std.specs.List.{flat_map};
 ghost use Rattle.std.specs.Option.{option_map};
 ghost use Rattle.crash.specs.Cause.{exception_of};
-ghost use Rattle.crash_text.specs.Records.{access_words, code_words, described_text};
-ghost use Rattle.crash_text.specs.Records.{description_words, parameter_words, parameters_words};
-ghost use Rattle.crash_text.specs.Records.{process_words, record_text, record_words};
-ghost use Rattle.crash_text.specs.Records.{sender_words, unless_zero, user_words};
+ghost use Rattle.crash_text.specs.Records.{access_words, described_text, description_words};
+ghost use Rattle.crash_text.specs.Records.{parameter_words, parameters_words, process_words};
+ghost use Rattle.crash_text.specs.Records.{record_text, record_words, sender_words, unless_zero};
+ghost use Rattle.crash_text.specs.Records.{user_words};
 
 use crate::lines::Added;
-use crash::{Access, CrashException, Sender, SignalCode};
+use crash::{Access, CrashException, Sender};
 use minidump::text::Piece::{Decimal, Hex, Words};
 use minidump::text::push_pieces;
 use std::alloc::{AllocError, Global};
@@ -19,14 +19,10 @@ use std::alloc::{AllocError, Global};
 pub(crate) fn record_text(alloc: Global, exception: &CrashException) -> Result<String, AllocError>
     ensures { IfOk result (λ words. string_bytes words ≡ record_text (exception_of exception.now)) }
 {
+    let (flags, parameters) = (exception.flags, exception.parameters.as_slice());
     match &exception.description {
         Some(_) => record_words(alloc, exception, 0, &[]),
-        None => record_words(
-            alloc,
-            exception,
-            exception.flags,
-            exception.parameters.as_slice(),
-        ),
+        None => record_words(alloc, exception, flags, parameters),
     }
 }
 
@@ -105,7 +101,7 @@ fn push_sender(words: &mut String, sender: Option<Sender>) -> Added
         Some(sender) => {
             push_process(words, sender.process)?;
             push_user(words, sender.user)?;
-            push_code(words, sender.code)
+            push_pieces(words, &[Words(", "), Words(sender.code.name())])
         }
         None => Ok(()),
     }
@@ -113,12 +109,15 @@ fn push_sender(words: &mut String, sender: Option<Sender>) -> Added
 
 // Appends the process that sent a signal.
 #[rattlefmt::skip]
-fn push_process(words: &mut String, id: u32) -> Added
+fn push_process(words: &mut String, id: Option<u32>) -> Added
     ensures { OnOk result (string_bytes words.new ≡ string_bytes words.old ++ process_words id) }
 {
-    push_pieces(words, &[
-        Words(", sent by process "), Decimal(id as u64), Words(" ("), Hex(id as u64), Words(")"),
-    ])
+    match id {
+        Some(id) => push_pieces(words, &[
+            Words(", sent by process "), Decimal(id as u64), Words(" ("), Hex(id as u64), Words(")"),
+        ]),
+        None => words.push_str(", sent by an unknown process"),
+    }
 }
 
 // Appends the user of that process, if it is known.
@@ -129,13 +128,6 @@ fn push_user(words: &mut String, user: Option<u32>) -> Added
         Some(user) => push_pieces(words, &[Words(", user "), Decimal(user as u64)]),
         None => Ok(()),
     }
-}
-
-// Appends how a signal was sent.
-fn push_code(words: &mut String, code: SignalCode) -> Added
-    ensures { OnOk result (string_bytes words.new ≡ string_bytes words.old ++ code_words code) }
-{
-    push_pieces(words, &[Words(", "), Words(code.name())])
 }
 
 // Appends the parameters, if there are any.

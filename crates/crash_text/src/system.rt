@@ -6,15 +6,15 @@ ghost use Rattle.crash.specs.Crash.{crash_of};
 ghost use Rattle.crash.specs.Process.{process_of, system_of};
 ghost use Rattle.crash.specs.Release.{release_of};
 ghost use Rattle.crash_text.specs.Lines.{Adds, if_ok, if_some};
-ghost use Rattle.crash_text.specs.System.{amount_row, boot_lines, date_lines, head_lines, id_row};
+ghost use Rattle.crash_text.specs.System.{amount_row, boot_lines, date_lines, head_lines};
 ghost use Rattle.crash_text.specs.System.{known_system_lines, number_lines, release_line};
 ghost use Rattle.crash_text.specs.System.{said_lines, system_line, system_lines, system_row};
-ghost use Rattle.crash_text.specs.Words.{missing_lines};
+ghost use Rattle.crash_text.specs.Words.{id_row, missing_lines};
 
 use crate::lines::{Added, push_line};
-use crate::words::{or_empty, push_if_missing, push_text, unless_empty};
+use crate::words::{or_empty, push_id, push_if_missing, push_text, push_text_row, unless_empty};
 use crash::{Crash, CrashProcess, CrashSystem, LsbRelease};
-use minidump::text::Piece::{Decimal, Hex, Words};
+use minidump::text::Piece::{Decimal, Words};
 use minidump::{Error, MinidumpMacBootargs, MinidumpSystemInfo, date_text};
 use std::alloc::AllocError;
 
@@ -128,7 +128,7 @@ fn push_date(out: &mut String, stamp: u32) -> Added
         return Ok(());
     }
     match date_text(*out.allocator(), stamp) {
-        Ok(date) => push_line(out, &[Words("dumped  "), Words(date.as_str())]),
+        Ok(date) => push_text_row(out, "dumped  ", date.as_str()),
         Err(_) => Err(AllocError),
     }
 }
@@ -137,8 +137,8 @@ fn push_date(out: &mut String, stamp: u32) -> Added
 fn push_numbers(out: &mut String, process: &CrashProcess) -> Added
     ensures { Adds out.old out.new (number_lines (process_of process.now)) result }
 {
-    push_id(out, "process ", process.id)?;
-    push_id(out, "parent  ", process.parent)?;
+    push_known_id(out, "process ", process.id)?;
+    push_known_id(out, "parent  ", process.parent)?;
     push_amount(out, "uptime  ", process.uptime, " s")?;
     push_amount(out, "resident ", process.resident, " bytes")
 }
@@ -153,15 +153,11 @@ fn push_said(out: &mut String, process: &CrashProcess) -> Added
 }
 
 // Appends the line of the id of a process after its words, if it is known.
-#[rattlefmt::skip]
-#[tactic(auto, unfolding(crate::specs::System::id_row))]
-fn push_id(out: &mut String, what: &str, id: Option<u32>) -> Added
+fn push_known_id(out: &mut String, what: &str, id: Option<u32>) -> Added
     ensures { Adds out.old out.new (if_some (λ id. id_row what.now id ∷ []) id) result }
 {
     match id {
-        Some(id) => push_line(out, &[
-            Words(what), Decimal(id as u64), Words(" ("), Hex(id as u64), Words(")"),
-        ]),
+        Some(id) => push_id(out, what, id),
         None => Ok(()),
     }
 }

@@ -1,22 +1,17 @@
-ghost use Rattle.std.specs.Prelude.{◌≡◌, [], ◌∷◌, ◌++◌, ◌||◌, IfOk, OnOk, codes, if◌then◌else◌, map};
+ghost use Rattle.std.specs.Prelude.{◌≡◌, [], ◌∷◌, ◌++◌, IfOk, OnOk, codes, if◌then◌else◌, map};
 ghost use Rattle.std.specs.Prelude.{string_bytes};
 ghost use Rattle.std.specs.Option.{option_map};
-ghost use Rattle.minidump.specs.Below.Contexts.Context.{map_ok};
-ghost use Rattle.minidump.specs.Promise.{thread_list_stream};
 ghost use Rattle.crash.specs.Contexts.{context_of};
 ghost use Rattle.crash.specs.Process.{system_of};
 ghost use Rattle.crash.specs.Threads.{thread_value};
 ghost use Rattle.crash_symbols.specs.Shown.{shown_of};
-ghost use Rattle.crash_text.specs.Frames.{walk_lines};
 ghost use Rattle.crash_text.specs.Lines.{Adds, if_some};
 ghost use Rattle.crash_text.specs.Page.{page_of};
-ghost use Rattle.crash_text.specs.Threads.{crashed_lines, each_other};
-ghost use Rattle.crash_text.specs.Threads.{found_lines, frames_at, frames_in, frames_of};
-ghost use Rattle.crash_text.specs.Threads.{is_index, is_range, memory_lines};
+ghost use Rattle.crash_text.specs.Threads.{crashed_lines, each_other, found_lines, frames_at};
+ghost use Rattle.crash_text.specs.Threads.{frames_in, is_index, is_range, memory_lines};
 ghost use Rattle.crash_text.specs.Threads.{no_walk_row, other_lines, own_lines, range_row, remark};
 ghost use Rattle.crash_text.specs.Threads.{short_lines, shows_all, stack_lines, thread_lines};
 ghost use Rattle.crash_text.specs.Threads.{thread_row, walked_lines};
-ghost use Rattle.crash_text.specs.Words.{missing_lines};
 
 use crate::frames::{push_frames_of, push_walk};
 use crate::limits::TextLimits;
@@ -24,33 +19,21 @@ use crate::lines::{Added, push_line};
 use crate::page::Page;
 use crate::registers::push_short;
 use crate::words::{or_empty, push_if_missing, push_text, push_words, where_some};
-use crash::{
-    ContextProblem, Crash, CrashContext, CrashFrame, CrashSystem, CrashThread, StackRange,
-};
+use crash::{ContextProblem, CrashContext, CrashFrame, CrashSystem, CrashThread, StackRange};
 use crash_symbols::{ShownWalk, shown_walk};
 use minidump::text::Piece::{Decimal, Hex, Words};
-use minidump::{Error, MinidumpThreadList};
 use std::alloc::{AllocError, Global};
 
 // Appends the lines of the thread that crashed, or that there are no threads.
 pub(crate) fn push_crashed(out: &mut String, page: Page<'_, '_, '_, '_>) -> Added
     ensures { Adds out.old out.new (crashed_lines (page_of page.entry)) result }
 {
-    push_missing(out, &page.crash.contents.threads.threads)?;
+    if let Err(error) = &page.crash.contents.threads.threads {
+        push_if_missing(out, "no threads", *error)?;
+    }
     match page.crash.threads.crashed() {
         Some((number, thread)) => push_thread(out, page, true, number, thread),
         None => Ok(()),
-    }
-}
-
-// Appends that there are no threads, if their list is missing.
-fn push_missing(out: &mut String, threads: &Result<MinidumpThreadList<'_>, Error>) -> Added
-    ensures { Adds out.old out.new (missing_lines (codes "no threads")
-        (map_ok thread_list_stream.value threads.now)) result }
-{
-    match threads {
-        Ok(_) => Ok(()),
-        Err(error) => push_if_missing(out, "no threads", *error),
     }
 }
 
@@ -243,27 +226,15 @@ fn push_found(
         (thread_value thread.now) (option_map shown_of walk.now)) result }
 {
     match walk {
-        Some(walk) => push_problem_and_walk(out, page, is_whole, thread.context_problem, walk),
+        Some(walk) => {
+            push_own(out, thread.context_problem)?;
+            push_walk(out, page, is_whole, walk)
+        }
         None => {
             let row = no_walk_row(&page.crash.process.system, thread.context_problem);
             push_words(out, row)
         }
     }
-}
-
-// Appends why the own context of a thread isn't used, if it isn't, and what is found in its stack.
-fn push_problem_and_walk(
-    out: &mut String,
-    page: Page<'_, '_, '_, '_>,
-    is_whole: bool,
-    problem: Option<ContextProblem>,
-    walk: &ShownWalk<'_, '_>,
-) -> Added
-    ensures { Adds out.old out.new
-        (own_lines problem ++ walk_lines (page_of page.entry) is_whole (shown_of walk.now)) result }
-{
-    push_own(out, problem)?;
-    push_walk(out, page, is_whole, walk)
 }
 
 // Appends why the own context of a thread isn't used, whose frames are those of the exception's.
@@ -321,21 +292,8 @@ fn push_frames_at(
     let crashing = page.crash.threads.crashing;
     let is_whole = is_index(crashing, number) || shows_all(page.limits, crashing);
     let walk = shown_walk(*frames.allocator(), thread, number, page.symbols)?;
-    push_if_found(frames, page.limits, is_whole, &walk)
-}
-
-// Appends the frames of a walk that are printed, if there is one.
-fn push_if_found(
-    frames: &mut Vec<CrashFrame>,
-    limits: &TextLimits,
-    is_whole: bool,
-    walk: &Option<ShownWalk<'_, '_>>,
-) -> Added
-    ensures { OnOk result (frames.new.items ≡ frames.old.items
-        ++ frames_of limits.now is_whole (option_map shown_of walk.now)) }
-{
-    match walk {
-        Some(walk) => push_frames_of(frames, limits, is_whole, walk),
+    match &walk {
+        Some(walk) => push_frames_of(frames, page.limits, is_whole, walk),
         None => Ok(()),
     }
 }

@@ -3,8 +3,8 @@ ghost use Rattle.std.specs.Prelude.{◌≡◌, [], ◌∷◌, IfOk, map, string_
 ghost use Rattle.std.specs.Option.{option_map};
 ghost use Rattle.crash.specs.Modules.{loaded_of};
 ghost use Rattle.crash_text.specs.Lines.{Adds};
-ghost use Rattle.crash_text.specs.Words.{count_row, if_missing, or_empty, place_text};
-ghost use Rattle.crash_text.specs.Words.{text_lines, unless_empty, where_some};
+ghost use Rattle.crash_text.specs.Words.{count_row, id_row, if_missing, or_empty, place_text};
+ghost use Rattle.crash_text.specs.Words.{text_lines, text_row, unless_empty, where_some};
 
 use crate::lines::{Added, push_line};
 use crash::{CrashModule, is_missing};
@@ -44,15 +44,33 @@ pub(crate) fn where_some(words: &'static str, text: &Option<String>) -> &'static
 }
 
 // Appends the line of a text after its words, if there is a text.
-#[tactic(auto, unfolding(crate::specs::Words::text_row))]
 pub(crate) fn push_text(out: &mut String, words: &str, text: &Option<String>) -> Added
     ensures { Adds out.old out.new
         (text_lines words.now (option_map string_bytes text.now)) result }
 {
     match text {
-        Some(text) => push_line(out, &[Words(words), Words(text.as_str())]),
+        Some(text) => push_text_row(out, words, text.as_str()),
         None => Ok(()),
     }
+}
+
+// Appends the line of a text after its words.
+#[tactic(auto, unfolding(crate::specs::Words::text_row))]
+pub(crate) fn push_text_row<'t>(out: &mut String, words: &'t str, text: &'t str) -> Added
+    ensures { Adds out.old out.new (text_row words.now text.now ∷ []) result }
+{
+    push_line(out, &[Words(words), Words(text)])
+}
+
+// Appends the line of the id of a process or a thread after its words.
+#[rattlefmt::skip]
+#[tactic(auto, unfolding(crate::specs::Words::id_row))]
+pub(crate) fn push_id(out: &mut String, words: &str, id: u32) -> Added
+    ensures { Adds out.old out.new (id_row words.now id ∷ []) result }
+{
+    push_line(out, &[
+        Words(words), Decimal(id as u64), Words(" ("), Hex(id as u64), Words(")"),
+    ])
 }
 
 // Appends the line of the number of something.

@@ -52,7 +52,7 @@ def summary(crash):
         yield f"reason  {info['type']}"
     if crash["minidump"]["exception"] is not None:
         sender = crash["minidump"]["exceptions"][crash["minidump"]["exception"]]["sender"]
-        if sender:
+        if sender and sender["process_id"] is not None:
             yield f"sent by process {sender['process_id']}"
     for frame in thread["frames"] if thread else []:
         yield f"#{frame['frame']:<2}     {frame['offset']}{place(frame)}, {frame['trust'].replace('_', ' ')}"

@@ -20,13 +20,14 @@ struct Exception {
     code: u32,
     flags: u32,
     parameter_count: u32,
-    access: u32,
     sender: u32,
     sender_user: u32,
+    access: u16,
+    context_problem: u16,
     has_exception: u8,
+    is_sent: u8,
     has_sender: u8,
     has_sender_user: u8,
-    context_problem: u8,
 }
 
 /// `struct minidump_facts`.

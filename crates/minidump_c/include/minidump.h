@@ -199,13 +199,14 @@ struct minidump_exception {
     uint32_t code;            /* on Linux and Android the number of the signal */
     uint32_t flags;           /* on Linux and Android the si_code of the signal */
     uint32_t parameter_count; /* how many parameters its record has, at most 15 */
-    uint32_t access;          /* enum minidump_access; 0 but for access violations and in-page errors of Windows */
     uint32_t sender;          /* the id of the process that sent the signal, on Linux and Android */
     uint32_t sender_user;     /* the id of the user of that process */
+    uint16_t access;          /* enum minidump_access; 0 but for access violations and in-page errors of Windows */
+    uint16_t context_problem; /* enum minidump_problem: why its context gives no registers; 0 if it gives some */
     uint8_t has_exception;
+    uint8_t is_sent; /* a process sent the signal; has_sender tells whether it is known */
     uint8_t has_sender;
-    uint8_t has_sender_user; /* 0 where an address has 32 bits */
-    uint8_t context_problem; /* enum minidump_problem: why its context gives no registers; 0 if it gives some */
+    uint8_t has_sender_user; /* 0 where the record doesn't have it, as in an address of 32 bits */
 };
 
 /* What is known of an address. What is unknown has 0 in has_.., and 0 for its numbers. */
@@ -266,7 +267,7 @@ struct minidump_crash {
 
 /* A frame of a stack. */
 struct minidump_frame {
-    uint64_t address;           /* by which it is looked up: a return address less one, which lies in the call */
+    uint64_t address;           /* by which it is looked up: that below a return address, on ARM without its bit 0, which lies in the call */
     uint64_t instruction;       /* of the context, or else the return address of the frame before */
     uint64_t stack_pointer;     /* where no context has it, the address after the return address */
     uint64_t frame_pointer;     /* 0 if it isn't known */

@@ -23,7 +23,11 @@ problem_number Outside = 1
 problem_number NoSystem = 2
 problem_number (NotAccepted size) = 3
 
--- the user of the process that sent a signal
+-- the process that sent a signal, where it is known
+abbrev pub sender_process : Option Sender → Option ℕ
+sender_process sender = option_and_then (λ s. s.process) sender
+
+-- its user
 abbrev pub sender_user : Option Sender → Option ℕ
 sender_user sender = option_and_then (λ s. s.user) sender
 
@@ -38,10 +42,11 @@ exception_row e = record {
   flags = e.flags;
   parameter_count = min (length e.parameters) 15;
   access = option_map_or access_number e.access 0;
-  sender = option_map_or (λ s. s.process) e.sender 0;
+  sender = unwrap_or (sender_process e.sender) 0;
   sender_user = unwrap_or (sender_user e.sender) 0;
   has_exception = 1;
-  has_sender = flag e.sender;
+  is_sent = flag e.sender;
+  has_sender = flag (sender_process e.sender);
   has_sender_user = flag (sender_user e.sender);
   context_problem = option_map_or problem_number e.context_problem 0;
 }
@@ -60,6 +65,7 @@ no_exception = record {
   sender = 0;
   sender_user = 0;
   has_exception = 0;
+  is_sent = 0;
   has_sender = 0;
   has_sender_user = 0;
   context_problem = 0;

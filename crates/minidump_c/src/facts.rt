@@ -1,6 +1,6 @@
 ghost use Rattle.std.specs.Prelude.{◌≡◌};
 ghost use Rattle.std.specs.Option.{option_map_or};
-ghost use Rattle.minidump_c.specs.Facts.{facts_part, facts_row, no_facts, state_number};
+ghost use Rattle.minidump_c.specs.Facts.{facts_part, facts_row, state_number};
 ghost use Rattle.minidump_c.specs.Spans.{bit};
 
 use crate::spans::{bit, flag};
@@ -52,15 +52,29 @@ pub struct FactsRow {
     pub is_guarded: u8,
 }
 
-// What is known of memory, as numbers.
-#[derive(Clone, Copy)]
-struct MemoryNumbers {
-    state: u32,
-    is_readable: u8,
-    is_writable: u8,
-    is_executable: u8,
-    is_guarded: u8,
-}
+// The numbers of no address.
+const NO_FACTS: FactsRow = FactsRow {
+    address: 0,
+    null_offset: 0,
+    module_offset: 0,
+    module: 0,
+    unloaded: 0,
+    stack_of: 0,
+    below_stack: 0,
+    memory_state: 0,
+    has_address: 0,
+    has_null_offset: 0,
+    is_canonical: 0,
+    has_module: 0,
+    has_unloaded: 0,
+    has_stack_of: 0,
+    has_below_stack: 0,
+    has_memory: 0,
+    is_readable: 0,
+    is_writable: 0,
+    is_executable: 0,
+    is_guarded: 0,
+};
 
 // Returns what is known of the address of a crash, zeros without one.
 pub(crate) fn facts_part(facts: Option<AddressFacts>) -> FactsRow
@@ -68,7 +82,7 @@ pub(crate) fn facts_part(facts: Option<AddressFacts>) -> FactsRow
 {
     match facts {
         Some(facts) => facts_row(facts),
-        None => no_facts(),
+        None => NO_FACTS,
     }
 }
 
@@ -76,7 +90,9 @@ fn facts_row(facts: AddressFacts) -> FactsRow
     ensures { result ≡ facts_row facts }
 {
     let (module, module_offset) = facts.module.unwrap_or((0, 0));
-    let memory = memory_numbers(facts.memory);
+    let (memory_state, is_readable, is_writable, is_executable, is_guarded) = memory_numbers(
+        facts.memory,
+    );
     FactsRow {
         address: facts.address,
         null_offset: facts.null_offset.unwrap_or(0),
@@ -85,7 +101,7 @@ fn facts_row(facts: AddressFacts) -> FactsRow
         unloaded: facts.unloaded.unwrap_or(0),
         stack_of: facts.stack_of.unwrap_or(0),
         below_stack: facts.below_stack.unwrap_or(0),
-        memory_state: memory.state,
+        memory_state,
         has_address: 1,
         has_null_offset: flag(&facts.null_offset),
         is_canonical: bit(facts.is_canonical),
@@ -94,36 +110,31 @@ fn facts_row(facts: AddressFacts) -> FactsRow
         has_stack_of: flag(&facts.stack_of),
         has_below_stack: flag(&facts.below_stack),
         has_memory: flag(&facts.memory),
-        is_readable: memory.is_readable,
-        is_writable: memory.is_writable,
-        is_executable: memory.is_executable,
-        is_guarded: memory.is_guarded,
+        is_readable,
+        is_writable,
+        is_executable,
+        is_guarded,
     }
 }
 
-// Returns what is known of memory, zeros if nothing is.
-fn memory_numbers(memory: Option<AddressMemory>) -> MemoryNumbers
-    ensures state { result.state ≡ option_map_or (λ m. state_number m.state) memory 0 }
-    ensures readable { result.is_readable ≡ option_map_or (λ m. bit m.is_readable) memory 0 }
-    ensures writable { result.is_writable ≡ option_map_or (λ m. bit m.is_writable) memory 0 }
-    ensures executable { result.is_executable ≡ option_map_or (λ m. bit m.is_executable) memory 0 }
-    ensures guarded { result.is_guarded ≡ option_map_or (λ m. bit m.is_guarded) memory 0 }
+// Returns what is known of memory: its state, and whether it is readable, writable, executable and
+// guarded; zeros if nothing is.
+fn memory_numbers(memory: Option<AddressMemory>) -> (u32, u8, u8, u8, u8)
+    ensures state { result.0 ≡ option_map_or (λ m. state_number m.state) memory 0 }
+    ensures readable { result.1 ≡ option_map_or (λ m. bit m.is_readable) memory 0 }
+    ensures writable { result.2 ≡ option_map_or (λ m. bit m.is_writable) memory 0 }
+    ensures executable { result.3 ≡ option_map_or (λ m. bit m.is_executable) memory 0 }
+    ensures guarded { result.4 ≡ option_map_or (λ m. bit m.is_guarded) memory 0 }
 {
     match memory {
-        Some(memory) => MemoryNumbers {
-            state: state_number(memory.state),
-            is_readable: bit(memory.is_readable),
-            is_writable: bit(memory.is_writable),
-            is_executable: bit(memory.is_executable),
-            is_guarded: bit(memory.is_guarded),
-        },
-        None => MemoryNumbers {
-            state: 0,
-            is_readable: 0,
-            is_writable: 0,
-            is_executable: 0,
-            is_guarded: 0,
-        },
+        Some(memory) => (
+            state_number(memory.state),
+            bit(memory.is_readable),
+            bit(memory.is_writable),
+            bit(memory.is_executable),
+            bit(memory.is_guarded),
+        ),
+        None => (0, 0, 0, 0, 0),
     }
 }
 
@@ -135,33 +146,5 @@ fn state_number(state: RegionState) -> u32
         RegionState::Free => 1,
         RegionState::Reserved => 2,
         RegionState::Committed => 3,
-    }
-}
-
-// Returns the numbers of no address.
-fn no_facts() -> FactsRow
-    ensures { result ≡ no_facts }
-{
-    FactsRow {
-        address: 0,
-        null_offset: 0,
-        module_offset: 0,
-        module: 0,
-        unloaded: 0,
-        stack_of: 0,
-        below_stack: 0,
-        memory_state: 0,
-        has_address: 0,
-        has_null_offset: 0,
-        is_canonical: 0,
-        has_module: 0,
-        has_unloaded: 0,
-        has_stack_of: 0,
-        has_below_stack: 0,
-        has_memory: 0,
-        is_readable: 0,
-        is_writable: 0,
-        is_executable: 0,
-        is_guarded: 0,
     }
 }

@@ -13,8 +13,8 @@ use std::alloc::{AllocError, Global};
 #[derive(Clone, Copy)]
 pub struct FrameRow {
     /// The address by which it is looked up: of the context the instruction pointer, of a caller or
-    /// a candidate its return address less one, which lies in the call; a return address of 0 as it
-    /// is.
+    /// a candidate the one below its return address, on ARM of 32 bits without its bit 0, which lies
+    /// in the call; a return address below which there is none as it is.
     pub address: u64,
     /// The instruction pointer of the context, or else the return address of the frame before.
     pub instruction: u64,

@@ -7,7 +7,7 @@ use minidump_names::NamesError;
 use std::alloc::AllocError;
 
 /// The error of a call with a text of names.
-#[derive(Clone, Copy, Drop)]
+#[derive(Clone, Copy)]
 pub(crate) enum CallError {
     /// The error of the text of names.
     OfNames(NamesError),

@@ -107,10 +107,11 @@ pub(crate) fn push_own(crash: &Crash<'_>, texts: &mut Vec<u8>) -> Result<OwnText
     ensures spans { IfOk result (λ spans. spans ≡ own_spans (crash_of crash.now)) }
     ensures texts { OnOk result (texts.new.items ≡ own_texts (crash_of crash.now)) }
 {
+    let (version, build, model) = system_texts(crash);
     let reason = push_text(texts, reason_of(crash))?;
-    let version = push_text(texts, version_of(crash))?;
-    let build = push_text(texts, build_of(crash))?;
-    let cpu_model = push_text(texts, model_of(crash))?;
+    let version = push_text(texts, version)?;
+    let build = push_text(texts, build)?;
+    let cpu_model = push_text(texts, model)?;
     Ok(OwnTexts {
         reason,
         version,
@@ -129,33 +130,20 @@ fn reason_of<'l>(crash: &'l Crash<'_>) -> &'l [u8]
     }
 }
 
-// Returns the version of the operating system, nothing if it is absent.
-fn version_of<'l>(crash: &'l Crash<'_>) -> &'l [u8]
-    ensures { result.now ≡ version_of (crash_of crash.now) }
+// Returns the version of the operating system, its build, and the description of the processor;
+// nothing of what is absent.
+fn system_texts<'l>(crash: &'l Crash<'_>) -> (&'l [u8], &'l [u8], &'l [u8])
+    ensures version { result.0.now ≡ version_of (crash_of crash.now) }
+    ensures build { result.1.now ≡ build_of (crash_of crash.now) }
+    ensures model { result.2.now ≡ model_of (crash_of crash.now) }
 {
     match &crash.process.system {
-        Some(system) => system.version.as_bytes(),
-        None => &[],
-    }
-}
-
-// Returns the build of that version, nothing if it is absent.
-fn build_of<'l>(crash: &'l Crash<'_>) -> &'l [u8]
-    ensures { result.now ≡ build_of (crash_of crash.now) }
-{
-    match &crash.process.system {
-        Some(system) => bytes_of(&system.build),
-        None => &[],
-    }
-}
-
-// Returns the description of the processor, nothing if it is absent.
-fn model_of<'l>(crash: &'l Crash<'_>) -> &'l [u8]
-    ensures { result.now ≡ model_of (crash_of crash.now) }
-{
-    match &crash.process.system {
-        Some(system) => bytes_of(&system.cpu_model),
-        None => &[],
+        Some(system) => (
+            system.version.as_bytes(),
+            bytes_of(&system.build),
+            bytes_of(&system.cpu_model),
+        ),
+        None => (&[], &[], &[]),
     }
 }
 

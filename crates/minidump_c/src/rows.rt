@@ -13,10 +13,7 @@ use crate::frames::{FrameRow, frames_of};
 use crate::names::CallError;
 use crate::numbers::{Counts, CrashRow, context_of, crash_row, push_own, walk_of};
 use crate::spans::make_rows;
-use crate::tables::{
-    EachModule, EachRegister, EachThread, EachUnloaded, ModuleRow, RegisterRow, ThreadRow,
-    UnloadedRow,
-};
+use crate::tables::{ModuleRow, RegisterRow, ThreadRow, UnloadedRow};
 use crate::text::fill;
 use crash::{Crash, CrashContext};
 use minidump::{CodeNames, Error};
@@ -137,24 +134,9 @@ fn rows_of(alloc: Global, crash: &Crash<'_>) -> Result<Rows, AllocError>
     let mut texts = Vec::new(alloc);
     let spans = push_own(crash, &mut texts)?;
     let registers = register_rows(alloc, context_of(crash), &mut texts)?;
-    let threads = make_rows(
-        alloc,
-        &EachThread,
-        crash.threads.threads.as_slice(),
-        &mut texts,
-    )?;
-    let modules = make_rows(
-        alloc,
-        &EachModule,
-        crash.modules.loaded.as_slice(),
-        &mut texts,
-    )?;
-    let unloaded = make_rows(
-        alloc,
-        &EachUnloaded,
-        crash.modules.unloaded.as_slice(),
-        &mut texts,
-    )?;
+    let threads = make_rows(alloc, crash.threads.threads.as_slice(), &mut texts)?;
+    let modules = make_rows(alloc, crash.modules.loaded.as_slice(), &mut texts)?;
+    let unloaded = make_rows(alloc, crash.modules.unloaded.as_slice(), &mut texts)?;
     let frames = frames_of(alloc, walk_of(crash))?;
     let counts = Counts {
         frames: frames.len(),
@@ -189,7 +171,7 @@ fn register_rows(
         (option_map context_of (option_copied context.entry)) [])) }
 {
     match context {
-        Some(context) => make_rows(alloc, &EachRegister, context.registers.as_slice(), texts),
+        Some(context) => make_rows(alloc, context.registers.as_slice(), texts),
         None => Ok(Vec::new(alloc)),
     }
 }

@@ -55,15 +55,15 @@ pub(crate) fn bit(is_so: bool) -> u8
     if is_so { 1 } else { 0 }
 }
 
-/// Makes rows of items, whose texts are appended to those before.
-pub(crate) trait MakeRow<X> {
+/// An item of which a row is made, and whose texts are appended to those before.
+pub(crate) trait MakeRow {
     /// A row.
     type Row;
 
     // the value of an item
     ghost Value: { Type 0 };
 
-    ghost value_of: { X → Value };
+    ghost value_of: { Self → Value };
 
     // the row of an item, by the texts before its own
     ghost row_after: { List ℕ → Value → Self.Row };
@@ -71,30 +71,29 @@ pub(crate) trait MakeRow<X> {
     // those texts with its own
     ghost with_texts: { List ℕ → Value → List ℕ };
 
-    /// Makes the row of an item, and appends its texts.
-    fn make_row(&self, item: &X, texts: &mut Vec<u8>) -> Result<Self::Row, AllocError>
-        ensures row { IfOk result (λ made. made ≡ row_after texts.old.items (value_of item.now)) }
+    /// Makes the row of the item, and appends its texts.
+    fn make_row(&self, texts: &mut Vec<u8>) -> Result<Self::Row, AllocError>
+        ensures row { IfOk result (λ made. made ≡ row_after texts.old.items (value_of self.now)) }
         ensures texts { OnOk result (texts.new.items
-            ≡ with_texts texts.old.items (value_of item.now)) };
+            ≡ with_texts texts.old.items (value_of self.now)) };
 }
 
 /// Makes the rows of items, and appends their texts.
-pub(crate) fn make_rows<X, F: MakeRow<X>>(
+pub(crate) fn make_rows<X: MakeRow>(
     alloc: Global,
-    by: &F,
     items: &[X],
     texts: &mut Vec<u8>,
-) -> Result<Vec<F::Row>, AllocError>
+) -> Result<Vec<X::Row>, AllocError>
 where
-    F::Row: Drop,
+    X::Row: Drop,
     ensures rows { IfOk result (λ rows. rows.items
-        ≡ rows_after F.row_after F.with_texts texts.old.items (map F.value_of items.now)) }
+        ≡ rows_after X.row_after X.with_texts texts.old.items (map X.value_of items.now)) }
     ensures texts { OnOk result (texts.new.items
-        ≡ texts_after F.with_texts texts.old.items (map F.value_of items.now)) }
+        ≡ texts_after X.with_texts texts.old.items (map X.value_of items.now)) }
 {
     let mut rows = Vec::new(alloc);
     for item in items {
-        rows.push(by.make_row(item, texts)?)?;
+        rows.push(item.make_row(texts)?)?;
     }
     Ok(rows)
 }

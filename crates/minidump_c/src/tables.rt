@@ -1,11 +1,7 @@
-ghost use Rattle.std.specs.Prelude.{◌≡◌, IfOk, OnOk, length};
+ghost use Rattle.std.specs.Prelude.{◌≡◌, length};
 ghost use Rattle.std.specs.Option.{option_and_then, option_map, option_map_or};
 ghost use Rattle.crash.specs.Contexts.{context_of};
 ghost use Rattle.crash.specs.Frames.{crash_walk_of};
-ghost use Rattle.crash.specs.Modules.{loaded_of, unloaded_module_of};
-ghost use Rattle.crash.specs.Threads.{thread_value};
-ghost use Rattle.minidump_c.specs.Tables.{module_row, thread_row, unloaded_row, with_module};
-ghost use Rattle.minidump_c.specs.Tables.{with_thread, with_unloaded};
 
 use crate::spans::{MakeRow, Span, bit, bytes_of, flag, push_text};
 use crash::{
@@ -83,11 +79,7 @@ pub struct UnloadedRow {
     pub code_id: Span,
 }
 
-/// The rows of registers.
-#[derive(Clone, Copy)]
-pub(crate) struct EachRegister;
-
-impl MakeRow<(&'static str, u64)> for EachRegister {
+impl MakeRow for (&'static str, u64) {
     ghost use Rattle.std.specs.Prelude.{List, ℕ};
     ghost use Rattle.minidump_c.specs.Tables.{register_row, with_register};
 
@@ -101,24 +93,16 @@ impl MakeRow<(&'static str, u64)> for EachRegister {
 
     ghost with_texts = { with_register };
 
-    fn make_row(
-        &self,
-        item: &(&'static str, u64),
-        texts: &mut Vec<u8>,
-    ) -> Result<RegisterRow, AllocError> {
-        let name = push_text(texts, item.0.as_bytes())?;
+    fn make_row(&self, texts: &mut Vec<u8>) -> Result<RegisterRow, AllocError> {
+        let name = push_text(texts, self.0.as_bytes())?;
         Ok(RegisterRow {
-            value: item.1,
+            value: self.1,
             name,
         })
     }
 }
 
-/// The rows of threads.
-#[derive(Clone, Copy)]
-pub(crate) struct EachThread;
-
-impl MakeRow<CrashThread> for EachThread {
+impl MakeRow for CrashThread {
     ghost use Rattle.crash.specs.Threads.{ThreadValue, thread_value};
     ghost use Rattle.minidump_c.specs.Tables.{thread_row, with_thread};
 
@@ -132,32 +116,24 @@ impl MakeRow<CrashThread> for EachThread {
 
     ghost with_texts = { with_thread };
 
-    fn make_row(&self, item: &CrashThread, texts: &mut Vec<u8>) -> Result<ThreadRow, AllocError> {
-        thread_row(item, texts)
+    fn make_row(&self, texts: &mut Vec<u8>) -> Result<ThreadRow, AllocError> {
+        let name = push_text(texts, bytes_of(&self.name))?;
+        let last_error = push_text(texts, bytes_of(&self.last_error))?;
+        let (stack_base, stack_size) = range_of(self.stack);
+        let (short_size, whole_size) = short_sizes(short_of(&self.context));
+        Ok(ThreadRow {
+            stack_base,
+            stack_size,
+            name,
+            last_error,
+            frame_count: frame_count(&self.walk),
+            short_size,
+            whole_size,
+            id: self.id,
+            has_context: flag(&self.context) as u16,
+            is_listed: bit(self.is_listed) as u16,
+        })
     }
-}
-
-fn thread_row(thread: &CrashThread, texts: &mut Vec<u8>) -> Result<ThreadRow, AllocError>
-    ensures row { IfOk result (λ row. row ≡ thread_row texts.old.items (thread_value thread.now)) }
-    ensures texts { OnOk result (texts.new.items
-        ≡ with_thread texts.old.items (thread_value thread.now)) }
-{
-    let name = push_text(texts, bytes_of(&thread.name))?;
-    let last_error = push_text(texts, bytes_of(&thread.last_error))?;
-    let (stack_base, stack_size) = range_of(thread.stack);
-    let (short_size, whole_size) = short_sizes(short_of(&thread.context));
-    Ok(ThreadRow {
-        stack_base,
-        stack_size,
-        name,
-        last_error,
-        frame_count: frame_count(&thread.walk),
-        short_size,
-        whole_size,
-        id: thread.id,
-        has_context: flag(&thread.context) as u16,
-        is_listed: bit(thread.is_listed) as u16,
-    })
 }
 
 // Returns the first address and the size of a stack.
@@ -199,11 +175,7 @@ fn short_sizes(short: Option<ShortContext>) -> (usize, usize)
     }
 }
 
-/// The rows of modules.
-#[derive(Clone, Copy)]
-pub(crate) struct EachModule;
-
-impl MakeRow<CrashModule> for EachModule {
+impl MakeRow for CrashModule {
     ghost use Rattle.crash.specs.Modules.{LoadedValue, loaded_of};
     ghost use Rattle.minidump_c.specs.Tables.{module_row, with_module};
 
@@ -217,37 +189,25 @@ impl MakeRow<CrashModule> for EachModule {
 
     ghost with_texts = { with_module };
 
-    fn make_row(&self, item: &CrashModule, texts: &mut Vec<u8>) -> Result<ModuleRow, AllocError> {
-        module_row(item, texts)
+    fn make_row(&self, texts: &mut Vec<u8>) -> Result<ModuleRow, AllocError> {
+        let path = push_text(texts, self.path.as_bytes())?;
+        let version = push_text(texts, bytes_of(&self.version))?;
+        let code_id = push_text(texts, bytes_of(&self.code_id))?;
+        let debug_file = push_text(texts, bytes_of(&self.debug_file))?;
+        let debug_id = push_text(texts, bytes_of(&self.debug_id))?;
+        Ok(ModuleRow {
+            base: self.base,
+            end: self.end.unwrap_or(0),
+            path,
+            version,
+            code_id,
+            debug_file,
+            debug_id,
+        })
     }
 }
 
-fn module_row(loaded: &CrashModule, texts: &mut Vec<u8>) -> Result<ModuleRow, AllocError>
-    ensures row { IfOk result (λ row. row ≡ module_row texts.old.items (loaded_of loaded.now)) }
-    ensures texts { OnOk result (texts.new.items
-        ≡ with_module texts.old.items (loaded_of loaded.now)) }
-{
-    let path = push_text(texts, loaded.path.as_bytes())?;
-    let version = push_text(texts, bytes_of(&loaded.version))?;
-    let code_id = push_text(texts, bytes_of(&loaded.code_id))?;
-    let debug_file = push_text(texts, bytes_of(&loaded.debug_file))?;
-    let debug_id = push_text(texts, bytes_of(&loaded.debug_id))?;
-    Ok(ModuleRow {
-        base: loaded.base,
-        end: loaded.end.unwrap_or(0),
-        path,
-        version,
-        code_id,
-        debug_file,
-        debug_id,
-    })
-}
-
-/// The rows of modules that were unloaded.
-#[derive(Clone, Copy)]
-pub(crate) struct EachUnloaded;
-
-impl MakeRow<UnloadedModule> for EachUnloaded {
+impl MakeRow for UnloadedModule {
     ghost use Rattle.crash.specs.Modules.{UnloadedModuleValue, unloaded_module_of};
     ghost use Rattle.minidump_c.specs.Tables.{unloaded_row, with_unloaded};
 
@@ -261,27 +221,14 @@ impl MakeRow<UnloadedModule> for EachUnloaded {
 
     ghost with_texts = { with_unloaded };
 
-    fn make_row(
-        &self,
-        item: &UnloadedModule,
-        texts: &mut Vec<u8>,
-    ) -> Result<UnloadedRow, AllocError> {
-        unloaded_row(item, texts)
+    fn make_row(&self, texts: &mut Vec<u8>) -> Result<UnloadedRow, AllocError> {
+        let path = push_text(texts, self.path.as_bytes())?;
+        let code_id = push_text(texts, bytes_of(&self.code_id))?;
+        Ok(UnloadedRow {
+            base: self.base,
+            end: self.end.unwrap_or(0),
+            path,
+            code_id,
+        })
     }
-}
-
-fn unloaded_row(gone: &UnloadedModule, texts: &mut Vec<u8>) -> Result<UnloadedRow, AllocError>
-    ensures row { IfOk result
-        (λ row. row ≡ unloaded_row texts.old.items (unloaded_module_of gone.now)) }
-    ensures texts { OnOk result (texts.new.items
-        ≡ with_unloaded texts.old.items (unloaded_module_of gone.now)) }
-{
-    let path = push_text(texts, gone.path.as_bytes())?;
-    let code_id = push_text(texts, bytes_of(&gone.code_id))?;
-    Ok(UnloadedRow {
-        base: gone.base,
-        end: gone.end.unwrap_or(0),
-        path,
-        code_id,
-    })
 }

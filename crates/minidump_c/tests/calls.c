@@ -105,8 +105,8 @@ static int is_left(const char *name, const void *row, size_t size) {
 }
 
 static void print_exception(const struct minidump_exception *e) {
-    printf("exception %u thread %u 0x%x 0x%x at 0x%llx nested 0x%llx; access %u; sender %u %u %u %u; problem %u; parameters %u:",
-           e->has_exception, e->thread, e->code, e->flags, (number)e->address, (number)e->nested, e->access, e->has_sender, e->sender,
+    printf("exception %u thread %u 0x%x 0x%x at 0x%llx nested 0x%llx; access %u; sender %u %u %u %u %u; problem %u; parameters %u:",
+           e->has_exception, e->thread, e->code, e->flags, (number)e->address, (number)e->nested, e->access, e->is_sent, e->has_sender, e->sender,
            e->has_sender_user, e->sender_user, e->context_problem, e->parameter_count);
     for (int i = 0; i < 15; i++) printf(" 0x%llx", (number)e->parameters[i]);
     printf("\n");

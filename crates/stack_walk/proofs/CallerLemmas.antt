@@ -103,7 +103,7 @@ by_call s after saved address g e =
     let call =
     step (λ call. if is_code s.modules call
     then Some (record { instruction = address; stack_pointer = after; frame_pointer = Some saved; trust = FramePointer })
-    else None) (call_site address) g e
+    else None) (call_site s.cpu address) g e
     in
     let code =
     passed (is_code s.modules call.0)

@@ -38,7 +38,7 @@ by_word s after word f e =
     let call =
     step (λ call. if may_have_called s call
     then Some (record { instruction = word; stack_pointer = after; frame_pointer = None; trust = Scan })
-    else None) (call_site word) f e
+    else None) (call_site s.cpu word) f e
     in
     let code =
     passed (may_have_called s call.0)

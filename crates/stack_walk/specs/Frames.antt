@@ -102,7 +102,7 @@ caller_by s after saved address = option_and_then (λ call. if is_code s.modules
       frame_pointer = Some saved;
       trust = FramePointer;
     })
-    else None) (call_site address)
+    else None) (call_site s.cpu address)
 
 -- the frame to which the record at an address returns. A record is two words: the saved frame
 -- pointer and the return address. None where the address after it has more than 64 bits
@@ -155,7 +155,7 @@ candidate_by s after word = option_and_then
       frame_pointer = None;
       trust = Scan;
     })
-    else None) (call_site word)
+    else None) (call_site s.cpu word)
 
 -- the candidate of the word at an address. None where the address after it has more than 64 bits
 abbrev pub candidate_at : StackValue → ℕ → ℕ → Option StackFrame

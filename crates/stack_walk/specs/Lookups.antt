@@ -1,9 +1,11 @@
 -- What the address of a frame is looked up in: the modules of a process, and what is known of its
 -- memory.
-use Rattle.std.specs.Prelude.{ℕ, ◌-◌, Bool, true, is_some, nat_le, List, Option, Some, None}
+use Rattle.std.specs.Prelude.{ℕ, ◌-◌, ◌%◌, Bool, true, is_some, nat_le, List, Option, Some, None}
 use Rattle.std.specs.Prelude.{if◌then◌else◌}
 use Rattle.std.specs.List.{enumerate_from}
 use Rattle.std.specs.Option.{option_and_then, option_map, option_map_or}
+use Rattle.minidump.specs.declared.system_info.Cpu.{Cpu}
+use Rattle.minidump.specs.declared.system_info.Cpu.TheVariants as cpu
 use Rattle.minidump.specs.Below.Index.Lookup.{looked_up}
 use Rattle.minidump.specs.Below.MemoryLists.UnifiedInfo.{InfoRegion, range_of_info_region}
 use Rattle.minidump.specs.Below.MemoryLists.UnifiedInfo.{region_is_executable}
@@ -12,21 +14,28 @@ use Rattle.stack_walk.specs.declared.frame.FrameTrust.{FrameTrust}
 use Rattle.stack_walk.specs.declared.frame.FrameTrust.TheVariants.{Context, Cfi, FramePointer, Scan}
 use Rattle.stack_walk.specs.declared.frame.StackFrame.{StackFrame}
 
--- the address before a return address, which lies in the call: none before 0
-abbrev pub call_site : ℕ → Option ℕ
-call_site address = if nat_le 1 address then Some (address - 1) else None
+-- where a return address returns to: on ARM of 32 bits its bit 0 only says that the code there is Thumb
+-- code
+abbrev pub returns_to : Cpu → ℕ → ℕ
+returns_to cpu.Arm address = address - address % 2
+returns_to _ address = address
+
+-- the address before that, which lies in the call: none before 0
+abbrev pub call_site : Cpu → ℕ → Option ℕ
+call_site processor address = if nat_le 1 (returns_to processor address)
+    then Some (returns_to processor address - 1) else None
 
 -- the address by which a frame is looked up: the instruction pointer of a context, else that of the
 -- call
-abbrev lookup_by : FrameTrust → ℕ → Option ℕ
-lookup_by Context address = Some address
-lookup_by Cfi address = call_site address
-lookup_by FramePointer address = call_site address
-lookup_by Scan address = call_site address
+abbrev lookup_by : Cpu → FrameTrust → ℕ → Option ℕ
+lookup_by processor Context address = Some address
+lookup_by processor Cfi address = call_site processor address
+lookup_by processor FramePointer address = call_site processor address
+lookup_by processor Scan address = call_site processor address
 
 -- the same of a frame
-abbrev pub lookup_address : StackFrame → Option ℕ
-lookup_address f = lookup_by f.trust f.instruction
+abbrev pub lookup_address : Cpu → StackFrame → Option ℕ
+lookup_address processor f = lookup_by processor f.trust f.instruction
 
 -- the kept module that contains an address
 abbrev pub module_at : List ModuleValue → Option ℕ → Option ModuleValue

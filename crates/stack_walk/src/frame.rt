@@ -6,7 +6,7 @@ ghost use Rattle.stack_walk.specs.Evidence.{evidence_address};
 ghost use Rattle.stack_walk.specs.Lookups.{lookup_address, module_at, module_offset_at};
 
 use crate::lookups::{call_site, offset_at};
-use minidump::system_info::PointerWidth;
+use minidump::system_info::{Cpu, PointerWidth};
 use minidump::{MinidumpModule, MinidumpModuleList};
 
 /// How a frame was found.
@@ -38,35 +38,39 @@ pub struct StackFrame {
 
 impl StackFrame {
     /// Returns the address by which the frame is looked up: the instruction pointer of the context,
-    /// and else the return address less one, which lies in the call. Returns `None` for a return
-    /// address of 0.
-    pub fn lookup_address(&self) -> Option<u64>
-        ensures { result ≡ lookup_address self.now }
+    /// and else the return address less one, which lies in the call; on ARM of 32 bits without its
+    /// bit 0, which stands for Thumb code. Returns `None` where nothing is below that.
+    pub fn lookup_address(&self, cpu: Cpu) -> Option<u64>
+        ensures { result ≡ lookup_address cpu self.now }
     {
         match self.trust {
             FrameTrust::Context => Some(self.instruction),
             FrameTrust::Cfi | FrameTrust::FramePointer | FrameTrust::Scan => {
-                call_site(self.instruction)
+                call_site(cpu, self.instruction)
             },
         }
     }
 
     /// Returns the kept module of the frame, the one that contains its lookup address, or `None` if
     /// no kept module does.
-    pub fn module<'l>(&self, modules: &'l MinidumpModuleList) -> Option<&'l MinidumpModule>
+    pub fn module<'l>(
+        &self,
+        cpu: Cpu,
+        modules: &'l MinidumpModuleList,
+    ) -> Option<&'l MinidumpModule>
         ensures { option_map module_of (option_copied result)
-            ≡ module_at (module_list_stream.value modules.now) (lookup_address self.now) }
+            ≡ module_at (module_list_stream.value modules.now) (lookup_address cpu self.now) }
     {
-        modules.module_at_address(self.lookup_address()?)
+        modules.module_at_address(self.lookup_address(cpu)?)
     }
 
     /// Returns the offset of the frame's lookup address in its module, or `None` if it has no
     /// module.
-    pub fn module_offset(&self, modules: &MinidumpModuleList) -> Option<u64>
+    pub fn module_offset(&self, cpu: Cpu, modules: &MinidumpModuleList) -> Option<u64>
         ensures { result ≡ module_offset_at (module_list_stream.value modules.now)
-            (lookup_address self.now) }
+            (lookup_address cpu self.now) }
     {
-        let address = self.lookup_address()?;
+        let address = self.lookup_address(cpu)?;
         offset_at(modules, address)
     }
 

@@ -3,15 +3,26 @@ ghost use Rattle.minidump.specs.Below.MemoryLists.UnifiedInfo.{info_list, info_r
 ghost use Rattle.minidump.specs.Promise.{module_list_stream};
 ghost use Rattle.stack_walk.specs.Calls.{is_past_headers};
 ghost use Rattle.stack_walk.specs.Lookups.{call_site, is_code, may_be_run, module_offset_at};
-ghost use Rattle.stack_walk.specs.Lookups.{module_place};
+ghost use Rattle.stack_walk.specs.Lookups.{module_place, returns_to};
 
+use minidump::system_info::Cpu;
 use minidump::{MinidumpModuleList, Module, UnifiedMemoryInfoList};
 
-// Returns the address before a return address, which lies in the call.
-pub(crate) fn call_site(address: u64) -> Option<u64>
-    ensures { result ≡ call_site address }
+// Returns the address before the one that a return address returns to, which lies in the call.
+pub(crate) fn call_site(cpu: Cpu, address: u64) -> Option<u64>
+    ensures { result ≡ call_site cpu address }
 {
-    address.checked_sub(1)
+    returns_to(cpu, address).checked_sub(1)
+}
+
+// Returns the address that a return address returns to, which on ARM lacks its bit 0.
+fn returns_to(cpu: Cpu, address: u64) -> u64
+    ensures { result ≡ returns_to cpu address }
+{
+    match cpu {
+        Cpu::Arm => address - address % 2,
+        _ => address,
+    }
 }
 
 // Returns the offset of an address in the kept module that contains it.

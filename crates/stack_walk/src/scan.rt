@@ -183,7 +183,7 @@ fn candidate_of(stack: &Stack<'_, '_>, size: u64, address: u64) -> Option<StackF
 {
     let stack_pointer = address.checked_add(size)?;
     let word = stack.word_at(address)?;
-    let call = call_site(word)?;
+    let call = call_site(stack.cpu, word)?;
     if may_have_called(stack, call) {
         Some(StackFrame {
             instruction: word,

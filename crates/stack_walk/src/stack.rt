@@ -62,7 +62,7 @@ fn caller_at(stack: &Stack<'_, '_>, size: u64, address: u64) -> Option<StackFram
     let stack_pointer = address.checked_add(size.checked_mul(2)?)?;
     let saved = stack.word_at(address)?;
     let instruction = stack.word_at(address + size)?;
-    if is_code(stack.modules, call_site(instruction)?) {
+    if is_code(stack.modules, call_site(stack.cpu, instruction)?) {
         Some(StackFrame {
             instruction,
             stack_pointer,

@@ -54,9 +54,9 @@ no_rules u f none = by (address_bits u.stack.width)
     over bits None = refl
     over bits (Some address) = at bits address
 
-    by : (o : Option ℕ) → option_and_then (λ bits. option_and_then (rules_by u f bits) (lookup_address f.frame)) o ≡ None
+    by : (o : Option ℕ) → option_and_then (λ bits. option_and_then (rules_by u f bits) (lookup_address u.stack.cpu f.frame)) o ≡ None
     by None = refl
-    by (Some bits) = over bits (lookup_address f.frame)
+    by (Some bits) = over bits (lookup_address u.stack.cpu f.frame)
 
 no_end : (u : UnwinderValue) (f : FrameValue) → HaveNone u.symbols → end_by_rules u f ≡ None
 unfolding end_by_rules
@@ -72,7 +72,7 @@ no_function u address none =
     ap (λ (o : Option (SymbolsValue × ℕ)). option_map_or (λ p. has_function p.0 p.1) o false) (no_symbols u.stack.modules u.symbols address none)
 
 not_called : (u : UnwinderValue) (candidate : StackFrame) → HaveNone u.symbols → is_called u candidate ≡ false
-not_called u candidate none = by (lookup_address candidate)
+not_called u candidate none = by (lookup_address u.stack.cpu candidate)
   where
     by : (o : Option ℕ) → option_map_or (in_function u) o false ≡ false
     by None = refl

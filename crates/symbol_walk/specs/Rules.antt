@@ -80,7 +80,7 @@ rules_by u f bits address = option_and_then
 -- the rules of a frame: those of the address by which it is looked up
 unfoldable pub rules_at : UnwinderValue → FrameValue → Option RulesValue
 rules_at u f = option_and_then (λ bits. option_and_then (rules_by u f bits)
-    (lookup_address f.frame)) (address_bits u.stack.width)
+    (lookup_address u.stack.cpu f.frame)) (address_bits u.stack.width)
 
 -- ---- where they return to
 

@@ -27,7 +27,8 @@ in_function u address = option_map_or (λ p. has_function p.0 p.1)
 
 -- whether the call of a candidate lies in one
 abbrev pub is_called : UnwinderValue → StackFrame → Bool
-is_called u candidate = option_map_or (in_function u) (lookup_address candidate) false
+is_called u candidate =
+    option_map_or (in_function u) (lookup_address u.stack.cpu candidate) false
 
 -- whether the walk goes on from a candidate after a frame: its call lies in a function
 unfoldable pub restarts : UnwinderValue → StackFrame → StackFrame → Bool

@@ -46,7 +46,7 @@ impl<'w, 'l, 'a, 's> Unwinder<'w, 'l, 'a, 's> {
         ensures { option_map rules_of result ≡ rules_at (unwinder_of self.now) (frame_of known.now) }
     {
         let width = address_width(self.stack.width)?;
-        let address = known.frame.lookup_address()?;
+        let address = known.frame.lookup_address(self.stack.cpu)?;
         self.rules_by(known, width, address)
     }
 

@@ -63,7 +63,7 @@ impl Unwinder<'_, '_, '_, '_> {
     fn is_called(&self, candidate: &StackFrame) -> bool
         ensures { result ≡ is_called (unwinder_of self.now) candidate.now }
     {
-        match candidate.lookup_address() {
+        match candidate.lookup_address(self.stack.cpu) {
             Some(address) => self.in_function(address),
             None => false,
         }

@@ -1,7 +1,6 @@
 //! Tests of the libraries that read no whole dump: `minidump_bytes`, `minidump_format`,
-//! `minidump_index`, `minidump_system`, `minidump_synth` and `breakpad_symbols`, on their public
-//! calls. They stand
-//! apart from them, since a library with a test is proved twice.
+//! `minidump_index`, `minidump_system` and `minidump_synth`, on their public calls. They stand apart
+//! from them, since a library with a test is proved twice.
 //!
 //! They show what no contract says: that a call succeeds where there is memory, and that
 //! definitions mean the format. So each expected value is written from the format's own tables, not
@@ -17,8 +16,6 @@ mod bytes;
 mod format;
 #[cfg(test)]
 mod index;
-#[cfg(test)]
-mod symbols;
 #[cfg(test)]
 mod synth;
 #[cfg(test)]

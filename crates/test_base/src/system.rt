@@ -1,3 +1,2 @@
 // Tests of `minidump_system`.
 mod names;
-mod system_info;

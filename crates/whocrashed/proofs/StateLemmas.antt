@@ -8,15 +8,16 @@ use Rattle.std.proofs.lemmas.Grind.{get_or-set_at}
 use Rattle.std.proofs.lemmas.List.{get_or-set_other, length-set, map-set}
 use Rattle.breakpad_symbols.specs.SymbolFile.{SymbolsValue}
 use Rattle.breakpad_symbols.specs.declared.symbol_file.SymbolFile.{SymbolFile}
-use Rattle.crash_symbols.specs.Symbols.{KnownSymbols}
+use Rattle.crash_symbols.specs.Symbols.{KnownSymbols, are_loaded}
 use Rattle.crash_symbols.specs.declared.symbols.SymbolState.{SymbolState}
 use Rattle.crash_symbols.specs.declared.symbols.SymbolState.TheVariants.{Unwanted}
 use Rattle.whocrashed.specs.declared.symbols.NoSymbols.{NoSymbols}
 use Rattle.whocrashed.specs.declared.symbols.NoSymbols.TheVariants as reason
-use Rattle.whocrashed.specs.Symbols.{AreLoaded, IsAsked, is_loaded, state_read, value_read}
+use Rattle.whocrashed.specs.Symbols.{AreLoaded, IsAsked, state_read, value_read}
 
 -- what was looked for is loaded exactly if it was found
-found_loaded : (found : Result (Bor SymbolFile) NoSymbols) → is_loaded (state_read found) ≡ is_some (value_read found)
+found_loaded : (found : Result (Bor SymbolFile) NoSymbols) → are_loaded (state_read found) ≡ is_some (value_read found)
+unfolding are_loaded
 found_loaded (Ok f) = refl
 found_loaded (Err reason.Missing) = refl
 found_loaded (Err reason.Corrupt) = refl
@@ -34,8 +35,8 @@ module _ (old new : KnownSymbols) (index : ℕ) (found : Result (Bor SymbolFile)
   -- exactly what is known is loaded, as before
   pub set_loaded : AreLoaded old → AreLoaded new
   set_loaded same =
-      ap (map is_loaded) states ∙ map-set is_loaded old.states index (state_read found)
-      ∙ ap (λ l. slice_set l index (is_loaded (state_read found))) same
+      ap (map are_loaded) states ∙ map-set are_loaded old.states index (state_read found)
+      ∙ ap (λ l. slice_set l index (are_loaded (state_read found))) same
       ∙ ap (λ b. slice_set (map is_some old.files) index b) (found_loaded found)
       ∙ sym (map-set is_some old.files index (value_read found)) ∙ sym (ap (map is_some) files)
 
@@ -66,6 +67,7 @@ map_replicate f (suc n) x = ap (λ l. f x ∷ l) (map_replicate f n x)
 -- where nothing is known, nothing is loaded
 pub none_loaded : (known : KnownSymbols) (count : ℕ) → known.files ≡ replicate count None → known.states ≡ replicate count Unwanted
     → AreLoaded known
+unfolding are_loaded
 none_loaded known count files states =
-    ap (map is_loaded) states ∙ map_replicate is_loaded count Unwanted
+    ap (map are_loaded) states ∙ map_replicate are_loaded count Unwanted
     ∙ sym (map_replicate is_some count None) ∙ sym (ap (map is_some) files)

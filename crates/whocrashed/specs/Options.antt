@@ -45,14 +45,14 @@ pub record AreOptions (found : Found) (options : Options) : Type 0 where
   pub handles : IsFlag found (codes "handles") options.limits.handles
   pub environment : IsFlag found (codes "environment") options.limits.environment
   pub scan : IsNumber found (codes "scan") options.scan
-  pub names : map (λ f. f.now) options.names.files.items ≡ values_in found (codes "names")
-  pub only_names : IsFlag found (codes "only-names") options.names.only_files
-  pub symbols : map (λ d. d.now) options.symbols.dirs.items ≡ values_in found (codes "symbols")
-  pub symbols_limit : IsNumber found (codes "symbols-limit") options.symbols.limit
+  pub names : map (λ f. f.now) options.names.items ≡ values_in found (codes "names")
+  pub only_names : IsFlag found (codes "only-names") options.only_names
+  pub symbols : map (λ d. d.now) options.symbols.items ≡ values_in found (codes "symbols")
+  pub symbols_limit : IsNumber found (codes "symbols-limit") options.symbols_limit
   pub progress : IsFlag found (codes "progress") options.shows_progress
-  pub dumps : map (λ d. d.now) options.dumps.paths.items ≡ values_in found (codes "dumps")
-  pub listed : IsFlag found (codes "stdin-paths") options.dumps.are_listed
-  pub limit : IsNumber found (codes "limit") options.dumps.limit
+  pub dumps : map (λ d. d.now) options.dumps.items ≡ values_in found (codes "dumps")
+  pub listed : IsFlag found (codes "stdin-paths") options.are_listed
+  pub limit : IsNumber found (codes "limit") options.limit
 
 -- the options are those that words ask for, by matches that clap's contract allows a command for these
 pub record AreAskedFor (command : Command) (words : List (String Global)) (options : Options)

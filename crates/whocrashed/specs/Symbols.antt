@@ -1,5 +1,5 @@
 -- What is known of a module's symbol file after it was looked for.
-use Rattle.std.specs.Prelude.{◌≡◌, ◌≢◌, ℕ, ◌<◌, ◌==◌, Bool, not, false, true, List, length, map, slice_get}
+use Rattle.std.specs.Prelude.{◌≡◌, ◌≢◌, ℕ, ◌<◌, ◌==◌, Bool, not, true, List, length, map, slice_get}
 use Rattle.std.specs.Prelude.{is_some, slice_index_or}
 use Rattle.std.specs.Prelude.{Option, Some, None, Result, Ok, Err, if◌then◌else◌}
 use Rattle.std.specs.Borrow.{Bor}
@@ -9,7 +9,7 @@ use Rattle.breakpad_symbols.specs.SymbolFile.{SymbolsValue, symbols_of}
 use Rattle.breakpad_symbols.specs.declared.symbol_file.SymbolFile.{SymbolFile}
 use Rattle.crash.specs.Modules.{LoadedValue}
 use Rattle.crash_symbols.specs.Modules.{is_of_module}
-use Rattle.crash_symbols.specs.Symbols.{KnownSymbols}
+use Rattle.crash_symbols.specs.Symbols.{KnownSymbols, are_loaded}
 use Rattle.crash_symbols.specs.declared.symbols.SymbolState.{SymbolState}
 use Rattle.crash_symbols.specs.declared.symbols.SymbolState.TheVariants.{Corrupt, Loaded, Missing}
 use Rattle.crash_symbols.specs.declared.symbols.SymbolState.TheVariants.{OutOfMemory, Unwanted}
@@ -19,7 +19,7 @@ use Rattle.whocrashed.specs.declared.symbols.SymbolCache.{SymbolCache}
 
 -- there are directories in which symbol files are looked for
 abbrev pub has_dirs : SymbolCache → Bool
-has_dirs cache = not (length cache.dirs.paths.now == 0)
+has_dirs cache = not (length cache.dirs.now == 0)
 
 -- the state of a module that was looked for and has no symbol file: neither unwanted nor loaded
 abbrev pub state_without : NoSymbols → SymbolState
@@ -62,17 +62,9 @@ Belong modules files = (k : ℕ) (s : SymbolsValue) → k < length files
     → slice_index_or files k None ≡ Some s
     → (m : LoadedValue) × (slice_get modules k ≡ Some m) × (is_of_module s m ≡ true)
 
--- a state says that a symbol file is loaded
-abbrev pub is_loaded : SymbolState → Bool
-is_loaded Unwanted = false
-is_loaded Missing = false
-is_loaded Loaded = true
-is_loaded Corrupt = false
-is_loaded OutOfMemory = false
-
 -- by the states, exactly those symbol files are loaded that are known
 abbrev pub AreLoaded : KnownSymbols → Type 0
-AreLoaded known = map is_loaded known.states ≡ map is_some known.files
+AreLoaded known = map are_loaded known.states ≡ map is_some known.files
 
 -- the module of an index isn't unwanted, if there is a state of it
 abbrev pub IsAsked : List SymbolState → ℕ → Type 0

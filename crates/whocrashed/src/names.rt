@@ -1,5 +1,5 @@
 use crate::complain::{complain, complain_of};
-use crate::options::NameOptions;
+use crate::options::Options;
 use minidump_names::{NameTable, family_name, listing_in};
 use std::alloc::{AllocError, Global};
 use std::collections::BTreeMap;
@@ -8,27 +8,18 @@ use std::{fs, io};
 /// Returns the text of the names that are asked for: those that are compiled in, unless they are left
 /// out, and those of each file. Of two names of a code that of the later file counts. Returns `None`
 /// if a file can't be read, or isn't one of names, which it says on standard error.
-pub(crate) fn names_text(
-    rt: &HostRuntime,
-    options: &NameOptions<'_>,
-) -> io::Result<Option<String>> {
-    let alloc = rt.alloc();
-    let known = known_text(alloc, options.only_files)?;
-    if options.files.is_empty() {
+pub(crate) fn names_text(rt: &HostRuntime, options: &Options<'_>) -> io::Result<Option<String>> {
+    let known = if options.only_names {
+        String::new(rt.alloc())
+    } else {
+        known_names::text(rt.alloc())?
+    };
+    if options.names.is_empty() {
         return Ok(Some(known));
     }
-    match read_texts(rt, options.files.as_slice())? {
-        Some(texts) => Ok(Some(merged(alloc, known.as_str(), texts.as_slice())?)),
+    match read_texts(rt, options.names.as_slice())? {
+        Some(texts) => Ok(Some(merged(rt.alloc(), known.as_str(), texts.as_slice())?)),
         None => Ok(None),
-    }
-}
-
-// Returns the text of the names that are compiled in, or an empty one if they are left out.
-fn known_text(alloc: Global, are_left_out: bool) -> Result<String, AllocError> {
-    if are_left_out {
-        Ok(String::new(alloc))
-    } else {
-        known_names::text(alloc)
     }
 }
 

@@ -1,4 +1,4 @@
-ghost use Rattle.std.specs.Prelude.{◌≡◌, Bool, IfOk, codes, false, is_some, map};
+ghost use Rattle.std.specs.Prelude.{◌≡◌, IfOk, false, is_some, map};
 ghost use Rattle.clap.specs.Words.{found_of};
 ghost use Rattle.whocrashed.specs.Options.{AreAskedFor, AreOptions, IsFlag, IsNumber, form_by};
 ghost use Rattle.whocrashed.specs.Options.{has_several_inputs, inputs_in, is_refused, values_in};
@@ -26,15 +26,47 @@ read, if the bytes of a context or a stack are outside the file, if memory ran o
 arguments are refused. What is missing of symbols doesn't change it. If the pipe that is written to is closed, the run
 ends with the status of the dumps before.";
 
-// The defaults of --frames and --scan, and of --limit and --symbols-limit.
-const FRAMES: &str = "64";
+// What stands behind an option.
+enum Takes {
+    // nothing: it is a flag
+    Nothing,
+    // nothing, and none of these options may stand beside it
+    NothingBeside(&'static [&'static str]),
+    // a path, which the help calls so, each time that the option is given
+    Paths(&'static str),
+    // a number, which the help calls so, and the one that counts if the option isn't given
+    Number(&'static str, &'static str),
+}
 
-const SCAN: &str = "16";
+// Each option: its name, what stands behind it, and what it asks for.
+#[rattlefmt::skip]
+const OPTIONS: &[(&str, Takes, &str)] = &[
+    ("symbols", Takes::Paths("DIR"),
+        "Name frames by Breakpad's symbol files in DIR; of several DIRs the first that has a file counts"),
+    ("symbols-limit", Takes::Number("BYTES", GIBIBYTE), "Read no symbol file with more than BYTES"),
+    ("names", Takes::Paths("FILE"),
+        "Add the names of codes in FILE; of two names of a code that of the last FILE counts"),
+    ("only-names", Takes::Nothing, "Leave out the names of codes that are compiled in"),
+    ("all-threads", Takes::Nothing, "Print all frames of each thread in the lines of text"),
+    ("lists", Takes::Nothing,
+        "Print all streams, modules, regions of memory, handles and limits in the lines of text"),
+    ("modules", Takes::Nothing, "Print all modules in the lines of text, those that were unloaded too"),
+    ("handles", Takes::Nothing, "Print all handles in the lines of text"),
+    ("environment", Takes::Nothing, "Print the variables of Linux's environment, which may hold secrets"),
+    ("frames", Takes::Number("N", "64"), "Print at most N frames of a thread, where N is 1 or more"),
+    ("scan", Takes::Number("N", "16"), "Print at most N candidates among the words of a stack"),
+    ("json", Takes::Nothing, "Print a line of JSON for each DUMP"),
+    ("html", Takes::NothingBeside(&["json", "stdin-paths"]), "Print a page in HTML on the one DUMP"),
+    ("progress", Takes::Nothing, "Say on standard error how many dumps are done"),
+    ("stdin-paths", Takes::Nothing,
+        "Take paths of dumps from standard input too, with NULs or else line feeds between them"),
+    ("limit", Takes::Number("BYTES", GIBIBYTE), "Read no dump, and no list of paths, with more than BYTES"),
+];
 
 const GIBIBYTE: &str = "1073741824";
 
 /// What is printed of a dump.
-#[derive(Clone, Copy, Debug, PartialEq, Eq)]
+#[derive(Clone, Copy, PartialEq)]
 pub(crate) enum Form {
     /// Lines of text.
     Lines,
@@ -44,52 +76,34 @@ pub(crate) enum Form {
     Html,
 }
 
-/// Which names codes have.
-#[derive(Drop)]
-pub(crate) struct NameOptions<'w> {
-    /// The files of names. Of two names of a code that of the later file counts.
-    pub(crate) files: Vec<&'w str>,
-    /// Whether the names that are compiled in are left out.
-    pub(crate) only_files: bool,
-}
-
-/// Where symbol files are looked for.
-#[derive(Drop)]
-pub(crate) struct SymbolOptions<'w> {
-    /// The directories of symbol files, of which the first that has a file counts.
-    pub(crate) dirs: Vec<&'w str>,
-    /// The most bytes of a symbol file.
-    pub(crate) limit: usize,
-}
-
-/// Which dumps are read.
-#[derive(Drop)]
-pub(crate) struct DumpOptions<'w> {
-    /// The arguments, where `-` is the dump on standard input.
-    pub(crate) paths: Vec<&'w str>,
-    /// Whether the paths of further dumps stand on standard input.
-    pub(crate) are_listed: bool,
-    /// The most bytes of a dump.
-    pub(crate) limit: usize,
-}
-
 /// What the arguments ask for.
 #[derive(Drop)]
 pub(crate) struct Options<'w> {
     pub(crate) form: Form,
     pub(crate) limits: TextLimits,
     pub(crate) scan: usize,
-    pub(crate) names: NameOptions<'w>,
-    pub(crate) symbols: SymbolOptions<'w>,
+    /// The files of names. Of two names of a code that of the later file counts.
+    pub(crate) names: Vec<&'w str>,
+    /// Whether the names that are compiled in are left out.
+    pub(crate) only_names: bool,
+    /// The directories of symbol files, of which the first that has a file counts.
+    pub(crate) symbols: Vec<&'w str>,
+    /// The most bytes of a symbol file.
+    pub(crate) symbols_limit: usize,
     pub(crate) shows_progress: bool,
-    pub(crate) dumps: DumpOptions<'w>,
+    /// The arguments, where `-` is the dump on standard input.
+    pub(crate) dumps: Vec<&'w str>,
+    /// Whether the paths of further dumps stand on standard input.
+    pub(crate) are_listed: bool,
+    /// The most bytes of a dump.
+    pub(crate) limit: usize,
 }
 
 impl<'w> Options<'w> {
     // Reads the arguments, without the program's own name.
     pub(crate) fn read(alloc: Global, words: &'w [String]) -> Result<Options<'w>, Error>
         ensures { IfOk result (λ options. is_refused options.form options.limits.frames
-            (map (λ p. p.now) options.dumps.paths.items) options.dumps.are_listed ≡ false) }
+            (map (λ p. p.now) options.dumps.items) options.are_listed ≡ false) }
     {
         let mut command = command(alloc)?;
         let options = options_in(alloc, &mut command, words)?;
@@ -103,12 +117,12 @@ impl<'w> Options<'w> {
 // Returns why options that were read are refused, if they are.
 fn refusal(options: &Options<'_>) -> Option<(ErrorKind, &'static str)>
     ensures { is_some result ≡ is_refused options.now.form options.now.limits.frames
-        (map (λ p. p.now) options.now.dumps.paths.items) options.now.dumps.are_listed }
+        (map (λ p. p.now) options.now.dumps.items) options.now.are_listed }
 {
-    if options.form == Form::Html && options.dumps.paths.len() > 1 {
+    if options.form == Form::Html && options.dumps.len() > 1 {
         return Some((ErrorKind::TooManyValues, "--html takes one DUMP"));
     }
-    if has_several_inputs(&options.dumps) {
+    if has_several_inputs(options.dumps.as_slice(), options.are_listed) {
         return Some((
             ErrorKind::ArgumentConflict,
             "standard input is read once, by one of - and --stdin-paths",
@@ -121,12 +135,11 @@ fn refusal(options: &Options<'_>) -> Option<(ErrorKind, &'static str)>
 }
 
 // Tells whether standard input is asked for more than once.
-fn has_several_inputs(dumps: &DumpOptions<'_>) -> bool
-    ensures { result ≡ has_several_inputs (map (λ p. p.now) dumps.now.paths.items)
-        dumps.now.are_listed }
+fn has_several_inputs(paths: &[&str], are_listed: bool) -> bool
+    ensures { result ≡ has_several_inputs (map (λ p. p.now) paths.now) are_listed }
 {
-    let inputs = inputs_in(dumps.paths.as_slice());
-    inputs > 1 || inputs == 1 && dumps.are_listed
+    let inputs = inputs_in(paths);
+    inputs > 1 || inputs == 1 && are_listed
 }
 
 // Counts the paths that are `-`.
@@ -152,64 +165,29 @@ fn options_in<'w>(
 fn options_of<'w>(alloc: Global, matches: &ArgMatches<'w>) -> Result<Options<'w>, AllocError>
     ensures { IfOk result (λ options. AreOptions (found_of matches.now) options) }
 {
-    let names = names_of(alloc, matches)?;
-    let symbols = symbols_of(alloc, matches)?;
-    let dumps = dumps_of(alloc, matches)?;
+    let names = values_of(alloc, matches, "names")?;
+    let symbols = values_of(alloc, matches, "symbols")?;
+    let dumps = values_of(alloc, matches, "dumps")?;
     Ok(Options {
-        form: form_of(matches),
-        limits: limits_of(matches),
-        scan: scan_of(matches),
+        form: form_by(flag_of(matches, "json"), flag_of(matches, "html")),
+        limits: TextLimits {
+            frames: number_of(matches, "frames"),
+            all_threads: flag_of(matches, "all-threads"),
+            lists: flag_of(matches, "lists"),
+            modules: flag_of(matches, "modules"),
+            handles: flag_of(matches, "handles"),
+            environment: flag_of(matches, "environment"),
+        },
+        scan: number_of(matches, "scan"),
         names,
+        only_names: flag_of(matches, "only-names"),
         symbols,
-        shows_progress: matches.get_flag("progress"),
+        symbols_limit: number_of(matches, "symbols-limit"),
+        shows_progress: flag_of(matches, "progress"),
         dumps,
-    })
-}
-
-fn names_of<'w>(alloc: Global, matches: &ArgMatches<'w>) -> Result<NameOptions<'w>, AllocError>
-    ensures files { IfOk result (λ names. map (λ f. f.now) names.files.items
-        ≡ values_in (found_of matches.now) (codes "names")) }
-    ensures only { IfOk result (λ names. IsFlag (found_of matches.now) (codes "only-names")
-        names.only_files) }
-{
-    Ok(NameOptions {
-        files: values_of(alloc, matches, "names")?,
-        only_files: matches.get_flag("only-names"),
-    })
-}
-
-fn symbols_of<'w>(alloc: Global, matches: &ArgMatches<'w>) -> Result<SymbolOptions<'w>, AllocError>
-    ensures dirs { IfOk result (λ symbols. map (λ d. d.now) symbols.dirs.items
-        ≡ values_in (found_of matches.now) (codes "symbols")) }
-    ensures limit { IfOk result (λ symbols. IsNumber (found_of matches.now) (codes "symbols-limit")
-        symbols.limit) }
-{
-    Ok(SymbolOptions {
-        dirs: values_of(alloc, matches, "symbols")?,
-        limit: number_of(matches, "symbols-limit"),
-    })
-}
-
-fn dumps_of<'w>(alloc: Global, matches: &ArgMatches<'w>) -> Result<DumpOptions<'w>, AllocError>
-    ensures paths { IfOk result (λ dumps. map (λ d. d.now) dumps.paths.items
-        ≡ values_in (found_of matches.now) (codes "dumps")) }
-    ensures listed { IfOk result (λ dumps. IsFlag (found_of matches.now) (codes "stdin-paths")
-        dumps.are_listed) }
-    ensures limit { IfOk result (λ dumps. IsNumber (found_of matches.now) (codes "limit")
-        dumps.limit) }
-{
-    Ok(DumpOptions {
-        paths: values_of(alloc, matches, "dumps")?,
-        are_listed: matches.get_flag("stdin-paths"),
+        are_listed: flag_of(matches, "stdin-paths"),
         limit: number_of(matches, "limit"),
     })
-}
-
-fn form_of(matches: &ArgMatches<'_>) -> Form
-    ensures { (json html : Bool) × IsFlag (found_of matches.now) (codes "json") json
-        × IsFlag (found_of matches.now) (codes "html") html × (result ≡ form_by json html) }
-{
-    form_by(matches.get_flag("json"), matches.get_flag("html"))
 }
 
 // Returns the form that two flags ask for, which exclude one another.
@@ -225,28 +203,11 @@ fn form_by(json: bool, html: bool) -> Form
     }
 }
 
-fn limits_of(matches: &ArgMatches<'_>) -> TextLimits
-    ensures frames { IsNumber (found_of matches.now) (codes "frames") result.frames }
-    ensures all_threads { IsFlag (found_of matches.now) (codes "all-threads") result.all_threads }
-    ensures lists { IsFlag (found_of matches.now) (codes "lists") result.lists }
-    ensures modules { IsFlag (found_of matches.now) (codes "modules") result.modules }
-    ensures handles { IsFlag (found_of matches.now) (codes "handles") result.handles }
-    ensures environment { IsFlag (found_of matches.now) (codes "environment") result.environment }
+// Tells whether a flag is given.
+fn flag_of(matches: &ArgMatches<'_>, id: &str) -> bool
+    ensures { IsFlag (found_of matches.now) id.now result }
 {
-    TextLimits {
-        frames: number_of(matches, "frames"),
-        all_threads: matches.get_flag("all-threads"),
-        lists: matches.get_flag("lists"),
-        modules: matches.get_flag("modules"),
-        handles: matches.get_flag("handles"),
-        environment: matches.get_flag("environment"),
-    }
-}
-
-fn scan_of(matches: &ArgMatches<'_>) -> usize
-    ensures { IsNumber (found_of matches.now) (codes "scan") result }
-{
-    number_of(matches, "scan")
+    matches.get_flag(id)
 }
 
 // Returns the number of an option. clap has a default for each, and returns an error for a text
@@ -272,131 +233,40 @@ fn values_of<'w>(
     }
 }
 
-// Makes the command, which knows the options.
+// Makes the command, which knows the options and the argument.
 fn command<'w>(alloc: Global) -> Result<Command<'w>, AllocError> {
-    described(alloc)
-        .args(read_args(alloc)?)?
-        .args(text_args(alloc)?)?
-        .args(form_args(alloc)?)?
-        .args(dump_args(alloc)?)
-}
-
-// Makes the command without its options.
-fn described<'w>(alloc: Global) -> Command<'w> {
-    Command::new(alloc, "whocrashed")
+    let mut command = Command::new(alloc, "whocrashed")
         .no_binary_name(true)
         .version("0.27.0+rattle.1")
         .about(ABOUT)
-        .after_help(EXAMPLES)
+        .after_help(EXAMPLES);
+    for (name, takes, help) in OPTIONS {
+        let arg = arg_of(alloc, *name, takes, *help)?;
+        command = command.arg(arg)?;
+    }
+    command.arg(dumps(alloc)?)
 }
 
-// Makes the options for what is read beside the dumps.
-fn read_args<'w>(alloc: Global) -> Result<Vec<Arg<'w>>, AllocError> {
-    Ok(vec![in alloc;
-        files(
-            alloc,
-            "symbols",
-            "DIR",
-            "Name frames by Breakpad's symbol files in DIR; of several DIRs the first that has a file counts",
-        ),
-        number(
-            alloc,
-            "symbols-limit",
-            "BYTES",
-            GIBIBYTE,
-            "Read no symbol file with more than BYTES",
-        ),
-        files(
-            alloc,
-            "names",
-            "FILE",
-            "Add the names of codes in FILE; of two names of a code that of the last FILE counts",
-        ),
-        flag(
-            alloc,
-            "only-names",
-            "Leave out the names of codes that are compiled in",
-        ),
-    ]?)
+// Makes an option.
+fn arg_of<'w>(
+    alloc: Global,
+    name: &'static str,
+    takes: &'static Takes,
+    help: &'static str,
+) -> Result<Arg<'w>, AllocError> {
+    let arg = Arg::new(alloc, name).long(name).help(help);
+    Ok(match takes {
+        Takes::Nothing => arg.action(ArgAction::SetTrue),
+        Takes::NothingBeside(names) => arg.action(ArgAction::SetTrue).conflicts_with_all(*names)?,
+        Takes::Paths(value) => arg.value_name(*value).action(ArgAction::Append),
+        Takes::Number(value, default) => arg
+            .value_name(*value)
+            .value_parser(value_parser!(usize))
+            .default_value(*default),
+    })
 }
 
-// Makes the options for what is printed.
-fn text_args<'w>(alloc: Global) -> Result<Vec<Arg<'w>>, AllocError> {
-    Ok(vec![in alloc;
-        flag(
-            alloc,
-            "all-threads",
-            "Print all frames of each thread in the lines of text",
-        ),
-        flag(
-            alloc,
-            "lists",
-            "Print all streams, modules, regions of memory, handles and limits in the lines of text",
-        ),
-        flag(
-            alloc,
-            "modules",
-            "Print all modules in the lines of text, those that were unloaded too",
-        ),
-        flag(alloc, "handles", "Print all handles in the lines of text",),
-        flag(
-            alloc,
-            "environment",
-            "Print the variables of Linux's environment, which may hold secrets",
-        ),
-        number(
-            alloc,
-            "frames",
-            "N",
-            FRAMES,
-            "Print at most N frames of a thread, where N is 1 or more",
-        ),
-        number(
-            alloc,
-            "scan",
-            "N",
-            SCAN,
-            "Print at most N candidates among the words of a stack",
-        ),
-    ]?)
-}
-
-// Makes the options for the form.
-fn form_args<'w>(alloc: Global) -> Result<Vec<Arg<'w>>, AllocError> {
-    let html = flag(alloc, "html", "Print a page in HTML on the one DUMP")
-        .conflicts_with("json")?
-        .conflicts_with("stdin-paths")?;
-    Ok(vec![in alloc;
-        flag(alloc, "json", "Print a line of JSON for each DUMP"),
-        html,
-        flag(
-            alloc,
-            "progress",
-            "Say on standard error how many dumps are done",
-        ),
-    ]?)
-}
-
-// Makes the options for the dumps, and the argument.
-fn dump_args<'w>(alloc: Global) -> Result<Vec<Arg<'w>>, AllocError> {
-    let dumps = dumps(alloc)?;
-    Ok(vec![in alloc;
-        flag(
-            alloc,
-            "stdin-paths",
-            "Take paths of dumps from standard input too, with NULs or else line feeds between them",
-        ),
-        number(
-            alloc,
-            "limit",
-            "BYTES",
-            GIBIBYTE,
-            "Read no dump, and no list of paths, with more than BYTES",
-        ),
-        dumps,
-    ]?)
-}
-
+// Makes the argument.
 fn dumps<'w>(alloc: Global) -> Result<Arg<'w>, AllocError> {
     Arg::new(alloc, "dumps")
         .value_name("DUMP")
@@ -404,37 +274,4 @@ fn dumps<'w>(alloc: Global) -> Result<Arg<'w>, AllocError> {
         .action(ArgAction::Append)
         .num_args(1..)
         .required_unless_present("stdin-paths")
-}
-
-// Makes an option that may be given more than once, with a path each time.
-fn files<'w>(alloc: Global, id: &'w str, value: &'w str, help: &'w str) -> Arg<'w> {
-    Arg::new(alloc, id)
-        .long(id)
-        .value_name(value)
-        .action(ArgAction::Append)
-        .help(help)
-}
-
-// Makes an option without a value.
-fn flag<'w>(alloc: Global, id: &'w str, help: &'w str) -> Arg<'w> {
-    Arg::new(alloc, id)
-        .long(id)
-        .action(ArgAction::SetTrue)
-        .help(help)
-}
-
-// Makes an option whose value is a number.
-fn number<'w>(
-    alloc: Global,
-    id: &'w str,
-    value: &'w str,
-    default: &'w str,
-    help: &'w str,
-) -> Arg<'w> {
-    Arg::new(alloc, id)
-        .long(id)
-        .value_name(value)
-        .value_parser(value_parser!(usize))
-        .default_value(default)
-        .help(help)
 }

@@ -5,7 +5,7 @@ use crate::input::{Dump, dumps_in, read_input};
 use crate::names::names_text;
 use crate::options::Options;
 use crate::report::Reporter;
-use crate::symbols::{SymbolCache, SymbolDirs};
+use crate::symbols::SymbolCache;
 use clap::Error;
 use clap::error::ErrorKind;
 use crash_text::push_line;
@@ -72,7 +72,7 @@ fn answer(rt: &HostRuntime, error: &Error) -> io::Result<u8>
 fn obey(rt: &HostRuntime, options: &Options<'_>) -> io::Result<u8>
     ensures { IfOk result (λ status. status < 2) }
 {
-    match names_text(rt, &options.names)? {
+    match names_text(rt, options)? {
         Some(text) => report_all(rt, options, text.as_bytes()),
         None => Ok(1),
     }
@@ -95,14 +95,7 @@ fn report_all(rt: &HostRuntime, options: &Options<'_>, text: &[u8]) -> io::Resul
     };
     let lists = table.lists(rt.alloc())?;
     let names = lists.code_names();
-    report_with(rt, options, &names)
-}
-
-// Reports on the dumps with these names.
-fn report_with(rt: &HostRuntime, options: &Options<'_>, names: &CodeNames<'_>) -> io::Result<u8>
-    ensures { IfOk result (λ status. status < 2) }
-{
-    report_dumps(&reporter_of(rt, options, names), options)
+    report_dumps(&reporter_of(rt, options, &names), options)
 }
 
 // Returns what prints reports as the options say, with these names.
@@ -115,9 +108,9 @@ fn reporter_of<'l, 'n>(
     ensures limits { result.limits ≡ options.now.limits }
     ensures scan { result.scan ≡ options.now.scan }
     ensures form { result.form ≡ options.now.form }
-    ensures limit { result.limit ≡ options.now.dumps.limit }
+    ensures limit { result.limit ≡ options.now.limit }
     ensures is_one { result.is_one
-        ≡ (length options.now.dumps.paths.items == 1 && not options.now.dumps.are_listed) }
+        ≡ (length options.now.dumps.items == 1 && not options.now.are_listed) }
 {
     Reporter {
         rt,
@@ -125,8 +118,8 @@ fn reporter_of<'l, 'n>(
         limits: options.limits,
         scan: options.scan,
         form: options.form,
-        limit: options.dumps.limit,
-        is_one: options.dumps.paths.len() == 1 && !options.dumps.are_listed,
+        limit: options.limit,
+        is_one: options.dumps.len() == 1 && !options.are_listed,
     }
 }
 
@@ -135,7 +128,7 @@ fn reporter_of<'l, 'n>(
 fn report_dumps(reporter: &Reporter<'_, '_>, options: &Options<'_>) -> io::Result<u8>
     ensures { IfOk result (λ status. status < 2) }
 {
-    if !options.dumps.are_listed {
+    if !options.are_listed {
         return report_listed(reporter, options, &[]);
     }
     match read_list(reporter)? {
@@ -162,12 +155,12 @@ fn read_list(reporter: &Reporter<'_, '_>) -> io::Result<Option<Vec<u8>>> {
 fn report_listed(reporter: &Reporter<'_, '_>, options: &Options<'_>, list: &[u8]) -> io::Result<u8>
     ensures { IfOk result (λ status. status < 2) }
 {
-    let dumps = dumps_in(reporter.rt.alloc(), options.dumps.paths.as_slice(), list)?;
-    let mut cache = SymbolCache::new(SymbolDirs {
-        rt: reporter.rt,
-        paths: options.symbols.dirs.as_slice(),
-        limit: options.symbols.limit,
-    });
+    let dumps = dumps_in(reporter.rt.alloc(), options.dumps.as_slice(), list)?;
+    let mut cache = SymbolCache::new(
+        reporter.rt,
+        options.symbols.as_slice(),
+        options.symbols_limit,
+    );
     report_each(
         reporter,
         dumps.as_slice(),

@@ -12,7 +12,6 @@ use crash_json::error_json;
 use crash_text::{TextLimits, push_line};
 use minidump::text::Piece;
 use minidump::{CodeNames, Error};
-use std::alloc::AllocError;
 use std::io;
 
 const NO_MEMORY: &str = "{\"path\":null,\"status\":\"OutOfMemory\"}\n";
@@ -193,10 +192,7 @@ impl Reporter<'_, '_> {
     }
 
     // Makes the line of JSON of a file without a report.
-    fn error_line(&self, path: &str, status: &str) -> Result<Vec<u8>, AllocError> {
-        match error_json(self.rt.alloc(), path, status) {
-            Ok(line) => end_line(line),
-            Err(_) => Err(AllocError),
-        }
+    fn error_line(&self, path: &str, status: &str) -> Result<Vec<u8>, Error> {
+        Ok(end_line(error_json(self.rt.alloc(), path, status)?)?)
     }
 }

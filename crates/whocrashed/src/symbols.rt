@@ -18,16 +18,6 @@ use std::alloc::{AllocError, Global};
 use std::collections::BTreeMap;
 use std::io;
 
-/// Where symbol files are looked for.
-#[derive(Clone, Copy)]
-pub(crate) struct SymbolDirs<'l> {
-    pub(crate) rt: &'l HostRuntime,
-    /// The directories, of which the first that has a file counts.
-    pub(crate) paths: &'l [&'l str],
-    /// The most bytes of a file.
-    pub(crate) limit: usize,
-}
-
 /// Why a module that was looked for has no symbol file.
 #[derive(Clone, Copy)]
 pub(crate) enum NoSymbols {
@@ -45,17 +35,23 @@ type Found = Result<&'static SymbolFile<'static>, NoSymbols>;
 /// The symbol files that a run has read, each of them once.
 #[derive(Drop)]
 pub(crate) struct SymbolCache<'l> {
-    dirs: SymbolDirs<'l>,
+    rt: &'l HostRuntime,
+    // the directories in which they are looked for, of which the first that has a file counts
+    dirs: &'l [&'l str],
+    // the most bytes of a file
+    limit: usize,
     // by their paths below a directory; those that are missing are left out
     files: BTreeMap<String, Found>,
 }
 
 impl<'l> SymbolCache<'l> {
     /// Makes a cache without files.
-    pub(crate) fn new(dirs: SymbolDirs<'l>) -> SymbolCache<'l> {
+    pub(crate) fn new(rt: &'l HostRuntime, dirs: &'l [&'l str], limit: usize) -> SymbolCache<'l> {
         SymbolCache {
+            rt,
             dirs,
-            files: BTreeMap::new(dirs.rt.alloc()),
+            limit,
+            files: BTreeMap::new(rt.alloc()),
         }
     }
 
@@ -63,7 +59,7 @@ impl<'l> SymbolCache<'l> {
     pub(crate) fn has_dirs(&self) -> bool
         ensures { result ≡ has_dirs self.now }
     {
-        !self.dirs.paths.is_empty()
+        !self.dirs.is_empty()
     }
 
     /// Looks for the symbol files of modules, by their indices, and puts what is found in its place, so
@@ -105,7 +101,7 @@ impl<'l> SymbolCache<'l> {
         ensures { IfOk result (λ file. is_of_module (symbols_of file.now) (loaded_of loaded.now)
             ≡ true) }
     {
-        match symbol_path(self.dirs.rt.alloc(), loaded) {
+        match symbol_path(self.rt.alloc(), loaded) {
             Ok(Some(path)) => of_module(self.file_at(path), loaded),
             Ok(None) => Err(NoSymbols::Missing),
             Err(_) => Err(NoSymbols::OutOfMemory),
@@ -117,7 +113,7 @@ impl<'l> SymbolCache<'l> {
         if let Some(found) = self.files.get(path.as_str()) {
             return *found;
         }
-        let found = self.dirs.read(path.as_str());
+        let found = self.read(path.as_str());
         if is_missing(found) {
             return found;
         }
@@ -126,12 +122,10 @@ impl<'l> SymbolCache<'l> {
             Err(_) => Err(NoSymbols::OutOfMemory),
         }
     }
-}
 
-impl SymbolDirs<'_> {
     // Reads the symbol file that has this path below the first directory that has one.
     fn read(&self, path: &str) -> Found {
-        for dir in self.paths {
+        for dir in self.dirs {
             let found = self.read_in(*dir, path);
             if !is_missing(found) {
                 return found;
@@ -155,10 +149,7 @@ impl SymbolDirs<'_> {
 
 // Tells whether a file is missing.
 fn is_missing(found: Found) -> bool {
-    match found {
-        Err(NoSymbols::Missing) => true,
-        _ => false,
-    }
+    matches!(found, Err(NoSymbols::Missing))
 }
 
 // Reads a symbol file from a text that is kept.

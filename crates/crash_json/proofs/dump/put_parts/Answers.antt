@@ -1,6 +1,6 @@
 -- The members, a part after another.
 use Rattle.std.proofs.Common.{rules}
-use Rattle.json_tree.proofs.Tokens.{more}
+use Rattle.crash_json.proofs.Tokens.{more}
 use Rattle.crash_json.proofs.dump.put_parts.Goals as goal
 
 pub returns : goal.returns

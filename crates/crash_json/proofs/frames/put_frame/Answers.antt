@@ -1,6 +1,6 @@
 -- The members of the place, and then the names.
 use Rattle.std.proofs.Common.{rules}
-use Rattle.json_tree.proofs.Tokens.{more}
+use Rattle.crash_json.proofs.Tokens.{more}
 use Rattle.crash_json.proofs.frames.put_frame.Goals as goal
 
 pub returns : goal.returns

@@ -1,6 +1,6 @@
 -- The registers so far.
 use Rattle.std.proofs.Common.{◌≡◌, map, take}
-use Rattle.json_tree.specs.Tree.{field_of}
+use Rattle.crash_json.specs.Tree.{field_of}
 use Rattle.crash_json.specs.Frames.{register_members}
 use Rattle.crash_json.proofs.frames.register_fields.Given as goal
 

@@ -1,6 +1,6 @@
 -- The members of the module, and then what is known of its symbols.
 use Rattle.std.proofs.Common.{rules}
-use Rattle.json_tree.proofs.Tokens.{more}
+use Rattle.crash_json.proofs.Tokens.{more}
 use Rattle.crash_json.proofs.modules.put_module.Goals as goal
 
 pub returns : goal.returns

@@ -1,5 +1,6 @@
 -- Each flag is by its definition.
-use Rattle.crash_json.specs.Modules.{are_corrupt, are_loaded, are_missing, state_object}
+use Rattle.crash_json.specs.Modules.{are_corrupt, are_missing, state_object}
+use Rattle.crash_symbols.specs.Symbols.{are_loaded}
 use Rattle.crash_json.proofs.modules.put_state.Goals as goal
 
 pub returns : goal.returns

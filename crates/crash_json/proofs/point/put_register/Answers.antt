@@ -1,6 +1,6 @@
 -- The name, and then the members of the address.
 use Rattle.std.proofs.Common.{rules}
-use Rattle.json_tree.proofs.Tokens.{more}
+use Rattle.crash_json.proofs.Tokens.{more}
 use Rattle.crash_json.proofs.point.put_register.Goals as goal
 
 pub returns : goal.returns

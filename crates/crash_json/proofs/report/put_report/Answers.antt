@@ -1,6 +1,6 @@
 -- The members, one after another.
 use Rattle.std.proofs.Common.{rules}
-use Rattle.json_tree.proofs.Tokens.{more}
+use Rattle.crash_json.proofs.Tokens.{more}
 use Rattle.crash_json.proofs.report.put_report.Goals as goal
 
 pub returns : goal.returns

@@ -1,6 +1,6 @@
 -- The index, and the members after it, with the thread's own registers.
 use Rattle.std.proofs.Common.{rules}
-use Rattle.json_tree.proofs.Tokens.{more}
+use Rattle.crash_json.proofs.Tokens.{more}
 use Rattle.crash_json.proofs.threads.put_indexed_members.Goals as goal
 
 pub returns : goal.returns

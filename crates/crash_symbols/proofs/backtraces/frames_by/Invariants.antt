@@ -1,6 +1,6 @@
 -- The frames so far.
 use Rattle.std.proofs.Common.{◌≡◌, map, take}
-use Rattle.minidump.specs.Promise.{module_list_stream}
+use Rattle.stack_walk.specs.Frames.{stack_of}
 use Rattle.crash_symbols.specs.Backtraces.{frame_by}
 use Rattle.crash_symbols.specs.NameParts.{named_of}
 use Rattle.crash_symbols.specs.Symbols.{known_of}
@@ -8,4 +8,4 @@ use Rattle.crash_symbols.proofs.backtraces.frames_by.Given as goal
 
 abbrev pub invariant-loop-known : goal.invariant-loop-known
 invariant-loop-known l = map named_of l.named.items
-    ≡ map (λ f. frame_by (module_list_stream.value l.modules) (known_of l.symbols).files f.frame) (take l.known-index l.frames)
+    ≡ map (λ f. frame_by (stack_of l.stack) (known_of l.symbols).files f.frame) (take l.known-index l.frames)

@@ -1,0 +1,90 @@
+-- The tokens of objects and arrays, from those of their members and items.
+use Rattle.std.specs.List.{enumerate_from}
+use Rattle.std.specs.Option.{option_map}
+use Rattle.std.specs.Result.{result_ok}
+use Rattle.std.proofs.lemmas.Simd.{map-map}
+use Rattle.std.proofs.Common.{◌<◌, ◌+◌, suc, length, get_or, drop, add-one, drop-cons, ◌≡◌, ◌∙◌, ◌≤◌, ℕ, List, [], ◌∷◌, ◌++◌, Option, Some, None, Result, Ok, Err, map, option_and_then, refl, ap, sym, append_assoc, append-nil}
+use Rattle.json.specs.Token.{Token, begin_object, end_object, begin_array, end_array}
+use Rattle.json.specs.Json.{Json, document, if_last, max_depth, value}
+use Rattle.json.specs.Lex.{tokens}
+use Rattle.json.proofs.Printed.Trees.{value-json_tokens}
+use Rattle.json.specs.Tree.{json_tokens, members_tokens, items_tokens, depth}
+use Rattle.minidump.specs.declared.Error.{Error}
+use Rattle.minidump.specs.Below.Contexts.Context.{map_ok}
+use Rattle.crash_json.specs.Tree.{array_of, item_tokens, items_of, member_list_tokens, members_of, numbered_array_of, numbered_tokens, object_of, or_null}
+
+members_of_list : (ms : List (List ℕ × Json)) → members_tokens (members_of ms) ≡ member_list_tokens ms ++ (end_object ∷ [])
+unfolding member_list_tokens
+members_of_list [] = refl
+members_of_list (m ∷ ms) =
+    let mine = json_tokens m.1 in
+    ap (λ ts. Token.key m.0 ∷ (mine ++ ts)) (members_of_list ms)
+    ∙ ap (λ ts. Token.key m.0 ∷ ts) (sym (append_assoc mine (member_list_tokens ms) (end_object ∷ [])))
+
+-- brackets round the tokens of members are an object
+pub object_of_members : (old : List Token) (ms : List (List ℕ × Json))
+    → ((old ++ (begin_object ∷ [])) ++ member_list_tokens ms) ++ (end_object ∷ []) ≡ old ++ json_tokens (object_of ms)
+object_of_members old ms =
+    append_assoc (old ++ (begin_object ∷ [])) (member_list_tokens ms) (end_object ∷ [])
+    ∙ append_assoc old (begin_object ∷ []) (member_list_tokens ms ++ (end_object ∷ []))
+    ∙ ap (λ ts. old ++ (begin_object ∷ ts)) (sym (members_of_list ms))
+
+split : (a b : List (List ℕ × Json)) → member_list_tokens (a ++ b) ≡ member_list_tokens a ++ member_list_tokens b
+unfolding member_list_tokens
+split [] b = refl
+split (m ∷ a) b = ap (λ ts. Token.key m.0 ∷ (json_tokens m.1 ++ ts)) (split a b)
+    ∙ ap (λ ts. Token.key m.0 ∷ ts) (sym (append_assoc (json_tokens m.1) (member_list_tokens a) (member_list_tokens b)))
+
+-- members after members
+pub more : (t u v : List Token) (a b : List (List ℕ × Json)) → u ≡ t ++ member_list_tokens a → v ≡ u ++ member_list_tokens b → v ≡ t ++ member_list_tokens (a ++ b)
+more t u v a b first second =
+    second ∙ ap (λ ts. ts ++ member_list_tokens b) first ∙ append_assoc t (member_list_tokens a) (member_list_tokens b) ∙ ap (λ ts. t ++ ts) (sym (split a b))
+
+items_of_list : {X : Type 0} (f : X → Json) (xs : List X) → items_tokens (items_of (map f xs)) ≡ item_tokens f xs ++ (end_array ∷ [])
+items_of_list f [] = refl
+items_of_list f (x ∷ xs) =
+    let mine = json_tokens (f x) in
+    ap (λ ts. mine ++ ts) (items_of_list f xs) ∙ sym (append_assoc mine (item_tokens f xs) (end_array ∷ []))
+
+-- brackets round the tokens of items are an array
+pub array_of_items : {X : Type 0} (old : List Token) (f : X → Json) (xs : List X)
+    → ((old ++ (begin_array ∷ [])) ++ item_tokens f xs) ++ (end_array ∷ []) ≡ old ++ json_tokens (array_of f xs)
+array_of_items old f xs =
+    append_assoc (old ++ (begin_array ∷ [])) (item_tokens f xs) (end_array ∷ [])
+    ∙ append_assoc old (begin_array ∷ []) (item_tokens f xs ++ (end_array ∷ []))
+    ∙ ap (λ ts. old ++ (begin_array ∷ ts)) (sym (items_of_list f xs))
+
+-- the same by the items' numbers
+pub array_of_numbered : {X : Type 0} (old : List Token) (f : ℕ → X → Json) (xs : List X)
+    → ((old ++ (begin_array ∷ [])) ++ numbered_tokens f xs) ++ (end_array ∷ []) ≡ old ++ json_tokens (numbered_array_of f xs)
+array_of_numbered old f xs = array_of_items old (λ p. f p.0 p.1) (enumerate_from 0 xs)
+
+-- after what was put, the tokens of an item and of those after it are those from the item's number
+-- on
+pub next_numbered : {X : Type 0} (f : ℕ → X → Json) (xs : List X) (i : ℕ) (old new : List Token) (x : X) {all : List Token}
+    → i < length xs → x ≡ get_or xs i x → new ≡ old ++ json_tokens (f i x)
+    → old ++ item_tokens (λ p. f p.0 p.1) (enumerate_from i (drop i xs)) ≡ all
+    → new ++ item_tokens (λ p. f p.0 p.1) (enumerate_from (i + 1) (drop (i + 1) xs)) ≡ all
+next_numbered f xs i old new x within at put whole =
+    let next : drop i xs ≡ x ∷ drop (i + 1) xs = drop-cons xs i x within ∙ ap (λ y. y ∷ drop (suc i) xs) (sym at) ∙ ap (λ k. x ∷ drop k xs) (sym (add-one i)) in
+    let rest = item_tokens (λ p. f p.0 p.1) (enumerate_from (i + 1) (drop (i + 1) xs)) in
+    ap (λ ts. ts ++ rest) put ∙ append_assoc old (json_tokens (f i x)) rest
+    ∙ sym (ap (λ ys. old ++ item_tokens (λ p. f p.0 p.1) (enumerate_from i ys)) next) ∙ whole
+
+-- a text whose tokens are those of a value is that value
+pub document_of_tokens : (text : List ℕ) (j : Json) → tokens text ≡ json_tokens j → depth j ≤ max_depth → document text ≡ Some j
+document_of_tokens text j is shallow =
+    ap (option_and_then (λ p. if_last p.0 p.1))
+    (ap (value max_depth) (is ∙ sym (append-nil (json_tokens j))) ∙ value-json_tokens j max_depth [] shallow)
+
+-- a value that an item stands for, and that of a stream, each of which may be absent
+pub or_null_of_views : {X Y : Type 0} (json : Y → Json) (view : X → Y) (o : Option X) → or_null json (option_map view o) ≡ or_null (λ x. json (view x)) o
+or_null_of_views json view None = refl
+or_null_of_views json view (Some x) = refl
+
+pub or_null_of_found : {X Y : Type 0} (json : Y → Json) (view : X → Y) (found : Result X Error) → or_null json (result_ok (map_ok view found)) ≡ or_null (λ x. json (view x)) (result_ok found)
+or_null_of_found json view (Ok x) = refl
+or_null_of_found json view (Err e) = refl
+
+-- the values of items are those of what they stand for
+pub ruleset views = (map-map, or_null_of_views, or_null_of_found)

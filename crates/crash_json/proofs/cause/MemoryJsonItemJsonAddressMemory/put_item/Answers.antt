@@ -1,7 +1,0 @@
--- The word for the state.
-use Rattle.crash_json.specs.Cause.{memory_object}
-use Rattle.crash_json.proofs.cause.MemoryJsonItemJsonAddressMemory.put_item.Goals as goal
-
-pub returns : goal.returns
-unfolding memory_object
-returns c = rw c.state_name.ensures at c.put.ensures

@@ -1,7 +1,0 @@
--- The user, and the name of the code.
-use Rattle.crash_json.specs.Cause.{sender_object}
-use Rattle.crash_json.proofs.cause.SenderJsonItemJsonSender.put_item.Goals as goal
-
-pub returns : goal.returns
-unfolding sender_object
-returns c = rw (c.widened.ensures, c.name.ensures) at c.put.ensures

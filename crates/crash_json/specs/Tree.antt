@@ -1,0 +1,107 @@
+-- JSON values of lists of members and of items, and their tokens.
+use Rattle.std.specs.Prelude.{◌≡◌, ℕ, List, [], ◌∷◌, ◌++◌, map, Option, Some, None, OnOk}
+use Rattle.std.specs.Prelude.{IsOkUnless, Result, decimal, string_bytes}
+use Rattle.std.specs.Borrow.{Bor}
+use Rattle.std.specs.List.{enumerate_from, flat_map}
+use Rattle.std.specs.Option.{option_copied, option_map}
+use Rattle.json.specs.Json.{Json, null, boolean, number, string, array, object, Items, no_items, item}
+use Rattle.json.specs.Json.{Members, no_members, member}
+use Rattle.json.specs.Token.{Token}
+use Rattle.json.specs.Tree.{json_tokens}
+use Rattle.json.specs.Written.{Written}
+use Rattle.minidump_bytes.specs.Piece.{hex}
+use Rattle.minidump_format.specs.declared.error.Error.{Error}
+use Rattle.minidump_format.specs.declared.error.Error.TheVariants.{OutOfMemory}
+use Rattle.crash_json.specs.declared.tree.Scalar.{Scalar}
+use Rattle.crash_json.specs.declared.tree.Scalar.TheVariants.{Null, Text, Owned, Optional, Number, Count, Hex, Flag}
+
+-- ---- values
+
+-- the items of a list, in its order
+abbrev pub items_of : List Json → Items
+items_of [] = no_items
+items_of (j ∷ js) = item j (items_of js)
+
+-- the members of a list, each with its name, in its order
+abbrev pub members_of : List (List ℕ × Json) → Members
+members_of [] = no_members
+members_of (m ∷ ms) = member m.0 m.1 (members_of ms)
+
+-- the object of these members
+abbrev pub object_of : List (List ℕ × Json) → Json
+object_of ms = object (members_of ms)
+
+-- the array of the values of a list's items
+abbrev pub array_of : {X : Type 0} → (X → Json) → List X → Json
+array_of json xs = array (items_of (map json xs))
+
+-- the same by the items' numbers, from 0 on
+abbrev pub numbered_array_of : {X : Type 0} → (ℕ → X → Json) → List X → Json
+numbered_array_of json xs = array_of (λ p. json p.0 p.1) (enumerate_from 0 xs)
+
+-- a number in decimal
+abbrev pub count : ℕ → Json
+count n = number (decimal n)
+
+-- the text of a number in hexadecimal, after `0x`, without leading zeros
+unfoldable pub hex_text : ℕ → List ℕ
+hex_text n = hex n
+
+-- a number in hexadecimal, as a text
+abbrev pub hex_string : ℕ → Json
+hex_string n = string (hex_text n)
+
+-- a value, or `null` where there is none
+abbrev pub or_null : {X : Type 0} → (X → Json) → Option X → Json
+or_null json None = null
+or_null json (Some x) = json x
+
+-- the value of a scalar
+abbrev pub scalar_json : Scalar → Json
+scalar_json Null = null
+scalar_json (Text s) = or_null string (option_copied s)
+scalar_json (Owned s) = string (string_bytes s.now)
+scalar_json (Optional s) = or_null string (option_map string_bytes s.now)
+scalar_json (Number n) = or_null count n
+scalar_json (Count n) = or_null count n
+scalar_json (Hex n) = or_null hex_string n
+scalar_json (Flag b) = boolean b
+
+-- the member of a name and a value of a type
+abbrev pub member_of : {T : Type 0} → (T → Json) → Bor (List ℕ) × T → List ℕ × Json
+member_of json m = (m.0.now, json m.1)
+
+-- the member of a name and a scalar
+abbrev pub field_of : Bor (List ℕ) × Scalar → List ℕ × Json
+field_of f = member_of scalar_json f
+
+-- ---- tokens
+
+-- the tokens of a member
+abbrev pub member_tokens : List ℕ × Json → List Token
+member_tokens m = Token.key m.0 ∷ json_tokens m.1
+
+-- those of members, one after another, without brackets
+unfoldable pub member_list_tokens : List (List ℕ × Json) → List Token
+member_list_tokens ms = flat_map member_tokens ms
+
+-- those of the values of items, one after another, without brackets
+abbrev pub item_tokens : {X : Type 0} → (X → Json) → List X → List Token
+item_tokens json xs = flat_map (λ x. json_tokens (json x)) xs
+
+-- the same by the items' numbers
+abbrev pub numbered_tokens : {X : Type 0} → (ℕ → X → Json) → List X → List Token
+numbered_tokens json xs = item_tokens (λ p. json p.0 p.1) (enumerate_from 0 xs)
+
+-- the tokens of a value come after those that were there; or memory ran out
+pub record Puts (r : Result (Unit {0}) Error) (old new : Written) (j : Json) : Type 0 where
+  pub tokens : OnOk r (new.tokens ≡ old.tokens ++ json_tokens j)
+  pub before : new.before ≡ old.before
+  pub memory : IsOkUnless r OutOfMemory
+
+-- the tokens of members come after those that were there; or memory ran out
+pub record Adds (r : Result (Unit {0}) Error) (old new : Written)
+    (ms : List (List ℕ × Json)) : Type 0 where
+  pub tokens : OnOk r (new.tokens ≡ old.tokens ++ member_list_tokens ms)
+  pub before : new.before ≡ old.before
+  pub memory : IsOkUnless r OutOfMemory

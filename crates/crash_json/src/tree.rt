@@ -1,0 +1,251 @@
+//! JSON values, put an object or an array at a time over the writer of `json`.
+//!
+//! A type has a JSON value by [`ToJson`], and so has each item of a list; by [`NumberedJson`] an item's
+//! value has its number in it. [`Members`] are the members of an object, whose values are of one type:
+//! it puts the object, or adds them to those that were put.
+ghost use Rattle.std.specs.Prelude.{◌≡◌, ◌≤◌, ◌++◌, ℕ, IfOk, IsOkUnless, OnOk, Some, map};
+ghost use Rattle.std.specs.Prelude.{string_bytes};
+ghost use Rattle.std.specs.Option.{option_copied, option_map};
+ghost use Rattle.std.specs.Result.{result_ok};
+ghost use Rattle.std.specs.Str.{IsUtf8};
+ghost use Rattle.json.specs.Json.{Json, document, max_depth, string};
+ghost use Rattle.json.specs.Print.{print};
+ghost use Rattle.json.specs.Tree.{depth, json_tokens};
+ghost use Rattle.crash_json.specs.Tree.{Adds, Puts, array_of, hex_text, item_tokens, member_of};
+ghost use Rattle.crash_json.specs.Tree.{numbered_array_of, numbered_tokens, object_of, or_null};
+ghost use Rattle.crash_json.specs.Tree.{scalar_json};
+
+use json::Writer;
+use minidump_bytes::{Piece, format_pieces};
+use minidump_format::Error;
+use std::alloc::{AllocError, Global};
+
+/// What a call that puts JSON returns.
+pub(crate) type Put = Result<(), Error>;
+
+/// A value without parts.
+#[derive(Clone, Copy)]
+pub(crate) enum Scalar<'a> {
+    /// `null`.
+    Null,
+    /// A text, or `null`.
+    Text(Option<&'a str>),
+    /// A text that is owned.
+    Owned(&'a String),
+    /// A text that is owned, or `null`.
+    Optional(&'a Option<String>),
+    /// A number in decimal, or `null`.
+    Number(Option<u64>),
+    /// A count or an index in decimal, or `null`.
+    Count(Option<usize>),
+    /// A number in hexadecimal, as the text `"0x1f"`, or `null`.
+    Hex(Option<u64>),
+    /// `true` or `false`.
+    Flag(bool),
+}
+
+/// Borrows a text that may be absent.
+pub(crate) fn as_text(text: &Option<String>) -> Option<&str>
+    ensures { option_copied result ≡ option_map string_bytes text.now }
+{
+    match text {
+        Some(text) => Some(text.as_str()),
+        None => None,
+    }
+}
+
+/// A type that has a JSON value.
+pub(crate) trait ToJson {
+    ghost json: { Self → Json };
+
+    /// Puts the value. The only error is `OutOfMemory`.
+    fn put(&self, out: &mut Writer, alloc: Global) -> Put
+        ensures { Puts result out.old out.new (json self.now) };
+}
+
+/// Members of an object, whose values are of one type.
+#[derive(Clone, Copy)]
+pub(crate) struct Members<'l, 'n, T>(pub(crate) &'l [(&'n str, T)]);
+
+impl<T: ToJson> Members<'_, '_, T> {
+    /// Puts the object of the members. The only error is `OutOfMemory`.
+    #[tactic(auto, using(crate::proofs::Tokens::object_of_members))]
+    pub(crate) fn put(&self, out: &mut Writer, alloc: Global) -> Put
+        ensures { Puts result out.old out.new (object_of (map (member_of T.json) self.now.0.now)) }
+    {
+        out.begin_object()?;
+        self.add(out, alloc)?;
+        out.end_object()?;
+        Ok(())
+    }
+
+    /// Adds the members to those of an object. The only error is `OutOfMemory`.
+    #[tactic(auto, unfolding(crate::specs::Tree::member_list_tokens))]
+    pub(crate) fn add(&self, out: &mut Writer, alloc: Global) -> Put
+        ensures { Adds result out.old out.new (map (member_of T.json) self.now.0.now) }
+    {
+        let members = self.0;
+        for (name, value) in members {
+            out.key(name)?;
+            value.put(out, alloc)?;
+        }
+        Ok(())
+    }
+}
+
+impl ToJson for Scalar<'_> {
+    ghost use Rattle.crash_json.specs.Tree.{scalar_json};
+
+    ghost json = { scalar_json };
+
+    fn put(&self, out: &mut Writer, alloc: Global) -> Put {
+        put_scalar(out, alloc, *self)
+    }
+}
+
+// Puts a value without parts.
+fn put_scalar(out: &mut Writer, alloc: Global, scalar: Scalar<'_>) -> Put
+    ensures { Puts result out.old out.new (scalar_json scalar.entry) }
+{
+    match scalar {
+        Scalar::Text(text) => put_text(out, text)?,
+        Scalar::Owned(text) => out.string(text.as_str())?,
+        Scalar::Optional(text) => put_text(out, as_text(text))?,
+        Scalar::Number(Some(number)) => out.u64(number)?,
+        Scalar::Count(Some(number)) => out.u64(number as u64)?,
+        Scalar::Hex(Some(number)) => {
+            let text = hex_text(alloc, number)?;
+            out.string(text.as_str())?
+        }
+        Scalar::Flag(flag) => out.boolean(flag)?,
+        Scalar::Null | Scalar::Number(None) | Scalar::Count(None) | Scalar::Hex(None) => {
+            out.null()?
+        }
+    }
+    Ok(())
+}
+
+// Puts a text that may be absent.
+fn put_text(out: &mut Writer, text: Option<&str>) -> Put
+    ensures { Puts result out.old out.new (or_null string (option_copied text.entry)) }
+{
+    match text {
+        Some(text) => out.string(text)?,
+        None => out.null()?,
+    }
+    Ok(())
+}
+
+// Makes the text of a number in hexadecimal.
+#[tactic(auto, unfolding(crate::specs::Tree::hex_text))]
+fn hex_text(alloc: Global, number: u64) -> Result<String, AllocError>
+    ensures { IfOk result (λ text. string_bytes text ≡ hex_text number) }
+{
+    format_pieces(alloc, &[Piece::Hex(number)])
+}
+
+/// Makes the JSON text of a value, compact, without line feeds between its tokens. The only error
+/// is `OutOfMemory`.
+pub(crate) fn text_of<T: ToJson>(alloc: Global, value: &T) -> Result<Vec<u8>, Error>
+    ensures text { IfOk result (λ text. text.items ≡ print (json_tokens (T.json value.now))) }
+    ensures reads_back { IfOk result (λ text. depth (T.json value.now) ≤ max_depth
+        → document text.items ≡ Some (T.json value.now)) }
+    ensures utf8 { IfOk result (λ text. IsUtf8 text.items) }
+    ensures memory { IsOkUnless result Error.OutOfMemory }
+{
+    let mut out = Writer::new(Vec::new(alloc));
+    value.put(&mut out, alloc)?;
+    Ok(out.into_inner())
+}
+
+// ---- lists
+
+/// Gives the items of a list their JSON values, by their numbers, from 0 on.
+pub(crate) trait NumberedJson<X> {
+    ghost json_at: { Self → ℕ → X → Json };
+
+    /// Puts the value of an item. The only error is `OutOfMemory`.
+    fn put_at(&self, number: usize, item: &X, out: &mut Writer, alloc: Global) -> Put
+        ensures { Puts result out.old out.new (json_at self.now number item.now) };
+}
+
+/// Puts a value, or `null`. The only error is `OutOfMemory`.
+pub(crate) fn put_or_null<T: ToJson>(out: &mut Writer, alloc: Global, item: &Option<T>) -> Put
+    ensures { Puts result out.old out.new (or_null T.json item.now) }
+{
+    match item {
+        Some(item) => item.put(out, alloc)?,
+        None => out.null()?,
+    }
+    Ok(())
+}
+
+/// Puts the value of a stream, or `null` if it can't be read. The only error is `OutOfMemory`.
+pub(crate) fn put_found<T: ToJson>(out: &mut Writer, alloc: Global, found: &Result<T, Error>) -> Put
+    ensures { Puts result out.old out.new (or_null T.json (result_ok found.now)) }
+{
+    match found {
+        Ok(item) => item.put(out, alloc)?,
+        Err(_) => out.null()?,
+    }
+    Ok(())
+}
+
+/// Puts an array of the values of items. The only error is `OutOfMemory`.
+#[tactic(auto, using(crate::proofs::Tokens::array_of_items))]
+pub(crate) fn put_array<T: ToJson>(out: &mut Writer, alloc: Global, items: &[T]) -> Put
+    ensures { Puts result out.old out.new (array_of T.json items.now) }
+{
+    out.begin_array()?;
+    put_items(out, alloc, items)?;
+    out.end_array()?;
+    Ok(())
+}
+
+/// Puts an array of the values of items, which may depend on their numbers. The only error is
+/// `OutOfMemory`.
+#[tactic(auto, using(crate::proofs::Tokens::array_of_numbered))]
+pub(crate) fn put_numbered_array<X, F: NumberedJson<X>>(
+    out: &mut Writer,
+    alloc: Global,
+    items: &[X],
+    by: &F,
+) -> Put
+    ensures { Puts result out.old out.new (numbered_array_of (F.json_at by.now) items.now) }
+{
+    out.begin_array()?;
+    put_numbered_items(out, alloc, items, by)?;
+    out.end_array()?;
+    Ok(())
+}
+
+// Puts the values of items, one after another.
+fn put_items<T: ToJson>(out: &mut Writer, alloc: Global, items: &[T]) -> Put
+    ensures tokens { OnOk result
+        (out.new.tokens ≡ out.old.tokens ++ item_tokens T.json items.now) }
+    ensures before { out.new.before ≡ out.old.before }
+    ensures memory { IsOkUnless result Error.OutOfMemory }
+{
+    for x in items {
+        x.put(out, alloc)?;
+    }
+    Ok(())
+}
+
+// Puts the values of items by their numbers, one after another.
+fn put_numbered_items<X, F: NumberedJson<X>>(
+    out: &mut Writer,
+    alloc: Global,
+    items: &[X],
+    by: &F,
+) -> Put
+    ensures tokens { OnOk result (out.new.tokens ≡ out.old.tokens ++ numbered_tokens
+        (F.json_at by.now) items.now) }
+    ensures before { out.new.before ≡ out.old.before }
+    ensures memory { IsOkUnless result Error.OutOfMemory }
+{
+    for (number, x) in items.iter().enumerate() {
+        by.put_at(number, x, out, alloc)?;
+    }
+    Ok(())
+}

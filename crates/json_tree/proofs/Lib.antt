@@ -1,3 +1,0 @@
--- Lemmas on tokens, and on how deep values nest.
-pub mod Tokens
-pub mod Depth
