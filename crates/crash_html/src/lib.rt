@@ -26,8 +26,6 @@ ghost use Rattle.crash_html.specs.Page.{embedded_json, is_inert, page_with};
 mod embed;
 mod head;
 mod tail;
-#[cfg(test)]
-mod tests;
 
 use embed::push_embedded;
 use head::HEAD;

@@ -160,12 +160,12 @@ fn push_head(out: &mut Vec<u8>, thread_id: u32, r: &MINIDUMP_EXCEPTION) -> Resul
 {
     push_pieces(out, &[
         Piece::Words("MINIDUMP_EXCEPTION\n"),
-        Piece::Words("  thread_id                                  = "), Piece::Hex(thread_id as u64), Piece::Words("\n"),
-        Piece::Words("  exception_record.exception_code            = "), Piece::Hex(r.exception_code as u64), Piece::Words("\n"),
-        Piece::Words("  exception_record.exception_flags           = "), Piece::Hex(r.exception_flags as u64), Piece::Words("\n"),
-        Piece::Words("  exception_record.exception_record          = "), Piece::Hex(r.exception_record), Piece::Words("\n"),
-        Piece::Words("  exception_record.exception_address         = "), Piece::Hex(r.exception_address), Piece::Words("\n"),
-        Piece::Words("  exception_record.number_parameters         = "), Piece::Decimal(r.number_parameters as u64), Piece::Words("\n"),
+        Piece::Words("  thread_id                                  = "), Piece::Hex(thread_id as u64),
+        Piece::Words("\n  exception_record.exception_code            = "), Piece::Hex(r.exception_code as u64),
+        Piece::Words("\n  exception_record.exception_flags           = "), Piece::Hex(r.exception_flags as u64),
+        Piece::Words("\n  exception_record.exception_record          = "), Piece::Hex(r.exception_record),
+        Piece::Words("\n  exception_record.exception_address         = "), Piece::Hex(r.exception_address),
+        Piece::Words("\n  exception_record.number_parameters         = "), Piece::Decimal(r.number_parameters as u64), Piece::Words("\n"),
     ])
 }
 
@@ -206,8 +206,8 @@ fn push_location(
     ensures { OnOk result (out.new.items ≡ out.old.items ++ location_lines location.now) }
 {
     push_pieces(out, &[
-        Piece::Words("  thread_context.data_size                   = "), Piece::Decimal(location.data_size as u64), Piece::Words("\n"),
-        Piece::Words("  thread_context.rva                         = "), Piece::Hex(location.rva as u64), Piece::Words("\n"),
+        Piece::Words("  thread_context.data_size                   = "), Piece::Decimal(location.data_size as u64),
+        Piece::Words("\n  thread_context.rva                         = "), Piece::Hex(location.rva as u64), Piece::Words("\n"),
     ])
 }
 

@@ -1,11 +1,12 @@
 ghost use Rattle.std.specs.Prelude.{◌≡◌, ◌≢◌, Err, IfOk};
 ghost use Rattle.std.specs.Option.{option_copied, option_map};
 ghost use Rattle.std.specs.Result.{result_ok};
-ghost use Rattle.minidump_memory.specs.Unified.{unified_list};
+ghost use Rattle.minidump_memory.specs.Unified.{Memory, Memory64, unified_list};
 ghost use Rattle.minidump.specs.Dump.{Dump};
 ghost use Rattle.minidump.specs.DumpValue.{dump_of};
 ghost use Rattle.minidump.specs.Memory.{memories_of_dump};
-ghost use Rattle.minidump.specs.Shared.{AreShared};
+ghost use Rattle.minidump.specs.Promise.{memory64_list_stream, memory_list_stream};
+ghost use Rattle.minidump.specs.Shared.{AreShared, IsListOf};
 
 use crate::{Minidump, MinidumpException, MinidumpThreadList};
 use minidump_format::Error;
@@ -28,12 +29,8 @@ impl<'a> SharedStreams<'a> {
         SharedStreams {
             exception: dump.get_stream(alloc),
             threads: dump.get_stream(alloc),
-            memory64: dump.get_stream(alloc).map(
-                |list: MinidumpMemory64List| UnifiedMemoryList::Memory64(list),
-            ),
-            memory: dump
-                .get_stream(alloc)
-                .map(|list: MinidumpMemoryList| UnifiedMemoryList::Memory(list)),
+            memory64: read_memory64(dump, alloc),
+            memory: read_memory(dump, alloc),
         }
     }
 
@@ -47,6 +44,24 @@ impl<'a> SharedStreams<'a> {
             Some(list) => Ok(Some(list)),
             None => as_found(&self.memory),
         }
+    }
+}
+
+fn read_memory64<'a>(dump: &Minidump<'a>, alloc: Global) -> Result<UnifiedMemoryList<'a>, Error>
+    ensures { IsListOf memory64_list_stream Memory64 (dump_of dump.now) result }
+{
+    match dump.get_stream::<MinidumpMemory64List<'a>>(alloc) {
+        Ok(list) => Ok(UnifiedMemoryList::Memory64(list)),
+        Err(error) => Err(error),
+    }
+}
+
+fn read_memory<'a>(dump: &Minidump<'a>, alloc: Global) -> Result<UnifiedMemoryList<'a>, Error>
+    ensures { IsListOf memory_list_stream Memory (dump_of dump.now) result }
+{
+    match dump.get_stream::<MinidumpMemoryList<'a>>(alloc) {
+        Ok(list) => Ok(UnifiedMemoryList::Memory(list)),
+        Err(error) => Err(error),
     }
 }
 

@@ -100,14 +100,8 @@ fn read_code_view(
 {
     let cv_signature = number(bytes, 0, endian, steps)?;
     match CvSignature::from_u32(cv_signature) {
-        Some(CvSignature::Pdb70) => {
-            let record = read_pdb70(alloc, cv_signature, bytes, endian, steps)?;
-            Ok(CodeView::Pdb70(record))
-        }
-        Some(CvSignature::Pdb20) => {
-            let record = read_pdb20(alloc, cv_signature, bytes, endian, steps)?;
-            Ok(CodeView::Pdb20(record))
-        }
+        Some(CvSignature::Pdb70) => read_pdb70(alloc, cv_signature, bytes, endian, steps),
+        Some(CvSignature::Pdb20) => read_pdb20(alloc, cv_signature, bytes, endian, steps),
         Some(CvSignature::Elf) => {
             let build_id = bytes_from(alloc, 4, bytes, steps)?;
             Ok(CodeView::Elf(CV_INFO_ELF {
@@ -130,26 +124,26 @@ fn read_pdb70(
     bytes: Source<'_>,
     endian: Endian,
     steps: &mut Steps,
-) -> Result<CV_INFO_PDB70, Error>
+) -> Result<CodeView, Error>
     requires { cv_signature ≡ number_at endian 4 0 (bytes_of bytes) }
-    ensures means { Gives (λ r. view_of (CodeView.Pdb70 r))
-        (RecordTakesMemory (pdb70_in endian (bytes_of bytes.entry))) result
-        (pdb70_in endian (bytes_of bytes.entry)) }
+    ensures means { Gives view_of (RecordTakesMemory (pdb70_in endian (bytes_of bytes.entry)))
+        result (pdb70_in endian (bytes_of bytes.entry)) }
     ensures within { steps.new ≤ steps.old + 3 }
     ensures grows { steps.old ≤ steps.new }
-    ensures steps { IfOk result (λ _. steps.new ≡ after steps.old 3) }
+    ensures steps { IfOk result (λ view. (steps.new ≡ after steps.old 3)
+        × (record_reads (view_of view) ≡ 4)) }
 {
     let signature: GUID = bytes
         .record(4, endian, steps)
         .ok_or(Error::CodeViewReadFailure)?;
     let age = number(bytes, 20, endian, steps)?;
     let pdb_file_name = bytes_from(alloc, 24, bytes, steps)?;
-    Ok(CV_INFO_PDB70 {
+    Ok(CodeView::Pdb70(CV_INFO_PDB70 {
         cv_signature,
         signature,
         age,
         pdb_file_name,
-    })
+    }))
 }
 
 // Reads the fields of a Pdb20 record that follow its signature, `NB10`.
@@ -160,26 +154,26 @@ fn read_pdb20(
     bytes: Source<'_>,
     endian: Endian,
     steps: &mut Steps,
-) -> Result<CV_INFO_PDB20, Error>
+) -> Result<CodeView, Error>
     requires { cv_signature ≡ number_at endian 4 0 (bytes_of bytes) }
-    ensures means { Gives (λ r. view_of (CodeView.Pdb20 r))
-        (RecordTakesMemory (pdb20_in endian (bytes_of bytes.entry))) result
-        (pdb20_in endian (bytes_of bytes.entry)) }
+    ensures means { Gives view_of (RecordTakesMemory (pdb20_in endian (bytes_of bytes.entry)))
+        result (pdb20_in endian (bytes_of bytes.entry)) }
     ensures within { steps.new ≤ steps.old + 4 }
     ensures grows { steps.old ≤ steps.new }
-    ensures steps { IfOk result (λ _. steps.new ≡ after steps.old 4) }
+    ensures steps { IfOk result (λ view. (steps.new ≡ after steps.old 4)
+        × (record_reads (view_of view) ≡ 5)) }
 {
     let cv_offset = number(bytes, 4, endian, steps)?;
     let signature = number(bytes, 8, endian, steps)?;
     let age = number(bytes, 12, endian, steps)?;
     let pdb_file_name = bytes_from(alloc, 16, bytes, steps)?;
-    Ok(CV_INFO_PDB20 {
+    Ok(CodeView::Pdb20(CV_INFO_PDB20 {
         cv_signature,
         cv_offset,
         signature,
         age,
         pdb_file_name,
-    })
+    }))
 }
 
 // Reads the 32-bit number at an offset of a record.

@@ -1,5 +1,3 @@
-ghost use Rattle.std.specs.Prelude.{Some, []};
-
 use std::io;
 use std::io::{ErrorKind, Read, Write};
 
@@ -139,40 +137,9 @@ impl<W: Write> Write for TakesNone<W> {
     }
 }
 
-/// A writer whose calls all fail.
-#[derive(Drop)]
-pub struct Full {
-    /// The number of calls.
-    pub calls: usize,
-}
-
-impl Full {
-    /// Makes a writer that has not been called yet.
-    pub fn new() -> Full {
-        Full { calls: 0 }
-    }
-}
-
-impl Write for Full {
-    ghost contents = { λ _. Some [] };
-
-    fn write(&mut self, _buf: &[u8]) -> io::Result<usize> {
-        count_call(&mut self.calls);
-        Err(failure())
-    }
-
-    fn flush(&mut self) -> io::Result<()> {
-        Err(failure())
-    }
-}
-
 // Counts a call, and returns its number.
 fn count_call(calls: &mut usize) -> usize {
     let call = *calls;
     *calls = call.saturating_add(1);
     call
-}
-
-fn failure() -> io::Error {
-    io::Error::from(ErrorKind::Other)
 }

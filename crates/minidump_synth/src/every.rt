@@ -33,32 +33,6 @@ pub fn every_stream(alloc: Global, endian: Endian) -> Result<Vec<u8>, AllocError
     dump.finish()
 }
 
-/// Returns a dump of so many handles, whose objects share pieces of information that run in a
-/// circle: each names the next, and the last the first. The directory is first, then come the
-/// handles, then the pieces.
-pub fn handle_circle(
-    alloc: Global,
-    endian: Endian,
-    handles: u32,
-    pieces: u32,
-) -> Result<Vec<u8>, AllocError> {
-    let room = handles.saturating_mul(40).saturating_add(12);
-    let mut dump = SynthMinidump::with_streams_first(alloc, endian, 1, room);
-    let object_info_rva = dump.rva();
-    let mut list = dump.section();
-    list.u32(12).u32(40).u32(handles);
-    for handle in 0..handles {
-        list.record(&MINIDUMP_HANDLE_DESCRIPTOR_2 {
-            handle: u64::from(handle),
-            object_info_rva,
-            ..zeroed()
-        });
-    }
-    dump.add_stream(Type::HandleDataStream as u32, &list);
-    add_circle(&mut dump, pieces);
-    dump.finish()
-}
-
 // Adds so many pieces of information on an object, each with the RVA of the next one, and the last
 // with that of the first, which is returned.
 fn add_circle(dump: &mut SynthMinidump, pieces: u32) -> RVA {

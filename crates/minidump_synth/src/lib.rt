@@ -11,13 +11,12 @@
 //! ```
 //!
 //! - [`SynthMinidump`] builds a dump: header, what was added, directory.
-//! - [`every_stream`] is a dump with a stream of each type that is read, and [`handle_circle`] one
-//!   of handles whose objects share a circle.
-//! - [`ONE_STREAM`] is a dump written by hand, [`ONE_STREAM_TEXT`] its printed text, and
-//!   [`one_stream_with_byte`] the dump with another byte.
+//! - [`every_stream`] is a dump with a stream of each type that is read.
+//! - [`ONE_STREAM`] is a dump written by hand, and [`one_stream_with_byte`] the dump with another
+//!   byte.
 //! - [`Section`] is bytes that grow, with a byte order, and [`BOTH`] has the two orders. [`Encode`]
 //!   is what has bytes in a minidump, and [`zeroed`] the record of zeros.
-//! - [`OneByte`], [`FailsAt`], [`TakesNone`] and [`Full`] are readers and writers.
+//! - [`OneByte`], [`FailsAt`] and [`TakesNone`] are readers and writers.
 //!
 //! # Errors
 //!
@@ -37,10 +36,10 @@ mod memory;
 mod one_stream;
 mod section;
 
-pub use device::{FailsAt, Full, OneByte, TakesNone};
+pub use device::{FailsAt, OneByte, TakesNone};
 pub use dump::SynthMinidump;
 pub use encode::{Encode, zeroed};
-pub use every::{every_stream, handle_circle};
+pub use every::every_stream;
 pub use memory::OVERLAPPING;
-pub use one_stream::{ONE_STREAM, ONE_STREAM_TEXT, one_stream_with_byte};
+pub use one_stream::{ONE_STREAM, one_stream_with_byte};
 pub use section::{BOTH, Section};

@@ -5,27 +5,6 @@ pub const ONE_STREAM: [u8; 48] = [
     0, 0, 0, 0, 0, 0, 0, 0x44, 0x33, 0x22, 0x11, 4, 0, 0, 0, 0x2c, 0, 0, 0, 0x88, 0x77, 0x66, 0x55,
 ];
 
-/// The text that is printed of [`ONE_STREAM`].
-pub const ONE_STREAM_TEXT: &str = "MDRawHeader
-  signature            = 0x504d444d
-  version              = 0xa793
-  stream_count         = 1
-  stream_directory_rva = 0x20
-  checksum             = 0x0
-  time_date_stamp      = 0x0
-  flags                = 0x0
-
-mDirectory[0]
-MDRawDirectory
-  stream_type        = 0x11223344 (unknown)
-  location.data_size = 4
-  location.rva       = 0x2c
-
-Streams:
-  stream type 0x11223344 (unknown) at index 0
-
-";
-
 /// Returns [`ONE_STREAM`] with another byte at an offset, or as it is if it has no byte there.
 pub fn one_stream_with_byte(offset: usize, byte: u8) -> [u8; 48] {
     let mut bytes = ONE_STREAM;

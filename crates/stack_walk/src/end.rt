@@ -21,7 +21,8 @@ pub enum WalkEnd {
     /// The memory of the stack doesn't hold both words of the frame record, or the record ends at
     /// 2^64 or beyond.
     NoRecord,
-    /// The return address is 0, or no kept module contains the address below it.
+    /// The return address is 0, or no kept module contains the address below it. On ARM of 32 bits
+    /// its bit 0 is cleared first.
     NoCode,
 }
 

@@ -38,8 +38,9 @@ pub struct StackFrame {
 
 impl StackFrame {
     /// Returns the address by which the frame is looked up: the instruction pointer of the context,
-    /// and else the return address less one, which lies in the call; on ARM of 32 bits without its
-    /// bit 0, which stands for Thumb code. Returns `None` where nothing is below that.
+    /// or else the address below its return address, which lies in the call. On ARM of 32 bits bit 0
+    /// of the return address, which stands for Thumb code, is cleared first. Returns `None` where
+    /// nothing lies below.
     pub fn lookup_address(&self, cpu: Cpu) -> Option<u64>
         ensures { result ≡ lookup_address cpu self.now }
     {

@@ -28,9 +28,9 @@
 //!   if that is enough: [`laws::each_aligned_word_is_scanned`]. None is there twice:
 //!   [`laws::each_return_address_is_once`].
 //! - The module of a frame and the offset in it are looked up by the instruction pointer of a
-//!   context, or by the address below a return address, without the bit that stands for Thumb code
-//!   on ARM: [`StackFrame::module`], [`StackFrame::module_offset`]. [`module_place`] gives the index
-//!   of a module for an address.
+//!   context, or by the address below a return address, whose bit for Thumb code is cleared first on
+//!   ARM: [`StackFrame::module`], [`StackFrame::module_offset`]. [`module_place`] gives the index of
+//!   a module for an address.
 //!
 //! The proofs use the contracts and the laws of `minidump`, and nothing below.
 #![tactic(auto)]
@@ -78,8 +78,8 @@ pub use walk::{Walk, walk_stack};
 ///   [`Stack::candidates`] finds them in one pass over these words, with a look-up in the return
 ///   addresses that it has for each candidate.
 ///
-/// A module contains a return address if it contains the address before it, which lies in the call;
-/// on ARM of 32 bits the one before it without bit 0. The only error is `OutOfMemory`.
+/// A module contains a return address if it contains the address below it, which lies in the call.
+/// On ARM of 32 bits bit 0 of the return address is cleared first. The only error is `OutOfMemory`.
 pub fn frames(
     alloc: Global,
     stack: &Stack<'_, '_>,

@@ -1,6 +1,6 @@
 -- Crashpad's lists: the bytes at a location are a 32-bit count and that many entries. Each entry
 -- names a part of the file.
-use Rattle.std.specs.Prelude.{IsOkAnd, ℕ, zero, suc, ◌+◌, ◌*◌, ◌<◌, ◌≤◌, ◌==◌, List, [], ◌∷◌, ◌++◌, length, Result, Ok, Err, nat_lt, if◌then◌else◌}
+use Rattle.std.specs.Prelude.{IsOkAnd, ℕ, zero, suc, ◌+◌, ◌*◌, ◌<◌, ◌≤◌, ◌==◌, ◌⊎◌, List, [], ◌∷◌, ◌++◌, length, Result, Ok, Err, nat_lt, if◌then◌else◌}
 use Rattle.std.specs.Option.{ok_or}
 use Rattle.minidump_bytes.specs.declared.endian.Endian.{Endian}
 use Rattle.minidump_bytes.specs.Layout.{Layout, number_layout}
@@ -68,6 +68,12 @@ module _ {R V : Type 0} (layout : Layout R) (part : Endian → List ℕ → R �
       if nat_lt (length file) (layout.size * list.count)
       then Err (StreamSizeMismatch (layout.size * list.count) (length file))
       else parts list)
+
+-- the reads of the part that an entry names: that of the entry, and those of the part, if the
+-- entry, which ends at an offset, is in so many bytes
+abbrev pub WithinPart : ℕ → ℕ → ℕ → ℕ → ℕ → Type 0
+WithinPart entry_end bytes part_reads old new =
+    (new ≤ old + 1) ⊎ ((entry_end ≤ bytes) × (new ≤ old + 1 + part_reads))
 
 -- the reads of the entries in so many bytes: for each entry one, and those of the part that it
 -- names; and one more if an entry is missing

@@ -1,11 +1,11 @@
-ghost use Rattle.std.specs.Prelude.{◌+◌, ◌<◌, ◌≤◌, ℕ, List, Result, length, map, IfOk};
+ghost use Rattle.std.specs.Prelude.{⊤, ◌+◌, ◌*◌, ◌<◌, ◌≤◌, ℕ, List, Result, length, map, IfOk};
 ghost use Rattle.std.specs.List.{sum_by};
 ghost use Rattle.minidump_bytes.specs.declared.endian.Endian.{Endian};
 ghost use Rattle.minidump_bytes.specs.Source.{bytes_of};
 ghost use Rattle.minidump_bytes.specs.Steps.{after};
 ghost use Rattle.minidump_format.specs.declared.error.Error.{Error};
 ghost use Rattle.minidump_format.specs.Answer.{Gives};
-ghost use Rattle.minidump_records.specs.Crashpad.Parts.{CountsEntry, list_of, list_at, list_reads, parts, tested_list, untested_list, WithinParts};
+ghost use Rattle.minidump_records.specs.Crashpad.Parts.{CountsEntry, list_of, list_at, list_reads, part_at, parts, tested_list, untested_list, WithinPart, WithinParts};
 
 use minidump_bytes::{Endian, Record, Source, Steps};
 use minidump_format::Error;
@@ -95,14 +95,36 @@ fn read_parts<E: Record + Drop, P: Part<E> + Drop>(
 {
     let mut parts = Vec::new(alloc);
     for i in 0..count {
-        let offset = 4 + E::SIZE as u64 * i as u64;
-        let entry: E = bytes
-            .record(offset, endian, steps)
-            .ok_or(Error::StreamReadFailure)?;
-        let part = P::read_part(alloc, &entry, all, endian, steps)?;
+        let part = read_at::<E, P>(alloc, bytes, i, all, endian, steps)?;
         parts.push(part)?;
     }
     Ok(parts)
+}
+
+// Reads the part that the entry at an index names. The entries come after the count.
+fn read_at<E: Record + Drop, P: Part<E>>(
+    alloc: Global,
+    bytes: Source<'_>,
+    index: u32,
+    all: Source<'_>,
+    endian: Endian,
+    steps: &mut Steps,
+) -> Result<P, Error>
+    ensures means { Gives P.value ⊤ result
+        (part_at E.layout P.part endian (bytes_of all.entry) (bytes_of bytes.entry) index) }
+    ensures inside { IfOk result
+        (λ _. E.layout.size * (index + 1) ≤ length (bytes_of bytes.entry)) }
+    ensures within { WithinPart (E.layout.size * (index + 1)) (length (bytes_of bytes.entry))
+        (P.most (length (bytes_of all.entry))) steps.old steps.new }
+    ensures grows { steps.old ≤ steps.new }
+    ensures at_least { IfOk result
+        (λ p. after steps.old (1 + P.fewest (P.value p)) ≤ steps.new) }
+{
+    let offset = 4 + E::SIZE as u64 * index as u64;
+    let entry: E = bytes
+        .record(offset, endian, steps)
+        .ok_or(Error::StreamReadFailure)?;
+    P::read_part(alloc, &entry, all, endian, steps)
 }
 
 /// Reads the parts of the list at a location. Any count is allowed.

@@ -7,10 +7,10 @@ use Rattle.minidump.proofs.report.print_system_info.Goals as goal
 
 pub returns-in-Ok : goal.returns-in-Ok
 returns-in-Ok g c =
-    prints_system g.W.Write.contents c.args.f.now (dump_of c.args.dump.now) _ c.print.new.f c.print.result
-    (rw c.in-Ok.is at c.args.dump.now.knows) c.print.ensures
+    prints_system g.W.Write.contents c.args.f.now (dump_of c.args.dump.now) _ _ c.print.new.f c.print.result
+    c.args.dump.now.knows c.in-Ok.is c.print.ensures
 
 pub returns-in-Err : goal.returns-in-Err
 returns-in-Err g c =
     c.print_error.ensures (section_text (dump_of c.args.dump.now) SystemInfoStream)
-    (λ _. system_unread (dump_of c.args.dump.now) c.in-Err.error (rw c.in-Err.is at c.args.dump.now.knows))
+    (λ _. system_unread (dump_of c.args.dump.now) _ _ c.args.dump.now.knows c.in-Err.is)

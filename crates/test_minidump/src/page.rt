@@ -1,4 +1,5 @@
-use crate::page;
+//! The page of `crash_html`: what could end its data is an escape there.
+use crash_html::page;
 
 #[test]
 fn what_could_end_the_data_is_an_escape(rt: HostRuntime) {
